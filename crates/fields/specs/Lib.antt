@@ -1,0 +1,4 @@
+pub mod Outcome
+pub mod Lists
+pub mod Fields
+pub mod Keyed

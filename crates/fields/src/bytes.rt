@@ -1,0 +1,27 @@
+// Bytes of a slice, read without a fault past its end.
+ghost use mathlib.Core.Path.{_≡_};
+ghost use Prim.Native.Nat.{_+_, _*_, _<_, _≤_};
+ghost use lib.ListN.{length, getD};
+ghost use Rattle.fields.specs.Fields.{pairAt};
+
+// A byte as a position or a length.
+pub fn wide(x: u8) -> usize
+    ensures { λ r. ⌜ (r ≡ x) × (r < 256) ⌝ }
+{
+    x as usize
+}
+
+// The byte at i, and 0 past the end.
+pub fn byte_at(s: &[u8], i: usize) -> u8
+    ensures { λ r. ⌜ r ≡ getD (now (s .entry)) i 0 ⌝ }
+{
+    if i < s.len() { s[i] } else { 0 }
+}
+
+// The number in the two bytes at i, high byte first.
+pub fn pair_at(s: &[u8], i: usize) -> usize
+    requires { ⌜ i ≤ length (now s) + 16 ⌝ }
+    ensures { λ r. ⌜ (r ≡ pairAt (now (s .entry)) i) × (r < 65536) ⌝ }
+{
+    wide(byte_at(s, i)) * 256 + wide(byte_at(s, i + 1))
+}

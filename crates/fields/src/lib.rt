@@ -1,0 +1,3 @@
+// The ground: why an operation refuses, what it answers, and the field format.
+pub mod bytes;
+pub mod outcome;

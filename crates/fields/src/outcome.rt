@@ -1,0 +1,33 @@
+// What an operation answers. `specs/Outcome.antt` gives each case its number and its length.
+
+// Why an operation refuses: 1 to 17, in this order.
+pub enum Reason {
+    TooLong,
+    Broken,
+    Order,
+    Clash,
+    Mapping,
+    Clauses,
+    Code,
+    Term,
+    Lent,
+    Unbound,
+    Limit,
+    SumUnfit,
+    JoinUnfit,
+    Root,
+    Tree,
+    Levels,
+    Output,
+}
+
+// An operation accepts, with the length of what it wrote, or refuses.
+pub enum Outcome {
+    Accepted(usize),
+    Refused(Reason),
+}
+
+// What an operation hands back.
+pub struct Answer {
+    pub outcome: Outcome,
+}

@@ -1,0 +1,69 @@
+-- A language in bytes (paper 01, "Languages", fields 11 and 12).
+use Prim.Native.Nat.{ℕ, _+_, _*_}
+use mathlib.Core.Bool.{Bool, true, false, cond, not, _&&_, _||_}
+use mathlib.Core.List.{List, [], _∷_, _++_}
+use mathlib.Core.Option.{Option, none, some}
+use lib.ListN.{length, drop}
+use lib.Dec.{ltb, leb, eqb}
+use Rattle.fields.specs.Outcome.{Result, value, refused, refuseIf, _>>=_}
+use Rattle.fields.specs.declared.outcome.Reason.the-variants.{TooLong, Broken, Order, Clash}
+use Rattle.fields.specs.Lists.{all, traverse}
+use Rattle.fields.specs.Fields.{Field, field, byteAt, pairAt, twoBytes, fieldsOf, encodeFields}
+use Rattle.fields.specs.Keyed.{rising}
+use Rattle.language.specs.Language.{Entry, class, production, Language, entryKey, clashes}
+
+-- A kind is a number 0 to 31.
+abbrev pub isKind : ℕ → Bool
+isKind k = ltb k 32
+
+-- Field 11, token class, length 5: kind, low, high; low is at most high.
+unfoldable pub classOf : List ℕ → Option Entry
+classOf c =
+    cond (eqb (length c) 5 && (isKind (byteAt c 0) && leb (pairAt c 1) (pairAt c 3)))
+    (some (class (byteAt c 0) (pairAt c 1) (pairAt c 3)))
+    none
+
+-- Field 12, production, length 2 to 10: result, name, arguments.
+unfoldable pub productionOf : List ℕ → Option Entry
+productionOf c =
+    cond (leb 2 (length c) && (leb (length c) 10 && (isKind (byteAt c 0) && all isKind (drop 2 c))))
+    (some (production (byteAt c 0) (byteAt c 1) (drop 2 c)))
+    none
+
+unfoldable pub entryOf : Field → Option Entry
+entryOf (field tag c) = cond (eqb tag 0x11) (classOf c) (cond (eqb tag 0x12) (productionOf c) none)
+
+-- The field of an entry.
+unfoldable pub entryField : Entry → Field
+entryField (class k low high) = field 0x11 (k ∷ (twoBytes low ++ twoBytes high))
+entryField (production r p arguments) = field 0x12 (r ∷ p ∷ arguments)
+
+-- The entries of a list of fields, and of bytes: none where one is broken.
+abbrev pub entriesIn : Option (List Field) → Option Language
+entriesIn none = none
+entriesIn (some fs) = traverse entryOf fs
+
+unfoldable pub entriesOf : List ℕ → Option Language
+entriesOf s = entriesIn (fieldsOf s)
+
+-- The bytes of a language.
+unfoldable pub encodeLanguage : Language → List ℕ
+encodeLanguage l = encodeFields (mathlib.Core.List.map entryField l)
+
+-- At most 1,024 bytes.
+abbrev pub languageLimit : ℕ
+languageLimit = 1024
+
+-- What is asked of the entries of a file, or the refusal Broken where they are none.
+abbrev pub whole : {A : Type 0} → Option A → Result A
+whole none = refused Broken
+whole (some a) = value a
+
+-- The language that a file holds: 1, 2, 3 or 4, the lowest, where it holds none.
+unfoldable pub languageOf : List ℕ → Result Language
+languageOf s =
+    refuseIf (ltb languageLimit (length s)) TooLong
+    (whole (entriesOf s) >>= λ l.
+    refuseIf (not (rising entryKey l)) Order
+    (refuseIf (clashes l l) Clash
+    (value l)))

@@ -1,0 +1,3 @@
+pub mod Language
+pub mod LanguageFile
+pub mod Operations

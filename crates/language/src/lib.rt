@@ -1,0 +1,1 @@
+// Languages: their entries in bytes, and the check of a language.

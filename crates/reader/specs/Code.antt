@@ -1,0 +1,26 @@
+-- Codes (document 000: C.1, reconstructors). A tree is a code without arguments.
+use Prim.Native.Nat.{ℕ, zero, suc, max}
+use mathlib.Core.List.{List, [], _∷_}
+
+-- A production of a kind with its operands, a token, or an argument by its number from 1.
+mutual
+  pub data Code : Type 0 where
+    node : (kind name : ℕ) (operands : Codes) → Code
+    token : (value : ℕ) → Code
+    argument : (number : ℕ) → Code
+
+  pub data Codes : Type 0 where
+    nil : Codes
+    cons : Code → Codes → Codes
+
+-- How many levels a code has: each node, token and argument is one, an operand one deeper than its node
+-- (paper 01, "Languages" for trees and "Translations" for codes).
+unfoldable mutual
+  pub levels : Code → ℕ
+  levels (node k p t) = suc (levelsAll t)
+  levels (token v) = 1
+  levels (argument i) = 1
+
+  pub levelsAll : Codes → ℕ
+  levelsAll nil = 0
+  levelsAll (cons a t) = max (levels a) (levelsAll t)

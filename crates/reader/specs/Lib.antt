@@ -1,0 +1,4 @@
+pub mod Code
+pub mod Typing
+pub mod Syntax
+pub mod Operations

@@ -1,0 +1,100 @@
+-- Codes in bytes, written and read (paper 01: "Languages", legal trees; "Translations", the prefix form of code).
+use Prim.Native.Nat.{ℕ, zero, suc, _+_, _*_}
+use mathlib.Core.Bool.{Bool, true, false}
+use mathlib.Core.List.{List, [], _∷_, _++_}
+use mathlib.Core.Option.{Option, none, some}
+use lib.Dec.{eqb}
+use Rattle.fields.specs.Fields.{twoBytes}
+use Rattle.language.specs.Language.{Language, Range, rangeOf, argumentsOf, inRange}
+use Rattle.reader.specs.Code.{Code, node, token, argument, Codes, nil, cons}
+use Rattle.reader.specs.Typing.{kindAt}
+
+-- Trees are written without signs; in a code 01 stands before a name, 02 before a token, 03 before an argument number.
+pub data Syntax : Type 0 where
+  tree code : Syntax
+
+abbrev pub sign : Syntax → ℕ → List ℕ
+sign tree n = []
+sign code n = n ∷ []
+
+-- The bytes of a code: a name, then the operands in order; a token is its value in two bytes.
+unfoldable mutual
+  pub write : Syntax → Code → List ℕ
+  write s (node k p t) = sign s 1 ++ p ∷ writeAll s t
+  write s (token v) = sign s 2 ++ twoBytes v
+  write s (argument i) = sign s 3 ++ i ∷ []
+
+  pub writeAll : Syntax → Codes → List ℕ
+  writeAll s nil = []
+  writeAll s (cons a t) = write s a ++ writeAll s t
+
+-- What reading comes to: a value and the bytes after it, one level too many, or bytes that are no such code.
+pub data Read (A : Type 0) : Type 0 where
+  done : A → List ℕ → Read A
+  deep : Read A
+  broken : Read A
+
+abbrev pub andThen : {A B : Type 0} → Read A → (A → List ℕ → Read B) → Read B
+andThen (done a r) f = f a r
+andThen deep f = deep
+andThen broken f = broken
+
+-- Codes of the given kinds, one after the other.
+unfoldable pub readAll : (ℕ → List ℕ → Read Code) → List ℕ → List ℕ → Read Codes
+readAll reads [] s = done nil s
+readAll reads (k ∷ ks) s = andThen (reads k s) λ a r. andThen (readAll reads ks r) λ t u. done (cons a t) u
+
+-- The operands that a production asks for; an unknown production is broken.
+unfoldable pub readOperands : (ℕ → List ℕ → Read Code) → ℕ → ℕ → Option (List ℕ) → List ℕ → Read Code
+readOperands reads k p none s = broken
+readOperands reads k p (some ks) s = andThen (readAll reads ks s) λ t r. done (node k p t) r
+
+-- A production name of the kind, then its operands in order.
+unfoldable pub readNode : (ℕ → List ℕ → Read Code) → Language → ℕ → List ℕ → Read Code
+readNode reads l k [] = broken
+readNode reads l k (p ∷ s) = readOperands reads k p (argumentsOf l k p) s
+
+-- A value of two bytes, in the range of the class; a kind that is no class has none.
+unfoldable pub readToken : Option Range → List ℕ → Read Code
+readToken none s = broken
+readToken (some c) [] = broken
+readToken (some c) (x ∷ []) = broken
+readToken (some c) (x ∷ y ∷ s) = elim (inRange c (x * 256 + y)) [ true ↦ done (token (x * 256 + y)) s | false ↦ broken ]
+
+-- Whether a kind is the one that is wanted.
+abbrev pub isThe : ℕ → Option ℕ → Bool
+isThe k none = false
+isThe k (some j) = eqb j k
+
+-- An argument number whose kind is the one that is wanted.
+unfoldable pub readArgument : List ℕ → ℕ → List ℕ → Read Code
+readArgument arguments k [] = broken
+readArgument arguments k (i ∷ s) = elim (isThe k (kindAt arguments i)) [ true ↦ done (argument i) s | false ↦ broken ]
+
+-- One level in tree syntax: a class has a token, any other kind a name.
+unfoldable pub readTreeLevel : (ℕ → List ℕ → Read Code) → Language → ℕ → List ℕ → Read Code
+readTreeLevel reads l k s =
+    elim (rangeOf l k) [ some c ↦ readToken (some c) s | none ↦ readNode reads l k s ]
+
+-- One level in code syntax: its sign says what follows.
+unfoldable pub readCodeLevel : (ℕ → List ℕ → Read Code) → Language → List ℕ → ℕ → List ℕ → Read Code
+readCodeLevel reads l arguments k [] = broken
+readCodeLevel reads l arguments k (b ∷ s) =
+    elim (eqb b 1) [
+      | true ↦ readNode reads l k s
+      | false ↦
+          elim (eqb b 2) [
+            | true ↦ readToken (rangeOf l k) s
+            | false ↦ elim (eqb b 3) [ true ↦ readArgument arguments k s | false ↦ broken ]
+          ]
+    ]
+
+unfoldable pub readLevel : Syntax → (ℕ → List ℕ → Read Code) → Language → List ℕ → ℕ → List ℕ → Read Code
+readLevel tree reads l arguments k s = readTreeLevel reads l k s
+readLevel code reads l arguments k s = readCodeLevel reads l arguments k s
+
+-- A code of kind k off the front of the bytes, with so many levels left. Where none is left it is too deep,
+-- before a byte is looked at (paper 01, "Check a tree").
+unfoldable pub read : Syntax → Language → List ℕ → ℕ → ℕ → List ℕ → Read Code
+read x l arguments zero k s = deep
+read x l arguments (suc n) k s = readLevel x (read x l arguments n) l arguments k s

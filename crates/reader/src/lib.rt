@@ -1,0 +1,1 @@
+// The index of a language, the reader of typed codes and trees, and the check of a tree.
