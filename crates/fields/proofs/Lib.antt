@@ -1,2 +1,3 @@
 pub mod Truth
 pub mod Keyed
+pub mod Codec
