@@ -36,7 +36,7 @@ equal-same (production r p ks) = rw (eq-eqb r r refl, eq-eqb p p refl, equal-num
 abbrev pub asClass : ℕ → Range → Entry
 asClass k c = class k (c .low) (c .high)
 
-cond-some : {A : Type 0} (t : Bool) (a b : A) → cond t (some a) none ≡ some b → (t ≡ true) × (a ≡ b)
+pub cond-some : {A : Type 0} (t : Bool) (a b : A) → cond t (some a) none ≡ some b → (t ≡ true) × (a ≡ b)
 cond-some true a b e = (refl, some-inj e)
 cond-some false a b e = none-some e
 

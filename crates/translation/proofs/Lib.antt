@@ -1,2 +1,4 @@
 pub mod Running
 pub mod Preserved
+pub mod Lookup
+pub mod Fitting

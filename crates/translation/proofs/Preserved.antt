@@ -1,4 +1,4 @@
--- Typing is preserved by substitution and by a run (document 000: C.10, C.11), and by a larger language.
+-- Typing is preserved by substitution and by a run (document 000: C.10, C.11).
 use Prim.Native.Nat.{ℕ, zero, suc, _≤_}
 use mathlib.Core.Path.{_≡_, refl, ap, sym, _∙_}
 use mathlib.Core.Option.{Option, none, some}
@@ -53,22 +53,6 @@ module _ {l m : Language} {to : ℕ → ℕ} {f : Clauses} (w : Carries l m to f
     pub typed-runAll : {r : List ℕ} {t : Codes} {ks : List ℕ} → TypedAll l r t ks → TypedAll m (map to r) (runAll f t) (map to ks)
     typed-runAll typed-nil = typed-nil
     typed-runAll (typed-cons h hs) = typed-cons (typed-run h) (typed-runAll hs)
-
--- A language with all classes and productions of another.
-pub record Larger (l m : Language) : Type 0 where
-  pub classes : (k : ℕ) (c : Range) → rangeOf l k ≡ some c → rangeOf m k ≡ some c
-  pub productions : (k p : ℕ) (ks : List ℕ) → argumentsOf l k p ≡ some ks → argumentsOf m k p ≡ some ks
-
-module _ {l m : Language} (w : Larger l m) where
-  mutual
-    pub typed-larger : {r : List ℕ} {a : Code} {k : ℕ} → Typed l r a k → Typed m r a k
-    typed-larger (typed-node e h) = typed-node (w .productions _ _ _ e) (typed-largerAll h)
-    typed-larger (typed-token e h) = typed-token (w .classes _ _ e) h
-    typed-larger (typed-argument e) = typed-argument e
-
-    pub typed-largerAll : {r : List ℕ} {t : Codes} {ks : List ℕ} → TypedAll l r t ks → TypedAll m r t ks
-    typed-largerAll typed-nil = typed-nil
-    typed-largerAll (typed-cons h hs) = typed-cons (typed-larger h) (typed-largerAll hs)
 
 -- Clauses that agree on the productions of a language run its codes alike.
 module _ {l : Language} {f g : Clauses} (w : (k p : ℕ) (ks : List ℕ) → argumentsOf l k p ≡ some ks → f k p ≡ g k p) where
