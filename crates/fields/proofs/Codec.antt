@@ -7,10 +7,12 @@ use mathlib.Core.Option.{Option, none, some}
 use native.Mathlib.Omega.{arith}
 use lib.ListN.{length, getD, take, drop, length-append, length-take, take-append-drop}
 use lib.Seq.{take-append-seam, drop-append-seam, drop-drop, length-take-le}
-use lib.Dec.{ltb, leb}
-use borrow.Author.Tests.{le-leb, lt-leb, leb-true, le-ltb, ltb-false}
+use lib.Dec.{ltb, leb, eqb}
+use borrow.Author.Tests.{le-leb, lt-leb, leb-true, eqb-true, le-ltb, ltb-false}
+use Rattle.fields.specs.declared.outcome.Reason.{Reason}
+use Rattle.fields.specs.Outcome.{Result, value, refused}
 use Rattle.fields.specs.Lists.{all, any, before, concatMap, traverse}
-use Rattle.fields.specs.Fields.{Field, field, pairAt, twoBytes, encodeField, encodeFields, splitFields, fieldsOf, saysOver, hasOver}
+use Rattle.fields.specs.Fields.{Field, field, byteAt, pairAt, encodeField, encodeFields, splitFields, fieldsOf, saysOver, hasOver}
 
 -- Every element is as said.
 abbrev pub Each : {A : Type 0} → (A → Type 0) → List A → Type 0
@@ -66,6 +68,23 @@ pub cond-some : {A : Type 0} (b : Bool) (x y : A) → cond b (some x) none ≡ s
 cond-some true x y e = (refl, cc)
 cond-some false x y e = none-some e
 
+pub refused-value : {A B : Type 0} {r : Reason} {a : A} → _≡_ {A = Result A} (refused r) (value a) → B
+refused-value e = let z : _≡_ {A = ℕ} 0 1 = cc in absurd (zero-one z)
+
+-- A field of one of two tags.
+pub two-tags : {A B : Type 0} (tag m n : ℕ) (x y : Option A) (a : A) → cond (eqb tag m) x (cond (eqb tag n) y none) ≡ some a
+    → (tag ≡ m → x ≡ some a → B) → (tag ≡ n → y ≡ some a → B) → B
+two-tags tag m n x y a e f g =
+    by-test (eqb tag m)
+    (λ t. f (eqb-true tag m t) (cc))
+    (λ t. by-test (eqb tag n) (λ u. g (eqb-true tag n u) (cc)) (λ u. none-some {x = a} (cc)))
+
+-- The two bytes in front, and the others.
+pub front-two : (c : List ℕ) → 2 ≤ length c → byteAt c 0 ∷ byteAt c 1 ∷ drop 2 c ≡ c
+front-two [] h = absurd (omega arith)
+front-two (x ∷ []) h = absurd (omega arith)
+front-two (x ∷ y ∷ c) h = refl
+
 -- Bytes in front of bytes.
 pub bytes-append : (s t : List ℕ) → Bytes (s ++ t) → Bytes s × Bytes t
 bytes-append [] t b = (tt, b)
@@ -77,11 +96,12 @@ pub data Made : List ℕ → List Field → Type 0 where
   more : {tag high low : ℕ} {c rest : List ℕ} {fs : List Field} → length c ≡ high * 256 + low → Made rest fs
       → Made (tag ∷ high ∷ low ∷ (c ++ rest)) (field tag c ∷ fs)
 
--- An element in front, taken apart.
-pub before-some : {A : Type 0} (a : A) (l : Option (List A)) (m : List A) → before (some a) l ≡ some m
-    → (k : List A) × (l ≡ some k) × (m ≡ a ∷ k)
-before-some a none m e = none-some e
-before-some a (some k) m e = (k, refl, cc)
+-- Values that are all there, taken apart.
+before-inv : {A : Type 0} (a : Option A) (l : Option (List A)) (m : List A) → before a l ≡ some m
+    → (x : A) × (k : List A) × (a ≡ some x) × (l ≡ some k) × (m ≡ x ∷ k)
+before-inv none l m e = none-some e
+before-inv (some x) none m e = none-some e
+before-inv (some x) (some k) m e = (x, k, refl, refl, cc)
 
 module _ (tag high low : ℕ) (q : List ℕ) where
   -- What a field with a whole length comes to.
@@ -118,10 +138,11 @@ split-made (suc fuel) (tag ∷ high ∷ []) fs e = absurd (split-cut fuel tag (h
 split-made (suc fuel) (tag ∷ high ∷ low ∷ q) fs e =
     let n : ℕ = high * 256 + low in
     let h : n ≤ length q = split-fits tag high low q fuel fs e in
-    let b = before-some (field tag (take n q)) (splitFields fuel (drop n q)) fs (sym (split-on tag high low q fuel h) ∙ e) in
-    let m = more {tag = tag} {high = high} {low = low} (length-take-le n q h) (split-made fuel (drop n q) (b .0) (b .1)) in
-    subst (λ (l : List Field). Made (tag ∷ high ∷ low ∷ q) l) (sym (b .2))
-    (subst (λ (l : List ℕ). Made (tag ∷ high ∷ low ∷ l) (field tag (take n q) ∷ b .0)) (take-append-drop n q) m)
+    let (x, k, a, b, d) = before-inv (some (field tag (take n q))) (splitFields fuel (drop n q)) fs (sym (split-on tag high low q fuel h) ∙ e) in
+    let z : field tag (take n q) ∷ k ≡ fs = cc in
+    let m = more {tag = tag} {high = high} {low = low} (length-take-le n q h) (split-made fuel (drop n q) k b) in
+    subst (λ (l : List ℕ). Made (tag ∷ high ∷ low ∷ l) fs) (take-append-drop n q)
+    (subst (λ (l : List Field). Made (tag ∷ high ∷ low ∷ (take n q ++ drop n q)) l) z m)
 
 -- What is made so is split so, with fuel for all bytes.
 made-split : {s : List ℕ} {fs : List Field} → Made s fs → (fuel : ℕ) → length s < fuel → splitFields fuel s ≡ some fs
@@ -269,13 +290,6 @@ pub record Codec {A : Type 0} (decode : Field → Option A) (encode : A → Fiel
   pub wholes : (f : Field) (a : A) → decode f ≡ some a → whole a ≡ true
   pub sizes : (f : Field) (a : A) → decode f ≡ some a → length (contentsOf (encode a)) ≡ length (contentsOf f)
   pub gives : (f : Field) (a : A) → decode f ≡ some a → Bytes (contentsOf f) → encode a ≡ f
-
--- A list of values taken apart.
-before-inv : {A : Type 0} (a : Option A) (l : Option (List A)) (m : List A) → before a l ≡ some m
-    → (x : A) × (k : List A) × (a ≡ some x) × (l ≡ some k) × (m ≡ x ∷ k)
-before-inv none l m e = none-some e
-before-inv (some x) none m e = none-some e
-before-inv (some x) (some k) m e = (x, k, refl, refl, cc)
 
 module _ {A : Type 0} {decode : Field → Option A} {encode : A → Field} {whole : A → Bool} (codec : Codec decode encode whole) where
   -- Whole entries that are written are read back.

@@ -2,3 +2,4 @@ pub mod Running
 pub mod Preserved
 pub mod Lookup
 pub mod Fitting
+pub mod Codec
