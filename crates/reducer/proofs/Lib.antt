@@ -1,1 +1,5 @@
 pub mod TermCodec
+pub mod Proper
+pub mod SumSound
+pub mod JoinSound
+pub mod IdentitySound
