@@ -4,7 +4,7 @@ use Prim.Native.Nat.{ℕ, zero, suc, _≤_, _<_}
 use mathlib.Core.Path.{_≡_, refl, ap, sym, _∙_}
 use mathlib.Core.Logic.{_⊎_, inl, inr, ⊎-elim, ⊎-swap}
 use mathlib.Core.Bool.{Bool, true, false, not, _&&_, _||_}
-use mathlib.Core.List.{List, [], _∷_}
+use mathlib.Core.List.{List, [], _∷_, map}
 use native.Mathlib.Omega.{arith}
 use lib.Dec.{ltb, leb, eqb}
 use borrow.Author.Tests.{ltb-true, ltb-false, leb-true, le-leb, eqb-true, eq-eqb, lt-ltb, le-ltb}
@@ -228,6 +228,11 @@ module _ {A : Type 0} (key : A → ℕ) where
       by-test (f x)
       (λ e. rw (e, keep) (g .0, keep-from f (suc (key x)) l (g .1)))
       (λ e. rw (e, keep) (keep-from f n l (from-weaken l (omega arith) (g .1))))
+
+-- A map that keeps keys keeps the order.
+pub map-from : {A : Type 0} (key : A → ℕ) (f : A → A) → ((a : A) → key (f a) ≡ key a) → (n : ℕ) (l : List A) → From key n l → From key n (map f l)
+map-from key f h n [] g = tt
+map-from key f h n (x ∷ l) g = rw (h x) (g .0, map-from key f h (suc (key x)) l (g .1))
 
 -- The tests, where `alike` tells equal entries.
 module _ {A : Type 0} (alike : A → A → Bool) (alike-equal : (a b : A) → alike a b ≡ true → a ≡ b) (equal-alike : (a : A) → alike a a ≡ true) where
