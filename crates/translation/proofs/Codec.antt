@@ -121,6 +121,11 @@ pub rising-grouped : (b : Body) → rising itemKey b ≡ true → all itemWhole 
 unfolding rising
 rising-grouped b r w = grouped-from 0 false b (λ e. true-false (sym e)) r w
 
+-- A body that a pack can hold.
+pub record GoodBody (b : Body) : Type 0 where
+  pub whole : all itemWhole b ≡ true
+  pub rises : rising itemKey b ≡ true
+
 -- Items that are read, and stand in their groups.
 groups-some : (o : Option Body) (b : Body) → inGroups o ≡ some b → (o ≡ some b) × (grouped false b ≡ true)
 groups-some none b e = none-some e
