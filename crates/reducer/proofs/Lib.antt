@@ -1,1 +1,2 @@
 pub mod TermCodec
+pub mod PackCodec
