@@ -1,11 +1,11 @@
 -- Fields in bytes: what is written is read back, and what is read was written.
 use Prim.Native.Nat.{ℕ, zero, suc, _+_, _*_, _/_, _%_, _<_, _≤_}
 use mathlib.Core.Path.{_≡_, refl, sym, ap, subst, _∙_}
-use mathlib.Core.Bool.{Bool, true, false, cond, not, _&&_, _||_}
+use mathlib.Core.Bool.{Bool, true, false, cond, _&&_, _||_}
 use mathlib.Core.List.{List, [], _∷_, _++_, append-assoc, map}
 use mathlib.Core.Option.{Option, none, some}
 use native.Mathlib.Omega.{arith}
-use lib.ListN.{length, getElem?, take, drop, length-append, length-take, take-append-drop}
+use lib.ListN.{length, getElem?, take, drop, length-append, take-append-drop}
 use lib.Seq.{take-append-seam, drop-append-seam, drop-drop, length-take-le}
 use lib.Dec.{ltb, leb, eqb}
 use borrow.Author.Tests.{le-leb, lt-leb, leb-true, eqb-true, le-ltb, ltb-false}

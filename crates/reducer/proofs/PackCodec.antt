@@ -1,18 +1,18 @@
 -- Packs in bytes: their parts, and packs that differ only in the term.
-use Prim.Native.Nat.{ℕ, zero, suc, _≤_}
+use Prim.Native.Nat.{ℕ, _≤_}
 use mathlib.Core.Path.{_≡_, refl, sym, ap, subst, _∙_}
-use mathlib.Core.Bool.{Bool, true, false, cond, not, _&&_, _||_}
-use mathlib.Core.List.{List, [], _∷_, _++_, append-assoc}
+use mathlib.Core.Bool.{Bool, true, false, _&&_, _||_}
+use mathlib.Core.List.{List, [], _∷_, _++_}
 use mathlib.Core.Option.{Option, none, some}
 use native.Mathlib.Omega.{arith}
 use lib.ListN.{length}
 use lib.Dec.{ltb, leb, eqb}
 use borrow.Author.Tests.{le-ltb, ltb-false}
-use Rattle.fields.specs.Outcome.{Result, value, refuseIf, _>>=_}
+use Rattle.fields.specs.Outcome.{value}
 use Rattle.fields.specs.Lists.{all, any, traverse, concatMap}
 use Rattle.fields.specs.Fields.{Field, field, fieldsOf, encodeFields, hasOver}
 use Rattle.fields.specs.Keyed.{rising}
-use Rattle.fields.proofs.Codec.{Each, tagOf, contentsOf, by-test, none-some, true-false, and-true, both, or-false, neither, cond-there, cond-some, before-inv, traverse-front, traverse-append, each-append, each-front, concat-append, fields-made, fields-encode, encode-made, Within, over-made, over-encode, none-over, all-within}
+use Rattle.fields.proofs.Codec.{Each, by-test, none-some, true-false, and-true, or-false, neither, cond-there, cond-some, before-inv, traverse-front, traverse-append, each-append, each-front, concat-append, fields-made, fields-encode, Within, over-made, over-encode, none-over, all-within}
 use Rattle.language.specs.Language.{Language, entryKey, clashes}
 use Rattle.language.specs.LanguageFile.{entriesOf, encodeLanguage, languageLimit, whole}
 use Rattle.language.proofs.Codec.{entryWhole, GoodLanguage, language-whole, language-length, open-value, open-rest}

@@ -1,24 +1,24 @@
 -- Bodies and translations in bytes: what is written is read back, and what is read was written.
-use Prim.Native.Nat.{ℕ, zero, suc, _+_, _*_, _<_, _≤_}
+use Prim.Native.Nat.{ℕ, suc, _+_, _*_, _≤_}
 use mathlib.Core.Path.{_≡_, refl, sym, ap, _∙_}
-use mathlib.Core.Bool.{Bool, true, false, cond, not, _&&_, _||_}
-use mathlib.Core.List.{List, [], _∷_, _++_, map}
+use mathlib.Core.Bool.{Bool, true, false, not, _&&_, _||_}
+use mathlib.Core.List.{List, [], _∷_, map}
 use mathlib.Core.Option.{Option, none, some}
 use native.Mathlib.Omega.{arith}
 use lib.ListN.{length, drop, drop-of-length-le}
 use lib.Dec.{ltb, leb, eqb}
 use borrow.Author.Tests.{le-leb, leb-true, eqb-true, le-ltb, ltb-true, ltb-false}
-use Rattle.fields.specs.Outcome.{Result, value, refused, refuseIf, _>>=_}
+use Rattle.fields.specs.Outcome.{value, refuseIf}
 use Rattle.fields.specs.declared.outcome.Reason.the-variants.{Mapping, Clauses, Code}
-use Rattle.fields.specs.Lists.{all, any, traverse}
+use Rattle.fields.specs.Lists.{all, traverse}
 use Rattle.fields.specs.Fields.{Field, field, byteAt, fieldsOf, encodeFields, hasOver}
 use Rattle.fields.specs.Keyed.{rising, risingFrom}
-use Rattle.fields.proofs.Codec.{Each, Bytes, tagOf, contentsOf, InBytes, Codec, by-test, none-some, true-false, refused-value, and-true, both, or-false, neither, cond-some, two-tags, front-two, fields-made, fields-encode, fields-sound, fields-length, encode-length, Within, over-made, over-encode, none-over, all-within, entries-encode, entries-whole, entries-length, entries-sound}
+use Rattle.fields.proofs.Codec.{Each, Bytes, contentsOf, Codec, by-test, none-some, true-false, refused-value, and-true, both, or-false, neither, cond-some, two-tags, front-two, fields-made, fields-encode, fields-sound, fields-length, encode-length, Within, over-made, over-encode, none-over, all-within, entries-encode, entries-whole, entries-length, entries-sound}
 use Rattle.language.specs.Language.{Language, entryKey, clashes}
 use Rattle.language.specs.LanguageFile.{isKind, entriesOf, encodeLanguage, languageLimit}
 use Rattle.language.proofs.Codec.{entryWhole, language-encode, language-whole, language-length, language-sound, open-value, open-rest}
 use Rattle.translation.specs.Translation.{Item, mapping, clause, Body, Translation, itemKey}
-use Rattle.translation.specs.TranslationFile.{mappingField, clauseField, itemOf, itemField, isClause, grouped, inGroups, itemsIn, bodyIn, bodyOf, parts, partsIn, partsOfFields, partsOf, translationFields, encodeTranslation, translationLimit, isLanguageTag, allRising, translationOf}
+use Rattle.translation.specs.TranslationFile.{mappingField, clauseField, itemOf, itemField, grouped, inGroups, itemsIn, bodyIn, bodyOf, parts, partsIn, partsOfFields, partsOf, translationFields, encodeTranslation, translationLimit, isLanguageTag, allRising, translationOf}
 use Rattle.translation.specs.WellFormed.{wellFormed, mappingFits, clausesFit, codesFit}
 
 -- An item that a file can hold: its kinds are kinds.
