@@ -29,8 +29,9 @@ tagOf (field tag c) = tag
 abbrev pub contentsOf : Field → List ℕ
 contentsOf (field tag c) = c
 
--- The contents are bytes, and two bytes hold their length.
+-- The tag is a byte, the contents are bytes, and two bytes hold their length.
 pub record InBytes (f : Field) : Type 0 where
+  pub tag : tagOf f < 256
   pub contents : Bytes (contentsOf f)
   pub short : length (contentsOf f) < 65536
 
@@ -101,6 +102,16 @@ each-at P (x ∷ l) (suc i) a p e = each-at P l i a (p .1) e
 pub each-front : {A : Type 0} (P : A → Type 0) (l m : List A) → Each P (l ++ m) → Each P l × Each P m
 each-front P [] m p = (tt, p)
 each-front P (a ∷ l) m p = let h = each-front P l m (p .1) in ((p .0, h .0), h .1)
+
+-- Bytes by their places.
+pub bytes-at : (s : List ℕ) → Bytes s → (i : ℕ) → byteAt s i < 256
+bytes-at [] b i = omega arith
+bytes-at (x ∷ s) b zero = b .0
+bytes-at (x ∷ s) b (suc i) = bytes-at s (b .1) i
+
+pub bytes-from : (s : List ℕ) → ((i : ℕ) → i < length s → byteAt s i < 256) → Bytes s
+bytes-from [] h = tt
+bytes-from (x ∷ s) h = (h 0 (omega arith), bytes-from s (λ i l. h (suc i) (omega arith)))
 
 -- The bytes, and the fields that they are made of.
 pub data Made : List ℕ → List Field → Type 0 where
@@ -228,7 +239,16 @@ made-sound (more {tag = tag} {high = high} {low = low} {c = c} {rest = rest} {fs
     let ih = made-sound m (bs .1) in
     let h : length c / 256 ≡ high = omega arith in
     let l : length c % 256 ≡ low = omega arith in
-    (cc (ih .0), (record { contents = bs .0; short = omega arith }, ih .1))
+    (cc (ih .0), (record { tag = b .0; contents = bs .0; short = omega arith }, ih .1))
+
+-- Fields of bytes are written in bytes.
+pub encode-bytes : (fs : List Field) → Each InBytes fs → Bytes (encodeFields fs)
+unfolding encodeFields concatMap encodeField
+encode-bytes [] h = tt
+encode-bytes (field tag c ∷ fs) h =
+    let high : length c / 256 < 256 = omega (arith, h .0 .short) in
+    let low : length c % 256 < 256 = omega arith in
+    (h .0 .tag, (high, (low, each-append (λ x. x < 256) c (encodeFields fs) (h .0 .contents) (encode-bytes fs (h .1)))))
 
 -- Fields that are read from bytes: the bytes, and what is known of each field.
 pub fields-sound : (s : List ℕ) (fs : List Field) → Bytes s → fieldsOf s ≡ some fs → (s ≡ encodeFields fs) × Each InBytes fs
@@ -309,18 +329,24 @@ module _ (isLanguage : ℕ → Bool) (limit : ℕ) where
       (λ d. cc (le-ltb limit (length (contentsOf f)) (h d)))
       (λ d. cc)
 
-  -- No field is over the limit exactly if each is within it.
-  pub none-over : (fs : List Field) → any (isOver isLanguage limit) fs ≡ false → Each Within fs
+  none-over : (fs : List Field) → any (isOver isLanguage limit) fs ≡ false → Each Within fs
   unfolding any
   none-over [] e = tt
   none-over (f ∷ fs) e =
       let h = or-false (isOver isLanguage limit f) (any (isOver isLanguage limit) fs) e in
       (over-field f (h .0), none-over fs (h .1))
 
-  pub all-within : (fs : List Field) → Each Within fs → any (isOver isLanguage limit) fs ≡ false
+  all-within : (fs : List Field) → Each Within fs → any (isOver isLanguage limit) fs ≡ false
   unfolding any
   all-within [] h = refl
   all-within (f ∷ fs) h = neither _ _ (within-field f (h .0)) (all-within fs (h .1))
+
+  -- No field is said to be over the limit exactly if each is within it.
+  pub not-over : (s : List ℕ) (fs : List Field) → fieldsOf s ≡ some fs → hasOver isLanguage limit s ≡ false → Each Within fs
+  not-over s fs e h = none-over fs (sym (over-made (fields-made s fs e)) ∙ h)
+
+  pub within-over : (fs : List Field) → Each Within fs → hasOver isLanguage limit (encodeFields fs) ≡ false
+  within-over fs h = over-encode fs ∙ all-within fs h
 
 -- Entries that are kept one to a field: how a field is read, how an entry is written, and the test of what can be written.
 pub record Codec {A : Type 0} (decode : Field → Option A) (encode : A → Field) (whole : A → Bool) : Type 0 where

@@ -12,7 +12,7 @@ use Rattle.fields.specs.Outcome.{value}
 use Rattle.fields.specs.Lists.{all, any, traverse, concatMap}
 use Rattle.fields.specs.Fields.{Field, field, fieldsOf, encodeFields, hasOver}
 use Rattle.fields.specs.Keyed.{rising}
-use Rattle.fields.proofs.Codec.{Each, by-test, none-some, true-false, and-true, or-false, neither, cond-there, cond-some, before-inv, traverse-front, traverse-append, each-append, each-front, concat-append, fields-made, fields-encode, Within, over-made, over-encode, none-over, all-within}
+use Rattle.fields.proofs.Codec.{Each, by-test, none-some, true-false, and-true, or-false, neither, cond-there, cond-some, before-inv, traverse-front, traverse-append, each-append, each-front, concat-append, fields-encode, Within, not-over, within-over}
 use Rattle.language.specs.Language.{Language, entryKey, clashes}
 use Rattle.language.specs.LanguageFile.{entriesOf, encodeLanguage, languageLimit, whole}
 use Rattle.language.proofs.Codec.{entryWhole, GoodLanguage, language-whole, language-length, open-value, open-rest}
@@ -163,11 +163,10 @@ in-pack s p i = open-rest packRises packClashes value _ _ p (neither _ _ (i .sho
 term-within : (fs : List Field) (a b : List ℕ) → hasOver isLanguageTag languageLimit (withTerm fs a) ≡ false
     → hasOver isLanguageTag languageLimit (withTerm fs b) ≡ false
 term-within fs a b h =
-    let w = none-over isLanguageTag languageLimit (fs ++ field 0x32 a ∷ []) (sym (over-encode isLanguageTag languageLimit (fs ++ field 0x32 a ∷ [])) ∙ h) in
+    let w = not-over isLanguageTag languageLimit (withTerm fs a) (fs ++ field 0x32 a ∷ []) (fields-encode (fs ++ field 0x32 a ∷ [])) h in
     let v = each-front (Within isLanguageTag languageLimit) fs (field 0x32 a ∷ []) w in
     let t : Each (Within isLanguageTag languageLimit) (field 0x32 b ∷ []) = (λ e. true-false (sym e), tt) in
-    over-encode isLanguageTag languageLimit (fs ++ field 0x32 b ∷ [])
-    ∙ all-within isLanguageTag languageLimit (fs ++ field 0x32 b ∷ []) (each-append (Within isLanguageTag languageLimit) fs (field 0x32 b ∷ []) (v .0) t)
+    within-over isLanguageTag languageLimit (fs ++ field 0x32 b ∷ []) (each-append (Within isLanguageTag languageLimit) fs (field 0x32 b ∷ []) (v .0) t)
 
 -- Packs that differ only in field 32: one is a pack if the other is, with the same languages and bodies.
 pub pack-term : (fs : List Field) (a b : List ℕ) (p : Pack) → packOf (withTerm fs a) ≡ value p → length (withTerm fs b) ≤ packLimit
@@ -256,8 +255,7 @@ pub pack-good : (s : List ℕ) (p : Pack) → packOf s ≡ value p → Each Good
 pack-good s p e =
     let i = pack-in s p e in
     let j = parts-in s p (i .parts) in
-    let m = fields-made s (j .fields) (j .split) in
-    let w = none-over isLanguageTag languageLimit (j .fields) (sym (over-made isLanguageTag languageLimit m) ∙ i .within) in
+    let w = not-over isLanguageTag languageLimit s (j .fields) (j .split) (i .within) in
     let f = fit-parts (j .fields) (j .parts) (j .reads) w in
     let ls = j .from .languages in
     let bs = j .from .bodies in

@@ -13,7 +13,7 @@ use Rattle.fields.specs.declared.outcome.Reason.the-variants.{Mapping, Clauses,
 use Rattle.fields.specs.Lists.{all, traverse}
 use Rattle.fields.specs.Fields.{Field, field, byteAt, fieldsOf, encodeFields, hasOver}
 use Rattle.fields.specs.Keyed.{rising, risingFrom}
-use Rattle.fields.proofs.Codec.{Each, Bytes, contentsOf, Codec, by-test, none-some, true-false, refused-value, and-true, both, or-false, neither, cond-some, two-tags, front-two, fields-made, fields-encode, fields-sound, fields-length, encode-length, Within, over-made, over-encode, none-over, all-within, entries-encode, entries-whole, entries-length, entries-sound}
+use Rattle.fields.proofs.Codec.{Each, Bytes, contentsOf, Codec, by-test, none-some, true-false, refused-value, and-true, both, or-false, neither, cond-some, two-tags, front-two, fields-encode, fields-sound, fields-length, encode-length, Within, not-over, within-over, entries-encode, entries-whole, entries-length, entries-sound}
 use Rattle.language.specs.Language.{Language, entryKey, clashes}
 use Rattle.language.specs.LanguageFile.{isKind, entriesOf, encodeLanguage, languageLimit}
 use Rattle.language.proofs.Codec.{entryWhole, language-encode, language-whole, language-length, language-sound, open-value, open-rest}
@@ -223,8 +223,7 @@ parts-encode f w =
 languages-within : (f : Translation) → WholeTranslation f → hasOver isLanguageTag languageLimit (encodeTranslation f) ≡ false
 unfolding encodeTranslation translationFields
 languages-within f w =
-    over-encode isLanguageTag languageLimit _
-    ∙ all-within isLanguageTag languageLimit _ (λ e. w .source-short, (λ e. w .target-short, items-within languageLimit (f .body)))
+    within-over isLanguageTag languageLimit _ (λ e. w .source-short, (λ e. w .target-short, items-within languageLimit (f .body)))
 
 -- A whole translation that is written is read back, and then asked to be well formed.
 pub translation-back : (f : Translation) → WholeTranslation f → translationOf (encodeTranslation f) ≡ wellFormed f
@@ -321,8 +320,7 @@ module _ {s : List ℕ} {f : Translation} (p : PartsIn s f) where
       → (length (encodeLanguage (f .source)) ≤ languageLimit) × (length (encodeLanguage (f .target)) ≤ languageLimit)
   both-short h =
       let fs = field 0x20 (p .sourceBytes) ∷ field 0x21 (p .targetBytes) ∷ p .items in
-      let m = fields-made s fs (p .fields) in
-      let (a, (b, w)) = none-over isLanguageTag languageLimit fs (sym (over-made isLanguageTag languageLimit m) ∙ h) in (
+      let (a, (b, w)) = not-over isLanguageTag languageLimit s fs (p .fields) h in (
         omega (arith, a refl, language-length (p .sourceBytes) (f .source) (p .source)),
         omega (arith, b refl, language-length (p .targetBytes) (f .target) (p .target)),
       )
