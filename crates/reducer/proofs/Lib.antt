@@ -1,2 +1,6 @@
 pub mod TermCodec
 pub mod PackCodec
+pub mod Proper
+pub mod SumSound
+pub mod JoinSound
+pub mod IdentitySound
