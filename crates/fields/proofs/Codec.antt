@@ -1,11 +1,11 @@
 -- Fields in bytes: what is written is read back, and what is read was written.
 use Prim.Native.Nat.{ℕ, zero, suc, _+_, _*_, _/_, _%_, _<_, _≤_}
 use mathlib.Core.Path.{_≡_, refl, sym, ap, subst, _∙_}
-use mathlib.Core.Bool.{Bool, true, false, cond, not, _&&_, _||_}
+use mathlib.Core.Bool.{Bool, true, false, cond, _&&_, _||_}
 use mathlib.Core.List.{List, [], _∷_, _++_, append-assoc, map}
 use mathlib.Core.Option.{Option, none, some}
 use native.Mathlib.Omega.{arith}
-use lib.ListN.{length, getD, take, drop, length-append, length-take, take-append-drop}
+use lib.ListN.{length, getElem?, take, drop, length-append, take-append-drop}
 use lib.Seq.{take-append-seam, drop-append-seam, drop-drop, length-take-le}
 use lib.Dec.{ltb, leb, eqb}
 use borrow.Author.Tests.{le-leb, lt-leb, leb-true, eqb-true, le-ltb, ltb-false}
@@ -29,8 +29,9 @@ tagOf (field tag c) = tag
 abbrev pub contentsOf : Field → List ℕ
 contentsOf (field tag c) = c
 
--- The contents are bytes, and two bytes hold their length.
+-- The tag is a byte, the contents are bytes, and two bytes hold their length.
 pub record InBytes (f : Field) : Type 0 where
+  pub tag : tagOf f < 256
   pub contents : Bytes (contentsOf f)
   pub short : length (contentsOf f) < 65536
 
@@ -64,9 +65,12 @@ pub neither : (a b : Bool) → a ≡ false → b ≡ false → a || b ≡ false
 neither a b e d = rw (e, d)
 
 -- A value under a test.
+pub cond-there : {A : Type 0} (b : Bool) (o : Option A) (y : A) → cond b o none ≡ some y → (b ≡ true) × (o ≡ some y)
+cond-there true o y e = (refl, e)
+cond-there false o y e = none-some e
+
 pub cond-some : {A : Type 0} (b : Bool) (x y : A) → cond b (some x) none ≡ some y → (b ≡ true) × (x ≡ y)
-cond-some true x y e = (refl, cc)
-cond-some false x y e = none-some e
+cond-some b x y e = let w = cond-there b (some x) y e in (w .0, cc (w .1))
 
 pub refused-value : {A B : Type 0} {r : Reason} {a : A} → _≡_ {A = Result A} (refused r) (value a) → B
 refused-value e = let z : _≡_ {A = ℕ} 0 1 = cc in absurd (zero-one z)
@@ -85,10 +89,29 @@ front-two [] h = absurd (omega arith)
 front-two (x ∷ []) h = absurd (omega arith)
 front-two (x ∷ y ∷ c) h = refl
 
--- Bytes in front of bytes.
-pub bytes-append : (s t : List ℕ) → Bytes (s ++ t) → Bytes s × Bytes t
-bytes-append [] t b = (tt, b)
-bytes-append (x ∷ s) t b = let h = bytes-append s t (b .1) in ((b .0, h .0), h .1)
+-- Elements in front of others, and the element of a number.
+pub each-append : {A : Type 0} (P : A → Type 0) (l m : List A) → Each P l → Each P m → Each P (l ++ m)
+each-append P [] m p q = q
+each-append P (a ∷ l) m p q = (p .0, each-append P l m (p .1) q)
+
+pub each-at : {A : Type 0} (P : A → Type 0) (l : List A) (i : ℕ) (a : A) → Each P l → getElem? l i ≡ some a → P a
+each-at P [] i a p e = none-some e
+each-at P (x ∷ l) zero a p e = let z : x ≡ a = cc in subst P z (p .0)
+each-at P (x ∷ l) (suc i) a p e = each-at P l i a (p .1) e
+
+pub each-front : {A : Type 0} (P : A → Type 0) (l m : List A) → Each P (l ++ m) → Each P l × Each P m
+each-front P [] m p = (tt, p)
+each-front P (a ∷ l) m p = let h = each-front P l m (p .1) in ((p .0, h .0), h .1)
+
+-- Bytes by their places.
+pub bytes-at : (s : List ℕ) → Bytes s → (i : ℕ) → byteAt s i < 256
+bytes-at [] b i = omega arith
+bytes-at (x ∷ s) b zero = b .0
+bytes-at (x ∷ s) b (suc i) = bytes-at s (b .1) i
+
+pub bytes-from : (s : List ℕ) → ((i : ℕ) → i < length s → byteAt s i < 256) → Bytes s
+bytes-from [] h = tt
+bytes-from (x ∷ s) h = (h 0 (omega arith), bytes-from s (λ i l. h (suc i) (omega arith)))
 
 -- The bytes, and the fields that they are made of.
 pub data Made : List ℕ → List Field → Type 0 where
@@ -97,11 +120,32 @@ pub data Made : List ℕ → List Field → Type 0 where
       → Made (tag ∷ high ∷ low ∷ (c ++ rest)) (field tag c ∷ fs)
 
 -- Values that are all there, taken apart.
-before-inv : {A : Type 0} (a : Option A) (l : Option (List A)) (m : List A) → before a l ≡ some m
+pub before-inv : {A : Type 0} (a : Option A) (l : Option (List A)) (m : List A) → before a l ≡ some m
     → (x : A) × (k : List A) × (a ≡ some x) × (l ≡ some k) × (m ≡ x ∷ k)
 before-inv none l m e = none-some e
 before-inv (some x) none m e = none-some e
 before-inv (some x) (some k) m e = (x, k, refl, refl, cc)
+
+before-both : {A : Type 0} (a : Option A) (l : Option (List A)) (x : A) (k : List A) → a ≡ some x → l ≡ some k → before a l ≡ some (x ∷ k)
+before-both a l x k e d = rw (e, d)
+
+-- Values of elements that stand in front of others, taken apart and put together.
+pub traverse-front : {A B : Type 0} (f : A → Option B) (l m : List A) (n : List B) → traverse f (l ++ m) ≡ some n
+    → (a : List B) × (b : List B) × (traverse f l ≡ some a) × (traverse f m ≡ some b) × (n ≡ a ++ b)
+unfolding traverse
+traverse-front f [] m n e = ([], n, refl, e, refl)
+traverse-front {B = B} f (x ∷ l) m n e =
+    let (y, k, h, t, z) = before-inv (f x) (traverse f (l ++ m)) n e in
+    let (a, b, p, q, r) = traverse-front f l m k t in
+    (y ∷ a, b, before-both (f x) (traverse f l) y a h p, q, z ∙ ap (λ (t : List B). y ∷ t) r)
+
+pub traverse-append : {A B : Type 0} (f : A → Option B) (l m : List A) (a b : List B) → traverse f l ≡ some a → traverse f m ≡ some b
+    → traverse f (l ++ m) ≡ some (a ++ b)
+unfolding traverse
+traverse-append f [] m a b p q = let z : [] ≡ a = cc in rw (← z) q
+traverse-append {B = B} f (x ∷ l) m a b p q =
+    let (y, k, h, t, z) = before-inv (f x) (traverse f l) a p in
+    before-both (f x) (traverse f (l ++ m)) y (k ++ b) h (traverse-append f l m k b t q) ∙ ap (λ (t : List B). some (t ++ b)) (sym z)
 
 module _ (tag high low : ℕ) (q : List ℕ) where
   -- What a field with a whole length comes to.
@@ -191,11 +235,20 @@ pub made-sound : {s : List ℕ} {fs : List Field} → Made s fs → Bytes s → 
 unfolding encodeFields concatMap encodeField
 made-sound end b = (refl, tt)
 made-sound (more {tag = tag} {high = high} {low = low} {c = c} {rest = rest} {fs = fs} e m) b =
-    let bs = bytes-append c rest (b .1 .1 .1) in
+    let bs = each-front (λ x. x < 256) c rest (b .1 .1 .1) in
     let ih = made-sound m (bs .1) in
     let h : length c / 256 ≡ high = omega arith in
     let l : length c % 256 ≡ low = omega arith in
-    (cc (ih .0), (record { contents = bs .0; short = omega arith }, ih .1))
+    (cc (ih .0), (record { tag = b .0; contents = bs .0; short = omega arith }, ih .1))
+
+-- Fields of bytes are written in bytes.
+pub encode-bytes : (fs : List Field) → Each InBytes fs → Bytes (encodeFields fs)
+unfolding encodeFields concatMap encodeField
+encode-bytes [] h = tt
+encode-bytes (field tag c ∷ fs) h =
+    let high : length c / 256 < 256 = omega (arith, h .0 .short) in
+    let low : length c % 256 < 256 = omega arith in
+    (h .0 .tag, (high, (low, each-append (λ x. x < 256) c (encodeFields fs) (h .0 .contents) (encode-bytes fs (h .1)))))
 
 -- Fields that are read from bytes: the bytes, and what is known of each field.
 pub fields-sound : (s : List ℕ) (fs : List Field) → Bytes s → fieldsOf s ≡ some fs → (s ≡ encodeFields fs) × Each InBytes fs
@@ -204,11 +257,16 @@ fields-sound s fs b e = made-sound (fields-made s fs e) b
 pub fields-length : (s : List ℕ) (fs : List Field) → fieldsOf s ≡ some fs → length (encodeFields fs) ≡ length s
 fields-length s fs e = made-length (fields-made s fs e)
 
+-- Lists of elements, one after the other.
+pub concat-append : {A B : Type 0} (f : A → List B) (l m : List A) → concatMap f (l ++ m) ≡ concatMap f l ++ concatMap f m
+unfolding concatMap
+concat-append f [] m = refl
+concat-append f (a ∷ l) m = rw (concat-append f l m) (sym (append-assoc (f a) (concatMap f l) (concatMap f m)))
+
 -- Fields one after the other.
 pub encode-append : (fs gs : List Field) → encodeFields (fs ++ gs) ≡ encodeFields fs ++ encodeFields gs
-unfolding encodeFields concatMap
-encode-append [] gs = refl
-encode-append (f ∷ fs) gs = ap (λ (l : List ℕ). encodeField f ++ l) (encode-append fs gs) ∙ sym (append-assoc (encodeField f) (concatMap encodeField fs) (concatMap encodeField gs))
+unfolding encodeFields
+encode-append fs gs = concat-append encodeField fs gs
 
 -- A field has three bytes more than its contents.
 pub field-length : (f : Field) → length (encodeField f) ≡ 3 + length (contentsOf f)
@@ -271,18 +329,24 @@ module _ (isLanguage : ℕ → Bool) (limit : ℕ) where
       (λ d. cc (le-ltb limit (length (contentsOf f)) (h d)))
       (λ d. cc)
 
-  -- No field is over the limit exactly if each is within it.
-  pub none-over : (fs : List Field) → any (isOver isLanguage limit) fs ≡ false → Each Within fs
+  none-over : (fs : List Field) → any (isOver isLanguage limit) fs ≡ false → Each Within fs
   unfolding any
   none-over [] e = tt
   none-over (f ∷ fs) e =
       let h = or-false (isOver isLanguage limit f) (any (isOver isLanguage limit) fs) e in
       (over-field f (h .0), none-over fs (h .1))
 
-  pub all-within : (fs : List Field) → Each Within fs → any (isOver isLanguage limit) fs ≡ false
+  all-within : (fs : List Field) → Each Within fs → any (isOver isLanguage limit) fs ≡ false
   unfolding any
   all-within [] h = refl
   all-within (f ∷ fs) h = neither _ _ (within-field f (h .0)) (all-within fs (h .1))
+
+  -- No field is said to be over the limit exactly if each is within it.
+  pub not-over : (s : List ℕ) (fs : List Field) → fieldsOf s ≡ some fs → hasOver isLanguage limit s ≡ false → Each Within fs
+  not-over s fs e h = none-over fs (sym (over-made (fields-made s fs e)) ∙ h)
+
+  pub within-over : (fs : List Field) → Each Within fs → hasOver isLanguage limit (encodeFields fs) ≡ false
+  within-over fs h = over-encode fs ∙ all-within fs h
 
 -- Entries that are kept one to a field: how a field is read, how an entry is written, and the test of what can be written.
 pub record Codec {A : Type 0} (decode : Field → Option A) (encode : A → Field) (whole : A → Bool) : Type 0 where

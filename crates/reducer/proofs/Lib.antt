@@ -1,4 +1,5 @@
 pub mod TermCodec
+pub mod PackCodec
 pub mod Proper
 pub mod SumSound
 pub mod JoinSound

@@ -1,24 +1,24 @@
 -- Bodies and translations in bytes: what is written is read back, and what is read was written.
-use Prim.Native.Nat.{ℕ, zero, suc, _+_, _*_, _<_, _≤_}
+use Prim.Native.Nat.{ℕ, suc, _+_, _*_, _≤_}
 use mathlib.Core.Path.{_≡_, refl, sym, ap, _∙_}
-use mathlib.Core.Bool.{Bool, true, false, cond, not, _&&_, _||_}
-use mathlib.Core.List.{List, [], _∷_, _++_, map}
+use mathlib.Core.Bool.{Bool, true, false, not, _&&_, _||_}
+use mathlib.Core.List.{List, [], _∷_, map}
 use mathlib.Core.Option.{Option, none, some}
 use native.Mathlib.Omega.{arith}
 use lib.ListN.{length, drop, drop-of-length-le}
 use lib.Dec.{ltb, leb, eqb}
 use borrow.Author.Tests.{le-leb, leb-true, eqb-true, le-ltb, ltb-true, ltb-false}
-use Rattle.fields.specs.Outcome.{Result, value, refused, refuseIf, _>>=_}
+use Rattle.fields.specs.Outcome.{value, refuseIf}
 use Rattle.fields.specs.declared.outcome.Reason.the-variants.{Mapping, Clauses, Code}
-use Rattle.fields.specs.Lists.{all, any, traverse}
+use Rattle.fields.specs.Lists.{all, traverse}
 use Rattle.fields.specs.Fields.{Field, field, byteAt, fieldsOf, encodeFields, hasOver}
 use Rattle.fields.specs.Keyed.{rising, risingFrom}
-use Rattle.fields.proofs.Codec.{Each, Bytes, tagOf, contentsOf, InBytes, Codec, by-test, none-some, true-false, refused-value, and-true, both, or-false, neither, cond-some, two-tags, front-two, fields-made, fields-encode, fields-sound, fields-length, encode-length, Within, over-made, over-encode, none-over, all-within, entries-encode, entries-whole, entries-length, entries-sound}
+use Rattle.fields.proofs.Codec.{Each, Bytes, contentsOf, Codec, by-test, none-some, true-false, refused-value, and-true, both, or-false, neither, cond-some, two-tags, front-two, fields-encode, fields-sound, fields-length, encode-length, Within, not-over, within-over, entries-encode, entries-whole, entries-length, entries-sound}
 use Rattle.language.specs.Language.{Language, entryKey, clashes}
 use Rattle.language.specs.LanguageFile.{isKind, entriesOf, encodeLanguage, languageLimit}
 use Rattle.language.proofs.Codec.{entryWhole, language-encode, language-whole, language-length, language-sound, open-value, open-rest}
 use Rattle.translation.specs.Translation.{Item, mapping, clause, Body, Translation, itemKey}
-use Rattle.translation.specs.TranslationFile.{mappingField, clauseField, itemOf, itemField, isClause, grouped, inGroups, itemsIn, bodyIn, bodyOf, parts, partsIn, partsOfFields, partsOf, translationFields, encodeTranslation, translationLimit, isLanguageTag, allRising, translationOf}
+use Rattle.translation.specs.TranslationFile.{mappingField, clauseField, itemOf, itemField, grouped, inGroups, itemsIn, bodyIn, bodyOf, parts, partsIn, partsOfFields, partsOf, translationFields, encodeTranslation, translationLimit, isLanguageTag, allRising, translationOf}
 use Rattle.translation.specs.WellFormed.{wellFormed, mappingFits, clausesFit, codesFit}
 
 -- An item that a file can hold: its kinds are kinds.
@@ -121,6 +121,11 @@ pub rising-grouped : (b : Body) → rising itemKey b ≡ true → all itemWhole 
 unfolding rising
 rising-grouped b r w = grouped-from 0 false b (λ e. true-false (sym e)) r w
 
+-- A body that a pack can hold.
+pub record GoodBody (b : Body) : Type 0 where
+  pub whole : all itemWhole b ≡ true
+  pub rises : rising itemKey b ≡ true
+
 -- Items that are read, and stand in their groups.
 groups-some : (o : Option Body) (b : Body) → inGroups o ≡ some b → (o ≡ some b) × (grouped false b ≡ true)
 groups-some none b e = none-some e
@@ -218,8 +223,7 @@ parts-encode f w =
 languages-within : (f : Translation) → WholeTranslation f → hasOver isLanguageTag languageLimit (encodeTranslation f) ≡ false
 unfolding encodeTranslation translationFields
 languages-within f w =
-    over-encode isLanguageTag languageLimit _
-    ∙ all-within isLanguageTag languageLimit _ (λ e. w .source-short, (λ e. w .target-short, items-within languageLimit (f .body)))
+    within-over isLanguageTag languageLimit _ (λ e. w .source-short, (λ e. w .target-short, items-within languageLimit (f .body)))
 
 -- A whole translation that is written is read back, and then asked to be well formed.
 pub translation-back : (f : Translation) → WholeTranslation f → translationOf (encodeTranslation f) ≡ wellFormed f
@@ -316,8 +320,7 @@ module _ {s : List ℕ} {f : Translation} (p : PartsIn s f) where
       → (length (encodeLanguage (f .source)) ≤ languageLimit) × (length (encodeLanguage (f .target)) ≤ languageLimit)
   both-short h =
       let fs = field 0x20 (p .sourceBytes) ∷ field 0x21 (p .targetBytes) ∷ p .items in
-      let m = fields-made s fs (p .fields) in
-      let (a, (b, w)) = none-over isLanguageTag languageLimit fs (sym (over-made isLanguageTag languageLimit m) ∙ h) in (
+      let (a, (b, w)) = not-over isLanguageTag languageLimit s fs (p .fields) h in (
         omega (arith, a refl, language-length (p .sourceBytes) (f .source) (p .source)),
         omega (arith, b refl, language-length (p .targetBytes) (f .target) (p .target)),
       )
