@@ -4,3 +4,4 @@ pub mod Proper
 pub mod SumSound
 pub mod JoinSound
 pub mod IdentitySound
+pub mod Evaluated
