@@ -24,8 +24,7 @@ use Rattle.translation.proofs.Codec.{itemWhole, GoodBody}
 use Rattle.translation.proofs.Fitting.{refused-value, refuse-value}
 use Rattle.reducer.specs.Algebra.{languagesFit, languageUnion, languageSum, languageWithout, translationsFit, translationUnion, translationSum, translationWithout, joinFits, joined, translationJoin, identityOf}
 use Rattle.reducer.specs.Terms.{Sort, languages, translations, Term, constant, sourceOf, targetOf, make, join, identity, variable, without, sum, bind}
-use Rattle.reducer.specs.Pack.{Pack}
-use Rattle.reducer.specs.Evaluation.{Value, Environment, nothingBound, bound, there, codeIsDeep, languageExceeds, translationExceeds, exceeds, limited, sumOf, withoutOf, evaluate}
+use Rattle.reducer.specs.Evaluation.{Constants, Value, Environment, nothingBound, bound, there, codeIsDeep, languageExceeds, translationExceeds, exceeds, limited, sumOf, withoutOf, evaluate}
 
 use Rattle.reducer.proofs.Proper.{Proper, good-proper, proper-good, Sound, formed-sound, GoodTranslation}
 use Rattle.reducer.proofs.SumSound.{fit-languages, fit-translations, proper-union, proper-without, sound-union, sound-without}
@@ -139,7 +138,7 @@ make-fair l m b f x y z e =
     subst Sound (r .1) (r .0)
 
 -- The constants of a pack, and what is bound, are good.
-pub record GoodPack (p : Pack) : Type 0 where
+pub record GoodConstants (p : Constants) : Type 0 where
   pub languages : Each GoodLanguage (p .languages)
   pub bodies : Each GoodBody (p .bodies)
 
@@ -166,7 +165,7 @@ bound-good e translations n v h g languages w x q = h languages w x q
 bound-good e translations n v h g translations w x q = hides translations (eqb n w) v x (e translations w) g (h translations w x) q
 
 -- Every value is good.
-pub evaluate-good : {s : Sort} (p : Pack) → GoodPack p → (e : Environment) → GoodEnvironment e → (t : Term s) (v : Value s) → evaluate p e t ≡ value v → Good s v
+pub evaluate-good : {s : Sort} (p : Constants) → GoodConstants p → (e : Environment) → GoodEnvironment e → (t : Term s) (v : Value s) → evaluate p e t ≡ value v → Good s v
 unfolding evaluate
 evaluate-good p gp e ge (constant c) v q =
     let a = there-step TermRefused (getElem? (p .languages) c) (limited languages) q in

@@ -22,6 +22,14 @@ use Rattle.reducer.specs.Algebra.{languageSum, languageWithout, translat
 use Rattle.reducer.specs.Terms.{Sort, languages, translations, Term, constant, sourceOf, targetOf, make, join, identity, variable, without, sum, bind}
 use Rattle.reducer.specs.Pack.{Pack}
 
+-- The languages and bodies of a pack, which a term names by number.
+pub record Constants : Type 0 where
+  pub languages : List Language
+  pub bodies : List Body
+
+abbrev pub constantsOf : Pack → Constants
+constantsOf p = record { languages = p .languages; bodies = p .bodies }
+
 -- What a term of a sort comes to.
 abbrev pub Value : Sort → Type 0
 Value languages = Language
@@ -82,22 +90,22 @@ withoutOf languages l m = languageWithout l m
 withoutOf translations f m = translationWithout f m
 
 -- The value of a term, where the variables have these values.
-unfoldable pub evaluate : {s : Sort} → Pack → Environment → Term s → Result (Value s)
-evaluate p e (constant c) = there TermRefused (getElem? (p .languages) c) >>= limited languages
-evaluate p e (sourceOf x) = evaluate p e x >>= λ f. limited languages (f .source)
-evaluate p e (targetOf x) = evaluate p e x >>= λ f. limited languages (f .target)
-evaluate p e (make x y c) =
-    evaluate p e x >>= λ l.
-    evaluate p e y >>= λ m.
-    there TermRefused (getElem? (p .bodies) c) >>= λ b.
+unfoldable pub evaluate : {s : Sort} → Constants → Environment → Term s → Result (Value s)
+evaluate c e (constant n) = there TermRefused (getElem? (c .languages) n) >>= limited languages
+evaluate c e (sourceOf x) = evaluate c e x >>= λ f. limited languages (f .source)
+evaluate c e (targetOf x) = evaluate c e x >>= λ f. limited languages (f .target)
+evaluate c e (make x y n) =
+    evaluate c e x >>= λ l.
+    evaluate c e y >>= λ m.
+    there TermRefused (getElem? (c .bodies) n) >>= λ b.
     wellFormed (record { source = l; target = m; body = b }) >>= limited translations
-evaluate p e (join x y) =
-    evaluate p e x >>= λ f. evaluate p e y >>= λ g. translationJoin f g >>= limited translations
-evaluate p e (identity x) = evaluate p e x >>= λ l. limited translations (identityOf l)
-evaluate p e (variable {s} v) = there Unbound (e s v) >>= limited s
-evaluate p e (without {s} x y) =
-    evaluate p e x >>= λ v. evaluate p e y >>= λ l. limited s (withoutOf s v l)
-evaluate p e (sum {s} x y) =
-    evaluate p e x >>= λ v. evaluate p e y >>= λ w. sumOf s v w >>= limited s
-evaluate p e (bind {s} r n x y) =
-    evaluate p e x >>= λ v. evaluate p (bound e r n v) y >>= limited s
+evaluate c e (join x y) =
+    evaluate c e x >>= λ f. evaluate c e y >>= λ g. translationJoin f g >>= limited translations
+evaluate c e (identity x) = evaluate c e x >>= λ l. limited translations (identityOf l)
+evaluate c e (variable {s} v) = there Unbound (e s v) >>= limited s
+evaluate c e (without {s} x y) =
+    evaluate c e x >>= λ v. evaluate c e y >>= λ l. limited s (withoutOf s v l)
+evaluate c e (sum {s} x y) =
+    evaluate c e x >>= λ v. evaluate c e y >>= λ w. sumOf s v w >>= limited s
+evaluate c e (bind {s} r n x y) =
+    evaluate c e x >>= λ v. evaluate c (bound e r n v) y >>= limited s

@@ -10,7 +10,7 @@ use Rattle.fields.specs.declared.outcome.Reason.the-variants.{Lent}
 use Rattle.translation.specs.TranslationFile.{encodeTranslation}
 use Rattle.reducer.specs.Terms.{Term, translations}
 use Rattle.reducer.specs.Pack.{Pack, packOf, termOf}
-use Rattle.reducer.specs.Evaluation.{evaluate, nothingBound}
+use Rattle.reducer.specs.Evaluation.{constantsOf, evaluate, nothingBound}
 
 -- What is ready to be worked out: a pack and its term.
 pub record Ready : Type 0 where
@@ -27,7 +27,7 @@ ready bytes workspace output =
 
 -- The bytes of the one translation that the term comes to.
 unfoldable pub work : Ready → Result (List ℕ)
-work r = evaluate (r .pack) nothingBound (r .term) >>= λ f. value (encodeTranslation f)
+work r = evaluate (constantsOf (r .pack)) nothingBound (r .term) >>= λ f. value (encodeTranslation f)
 
 -- Reduce: the bytes that it writes, or why not.
 unfoldable pub reduceBytes : List ℕ → ℕ → ℕ → Result (List ℕ)
