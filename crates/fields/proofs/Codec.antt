@@ -13,6 +13,7 @@ use Rattle.fields.specs.declared.outcome.Reason.{Reason}
 use Rattle.fields.specs.Outcome.{Result, value, refused}
 use Rattle.fields.specs.Lists.{all, any, before, concatMap, traverse}
 use Rattle.fields.specs.Fields.{Field, field, byteAt, pairAt, encodeField, encodeFields, splitFields, fieldsOf, saysOver, hasOver}
+use Rattle.fields.proofs.Truth.{by-test, none-some, false-true, and-both, both-and, or-false, false-or}
 
 -- Every element is as said.
 abbrev pub Each : {A : Type 0} → (A → Type 0) → List A → Type 0
@@ -23,9 +24,11 @@ Each P (a ∷ l) = P a × Each P l
 abbrev pub Bytes : List ℕ → Type 0
 Bytes s = Each (λ x. x < 256) s
 
+-- The tag of a field.
 abbrev pub tagOf : Field → ℕ
 tagOf (field tag c) = tag
 
+-- The contents of a field.
 abbrev pub contentsOf : Field → List ℕ
 contentsOf (field tag c) = c
 
@@ -35,45 +38,18 @@ pub record InBytes (f : Field) : Type 0 where
   pub contents : Bytes (contentsOf f)
   pub short : length (contentsOf f) < 65536
 
--- Small steps.
-pub by-test : {A : Type 0} (b : Bool) → (b ≡ true → A) → (b ≡ false → A) → A
-by-test true f g = f refl
-by-test false f g = g refl
-
-zero-one : _≡_ {A = ℕ} 0 1 → ⊥
-zero-one z = omega arith
-
-pub none-some : {A B : Type 0} {x : A} → _≡_ {A = Option A} none (some x) → B
-none-some e = let z : _≡_ {A = ℕ} 0 1 = cc in absurd (zero-one z)
-
-pub true-false : {A : Type 0} → _≡_ {A = Bool} true false → A
-true-false e = let z : _≡_ {A = ℕ} 0 1 = cc in absurd (zero-one z)
-
--- A test of two parts.
-pub and-true : (a b : Bool) → a && b ≡ true → (a ≡ true) × (b ≡ true)
-and-true true b e = (refl, e)
-and-true false b e = true-false (sym e)
-
-pub both : (a b : Bool) → a ≡ true → b ≡ true → a && b ≡ true
-both a b e d = rw (e, d)
-
-pub or-false : (a b : Bool) → a || b ≡ false → (a ≡ false) × (b ≡ false)
-or-false true b e = true-false e
-or-false false b e = (refl, e)
-
-pub neither : (a b : Bool) → a ≡ false → b ≡ false → a || b ≡ false
-neither a b e d = rw (e, d)
-
 -- A value under a test.
 pub cond-there : {A : Type 0} (b : Bool) (o : Option A) (y : A) → cond b o none ≡ some y → (b ≡ true) × (o ≡ some y)
 cond-there true o y e = (refl, e)
 cond-there false o y e = none-some e
 
+-- The same of a value at hand.
 pub cond-some : {A : Type 0} (b : Bool) (x y : A) → cond b (some x) none ≡ some y → (b ≡ true) × (x ≡ y)
 cond-some b x y e = let w = cond-there b (some x) y e in (w .0, cc (w .1))
 
+-- A refusal is no value.
 pub refused-value : {A B : Type 0} {r : Reason} {a : A} → _≡_ {A = Result A} (refused r) (value a) → B
-refused-value e = let z : _≡_ {A = ℕ} 0 1 = cc in absurd (zero-one z)
+refused-value e = let z : false ≡ true = cc in false-true z
 
 -- A field of one of two tags.
 pub two-tags : {A B : Type 0} (tag m n : ℕ) (x y : Option A) (a : A) → cond (eqb tag m) x (cond (eqb tag n) y none) ≡ some a
@@ -81,7 +57,7 @@ pub two-tags : {A B : Type 0} (tag m n : ℕ) (x y : Option A) (a : A) → cond 
 two-tags tag m n x y a e f g =
     by-test (eqb tag m)
     (λ t. f (eqb-true tag m t) (cc))
-    (λ t. by-test (eqb tag n) (λ u. g (eqb-true tag n u) (cc)) (λ u. none-some {x = a} (cc)))
+    (λ t. by-test (eqb tag n) (λ u. g (eqb-true tag n u) (cc)) (λ u. none-some {b = a} (cc)))
 
 -- The two bytes in front, and the others.
 pub front-two : (c : List ℕ) → 2 ≤ length c → byteAt c 0 ∷ byteAt c 1 ∷ drop 2 c ≡ c
@@ -89,16 +65,18 @@ front-two [] h = absurd (omega arith)
 front-two (x ∷ []) h = absurd (omega arith)
 front-two (x ∷ y ∷ c) h = refl
 
--- Elements in front of others, and the element of a number.
+-- Elements of a list in two parts, put together.
 pub each-append : {A : Type 0} (P : A → Type 0) (l m : List A) → Each P l → Each P m → Each P (l ++ m)
 each-append P [] m p q = q
 each-append P (a ∷ l) m p q = (p .0, each-append P l m (p .1) q)
 
+-- The element of a number.
 pub each-at : {A : Type 0} (P : A → Type 0) (l : List A) (i : ℕ) (a : A) → Each P l → getElem? l i ≡ some a → P a
 each-at P [] i a p e = none-some e
 each-at P (x ∷ l) zero a p e = let z : x ≡ a = cc in subst P z (p .0)
 each-at P (x ∷ l) (suc i) a p e = each-at P l i a (p .1) e
 
+-- Elements of a list in two parts, taken apart.
 pub each-front : {A : Type 0} (P : A → Type 0) (l m : List A) → Each P (l ++ m) → Each P l × Each P m
 each-front P [] m p = (tt, p)
 each-front P (a ∷ l) m p = let h = each-front P l m (p .1) in ((p .0, h .0), h .1)
@@ -109,6 +87,7 @@ bytes-at [] b i = omega arith
 bytes-at (x ∷ s) b zero = b .0
 bytes-at (x ∷ s) b (suc i) = bytes-at s (b .1) i
 
+-- Bytes from what is known at each place.
 pub bytes-from : (s : List ℕ) → ((i : ℕ) → i < length s → byteAt s i < 256) → Bytes s
 bytes-from [] h = tt
 bytes-from (x ∷ s) h = (h 0 (omega arith), bytes-from s (λ i l. h (suc i) (omega arith)))
@@ -126,10 +105,11 @@ before-inv none l m e = none-some e
 before-inv (some x) none m e = none-some e
 before-inv (some x) (some k) m e = (x, k, refl, refl, cc)
 
+-- Values that are all there, put together.
 before-both : {A : Type 0} (a : Option A) (l : Option (List A)) (x : A) (k : List A) → a ≡ some x → l ≡ some k → before a l ≡ some (x ∷ k)
 before-both a l x k e d = rw (e, d)
 
--- Values of elements that stand in front of others, taken apart and put together.
+-- Values of a list in two parts, taken apart.
 pub traverse-front : {A B : Type 0} (f : A → Option B) (l m : List A) (n : List B) → traverse f (l ++ m) ≡ some n
     → (a : List B) × (b : List B) × (traverse f l ≡ some a) × (traverse f m ≡ some b) × (n ≡ a ++ b)
 unfolding traverse
@@ -139,6 +119,7 @@ traverse-front {B = B} f (x ∷ l) m n e =
     let (a, b, p, q, r) = traverse-front f l m k t in
     (y ∷ a, b, before-both (f x) (traverse f l) y a h p, q, z ∙ ap (λ (t : List B). y ∷ t) r)
 
+-- Values of a list in two parts, put together.
 pub traverse-append : {A B : Type 0} (f : A → Option B) (l m : List A) (a b : List B) → traverse f l ≡ some a → traverse f m ≡ some b
     → traverse f (l ++ m) ≡ some (a ++ b)
 unfolding traverse
@@ -163,14 +144,14 @@ module _ (tag high low : ℕ) (q : List ℕ) where
   split-fits fuel fs e =
       by-test (leb (2 + (high * 256 + low)) (suc (suc (length q))))
       (λ d. let h = leb-true (2 + (high * 256 + low)) (suc (suc (length q))) d in omega arith)
-      (λ d. none-some {x = fs} (cc))
+      (λ d. none-some {b = fs} (cc))
 
 -- A length that is not whole, or none at all.
 split-cut : (fuel tag : ℕ) (r : List ℕ) (fs : List Field) → length r < 2 → splitFields (suc fuel) (tag ∷ r) ≡ some fs → ⊥
 unfolding splitFields
 split-cut fuel tag r fs h e =
     let k : length r < 2 + pairAt r 0 = omega arith in
-    none-some {x = fs} (cc (lt-leb (2 + pairAt r 0) (length r) k))
+    none-some {b = fs} (cc (lt-leb (2 + pairAt r 0) (length r) k))
 
 -- What is split is made so.
 split-made : (fuel : ℕ) (s : List ℕ) (fs : List Field) → splitFields fuel s ≡ some fs → Made s fs
@@ -207,6 +188,7 @@ pub fields-made : (s : List ℕ) (fs : List Field) → fieldsOf s ≡ some fs �
 unfolding fieldsOf
 fields-made s fs e = split-made (suc (length s)) s fs e
 
+-- What bytes are made of is read from them.
 pub made-fields : {s : List ℕ} {fs : List Field} → Made s fs → fieldsOf s ≡ some fs
 unfolding fieldsOf
 made-fields {s} m = made-split m (suc (length s)) (omega arith)
@@ -254,6 +236,7 @@ encode-bytes (field tag c ∷ fs) h =
 pub fields-sound : (s : List ℕ) (fs : List Field) → Bytes s → fieldsOf s ≡ some fs → (s ≡ encodeFields fs) × Each InBytes fs
 fields-sound s fs b e = made-sound (fields-made s fs e) b
 
+-- Fields that are read have as many bytes as they are read from.
 pub fields-length : (s : List ℕ) (fs : List Field) → fieldsOf s ≡ some fs → length (encodeFields fs) ≡ length s
 fields-length s fs e = made-length (fields-made s fs e)
 
@@ -273,6 +256,7 @@ pub field-length : (f : Field) → length (encodeField f) ≡ 3 + length (conten
 unfolding encodeField
 field-length (field tag c) = omega arith
 
+-- The bytes of a field and those after it.
 pub encode-length : (f : Field) (fs : List Field) → length (encodeFields (f ∷ fs)) ≡ 3 + (length (contentsOf f) + length (encodeFields fs))
 unfolding encodeFields concatMap
 encode-length f fs = omega (arith, field-length f, length-append (encodeField f) (concatMap encodeField fs))
@@ -297,6 +281,7 @@ module _ (isLanguage : ℕ → Bool) (limit : ℕ) where
       (λ t. cc (le-leb 2 (suc (suc (length (c ++ rest)))) j))
       (λ t. cc (le-leb 2 (suc (suc (length (c ++ rest)))) j, le-leb (2 + n) (suc (suc (length (c ++ rest)))) k))
 
+  -- The walk with fuel for all bytes.
   says-made : {s : List ℕ} {fs : List Field} → Made s fs → (fuel : ℕ) → length s < fuel
       → saysOver fuel isLanguage limit s ≡ any (isOver isLanguage limit) fs
   unfolding saysOver any
@@ -313,6 +298,7 @@ module _ (isLanguage : ℕ → Bool) (limit : ℕ) where
   unfolding hasOver
   over-made {s} m = says-made m (suc (length s)) (omega arith)
 
+  -- The same of fields that are written.
   pub over-encode : (fs : List Field) → hasOver isLanguage limit (encodeFields fs) ≡ any (isOver isLanguage limit) fs
   over-encode fs = over-made (encode-made fs)
 
@@ -320,15 +306,18 @@ module _ (isLanguage : ℕ → Bool) (limit : ℕ) where
   abbrev pub Within : Field → Type 0
   Within f = isLanguage (tagOf f) ≡ true → length (contentsOf f) ≤ limit
 
+  -- A field that is not over the limit is within it.
   over-field : (f : Field) → isOver isLanguage limit f ≡ false → Within f
   over-field f e d = ltb-false limit (length (contentsOf f)) (cc)
 
+  -- A field within the limit is not over it.
   within-field : (f : Field) → Within f → isOver isLanguage limit f ≡ false
   within-field f h =
       by-test (isLanguage (tagOf f))
       (λ d. cc (le-ltb limit (length (contentsOf f)) (h d)))
       (λ d. cc)
 
+  -- No field is over the limit: each is within it.
   none-over : (fs : List Field) → any (isOver isLanguage limit) fs ≡ false → Each Within fs
   unfolding any
   none-over [] e = tt
@@ -336,15 +325,17 @@ module _ (isLanguage : ℕ → Bool) (limit : ℕ) where
       let h = or-false (isOver isLanguage limit f) (any (isOver isLanguage limit) fs) e in
       (over-field f (h .0), none-over fs (h .1))
 
+  -- Each is within the limit: none is over it.
   all-within : (fs : List Field) → Each Within fs → any (isOver isLanguage limit) fs ≡ false
   unfolding any
   all-within [] h = refl
-  all-within (f ∷ fs) h = neither _ _ (within-field f (h .0)) (all-within fs (h .1))
+  all-within (f ∷ fs) h = false-or _ _ (within-field f (h .0)) (all-within fs (h .1))
 
   -- No field is said to be over the limit exactly if each is within it.
   pub not-over : (s : List ℕ) (fs : List Field) → fieldsOf s ≡ some fs → hasOver isLanguage limit s ≡ false → Each Within fs
   not-over s fs e h = none-over fs (sym (over-made (fields-made s fs e)) ∙ h)
 
+  -- Fields within the limit, written.
   pub within-over : (fs : List Field) → Each Within fs → hasOver isLanguage limit (encodeFields fs) ≡ false
   within-over fs h = over-encode fs ∙ all-within fs h
 
@@ -361,7 +352,7 @@ module _ {A : Type 0} {decode : Field → Option A} {encode : A → Field} {whol
   unfolding all traverse
   entries-encode [] h = refl
   entries-encode (a ∷ l) h =
-      let w = and-true (whole a) (all whole l) h in
+      let w = and-both (whole a) (all whole l) h in
       cc (codec .reads a (w .0), entries-encode l (w .1))
 
   -- Entries that are read are whole.
@@ -370,7 +361,7 @@ module _ {A : Type 0} {decode : Field → Option A} {encode : A → Field} {whol
   entries-whole [] l e = let z : [] ≡ l = cc in rw (← z)
   entries-whole (f ∷ fs) l e =
       let (a, k, x, y, z) = before-inv (decode f) (traverse decode fs) l e in
-      rw z (both _ _ (codec .wholes f a x) (entries-whole fs k y))
+      rw z (both-and _ _ (codec .wholes f a x) (entries-whole fs k y))
 
   -- Entries that are read have as many bytes as they are read from.
   pub entries-length : (fs : List Field) (l : List A) → traverse decode fs ≡ some l

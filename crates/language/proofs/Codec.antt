@@ -13,7 +13,8 @@ use Rattle.fields.specs.declared.outcome.Reason.the-variants.{TooLong, Order, C
 use Rattle.fields.specs.Lists.{all, traverse}
 use Rattle.fields.specs.Fields.{Field, field, byteAt, pairAt, twoBytes, fieldsOf, encodeFields}
 use Rattle.fields.specs.Keyed.{rising}
-use Rattle.fields.proofs.Codec.{Bytes, contentsOf, Codec, none-some, and-true, both, cond-some, refused-value, two-tags, front-two, fields-encode, fields-sound, fields-length, entries-encode, entries-whole, entries-length, entries-sound}
+use Rattle.fields.proofs.Truth.{none-some, and-both, both-and}
+use Rattle.fields.proofs.Codec.{Bytes, contentsOf, Codec, cond-some, refused-value, two-tags, front-two, fields-encode, fields-sound, fields-length, entries-encode, entries-whole, entries-length, entries-sound}
 use Rattle.language.specs.Language.{Entry, class, production, Language, entryKey, clashes}
 use Rattle.language.specs.LanguageFile.{isKind, classOf, productionOf, entryOf, entryField, entriesIn, entriesOf, encodeLanguage, languageLimit, whole, languageOf}
 
@@ -30,11 +31,11 @@ two-bytes n = omega arith
 entry-reads : (e : Entry) → entryWhole e ≡ true → entryOf (entryField e) ≡ some e
 unfolding entryWhole entryOf entryField classOf productionOf pairAt
 entry-reads (class k low high) h =
-    let w = and-true (isKind k) (leb low high) h in
+    let w = and-both (isKind k) (leb low high) h in
     rw (two-bytes low, two-bytes high, w .0, w .1)
 entry-reads (production r p arguments) h =
-    let w = and-true (isKind r) (leb (length arguments) 8 && all isKind arguments) h in
-    let v = and-true (leb (length arguments) 8) (all isKind arguments) (w .1) in
+    let w = and-both (isKind r) (leb (length arguments) 8 && all isKind arguments) h in
+    let v = and-both (leb (length arguments) 8) (all isKind arguments) (w .1) in
     let a : 2 ≤ suc (suc (length arguments)) = omega arith in
     let b : suc (suc (length arguments)) ≤ 10 = omega (arith, leb-true (length arguments) 8 (v .0)) in
     cc (le-leb 2 (suc (suc (length arguments))) a, le-leb (suc (suc (length arguments))) 10 b, w .0, v .1)
@@ -46,12 +47,13 @@ record ClassIn (c : List ℕ) (e : Entry) : Type 0 where
   rises : leb (pairAt c 1) (pairAt c 3) ≡ true
   same : class (byteAt c 0) (pairAt c 1) (pairAt c 3) ≡ e
 
+-- A token class that is read.
 class-in : (c : List ℕ) (e : Entry) → classOf c ≡ some e → ClassIn c e
 unfolding classOf
 class-in c e h =
     let w = cond-some _ _ e h in
-    let v = and-true _ _ (w .0) in
-    let u = and-true _ _ (v .1) in
+    let v = and-both _ _ (w .0) in
+    let u = and-both _ _ (v .1) in
     record { long = eqb-true (length c) 5 (v .0); kind = u .0; rises = u .1; same = w .1 }
 
 -- What a production is read from.
@@ -62,15 +64,17 @@ record ProductionIn (c : List ℕ) (e : Entry) : Type 0 where
   arguments : all isKind (drop 2 c) ≡ true
   same : production (byteAt c 0) (byteAt c 1) (drop 2 c) ≡ e
 
+-- A production that is read.
 production-in : (c : List ℕ) (e : Entry) → productionOf c ≡ some e → ProductionIn c e
 unfolding productionOf
 production-in c e h =
     let w = cond-some _ _ e h in
-    let v = and-true _ _ (w .0) in
-    let u = and-true _ _ (v .1) in
-    let t = and-true _ _ (u .1) in
+    let v = and-both _ _ (w .0) in
+    let u = and-both _ _ (v .1) in
+    let t = and-both _ _ (u .1) in
     record { least = leb-true 2 (length c) (v .0); most = leb-true (length c) 10 (u .0); result = t .0; arguments = t .1; same = w .1 }
 
+-- An entry that is read is one of the two.
 entry-in : {B : Type 0} (tag : ℕ) (c : List ℕ) (e : Entry) → entryOf (field tag c) ≡ some e
     → (tag ≡ 0x11 → ClassIn c e → B) → (tag ≡ 0x12 → ProductionIn c e → B) → B
 unfolding entryOf
@@ -82,10 +86,10 @@ entry-wholes : (f : Field) (e : Entry) → entryOf f ≡ some e → entryWhole e
 unfolding entryWhole
 entry-wholes (field tag c) e h =
     entry-in tag c e h
-    (λ t i. rw (← i .same) (both _ _ (i .kind) (i .rises)))
+    (λ t i. rw (← i .same) (both-and _ _ (i .kind) (i .rises)))
     (λ t i.
     let n : length (drop 2 c) ≤ 8 = simp length-drop (omega (arith, i .most)) in
-    rw (← i .same) (both _ _ (i .result) (both _ _ (le-leb (length (drop 2 c)) 8 n) (i .arguments))))
+    rw (← i .same) (both-and _ _ (i .result) (both-and _ _ (le-leb (length (drop 2 c)) 8 n) (i .arguments))))
 
 -- It has as many bytes as it is read from.
 entry-sizes : (f : Field) (e : Entry) → entryOf f ≡ some e → length (contentsOf (entryField e)) ≡ length (contentsOf f)
@@ -134,6 +138,7 @@ unfolding entriesOf encodeLanguage
 language-encode l h = ap entriesIn (fields-encode (map entryField l)) ∙ entries-encode entryCodec l h
 
 module _ (s : List ℕ) (l : Language) (e : entriesOf s ≡ some l) where
+  -- The fields that the entries are read from.
   entries-from : (fs : List Field) × (fieldsOf s ≡ some fs) × (traverse entryOf fs ≡ some l)
   unfolding entriesOf
   entries-from = entries-in (fieldsOf s) l e
@@ -181,12 +186,14 @@ pub record Opened {A B : Type 0} (long : Bool) (file : Option A) (rises clash : 
   pub made : rest held ≡ value b
 
 module _ {A B : Type 0} (rises clash : A → Bool) (rest : A → Result B) where
+  -- A file that was read, with both tests at hand.
   open-held : (a : A) (b : B) (p q : Bool) → rises a ≡ p → clash a ≡ q → refuseIf (not p) Order (refuseIf q Clash (rest a)) ≡ value b
       → Opened false (some a) rises clash rest b
   open-held a b false q r c e = refused-value e
   open-held a b true true r c e = refused-value e
   open-held a b true false r c e = record { held = a; fits = refl; reads = refl; in-order = r; apart = c; made = e }
 
+  -- A file that comes to a value was opened.
   pub open-value : (long : Bool) (file : Option A) (b : B) → opened long file rises clash rest ≡ value b → Opened long file rises clash rest b
   open-value true file b e = refused-value e
   open-value false none b e = refused-value e

@@ -12,7 +12,8 @@ use Rattle.fields.specs.Outcome.{value}
 use Rattle.fields.specs.Lists.{all, any, traverse, concatMap}
 use Rattle.fields.specs.Fields.{Field, field, fieldsOf, encodeFields, hasOver}
 use Rattle.fields.specs.Keyed.{rising}
-use Rattle.fields.proofs.Codec.{Each, by-test, none-some, true-false, and-true, or-false, neither, cond-there, cond-some, before-inv, traverse-front, traverse-append, each-append, each-front, concat-append, fields-encode, Within, not-over, within-over}
+use Rattle.fields.proofs.Truth.{by-test, none-some, false-true, and-both, or-false, false-or}
+use Rattle.fields.proofs.Codec.{Each, cond-there, cond-some, before-inv, traverse-front, traverse-append, each-append, each-front, concat-append, fields-encode, Within, not-over, within-over}
 use Rattle.language.specs.Language.{Language, entryKey, clashes}
 use Rattle.language.specs.LanguageFile.{entriesOf, encodeLanguage, languageLimit, whole}
 use Rattle.language.proofs.Codec.{entryWhole, GoodLanguage, language-whole, language-length, open-value, open-rest}
@@ -59,6 +60,7 @@ pack-from ps p e =
     let (ls, bs, t, few) = with-one (concatMap asLanguage ps) (concatMap asBody ps) (concatMap asTerm ps) p d in
     record { groups = g; languages = ls; bodies = bs; term = t; few = few }
 
+-- The pack that parts make.
 from-pack : (ps : List Part) (p : Pack) → PackFrom ps p → packIn ps ≡ some p
 unfolding packIn packWith
 from-pack ps p f = rw (f .groups, f .languages, f .bodies, f .term, f .few)
@@ -72,10 +74,11 @@ groups-same n (q ∷ ps) a b = ap (λ (t : Bool). leb n (group q) && t) (groups-
 -- The last of a list of one.
 last-alone : {A : Type 0} (l : List A) (a b : A) → l ++ a ∷ [] ≡ b ∷ [] → (l ≡ []) × (a ≡ b)
 last-alone [] a b e = (refl, cc)
-last-alone (x ∷ []) a b e = none-some {A = ℕ} {x = 0} (cc)
-last-alone (x ∷ y ∷ l) a b e = none-some {A = ℕ} {x = 0} (cc)
+last-alone (x ∷ []) a b e = none-some {B = ℕ} {b = 0} (cc)
+last-alone (x ∷ y ∷ l) a b e = none-some {B = ℕ} {b = 0} (cc)
 
 module _ (ps : List Part) (a : List ℕ) (p : Pack) (f : PackFrom (ps ++ termPart a ∷ []) p) where
+  -- The one term is the last part.
   only-term : (concatMap asTerm ps ≡ []) × (a ≡ p .term)
   unfolding concatMap
   only-term = last-alone (concatMap asTerm ps) a (p .term) (sym (concat-append asTerm ps (termPart a ∷ [])) ∙ f .term)
@@ -99,15 +102,18 @@ record PartsIn (s : List ℕ) (p : Pack) : Type 0 where
   reads : traverse partOf fields ≡ some parts
   from : PackFrom parts p
 
+-- Parts that were read.
 parts-of-parts : (s : List ℕ) (fs : List Field) (o : Option (List Part)) (p : Pack) → fieldsOf s ≡ some fs → traverse partOf fs ≡ o
     → packInParts o ≡ some p → PartsIn s p
 parts-of-parts s fs none p d r e = none-some e
 parts-of-parts s fs (some ps) p d r e = record { fields = fs; parts = ps; split = d; reads = r; from = pack-from ps p e }
 
+-- Parts of fields that may not be there.
 parts-of-fields : (s : List ℕ) (o : Option (List Field)) (p : Pack) → fieldsOf s ≡ o → packInFields o ≡ some p → PartsIn s p
 parts-of-fields s none p d e = none-some e
 parts-of-fields s (some fs) p d e = parts-of-parts s fs (traverse partOf fs) p d refl e
 
+-- Parts of a file.
 parts-in : (s : List ℕ) (p : Pack) → packParts s ≡ some p → PartsIn s p
 unfolding packParts
 parts-in s p e = parts-of-fields s (fieldsOf s) p refl e
@@ -132,10 +138,11 @@ front-parts fs a p i =
     let t : ts ≡ termPart a ∷ [] = cc (term-part a, y) in
     (ps, x, subst (λ (l : List Part). PackFrom l p) (z ∙ ap (λ (l : List Part). ps ++ l) t) (i .from))
 
--- What rises in a pack, and what clashes.
+-- What rises in a pack.
 abbrev packRises : Pack → Bool
 packRises p = all (rising entryKey) (p .languages) && all (rising itemKey) (p .bodies)
 
+-- What clashes in a pack.
 abbrev packClashes : Pack → Bool
 packClashes p = any (λ l. clashes l l) (p .languages)
 
@@ -147,6 +154,7 @@ record PackIn (s : List ℕ) (p : Pack) : Type 0 where
   rises : packRises p ≡ true
   apart : packClashes p ≡ false
 
+-- A file that is a pack.
 pack-in : (s : List ℕ) (p : Pack) → packOf s ≡ value p → PackIn s p
 unfolding packOf
 pack-in s p e =
@@ -155,9 +163,10 @@ pack-in s p e =
     let (short, within) = or-false (ltb packLimit (length s)) (hasOver isLanguageTag languageLimit s) (o .fits) in
     record { short = short; within = within; parts = o .reads ∙ ap some z; rises = rw (← z) (o .in-order); apart = rw (← z) (o .apart) }
 
+-- Such a file is read as the pack.
 in-pack : (s : List ℕ) (p : Pack) → PackIn s p → packOf s ≡ value p
 unfolding packOf
-in-pack s p i = open-rest packRises packClashes value _ _ p (neither _ _ (i .short) (i .within)) (i .parts) (i .rises) (i .apart)
+in-pack s p i = open-rest packRises packClashes value _ _ p (false-or _ _ (i .short) (i .within)) (i .parts) (i .rises) (i .apart)
 
 -- A term is no language: it is within any limit.
 term-within : (fs : List Field) (a b : List ℕ) → hasOver isLanguageTag languageLimit (withTerm fs a) ≡ false
@@ -165,7 +174,7 @@ term-within : (fs : List Field) (a b : List ℕ) → hasOver isLanguageTag langu
 term-within fs a b h =
     let w = not-over isLanguageTag languageLimit (withTerm fs a) (fs ++ field 0x32 a ∷ []) (fields-encode (fs ++ field 0x32 a ∷ [])) h in
     let v = each-front (Within isLanguageTag languageLimit) fs (field 0x32 a ∷ []) w in
-    let t : Each (Within isLanguageTag languageLimit) (field 0x32 b ∷ []) = (λ e. true-false (sym e), tt) in
+    let t : Each (Within isLanguageTag languageLimit) (field 0x32 b ∷ []) = (λ e. false-true e, tt) in
     within-over isLanguageTag languageLimit (fs ++ field 0x32 b ∷ []) (each-append (Within isLanguageTag languageLimit) fs (field 0x32 b ∷ []) (v .0) t)
 
 -- Packs that differ only in field 32: one is a pack if the other is, with the same languages and bodies.
@@ -196,21 +205,25 @@ record FitLanguage (l : Language) : Type 0 where
   whole : all entryWhole l ≡ true
   short : length (encodeLanguage l) ≤ languageLimit
 
+-- A part that is fit.
 abbrev FitPart : Part → Type 0
 FitPart (languagePart l) = FitLanguage l
 FitPart (bodyPart b) = all itemWhole b ≡ true
 FitPart (termPart t) = Unit {0}
 
+-- A language that is read within the limit is fit.
 fit-language : (c : List ℕ) (o : Option Language) (q : Part) → entriesOf c ≡ o → languageIn o ≡ some q → length c ≤ languageLimit → FitPart q
 fit-language c none q d e h = none-some e
 fit-language c (some l) q d e h =
     let z : languagePart l ≡ q = cc in
     subst FitPart z (record { whole = language-whole c l d; short = omega (arith, language-length c l d) })
 
+-- A body that is read is fit.
 fit-body : (c : List ℕ) (o : Option Body) (q : Part) → bodyOf c ≡ o → bodyIn o ≡ some q → FitPart q
 fit-body c none q d e = none-some e
 fit-body c (some b) q d e = let z : bodyPart b ≡ q = cc in subst FitPart z (body-whole c b d .0)
 
+-- A field that is read within the limit is fit.
 fit-part : (f : Field) (q : Part) → partOf f ≡ some q → Within isLanguageTag languageLimit f → FitPart q
 unfolding partOf
 fit-part (field tag c) q e w =
@@ -220,8 +233,9 @@ fit-part (field tag c) q e w =
     (λ u. fit-body c (bodyOf c) q refl (cc))
     (λ u. by-test (eqb tag 0x32)
     (λ v. let z : termPart c ≡ q = cc in subst FitPart z tt)
-    (λ v. none-some {x = q} (cc))))
+    (λ v. none-some {b = q} (cc))))
 
+-- So are all fields.
 fit-parts : (fs : List Field) (ps : List Part) → traverse partOf fs ≡ some ps → Each (Within isLanguageTag languageLimit) fs → Each FitPart ps
 unfolding traverse
 fit-parts [] ps e w = let z : [] ≡ ps = cc in subst (λ (l : List Part). Each FitPart l) z tt
@@ -229,7 +243,7 @@ fit-parts (f ∷ fs) ps e w =
     let (q, qs, x, y, z) = before-inv (partOf f) (traverse partOf fs) ps e in
     subst (λ (l : List Part). Each FitPart l) (sym z) (fit-part f q x (w .0), fit-parts fs qs y (w .1))
 
--- The languages of fit parts, and the bodies.
+-- The languages of fit parts that rise and do not clash are good.
 languages-good : (ps : List Part) → Each FitPart ps → all (rising entryKey) (concatMap asLanguage ps) ≡ true
     → any (λ l. clashes l l) (concatMap asLanguage ps) ≡ false → Each GoodLanguage (concatMap asLanguage ps)
 unfolding concatMap all any
@@ -237,17 +251,18 @@ languages-good [] f r c = tt
 languages-good (bodyPart b ∷ ps) f r c = languages-good ps (f .1) r c
 languages-good (termPart t ∷ ps) f r c = languages-good ps (f .1) r c
 languages-good (languagePart l ∷ ps) f r c =
-    let (r1, r2) = and-true (rising entryKey l) (all (rising entryKey) (concatMap asLanguage ps)) r in
+    let (r1, r2) = and-both (rising entryKey l) (all (rising entryKey) (concatMap asLanguage ps)) r in
     let (c1, c2) = or-false (clashes l l) (any (λ l. clashes l l) (concatMap asLanguage ps)) c in
     (record { whole = f .0 .whole; rises = r1; apart = c1; short = f .0 .short }, languages-good ps (f .1) r2 c2)
 
+-- The bodies of fit parts that rise are good.
 bodies-good : (ps : List Part) → Each FitPart ps → all (rising itemKey) (concatMap asBody ps) ≡ true → Each GoodBody (concatMap asBody ps)
 unfolding concatMap all
 bodies-good [] f r = tt
 bodies-good (languagePart l ∷ ps) f r = bodies-good ps (f .1) r
 bodies-good (termPart t ∷ ps) f r = bodies-good ps (f .1) r
 bodies-good (bodyPart b ∷ ps) f r =
-    let (r1, r2) = and-true (rising itemKey b) (all (rising itemKey) (concatMap asBody ps)) r in
+    let (r1, r2) = and-both (rising itemKey b) (all (rising itemKey) (concatMap asBody ps)) r in
     (record { whole = f .0; rises = r1 }, bodies-good ps (f .1) r2)
 
 -- Every language and every body of a pack that a file holds is good.
@@ -259,7 +274,7 @@ pack-good s p e =
     let f = fit-parts (j .fields) (j .parts) (j .reads) w in
     let ls = j .from .languages in
     let bs = j .from .bodies in
-    let (r1, r2) = and-true (all (rising entryKey) (p .languages)) (all (rising itemKey) (p .bodies)) (i .rises) in (
+    let (r1, r2) = and-both (all (rising entryKey) (p .languages)) (all (rising itemKey) (p .bodies)) (i .rises) in (
       subst (λ (l : List Language). Each GoodLanguage l) ls (languages-good (j .parts) f (rw ls r1) (rw ls (i .apart))),
       subst (λ (l : List Body). Each GoodBody l) bs (bodies-good (j .parts) f (rw bs r2)),
     )

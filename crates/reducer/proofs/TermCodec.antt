@@ -120,6 +120,7 @@ module _ (n : ℕ) (reads : (s : Sort) → List ℕ → Parse (Term s)) (right :
         omega arith,
       ))))
 
+  -- A language term, by its sign.
   language-right : (b : ℕ) (s : List ℕ) → Right (suc n) (b ∷ s) (languageSign reads b s)
   unfolding languageSign writeTerm termLevels
   language-right b s =
@@ -134,6 +135,7 @@ module _ (n : ℕ) (reads : (s : Sort) → List ℕ → Parse (Term s)) (right :
       (sign (Right (suc n) (b ∷ s)) b 0x47 _ _ (λ e. after-number (suc n) (b ∷ s) s _ (λ v q d.
       rw (e, d) (right-two (0x47 ∷ v ∷ []) q (bind translations v) (λ x y. refl) (λ x y. refl)))) tt)))))))
 
+  -- A translation term, by its sign.
   translation-right : (b : ℕ) (s : List ℕ) → Right (suc n) (b ∷ s) (translationSign reads b s)
   unfolding translationSign writeTerm termLevels
   translation-right b s =
@@ -148,6 +150,7 @@ module _ (n : ℕ) (reads : (s : Sort) → List ℕ → Parse (Term s)) (right :
       (sign (Right (suc n) (b ∷ s)) b 0x57 _ _ (λ e. after-number (suc n) (b ∷ s) s _ (λ v q d.
       rw (e, d) (right-two (0x57 ∷ v ∷ []) q (bind translations v) (λ x y. refl) (λ x y. refl)))) tt)))))))
 
+  -- A term of either sort, one level.
   sign-right : (s : Sort) (bytes : List ℕ) → Right (suc n) bytes (readSign reads s bytes)
   unfolding readSign
   sign-right languages [] = tt
@@ -155,6 +158,7 @@ module _ (n : ℕ) (reads : (s : Sort) → List ℕ → Parse (Term s)) (right :
   sign-right languages (b ∷ bytes) = language-right b bytes
   sign-right translations (b ∷ bytes) = translation-right b bytes
 
+-- A term of any levels.
 read-right : (n : ℕ) (s : Sort) (bytes : List ℕ) → Right n bytes (readTerm n s bytes)
 unfolding readTerm
 read-right zero s bytes = tt

@@ -13,7 +13,8 @@ use Rattle.fields.specs.declared.outcome.Reason.the-variants.{Mapping, Clauses,
 use Rattle.fields.specs.Lists.{all, traverse}
 use Rattle.fields.specs.Fields.{Field, field, byteAt, fieldsOf, encodeFields, hasOver}
 use Rattle.fields.specs.Keyed.{rising, risingFrom}
-use Rattle.fields.proofs.Codec.{Each, Bytes, contentsOf, Codec, by-test, none-some, true-false, refused-value, and-true, both, or-false, neither, cond-some, two-tags, front-two, fields-encode, fields-sound, fields-length, encode-length, Within, not-over, within-over, entries-encode, entries-whole, entries-length, entries-sound}
+use Rattle.fields.proofs.Truth.{by-test, none-some, false-true, and-both, both-and, or-false, false-or}
+use Rattle.fields.proofs.Codec.{Each, Bytes, contentsOf, Codec, refused-value, cond-some, two-tags, front-two, fields-encode, fields-sound, fields-length, encode-length, Within, not-over, within-over, entries-encode, entries-whole, entries-length, entries-sound}
 use Rattle.language.specs.Language.{Language, entryKey, clashes}
 use Rattle.language.specs.LanguageFile.{isKind, entriesOf, encodeLanguage, languageLimit}
 use Rattle.language.proofs.Codec.{entryWhole, language-encode, language-whole, language-length, language-sound, open-value, open-rest}
@@ -29,7 +30,7 @@ itemWhole (clause r p code) = isKind r
 -- A whole item that is written is read back.
 item-reads : (i : Item) → itemWhole i ≡ true → itemOf (itemField i) ≡ some i
 unfolding itemWhole itemOf itemField mappingField clauseField
-item-reads (mapping s t) h = let w = and-true (isKind s) (isKind t) h in rw (w .0, w .1)
+item-reads (mapping s t) h = let w = and-both (isKind s) (isKind t) h in rw (w .0, w .1)
 item-reads (clause r p code) h =
     let a : 2 ≤ suc (suc (length code)) = omega arith in
     rw (le-leb 2 (suc (suc (length code))) a, h)
@@ -41,12 +42,13 @@ record MappingIn (c : List ℕ) (i : Item) : Type 0 where
   target : isKind (byteAt c 1) ≡ true
   same : mapping (byteAt c 0) (byteAt c 1) ≡ i
 
+-- A mapping that is read.
 mapping-in : (c : List ℕ) (i : Item) → mappingField c ≡ some i → MappingIn c i
 unfolding mappingField
 mapping-in c i h =
     let w = cond-some _ _ i h in
-    let v = and-true _ _ (w .0) in
-    let u = and-true _ _ (v .1) in
+    let v = and-both _ _ (w .0) in
+    let u = and-both _ _ (v .1) in
     record { long = eqb-true (length c) 2 (v .0); source = u .0; target = u .1; same = w .1 }
 
 -- What a clause is read from.
@@ -55,13 +57,15 @@ record ClauseIn (c : List ℕ) (i : Item) : Type 0 where
   result : isKind (byteAt c 0) ≡ true
   same : clause (byteAt c 0) (byteAt c 1) (drop 2 c) ≡ i
 
+-- A clause that is read.
 clause-in : (c : List ℕ) (i : Item) → clauseField c ≡ some i → ClauseIn c i
 unfolding clauseField
 clause-in c i h =
     let w = cond-some _ _ i h in
-    let v = and-true _ _ (w .0) in
+    let v = and-both _ _ (w .0) in
     record { least = leb-true 2 (length c) (v .0); result = v .1; same = w .1 }
 
+-- An item that is read is one of the two.
 item-in : {B : Type 0} (tag : ℕ) (c : List ℕ) (i : Item) → itemOf (field tag c) ≡ some i
     → (tag ≡ 0x22 → MappingIn c i → B) → (tag ≡ 0x23 → ClauseIn c i → B) → B
 unfolding itemOf
@@ -73,7 +77,7 @@ item-wholes : (f : Field) (i : Item) → itemOf f ≡ some i → itemWhole i ≡
 unfolding itemWhole
 item-wholes (field tag c) i h =
     item-in tag c i h
-    (λ t m. rw (← m .same) (both _ _ (m .source) (m .target)))
+    (λ t m. rw (← m .same) (both-and _ _ (m .source) (m .target)))
     (λ t m. rw (← m .same) (m .result))
 
 -- It has as many bytes as it is read from.
@@ -105,21 +109,22 @@ grouped-from : (n : ℕ) (past : Bool) (b : Body) → (past ≡ true → 32 ≤ 
 unfolding risingFrom itemKey all itemWhole grouped
 grouped-from n past [] h r w = refl
 grouped-from n past (mapping s t ∷ b) h r w =
-    let (r1, r2) = and-true (leb n s) (risingFrom itemKey (suc s) b) r in
-    let (w1, w2) = and-true (isKind s && isKind t) (all itemWhole b) w in
-    let (w3, w4) = and-true (isKind s) (isKind t) w1 in
-    let rest = grouped-from (suc s) false b (λ e. true-false (sym e)) r2 w2 in
+    let (r1, r2) = and-both (leb n s) (risingFrom itemKey (suc s) b) r in
+    let (w1, w2) = and-both (isKind s && isKind t) (all itemWhole b) w in
+    let (w3, w4) = and-both (isKind s) (isKind t) w1 in
+    let rest = grouped-from (suc s) false b (λ e. false-true e) r2 w2 in
     by-test past
     (λ e. absurd (omega (arith, h e, leb-true n s r1, ltb-true s 32 w3)))
     (λ e. rw (e, rest))
 grouped-from n past (clause r p code ∷ b) h k w =
-    let (k1, k2) = and-true (leb n (32 + (r * 256 + p))) (risingFrom itemKey (suc (32 + (r * 256 + p))) b) k in
-    let (w1, w2) = and-true (isKind r) (all itemWhole b) w in
+    let (k1, k2) = and-both (leb n (32 + (r * 256 + p))) (risingFrom itemKey (suc (32 + (r * 256 + p))) b) k in
+    let (w1, w2) = and-both (isKind r) (all itemWhole b) w in
     grouped-from (suc (32 + (r * 256 + p))) true b (λ e. omega arith) k2 w2
 
+-- A whole body that rises stands in its groups.
 pub rising-grouped : (b : Body) → rising itemKey b ≡ true → all itemWhole b ≡ true → grouped false b ≡ true
 unfolding rising
-rising-grouped b r w = grouped-from 0 false b (λ e. true-false (sym e)) r w
+rising-grouped b r w = grouped-from 0 false b (λ e. false-true e) r w
 
 -- A body that a pack can hold.
 pub record GoodBody (b : Body) : Type 0 where
@@ -133,6 +138,7 @@ groups-some (some a) b e =
     let w = cond-some (grouped false a) a b e in
     (ap some (w .1), rw (← w .1) (w .0))
 
+-- Items of fields, taken apart.
 items-some : (fs : List Field) (b : Body) → itemsIn fs ≡ some b → (traverse itemOf fs ≡ some b) × (grouped false b ≡ true)
 unfolding itemsIn
 items-some fs b e = groups-some (traverse itemOf fs) b e
@@ -142,15 +148,18 @@ pub items-encode : (b : Body) → all itemWhole b ≡ true → grouped false b �
 unfolding itemsIn
 items-encode b w g = rw (entries-encode itemCodec b w, g)
 
+-- A body that is written is read back.
 pub body-encode : (b : Body) → all itemWhole b ≡ true → grouped false b ≡ true → bodyOf (encodeFields (map itemField b)) ≡ some b
 unfolding bodyOf
 body-encode b w g = ap bodyIn (fields-encode (map itemField b)) ∙ items-encode b w g
 
+-- The fields that a body is read from.
 body-in : (o : Option (List Field)) (b : Body) → bodyIn o ≡ some b → (fs : List Field) × (o ≡ some fs) × (itemsIn fs ≡ some b)
 body-in none b e = none-some e
 body-in (some fs) b e = (fs, refl, e)
 
 module _ (s : List ℕ) (b : Body) (e : bodyOf s ≡ some b) where
+  -- The fields of this body.
   body-from : (fs : List Field) × (fieldsOf s ≡ some fs) × (itemsIn fs ≡ some b)
   unfolding bodyOf
   body-from = body-in (fieldsOf s) b e
@@ -196,16 +205,16 @@ pub rises-parts : (f : Translation) → allRising f ≡ true
     → (rising entryKey (f .source) ≡ true) × (rising entryKey (f .target) ≡ true) × (rising itemKey (f .body) ≡ true)
 unfolding allRising
 rises-parts f h =
-    let (a, b) = and-true _ _ h in
-    let (c, d) = and-true _ _ b in
+    let (a, b) = and-both _ _ h in
+    let (c, d) = and-both _ _ b in
     (a, c, d)
 
 -- Items are no languages.
 items-within : (limit : ℕ) (b : Body) → Each (Within isLanguageTag limit) (map itemField b)
 unfolding itemField
 items-within limit [] = tt
-items-within limit (mapping s t ∷ b) = (λ e. true-false (sym e), items-within limit b)
-items-within limit (clause r p code ∷ b) = (λ e. true-false (sym e), items-within limit b)
+items-within limit (mapping s t ∷ b) = (λ e. false-true e, items-within limit b)
+items-within limit (clause r p code ∷ b) = (λ e. false-true e, items-within limit b)
 
 -- The parts of a whole translation are read back.
 pub parts-encode : (f : Translation) → WholeTranslation f → partsOf (encodeTranslation f) ≡ some f
@@ -230,8 +239,8 @@ pub translation-back : (f : Translation) → WholeTranslation f → translationO
 unfolding translationOf
 translation-back f w =
     open-rest allRising eitherClashes wellFormed _ _ f
-    (neither _ _ (le-ltb translationLimit (length (encodeTranslation f)) (w .short)) (languages-within f w))
-    (parts-encode f w) (w .rises) (neither _ _ (w .source-apart) (w .target-apart))
+    (false-or _ _ (le-ltb translationLimit (length (encodeTranslation f)) (w .short)) (languages-within f w))
+    (parts-encode f w) (w .rises) (false-or _ _ (w .source-apart) (w .target-apart))
 
 -- What a translation is read from.
 pub record PartsIn (s : List ℕ) (f : Translation) : Type 0 where
@@ -243,6 +252,7 @@ pub record PartsIn (s : List ℕ) (f : Translation) : Type 0 where
   pub target : entriesOf targetBytes ≡ some (f .target)
   pub body : itemsIn items ≡ some (f .body)
 
+-- The three parts, taken apart.
 parts-some : (a b : Option Language) (c : Option Body) (f : Translation) → parts a b c ≡ some f
     → (a ≡ some (f .source)) × (b ≡ some (f .target)) × (c ≡ some (f .body))
 parts-some none b c f e = none-some e
@@ -252,6 +262,7 @@ parts-some (some x) (some y) (some z) f e =
     let h : record { source = x; target = y; body = z } ≡ f = cc in
     (ap (λ (g : Translation). some (g .source)) h, ap (λ (g : Translation). some (g .target)) h, ap (λ (g : Translation). some (g .body)) h)
 
+-- The parts of a list of fields.
 parts-in-fields : (s : List ℕ) (fs : List Field) (f : Translation) → fieldsOf s ≡ some fs → partsIn fs ≡ some f → PartsIn s f
 unfolding partsIn
 parts-in-fields s [] f d e = none-some e
@@ -259,7 +270,7 @@ parts-in-fields s (x ∷ []) f d e = none-some e
 parts-in-fields s (field x a ∷ field y b ∷ fs) f d e =
     by-test (eqb x 0x20 && eqb y 0x21)
     (λ t.
-    let (u, v) = and-true (eqb x 0x20) (eqb y 0x21) t in
+    let (u, v) = and-both (eqb x 0x20) (eqb y 0x21) t in
     let h : parts (entriesOf a) (entriesOf b) (itemsIn fs) ≡ some f = cc in
     let (p, q, r) = parts-some (entriesOf a) (entriesOf b) (itemsIn fs) f h in
     record {
@@ -271,8 +282,9 @@ parts-in-fields s (field x a ∷ field y b ∷ fs) f d e =
       target = q;
       body = r;
     })
-    (λ t. none-some {x = f} (cc))
+    (λ t. none-some {b = f} (cc))
 
+-- The parts of fields that may not be there.
 parts-in-option : (s : List ℕ) (o : Option (List Field)) (f : Translation) → fieldsOf s ≡ o → partsOfFields o ≡ some f → PartsIn s f
 parts-in-option s none f d e = none-some e
 parts-in-option s (some fs) f d e = parts-in-fields s fs f d e
