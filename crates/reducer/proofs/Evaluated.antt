@@ -12,7 +12,7 @@ use Rattle.fields.specs.Outcome.{Result, value, refused, refuseIf, _>>=_}
 use Rattle.fields.specs.declared.outcome.Reason.{Reason}
 use Rattle.fields.specs.declared.outcome.Reason.the-variants.{SumUnfit, JoinUnfit, Limit, Unbound, Term as TermRefused}
 use Rattle.fields.proofs.Truth.{Mem, none-some, some-inj, by-test, or-false, true-not, all-mem, any-false}
-use Rattle.fields.proofs.Codec.{Each}
+use Rattle.fields.proofs.Codec.{Each, refused-value}
 use Rattle.fields.proofs.Keyed.{is-rising}
 use Rattle.language.specs.Language.{Language, entryKey}
 use Rattle.language.specs.LanguageFile.{encodeLanguage, languageLimit}
@@ -21,7 +21,7 @@ use Rattle.translation.specs.Translation.{Item, Body, Translation, itemKey}
 use Rattle.translation.specs.TranslationFile.{encodeTranslation, translationLimit}
 use Rattle.translation.specs.WellFormed.{wellFormed}
 use Rattle.translation.proofs.Codec.{itemWhole, GoodBody}
-use Rattle.translation.proofs.Fitting.{refused-value, refuse-value}
+use Rattle.translation.proofs.Fitting.{refuse-value}
 use Rattle.reducer.specs.Algebra.{languagesFit, languageUnion, languageSum, languageWithout, translationsFit, translationUnion, translationSum, translationWithout, joinFits, joined, translationJoin, identityOf}
 use Rattle.reducer.specs.Terms.{Sort, languages, translations, Term, constant, sourceOf, targetOf, make, join, identity, variable, without, sum, bind}
 use Rattle.reducer.specs.Evaluation.{Constants, Value, Environment, nothingBound, bound, there, codeIsDeep, languageExceeds, translationExceeds, exceeds, limited, sumOf, withoutOf, evaluate}

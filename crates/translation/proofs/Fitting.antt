@@ -14,6 +14,7 @@ use Rattle.fields.specs.declared.outcome.Reason.{Reason}
 use Rattle.fields.specs.declared.outcome.Reason.the-variants.{Mapping, Clauses, Code as CodeRefused}
 use Rattle.fields.proofs.Truth.{Mem, none-some, some-inj, false-true, and-both, both-and, same-truth, all-mem, mem-all, some-is, is-some, mem-count, count-mem, true-not}
 use Rattle.fields.proofs.Keyed.{Rising}
+use Rattle.fields.proofs.Codec.{refused-value}
 use Rattle.language.specs.Language.{Entry, class, production, Language, entryKey, Range, isIn, rangeOf, argumentsOf, clashes}
 use Rattle.language.proofs.Lookup.{range-mem, arguments-mem, mem-range, mem-arguments, class-in, result-in, argument-in}
 use Rattle.reader.specs.Code.{Code, node, token, argument, levels}
@@ -164,13 +165,6 @@ module _ (f : Translation) (below : KindsBelow f) (rises : Rising itemKey (f .bo
           mem-all (hasProduction f) (f .body) has-production,
           mem-all (codeFits f) (f .body) code-fits,
         )
-
--- A refusal is no value.
-pub refused-value : {A B : Type 0} {a : A} {r : Reason} → refused r ≡ value a → B
-refused-value {A} {a = a} {r} e = absurd (clash a r e)
-  where
-    clash : (a : A) (r : Reason) → refused r ≡ value a → ⊥
-    clash a r e = let z : _≡_ {A = ℕ} 0 1 = cc in omega arith
 
 pub refuse-value : {A : Type 0} {a : A} (t : Bool) (r : Reason) (o : Result A) → refuseIf t r o ≡ value a → (t ≡ false) × (o ≡ value a)
 refuse-value true r o e = refused-value e
