@@ -61,7 +61,8 @@ module _ (f g : Translation) (sf : Sound f) (sg : Sound g) (h : joinFits f g ≡
   unfolding joinFits
   lies a m = within-mem sameEntry same-equal equal-same (g .target) (f .source) h a m
 
-  target-larger : Larger (g .target) (f .source)
+  -- The first's source is larger than the second's target.
+  pub target-larger : Larger (g .target) (f .source)
   target-larger = larger (g .target) (f .source) (sf .source .rises) lies
 
   body-rises : Rising itemKey (joined f g .body)
@@ -104,6 +105,12 @@ module _ (f g : Translation) (sf : Sound f) (sg : Sound g) (h : joinFits f g ≡
       let t = sg .fits .maps k e in
       mem-mapped (joined f g .body) body-rises k _ (mem-join (mapping k (t .0)) (t .1))
       ∙ ap (mapped (f .body)) (sym (mem-mapped (g .body) (sg .rises) k (t .0) (t .1)))
+
+  -- A kind of the second's source is mapped into the first's source.
+  pub join-lies : (k : ℕ) → isIn (g .source) k ≡ true → isIn (f .source) (mapped (g .body) k) ≡ true
+  join-lies k e =
+      let t = sg .fits .maps k e in
+      rw (mem-mapped (g .body) (sg .rises) k (t .0) (t .1)) (in-larger (g .target) (f .source) lies (t .0) (sg .fits .mapsOnly k (t .0) (t .1) .1))
 
   -- The joined code of a production.
   join-typed : (r p : ℕ) (ks : List ℕ) → Mem (production r p ks) (g .source)
