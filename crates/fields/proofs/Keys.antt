@@ -10,7 +10,7 @@ use Rattle.fields.specs.Fields.{pairAt}
 use Rattle.fields.specs.Keyed.{rising, risingFrom}
 use Rattle.fields.specs.Inner.Places.{fieldEnd, placesFrom, places, keyAt}
 use Rattle.fields.proofs.Lists.{rising-stop, rising-next}
-use Rattle.fields.proofs.Places.{places-done, places-next}
+use Rattle.fields.proofs.Places.{pass-done, pass-next}
 
 module _ (first tag x : ℕ) (s : List ℕ) (p : ℕ) (et : tag ≡ getD s p 0) where
   pub key-first : tag ≡ first → x ≡ getD s (p + 3) 0 → x ≡ keyAt first s p
@@ -24,12 +24,14 @@ module _ (first tag x : ℕ) (s : List ℕ) (p : ℕ) (et : tag ≡ getD s p 0) 
 module _ (first least : ℕ) (s : List ℕ) (p : ℕ) (all : Bool) (inv : risingFrom (keyAt first s) least (placesFrom s p) ≡ all) where
   pub keys-done : length s ≤ p → true ≡ all
   unfolding risingFrom
-  keys-done h = rw (places-done s p h) at inv
+  keys-done h = pass-done (risingFrom (keyAt first s) least) s p all inv h
 
   pub keys-stop : (key : ℕ) → p < length s → key ≡ keyAt first s p → key < least → false ≡ all
-  keys-stop key h e k = sym (rising-stop (keyAt first s) least _ _ p (places-next s p h) (rw e at k)) ∙ inv
+  keys-stop key h e k =
+      rising-stop (keyAt first s) least p _ (pass-next (risingFrom (keyAt first s) least) s p all inv _ h refl) (rw e at k)
 
   pub keys-next : (key end : ℕ) → p < length s → key ≡ keyAt first s p → end ≡ fieldEnd s p → least ≤ key
       → risingFrom (keyAt first s) (key + 1) (placesFrom s end) ≡ all
   keys-next key end h e d k =
-      rw (add-one, e, d) (sym (rising-next (keyAt first s) least _ _ p (places-next s p h) (rw e at k)) ∙ inv)
+      rw (add-one, e)
+      (rising-next (keyAt first s) least p _ (pass-next (risingFrom (keyAt first s) least) s p all inv end h d) (rw e at k))

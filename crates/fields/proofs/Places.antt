@@ -13,7 +13,7 @@ use borrow.Author.Tests.{lt-ltb, le-ltb, le-leb, lt-leb, eq-eqb, ne-eqb, leb-tru
 use Rattle.fields.specs.Lists.{all, any, traverse, before, isSome}
 use Rattle.fields.specs.Fields.{Field, field, pairAt, splitFields, fieldsOf}
 use Rattle.fields.specs.Inner.Places.{fieldEnd, isWhole, contentsAt, fieldAt, placesIn, placesFrom, places, keyAt}
-use Rattle.fields.proofs.Lists.{by-test}
+use Rattle.fields.proofs.Lists.{by-test, before-conds}
 
 -- A field's end lies past its place.
 pub end-past : (s : List ℕ) (p : ℕ) → p + 3 ≤ fieldEnd s p
@@ -22,11 +22,11 @@ end-past s p = omega arith
 
 -- A turn of the walk, by fuel.
 module _ (s : List ℕ) (p : ℕ) where
-  in-done : (f : ℕ) → length s ≤ p → placesIn (suc f) s p ≡ []
+  pub in-done : (f : ℕ) → length s ≤ p → placesIn (suc f) s p ≡ []
   unfolding placesIn
   in-done f h = cc (le-leb (length s) p h)
 
-  in-next : (f : ℕ) → p < length s → placesIn (suc f) s p ≡ p ∷ placesIn f s (fieldEnd s p)
+  pub in-next : (f : ℕ) → p < length s → placesIn (suc f) s p ≡ p ∷ placesIn f s (fieldEnd s p)
   unfolding placesIn
   in-next f h = cc (lt-leb (length s) p h)
 
@@ -55,3 +55,11 @@ module _ (s : List ℕ) (p : ℕ) where
       let m : length s - fieldEnd s p < length s = omega (arith, end-past s p) in
       let n : length s - fieldEnd s p < suc (length s) = omega (arith, end-past s p) in
       in-next s p (length s) h ∙ ap (λ (l : List ℕ). p ∷ l) (enough (length s) (suc (length s)) s (fieldEnd s p) m n)
+
+-- A pass of the code over the places, that comes to x in all: at the end of the file, and at a field.
+module _ {X : Type 0} (pass : List ℕ → X) (s : List ℕ) (p : ℕ) (x : X) (inv : pass (placesFrom s p) ≡ x) where
+  pub pass-done : length s ≤ p → pass [] ≡ x
+  pass-done h = rw (places-done s p h) at inv
+
+  pub pass-next : (end : ℕ) → p < length s → end ≡ fieldEnd s p → pass (p ∷ placesFrom s end) ≡ x
+  pass-next end h e = rw e (rw (places-next s p h) at inv)
