@@ -37,7 +37,7 @@ module _ (s : List ℕ) (p : ℕ) where
         two = leb-true _ _ (a .0);
         ten = leb-true _ _ (b .0);
         kind = ltb-true _ _ (d .0);
-        arguments = d .1
+        arguments = d .1;
       }
 
   good-facts : isWhole s p ≡ true → entryGood s p ≡ true → IsClass s p ⊎ IsProduction s p
