@@ -1,20 +1,19 @@
 -- The chain of tests of `checkLanguage`: a law for each return of `check_language`.
 use Prim.Native.Nat.{ℕ, _<_, _≤_}
-use mathlib.Core.Path.{_≡_, refl, sym, ap, _∙_}
-use mathlib.Core.Bool.{Bool, true, false, not}
-use mathlib.Core.List.{List, map}
+use mathlib.Core.Path.{_≡_, refl, sym, _∙_}
+use mathlib.Core.Bool.{Bool, true, false}
+use mathlib.Core.List.{List}
 use mathlib.Core.Option.{Option, none, some}
 use lib.ListN.{length}
-use lib.Dec.{ltb}
 use borrow.Author.Tests.{lt-ltb, le-ltb}
 use Rattle.fields.specs.Outcome.{refuseIf, value, checked}
 use Rattle.fields.specs.declared.outcome.Reason.the-variants.{TooLong, Broken, Order, Clash}
 use Rattle.fields.specs.declared.outcome.Outcome.the-variants.{Accepted, Refused}
 use Rattle.fields.specs.Lists.{isSome}
-use Rattle.fields.specs.Keyed.{rising, risingFrom}
+use Rattle.fields.specs.Keyed.{rising}
 use Rattle.fields.specs.Inner.Places.{places, keyAt}
 use Rattle.fields.proofs.Lists.{rising-map, true-not-false}
-use Rattle.language.specs.Language.{Language, entryKey, clashes}
+use Rattle.language.specs.Language.{Language, entryKey}
 use Rattle.language.specs.LanguageFile.{entriesOf, languageOf}
 use Rattle.language.specs.Operations.{checkLanguage}
 use Rattle.language.specs.Inner.Entries.{entryAt, Holds, resultIsClass}

@@ -1,21 +1,19 @@
 -- What is known of a whole entry: which of the two it is, its key, and the entry itself.
-use Prim.Native.Nat.{ℕ, _+_, _*_, _-_, _<_, _≤_}
-use mathlib.Core.Path.{_≡_, refl, sym, ap, _∙_}
-use mathlib.Core.Logic.{_⊎_, ⊎-elim, inl, inr}
-use mathlib.Core.Bool.{Bool, true, false, cond, _&&_}
+use Prim.Native.Nat.{ℕ, _+_}
+use mathlib.Core.Path.{_≡_}
+use mathlib.Core.Logic.{_⊎_, inl, inr}
+use mathlib.Core.Bool.{true}
 use mathlib.Core.List.{List}
 use native.Mathlib.Omega.{arith}
-use lib.ListN.{length, getD}
+use lib.ListN.{getD}
 use lib.Seq.{slice}
-use lib.Dec.{ltb, leb, eqb}
-use borrow.Author.Tests.{eq-eqb, leb-true, ltb-true, eqb-true, eqb-false}
-use Rattle.fields.specs.Lists.{all}
+use lib.Dec.{eqb}
+use borrow.Author.Tests.{eq-eqb, leb-true, ltb-true, eqb-true}
 use Rattle.fields.specs.Fields.{pairAt}
 use Rattle.fields.specs.Inner.Places.{fieldEnd, isWhole, keyAt}
 use Rattle.fields.proofs.Lists.{by-test, and-true, true-not-false}
-use Rattle.language.specs.Language.{Entry, class, production, entryKey}
-use Rattle.language.specs.LanguageFile.{isKind}
-use Rattle.language.specs.Inner.Entries.{sizeAt, classWhole, productionWhole, entryGood, entryWhole, entryAt, IsClass, IsProduction}
+use Rattle.language.specs.Language.{class, production, entryKey}
+use Rattle.language.specs.Inner.Entries.{classWhole, productionWhole, entryGood, entryWhole, entryAt, IsClass, IsProduction}
 
 module _ (s : List ℕ) (p : ℕ) where
   class-facts : isWhole s p ≡ true → getD s p 0 ≡ 0x11 → classWhole s p ≡ true → IsClass s p

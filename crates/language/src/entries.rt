@@ -4,7 +4,7 @@ ghost use Prim.Native.Nat.{_+_, _≤_};
 ghost use lib.ListN.{length};
 ghost use lib.Seq.{slice};
 ghost use Rattle.fields.specs.Lists.{all, isSome};
-ghost use Rattle.fields.specs.Inner.Places.{EndsAt, fieldEnd};
+ghost use Rattle.fields.specs.Inner.Places.{EndsAt};
 ghost use Rattle.language.specs.LanguageFile.{isKind, entriesOf};
 ghost use Rattle.language.specs.Inner.Entries.{sizeAt, classWhole, productionWhole, entryWhole};
 use fields::bytes::byte_at;
