@@ -12,7 +12,7 @@ use fields::bytes::pair_at;
 use fields::walk::field_end;
 
 // The bytes from p up to e are kinds.
-pub fn kinds_only(s: &[u8], p: usize, e: usize) -> bool
+fn kinds_only(s: &[u8], p: usize, e: usize) -> bool
     requires { ⌜ e ≤ length (now s) ⌝ }
     ensures { λ r. ⌜ r ≡ all isKind (slice p e (now (s .entry))) ⌝ }
 {
@@ -65,12 +65,13 @@ fn entry_whole(s: &[u8], p: usize, e: usize) -> bool
     if s.len() < e {
         return false;
     }
+    let n = e - p - 3;
     let tag = byte_at(s, p);
     if tag == 0x11 {
-        return class_whole(s, p, e - p - 3);
+        return class_whole(s, p, n);
     }
     if tag == 0x12 {
-        return production_whole(s, p, e - p - 3);
+        return production_whole(s, p, n);
     }
     false
 }

@@ -35,6 +35,7 @@ unfoldable pub placesIn : ℕ → List ℕ → ℕ → List ℕ
 placesIn zero s p = []
 placesIn (suc fuel) s p = elim (leb (length s) p) [ true ↦ [] | false ↦ p ∷ placesIn fuel s (fieldEnd s p) ]
 
+-- The same, with fuel for all bytes.
 unfoldable pub placesFrom : List ℕ → ℕ → List ℕ
 placesFrom s p = placesIn (suc (length s)) s p
 

@@ -28,13 +28,11 @@ entry-whole-spec =
     tie.close
     (tie.spec
     returns
+    (λ c. search needs)
+    (λ c. search needs)
     (λ c κs. search needs)
-    (λ c. search needs)
-    (λ c. search needs)
     class-whole-requires
     returns-2
-    (λ c. search needs)
-    (λ c. search needs)
     production-whole-requires
     returns-3
     returns-4)
