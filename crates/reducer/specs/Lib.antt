@@ -1,1 +1,5 @@
-
+pub mod Algebra
+pub mod Terms
+pub mod Pack
+pub mod Evaluation
+pub mod Operations

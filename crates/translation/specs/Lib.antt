@@ -1,1 +1,5 @@
-
+pub mod Translation
+pub mod Running
+pub mod WellFormed
+pub mod TranslationFile
+pub mod Operations
