@@ -11,7 +11,8 @@ use borrow.Author.Tests.{le-leb, lt-leb, leb-true, leb-false}
 use Rattle.fields.specs.Lists.{all, any}
 use Rattle.fields.specs.Fields.{field}
 use Rattle.fields.specs.Inner.Places.{fieldEnd, placesIn, placesFrom, places}
-use Rattle.fields.proofs.Lists.{by-test, all-stop, all-next, all-true, any-stop, any-next}
+use Rattle.fields.proofs.Truth.{by-test}
+use Rattle.fields.proofs.Lists.{all-stop, all-next, all-true, any-stop, any-next}
 
 -- A field's end lies past its place.
 pub end-past : (s : List ℕ) (p : ℕ) → p + 3 ≤ fieldEnd s p

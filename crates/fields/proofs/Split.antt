@@ -13,7 +13,8 @@ use borrow.Author.Tests.{le-leb, lt-leb, leb-true, leb-false}
 use Rattle.fields.specs.Lists.{all, traverse, before}
 use Rattle.fields.specs.Fields.{Field, field, pairAt, splitFields, fieldsOf}
 use Rattle.fields.specs.Inner.Places.{fieldEnd, isWhole, fieldAt, placesIn, placesFrom, places}
-use Rattle.fields.proofs.Lists.{by-test, before-conds, all-true}
+use Rattle.fields.proofs.Truth.{by-test}
+use Rattle.fields.proofs.Lists.{before-conds, all-true}
 use Rattle.fields.proofs.Places.{end-past, in-done, in-next}
 
 -- A byte, and a pair, of a part.

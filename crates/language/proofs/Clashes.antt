@@ -10,7 +10,8 @@ use lib.Dec.{eqb}
 use borrow.Author.Tests.{eqb-true, eqb-false}
 use Rattle.fields.specs.Lists.{any}
 use Rattle.fields.specs.Inner.Places.{places}
-use Rattle.fields.proofs.Lists.{by-test, any-map, any-same, any-none, any-swap}
+use Rattle.fields.proofs.Truth.{by-test}
+use Rattle.fields.proofs.Lists.{any-map, any-same, any-none, any-swap}
 use Rattle.language.specs.Language.{Entry, class, production, Language, resultIs, classIsResult, clashes}
 use Rattle.language.specs.Inner.Entries.{entryWhole, entryAt, Holds, IsClass, IsProduction, markClass, markClasses, classKinds, resultMarked, resultIsClass}
 use Rattle.language.proofs.Facts.{entry-facts, class-is, production-is}
