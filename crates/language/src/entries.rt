@@ -34,7 +34,8 @@ fn class_whole(s: &[u8], p: usize, n: usize) -> bool
     if n != 5 {
         return false;
     }
-    if 32 <= byte_at(s, p + 3) {
+    let kind = byte_at(s, p + 3);
+    if 32 <= kind {
         return false;
     }
     pair_at(s, p + 4) <= pair_at(s, p + 6)
@@ -51,7 +52,8 @@ fn production_whole(s: &[u8], p: usize, n: usize) -> bool
     if 10 < n {
         return false;
     }
-    if 32 <= byte_at(s, p + 3) {
+    let result = byte_at(s, p + 3);
+    if 32 <= result {
         return false;
     }
     kinds_only(s, p + 5, p + 3 + n)
