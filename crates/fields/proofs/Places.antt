@@ -1,0 +1,95 @@
+-- The walk by places: a turn at a time, and that it meets the fields of `fieldsOf`.
+use Prim.Native.Nat.{ℕ, zero, suc, _+_, _-_, _<_, _≤_}
+use mathlib.Core.Path.{_≡_, refl, sym, ap, _∙_}
+use mathlib.Core.Bool.{Bool, true, false}
+use mathlib.Core.List.{List, [], _∷_}
+use mathlib.Core.Option.{some}
+use native.Mathlib.Omega.{arith}
+use lib.ListN.{length}
+use lib.Dec.{leb}
+use borrow.Author.Tests.{le-leb, lt-leb, leb-true, leb-false}
+use Rattle.fields.specs.Lists.{all, any}
+use Rattle.fields.specs.Fields.{field}
+use Rattle.fields.specs.Inner.Places.{fieldEnd, placesIn, placesFrom, places}
+use Rattle.fields.proofs.Truth.{by-test}
+use Rattle.fields.proofs.Lists.{all-stop, all-next, all-true, any-stop, any-next}
+
+-- A field's end lies past its place.
+pub end-past : (s : List ℕ) (p : ℕ) → p + 3 ≤ fieldEnd s p
+unfolding fieldEnd
+end-past s p = omega arith
+
+-- A turn of the walk, by fuel.
+module _ (s : List ℕ) (p : ℕ) where
+  pub in-done : (f : ℕ) → length s ≤ p → placesIn (suc f) s p ≡ []
+  unfolding placesIn
+  in-done f h = cc (le-leb (length s) p h)
+
+  pub in-next : (f : ℕ) → p < length s → placesIn (suc f) s p ≡ p ∷ placesIn f s (fieldEnd s p)
+  unfolding placesIn
+  in-next f h = cc (lt-leb (length s) p h)
+
+-- More fuel than bytes that are left is enough.
+enough : (f g : ℕ) (s : List ℕ) (p : ℕ) → length s - p < f → length s - p < g → placesIn f s p ≡ placesIn g s p
+enough zero g s p h k = absurd (omega arith)
+enough (suc f) zero s p h k = absurd (omega arith)
+enough (suc f) (suc g) s p h k =
+    by-test (leb (length s) p)
+    (λ e. let d : length s ≤ p = leb-true _ _ e in in-done s p f d ∙ sym (in-done s p g d))
+    (λ e.
+    let d : p < length s = leb-false _ _ e in
+    let m : length s - fieldEnd s p < f = omega (arith, end-past s p) in
+    let n : length s - fieldEnd s p < g = omega (arith, end-past s p) in
+    in-next s p f d ∙ (ap (λ (l : List ℕ). p ∷ l) (enough f g s (fieldEnd s p) m n) ∙ sym (in-next s p g d)))
+
+-- A turn of the walk: at the end of the file, and at a field.
+module _ (s : List ℕ) (p : ℕ) where
+  pub places-done : length s ≤ p → placesFrom s p ≡ []
+  unfolding placesFrom
+  places-done h = in-done s p (length s) h
+
+  pub places-next : p < length s → placesFrom s p ≡ p ∷ placesFrom s (fieldEnd s p)
+  unfolding placesFrom
+  places-next h =
+      let m : length s - fieldEnd s p < length s = omega (arith, end-past s p) in
+      let n : length s - fieldEnd s p < suc (length s) = omega (arith, end-past s p) in
+      in-next s p (length s) h ∙ ap (λ (l : List ℕ). p ∷ l) (enough (length s) (suc (length s)) s (fieldEnd s p) m n)
+
+-- A pass of the code over the places, that comes to x in all: at the end of the file, and at a field.
+module _ {X : Type 0} (pass : List ℕ → X) (s : List ℕ) (p : ℕ) (x : X) (inv : pass (placesFrom s p) ≡ x) where
+  pub pass-done : length s ≤ p → pass [] ≡ x
+  pass-done h = rw (places-done s p h) at inv
+
+  pub pass-next : (end : ℕ) → p < length s → end ≡ fieldEnd s p → pass (p ∷ placesFrom s end) ≡ x
+  pass-next end h e = rw e (rw (places-next s p h) at inv)
+
+-- A pass that asks whether every place passes the test f, and one that asks whether some place does.
+module _ (f : ℕ → Bool) (s : List ℕ) (p : ℕ) (x : Bool) where
+  module _ (inv : all f (placesFrom s p) ≡ x) where
+    pub every-done : length s ≤ p → true ≡ x
+    unfolding all
+    every-done h = pass-done (all f) s p x inv h
+
+    module _ (b : Bool) (eb : b ≡ f p) (end : ℕ) (ee : end ≡ fieldEnd s p) (here : p < length s) where
+      pub every-stop : b ≡ false → false ≡ x
+      every-stop h = all-stop f p _ (pass-next (all f) s p x inv end here ee) (sym eb ∙ h)
+
+      pub every-next : b ≡ true → all f (placesFrom s end) ≡ x
+      every-next h = all-next f p _ (pass-next (all f) s p x inv end here ee) (sym eb ∙ h)
+
+  module _ (inv : any f (placesFrom s p) ≡ x) where
+    pub some-done : length s ≤ p → false ≡ x
+    unfolding any
+    some-done h = pass-done (any f) s p x inv h
+
+    module _ (b : Bool) (eb : b ≡ f p) (end : ℕ) (ee : end ≡ fieldEnd s p) (here : p < length s) where
+      pub some-stop : b ≡ true → true ≡ x
+      some-stop h = any-stop f p _ (pass-next (any f) s p x inv end here ee) (sym eb ∙ h)
+
+      pub some-next : b ≡ false → any f (placesFrom s end) ≡ x
+      some-next h = any-next f p _ (pass-next (any f) s p x inv end here ee) (sym eb ∙ h)
+
+-- Where every place from p on passes, the one at p does, and every further one.
+pub every-here : (f : ℕ → Bool) (s : List ℕ) (p : ℕ) → all f (placesFrom s p) ≡ true → p < length s
+    → (f p ≡ true) × (all f (placesFrom s (fieldEnd s p)) ≡ true)
+every-here f s p inv here = all-true f p _ (pass-next (all f) s p true inv (fieldEnd s p) here refl)

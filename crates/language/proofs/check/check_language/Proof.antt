@@ -1,0 +1,39 @@
+use mathlib.Core.Path.{_∙_}
+use borrow.Author.Tests.{not-true, not-false}
+use Rattle.language.proofs.Chain.{too-long, broken, out-of-order, clash, accepted}
+use borrow.Author.Needs.{needs}
+use Rattle.language.proofs.check.check_language.Statement.{statement}
+use Rattle.language.proofs.check.check_language.Tie as tie
+
+returns : tie.Need-returns
+returns c = c .refuse .ensures ∙ too-long _ (c .before .if1 .taken)
+
+returns-2 : tie.Need-returns-2
+returns-2 c = c .refuse2 .ensures ∙ broken _ (c .before .before .before .if1 .left) _ (c .before .before .entries-whole .ensures) (not-true _ (c .before .if2 .taken))
+
+returns-3 : tie.Need-returns-3
+returns-3 c = c .refuse3 .ensures ∙ out-of-order _ (c .before .before .before .before .before .if1 .left) _ (c .before .before .before .before .entries-whole .ensures) (not-false _ (c .before .before .before .if2 .left)) _ (c .before .before .keys-rise .ensures) (not-true _ (c .before .if3 .taken))
+
+returns-4 : tie.Need-returns-4
+returns-4 c = c .refuse4 .ensures ∙ clash _ (c .before .before .before .before .before .before .before .if1 .left) _ (c .before .before .before .before .before .before .entries-whole .ensures) (not-false _ (c .before .before .before .before .before .if2 .left)) _ (c .before .before .before .before .keys-rise .ensures) (not-false _ (c .before .before .before .if3 .left)) _ (c .before .before .result-is-class .ensures) (c .before .if4 .taken)
+
+returns-5 : tie.Need-returns-5
+returns-5 c = c .accept .ensures ∙ accepted _ (c .before .before .before .before .before .before .before .if1 .left) _ (c .before .before .before .before .before .before .entries-whole .ensures) (not-false _ (c .before .before .before .before .before .if2 .left)) _ (c .before .before .before .before .keys-rise .ensures) (not-false _ (c .before .before .before .if3 .left)) _ (c .before .before .result-is-class .ensures) (c .before .if4 .left)
+
+pub check-language-spec : {M : Type 1} → statement M
+check-language-spec =
+    tie.close
+    (tie.spec
+    (λ c κs. search needs)
+    returns
+    (λ c κs. search needs)
+    (λ c κs. search needs)
+    returns-2
+    (λ c κs. search needs)
+    (λ c κs. search needs)
+    returns-3
+    (λ c κs. search needs)
+    (λ c κs. search needs)
+    returns-4
+    (λ c κs. search needs)
+    returns-5)
