@@ -30,13 +30,14 @@ use Rattle.translation.specs.Operations.{fitted, runBytes, Ran, runTree}
 use Rattle.translation.proofs.Preserved.{typed-run}
 use Rattle.translation.proofs.Fitting.{refuse-value, fit-carries}
 use Rattle.reducer.specs.Terms.{Term, translations, join, writeTerm}
-use Rattle.reducer.specs.Algebra.{joinFits, joined, translationJoin}
+use Rattle.operators.specs.Algebra.{joinFits, joined, translationJoin}
 use Rattle.reducer.specs.Pack.{packOf}
-use Rattle.reducer.specs.Evaluation.{Constants, constantsOf, nothingBound, limited, translationExceeds, evaluate}
+use Rattle.operators.specs.Limits.{translationExceeds}
+use Rattle.reducer.specs.Evaluation.{Constants, constantsOf, nothingBound, limited, evaluate}
 use Rattle.reducer.specs.Operations.{reduceBytes, reduce}
 use Rattle.reducer.proofs.PackCodec.{pack-term, pack-short}
-use Rattle.reducer.proofs.Proper.{proper-apart, Sound, GoodTranslation, good-back}
-use Rattle.reducer.proofs.JoinSound.{target-larger, join-lies, join-mapped, join-runs}
+use Rattle.operators.proofs.Proper.{proper-apart, Sound, GoodTranslation, good-back}
+use Rattle.operators.proofs.JoinSound.{target-larger, join-lies, join-mapped, join-runs}
 use Rattle.reducer.proofs.Evaluated.{step-value, value-inj, limited-value, translation-join, within, nothing-good, evaluate-good}
 use Rattle.laws.specs.Packed.{packed, putOut}
 use Rattle.laws.specs.Runs.{Legal, mapsTo, targetIn, ReducesTo, Agrees, LawOfRuns}

@@ -20,10 +20,10 @@ use Rattle.language.proofs.Lookup.{NoClash}
 use Rattle.reader.specs.Syntax.{done}
 use Rattle.translation.specs.Translation.{Item, mapping, clause, Translation, itemKey}
 use Rattle.translation.specs.TranslationFile.{itemField, translationFields, encodeTranslation, translationLimit}
-use Rattle.reducer.specs.Algebra.{languageUnion, translationUnion}
-use Rattle.reducer.specs.Evaluation.{codeIsDeep, languageExceeds, translationExceeds}
-use Rattle.reducer.proofs.Proper.{Proper, Sound, GoodTranslation}
-use Rattle.reducer.proofs.SumSound.{LanguagesFit, TranslationsFit, union-covers}
+use Rattle.operators.specs.Algebra.{languageUnion, translationUnion}
+use Rattle.operators.specs.Limits.{codeIsDeep, languageExceeds, translationExceeds}
+use Rattle.operators.proofs.Proper.{Proper, Sound, GoodTranslation}
+use Rattle.operators.proofs.SumSound.{LanguagesFit, TranslationsFit, union-covers}
 
 -- All members of one list are members of another.
 abbrev pub Subset : {A : Type 0} → List A → List A → Type 0

@@ -12,12 +12,13 @@ use Rattle.fields.proofs.Truth.{and-both, both-and, mem-append, append-cases}
 use Rattle.translation.specs.Translation.{Translation}
 use Rattle.translation.specs.TranslationFile.{encodeTranslation}
 use Rattle.reducer.specs.Terms.{Term, translations, sum, termLevels, scoped}
-use Rattle.reducer.specs.Algebra.{translationsFit, translationUnion, translationSum}
+use Rattle.operators.specs.Algebra.{translationsFit, translationUnion, translationSum}
 use Rattle.reducer.specs.Pack.{Pack}
-use Rattle.reducer.specs.Evaluation.{Constants, constantsOf, nothingBound, limited, translationExceeds, sumOf, evaluate}
+use Rattle.operators.specs.Limits.{translationExceeds}
+use Rattle.reducer.specs.Evaluation.{Constants, constantsOf, nothingBound, limited, sumOf, evaluate}
 use Rattle.reducer.specs.Operations.{reduceBytes, Reduced, reduce}
-use Rattle.reducer.proofs.Proper.{Sound, GoodTranslation}
-use Rattle.reducer.proofs.SumSound.{TranslationsFit, fit-translations, translations-fit, sound-union}
+use Rattle.operators.proofs.Proper.{Sound, GoodTranslation}
+use Rattle.operators.proofs.SumSound.{TranslationsFit, fit-translations, translations-fit, sound-union}
 use Rattle.reducer.proofs.Evaluated.{step-value, value-inj, limited-value, translation-sum, GoodConstants, nothing-good, evaluate-good}
 use Rattle.laws.specs.Packed.{packed, putOut}
 use Rattle.laws.specs.Sums.{Sum, alone, plus, asTerm, builtFrom, In, SumOver, WithinLimits, AcceptedAlike, LawOfSums}

@@ -16,10 +16,11 @@ use Rattle.translation.specs.Running.{nth, operand, substitute, run, mappedArgu
 use Rattle.translation.specs.WellFormed.{kinds, kindsMapped, reachesTarget, classKept, mappingFits, hasClause, hasProduction, clausesFit, codeFits, codesFit, wellFormed}
 use Rattle.translation.specs.TranslationFile.{mappingField, clauseField, itemOf, itemField, grouped, itemsIn, bodyOf, partsIn, partsOf, translationFields, encodeTranslation, allRising, translationOf}
 use Rattle.translation.specs.Operations.{runBytes}
-use Rattle.reducer.specs.Algebra.{languagesFit, languageUnion, languageSum, languageWithout, translationsFit, translationUnion, translationSum, isOf, translationWithout, joinFits, joinItem, joined, translationJoin, argumentsFrom, identityClause, identityOf}
+use Rattle.operators.specs.Algebra.{languagesFit, languageUnion, languageSum, languageWithout, translationsFit, translationUnion, translationSum, isOf, translationWithout, joinFits, joinItem, joined, translationJoin, argumentsFrom, identityClause, identityOf}
 use Rattle.reducer.specs.Terms.{languageSign, translationSign, readSign, readTerm, scoped}
 use Rattle.reducer.specs.Pack.{partOf, inGroups, packWith, packIn, packParts, packOf, termOf}
-use Rattle.reducer.specs.Evaluation.{bound, codeIsDeep, languageExceeds, translationExceeds, evaluate}
+use Rattle.operators.specs.Limits.{codeIsDeep, languageExceeds, translationExceeds}
+use Rattle.reducer.specs.Evaluation.{bound, evaluate}
 use Rattle.reducer.specs.Operations.{ready, work, reduceBytes}
 
 pub c : List ℕ

@@ -22,14 +22,15 @@ use Rattle.translation.specs.TranslationFile.{encodeTranslation, translationLim
 use Rattle.translation.specs.WellFormed.{wellFormed}
 use Rattle.translation.proofs.Codec.{itemWhole, GoodBody}
 use Rattle.translation.proofs.Fitting.{refuse-value}
-use Rattle.reducer.specs.Algebra.{languagesFit, languageUnion, languageSum, languageWithout, translationsFit, translationUnion, translationSum, translationWithout, joinFits, joined, translationJoin, identityOf}
+use Rattle.operators.specs.Algebra.{languagesFit, languageUnion, languageSum, languageWithout, translationsFit, translationUnion, translationSum, translationWithout, joinFits, joined, translationJoin, identityOf}
+use Rattle.operators.specs.Limits.{codeIsDeep, languageExceeds, translationExceeds}
 use Rattle.reducer.specs.Terms.{Sort, languages, translations, Term, constant, sourceOf, targetOf, make, join, identity, variable, without, sum, bind}
-use Rattle.reducer.specs.Evaluation.{Constants, Value, Environment, nothingBound, bound, there, codeIsDeep, languageExceeds, translationExceeds, exceeds, limited, sumOf, withoutOf, evaluate}
+use Rattle.reducer.specs.Evaluation.{Constants, Value, Environment, nothingBound, bound, there, exceeds, limited, sumOf, withoutOf, evaluate}
 
-use Rattle.reducer.proofs.Proper.{Proper, good-proper, proper-good, Sound, formed-sound, GoodTranslation}
-use Rattle.reducer.proofs.SumSound.{fit-languages, fit-translations, proper-union, proper-without, sound-union, sound-without}
-use Rattle.reducer.proofs.JoinSound.{sound-join}
-use Rattle.reducer.proofs.IdentitySound.{sound-identity}
+use Rattle.operators.proofs.Proper.{Proper, good-proper, proper-good, Sound, formed-sound, GoodTranslation}
+use Rattle.operators.proofs.SumSound.{fit-languages, fit-translations, proper-union, proper-without, sound-union, sound-without}
+use Rattle.operators.proofs.JoinSound.{sound-join}
+use Rattle.operators.proofs.IdentitySound.{sound-identity}
 
 -- A value that is there, of a step before and a step after.
 pub step-value : {A B : Type 0} {b : B} (o : Result A) (f : A → Result B) → o >>= f ≡ value b → (a : A) × (o ≡ value a) × (f a ≡ value b)

@@ -1,24 +1,19 @@
 -- Working out terms (paper 01, "Reduce" and "Rules"; document 000: appendix A): operands left to right before their
 -- sign, and the first refusal ends it. Last at each sign comes 11, where its value exceeds a limit.
 use Prim.Native.Nat.{ℕ, zero, suc}
-use mathlib.Core.Bool.{Bool, true, false, cond, _||_}
+use mathlib.Core.Bool.{Bool, true, false, cond}
 use mathlib.Core.List.{List, [], _∷_}
 use mathlib.Core.Option.{Option, none, some}
-use lib.ListN.{length, getElem?}
-use lib.Dec.{ltb, eqb}
+use lib.ListN.{getElem?}
+use lib.Dec.{eqb}
 use Rattle.fields.specs.Outcome.{Result, value, refused, refuseIf, _>>=_}
 use Rattle.fields.specs.declared.outcome.Reason.{Reason}
 use Rattle.fields.specs.declared.outcome.Reason.the-variants.{Unbound, Limit, Term as TermRefused}
-use Rattle.fields.specs.Lists.{any}
 use Rattle.language.specs.Language.{Language}
-use Rattle.language.specs.LanguageFile.{encodeLanguage, languageLimit}
-use Rattle.reader.specs.Code.{Code}
-use Rattle.reader.specs.Syntax.{Read, done, deep, broken}
-use Rattle.translation.specs.Translation.{Item, mapping, clause, Body, Translation}
-use Rattle.translation.specs.Running.{readClause}
+use Rattle.translation.specs.Translation.{Body, Translation}
 use Rattle.translation.specs.WellFormed.{wellFormed}
-use Rattle.translation.specs.TranslationFile.{encodeTranslation, translationLimit}
-use Rattle.reducer.specs.Algebra.{languageSum, languageWithout, translationSum, translationWithout, translationJoin, identityOf}
+use Rattle.operators.specs.Limits.{languageExceeds, translationExceeds}
+use Rattle.operators.specs.Algebra.{languageSum, languageWithout, translationSum, translationWithout, translationJoin, identityOf}
 use Rattle.reducer.specs.Terms.{Sort, languages, translations, Term, constant, sourceOf, targetOf, make, join, identity, variable, without, sum, bind}
 use Rattle.reducer.specs.Pack.{Pack}
 
@@ -53,26 +48,6 @@ bound e translations v x translations w = cond (eqb v w) (some x) (e translation
 abbrev pub there : {A : Type 0} → Reason → Option A → Result A
 there r none = refused r
 there r (some a) = value a
-
--- A clause's code goes deeper than 16 levels.
-abbrev pub isDeep : Read Code → Bool
-isDeep (done c s) = false
-isDeep deep = true
-isDeep broken = false
-
-unfoldable pub codeIsDeep : Translation → Item → Bool
-codeIsDeep f (mapping s t) = false
-codeIsDeep f (clause r p bytes) = isDeep (readClause f r p bytes)
-
--- A value exceeds a limit: 1,024 bytes of a language, 4,096 of a translation, 16 levels of a code.
-unfoldable pub languageExceeds : Language → Bool
-languageExceeds l = ltb languageLimit (length (encodeLanguage l))
-
-unfoldable pub translationExceeds : Translation → Bool
-translationExceeds f =
-    languageExceeds (f .source)
-    || (languageExceeds (f .target)
-    || (ltb translationLimit (length (encodeTranslation f)) || any (codeIsDeep f) (f .body)))
 
 abbrev pub exceeds : (s : Sort) → Value s → Bool
 exceeds languages l = languageExceeds l

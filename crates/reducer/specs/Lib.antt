@@ -1,4 +1,3 @@
-pub mod Algebra
 pub mod Terms
 pub mod Pack
 pub mod Evaluation

@@ -3,3 +3,4 @@ pub mod Running
 pub mod WellFormed
 pub mod TranslationFile
 pub mod Operations
+pub mod Inner

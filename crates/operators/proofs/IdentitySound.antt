@@ -26,9 +26,9 @@ use Rattle.translation.specs.WellFormed.{kinds}
 use Rattle.translation.proofs.Codec.{itemWhole}
 use Rattle.translation.proofs.Lookup.{mem-mapped}
 use Rattle.translation.proofs.Fitting.{Fitting, mapped-arguments}
-use Rattle.reducer.specs.Algebra.{argumentsFrom, identityClause, identityOf}
-use Rattle.reducer.proofs.Proper.{Proper, proper-apart, proper-below, Sound}
-use Rattle.reducer.proofs.JoinSound.{mapping-clause}
+use Rattle.operators.specs.Algebra.{argumentsFrom, identityClause, identityOf}
+use Rattle.operators.proofs.Proper.{Proper, proper-apart, proper-below, Sound}
+use Rattle.operators.proofs.JoinSound.{mapping-clause}
 
 -- The arguments in order are of the kinds in order.
 get-append : (r : List ℕ) (k : ℕ) (ks : List ℕ) → getElem? (r ++ k ∷ ks) (length r) ≡ some k

@@ -26,9 +26,9 @@ use Rattle.translation.proofs.Lookup.{mem-mapped}
 use Rattle.translation.proofs.Running.{chained, run-chained}
 use Rattle.translation.proofs.Preserved.{Carries, typed-run, run-alike}
 use Rattle.translation.proofs.Fitting.{Fitting, between, clause-code, mapped-arguments, fit-carries}
-use Rattle.reducer.specs.Algebra.{joinFits, joinItem, joined}
-use Rattle.reducer.specs.Evaluation.{isDeep, codeIsDeep}
-use Rattle.reducer.proofs.Proper.{Proper, proper-apart, Sound}
+use Rattle.operators.specs.Algebra.{joinFits, joinItem, joined}
+use Rattle.operators.specs.Limits.{isDeep, codeIsDeep}
+use Rattle.operators.proofs.Proper.{Proper, proper-apart, Sound}
 
 join-key : (f g : Translation) (a : Item) → itemKey (joinItem f g a) ≡ itemKey a
 unfolding joinItem itemKey

@@ -18,8 +18,8 @@ use Rattle.translation.specs.Translation.{Item, mapping, clause, Body, Translat
 use Rattle.translation.specs.Running.{readClause}
 use Rattle.translation.proofs.Lookup as Items
 use Rattle.translation.proofs.Fitting.{Fitting, between, clause-alike}
-use Rattle.reducer.specs.Algebra.{languagesFit, languageUnion, languageWithout, translationsFit, translationUnion, isOf, translationWithout}
-use Rattle.reducer.proofs.Proper.{Proper, proper-keep, Sound}
+use Rattle.operators.specs.Algebra.{languagesFit, languageUnion, languageWithout, translationsFit, translationUnion, isOf, translationWithout}
+use Rattle.operators.proofs.Proper.{Proper, proper-keep, Sound}
 
 -- Languages that fit: entries agree by key, and no class of one is a result of the other.
 pub record LanguagesFit (l m : Language) : Type 0 where
