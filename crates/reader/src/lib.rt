@@ -1,1 +1,3 @@
 // The index of a language, the reader of typed codes and trees, and the check of a tree.
+pub mod node;
+pub mod read;
