@@ -2,3 +2,4 @@ pub mod Outcome
 pub mod Lists
 pub mod Fields
 pub mod Keyed
+pub mod Inner

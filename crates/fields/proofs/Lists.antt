@@ -1,0 +1,84 @@
+-- Laws of the words on lists, one element at a time.
+use Prim.Native.Nat.{ℕ, suc, _<_, _≤_}
+use mathlib.Core.Path.{_≡_, refl, sym, ap, _∙_}
+use mathlib.Core.Bool.{Bool, true, false, cond, _&&_, _||_}
+use mathlib.Core.List.{List, [], _∷_, map}
+use mathlib.Core.Option.{Option, none, some}
+use native.Mathlib.Omega.{arith}
+use lib.Dec.{ltb, leb, eqb}
+use borrow.Author.Tests.{le-leb, lt-leb}
+use Rattle.fields.specs.Lists.{all, any, traverse, before, isSome}
+use Rattle.fields.specs.Keyed.{rising, risingFrom}
+
+-- A proof by the two cases of a test.
+pub by-test : {A : Type 0} (b : Bool) → (b ≡ true → A) → (b ≡ false → A) → A
+by-test true f g = f refl
+by-test false f g = g refl
+
+pub true-not-false : {A : Type 0} → _≡_ {A = Bool} true false → A
+true-not-false e = let z : _≡_ {A = ℕ} 0 1 = cc in absurd (omega arith)
+
+-- A turn of a pass over a list: x is what the whole pass comes to.
+module _ {A : Type 0} (f : A → Bool) (a : A) (l : List A) {x : Bool} where
+  pub all-stop : all f (a ∷ l) ≡ x → f a ≡ false → false ≡ x
+  unfolding all
+  all-stop e h = rw h at e
+
+  pub all-next : all f (a ∷ l) ≡ x → f a ≡ true → all f l ≡ x
+  unfolding all
+  all-next e h = rw h at e
+
+  pub any-stop : any f (a ∷ l) ≡ x → f a ≡ true → true ≡ x
+  unfolding any
+  any-stop e h = rw h at e
+
+  pub any-next : any f (a ∷ l) ≡ x → f a ≡ false → any f l ≡ x
+  unfolding any
+  any-next e h = rw h at e
+
+module _ {A : Type 0} (key : A → ℕ) (n : ℕ) (a : A) (l : List A) {x : Bool} (e : risingFrom key n (a ∷ l) ≡ x) where
+  pub rising-stop : key a < n → false ≡ x
+  unfolding risingFrom
+  rising-stop h = rw (lt-leb n (key a) h) at e
+
+  pub rising-next : n ≤ key a → risingFrom key (suc (key a)) l ≡ x
+  unfolding risingFrom
+  rising-next h = rw (le-leb n (key a) h) at e
+
+-- Every element passes two tests if every element passes both.
+and-four : (a b c d : Bool) → (a && b) && (c && d) ≡ (a && c) && (b && d)
+and-four true true c d = refl
+and-four true false true d = refl
+and-four true false false d = refl
+and-four false b c d = refl
+
+pub all-and : {A : Type 0} (f g : A → Bool) (l : List A) → all (λ a. f a && g a) l ≡ all f l && all g l
+unfolding all
+all-and f g [] = refl
+all-and f g (a ∷ l) = ap (λ (b : Bool). (f a && g a) && b) (all-and f g l) ∙ and-four (f a) (g a) (all f l) (all g l)
+
+-- The first passes, and all others, where all do.
+pub all-true : {A : Type 0} (f : A → Bool) (a : A) (l : List A) → all f (a ∷ l) ≡ true → (f a ≡ true) × (all f l ≡ true)
+all-true f a l e =
+    by-test (f a)
+    (λ h. (h, all-next f a l e h))
+    (λ h. true-not-false (sym (all-stop f a l e h)))
+
+-- A value in front of more, that are there under a condition.
+before-cond : {A : Type 0} (a : A) (b : Bool) (l : List A) → before (some a) (cond b (some l) none) ≡ cond b (some (a ∷ l)) none
+before-cond a true l = refl
+before-cond a false l = refl
+
+pub before-conds : {A : Type 0} (c b : Bool) (a : A) (l : List A)
+    → before (cond c (some a) none) (cond b (some l) none) ≡ cond (c && b) (some (a ∷ l)) none
+before-conds true b a l = before-cond a b l
+before-conds false b a l = refl
+
+-- What is there under a condition is there if the condition holds.
+pub cond-some : {A : Type 0} (b : Bool) (a : A) → isSome (cond b (some a) none) ≡ b
+cond-some true a = refl
+cond-some false a = refl
+
+pub cond-is : {A : Type 0} (b : Bool) (a c : A) → cond b (some a) none ≡ some c → (b ≡ true) × (a ≡ c)
+cond-is true a c e = (refl, cc)
+cond-is false a c e = let z : _≡_ {A = ℕ} 0 1 = cc in absurd (omega arith)

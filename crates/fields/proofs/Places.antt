@@ -1,0 +1,65 @@
+-- The walk by places: a turn at a time, and that it meets the fields of `fieldsOf`.
+use Prim.Native.Nat.{ℕ, zero, suc, _+_, _-_, _<_, _≤_}
+use mathlib.Core.Path.{_≡_, refl, sym, ap, _∙_}
+use mathlib.Core.Bool.{Bool, true, false, cond, _&&_}
+use mathlib.Core.List.{List, [], _∷_, map}
+use mathlib.Core.Option.{Option, none, some}
+use native.Mathlib.Omega.{arith}
+use native.Mathlib.Numerals.{add-one}
+use lib.ListN.{length, getD, take, drop, length-take, length-drop, drop-of-length-le}
+use lib.Seq.{drop-cons, drop-drop, getD-drop, getD-take}
+use lib.Dec.{ltb, leb, eqb}
+use borrow.Author.Tests.{lt-ltb, le-ltb, le-leb, lt-leb, eq-eqb, ne-eqb, leb-true, leb-false}
+use Rattle.fields.specs.Lists.{all, any, traverse, before, isSome}
+use Rattle.fields.specs.Fields.{Field, field, pairAt, splitFields, fieldsOf}
+use Rattle.fields.specs.Inner.Places.{fieldEnd, isWhole, contentsAt, fieldAt, placesIn, placesFrom, places, keyAt}
+use Rattle.fields.proofs.Lists.{by-test, before-conds}
+
+-- A field's end lies past its place.
+pub end-past : (s : List ℕ) (p : ℕ) → p + 3 ≤ fieldEnd s p
+unfolding fieldEnd
+end-past s p = omega arith
+
+-- A turn of the walk, by fuel.
+module _ (s : List ℕ) (p : ℕ) where
+  pub in-done : (f : ℕ) → length s ≤ p → placesIn (suc f) s p ≡ []
+  unfolding placesIn
+  in-done f h = cc (le-leb (length s) p h)
+
+  pub in-next : (f : ℕ) → p < length s → placesIn (suc f) s p ≡ p ∷ placesIn f s (fieldEnd s p)
+  unfolding placesIn
+  in-next f h = cc (lt-leb (length s) p h)
+
+-- More fuel than bytes that are left is enough.
+enough : (f g : ℕ) (s : List ℕ) (p : ℕ) → length s - p < f → length s - p < g → placesIn f s p ≡ placesIn g s p
+enough zero g s p h k = absurd (omega arith)
+enough (suc f) zero s p h k = absurd (omega arith)
+enough (suc f) (suc g) s p h k =
+    by-test (leb (length s) p)
+    (λ e. let d : length s ≤ p = leb-true _ _ e in in-done s p f d ∙ sym (in-done s p g d))
+    (λ e.
+    let d : p < length s = leb-false _ _ e in
+    let m : length s - fieldEnd s p < f = omega (arith, end-past s p) in
+    let n : length s - fieldEnd s p < g = omega (arith, end-past s p) in
+    in-next s p f d ∙ (ap (λ (l : List ℕ). p ∷ l) (enough f g s (fieldEnd s p) m n) ∙ sym (in-next s p g d)))
+
+-- A turn of the walk: at the end of the file, and at a field.
+module _ (s : List ℕ) (p : ℕ) where
+  pub places-done : length s ≤ p → placesFrom s p ≡ []
+  unfolding placesFrom
+  places-done h = in-done s p (length s) h
+
+  pub places-next : p < length s → placesFrom s p ≡ p ∷ placesFrom s (fieldEnd s p)
+  unfolding placesFrom
+  places-next h =
+      let m : length s - fieldEnd s p < length s = omega (arith, end-past s p) in
+      let n : length s - fieldEnd s p < suc (length s) = omega (arith, end-past s p) in
+      in-next s p (length s) h ∙ ap (λ (l : List ℕ). p ∷ l) (enough (length s) (suc (length s)) s (fieldEnd s p) m n)
+
+-- A pass of the code over the places, that comes to x in all: at the end of the file, and at a field.
+module _ {X : Type 0} (pass : List ℕ → X) (s : List ℕ) (p : ℕ) (x : X) (inv : pass (placesFrom s p) ≡ x) where
+  pub pass-done : length s ≤ p → pass [] ≡ x
+  pass-done h = rw (places-done s p h) at inv
+
+  pub pass-next : (end : ℕ) → p < length s → end ≡ fieldEnd s p → pass (p ∷ placesFrom s end) ≡ x
+  pass-next end h e = rw e (rw (places-next s p h) at inv)

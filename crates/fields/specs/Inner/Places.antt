@@ -1,0 +1,47 @@
+-- The fields of a file by their places, as the code walks over them.
+-- `proofs/Places.antt` shows that they are the fields of `fieldsOf`.
+use Prim.Native.Nat.{ℕ, zero, suc, _+_, _<_, _≤_}
+use mathlib.Core.Path.{_≡_}
+use mathlib.Core.Bool.{Bool, true, false, cond}
+use mathlib.Core.List.{List, [], _∷_}
+use lib.ListN.{length, take, drop}
+use lib.Dec.{leb, eqb}
+use Rattle.fields.specs.Fields.{Field, field, byteAt, pairAt}
+
+-- Where the field at p ends, by its length bytes.
+unfoldable pub fieldEnd : List ℕ → ℕ → ℕ
+fieldEnd s p = p + 3 + pairAt s (p + 1)
+
+-- What the code knows of the end e of the field at p.
+pub record EndsAt (s : List ℕ) (p e : ℕ) : Type 0 where
+  pub is : e ≡ fieldEnd s p
+  pub past : p + 3 ≤ e
+  pub near : e < p + 65539
+
+-- The field at p is whole.
+unfoldable pub isWhole : List ℕ → ℕ → Bool
+isWhole s p = leb (fieldEnd s p) (length s)
+
+-- The contents of the field at p.
+abbrev pub contentsAt : List ℕ → ℕ → List ℕ
+contentsAt s p = take (pairAt s (p + 1)) (drop (p + 3) s)
+
+-- The field at p.
+unfoldable pub fieldAt : List ℕ → ℕ → Field
+fieldAt s p = field (byteAt s p) (contentsAt s p)
+
+-- The places from p on where fields start, as far as the length bytes lead. The fuel is more than the bytes left.
+unfoldable pub placesIn : ℕ → List ℕ → ℕ → List ℕ
+placesIn zero s p = []
+placesIn (suc fuel) s p = elim (leb (length s) p) [ true ↦ [] | false ↦ p ∷ placesIn fuel s (fieldEnd s p) ]
+
+unfoldable pub placesFrom : List ℕ → ℕ → List ℕ
+placesFrom s p = placesIn (suc (length s)) s p
+
+-- The places of all fields.
+abbrev pub places : List ℕ → List ℕ
+places s = placesFrom s 0
+
+-- The key of the entry at p: of a field of the first tag the kind that comes first, of any other the kind and name.
+unfoldable pub keyAt : ℕ → List ℕ → ℕ → ℕ
+keyAt first s p = cond (eqb (byteAt s p) first) (byteAt s (p + 3)) (32 + pairAt s (p + 3))
