@@ -60,3 +60,22 @@ fn read_at(
         }
     }
 }
+
+// A code of the kind at a position, of the language that the index is of.
+pub fn read(
+    syntax: Syntax,
+    language: &[u8],
+    index: &[u16],
+    arguments: &[u8],
+    kind: u8,
+    bytes: &[u8],
+    at: usize,
+    levels: usize,
+) -> Read
+    requires { ⌜ Sound (now index) (now language) × (kind < 32) × (at ≤ length (now bytes)) ⌝ }
+    ensures is { λ r. ⌜ ((l : Language) → Indexed (now (index .entry)) (now (language .entry)) l
+        → restAt (now (bytes .entry)) r ≡ restOf (readCode (syntaxOf syntax) l (now (arguments .entry)) levels kind (drop at (now (bytes .entry))))) ⌝ }
+    ensures within { λ r. ⌜ EndsBy (length (now (bytes .entry))) r ⌝ }
+{
+    read_at(syntax, language, index, arguments, kind, bytes, at, levels)
+}

@@ -70,14 +70,16 @@ operandsFrom f s zero q at = End at
 operandsFrom f s (suc m) q at =
     elim (f (getD s q 0) at) [ End e ↦ operandsFrom f s m (q + 1) e | Deep ↦ Deep | Broken ↦ Broken ]
 
+-- What a node comes to, where f reads its operands.
+abbrev pub follow : (ℕ → ℕ → Read) → List ℕ → Node → Read
+follow f s (Leaf r) = r
+follow f s (Operands q e to) = operandsFrom f s (e - q) q to
+
 -- A code of kind k at `at`, with so many levels left.
 unfoldable pub readAt : Syntax → List ℕ → List ℕ → List ℕ → List ℕ → ℕ → ℕ → ℕ → Read
 readAt x s index arguments b zero k at = Deep
 readAt x s index arguments b (suc n) k at =
-    elim (nodeAt x s index arguments k b at) [
-      | Leaf r ↦ r
-      | Operands q e to ↦ operandsFrom (readAt x s index arguments b n) s (e - q) q to
-    ]
+    follow (readAt x s index arguments b n) s (nodeAt x s index arguments k b at)
 
 -- A position that was reached lies in the bytes.
 abbrev pub EndsBy : ℕ → Read → Type 0
