@@ -5,10 +5,13 @@ use mathlib.Core.List.{List, [], _∷_}
 use mathlib.Core.Bool.{Bool, true, false, _&&_}
 use mathlib.Core.Option.{Option, none, some}
 use native.Mathlib.Omega.{arith}
-use lib.ListN.{length, getD, getElem?, take, drop, length-drop, drop-of-length-le}
+use native.Mathlib.Numerals.{add-one}
+use lib.ListN.{length, getD, getElem?, take, drop, length-take, length-drop, drop-of-length-le}
+use lib.Seq.{slice, slice-cons}
 use lib.Dec.{ltb, leb, eqb}
 use borrow.Author.Tests.{lt-ltb, le-ltb, le-leb, lt-leb, eq-eqb, ne-eqb, leb-true, leb-false, ltb-true, ltb-false, eqb-true, eqb-false}
 use Rattle.fields.specs.Fields.{pairAt}
+use Rattle.fields.specs.Inner.Places.{fieldEnd}
 use Rattle.fields.proofs.Lists.{by-test}
 use Rattle.fields.proofs.Split.{front}
 use Rattle.language.specs.Language.{Language, Range, rangeOf, argumentsOf, inRange, productionKey}
@@ -159,6 +162,13 @@ module _ (arguments : List ℕ) (k : ℕ) (b : List ℕ) (at : ℕ) where
   argument-same : restAt b (argumentAt arguments k b at) ≡ restOf (readArgument arguments k (drop at b))
   argument-same = by-test (leb (length b) at) (λ e. argument-end (leb-true _ _ e)) (λ e. argument-in (leb-false _ _ e))
 
+-- A part of a list, an element at a time.
+no-slice : (s : List ℕ) (q e : ℕ) → e ≤ q → slice q e s ≡ []
+no-slice s q e h = drop-of-length-le (take e s) {i = q} (rw length-take (omega arith))
+
+one-slice : (s : List ℕ) (q e : ℕ) → q < e → e ≤ length s → slice q e s ≡ getD s q 0 ∷ slice (q + 1) e s
+one-slice s q e h k = rw add-one (slice-cons q e s 0 h k)
+
 -- Operands, and what else stands at a level, where the levels below are read alike.
 module _ (s index arguments b : List ℕ) (l : Language) (z : Indexed index s l) (bytes : (i : ℕ) → getD b i 0 < 256)
     (f : ℕ → ℕ → Read) (g : ℕ → List ℕ → Meant.Read C.Code)
@@ -181,12 +191,15 @@ module _ (s index arguments b : List ℕ) (l : Language) (z : Indexed index s l)
   next Deep m q ks at y h ih = cc (deep-of (g (getD s q 0) (drop at b)) (sym h))
   next Broken m q ks at y h ih = cc (broken-of (g (getD s q 0) (drop at b)) (sym h))
 
-  operands-same : (m q at : ℕ) → KindsIn s q (q + m) → restAt b (operandsFrom f s m q at) ≡ restOf (readAll g (take m (drop q s)) (drop at b))
+  operands-same : (m q e at : ℕ) → e - q ≡ m → KindsIn s q e → restAt b (operandsFrom f s m q at) ≡ restOf (readAll g (slice q e s) (drop at b))
   unfolding operandsFrom readAll
-  operands-same zero q at h = refl
-  operands-same (suc m) q at h =
+  operands-same zero q e at y h = rw (no-slice s q e (omega arith))
+  operands-same (suc m) q e at y h =
       let i = h q (omega arith) (omega arith) in
-      rw (front s q (i .0)) (next (f (getD s q 0) at) m q (take m (drop (q + 1) s)) at refl (below (getD s q 0) at (i .1)) λ e. operands-same m (q + 1) e λ x j k. h x (omega arith) (omega arith))
+      let j = h (e - 1) (omega arith) (omega arith) in
+      rw (one-slice s q e (omega arith) (omega arith))
+      (next (f (getD s q 0) at) m q (slice (q + 1) e s) at refl (below (getD s q 0) at (i .1))
+      λ d. operands-same m (q + 1) e d (omega arith) λ x a c. h x (omega arith) c)
 
   -- A production name and its operands.
   name-end : (k at : ℕ) → length b ≤ at → restAt b (follow f s (nameAt s index k b at)) ≡ restOf (readNode g l k (drop at b))
@@ -195,17 +208,17 @@ module _ (s index arguments b : List ℕ) (l : Language) (z : Indexed index s l)
 
   name-found : (place k p at : ℕ) → place ≡ getD index (productionKey k p) 0 → k < 32 → p < 256
       → restAt b (follow f s (operandsAt s place at)) ≡ restOf (readOperands g k p (argumentsBefore s place) (drop at b))
-  unfolding operandsAt readOperands
+  unfolding operandsAt readOperands fieldEnd
   name-found zero k p at e h j = cc (eq-eqb 0 0 refl)
   name-found (suc q) k p at e h j =
       let pos : suc q ≡ 0 → ⊥ = λ w. omega arith in
       let from : suc q + 4 ≡ q + 5 = omega arith in
       let n : pairAt s (suc q) ≡ pairAt s (q + 1) = ap (pairAt s) (omega arith) in
-      let m : suc q + 2 + pairAt s (suc q) - (suc q + 4) ≡ pairAt s (q + 1) - 2 = omega arith in
+      let stop : suc q + 2 + pairAt s (suc q) ≡ q + 3 + pairAt s (q + 1) = omega arith in
       let w = Laws.kinds-in index s (z .sound) refl h j e pos refl in
-      rw (ne-eqb (suc q) 0 pos, m, from)
-      (operands-same (pairAt s (q + 1) - 2) (q + 5) at (λ x a c. w x (omega arith) (omega arith))
-      ∙ sym (made (λ t. node k p t) (readAll g (take (pairAt s (q + 1) - 2) (drop (q + 5) s)) (drop at b))))
+      rw (ne-eqb (suc q) 0 pos, stop, from)
+      (operands-same _ (q + 5) (q + 3 + pairAt s (q + 1)) at refl (λ x a c. w x (omega arith) (omega arith))
+      ∙ sym (made (λ t. node k p t) (readAll g (slice (q + 5) (q + 3 + pairAt s (q + 1)) s) (drop at b))))
 
   name-in : (k at : ℕ) → k < 32 → at < length b → restAt b (follow f s (nameAt s index k b at)) ≡ restOf (readNode g l k (drop at b))
   unfolding nameAt readNode

@@ -2,10 +2,14 @@
 -- where there is no such entry. A class of kind k is at k, production r.p at 32 + (r * 256 + p).
 use Prim.Native.Nat.{ℕ, zero, suc, _+_, _-_, _<_, _≤_}
 use mathlib.Core.Path.{_≡_}
-use mathlib.Core.List.{List}
+use mathlib.Core.Bool.{cond}
+use mathlib.Core.List.{List, [], _∷_}
 use mathlib.Core.Option.{Option, none, some}
-use lib.ListN.{length, getD, take, drop}
+use lib.ListN.{length, getD, set}
+use lib.Seq.{slice}
+use lib.Dec.{eqb}
 use Rattle.fields.specs.Fields.{pairAt}
+use Rattle.fields.specs.Inner.Places.{fieldEnd, keyAt}
 use Rattle.language.specs.Language.{Language, Range, rangeOf, argumentsOf, kindKey, productionKey}
 use Rattle.language.specs.LanguageFile.{entriesOf}
 use Rattle.reader.specs.Inner.Positions.{KindsIn}
@@ -18,7 +22,16 @@ rangeBefore s (suc p) = some (record { low = pairAt s (p + 4); high = pairAt s (
 -- The argument kinds in the field before `place`.
 abbrev pub argumentsBefore : List ℕ → ℕ → Option (List ℕ)
 argumentsBefore s zero = none
-argumentsBefore s (suc p) = some (take (pairAt s (p + 1) - 2) (drop (p + 5) s))
+argumentsBefore s (suc p) = some (slice (p + 5) (fieldEnd s p) s)
+
+-- The index with a value at a key that has none yet.
+unfoldable pub putAt : List ℕ → ℕ → ℕ → List ℕ
+putAt index key v = cond (eqb (getD index key 0) 0) (set index key v) index
+
+-- The index with the entries at places put in, one after the other.
+unfoldable pub putAll : List ℕ → List ℕ → List ℕ → List ℕ
+putAll s index [] = index
+putAll s index (p ∷ l) = putAll s (putAt index (keyAt 0x11 s p) (p + 1)) l
 
 -- What a lookup may rely on: each place is that of a whole field.
 pub record Sound (index s : List ℕ) : Type 0 where
