@@ -1,11 +1,13 @@
 -- Laws of the words on lists, one element at a time.
-use Prim.Native.Nat.{ℕ, suc, _<_, _≤_}
+use Prim.Native.Nat.{ℕ, zero, suc, _+_, _-_, _<_, _≤_}
 use mathlib.Core.Path.{_≡_, refl, sym, ap, _∙_}
 use mathlib.Core.Bool.{Bool, true, false, cond, _&&_, _||_}
 use mathlib.Core.List.{List, [], _∷_, map}
 use mathlib.Core.Option.{Option, none, some}
 use native.Mathlib.Omega.{arith}
-use lib.Dec.{ltb, leb, eqb}
+use native.Mathlib.Numerals.{add-one}
+use lib.ListN.{length, getD, take, drop, length-take, drop-of-length-le}
+use lib.Seq.{slice, slice-cons, take-add, drop-at, drop-drop, length-take-le}
 use borrow.Author.Tests.{le-leb, lt-leb}
 use Rattle.fields.specs.Lists.{all, any, traverse, before, isSome}
 use Rattle.fields.specs.Keyed.{rising, risingFrom}
@@ -82,3 +84,21 @@ cond-some false a = refl
 pub cond-is : {A : Type 0} (b : Bool) (a c : A) → cond b (some a) none ≡ some c → (b ≡ true) × (a ≡ c)
 cond-is true a c e = (refl, cc)
 cond-is false a c e = let z : _≡_ {A = ℕ} 0 1 = cc in absurd (omega arith)
+
+-- The n bytes from q on are a part, and so is that part past its first m.
+pub part-is : (s : List ℕ) (q n : ℕ) → q ≤ length s → take n (drop q s) ≡ slice q (q + n) s
+part-is s q n h = sym (ap (drop q) (take-add q n s) ∙ drop-at (take q s) (take n (drop q s)) q (length-take-le q s h))
+
+pub part-past : (s : List ℕ) (q e m : ℕ) → drop m (slice q e s) ≡ slice (q + m) e s
+part-past s q e m = drop-drop m q (take e s)
+
+slice-done : (s : List ℕ) (q e : ℕ) → e ≤ q → slice q e s ≡ []
+slice-done s q e h = drop-of-length-le (take e s) {i = q} (simp length-take (omega arith))
+
+-- A pass of the code over the bytes from q up to e, that comes to x in all: at the end, and at a byte.
+module _ {X : Type 0} (pass : List ℕ → X) (s : List ℕ) (q e : ℕ) (x : X) (inv : pass (slice q e s) ≡ x) where
+  pub part-done : e ≤ q → pass [] ≡ x
+  part-done h = rw (slice-done s q e h) at inv
+
+  pub part-next : q < e → e ≤ length s → pass (getD s q 0 ∷ slice (q + 1) e s) ≡ x
+  part-next h k = rw add-one (rw (slice-cons q e s 0 h k) at inv)

@@ -1,0 +1,97 @@
+-- A law for each return, and for each turn of a loop, of the functions on entries.
+use Prim.Native.Nat.{ℕ, suc, _+_, _-_, _<_, _≤_}
+use mathlib.Core.Path.{_≡_, refl, sym, ap, _∙_}
+use mathlib.Core.Bool.{Bool, true, false}
+use mathlib.Core.List.{List, [], _∷_}
+use native.Mathlib.Omega.{arith}
+use lib.ListN.{length, getD}
+use lib.Seq.{slice}
+use lib.Dec.{leb}
+use borrow.Author.Tests.{lt-ltb, le-ltb, le-leb, lt-leb, eq-eqb, ne-eqb}
+use Rattle.fields.specs.Lists.{all}
+use Rattle.fields.specs.Fields.{pairAt}
+use Rattle.fields.specs.Inner.Places.{fieldEnd, isWhole, placesFrom}
+use Rattle.fields.proofs.Lists.{all-stop, all-next, part-done, part-next}
+use Rattle.fields.proofs.Places.{pass-done, pass-next}
+use Rattle.language.specs.LanguageFile.{isKind}
+use Rattle.language.specs.Inner.Entries.{sizeAt, classWhole, productionWhole, entryGood, entryWhole}
+
+-- kinds_only
+module _ (s : List ℕ) (q e : ℕ) (x : Bool) (inv : all isKind (slice q e s) ≡ x) where
+  pub kinds-done : e ≤ q → true ≡ x
+  unfolding all
+  kinds-done h = part-done (all isKind) s q e x inv h
+
+  module _ (fits : e ≤ length s) (here : q < e) where
+    pub kinds-stop : 32 ≤ getD s q 0 → false ≡ x
+    kinds-stop h = all-stop isKind (getD s q 0) _ (part-next (all isKind) s q e x inv here fits) (le-ltb _ _ h)
+
+    pub kinds-next : getD s q 0 < 32 → all isKind (slice (q + 1) e s) ≡ x
+    kinds-next h = all-next isKind (getD s q 0) _ (part-next (all isKind) s q e x inv here fits) (lt-ltb _ _ h)
+
+-- class_whole and production_whole: n is the length of the contents, k the first byte of it
+module _ (s : List ℕ) (p n k : ℕ) (en : n ≡ sizeAt s p) (ek : k ≡ getD s (p + 3) 0) where
+  pub class-size : (n ≡ 5 → ⊥) → false ≡ classWhole s p
+  unfolding classWhole
+  class-size h = cc (ne-eqb n 5 h)
+
+  pub class-kind : n ≡ 5 → 32 ≤ k → false ≡ classWhole s p
+  unfolding classWhole
+  class-kind h j = cc (eq-eqb n 5 h, le-ltb k 32 j)
+
+  pub class-range : n ≡ 5 → k < 32 → (x y : ℕ) → x ≡ pairAt s (p + 4) → y ≡ pairAt s (p + 6) → leb x y ≡ classWhole s p
+  unfolding classWhole
+  class-range h j x y ex ey = cc (eq-eqb n 5 h, lt-ltb k 32 j)
+
+  pub production-short : n < 2 → false ≡ productionWhole s p
+  unfolding productionWhole
+  production-short h = cc (lt-leb 2 n h)
+
+  pub production-long : 2 ≤ n → 10 < n → false ≡ productionWhole s p
+  unfolding productionWhole
+  production-long h j = cc (le-leb 2 n h, lt-leb n 10 j)
+
+  pub production-kind : 2 ≤ n → n ≤ 10 → 32 ≤ k → false ≡ productionWhole s p
+  unfolding productionWhole
+  production-kind h j i = cc (le-leb 2 n h, le-leb n 10 j, le-ltb k 32 i)
+
+  pub production-kinds : 2 ≤ n → n ≤ 10 → k < 32 → (x : Bool) → x ≡ all isKind (slice (p + 5) (p + 3 + n) s) → x ≡ productionWhole s p
+  unfolding productionWhole fieldEnd
+  production-kinds h j i x ex = cc (le-leb 2 n h, le-leb n 10 j, lt-ltb k 32 i)
+
+-- entry_whole
+module _ (s : List ℕ) (p e tag : ℕ) (x : Bool) (ee : e ≡ fieldEnd s p) where
+  pub entry-cut : length s < e → false ≡ entryWhole s p
+  unfolding entryWhole isWhole
+  entry-cut h = cc (lt-leb e (length s) h)
+
+  module _ (et : tag ≡ getD s p 0) (fits : e ≤ length s) where
+    pub entry-class : tag ≡ 0x11 → x ≡ classWhole s p → x ≡ entryWhole s p
+    unfolding entryWhole isWhole entryGood
+    entry-class h ex = cc (le-leb e (length s) fits, eq-eqb tag 0x11 h)
+
+    pub entry-production : (tag ≡ 0x11 → ⊥) → tag ≡ 0x12 → x ≡ productionWhole s p → x ≡ entryWhole s p
+    unfolding entryWhole isWhole entryGood
+    entry-production k h ex = cc (le-leb e (length s) fits, ne-eqb tag 0x11 k, eq-eqb tag 0x12 h)
+
+    pub entry-other : (tag ≡ 0x11 → ⊥) → (tag ≡ 0x12 → ⊥) → false ≡ entryWhole s p
+    unfolding entryWhole isWhole entryGood
+    entry-other k h = cc (le-leb e (length s) fits, ne-eqb tag 0x11 k, ne-eqb tag 0x12 h)
+
+-- the length of the contents, of the field's end
+pub size-of : (s : List ℕ) (p e : ℕ) → e ≡ fieldEnd s p → e - p - 3 ≡ sizeAt s p
+unfolding fieldEnd
+size-of s p e h = omega arith
+
+-- entries_whole
+module _ (s : List ℕ) (p : ℕ) (x : Bool) (inv : all (entryWhole s) (placesFrom s p) ≡ x) where
+  pub entries-done : length s ≤ p → true ≡ x
+  unfolding all
+  entries-done h = pass-done (all (entryWhole s)) s p x inv h
+
+  module _ (b : Bool) (eb : b ≡ entryWhole s p) (end : ℕ) (ee : end ≡ fieldEnd s p) (here : p < length s) where
+    pub entries-stop : b ≡ false → false ≡ x
+    entries-stop h = all-stop (entryWhole s) p _ (pass-next (all (entryWhole s)) s p x inv end here ee) (sym eb ∙ h)
+
+    pub entries-next : b ≡ true → all (entryWhole s) (placesFrom s end) ≡ x
+    entries-next h = all-next (entryWhole s) p _ (pass-next (all (entryWhole s)) s p x inv end here ee) (sym eb ∙ h)

@@ -1,0 +1,73 @@
+-- The entries of a language by their places, as the code reads them.
+-- `proofs/Entries.antt` shows that they are the entries of `entriesOf`.
+use Prim.Native.Nat.{ℕ, zero, suc, _+_, _-_, _<_, _≤_}
+use mathlib.Core.Path.{_≡_}
+use mathlib.Core.Bool.{Bool, true, false, cond, _&&_}
+use mathlib.Core.List.{List, [], _∷_, map}
+use mathlib.Core.Option.{Option, some}
+use lib.ListN.{length, getD, drop, set, replicate}
+use lib.Seq.{slice}
+use lib.Dec.{leb, eqb}
+use Rattle.fields.specs.Lists.{all, any}
+use Rattle.fields.specs.Fields.{byteAt, pairAt}
+use Rattle.fields.specs.Inner.Places.{fieldEnd, isWhole, places}
+use Rattle.language.specs.Language.{Entry, class, production, Language}
+use Rattle.language.specs.LanguageFile.{isKind, entriesOf}
+
+-- The length of the contents of the field at p.
+abbrev pub sizeAt : List ℕ → ℕ → ℕ
+sizeAt s p = pairAt s (p + 1)
+
+-- The contents of the field at p are those of a class.
+unfoldable pub classWhole : List ℕ → ℕ → Bool
+classWhole s p =
+    eqb (sizeAt s p) 5 && (isKind (byteAt s (p + 3)) && leb (pairAt s (p + 4)) (pairAt s (p + 6)))
+
+-- The contents of the field at p are those of a production.
+unfoldable pub productionWhole : List ℕ → ℕ → Bool
+productionWhole s p =
+    leb 2 (sizeAt s p)
+    && (leb (sizeAt s p) 10 && (isKind (byteAt s (p + 3)) && all isKind (slice (p + 5) (fieldEnd s p) s)))
+
+-- The whole field at p is an entry.
+unfoldable pub entryGood : List ℕ → ℕ → Bool
+entryGood s p =
+    cond (eqb (byteAt s p) 0x11) (classWhole s p)
+    (cond (eqb (byteAt s p) 0x12) (productionWhole s p) false)
+
+-- The field at p is whole, and an entry.
+unfoldable pub entryWhole : List ℕ → ℕ → Bool
+entryWhole s p = isWhole s p && entryGood s p
+
+-- The entry at p.
+unfoldable pub entryAt : List ℕ → ℕ → Entry
+entryAt s p =
+    cond (eqb (byteAt s p) 0x11)
+    (class (byteAt s (p + 3)) (pairAt s (p + 4)) (pairAt s (p + 6)))
+    (production (byteAt s (p + 3)) (byteAt s (p + 4)) (slice (p + 5) (fieldEnd s p) s))
+
+-- The bytes s hold the entries l, one at each place.
+pub record Holds (s : List ℕ) (l : Language) : Type 0 where
+  pub entries : map (entryAt s) (places s) ≡ l
+  pub whole : all (entryWhole s) (places s) ≡ true
+
+-- The table of kinds with the class at p marked in it.
+unfoldable pub markClass : List ℕ → List Bool → ℕ → List Bool
+markClass s kinds p = cond (eqb (byteAt s p) 0x11) (set kinds (byteAt s (p + 3)) true) kinds
+
+-- The table of kinds with the classes at places marked in it.
+unfoldable pub markClasses : List ℕ → List Bool → List ℕ → List Bool
+markClasses s kinds [] = kinds
+markClasses s kinds (p ∷ l) = markClasses s (markClass s kinds p) l
+
+-- Which kinds are classes.
+unfoldable pub classKinds : List ℕ → List Bool
+classKinds s = markClasses s (replicate 32 false) (places s)
+
+-- The entry at p is a production whose result is marked in the table.
+unfoldable pub resultMarked : List ℕ → List Bool → ℕ → Bool
+resultMarked s kinds p = eqb (byteAt s p) 0x12 && getD kinds (byteAt s (p + 3)) false
+
+-- Some result is a class.
+unfoldable pub resultIsClass : List ℕ → Bool
+resultIsClass s = any (resultMarked s (classKinds s)) (places s)

@@ -1,0 +1,29 @@
+// The operation on languages.
+ghost use mathlib.Core.Path.{_≡_};
+ghost use Rattle.language.specs.Operations.{checkLanguage};
+use fields::outcome::accept;
+use fields::outcome::refuse;
+use fields::outcome::Answer;
+use fields::outcome::Reason;
+use fields::walk::keys_rise;
+use super::clash::result_is_class;
+use super::entries::entries_whole;
+
+// Check a language: the lowest refusal of 1 to 4 that applies, or accepted.
+pub fn check_language(language: &[u8]) -> Answer
+    ensures { λ r. ⌜ r .outcome ≡ checkLanguage (now (language .entry)) ⌝ }
+{
+    if 1024 < language.len() {
+        return refuse(Reason::TooLong);
+    }
+    if !entries_whole(language) {
+        return refuse(Reason::Broken);
+    }
+    if !keys_rise(language, 0x11) {
+        return refuse(Reason::Order);
+    }
+    if result_is_class(language) {
+        return refuse(Reason::Clash);
+    }
+    accept(0)
+}
