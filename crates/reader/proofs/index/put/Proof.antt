@@ -1,3 +1,4 @@
+use Rattle.reader.proofs.Lookup.{put-out, put-not, put-in}
 use borrow.Author.Needs.{needs}
 use Rattle.reader.proofs.index.put.Statement.{statement}
 use Rattle.reader.proofs.index.put.Tie as tie
@@ -6,7 +7,7 @@ use Rattle.reader.proofs.index.put.Lts as lts
 
 -- src/index.rt:15:9
 returns : tie.Need-returns
-returns c = ?
+returns c = put-out _ _ _ (c .if1 .taken)
 
 -- src/index.rt:17:8
 mul-if2 : tie.Need-mul-if2
@@ -18,7 +19,7 @@ slice-read-if2 c = search needs
 
 -- src/index.rt:18:9
 returns-2 : tie.Need-returns-2
-returns-2 c = ?
+returns-2 c = put-not _ _ _ (c .if2 .taken)
 
 -- src/index.rt:20:5
 mul-index : tie.Need-mul-index
@@ -34,7 +35,7 @@ same-length c = search needs
 
 -- src/index.rt:11:1
 returns-3 : tie.Need-returns-3
-returns-3 c = ?
+returns-3 c = put-in _ _ _ (c .if2 .left)
 
 pub put-spec : {M : Type 1} → statement M
 put-spec =
