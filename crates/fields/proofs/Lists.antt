@@ -59,12 +59,59 @@ unfolding all
 all-and f g [] = refl
 all-and f g (a ∷ l) = ap (λ (b : Bool). (f a && g a) && b) (all-and f g l) ∙ and-four (f a) (g a) (all f l) (all g l)
 
+-- Both of two tests hold where their conjunction does.
+pub and-true : (a b : Bool) → a && b ≡ true → (a ≡ true) × (b ≡ true)
+and-true true b e = (refl, e)
+and-true false b e = true-not-false (sym e)
+
 -- The first passes, and all others, where all do.
 pub all-true : {A : Type 0} (f : A → Bool) (a : A) (l : List A) → all f (a ∷ l) ≡ true → (f a ≡ true) × (all f l ≡ true)
 all-true f a l e =
     by-test (f a)
     (λ h. (h, all-next f a l e h))
     (λ h. true-not-false (sym (all-stop f a l e h)))
+
+-- Some element passes: of a mapped list, of tests that agree where another holds, of the test that none passes.
+pub any-map : {A B : Type 0} (f : B → Bool) (g : A → B) (l : List A) → any f (map g l) ≡ any (λ a. f (g a)) l
+unfolding any
+any-map f g [] = refl
+any-map f g (a ∷ l) = ap (λ (b : Bool). f (g a) || b) (any-map f g l)
+
+pub any-same : {A : Type 0} (ok f g : A → Bool) → ((a : A) → ok a ≡ true → f a ≡ g a) → (l : List A) → all ok l ≡ true → any f l ≡ any g l
+unfolding any
+any-same ok f g same [] h = refl
+any-same ok f g same (a ∷ l) h =
+    let w = all-true ok a l h in
+    rw (same a (w .0), any-same ok f g same l (w .1))
+
+pub any-none : {A : Type 0} (l : List A) → any (λ a. false) l ≡ false
+unfolding any
+any-none [] = refl
+any-none (a ∷ l) = any-none l
+
+-- Whether a pair of elements of two lists passes does not depend on which list is gone through first.
+or-four : (a b c d : Bool) → (a || b) || (c || d) ≡ (a || c) || (b || d)
+or-four true b c d = refl
+or-four false true true d = refl
+or-four false true false d = refl
+or-four false false c d = refl
+
+any-or : {A : Type 0} (f g : A → Bool) (l : List A) → any (λ a. f a || g a) l ≡ any f l || any g l
+unfolding any
+any-or f g [] = refl
+any-or f g (a ∷ l) = ap (λ (b : Bool). (f a || g a) || b) (any-or f g l) ∙ or-four (f a) (g a) (any f l) (any g l)
+
+pub any-swap : {A B : Type 0} (f : A → B → Bool) (l : List A) (m : List B) → any (λ a. any (f a) m) l ≡ any (λ b. any (λ a. f a b) l) m
+unfolding any
+any-swap f [] m = sym (any-none m)
+any-swap f (a ∷ l) m = ap (λ (b : Bool). any (f a) m || b) (any-swap f l m) ∙ sym (any-or (f a) (λ b. any (λ c. f c b) l) m)
+
+-- Keys of a mapped list.
+pub rising-map : {A B : Type 0} (key : B → ℕ) (g : A → B) (mine : A → ℕ) → ((a : A) → key (g a) ≡ mine a) → (n : ℕ) (l : List A)
+    → risingFrom key n (map g l) ≡ risingFrom mine n l
+unfolding risingFrom
+rising-map key g mine same n [] = refl
+rising-map key g mine same n (a ∷ l) = rw (same a, rising-map key g mine same (suc (mine a)) l)
 
 -- A value in front of more, that are there under a condition.
 before-cond : {A : Type 0} (a : A) (b : Bool) (l : List A) → before (some a) (cond b (some l) none) ≡ cond b (some (a ∷ l)) none

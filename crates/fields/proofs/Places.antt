@@ -13,7 +13,7 @@ use borrow.Author.Tests.{lt-ltb, le-ltb, le-leb, lt-leb, eq-eqb, ne-eqb, leb-tru
 use Rattle.fields.specs.Lists.{all, any, traverse, before, isSome}
 use Rattle.fields.specs.Fields.{Field, field, pairAt, splitFields, fieldsOf}
 use Rattle.fields.specs.Inner.Places.{fieldEnd, isWhole, contentsAt, fieldAt, placesIn, placesFrom, places, keyAt}
-use Rattle.fields.proofs.Lists.{by-test, before-conds}
+use Rattle.fields.proofs.Lists.{by-test, all-stop, all-next, all-true, any-stop, any-next}
 
 -- A field's end lies past its place.
 pub end-past : (s : List ℕ) (p : ℕ) → p + 3 ≤ fieldEnd s p
@@ -63,3 +63,34 @@ module _ {X : Type 0} (pass : List ℕ → X) (s : List ℕ) (p : ℕ) (x : X) (
 
   pub pass-next : (end : ℕ) → p < length s → end ≡ fieldEnd s p → pass (p ∷ placesFrom s end) ≡ x
   pass-next end h e = rw e (rw (places-next s p h) at inv)
+
+-- A pass that asks whether every place passes the test f, and one that asks whether some place does.
+module _ (f : ℕ → Bool) (s : List ℕ) (p : ℕ) (x : Bool) where
+  module _ (inv : all f (placesFrom s p) ≡ x) where
+    pub every-done : length s ≤ p → true ≡ x
+    unfolding all
+    every-done h = pass-done (all f) s p x inv h
+
+    module _ (b : Bool) (eb : b ≡ f p) (end : ℕ) (ee : end ≡ fieldEnd s p) (here : p < length s) where
+      pub every-stop : b ≡ false → false ≡ x
+      every-stop h = all-stop f p _ (pass-next (all f) s p x inv end here ee) (sym eb ∙ h)
+
+      pub every-next : b ≡ true → all f (placesFrom s end) ≡ x
+      every-next h = all-next f p _ (pass-next (all f) s p x inv end here ee) (sym eb ∙ h)
+
+  module _ (inv : any f (placesFrom s p) ≡ x) where
+    pub some-done : length s ≤ p → false ≡ x
+    unfolding any
+    some-done h = pass-done (any f) s p x inv h
+
+    module _ (b : Bool) (eb : b ≡ f p) (end : ℕ) (ee : end ≡ fieldEnd s p) (here : p < length s) where
+      pub some-stop : b ≡ true → true ≡ x
+      some-stop h = any-stop f p _ (pass-next (any f) s p x inv end here ee) (sym eb ∙ h)
+
+      pub some-next : b ≡ false → any f (placesFrom s end) ≡ x
+      some-next h = any-next f p _ (pass-next (any f) s p x inv end here ee) (sym eb ∙ h)
+
+-- Where every place from p on passes, the one at p does, and every further one.
+pub every-here : (f : ℕ → Bool) (s : List ℕ) (p : ℕ) → all f (placesFrom s p) ≡ true → p < length s
+    → (f p ≡ true) × (all f (placesFrom s (fieldEnd s p)) ≡ true)
+every-here f s p inv here = all-true f p _ (pass-next (all f) s p true inv (fieldEnd s p) here refl)

@@ -1,3 +1,6 @@
 pub mod Holds
 pub mod Returns
 pub mod Marks
+pub mod Facts
+pub mod Clashes
+pub mod Chain

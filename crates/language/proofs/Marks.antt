@@ -8,7 +8,6 @@ use lib.Seq.{set-out}
 use borrow.Author.Tests.{eq-eqb, ne-eqb}
 use Rattle.fields.specs.Lists.{any}
 use Rattle.fields.specs.Inner.Places.{fieldEnd, placesFrom, places}
-use Rattle.fields.proofs.Lists.{any-stop, any-next}
 use Rattle.fields.proofs.Places.{pass-done, pass-next}
 use Rattle.language.specs.Inner.Entries.{markClass, markClasses, classKinds, resultMarked, resultIsClass}
 
@@ -53,15 +52,3 @@ pub results-start : (s : List ℕ) (kinds : List Bool) → kinds ≡ markClasses
     → any (resultMarked s kinds) (places s) ≡ resultIsClass s
 unfolding resultIsClass classKinds
 results-start s kinds e = rw e
-
-module _ (s : List ℕ) (p : ℕ) (kinds : List Bool) (x : Bool) (inv : any (resultMarked s kinds) (placesFrom s p) ≡ x) where
-  pub results-done : length s ≤ p → false ≡ x
-  unfolding any
-  results-done h = pass-done (any (resultMarked s kinds)) s p x inv h
-
-  module _ (b : Bool) (eb : b ≡ resultMarked s kinds p) (end : ℕ) (ee : end ≡ fieldEnd s p) (here : p < length s) where
-    pub results-stop : b ≡ true → true ≡ x
-    results-stop h = any-stop (resultMarked s kinds) p _ (pass-next (any (resultMarked s kinds)) s p x inv end here ee) (sym eb ∙ h)
-
-    pub results-next : b ≡ false → any (resultMarked s kinds) (placesFrom s end) ≡ x
-    results-next h = any-next (resultMarked s kinds) p _ (pass-next (any (resultMarked s kinds)) s p x inv end here ee) (sym eb ∙ h)

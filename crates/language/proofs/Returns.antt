@@ -10,9 +10,8 @@ use lib.Dec.{leb}
 use borrow.Author.Tests.{lt-ltb, le-ltb, le-leb, lt-leb, eq-eqb, ne-eqb}
 use Rattle.fields.specs.Lists.{all}
 use Rattle.fields.specs.Fields.{pairAt}
-use Rattle.fields.specs.Inner.Places.{fieldEnd, isWhole, placesFrom}
+use Rattle.fields.specs.Inner.Places.{fieldEnd, isWhole}
 use Rattle.fields.proofs.Lists.{all-stop, all-next, part-done, part-next}
-use Rattle.fields.proofs.Places.{pass-done, pass-next}
 use Rattle.language.specs.LanguageFile.{isKind}
 use Rattle.language.specs.Inner.Entries.{sizeAt, classWhole, productionWhole, entryGood, entryWhole}
 
@@ -82,16 +81,3 @@ module _ (s : List ℕ) (p e tag : ℕ) (x : Bool) (ee : e ≡ fieldEnd s p) whe
 pub size-of : (s : List ℕ) (p e : ℕ) → e ≡ fieldEnd s p → e - p - 3 ≡ sizeAt s p
 unfolding fieldEnd
 size-of s p e h = omega arith
-
--- entries_whole
-module _ (s : List ℕ) (p : ℕ) (x : Bool) (inv : all (entryWhole s) (placesFrom s p) ≡ x) where
-  pub entries-done : length s ≤ p → true ≡ x
-  unfolding all
-  entries-done h = pass-done (all (entryWhole s)) s p x inv h
-
-  module _ (b : Bool) (eb : b ≡ entryWhole s p) (end : ℕ) (ee : end ≡ fieldEnd s p) (here : p < length s) where
-    pub entries-stop : b ≡ false → false ≡ x
-    entries-stop h = all-stop (entryWhole s) p _ (pass-next (all (entryWhole s)) s p x inv end here ee) (sym eb ∙ h)
-
-    pub entries-next : b ≡ true → all (entryWhole s) (placesFrom s end) ≡ x
-    entries-next h = all-next (entryWhole s) p _ (pass-next (all (entryWhole s)) s p x inv end here ee) (sym eb ∙ h)

@@ -1,13 +1,13 @@
 // The operation on languages.
 ghost use mathlib.Core.Path.{_≡_};
 ghost use Rattle.language.specs.Operations.{checkLanguage};
-use fields::outcome::accept;
-use fields::outcome::refuse;
-use fields::outcome::Answer;
-use fields::outcome::Reason;
-use fields::walk::keys_rise;
 use super::clash::result_is_class;
 use super::entries::entries_whole;
+use fields::outcome::Answer;
+use fields::outcome::Reason;
+use fields::outcome::accept;
+use fields::outcome::refuse;
+use fields::walk::keys_rise;
 
 // Check a language: the lowest refusal of 1 to 4 that applies, or accepted.
 pub fn check_language(language: &[u8]) -> Answer

@@ -46,6 +46,23 @@ entryAt s p =
     (class (byteAt s (p + 3)) (pairAt s (p + 4)) (pairAt s (p + 6)))
     (production (byteAt s (p + 3)) (byteAt s (p + 4)) (slice (p + 5) (fieldEnd s p) s))
 
+-- The field at p is a whole class.
+pub record IsClass (s : List ℕ) (p : ℕ) : Type 0 where
+  pub tag : byteAt s p ≡ 0x11
+  pub fits : fieldEnd s p ≤ length s
+  pub size : sizeAt s p ≡ 5
+  pub kind : byteAt s (p + 3) < 32
+  pub range : pairAt s (p + 4) ≤ pairAt s (p + 6)
+
+-- The field at p is a whole production.
+pub record IsProduction (s : List ℕ) (p : ℕ) : Type 0 where
+  pub tag : byteAt s p ≡ 0x12
+  pub fits : fieldEnd s p ≤ length s
+  pub two : 2 ≤ sizeAt s p
+  pub ten : sizeAt s p ≤ 10
+  pub kind : byteAt s (p + 3) < 32
+  pub arguments : all isKind (slice (p + 5) (fieldEnd s p) s) ≡ true
+
 -- The bytes s hold the entries l, one at each place.
 pub record Holds (s : List ℕ) (l : Language) : Type 0 where
   pub entries : map (entryAt s) (places s) ≡ l

@@ -18,31 +18,12 @@ Inv-loop s kinds₀ p₀ kinds p = (length kinds ≡ length kinds₀) × (markCl
 abbrev μ-loop : tie.MeasureT-loop
 μ-loop s kinds₀ p₀ kinds p = length s - p
 
--- src/clash.rt:31:5
 loop-holds : tie.Need-loop-holds Inv-loop μ-loop
 loop-holds c = (refl, refl)
 
--- src/clash.rt:32:9
-mark-class-requires : tie.Need-mark-class-requires Inv-loop μ-loop
-mark-class-requires c κs = search needs
-
--- src/clash.rt:33:9
-field-end-requires : tie.Need-field-end-requires Inv-loop μ-loop
-field-end-requires c κs = search needs
-
--- src/clash.rt:31:5
-loop-less : tie.Need-loop-less Inv-loop μ-loop
-loop-less c = search needs
-
--- src/clash.rt:31:5
 loop-again : tie.Need-loop-again Inv-loop μ-loop
 loop-again c = (search needs, marks-next _ _ _ _ (c .before .before .before .before .before .before .loop .inv .1) _ (c .before .before .before .mark-class .ensures) _ (c .field-end .ensures .is) (c .before .before .before .before .before .loop-test .taken))
 
--- src/clash.rt:27:1
-same-length : tie.Need-same-length Inv-loop μ-loop
-same-length c = search needs
-
--- src/clash.rt:27:1
 returns : tie.Need-returns Inv-loop μ-loop
 returns c = marks-done _ _ _ _ (c .before .loop .inv .1) (c .loop-test .left)
 
@@ -53,9 +34,9 @@ mark-classes-spec =
     Inv-loop
     μ-loop
     loop-holds
-    mark-class-requires
-    field-end-requires
-    loop-less
+    (λ c κs. search needs)
+    (λ c κs. search needs)
+    (λ c. search needs)
     loop-again
-    same-length
+    (λ c. search needs)
     returns)

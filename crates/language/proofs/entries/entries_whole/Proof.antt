@@ -8,7 +8,7 @@ use Rattle.fields.specs.Inner.Places.{placesFrom}
 use Rattle.language.specs.LanguageFile.{entriesOf}
 use Rattle.language.specs.Inner.Entries.{entryWhole}
 use Rattle.language.proofs.Holds.{entries-there}
-use Rattle.language.proofs.Returns.{entries-done, entries-stop, entries-next}
+use Rattle.fields.proofs.Places.{every-done, every-stop, every-next}
 use Rattle.language.proofs.entries.entries_whole.Statement.{statement}
 use Rattle.language.proofs.entries.entries_whole.Tie as tie
 use Rattle.language.proofs.entries.entries_whole.Reads as reads
@@ -22,33 +22,17 @@ Inv-loop s p₀ p = all (entryWhole s) (placesFrom s p) ≡ isSome (entriesOf s)
 abbrev μ-loop : tie.MeasureT-loop
 μ-loop s p₀ p = length s - p
 
--- src/entries.rt:83:5
 loop-holds : tie.Need-loop-holds Inv-loop μ-loop
 loop-holds c = entries-there _
 
--- src/entries.rt:84:13
-field-end-requires : tie.Need-field-end-requires Inv-loop μ-loop
-field-end-requires c κs = search needs
-
--- src/entries.rt:85:13
-entry-whole-requires : tie.Need-entry-whole-requires Inv-loop μ-loop
-entry-whole-requires c κs = search needs
-
--- src/entries.rt:86:13
 returns : tie.Need-returns Inv-loop μ-loop
-returns c = entries-stop _ _ _ (c .before .before .before .before .loop .inv) _ (c .before .entry-whole .ensures) _ (c .before .before .field-end .ensures .is) (c .before .before .before .loop-test .taken) (not-true _ (c .if1 .taken))
+returns c = every-stop _ _ _ _ (c .before .before .before .before .loop .inv) _ (c .before .entry-whole .ensures) _ (c .before .before .field-end .ensures .is) (c .before .before .before .loop-test .taken) (not-true _ (c .if1 .taken))
 
--- src/entries.rt:83:5
-loop-less : tie.Need-loop-less Inv-loop μ-loop
-loop-less c = search needs
-
--- src/entries.rt:83:5
 loop-again : tie.Need-loop-again Inv-loop μ-loop
-loop-again c = entries-next _ _ _ (c .before .before .before .before .loop .inv) _ (c .before .entry-whole .ensures) _ (c .before .before .field-end .ensures .is) (c .before .before .before .loop-test .taken) (not-false _ (c .if1 .left))
+loop-again c = every-next _ _ _ _ (c .before .before .before .before .loop .inv) _ (c .before .entry-whole .ensures) _ (c .before .before .field-end .ensures .is) (c .before .before .before .loop-test .taken) (not-false _ (c .if1 .left))
 
--- src/entries.rt:79:1
 returns-2 : tie.Need-returns-2 Inv-loop μ-loop
-returns-2 c = entries-done _ _ _ (c .before .loop .inv) (c .loop-test .left)
+returns-2 c = every-done _ _ _ _ (c .before .loop .inv) (c .loop-test .left)
 
 pub entries-whole-spec : {M : Type 1} → statement M
 entries-whole-spec =
@@ -57,9 +41,9 @@ entries-whole-spec =
     Inv-loop
     μ-loop
     loop-holds
-    field-end-requires
-    entry-whole-requires
+    (λ c κs. search needs)
+    (λ c κs. search needs)
     returns
-    loop-less
+    (λ c. search needs)
     loop-again
     returns-2)

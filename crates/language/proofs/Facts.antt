@@ -1,0 +1,72 @@
+-- What is known of a whole entry: which of the two it is, its key, and the entry itself.
+use Prim.Native.Nat.{ℕ, _+_, _*_, _-_, _<_, _≤_}
+use mathlib.Core.Path.{_≡_, refl, sym, ap, _∙_}
+use mathlib.Core.Logic.{_⊎_, ⊎-elim, inl, inr}
+use mathlib.Core.Bool.{Bool, true, false, cond, _&&_}
+use mathlib.Core.List.{List}
+use native.Mathlib.Omega.{arith}
+use lib.ListN.{length, getD}
+use lib.Seq.{slice}
+use lib.Dec.{ltb, leb, eqb}
+use borrow.Author.Tests.{eq-eqb, leb-true, ltb-true, eqb-true, eqb-false}
+use Rattle.fields.specs.Lists.{all}
+use Rattle.fields.specs.Fields.{pairAt}
+use Rattle.fields.specs.Inner.Places.{fieldEnd, isWhole, keyAt}
+use Rattle.fields.proofs.Lists.{by-test, and-true, true-not-false}
+use Rattle.language.specs.Language.{Entry, class, production, entryKey}
+use Rattle.language.specs.LanguageFile.{isKind}
+use Rattle.language.specs.Inner.Entries.{sizeAt, classWhole, productionWhole, entryGood, entryWhole, entryAt, IsClass, IsProduction}
+
+module _ (s : List ℕ) (p : ℕ) where
+  class-facts : isWhole s p ≡ true → getD s p 0 ≡ 0x11 → classWhole s p ≡ true → IsClass s p
+  unfolding isWhole classWhole
+  class-facts w t h =
+      let a = and-true _ _ h in
+      let b = and-true _ _ (a .1) in
+      record { tag = t; fits = leb-true _ _ w; size = eqb-true _ _ (a .0); kind = ltb-true _ _ (b .0); range = leb-true _ _ (b .1) }
+
+  production-facts : isWhole s p ≡ true → getD s p 0 ≡ 0x12 → productionWhole s p ≡ true → IsProduction s p
+  unfolding isWhole productionWhole
+  production-facts w t h =
+      let a = and-true _ _ h in
+      let b = and-true _ _ (a .1) in
+      let d = and-true _ _ (b .1) in
+      record {
+        tag = t;
+        fits = leb-true _ _ w;
+        two = leb-true _ _ (a .0);
+        ten = leb-true _ _ (b .0);
+        kind = ltb-true _ _ (d .0);
+        arguments = d .1;
+      }
+
+  good-facts : isWhole s p ≡ true → entryGood s p ≡ true → IsClass s p ⊎ IsProduction s p
+  unfolding entryGood
+  good-facts w g =
+      by-test (eqb (getD s p 0) 0x11)
+      (λ e. inl (class-facts w (eqb-true _ _ e) (cc)))
+      (λ e. by-test (eqb (getD s p 0) 0x12)
+      (λ d. inr (production-facts w (eqb-true _ _ d) (cc)))
+      (λ d. true-not-false (cc)))
+
+  -- A whole entry is a class or a production.
+  pub entry-facts : entryWhole s p ≡ true → IsClass s p ⊎ IsProduction s p
+  unfolding entryWhole
+  entry-facts h = let a = and-true _ _ h in good-facts (a .0) (a .1)
+
+  -- The entry at a whole class, and at a whole production.
+  pub class-is : IsClass s p → entryAt s p ≡ class (getD s (p + 3) 0) (pairAt s (p + 4)) (pairAt s (p + 6))
+  unfolding entryAt
+  class-is h = cc (eq-eqb _ _ (h .tag))
+
+  pub production-is : IsProduction s p
+      → entryAt s p ≡ production (getD s (p + 3) 0) (getD s (p + 4) 0) (slice (p + 5) (fieldEnd s p) s)
+  unfolding entryAt
+  production-is h = cc (h .tag)
+
+  -- The key at a place is the key of the entry there.
+  pub key-is : entryKey (entryAt s p) ≡ keyAt 0x11 s p
+  unfolding entryKey entryAt keyAt pairAt
+  key-is =
+      let d : p + 3 + 1 ≡ p + 4 = omega arith in
+      by-test (eqb (getD s p 0) 0x11) (λ e. cc) (λ e. cc)
