@@ -2,3 +2,4 @@
 pub mod index;
 pub mod node;
 pub mod read;
+pub mod tree;

@@ -1,0 +1,69 @@
+use mathlib.Core.Path.{refl}
+use native.Mathlib.Omega.{arith}
+use borrow.Author.Tests.{not-true, not-false}
+use Rattle.reader.proofs.Check.{zeros, kind-out, kind-in, entries-whole}
+use borrow.Author.Needs.{needs}
+use Rattle.reader.proofs.tree.check_kind.Statement.{statement}
+use Rattle.reader.proofs.tree.check_kind.Tie as tie
+use Rattle.reader.proofs.tree.check_kind.Reads as reads
+use Rattle.reader.proofs.tree.check_kind.Lts as lts
+use Rattle.fields.proofs.outcome.refuse.Reads as refuse-reads
+use Rattle.reader.proofs.index.build.Reads as build-reads
+use Rattle.reader.proofs.read.read.Reads as read-reads
+use Rattle.reader.proofs.tree.is_in.Reads as is-in-reads
+use Rattle.reader.proofs.tree.whole_tree.Reads as whole-tree-reads
+
+-- src/tree.rt:96:9
+is-in-requires : tie.Need-is-in-requires
+is-in-requires c κs = entries-whole _ (c .before .before .pre .2)
+
+-- src/tree.rt:97:9
+refuse-requires : tie.Need-refuse-requires
+refuse-requires c κs = search needs
+
+-- src/tree.rt:97:9
+returns : tie.Need-returns
+returns c = λ l e. kind-out _ _ _ l e (c .before .before .is-in .ensures) (not-true _ (c .before .if1 .taken)) (c .refuse .ensures)
+
+-- src/tree.rt:100:21
+slice-aggregate-build : tie.Need-slice-aggregate-build
+slice-aggregate-build c = search needs
+
+-- src/tree.rt:100:5
+build-requires : tie.Need-build-requires
+build-requires c κs = (c .before .before .before .before .before .pre .0, refl, zeros 8224)
+
+-- src/tree.rt:101:45
+slice-aggregate-read : tie.Need-slice-aggregate-read
+slice-aggregate-read c = search needs
+
+-- src/tree.rt:101:53
+slice-aggregate-read-2 : tie.Need-slice-aggregate-read-2
+slice-aggregate-read-2 c = search needs
+
+-- src/tree.rt:101:16
+read-requires : tie.Need-read-requires
+read-requires c κs = (c .before .before .before .build .ensures _ (c .before .before .before .before .before .before .before .before .before .pre .2 .1) .sound, c .before .before .before .before .before .before .before .before .before .pre .1, omega arith)
+
+-- src/tree.rt:101:5
+whole-tree-requires : tie.Need-whole-tree-requires
+whole-tree-requires c κs = search needs
+
+-- src/tree.rt:92:1
+returns-2 : tie.Need-returns-2
+returns-2 c = λ l e. kind-in _ _ _ l e (c .before .before .before .before .before .before .before .before .is-in .ensures) (c .before .read .result) (not-false _ (c .before .before .before .before .before .before .before .if1 .left)) (c .before .read .ensures .0 l (c .before .before .before .before .before .build .ensures l e)) (c .before .read .ensures .1) (c .whole-tree .ensures)
+
+pub check-kind-spec : {M : Type 1} → statement M
+check-kind-spec =
+    tie.close
+    (tie.spec
+    is-in-requires
+    refuse-requires
+    returns
+    slice-aggregate-build
+    build-requires
+    slice-aggregate-read
+    slice-aggregate-read-2
+    read-requires
+    whole-tree-requires
+    returns-2)
