@@ -7,17 +7,8 @@ use Rattle.reader.proofs.index.build.Reads as reads
 use Rattle.reader.proofs.index.build.Lts as lts
 use Rattle.reader.proofs.index.put_all.Reads as put-all-reads
 
--- src/index.rt:43:5
-put-all-requires : tie.Need-put-all-requires
-put-all-requires c κs = search needs
-
--- src/index.rt:39:1
-same-length : tie.Need-same-length
-same-length c = search needs
-
--- src/index.rt:39:1
 returns : tie.Need-returns
 returns c = λ l e. build-is _ _ (λ i. omega (arith, c .before .before .before .before .before .shared-slice-known .given i)) (c .before .before .before .before .before .before .pre .0) (c .before .before .before .before .before .before .pre .1) (c .before .before .before .before .before .before .pre .2) l e (c .before .before .put-all .ensures)
 
 pub build-spec : {M : Type 1} → statement M
-build-spec = tie.close (tie.spec put-all-requires same-length returns)
+build-spec = tie.close (tie.spec (λ c κs. search needs) (λ c. search needs) returns)

@@ -19,43 +19,12 @@ Inv-loop language index₀ p₀ index p = (length index ≡ length index₀) × 
 abbrev μ-loop : tie.MeasureT-loop
 μ-loop language index₀ p₀ index p = length language - p
 
--- src/index.rt:29:5
 loop-holds : tie.Need-loop-holds Inv-loop μ-loop
 loop-holds c = (refl, refl)
 
--- src/index.rt:30:20
-key-at-requires : tie.Need-key-at-requires Inv-loop μ-loop
-key-at-requires c κs = search needs
-
--- src/index.rt:30:48
-add-put : tie.Need-add-put Inv-loop μ-loop
-add-put c = search needs
-
--- src/index.rt:30:47
-cast-put : tie.Need-cast-put Inv-loop μ-loop
-cast-put c = search needs
-
--- src/index.rt:30:9
-put-requires : tie.Need-put-requires Inv-loop μ-loop
-put-requires c κs = search needs
-
--- src/index.rt:31:9
-field-end-requires : tie.Need-field-end-requires Inv-loop μ-loop
-field-end-requires c κs = search needs
-
--- src/index.rt:29:5
-loop-less : tie.Need-loop-less Inv-loop μ-loop
-loop-less c = search needs
-
--- src/index.rt:29:5
 loop-again : tie.Need-loop-again Inv-loop μ-loop
 loop-again c = (search needs, puts-next _ _ _ _ (c .before .before .before .before .before .before .before .loop .inv .1) _ _ _ _ (c .before .before .before .put .ensures) (c .before .before .before .before .key-at .ensures .0) refl (c .field-end .ensures .is) (c .before .before .before .before .before .before .loop-test .taken))
 
--- src/index.rt:24:1
-same-length : tie.Need-same-length Inv-loop μ-loop
-same-length c = search needs
-
--- src/index.rt:24:1
 returns : tie.Need-returns Inv-loop μ-loop
 returns c = puts-done _ _ _ _ (c .before .loop .inv .1) (c .loop-test .left)
 
@@ -66,12 +35,12 @@ put-all-spec =
     Inv-loop
     μ-loop
     loop-holds
-    key-at-requires
-    add-put
-    cast-put
-    put-requires
-    field-end-requires
-    loop-less
+    (λ c κs. search needs)
+    (λ c. search needs)
+    (λ c. search needs)
+    (λ c κs. search needs)
+    (λ c κs. search needs)
+    (λ c. search needs)
     loop-again
-    same-length
+    (λ c. search needs)
     returns)

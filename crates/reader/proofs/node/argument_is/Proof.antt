@@ -5,26 +5,15 @@ use Rattle.reader.proofs.node.argument_is.Tie as tie
 use Rattle.reader.proofs.node.argument_is.Reads as reads
 use Rattle.reader.proofs.node.argument_is.Lts as lts
 
--- src/node.rt:87:9
 returns : tie.Need-returns
 returns c = is-zero _ _ _ (c .if1 .taken)
 
--- src/node.rt:90:9
 returns-2 : tie.Need-returns-2
 returns-2 c = is-past _ _ _ (c .before .if1 .left) (c .if2 .taken)
 
--- src/node.rt:92:15
-sub-result : tie.Need-sub-result
-sub-result c = search needs
-
--- src/node.rt:92:5
-shared-slice-read-result : tie.Need-shared-slice-read-result
-shared-slice-read-result c = search needs
-
--- src/node.rt:83:1
 returns-3 : tie.Need-returns-3
 returns-3 c = is-there _ _ _ (c .before .before .if1 .left) (c .before .if2 .left)
 
 pub argument-is-spec : {M : Type 1} → statement M
 argument-is-spec =
-    tie.close (tie.spec returns returns-2 sub-result shared-slice-read-result returns-3)
+    tie.close (tie.spec returns returns-2 (λ c. search needs) (λ c. search needs) returns-3)

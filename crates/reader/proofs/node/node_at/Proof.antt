@@ -7,31 +7,13 @@ use Rattle.reader.proofs.node.node_at.Lts as lts
 use Rattle.reader.proofs.node.code_node.Reads as code-node-reads
 use Rattle.reader.proofs.node.tree_node.Reads as tree-node-reads
 
--- src/node.rt:148:25
-enum-told : tie.Need-enum-told
-enum-told c = search needs
-
--- src/node.rt:148:25
-tree-node-requires : tie.Need-tree-node-requires
-tree-node-requires c κs = search needs
-
--- src/node.rt:149:25
-enum-told-2 : tie.Need-enum-told-2
-enum-told-2 c = search needs
-
--- src/node.rt:149:25
-code-node-requires : tie.Need-code-node-requires
-code-node-requires c κs = search needs
-
--- src/node.rt:143:1
 returns : tie.Need-returns
 returns c = (node-tree _ _ _ _ _ _ (c .before .enum-told .given .1) (c .tree-node .ensures .0), c .tree-node .ensures .1)
 
--- src/node.rt:143:1
 returns-2 : tie.Need-returns-2
 returns-2 c = (node-code _ _ _ _ _ _ (c .before .enum-told2 .given .1) (c .code-node .ensures .0), c .code-node .ensures .1)
 
 pub node-at-spec : {M : Type 1} → statement M
 node-at-spec =
     tie.close
-    (tie.spec enum-told tree-node-requires enum-told-2 code-node-requires returns returns-2)
+    (tie.spec (λ c. search needs) (λ c κs. search needs) (λ c. search needs) (λ c κs. search needs) returns returns-2)

@@ -7,51 +7,30 @@ use Rattle.reader.proofs.node.token.Reads as reads
 use Rattle.reader.proofs.node.token.Lts as lts
 use Rattle.reader.proofs.node.pair_in.Reads as pair-in-reads
 
--- src/node.rt:52:9
 returns : tie.Need-returns
 returns c = (token-none _ _ _ _ (c .if1 .taken), tt)
 
--- src/node.rt:54:8
-sub-if2 : tie.Need-sub-if2
-sub-if2 c = search needs
-
--- src/node.rt:55:9
 returns-2 : tie.Need-returns-2
 returns-2 c = (token-short _ _ _ _ (c .before .if1 .left) (c .if2 .taken), tt)
 
--- src/node.rt:57:9
-pair-in-requires : tie.Need-pair-in-requires
-pair-in-requires c κs = search needs
-
--- src/node.rt:58:34
 add-pair-in : tie.Need-add-pair-in
 add-pair-in c = let b = c .before .before .before .before .before .pre .1 (omega arith) in omega arith
 
--- src/node.rt:58:16
 pair-in-requires-2 : tie.Need-pair-in-requires-2
 pair-in-requires-2 c κs = let b = c .before .before .before .before .before .pre .1 (omega arith) in omega arith
 
--- src/node.rt:59:9
 returns-3 : tie.Need-returns-3
 returns-3 c = (token-low _ _ _ _ (c .before .before .before .before .if1 .left) (c .before .before .before .if2 .left) (c .before .before .pair-in .ensures .0) (c .before .pair-in2 .ensures .0) (c .if3 .taken), tt)
 
--- src/node.rt:61:26
 add-pair-in-2 : tie.Need-add-pair-in-2
 add-pair-in-2 c = let b = c .before .before .before .before .before .before .before .pre .1 (omega arith) in omega arith
 
--- src/node.rt:61:8
 pair-in-requires-3 : tie.Need-pair-in-requires-3
 pair-in-requires-3 c κs = let b = c .before .before .before .before .before .before .before .pre .1 (omega arith) in omega arith
 
--- src/node.rt:62:9
 returns-4 : tie.Need-returns-4
 returns-4 c = (token-high _ _ _ _ (c .before .before .before .before .before .before .if1 .left) (c .before .before .before .before .before .if2 .left) (c .before .before .before .before .pair-in .ensures .0) (c .before .before .before .pair-in2 .ensures .0) (c .before .before .if3 .left) (c .before .pair-in3 .ensures .0) (c .if4 .taken), tt)
 
--- src/node.rt:64:15
-add-t7 : tie.Need-add-t7
-add-t7 c = search needs
-
--- src/node.rt:47:1
 returns-5 : tie.Need-returns-5
 returns-5 c = (token-good _ _ _ _ (c .before .before .before .before .before .before .if1 .left) (c .before .before .before .before .before .if2 .left) (c .before .before .before .before .pair-in .ensures .0) (c .before .before .before .pair-in2 .ensures .0) (c .before .before .if3 .left) (c .before .pair-in3 .ensures .0) (c .if4 .left), omega arith)
 
@@ -60,14 +39,14 @@ token-spec =
     tie.close
     (tie.spec
     returns
-    sub-if2
+    (λ c. search needs)
     returns-2
-    pair-in-requires
+    (λ c κs. search needs)
     add-pair-in
     pair-in-requires-2
     returns-3
     add-pair-in-2
     pair-in-requires-3
     returns-4
-    add-t7
+    (λ c. search needs)
     returns-5)

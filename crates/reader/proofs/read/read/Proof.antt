@@ -10,11 +10,6 @@ use Rattle.reader.proofs.read.read.Reads as reads
 use Rattle.reader.proofs.read.read.Lts as lts
 use Rattle.reader.proofs.read.read_at.Reads as read-at-reads
 
--- src/read.rt:71:5
-read-at-requires : tie.Need-read-at-requires
-read-at-requires c κs = search needs
-
--- src/read.rt:65:1
 returns : tie.Need-returns
 returns c = (
   (λ l z. ap (λ (r : Read). restAt (c .before .before .before .before .before .args .bytes .now) r) (c .read-at .ensures .0) ∙ read-same _ _ _ _ _ l z (λ i. omega (arith, c .before .shared-slice-known4 .given i)) _ _ _ (c .before .before .before .before .before .pre .1)),
@@ -22,4 +17,4 @@ returns c = (
 )
 
 pub read-spec : {M : Type 1} → statement M
-read-spec = tie.close (tie.spec read-at-requires returns)
+read-spec = tie.close (tie.spec (λ c κs. search needs) returns)

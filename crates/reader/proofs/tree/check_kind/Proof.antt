@@ -13,43 +13,18 @@ use Rattle.reader.proofs.read.read.Reads as read-reads
 use Rattle.reader.proofs.tree.is_in.Reads as is-in-reads
 use Rattle.reader.proofs.tree.whole_tree.Reads as whole-tree-reads
 
--- src/tree.rt:96:9
 is-in-requires : tie.Need-is-in-requires
 is-in-requires c κs = entries-whole _ (c .before .before .pre .2)
 
--- src/tree.rt:97:9
-refuse-requires : tie.Need-refuse-requires
-refuse-requires c κs = search needs
-
--- src/tree.rt:97:9
 returns : tie.Need-returns
 returns c = λ l e. kind-out _ _ _ l e (c .before .before .is-in .ensures) (not-true _ (c .before .if1 .taken)) (c .refuse .ensures)
 
--- src/tree.rt:100:21
-slice-aggregate-build : tie.Need-slice-aggregate-build
-slice-aggregate-build c = search needs
-
--- src/tree.rt:100:5
 build-requires : tie.Need-build-requires
 build-requires c κs = (c .before .before .before .before .before .pre .0, refl, zeros 8224)
 
--- src/tree.rt:101:45
-slice-aggregate-read : tie.Need-slice-aggregate-read
-slice-aggregate-read c = search needs
-
--- src/tree.rt:101:53
-slice-aggregate-read-2 : tie.Need-slice-aggregate-read-2
-slice-aggregate-read-2 c = search needs
-
--- src/tree.rt:101:16
 read-requires : tie.Need-read-requires
 read-requires c κs = (c .before .before .before .build .ensures _ (c .before .before .before .before .before .before .before .before .before .pre .2 .1) .sound, c .before .before .before .before .before .before .before .before .before .pre .1, omega arith)
 
--- src/tree.rt:101:5
-whole-tree-requires : tie.Need-whole-tree-requires
-whole-tree-requires c κs = search needs
-
--- src/tree.rt:92:1
 returns-2 : tie.Need-returns-2
 returns-2 c = λ l e. kind-in _ _ _ l e (c .before .before .before .before .before .before .before .before .is-in .ensures) (c .before .read .result) (not-false _ (c .before .before .before .before .before .before .before .if1 .left)) (c .before .read .ensures .0 l (c .before .before .before .before .before .build .ensures l e)) (c .before .read .ensures .1) (c .whole-tree .ensures)
 
@@ -58,12 +33,12 @@ check-kind-spec =
     tie.close
     (tie.spec
     is-in-requires
-    refuse-requires
+    (λ c κs. search needs)
     returns
-    slice-aggregate-build
+    (λ c. search needs)
     build-requires
-    slice-aggregate-read
-    slice-aggregate-read-2
+    (λ c. search needs)
+    (λ c. search needs)
     read-requires
-    whole-tree-requires
+    (λ c κs. search needs)
     returns-2)

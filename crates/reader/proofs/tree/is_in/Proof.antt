@@ -21,31 +21,18 @@ Inv-loop language kind p₀ p = (any (mentionsAt language kind) (placesFrom lang
 abbrev μ-loop : tie.MeasureT-loop
 μ-loop language kind p₀ p = length language - p
 
--- src/tree.rt:64:5
 loop-holds : tie.Need-loop-holds Inv-loop μ-loop
 loop-holds c = (refl, c .before .pre)
 
--- src/tree.rt:65:13
-field-end-requires : tie.Need-field-end-requires Inv-loop μ-loop
-field-end-requires c κs = search needs
-
--- src/tree.rt:66:12
 mentions-kind-requires : tie.Need-mentions-kind-requires Inv-loop μ-loop
 mentions-kind-requires c κs = in-fits _ (c .before .before .before .before .args .kind) _ _ (c .before .before .loop .inv .0) (c .before .before .loop .inv .1) _ (c .before .loop-test .taken) (c .field-end .ensures .is)
 
--- src/tree.rt:67:13
 returns : tie.Need-returns Inv-loop μ-loop
 returns c = in-stop _ _ _ _ (c .before .before .before .before .loop .inv .0) (c .before .before .before .before .loop .inv .1) _ (c .before .before .before .loop-test .taken) (c .before .before .field-end .ensures .is) (c .before .mentions-kind .ensures) (c .if1 .taken)
 
--- src/tree.rt:64:5
-loop-less : tie.Need-loop-less Inv-loop μ-loop
-loop-less c = search needs
-
--- src/tree.rt:64:5
 loop-again : tie.Need-loop-again Inv-loop μ-loop
 loop-again c = in-next _ _ _ _ (c .before .before .before .before .loop .inv .0) (c .before .before .before .before .loop .inv .1) _ (c .before .before .before .loop-test .taken) (c .before .before .field-end .ensures .is) (c .before .mentions-kind .ensures) (c .if1 .left)
 
--- src/tree.rt:59:1
 returns-2 : tie.Need-returns-2 Inv-loop μ-loop
 returns-2 c = in-done _ _ _ _ (c .before .loop .inv .0) (c .before .loop .inv .1) (c .loop-test .left)
 
@@ -56,9 +43,9 @@ is-in-spec =
     Inv-loop
     μ-loop
     loop-holds
-    field-end-requires
+    (λ c κs. search needs)
     mentions-kind-requires
     returns
-    loop-less
+    (λ c. search needs)
     loop-again
     returns-2)

@@ -16,31 +16,15 @@ Inv-loop s p e kind q₀ q = any (λ a. eqb a kind) (slice q e s) ≡ any (λ a.
 abbrev μ-loop : tie.MeasureT-loop
 μ-loop s p e kind q₀ q = e - q
 
--- src/tree.rt:35:5
 loop-holds : tie.Need-loop-holds Inv-loop μ-loop
 loop-holds c = refl
 
--- src/tree.rt:36:12
-shared-slice-read-if1 : tie.Need-shared-slice-read-if1 Inv-loop μ-loop
-shared-slice-read-if1 c = search needs
-
--- src/tree.rt:37:13
 returns : tie.Need-returns Inv-loop μ-loop
 returns c = among-stop _ _ _ _ _ (c .before .before .before .loop .inv) (c .before .before .before .before .pre) (c .before .before .loop-test .taken) (c .if1 .taken)
 
--- src/tree.rt:39:9
-add-q : tie.Need-add-q Inv-loop μ-loop
-add-q c = search needs
-
--- src/tree.rt:35:5
-loop-less : tie.Need-loop-less Inv-loop μ-loop
-loop-less c = search needs
-
--- src/tree.rt:35:5
 loop-again : tie.Need-loop-again Inv-loop μ-loop
 loop-again c = among-next _ _ _ _ _ (c .before .before .before .loop .inv) (c .before .before .before .before .pre) (c .before .before .loop-test .taken) (c .if1 .left)
 
--- src/tree.rt:30:1
 returns-2 : tie.Need-returns-2 Inv-loop μ-loop
 returns-2 c = among-done _ _ _ _ _ (c .before .loop .inv) (c .loop-test .left)
 
@@ -51,9 +35,9 @@ kind-among-spec =
     Inv-loop
     μ-loop
     loop-holds
-    shared-slice-read-if1
+    (λ c. search needs)
     returns
-    add-q
-    loop-less
+    (λ c. search needs)
+    (λ c. search needs)
     loop-again
     returns-2)
