@@ -44,7 +44,6 @@ pub data Result (A : Type 0) : Type 0 where
   refused : Reason → Result A
 
 infixl 20 _>>=_
-
 -- The next step, on the value of the one before; the first refusal ends it.
 abbrev pub _>>=_ : {A B : Type 0} → Result A → (A → Result B) → Result B
 _>>=_ (value a) f = f a

@@ -2,3 +2,4 @@ pub mod Code
 pub mod Typing
 pub mod Syntax
 pub mod Operations
+pub mod Inner

@@ -1,0 +1,204 @@
+-- The definitions by position, one turn at a time, in the terms of the code: a law for each return.
+use Prim.Native.Nat.{ℕ, zero, suc, _+_, _-_, _<_, _≤_}
+use mathlib.Core.Path.{_≡_, refl, sym, ap, _∙_}
+use mathlib.Core.List.{List}
+use mathlib.Core.Bool.{Bool, true, false}
+use native.Mathlib.Omega.{arith}
+use lib.ListN.{length, getD}
+use lib.Dec.{ltb, leb, eqb}
+use borrow.Author.Tests.{lt-ltb, le-ltb, le-leb, lt-leb, eq-eqb, ne-eqb}
+use Rattle.fields.specs.Fields.{pairAt}
+use Rattle.language.specs.Language.{productionKey}
+use Rattle.reader.specs.declared.node.Syntax.{Syntax}
+use Rattle.reader.specs.declared.node.Syntax.the-variants.{Tree, Code}
+use Rattle.reader.specs.declared.node.Read.{Read}
+use Rattle.reader.specs.declared.node.Read.the-variants.{End, Deep, Broken}
+use Rattle.reader.specs.declared.node.Node.{Node}
+use Rattle.reader.specs.declared.node.Node.the-variants.{Leaf, Operands}
+use Rattle.reader.specs.Inner.Index.{Sound}
+use Rattle.reader.specs.Inner.Positions.{tokenAt, operandsAt, nameAt, argumentIs, argumentAt, treeNode, signNode, codeNode, nodeAt, operandsFrom, readAt, EndsBy, NodeIn, KindsIn}
+
+-- token
+module _ (s : List ℕ) (place : ℕ) (b : List ℕ) (at : ℕ) where
+  pub token-none : place ≡ 0 → Broken ≡ tokenAt s place b at
+  unfolding tokenAt
+  token-none h = simp (eq-eqb place 0 h)
+
+  pub token-short : (place ≡ 0 → ⊥) → length b - at < 2 → Broken ≡ tokenAt s place b at
+  unfolding tokenAt
+  token-short h i = simp (ne-eqb place 0 h, lt-ltb (length b - at) 2 i)
+
+  module _ {v w : ℕ} (some : place ≡ 0 → ⊥) (there : 2 ≤ length b - at) (ev : v ≡ pairAt b at) where
+    pub token-low : w ≡ pairAt s (place + 3) → v < w → Broken ≡ tokenAt s place b at
+    unfolding tokenAt
+    token-low e h = cc (ne-eqb place 0 some, le-ltb (length b - at) 2 there, lt-ltb v w h)
+
+    module _ (ew : w ≡ pairAt s (place + 3)) (low : w ≤ v) where
+      pub token-high : {u : ℕ} → u ≡ pairAt s (place + 5) → u < v → Broken ≡ tokenAt s place b at
+      unfolding tokenAt
+      token-high {u} e h = cc (ne-eqb place 0 some, le-ltb (length b - at) 2 there, le-ltb v w low, lt-ltb u v h)
+
+      pub token-good : {u : ℕ} → u ≡ pairAt s (place + 5) → v ≤ u → End (at + 2) ≡ tokenAt s place b at
+      unfolding tokenAt
+      token-good {u} e h = cc (ne-eqb place 0 some, le-ltb (length b - at) 2 there, le-ltb v w low, le-ltb u v h)
+
+-- name
+module _ (s index : List ℕ) (k : ℕ) (b : List ℕ) (at : ℕ) where
+  pub name-end : length b ≤ at → Leaf Broken ≡ nameAt s index k b at
+  unfolding nameAt
+  name-end h = simp (le-leb (length b) at h)
+
+  module _ {j p place : ℕ} (there : at < length b) (ej : j ≡ k) (ep : p ≡ getD b at 0) (ei : place ≡ getD index (productionKey j p) 0) where
+    pub name-unknown : place ≡ 0 → Leaf Broken ≡ nameAt s index k b at
+    unfolding nameAt operandsAt
+    name-unknown h = cc (lt-leb (length b) at there, eq-eqb place 0 h)
+
+    pub name-known : {n : ℕ} → (place ≡ 0 → ⊥) → n ≡ pairAt s place → Operands (place + 4) (place + 2 + n) (at + 1) ≡ nameAt s index k b at
+    unfolding nameAt operandsAt
+    name-known h e = cc (lt-leb (length b) at there, ne-eqb place 0 h)
+
+-- argument_is
+module _ (arguments : List ℕ) (k i : ℕ) where
+  pub is-zero : i ≡ 0 → false ≡ argumentIs arguments k i
+  unfolding argumentIs
+  is-zero h = simp (eq-eqb i 0 h)
+
+  pub is-past : (i ≡ 0 → ⊥) → length arguments < i → false ≡ argumentIs arguments k i
+  unfolding argumentIs
+  is-past h g = simp (ne-eqb i 0 h, lt-ltb (length arguments) i g)
+
+  pub is-there : (i ≡ 0 → ⊥) → i ≤ length arguments → eqb (getD arguments (i - 1) 0) k ≡ argumentIs arguments k i
+  unfolding argumentIs
+  is-there h g = simp (ne-eqb i 0 h, le-ltb (length arguments) i g)
+
+-- argument
+module _ (arguments : List ℕ) (k : ℕ) (b : List ℕ) (at : ℕ) where
+  pub argument-end : length b ≤ at → Broken ≡ argumentAt arguments k b at
+  unfolding argumentAt
+  argument-end h = simp (le-leb (length b) at h)
+
+  module _ {i : ℕ} {t : Bool} (there : at < length b) (ei : i ≡ getD b at 0) (et : t ≡ argumentIs arguments k i) where
+    pub argument-good : t ≡ true → End (at + 1) ≡ argumentAt arguments k b at
+    unfolding argumentAt
+    argument-good h = cc (lt-leb (length b) at there)
+
+    pub argument-bad : t ≡ false → Broken ≡ argumentAt arguments k b at
+    unfolding argumentAt
+    argument-bad h = cc (lt-leb (length b) at there)
+
+-- tree_node
+module _ (s index : List ℕ) (k : ℕ) (b : List ℕ) (at : ℕ) {j place : ℕ} (ej : j ≡ k) (ei : place ≡ getD index j 0) where
+  pub tree-name : {r : Node} → place ≡ 0 → r ≡ nameAt s index k b at → r ≡ treeNode s index k b at
+  unfolding treeNode
+  tree-name h e = cc (eq-eqb place 0 h)
+
+  pub tree-token : {r : Read} → (place ≡ 0 → ⊥) → r ≡ tokenAt s place b at → Leaf r ≡ treeNode s index k b at
+  unfolding treeNode
+  tree-token h e = cc (ne-eqb place 0 h)
+
+-- code_node
+module _ (s index arguments : List ℕ) (k : ℕ) (b : List ℕ) (at : ℕ) where
+  pub code-end : length b ≤ at → Leaf Broken ≡ codeNode s index arguments k b at
+  unfolding codeNode
+  code-end h = simp (le-leb (length b) at h)
+
+  module _ (there : at < length b) where
+    pub code-name : {r : Node} → getD b at 0 ≡ 1 → r ≡ nameAt s index k b (at + 1) → r ≡ codeNode s index arguments k b at
+    unfolding codeNode signNode
+    code-name h e = cc (lt-leb (length b) at there, eq-eqb (getD b at 0) 1 h)
+
+    module _ (not-1 : getD b at 0 ≡ 1 → ⊥) where
+      pub code-token : {r : Read} {j place : ℕ} → getD b at 0 ≡ 2 → j ≡ k → place ≡ getD index j 0 → r ≡ tokenAt s place b (at + 1)
+          → Leaf r ≡ codeNode s index arguments k b at
+      unfolding codeNode signNode
+      code-token h ej ei e = cc (lt-leb (length b) at there, ne-eqb (getD b at 0) 1 not-1, eq-eqb (getD b at 0) 2 h)
+
+      module _ (not-2 : getD b at 0 ≡ 2 → ⊥) where
+        pub code-argument : {r : Read} → getD b at 0 ≡ 3 → r ≡ argumentAt arguments k b (at + 1) → Leaf r ≡ codeNode s index arguments k b at
+        unfolding codeNode signNode
+        code-argument h e = cc (lt-leb (length b) at there, ne-eqb (getD b at 0) 1 not-1, ne-eqb (getD b at 0) 2 not-2, eq-eqb (getD b at 0) 3 h)
+
+        pub code-other : (getD b at 0 ≡ 3 → ⊥) → Leaf Broken ≡ codeNode s index arguments k b at
+        unfolding codeNode signNode
+        code-other h = cc (lt-leb (length b) at there, ne-eqb (getD b at 0) 1 not-1, ne-eqb (getD b at 0) 2 not-2, ne-eqb (getD b at 0) 3 h)
+
+-- node_at
+module _ (s index arguments : List ℕ) (k : ℕ) (b : List ℕ) (at : ℕ) {x : Syntax} {r : Node} where
+  pub node-tree : x ≡ Tree → r ≡ treeNode s index k b at → r ≡ nodeAt x s index arguments k b at
+  unfolding nodeAt
+  node-tree h e = cc
+
+  pub node-code : x ≡ Code → r ≡ codeNode s index arguments k b at → r ≡ nodeAt x s index arguments k b at
+  unfolding nodeAt
+  node-code h e = cc
+
+-- The operands, a turn at a time: e - q are left.
+module _ (f : ℕ → ℕ → Read) (s : List ℕ) (e q at : ℕ) where
+  pub operands-done : e ≤ q → operandsFrom f s (e - q) q at ≡ End at
+  unfolding operandsFrom
+  operands-done h = let z : e - q ≡ 0 = omega arith in rw z
+
+  module _ {r : Read} (more : q < e) (er : r ≡ f (getD s q 0) at) where
+    left : e - q ≡ suc (e - (q + 1))
+    left = omega arith
+
+    pub operands-next : {x : ℕ} → r ≡ End x → operandsFrom f s (e - q) q at ≡ operandsFrom f s (e - (q + 1)) (q + 1) x
+    unfolding operandsFrom
+    operands-next y = rw left (cc)
+
+    pub operands-deep : r ≡ Deep → operandsFrom f s (e - q) q at ≡ Deep
+    unfolding operandsFrom
+    operands-deep y = rw left (cc)
+
+    pub operands-broken : r ≡ Broken → operandsFrom f s (e - q) q at ≡ Broken
+    unfolding operandsFrom
+    operands-broken y = rw left (cc)
+
+-- read_at
+module _ (x : Syntax) (s index arguments b : List ℕ) (n k at : ℕ) where
+  pub read-deep : n ≡ 0 → Deep ≡ readAt x s index arguments b n k at
+  unfolding readAt
+  read-deep h = rw h
+
+  module _ {d : Node} (pos : n ≡ 0 → ⊥) (ed : d ≡ nodeAt x s index arguments k b at) where
+    one-less : n ≡ suc (n - 1)
+    one-less = omega arith
+
+    pub read-leaf : {r : Read} → d ≡ Leaf r → r ≡ readAt x s index arguments b n k at
+    unfolding readAt
+    read-leaf y = rw one-less (cc)
+
+    pub read-operands : {q e to : ℕ} → d ≡ Operands q e to
+        → operandsFrom (readAt x s index arguments b (n - 1)) s (e - q) q to ≡ readAt x s index arguments b n k at
+    unfolding readAt
+    read-operands {q} {e} {to} y =
+        (let z : operandsFrom (readAt x s index arguments b (n - 1)) s (e - q) q to ≡ readAt x s index arguments b (suc (n - 1)) k at = cc in z)
+        ∙ ap (λ (m : ℕ). readAt x s index arguments b m k at) (sym one-less)
+
+-- What is known of a result, once its case is known.
+pub end-in : {n e : ℕ} (r : Read) → r ≡ End e → EndsBy n r → e ≤ n
+end-in {n} r y h = rw y at h
+
+pub leaf-in : (s b : List ℕ) (d : Node) (r : Read) → d ≡ Leaf r → NodeIn s b d → EndsBy (length b) r
+leaf-in s b d r y h = rw y at h
+
+pub operands-in : (s b : List ℕ) (d : Node) (q e to : ℕ) → d ≡ Operands q e to → NodeIn s b d → (to ≤ length b) × KindsIn s q e
+operands-in s b d q e to y h = rw y at h
+
+-- A place that was looked up is that of a whole field.
+module _ (index s : List ℕ) (z : Sound index s) {j k : ℕ} (ej : j ≡ k) (kind : k < 32) where
+  in-kinds : j < 32
+  in-kinds = omega arith
+
+  pub class-in : {place : ℕ} → place ≡ getD index j 0 → 0 < place → place + 7 ≤ length s
+  class-in e h = rw e (z .class j in-kinds (rw e at h))
+
+  module _ {p place : ℕ} (byte : p < 256) (e : place ≡ getD index (productionKey j p) 0) (pos : place ≡ 0 → ⊥) where
+    there : 0 < getD index (productionKey j p) 0
+    there = omega arith
+
+    pub name-in : (place + 4 ≤ length s) × (length s ≤ 1024)
+    name-in = (rw e (z .name j p in-kinds byte there), z .short)
+
+    pub kinds-in : {n : ℕ} → n ≡ pairAt s place → KindsIn s (place + 4) (place + 2 + n)
+    kinds-in en = rw (en, e) (z .operands j p in-kinds byte there)

@@ -1,0 +1,45 @@
+-- The index that is built: the code's turns, and what a lookup through it gives.
+use Prim.Native.Nat.{ℕ, zero, suc, _+_, _*_, _-_, _<_, _≤_}
+use mathlib.Core.Path.{_≡_, refl, sym, ap, _∙_}
+use mathlib.Core.List.{List, [], _∷_, map}
+use mathlib.Core.Bool.{Bool, true, false, cond, _&&_}
+use mathlib.Core.Option.{Option, none, some}
+use native.Mathlib.Omega.{arith}
+use lib.ListN.{length, getD, set, length-set, List·getD-eq-default}
+use lib.Seq.{slice, set-out, getD-set-same, getD-set-other}
+use lib.Dec.{ltb, leb, eqb}
+use borrow.Author.Tests.{eq-eqb, ne-eqb, eqb-true, eqb-false}
+use Rattle.fields.specs.Fields.{pairAt}
+use Rattle.fields.specs.Inner.Places.{fieldEnd, placesFrom, keyAt}
+use Rattle.fields.proofs.Lists.{by-test}
+use Rattle.fields.proofs.Places.{pass-done, pass-next}
+use Rattle.reader.specs.Inner.Index.{putAt, putAll}
+
+-- put
+module _ (index : List ℕ) (key v : ℕ) where
+  pub put-out : length index ≤ key → index ≡ putAt index key v
+  unfolding putAt
+  put-out h = cc (List·getD-eq-default {A = ℕ} index 0 {n = key} h, eq-eqb 0 0 refl, set-out index key v h)
+
+  pub put-not : (getD index key 0 ≡ 0 → ⊥) → index ≡ putAt index key v
+  unfolding putAt
+  put-not h = cc (ne-eqb _ _ h)
+
+  pub put-in : getD index key 0 ≡ 0 → set index key v ≡ putAt index key v
+  unfolding putAt
+  put-in h = cc (eq-eqb _ _ h)
+
+  pub put-length : length (putAt index key v) ≡ length index
+  unfolding putAt
+  put-length = by-test (eqb (getD index key 0) 0) (λ e. cc (length-set index key v)) (λ e. cc)
+
+-- put_all
+module _ (s : List ℕ) (p : ℕ) (index x : List ℕ) (inv : putAll s index (placesFrom s p) ≡ x) where
+  pub puts-done : length s ≤ p → index ≡ x
+  unfolding putAll
+  puts-done h = pass-done (putAll s index) s p x inv h
+
+  pub puts-next : (more : List ℕ) (key v end : ℕ) → more ≡ putAt index key v → key ≡ keyAt 0x11 s p → v ≡ p + 1 → end ≡ fieldEnd s p → p < length s
+      → putAll s more (placesFrom s end) ≡ x
+  unfolding putAll
+  puts-next more key v end em ek ev ee here = rw (em, ek, ev) (pass-next (putAll s index) s p x inv end here ee)

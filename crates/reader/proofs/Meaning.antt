@@ -1,0 +1,278 @@
+-- Reading by position, through the index, is the reading of specs/Syntax.antt.
+use Prim.Native.Nat.{ℕ, zero, suc, _+_, _*_, _-_, _<_, _≤_}
+use mathlib.Core.Path.{_≡_, refl, sym, ap, _∙_}
+use mathlib.Core.List.{List, [], _∷_}
+use mathlib.Core.Bool.{Bool, true, false, _&&_}
+use mathlib.Core.Option.{Option, none, some}
+use native.Mathlib.Omega.{arith}
+use native.Mathlib.Numerals.{add-one}
+use lib.ListN.{length, getD, getElem?, take, drop, length-take, length-drop, drop-of-length-le}
+use lib.Seq.{slice, slice-cons}
+use lib.Dec.{ltb, leb, eqb}
+use borrow.Author.Tests.{lt-ltb, le-ltb, le-leb, lt-leb, eq-eqb, ne-eqb, leb-true, leb-false, ltb-true, ltb-false, eqb-true, eqb-false}
+use Rattle.fields.specs.Fields.{pairAt}
+use Rattle.fields.specs.Inner.Places.{fieldEnd}
+use Rattle.fields.proofs.Lists.{by-test}
+use Rattle.fields.proofs.Split.{front}
+use Rattle.language.specs.Language.{Language, Range, rangeOf, argumentsOf, inRange, productionKey}
+use Rattle.reader.specs.Code.{node, token, argument, Codes, nil, cons}
+use Rattle.reader.specs.Code as C
+use Rattle.reader.specs.Typing.{kindAt}
+use Rattle.reader.specs.Syntax as Meant
+use Rattle.reader.specs.Syntax.{andThen, readAll, readOperands, readNode, readToken, readArgument, isThe, readTreeLevel, readCodeLevel, readLevel}
+use Rattle.reader.specs.declared.node.Syntax.{Syntax}
+use Rattle.reader.specs.declared.node.Syntax.the-variants.{Tree, Code}
+use Rattle.reader.specs.declared.node.Read.{Read}
+use Rattle.reader.specs.declared.node.Read.the-variants.{End, Deep, Broken}
+use Rattle.reader.specs.declared.node.Node.{Node}
+use Rattle.reader.specs.declared.node.Node.the-variants.{Leaf, Operands}
+use Rattle.reader.proofs.Laws as Laws
+use Rattle.reader.specs.Inner.Index.{Sound, Indexed, rangeBefore, argumentsBefore}
+use Rattle.reader.specs.Inner.Positions.{tokenAt, operandsAt, nameAt, argumentIs, argumentAt, treeNode, signNode, codeNode, nodeAt, operandsFrom, follow, readAt, KindsIn, Rest, rest, deep, broken, restAt, restOf, syntaxOf}
+
+-- What was read, by what is left of it.
+pub done-of : {A : Type 0} (g : Meant.Read A) (u : List ℕ) → restOf g ≡ rest u → (a : A) × (g ≡ Meant.done a u)
+done-of (Meant.done a r) u e = (a, cc)
+done-of Meant.deep u e = let z : _≡_ {A = ℕ} 0 1 = cc in absurd (omega arith)
+done-of Meant.broken u e = let z : _≡_ {A = ℕ} 0 1 = cc in absurd (omega arith)
+
+pub deep-of : {A : Type 0} (g : Meant.Read A) → restOf g ≡ deep → g ≡ Meant.deep
+deep-of (Meant.done a r) e = let z : _≡_ {A = ℕ} 0 1 = cc in absurd (omega arith)
+deep-of Meant.deep e = refl
+deep-of Meant.broken e = let z : _≡_ {A = ℕ} 0 1 = cc in absurd (omega arith)
+
+pub broken-of : {A : Type 0} (g : Meant.Read A) → restOf g ≡ broken → g ≡ Meant.broken
+broken-of (Meant.done a r) e = let z : _≡_ {A = ℕ} 0 1 = cc in absurd (omega arith)
+broken-of Meant.deep e = let z : _≡_ {A = ℕ} 0 1 = cc in absurd (omega arith)
+broken-of Meant.broken e = refl
+
+-- What is made of a value leaves the same rest.
+made : {A B : Type 0} (f : A → B) (g : Meant.Read A) → restOf (andThen g λ a r. Meant.done (f a) r) ≡ restOf g
+made f (Meant.done a r) = refl
+made f Meant.deep = refl
+made f Meant.broken = refl
+
+-- A token.
+token-cut : (c : Range) (u : List ℕ) → length u < 2 → readToken (some c) u ≡ Meant.broken
+unfolding readToken
+token-cut c [] h = refl
+token-cut c (x ∷ []) h = refl
+token-cut c (x ∷ y ∷ u) h = absurd (omega arith)
+
+module _ (c : Range) (x y v : ℕ) (u : List ℕ) (e : v ≡ x * 256 + y) where
+  token-low : v < c .low → readToken (some c) (x ∷ y ∷ u) ≡ Meant.broken
+  unfolding readToken inRange
+  token-low h = cc (lt-leb (c .low) v h)
+
+  module _ (in-low : c .low ≤ v) where
+    token-high : c .high < v → readToken (some c) (x ∷ y ∷ u) ≡ Meant.broken
+    unfolding readToken inRange
+    token-high h = cc (le-leb (c .low) v in-low, lt-leb v (c .high) h)
+
+    token-good : v ≤ c .high → readToken (some c) (x ∷ y ∷ u) ≡ Meant.done (token v) u
+    unfolding readToken inRange
+    token-good h = cc (le-leb (c .low) v in-low, le-leb v (c .high) h)
+
+two : (b : List ℕ) (at : ℕ) → 2 ≤ length b - at → drop at b ≡ getD b at 0 ∷ getD b (at + 1) 0 ∷ drop (at + 2) b
+two b at h =
+    let i : at < length b = omega arith in
+    let j : at + 1 < length b = omega arith in
+    let k : at + 1 + 1 ≡ at + 2 = omega arith in
+    cc (front b at i, front b (at + 1) j)
+
+module _ (s : List ℕ) (p : ℕ) (b : List ℕ) (at : ℕ) where
+  some-place : suc p ≡ 0 → ⊥
+  some-place h = omega arith
+
+  abbrev range : Range
+  range = record { low = pairAt s (p + 4); high = pairAt s (p + 6) }
+
+  low : pairAt s (p + 4) ≡ pairAt s (suc p + 3)
+  low = ap (pairAt s) (omega arith)
+
+  high : pairAt s (p + 6) ≡ pairAt s (suc p + 5)
+  high = ap (pairAt s) (omega arith)
+
+  value : pairAt b at ≡ getD b at 0 * 256 + getD b (at + 1) 0
+  unfolding pairAt
+  value = refl
+
+  token-in : 2 ≤ length b - at → restAt b (tokenAt s (suc p) b at) ≡ restOf (readToken (some range) (drop at b))
+  token-in h =
+      rw (two b at h) (by-test (ltb (pairAt b at) (pairAt s (p + 4)))
+      (λ d.
+      let k : pairAt b at < pairAt s (p + 4) = ltb-true _ _ d in
+      cc (Laws.token-low s (suc p) b at some-place h refl low k, token-low range _ _ _ (drop (at + 2) b) value k))
+      (λ d.
+      let k : pairAt s (p + 4) ≤ pairAt b at = ltb-false _ _ d in
+      by-test (ltb (pairAt s (p + 6)) (pairAt b at))
+      (λ e.
+      let j : pairAt s (p + 6) < pairAt b at = ltb-true _ _ e in
+      cc (Laws.token-high s (suc p) b at some-place h refl low k high j, token-high range _ _ _ (drop (at + 2) b) value k j))
+      (λ e.
+      let j : pairAt b at ≤ pairAt s (p + 6) = ltb-false _ _ e in
+      cc (Laws.token-good s (suc p) b at some-place h refl low k high j, token-good range _ _ _ (drop (at + 2) b) value k j))))
+
+  token-short : length b - at < 2 → restAt b (tokenAt s (suc p) b at) ≡ restOf (readToken (some range) (drop at b))
+  token-short h =
+      let k : length (drop at b) < 2 = rw length-drop h in
+      cc (Laws.token-short s (suc p) b at some-place h, token-cut range (drop at b) k)
+
+token-same : (s : List ℕ) (place : ℕ) (b : List ℕ) (at : ℕ) → restAt b (tokenAt s place b at) ≡ restOf (readToken (rangeBefore s place) (drop at b))
+unfolding readToken
+token-same s zero b at = cc (Laws.token-none s 0 b at refl)
+token-same s (suc p) b at =
+    by-test (ltb (length b - at) 2) (λ e. token-short s p b at (ltb-true _ _ e)) (λ e. token-in s p b at (ltb-false _ _ e))
+
+-- An argument.
+past : (l : List ℕ) (i : ℕ) → length l ≤ i → getElem? l i ≡ none
+past [] i h = refl
+past (a ∷ l) zero h = absurd (omega arith)
+past (a ∷ l) (suc i) h = past l i (omega arith)
+
+inside : (l : List ℕ) (i : ℕ) → i < length l → getElem? l i ≡ some (getD l i 0)
+inside [] i h = absurd (omega arith)
+inside (a ∷ l) zero h = refl
+inside (a ∷ l) (suc i) h = inside l i (omega arith)
+
+kind-same : (l : List ℕ) (k i : ℕ) → argumentIs l k (suc i) ≡ isThe k (getElem? l i)
+kind-same l k i =
+    let pos : suc i ≡ 0 → ⊥ = λ h. omega arith in
+    let one : suc i - 1 ≡ i = omega arith in
+    by-test (ltb (length l) (suc i))
+    (λ e. let h : length l < suc i = ltb-true _ _ e in cc (Laws.is-past l k (suc i) pos h, past l i (omega arith)))
+    (λ e. let h : suc i ≤ length l = ltb-false _ _ e in cc (Laws.is-there l k (suc i) pos h, inside l i (omega arith)))
+
+is-same : (arguments : List ℕ) (k i : ℕ) → argumentIs arguments k i ≡ isThe k (kindAt arguments i)
+is-same arguments k zero = sym (Laws.is-zero arguments k 0 refl)
+is-same arguments k (suc i) = kind-same arguments k i
+
+module _ (arguments : List ℕ) (k : ℕ) (b : List ℕ) (at : ℕ) where
+  argument-end : length b ≤ at → restAt b (argumentAt arguments k b at) ≡ restOf (readArgument arguments k (drop at b))
+  unfolding argumentAt readArgument
+  argument-end h = cc (le-leb (length b) at h, drop-of-length-le b h)
+
+  argument-in : at < length b → restAt b (argumentAt arguments k b at) ≡ restOf (readArgument arguments k (drop at b))
+  unfolding argumentAt readArgument
+  argument-in h =
+      rw (front b at h) (by-test (argumentIs arguments k (getD b at 0))
+      (λ d. cc (lt-leb (length b) at h, is-same arguments k (getD b at 0)))
+      (λ d. cc (lt-leb (length b) at h, is-same arguments k (getD b at 0))))
+
+  argument-same : restAt b (argumentAt arguments k b at) ≡ restOf (readArgument arguments k (drop at b))
+  argument-same = by-test (leb (length b) at) (λ e. argument-end (leb-true _ _ e)) (λ e. argument-in (leb-false _ _ e))
+
+-- A part of a list, an element at a time.
+no-slice : (s : List ℕ) (q e : ℕ) → e ≤ q → slice q e s ≡ []
+no-slice s q e h = drop-of-length-le (take e s) {i = q} (rw length-take (omega arith))
+
+one-slice : (s : List ℕ) (q e : ℕ) → q < e → e ≤ length s → slice q e s ≡ getD s q 0 ∷ slice (q + 1) e s
+one-slice s q e h k = rw add-one (slice-cons q e s 0 h k)
+
+-- Operands, and what else stands at a level, where the levels below are read alike.
+module _ (s index arguments b : List ℕ) (l : Language) (z : Indexed index s l) (bytes : (i : ℕ) → getD b i 0 < 256)
+    (f : ℕ → ℕ → Read) (g : ℕ → List ℕ → Meant.Read C.Code)
+    (below : (k at : ℕ) → k < 32 → restAt b (f k at) ≡ restOf (g k (drop at b))) where
+  code-next : (m q at e : ℕ) → f (getD s q 0) at ≡ End e → operandsFrom f s (suc m) q at ≡ operandsFrom f s m (q + 1) e
+  unfolding operandsFrom
+  code-next m q at e y = cc
+
+  meant-next : (k : ℕ) (ks u v : List ℕ) (a : C.Code) → g k u ≡ Meant.done a v → restOf (readAll g (k ∷ ks) u) ≡ restOf (readAll g ks v)
+  unfolding readAll
+  meant-next k ks u v a y = rw y (made (λ t. cons a t) (readAll g ks v))
+
+  next : (r : Read) (m q : ℕ) (ks : List ℕ) (at : ℕ) → f (getD s q 0) at ≡ r → restAt b r ≡ restOf (g (getD s q 0) (drop at b))
+      → ((e : ℕ) → restAt b (operandsFrom f s m (q + 1) e) ≡ restOf (readAll g ks (drop e b)))
+      → restAt b (operandsFrom f s (suc m) q at) ≡ restOf (readAll g (getD s q 0 ∷ ks) (drop at b))
+  unfolding operandsFrom readAll
+  next (End e) m q ks at y h ih =
+      let d = done-of (g (getD s q 0) (drop at b)) (drop e b) (sym h) in
+      ap (restAt b) (code-next m q at e y) ∙ (ih e ∙ sym (meant-next (getD s q 0) ks (drop at b) (drop e b) (d .0) (d .1)))
+  next Deep m q ks at y h ih = cc (deep-of (g (getD s q 0) (drop at b)) (sym h))
+  next Broken m q ks at y h ih = cc (broken-of (g (getD s q 0) (drop at b)) (sym h))
+
+  operands-same : (m q e at : ℕ) → e - q ≡ m → KindsIn s q e → restAt b (operandsFrom f s m q at) ≡ restOf (readAll g (slice q e s) (drop at b))
+  unfolding operandsFrom readAll
+  operands-same zero q e at y h = rw (no-slice s q e (omega arith))
+  operands-same (suc m) q e at y h =
+      let i = h q (omega arith) (omega arith) in
+      let j = h (e - 1) (omega arith) (omega arith) in
+      rw (one-slice s q e (omega arith) (omega arith))
+      (next (f (getD s q 0) at) m q (slice (q + 1) e s) at refl (below (getD s q 0) at (i .1))
+      λ d. operands-same m (q + 1) e d (omega arith) λ x a c. h x (omega arith) c)
+
+  -- A production name and its operands.
+  name-end : (k at : ℕ) → length b ≤ at → restAt b (follow f s (nameAt s index k b at)) ≡ restOf (readNode g l k (drop at b))
+  unfolding readNode
+  name-end k at h = cc (Laws.name-end s index k b at h, drop-of-length-le b h)
+
+  name-found : (place k p at : ℕ) → place ≡ getD index (productionKey k p) 0 → k < 32 → p < 256
+      → restAt b (follow f s (operandsAt s place at)) ≡ restOf (readOperands g k p (argumentsBefore s place) (drop at b))
+  unfolding operandsAt readOperands fieldEnd
+  name-found zero k p at e h j = cc (eq-eqb 0 0 refl)
+  name-found (suc q) k p at e h j =
+      let pos : suc q ≡ 0 → ⊥ = λ w. omega arith in
+      let from : suc q + 4 ≡ q + 5 = omega arith in
+      let n : pairAt s (suc q) ≡ pairAt s (q + 1) = ap (pairAt s) (omega arith) in
+      let stop : suc q + 2 + pairAt s (suc q) ≡ q + 3 + pairAt s (q + 1) = omega arith in
+      let w = Laws.kinds-in index s (z .sound) refl h j e pos refl in
+      rw (ne-eqb (suc q) 0 pos, stop, from)
+      (operands-same _ (q + 5) (q + 3 + pairAt s (q + 1)) at refl (λ x a c. w x (omega arith) (omega arith))
+      ∙ sym (made (λ t. node k p t) (readAll g (slice (q + 5) (q + 3 + pairAt s (q + 1)) s) (drop at b))))
+
+  name-in : (k at : ℕ) → k < 32 → at < length b → restAt b (follow f s (nameAt s index k b at)) ≡ restOf (readNode g l k (drop at b))
+  unfolding nameAt readNode
+  name-in k at h i =
+      rw (front b at i, lt-leb (length b) at i, z .arguments k (getD b at 0) h (bytes at))
+      (name-found (getD index (productionKey k (getD b at 0)) 0) k (getD b at 0) (at + 1) refl h (bytes at))
+
+  name-same : (k at : ℕ) → k < 32 → restAt b (follow f s (nameAt s index k b at)) ≡ restOf (readNode g l k (drop at b))
+  name-same k at h = by-test (leb (length b) at) (λ e. name-end k at (leb-true _ _ e)) (λ e. name-in k at h (leb-false _ _ e))
+
+  -- One level of a tree.
+  tree-same : (place k at : ℕ) → place ≡ getD index k 0 → k < 32 → restAt b (follow f s (treeNode s index k b at)) ≡ restOf (readTreeLevel g l k (drop at b))
+  unfolding readTreeLevel
+  tree-same zero k at e h =
+      cc (Laws.tree-name s index k b at refl e refl refl, name-same k at h, z .range k h)
+  tree-same (suc p) k at e h =
+      let pos : suc p ≡ 0 → ⊥ = λ w. omega arith in
+      cc (Laws.tree-token s index k b at refl e pos refl, token-same s (suc p) b at, z .range k h)
+
+  -- One level of a code.
+  module _ (k at : ℕ) (kind : k < 32) where
+    code-end : length b ≤ at → restAt b (follow f s (codeNode s index arguments k b at)) ≡ restOf (readCodeLevel g l arguments k (drop at b))
+    unfolding readCodeLevel
+    code-end h = cc (Laws.code-end s index arguments k b at h, drop-of-length-le b h)
+
+    module _ (there : at < length b) where
+      code-in : restAt b (follow f s (codeNode s index arguments k b at)) ≡ restOf (readCodeLevel g l arguments k (getD b at 0 ∷ drop (at + 1) b))
+      unfolding readCodeLevel
+      code-in =
+          by-test (eqb (getD b at 0) 1)
+          (λ d. cc (Laws.code-name s index arguments k b at there (eqb-true _ _ d) refl, name-same k (at + 1) kind))
+          (λ d. by-test (eqb (getD b at 0) 2)
+          (λ e. cc (Laws.code-token s index arguments k b at there (eqb-false _ _ d) (eqb-true _ _ e) refl refl refl, token-same s (getD index k 0) b (at + 1), z .range k kind))
+          (λ e. by-test (eqb (getD b at 0) 3)
+          (λ c. cc (Laws.code-argument s index arguments k b at there (eqb-false _ _ d) (eqb-false _ _ e) (eqb-true _ _ c) refl, argument-same arguments k b (at + 1)))
+          (λ c. cc (Laws.code-other s index arguments k b at there (eqb-false _ _ d) (eqb-false _ _ e) (eqb-false _ _ c)))))
+
+    code-same : restAt b (follow f s (codeNode s index arguments k b at)) ≡ restOf (readCodeLevel g l arguments k (drop at b))
+    code-same =
+        by-test (leb (length b) at)
+        (λ e. code-end (leb-true _ _ e))
+        (λ e. let h : at < length b = leb-false _ _ e in rw (front b at h) (code-in h))
+
+  level-same : (x : Syntax) (k at : ℕ) → k < 32
+      → restAt b (follow f s (nodeAt x s index arguments k b at)) ≡ restOf (readLevel (syntaxOf x) g l arguments k (drop at b))
+  unfolding nodeAt readLevel
+  level-same Tree k at h = tree-same (getD index k 0) k at refl h
+  level-same Code k at h = code-same k at h
+
+-- Reading by position is reading.
+pub read-same : (x : Syntax) (s index arguments b : List ℕ) (l : Language) → Indexed index s l → ((i : ℕ) → getD b i 0 < 256)
+    → (n k at : ℕ) → k < 32 → restAt b (readAt x s index arguments b n k at) ≡ restOf (Meant.read (syntaxOf x) l arguments n k (drop at b))
+unfolding readAt Meant.read
+read-same x s index arguments b l z bytes zero k at h = refl
+read-same x s index arguments b l z bytes (suc n) k at h =
+    level-same s index arguments b l z bytes (readAt x s index arguments b n) (Meant.read (syntaxOf x) l arguments n)
+    (λ j e i. read-same x s index arguments b l z bytes n j e i) x k at h

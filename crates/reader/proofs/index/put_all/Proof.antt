@@ -1,0 +1,46 @@
+use borrow.Author.Needs.{needs}
+use Prim.Native.Nat.{_-_}
+use mathlib.Core.Path.{_≡_, refl}
+use lib.ListN.{length}
+use Rattle.fields.specs.Inner.Places.{placesFrom, places}
+use Rattle.reader.specs.Inner.Index.{putAll}
+use Rattle.reader.proofs.Lookup.{puts-done, puts-next}
+use Rattle.reader.proofs.index.put_all.Statement.{statement}
+use Rattle.reader.proofs.index.put_all.Tie as tie
+use Rattle.reader.proofs.index.put_all.Reads as reads
+use Rattle.reader.proofs.index.put_all.Lts as lts
+use Rattle.fields.proofs.walk.field_end.Reads as field-end-reads
+use Rattle.fields.proofs.walk.key_at.Reads as key-at-reads
+use Rattle.reader.proofs.index.put.Reads as put-reads
+
+abbrev Inv-loop : tie.InvT-loop
+Inv-loop language index₀ p₀ index p = (length index ≡ length index₀) × (putAll language index (placesFrom language p) ≡ putAll language index₀ (places language))
+
+abbrev μ-loop : tie.MeasureT-loop
+μ-loop language index₀ p₀ index p = length language - p
+
+loop-holds : tie.Need-loop-holds Inv-loop μ-loop
+loop-holds c = (refl, refl)
+
+loop-again : tie.Need-loop-again Inv-loop μ-loop
+loop-again c = (search needs, puts-next _ _ _ _ (c .before .before .before .before .before .before .before .loop .inv .1) _ _ _ _ (c .before .before .before .put .ensures) (c .before .before .before .before .key-at .ensures .0) refl (c .field-end .ensures .is) (c .before .before .before .before .before .before .loop-test .taken))
+
+returns : tie.Need-returns Inv-loop μ-loop
+returns c = puts-done _ _ _ _ (c .before .loop .inv .1) (c .loop-test .left)
+
+pub put-all-spec : {M : Type 1} → statement M
+put-all-spec =
+    tie.close
+    (tie.spec
+    Inv-loop
+    μ-loop
+    loop-holds
+    (λ c κs. search needs)
+    (λ c. search needs)
+    (λ c. search needs)
+    (λ c κs. search needs)
+    (λ c κs. search needs)
+    (λ c. search needs)
+    loop-again
+    (λ c. search needs)
+    returns)

@@ -1,0 +1,52 @@
+-- The index of a language: for the key of an entry the place of its field in the language's bytes, and one more; 0
+-- where there is no such entry. A class of kind k is at k, production r.p at 32 + (r * 256 + p).
+use Prim.Native.Nat.{ℕ, zero, suc, _+_, _-_, _<_, _≤_}
+use mathlib.Core.Path.{_≡_}
+use mathlib.Core.Bool.{cond}
+use mathlib.Core.List.{List, [], _∷_}
+use mathlib.Core.Option.{Option, none, some}
+use lib.ListN.{length, getD, set}
+use lib.Seq.{slice}
+use lib.Dec.{eqb}
+use Rattle.fields.specs.Fields.{pairAt}
+use Rattle.fields.specs.Inner.Places.{fieldEnd, keyAt}
+use Rattle.language.specs.Language.{Language, Range, rangeOf, argumentsOf, kindKey, productionKey}
+use Rattle.language.specs.LanguageFile.{entriesOf}
+use Rattle.reader.specs.Inner.Positions.{KindsIn}
+
+-- The range in the field before `place`.
+abbrev pub rangeBefore : List ℕ → ℕ → Option Range
+rangeBefore s zero = none
+rangeBefore s (suc p) = some (record { low = pairAt s (p + 4); high = pairAt s (p + 6) })
+
+-- The argument kinds in the field before `place`.
+abbrev pub argumentsBefore : List ℕ → ℕ → Option (List ℕ)
+argumentsBefore s zero = none
+argumentsBefore s (suc p) = some (slice (p + 5) (fieldEnd s p) s)
+
+-- The index with a value at a key that has none yet.
+unfoldable pub putAt : List ℕ → ℕ → ℕ → List ℕ
+putAt index key v = cond (eqb (getD index key 0) 0) (set index key v) index
+
+-- The index with the entries at places put in, one after the other.
+unfoldable pub putAll : List ℕ → List ℕ → List ℕ → List ℕ
+putAll s index [] = index
+putAll s index (p ∷ l) = putAll s (putAt index (keyAt 0x11 s p) (p + 1)) l
+
+-- What a lookup may rely on: each place is that of a whole field.
+pub record Sound (index s : List ℕ) : Type 0 where
+  pub long : length index ≡ 8224
+  pub short : length s ≤ 1024
+  pub class : (k : ℕ) → k < 32 → 0 < getD index (kindKey k) 0 → getD index (kindKey k) 0 + 7 ≤ length s
+  pub name : (k p : ℕ) → k < 32 → p < 256 → 0 < getD index (productionKey k p) 0
+      → getD index (productionKey k p) 0 + 4 ≤ length s
+  pub operands : (k p : ℕ) → k < 32 → p < 256 → 0 < getD index (productionKey k p) 0
+      → KindsIn s (getD index (productionKey k p) 0 + 4) (getD index (productionKey k p) 0 + 2 + pairAt s (getD index (productionKey k p) 0))
+
+-- The index of language l, whose bytes are s: what is looked up through it is what stands in l.
+pub record Indexed (index s : List ℕ) (l : Language) : Type 0 where
+  pub sound : Sound index s
+  pub entries : entriesOf s ≡ some l
+  pub range : (k : ℕ) → k < 32 → rangeOf l k ≡ rangeBefore s (getD index (kindKey k) 0)
+  pub arguments : (k p : ℕ) → k < 32 → p < 256
+      → argumentsOf l k p ≡ argumentsBefore s (getD index (productionKey k p) 0)

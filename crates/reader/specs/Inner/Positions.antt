@@ -1,0 +1,134 @@
+-- Reading by position: what stands where in the bytes, looked up through the index of the language.
+use Prim.Native.Nat.{ℕ, zero, suc, _+_, _-_, _<_, _≤_}
+use mathlib.Core.Bool.{Bool, true, false, cond}
+use mathlib.Core.List.{List}
+use lib.ListN.{length, getD, drop}
+use lib.Dec.{ltb, leb, eqb}
+use Rattle.fields.specs.Fields.{pairAt}
+use Rattle.fields.specs.declared.outcome.Outcome.{Outcome}
+use Rattle.fields.specs.declared.outcome.Outcome.the-variants.{Accepted, Refused}
+use Rattle.fields.specs.declared.outcome.Reason.the-variants as Reason
+use Rattle.language.specs.Language.{productionKey, mentions}
+use Rattle.language.specs.Inner.Entries.{entryAt}
+use Rattle.reader.specs.Syntax as Meant
+use Rattle.reader.specs.declared.node.Syntax.{Syntax}
+use Rattle.reader.specs.declared.node.Syntax.the-variants.{Tree, Code}
+use Rattle.reader.specs.declared.node.Read.{Read}
+use Rattle.reader.specs.declared.node.Read.the-variants.{End, Deep, Broken}
+use Rattle.reader.specs.declared.node.Node.{Node}
+use Rattle.reader.specs.declared.node.Node.the-variants.{Leaf, Operands}
+
+-- A token of the class whose field stands before `place`, at `at`; there is no class at 0.
+unfoldable pub tokenAt : List ℕ → ℕ → List ℕ → ℕ → Read
+tokenAt s place b at =
+    cond (eqb place 0) Broken
+    (cond (ltb (length b - at) 2) Broken
+    (cond (ltb (pairAt b at) (pairAt s (place + 3))) Broken
+    (cond (ltb (pairAt s (place + 5)) (pairAt b at)) Broken
+    (End (at + 2)))))
+
+-- The operands of the production whose field stands before `place`; there is no production at 0.
+unfoldable pub operandsAt : List ℕ → ℕ → ℕ → Node
+operandsAt s place at = cond (eqb place 0) (Leaf Broken) (Operands (place + 4) (place + 2 + pairAt s place) at)
+
+-- A production name of kind k at `at`.
+unfoldable pub nameAt : List ℕ → List ℕ → ℕ → List ℕ → ℕ → Node
+nameAt s index k b at =
+    cond (leb (length b) at) (Leaf Broken) (operandsAt s (getD index (productionKey k (getD b at 0)) 0) (at + 1))
+
+-- Argument i is of kind k.
+unfoldable pub argumentIs : List ℕ → ℕ → ℕ → Bool
+argumentIs arguments k i =
+    cond (eqb i 0) false (cond (ltb (length arguments) i) false (eqb (getD arguments (i - 1) 0) k))
+
+-- An argument number at `at`.
+unfoldable pub argumentAt : List ℕ → ℕ → List ℕ → ℕ → Read
+argumentAt arguments k b at =
+    cond (leb (length b) at) Broken (cond (argumentIs arguments k (getD b at 0)) (End (at + 1)) Broken)
+
+-- What stands at `at` in a tree.
+unfoldable pub treeNode : List ℕ → List ℕ → ℕ → List ℕ → ℕ → Node
+treeNode s index k b at =
+    cond (eqb (getD index k 0) 0) (nameAt s index k b at) (Leaf (tokenAt s (getD index k 0) b at))
+
+-- What stands behind a sign.
+unfoldable pub signNode : List ℕ → List ℕ → List ℕ → ℕ → List ℕ → ℕ → ℕ → Node
+signNode s index arguments k b sign at =
+    cond (eqb sign 1) (nameAt s index k b at)
+    (cond (eqb sign 2) (Leaf (tokenAt s (getD index k 0) b at))
+    (cond (eqb sign 3) (Leaf (argumentAt arguments k b at))
+    (Leaf Broken)))
+
+-- What stands at `at` in a code.
+unfoldable pub codeNode : List ℕ → List ℕ → List ℕ → ℕ → List ℕ → ℕ → Node
+codeNode s index arguments k b at =
+    cond (leb (length b) at) (Leaf Broken) (signNode s index arguments k b (getD b at 0) (at + 1))
+
+unfoldable pub nodeAt : Syntax → List ℕ → List ℕ → List ℕ → ℕ → List ℕ → ℕ → Node
+nodeAt Tree s index arguments k b at = treeNode s index k b at
+nodeAt Code s index arguments k b at = codeNode s index arguments k b at
+
+-- As many operands as the number says, whose kinds stand in s from q on.
+unfoldable pub operandsFrom : (ℕ → ℕ → Read) → List ℕ → ℕ → ℕ → ℕ → Read
+operandsFrom f s zero q at = End at
+operandsFrom f s (suc m) q at =
+    elim (f (getD s q 0) at) [ End e ↦ operandsFrom f s m (q + 1) e | Deep ↦ Deep | Broken ↦ Broken ]
+
+-- What a node comes to, where f reads its operands.
+abbrev pub follow : (ℕ → ℕ → Read) → List ℕ → Node → Read
+follow f s (Leaf r) = r
+follow f s (Operands q e to) = operandsFrom f s (e - q) q to
+
+-- A code of kind k at `at`, with so many levels left.
+unfoldable pub readAt : Syntax → List ℕ → List ℕ → List ℕ → List ℕ → ℕ → ℕ → ℕ → Read
+readAt x s index arguments b zero k at = Deep
+readAt x s index arguments b (suc n) k at =
+    follow (readAt x s index arguments b n) s (nodeAt x s index arguments k b at)
+
+-- A position that was reached lies in the bytes.
+abbrev pub EndsBy : ℕ → Read → Type 0
+EndsBy n (End e) = e ≤ n
+EndsBy n Deep = Unit {0}
+EndsBy n Broken = Unit {0}
+
+-- The bytes of s from q up to e are there, and are kinds.
+abbrev pub KindsIn : List ℕ → ℕ → ℕ → Type 0
+KindsIn s q e = (x : ℕ) → q ≤ x → x < e → (x < length s) × (getD s x 0 < 32)
+
+-- What stands at a node lies in the bytes and in the language.
+abbrev pub NodeIn : List ℕ → List ℕ → Node → Type 0
+NodeIn s b (Leaf r) = EndsBy (length b) r
+NodeIn s b (Operands q e to) = (to ≤ length b) × KindsIn s q e
+
+-- What reading comes to, without the code that was read.
+pub data Rest : Type 0 where
+  rest : List ℕ → Rest
+  deep : Rest
+  broken : Rest
+
+-- What is left, where a position was reached.
+abbrev pub restAt : List ℕ → Read → Rest
+restAt b (End e) = rest (drop e b)
+restAt b Deep = deep
+restAt b Broken = broken
+
+-- What is left after a value was read.
+abbrev pub restOf : {A : Type 0} → Meant.Read A → Rest
+restOf (Meant.done a r) = rest r
+restOf Meant.deep = deep
+restOf Meant.broken = broken
+
+-- The syntax that the code is told.
+abbrev pub syntaxOf : Syntax → Meant.Syntax
+syntaxOf Tree = Meant.tree
+syntaxOf Code = Meant.code
+
+-- What a whole tree comes to, where the bytes are n long.
+abbrev pub wholeAt : Read → ℕ → Outcome
+wholeAt (End e) n = cond (eqb e n) (Accepted 0) (Refused Reason.Tree)
+wholeAt Deep n = Refused Reason.Levels
+wholeAt Broken n = Refused Reason.Tree
+
+-- The entry at p mentions kind k.
+unfoldable pub mentionsAt : List ℕ → ℕ → ℕ → Bool
+mentionsAt s k p = mentions k (entryAt s p)

@@ -1,0 +1,44 @@
+// The index of a language: where the field of each entry stands, by the entry's key.
+use fields::walk::field_end;
+use fields::walk::key_at;
+ghost use mathlib.Core.Path.{_≡_};
+ghost use Prim.Native.Nat.{ℕ, _+_, _<_, _≤_};
+ghost use lib.ListN.{length, getD};
+ghost use Rattle.fields.specs.Inner.Places.{places};
+ghost use mathlib.Core.Option.{some};
+ghost use Rattle.language.specs.Language.{Language};
+ghost use Rattle.language.specs.LanguageFile.{entriesOf};
+ghost use Rattle.reader.specs.Inner.Index.{putAt, putAll, Indexed};
+
+// Puts a value at a key that has none yet.
+fn put(index: &mut [u16], key: usize, value: u16)
+    ensures { λ r. ⌜ now (index .exit) ≡ putAt (now (index .entry)) key value ⌝ }
+{
+    if index.len() <= key {
+        return;
+    }
+    if index[key] != 0 {
+        return;
+    }
+    index[key] = value;
+}
+
+// Puts every entry of the language into the index.
+fn put_all(language: &[u8], index: &mut [u16])
+    requires { ⌜ length (now language) ≤ 1024 ⌝ }
+    ensures { λ r. ⌜ now (index .exit) ≡ putAll (now (language .entry)) (now (index .entry)) (places (now (language .entry))) ⌝ }
+{
+    let mut p = 0;
+    while p < language.len() {
+        put(index, key_at(language, p, 0x11), (p + 1) as u16);
+        p = field_end(language, p);
+    }
+}
+
+// Builds the index of a language in an index that is all zero.
+pub fn build(language: &[u8], index: &mut [u16])
+    requires { ⌜ (length (now language) ≤ 1024) × (length (now index) ≡ 8224) × ((j : ℕ) → getD (now index) j 0 ≡ 0) ⌝ }
+    ensures { λ r. ⌜ ((l : Language) → entriesOf (now (language .entry)) ≡ some l → Indexed (now (index .exit)) (now (language .entry)) l) ⌝ }
+{
+    put_all(language, index);
+}

@@ -1,0 +1,166 @@
+// What stands at one position: a leaf, or a production whose operands follow.
+use fields::bytes::wide;
+ghost use mathlib.Core.Path.{_≡_};
+ghost use Prim.Native.Nat.{ℕ, _+_, _<_, _≤_};
+ghost use lib.ListN.{length, getD};
+ghost use Rattle.fields.specs.Fields.{pairAt};
+ghost use Rattle.reader.specs.Inner.Positions.{tokenAt, nameAt, argumentIs, argumentAt, treeNode, codeNode, nodeAt, EndsBy, NodeIn};
+ghost use Rattle.reader.specs.Inner.Index.{Sound};
+
+// Trees are written without signs, codes with them.
+pub enum Syntax {
+    Tree,
+    Code,
+}
+
+// The position after what was read; one level too many; or bytes that are no such code.
+pub enum Read {
+    End(usize),
+    Deep,
+    Broken,
+}
+
+// A leaf that was read; or a node: the kinds of its operands stand in the language from the first number up to the
+// second, the operands from the third on.
+pub enum Node {
+    Leaf(Read),
+    Operands(usize, usize, usize),
+}
+
+// The number in the two bytes at i.
+fn pair_in(s: &[u8], i: usize) -> usize
+    requires { ⌜ i + 1 < length (now s) ⌝ }
+    ensures { λ r. ⌜ (r ≡ pairAt (now (s .entry)) i) × (r < 65536) ⌝ }
+{
+    wide(s[i]) * 256 + wide(s[i + 1])
+}
+
+// What the index holds at i.
+fn place_at(index: &[u16], i: usize) -> usize
+    requires { ⌜ i < length (now index) ⌝ }
+    ensures { λ r. ⌜ r ≡ getD (now (index .entry)) i 0 ⌝ }
+{
+    index[i] as usize
+}
+
+// A token of the class whose field stands before `place`.
+fn token(language: &[u8], place: usize, bytes: &[u8], at: usize) -> Read
+    requires { ⌜ (at ≤ length (now bytes)) × (0 < place → place + 7 ≤ length (now language)) ⌝ }
+    ensures { λ r. ⌜ (r ≡ tokenAt (now (language .entry)) place (now (bytes .entry)) at) × EndsBy (length (now (bytes .entry))) r ⌝ }
+{
+    if place == 0 {
+        return Read::Broken;
+    }
+    if bytes.len() - at < 2 {
+        return Read::Broken;
+    }
+    let value = pair_in(bytes, at);
+    if value < pair_in(language, place + 3) {
+        return Read::Broken;
+    }
+    if pair_in(language, place + 5) < value {
+        return Read::Broken;
+    }
+    Read::End(at + 2)
+}
+
+// A production name of the kind, whose operands follow.
+fn name(language: &[u8], index: &[u16], kind: u8, bytes: &[u8], at: usize) -> Node
+    requires { ⌜ Sound (now index) (now language) × (kind < 32) × (at ≤ length (now bytes)) ⌝ }
+    ensures { λ r. ⌜ (r ≡ nameAt (now (language .entry)) (now (index .entry)) kind (now (bytes .entry)) at) × NodeIn (now (language .entry)) (now (bytes .entry)) r ⌝ }
+{
+    if bytes.len() <= at {
+        return Node::Leaf(Read::Broken);
+    }
+    let place = place_at(index, 32 + (wide(kind) * 256 + wide(bytes[at])));
+    if place == 0 {
+        return Node::Leaf(Read::Broken);
+    }
+    Node::Operands(place + 4, place + 2 + pair_in(language, place), at + 1)
+}
+
+// Whether argument i is of the kind.
+fn argument_is(arguments: &[u8], kind: u8, i: usize) -> bool
+    ensures { λ r. ⌜ r ≡ argumentIs (now (arguments .entry)) kind i ⌝ }
+{
+    if i == 0 {
+        return false;
+    }
+    if arguments.len() < i {
+        return false;
+    }
+    arguments[i - 1] == kind
+}
+
+// The number of an argument of the kind.
+fn argument(arguments: &[u8], kind: u8, bytes: &[u8], at: usize) -> Read
+    requires { ⌜ at ≤ length (now bytes) ⌝ }
+    ensures { λ r. ⌜ (r ≡ argumentAt (now (arguments .entry)) kind (now (bytes .entry)) at) × EndsBy (length (now (bytes .entry))) r ⌝ }
+{
+    if bytes.len() <= at {
+        return Read::Broken;
+    }
+    if argument_is(arguments, kind, wide(bytes[at])) {
+        return Read::End(at + 1);
+    }
+    Read::Broken
+}
+
+// A node of a tree: a class has a token, any other kind a name.
+fn tree_node(language: &[u8], index: &[u16], kind: u8, bytes: &[u8], at: usize) -> Node
+    requires { ⌜ Sound (now index) (now language) × (kind < 32) × (at ≤ length (now bytes)) ⌝ }
+    ensures { λ r. ⌜ (r ≡ treeNode (now (language .entry)) (now (index .entry)) kind (now (bytes .entry)) at) × NodeIn (now (language .entry)) (now (bytes .entry)) r ⌝ }
+{
+    let place = place_at(index, wide(kind));
+    if place == 0 {
+        return name(language, index, kind, bytes, at);
+    }
+    Node::Leaf(token(language, place, bytes, at))
+}
+
+// A node of a code: its sign says what follows.
+fn code_node(
+    language: &[u8],
+    index: &[u16],
+    arguments: &[u8],
+    kind: u8,
+    bytes: &[u8],
+    at: usize,
+) -> Node
+    requires { ⌜ Sound (now index) (now language) × (kind < 32) × (at ≤ length (now bytes)) ⌝ }
+    ensures { λ r. ⌜ (r ≡ codeNode (now (language .entry)) (now (index .entry)) (now (arguments .entry)) kind (now (bytes .entry)) at) × NodeIn (now (language .entry)) (now (bytes .entry)) r ⌝ }
+{
+    if bytes.len() <= at {
+        return Node::Leaf(Read::Broken);
+    }
+    let sign = bytes[at];
+    if sign == 1 {
+        return name(language, index, kind, bytes, at + 1);
+    }
+    if sign == 2 {
+        return Node::Leaf(token(language, place_at(index, wide(kind)), bytes, at + 1));
+    }
+    if sign == 3 {
+        return Node::Leaf(argument(arguments, kind, bytes, at + 1));
+    }
+    Node::Leaf(Read::Broken)
+}
+
+// What stands at a position, in either syntax.
+pub fn node_at(
+    syntax: Syntax,
+    language: &[u8],
+    index: &[u16],
+    arguments: &[u8],
+    kind: u8,
+    bytes: &[u8],
+    at: usize,
+) -> Node
+    requires { ⌜ Sound (now index) (now language) × (kind < 32) × (at ≤ length (now bytes)) ⌝ }
+    ensures { λ r. ⌜ (r ≡ nodeAt syntax (now (language .entry)) (now (index .entry)) (now (arguments .entry)) kind (now (bytes .entry)) at) × NodeIn (now (language .entry)) (now (bytes .entry)) r ⌝ }
+{
+    match syntax {
+        Syntax::Tree => tree_node(language, index, kind, bytes, at),
+        Syntax::Code => code_node(language, index, arguments, kind, bytes, at),
+    }
+}
