@@ -10,7 +10,7 @@ use lib.ListN.{length, getD, take, drop, length-take, drop-of-length-le}
 use lib.Seq.{slice, slice-cons, take-add, drop-at, drop-drop, length-take-le}
 use borrow.Author.Tests.{le-leb, lt-leb}
 use Rattle.fields.specs.Lists.{all, any, before, isSome}
-use Rattle.fields.proofs.Truth.{false-true}
+use Rattle.fields.proofs.Truth.{and-both}
 pub use Rattle.fields.proofs.Truth.{by-test}
 use Rattle.fields.specs.Keyed.{risingFrom}
 
@@ -55,10 +55,8 @@ all-and f g (a ∷ l) = ap (λ (b : Bool). (f a && g a) && b) (all-and f g l) �
 
 -- The first passes, and all others, where all do.
 pub all-true : {A : Type 0} (f : A → Bool) (a : A) (l : List A) → all f (a ∷ l) ≡ true → (f a ≡ true) × (all f l ≡ true)
-all-true f a l e =
-    by-test (f a)
-    (λ h. (h, all-next f a l e h))
-    (λ h. false-true (all-stop f a l e h))
+unfolding all
+all-true f a l e = and-both (f a) (all f l) e
 
 -- Some element passes: of a mapped list, of tests that agree where another holds, of the test that none passes.
 pub any-map : {A B : Type 0} (f : B → Bool) (g : A → B) (l : List A) → any f (map g l) ≡ any (λ a. f (g a)) l

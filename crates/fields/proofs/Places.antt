@@ -1,4 +1,4 @@
--- The walk by places: a turn at a time, and that it meets the fields of `fieldsOf`.
+-- The walk by places, a turn at a time, and the passes of the code that go by it.
 use Prim.Native.Nat.{ℕ, zero, suc, _+_, _-_, _<_, _≤_}
 use mathlib.Core.Path.{_≡_, refl, sym, ap, _∙_}
 use mathlib.Core.Bool.{Bool, true, false}

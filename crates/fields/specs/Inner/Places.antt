@@ -1,5 +1,5 @@
 -- The fields of a file by their places, as the code walks over them.
--- `proofs/Places.antt` shows that they are the fields of `fieldsOf`.
+-- `proofs/Split.antt` shows that they are the fields of `fieldsOf`.
 use Prim.Native.Nat.{ℕ, zero, suc, _+_, _<_, _≤_}
 use mathlib.Core.Path.{_≡_}
 use mathlib.Core.Bool.{Bool, true, false, cond}

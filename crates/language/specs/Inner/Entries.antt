@@ -1,5 +1,5 @@
 -- The entries of a language by their places, as the code reads them.
--- `proofs/Entries.antt` shows that they are the entries of `entriesOf`.
+-- `proofs/Holds.antt` shows that they are the entries of `entriesOf`.
 use Prim.Native.Nat.{ℕ, _+_, _<_, _≤_}
 use mathlib.Core.Path.{_≡_}
 use mathlib.Core.Bool.{Bool, true, false, cond, _&&_}
