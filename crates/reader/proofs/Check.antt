@@ -18,7 +18,8 @@ use Rattle.fields.specs.declared.outcome.Outcome.the-variants.{Accepted, Refuse
 use Rattle.fields.specs.declared.outcome.Reason.{Reason}
 use Rattle.fields.specs.declared.outcome.Reason.the-variants as Why
 use Rattle.fields.specs.Inner.Places.{fieldEnd, places}
-use Rattle.fields.proofs.Lists.{by-test, true-not-false, all-true, any-map, any-next}
+use Rattle.fields.proofs.Truth.{by-test, false-true}
+use Rattle.fields.proofs.Lists.{all-true, any-map, any-next}
 use Rattle.fields.proofs.Split.{front}
 use Rattle.language.specs.Language.{Entry, class, production, Language, mentions, isIn, entryKey, clashes}
 use Rattle.language.specs.LanguageFile.{isKind, entriesOf, whole, languageOf}
@@ -86,7 +87,7 @@ not-below h i = omega arith
 -- A kind that is in a language is below 32.
 among-kinds : (k : ℕ) (l : List ℕ) → all isKind l ≡ true → any (λ a. eqb a k) l ≡ true → k < 32
 unfolding any
-among-kinds k [] h i = true-not-false (sym i)
+among-kinds k [] h i = false-true i
 among-kinds k (a ∷ l) h i =
     let w = all-true isKind a l h in
     by-test (eqb a k)
@@ -112,7 +113,7 @@ module _ (s : List ℕ) (k p : ℕ) where
 
 mentioned : (s : List ℕ) (k : ℕ) (l : List ℕ) → all (entryWhole s) l ≡ true → any (mentionsAt s k) l ≡ true → k < 32
 unfolding any
-mentioned s k [] h i = true-not-false (sym i)
+mentioned s k [] h i = false-true i
 mentioned s k (p ∷ l) h i =
     let w = all-true (entryWhole s) p l h in
     by-test (mentionsAt s k p)

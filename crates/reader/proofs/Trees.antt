@@ -18,7 +18,8 @@ use Rattle.fields.specs.declared.outcome.Outcome.the-variants.{Accepted, Refuse
 use Rattle.fields.specs.declared.outcome.Reason.{Reason}
 use Rattle.fields.specs.declared.outcome.Reason.the-variants as Why
 use Rattle.fields.specs.Inner.Places.{fieldEnd, placesFrom, places}
-use Rattle.fields.proofs.Lists.{by-test, true-not-false, all-true, any-map, any-stop, any-next, part-done, part-next}
+use Rattle.fields.proofs.Truth.{by-test, false-true}
+use Rattle.fields.proofs.Lists.{all-true, any-map, any-stop, any-next, part-done, part-next}
 use Rattle.fields.proofs.Places.{pass-done, pass-next}
 use Rattle.language.specs.Language.{Entry, class, production, Language, mentions, isIn}
 use Rattle.language.specs.LanguageFile.{entriesOf, languageOf}
