@@ -148,19 +148,17 @@ pub mod runs {
     /// A tree of few levels with as many bytes as the chain.
     pub fn flat_tree() -> Vec<u8> {
         let bytes = chain_tree().len();
-        let mut tree = vec![2];
-        put_flat(bytes - 2, &mut tree);
-        tree.push(0);
+        let mut tree = vec![3, 0, 1];
+        put_flat(bytes - 5, &mut tree);
+        tree.extend_from_slice(&[0, 2]);
         tree
     }
 
-    /// Appends a tree of exactly so many bytes, at least one, and few levels.
+    /// Appends a tree of exactly so many bytes, an odd number, and few levels.
     fn put_flat(bytes: usize, tree: &mut Vec<u8>) {
         match bytes {
             1 => tree.push(0),
-            2 => unreachable!("no tree of the language has two bytes"),
             3 => tree.extend_from_slice(&[1, 0, 7]),
-            4 => unreachable!("sizes are split so that this is not reached"),
             _ => {
                 let left = ((bytes - 1) / 2) | 1;
                 tree.push(2);

@@ -20,7 +20,7 @@ fn print_line(name: &str, bytes: usize, timing: Timing) {
         "{name:42} {bytes:9} {library:14.0} {reference:14.0} {:9.2} {:9.2} {:7.2}",
         library / bytes as f64,
         reference / bytes as f64,
-        timing.ratio()
+        timing.ratio
     );
 }
 
