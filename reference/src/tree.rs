@@ -44,6 +44,7 @@ struct Reader<'a, T> {
 
 impl<T: Tally> Reader<'_, T> {
     /// Reads a tree of a kind with at most `levels` levels.
+    #[inline]
     fn read(&mut self, kind: u8, levels: usize, weight: T::Weight) -> Result<(), Refusal> {
         require(levels > 0, Refusal::Depth)?;
         match self.grammar.class(kind) {
@@ -66,7 +67,6 @@ impl<T: Tally> Reader<'_, T> {
     }
 
     /// Reads a production's name and its argument trees.
-    #[inline]
     fn read_production(
         &mut self,
         kind: u8,

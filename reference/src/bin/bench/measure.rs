@@ -3,10 +3,13 @@
 use std::hint::black_box;
 use std::time::{Duration, Instant};
 
-/// Rounds in each of which both functions are timed.
-const ROUNDS: usize = 11;
+/// Both functions are timed in at most so many rounds, and in at least the least number.
+const MOST_ROUNDS: usize = 41;
+const LEAST_ROUNDS: usize = 7;
 /// A timing of one function in a round takes at least about this long.
-const LEAST: Duration = Duration::from_millis(10);
+const LEAST: Duration = Duration::from_millis(2);
+/// All rounds together take about this long, unless the least number takes longer.
+const TOTAL: Duration = Duration::from_secs(1);
 
 /// What was measured: for both sides the median time of a call, and the median ratio.
 #[derive(Clone, Copy)]
@@ -25,8 +28,9 @@ pub fn compare<A, B>(
     mut reference: impl FnMut() -> B,
 ) -> Timing {
     let (library_calls, reference_calls) = (calls(&mut library), calls(&mut reference));
+    let start = Instant::now();
     let mut times = Vec::new();
-    for _ in 0..ROUNDS {
+    while times.len() < LEAST_ROUNDS || times.len() < MOST_ROUNDS && start.elapsed() < TOTAL {
         times.push((time(&mut library, library_calls), time(&mut reference, reference_calls)));
     }
     Timing {
