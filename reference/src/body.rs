@@ -86,7 +86,7 @@ impl Body {
         let mut last: Option<Position> = None;
         for field in fields {
             let position = draft.value.decode_field(field?)?;
-            let group = last.map_or(false, |(clause, _)| clause);
+            let group = last.is_some_and(|(clause, _)| clause);
             require(group <= position.0, Refusal::Broken)?;
             draft.rising &= last < Some(position);
             last = Some(position);

@@ -2,7 +2,7 @@
 //!
 //! The five operations are `check_language`, `check_translation`, `check_tree`, `reduce`
 //! and `run`. Each answers with an `Outcome`: accepted with a length, or refused.
-#![cfg_attr(not(feature = "library"), forbid(unsafe_code))]
+#![deny(unsafe_code)]
 
 mod body;
 mod code;

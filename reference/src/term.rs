@@ -80,9 +80,7 @@ impl Decoder<'_> {
         use TranslationTerm::*;
         let below = levels.checked_sub(1)?;
         Some(Box::new(match self.byte()? {
-            0x50 => {
-                Body(self.language(below)?, self.language(below)?, self.number(self.bodies)?)
-            }
+            0x50 => Body(self.language(below)?, self.language(below)?, self.number(self.bodies)?),
             0x51 => Variable(self.number(VARIABLES)?),
             0x52 => Without(self.translation(below)?, self.language(below)?),
             0x53 => Sum(self.translation(below)?, self.translation(below)?),

@@ -56,7 +56,8 @@ impl Translation {
     /// Whether exactly the kinds of the source are mapped, each as it must be.
     fn maps_as_required(&self) -> bool {
         let target_kinds = self.target.kinds();
-        let lands_in_target = |kind: &Option<u8>| kind.map_or(true, |k| target_kinds & bit(k) != 0);
+        let lands_in_target =
+            |kind: &Option<u8>| kind.is_none_or(|kind| target_kinds & bit(kind) != 0);
         self.body.mapped_kinds() == self.source.kinds()
             && self.body.mapping.iter().all(lands_in_target)
             && self.maps_classes_alike()
@@ -69,9 +70,8 @@ impl Translation {
             ranges[class.kind as usize] = Some((class.low, class.high));
         }
         let mut classes = self.source.classes.iter();
-        classes.all(|class| {
-            ranges[self.mapped(class.kind) as usize] == Some((class.low, class.high))
-        })
+        classes
+            .all(|class| ranges[self.mapped(class.kind) as usize] == Some((class.low, class.high)))
     }
 
     /// Whether each source production has exactly one clause, and no clause is left over.

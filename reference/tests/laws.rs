@@ -120,7 +120,9 @@ fn a_join_runs_as_its_operands_one_after_the_other() {
         let pack = law_pack(&mut random);
         let outer = &pack.terms[random.below(pack.terms.len())];
         let inner = &pack.terms[random.below(pack.terms.len())];
-        let Some(join) = reduced_join(&pack, outer, inner) else { continue };
+        let Some(join) = reduced_join(&pack, outer, inner) else {
+            continue;
+        };
         joins += 1;
         for _ in 0..3 {
             let source = parts(&join.inner).source;

@@ -71,7 +71,10 @@ fn ranges_in_a_language() {
 fn order_in_a_language() {
     let (low, high) = (class(1, 0, 1), class(2, 0, 1));
     let (first, second) = (production(3, 1, &[]), production(3, 2, &[]));
-    assert_eq!(language_number(&[low.clone(), high.clone(), first.clone(), second.clone()].concat()), 0);
+    assert_eq!(
+        language_number(&[low.clone(), high.clone(), first.clone(), second.clone()].concat()),
+        0
+    );
     assert_eq!(language_number(&[high.clone(), low.clone()].concat()), 3);
     assert_eq!(language_number(&[low.clone(), low.clone()].concat()), 3);
     assert_eq!(language_number(&[second.clone(), first.clone()].concat()), 3);

@@ -33,7 +33,8 @@ fn chain(levels: usize, end: &[u8]) -> Vec<u8> {
 #[test]
 fn terms_that_are_not_exactly_one() {
     assert_eq!(term_number(&[0x55, 0x40, 0]), 0);
-    for term in [&[][..], &[0x55], &[0x55, 0x40], &[0x40, 0], &[0x55, 0x40, 0, 0], &[0x58, 0x40, 0]] {
+    for term in [&[][..], &[0x55], &[0x55, 0x40], &[0x40, 0], &[0x55, 0x40, 0, 0], &[0x58, 0x40, 0]]
+    {
         assert_eq!(term_number(term), 8);
     }
     for term in [&[0x55, 0x55, 0x40, 0][..], &[0x44, 0x55, 0x40, 0], &[0x55, 0x48, 0], &[0x4F]] {
@@ -74,7 +75,8 @@ fn levels_of_a_term() {
 
 #[test]
 fn groups_and_numbers_of_fields_in_a_pack() {
-    let (language, body, term) = (field(0x30, &[]), field(0x31, &[]), field(0x32, &[0x55, 0x40, 0]));
+    let (language, body, term) =
+        (field(0x30, &[]), field(0x31, &[]), field(0x32, &[0x55, 0x40, 0]));
     let number = |fields: &[&Vec<u8>]| {
         reduce_number(&fields.iter().flat_map(|field| field.to_vec()).collect::<Vec<u8>>())
     };
@@ -123,7 +125,10 @@ fn refusals_of_constants_in_a_pack() {
     assert_eq!(reduce_number(&pack(&[good.clone(), clash.clone()], &[], &term)), 4);
     assert_eq!(reduce_number(&pack(&[clash.clone(), order.clone()], &[], &term)), 3);
     assert_eq!(reduce_number(&pack(&[order, vec![1]], &[], &term)), 2);
-    assert_eq!(reduce_number(&pack(&[clash.clone()], &[[mapping(1, 1), mapping(1, 1)].concat()], &term)), 3);
+    assert_eq!(
+        reduce_number(&pack(&[clash.clone()], &[[mapping(1, 1), mapping(1, 1)].concat()], &term)),
+        3
+    );
     let swapped = [clause(1, 1, &[]), mapping(1, 1)].concat();
     assert_eq!(reduce_number(&pack(&[clash.clone()], &[swapped], &term)), 2);
     assert_eq!(reduce_number(&pack(&[good.clone()], &[clause(1, 1, &[])], &term)), 0);
@@ -214,7 +219,8 @@ fn sums_of_translations() {
         [mapping(1, 1), clause(1, 1, &[1, 1, 3, 1])].concat(),
     ];
     let number = |term: &[u8]| reduce_number(&pack(&languages, &bodies, term));
-    let (zero, one, two) = ([0x50, 0x40, 0, 0x40, 0, 0], [0x50, 0x40, 1, 0x40, 1, 1], [0x50, 0x40, 1, 0x40, 1, 2]);
+    let (zero, one, two) =
+        ([0x50, 0x40, 0, 0x40, 0, 0], [0x50, 0x40, 1, 0x40, 1, 1], [0x50, 0x40, 1, 0x40, 1, 2]);
     assert_eq!(number(&[&[0x53][..], &zero, &one].concat()), 0);
     assert_eq!(number(&[&[0x53][..], &one, &one].concat()), 0);
     assert_eq!(number(&[&[0x53][..], &one, &two].concat()), 12);
@@ -225,8 +231,12 @@ fn sums_of_translations() {
 
 #[test]
 fn sums_with_shared_kinds_mapped_differently() {
-    let languages = [production(1, 0, &[]), [production(1, 0, &[]), production(2, 0, &[])].concat()];
-    let bodies = [[mapping(1, 1), clause(1, 0, &[1, 0])].concat(), [mapping(1, 2), clause(1, 0, &[1, 0])].concat()];
+    let languages =
+        [production(1, 0, &[]), [production(1, 0, &[]), production(2, 0, &[])].concat()];
+    let bodies = [
+        [mapping(1, 1), clause(1, 0, &[1, 0])].concat(),
+        [mapping(1, 2), clause(1, 0, &[1, 0])].concat(),
+    ];
     let left = [0x50, 0x40, 0, 0x40, 1, 0];
     let right = [0x50, 0x40, 0, 0x40, 1, 1];
     let term = [&[0x53][..], &left, &right].concat();
@@ -236,7 +246,8 @@ fn sums_with_shared_kinds_mapped_differently() {
 #[test]
 fn sums_that_exceed_a_limit() {
     let source = |name: u8| production(3, name, &[]);
-    let body = |name: u8, nodes: usize| [mapping(3, 1), clause(3, name, &wide_code(nodes))].concat();
+    let body =
+        |name: u8, nodes: usize| [mapping(3, 1), clause(3, name, &wide_code(nodes))].concat();
     let number = |left: usize, right: usize| {
         let languages = [source(0), source(1), counting()];
         let bodies = [body(0, left), body(1, right)];
@@ -260,7 +271,8 @@ fn without_has_no_condition() {
 
 #[test]
 fn a_translation_without_keeps_mappings_of_kinds_still_in() {
-    let language = [class(2, 0, 9), class(3, 0, 9), production(1, 0, &[2]), production(1, 1, &[])].concat();
+    let language =
+        [class(2, 0, 9), class(3, 0, 9), production(1, 0, &[2]), production(1, 1, &[])].concat();
     let gone = [class(2, 0, 9), class(3, 0, 9), production(1, 1, &[])].concat();
     let result = reduced(&pack(&[language.clone(), gone], &[], &[0x52, 0x55, 0x40, 0, 0x40, 1]));
     let body = [mapping(1, 1), mapping(2, 2), clause(1, 0, &[1, 0, 3, 1])].concat();
@@ -269,7 +281,8 @@ fn a_translation_without_keeps_mappings_of_kinds_still_in() {
 
 #[test]
 fn joins_that_do_not_fit() {
-    let languages = [production(1, 0, &[]), [production(1, 0, &[]), production(1, 1, &[1])].concat()];
+    let languages =
+        [production(1, 0, &[]), [production(1, 0, &[]), production(1, 1, &[1])].concat()];
     let term = |outer: u8, inner: u8| [0x54, 0x55, 0x40, outer, 0x55, 0x40, inner];
     assert_eq!(reduce_number(&pack(&languages, &[], &term(1, 0))), 0);
     assert_eq!(reduce_number(&pack(&languages, &[], &term(0, 1))), 13);
@@ -294,7 +307,11 @@ fn levels_of_a_join() {
     let number = |outer: &[u8], inner: usize| {
         let first = counting_body(&[1, 0], outer, &[3, 1]);
         let second = counting_body(&chain(inner, &[1, 0]), &[3, 1], &[3, 1]);
-        reduce_number(&pack(&[counting()], &[first, second], &[vec![0x54], endo(0), endo(1)].concat()))
+        reduce_number(&pack(
+            &[counting()],
+            &[first, second],
+            &[vec![0x54], endo(0), endo(1)].concat(),
+        ))
     };
     assert_eq!(number(&[1, 1, 1, 1, 1, 1, 3, 1], 6), 0);
     assert_eq!(number(&[1, 1, 1, 1, 1, 1, 3, 1], 7), 11);
@@ -307,7 +324,11 @@ fn bytes_of_a_join_are_measured_without_overflow() {
     let many = [[1, 2, 3, 1].repeat(15), vec![3, 1]].concat();
     let first = counting_body(&[1, 0], &many, &[3, 1]);
     let dropping = counting_body(&[1, 0], &many, &[3, 2]);
-    let deep = counting_body(&[[1, 2].to_vec(), chain(15, &[1, 0]), vec![1, 0]].concat(), &[3, 1], &[3, 1]);
+    let deep = counting_body(
+        &[[1, 2].to_vec(), chain(15, &[1, 0]), vec![1, 0]].concat(),
+        &[3, 1],
+        &[3, 1],
+    );
     let number = |first: &Vec<u8>| {
         let bodies = [first.clone(), deep.clone()];
         reduce_number(&pack(&[counting()], &bodies, &[vec![0x54], endo(0), endo(1)].concat()))

@@ -2,6 +2,8 @@
 //!
 //! Usage: differential OPERATION... [--cases N] [--seed N]
 
+#![forbid(unsafe_code)]
+
 use reference::generate::{language_file, tree_case, Random};
 use reference::library;
 use std::fmt::Write as _;
@@ -141,8 +143,7 @@ mod run {
         let mut output = marked_buffer(random, case.output);
         let mut library_output = output.clone();
         let expected = reference::run(&case.translation, case.root, &case.tree, &mut output);
-        let found =
-            library::run(&case.translation, case.root, &case.tree, &mut library_output);
+        let found = library::run(&case.translation, case.root, &case.tree, &mut library_output);
         Comparison {
             library: Answer {
                 number: found.number,
@@ -178,8 +179,7 @@ mod reduce {
         let mut workspace = marked_buffer(random, case.workspace);
         let (mut library_output, mut library_workspace) = (output.clone(), workspace.clone());
         let expected = reference::reduce(&case.pack, &mut workspace, &mut output);
-        let found =
-            library::reduce(&case.pack, &mut library_workspace, &mut library_output);
+        let found = library::reduce(&case.pack, &mut library_workspace, &mut library_output);
         Comparison {
             library: Answer {
                 number: found.number,
@@ -242,7 +242,9 @@ fn operation(name: &str) -> Result<&'static Operation, String> {
 fn case_seed(seed: u64, operation: &Operation, case: u64) -> u64 {
     let name = operation.name.bytes();
     let name = name.fold(0, |sum: u64, byte| sum.wrapping_mul(257).wrapping_add(u64::from(byte)));
-    Random::new(seed ^ name.rotate_left(32)).bits().wrapping_add(case.wrapping_mul(0xD134_2543_DE82_EF95))
+    Random::new(seed ^ name.rotate_left(32))
+        .bits()
+        .wrapping_add(case.wrapping_mul(0xD134_2543_DE82_EF95))
 }
 
 /// Bytes as two hexadecimal digits each.

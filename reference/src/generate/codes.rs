@@ -42,7 +42,7 @@ impl Coder<'_> {
     /// Appends a code of the kind with at most so many levels, which must be enough.
     fn put(&self, random: &mut Random, kind: u8, levels: usize, code: &mut Vec<u8>) {
         if let Some(argument) = self.argument(random, kind) {
-            let short = self.heights.least(kind).map_or(true, |least| least > levels);
+            let short = self.heights.least(kind).is_none_or(|least| least > levels);
             if short || random.percent(60) {
                 return argument.put(code);
             }
@@ -118,7 +118,8 @@ impl Coder<'_> {
             }
             5 => match self.class(kind) {
                 Some(class) => {
-                    let value = random.pick(&[class.low.wrapping_sub(1), class.high.wrapping_add(1)]);
+                    let value =
+                        random.pick(&[class.low.wrapping_sub(1), class.high.wrapping_add(1)]);
                     wrong.clear();
                     Symbol::Token(value).put(&mut wrong);
                 }

@@ -3,7 +3,7 @@
 use super::damage::damage;
 use super::random::Random;
 use crate::language::{bit, Class, Language, Production, ARGUMENTS, KINDS, LANGUAGE_LIMIT};
-use std::collections::BTreeMap;
+use std::collections::btree_map::{BTreeMap, Entry};
 
 /// The kinds of a language to be: those with a class, and those that are results.
 pub struct Roles {
@@ -77,7 +77,8 @@ fn productions(random: &mut Random, roles: &Roles, count: usize) -> Vec<Producti
     let all: Vec<u8> = roles.classes.iter().chain(&roles.results).copied().collect();
     let mut table = BTreeMap::new();
     for &result in &roles.results {
-        let leaf = if roles.classes.is_empty() { vec![] } else { arguments(random, &roles.classes) };
+        let leaf =
+            if roles.classes.is_empty() { vec![] } else { arguments(random, &roles.classes) };
         let production = Production::new(result, name(random), &leaf);
         table.insert(production.key(), production);
     }
@@ -124,8 +125,8 @@ pub fn full_language(random: &mut Random, bytes: usize) -> Language {
         let (result, name) = (random.pick(&free), random.byte());
         let kinds: Vec<u8> = (0..size - 5).map(|_| random.below(KINDS) as u8).collect();
         let production = Production::new(result, name, &kinds);
-        if !table.contains_key(&production.key()) {
-            table.insert(production.key(), production);
+        if let Entry::Vacant(place) = table.entry(production.key()) {
+            place.insert(production);
             rest -= size;
         }
     }
@@ -155,11 +156,7 @@ fn edge_field(random: &mut Random) -> Vec<u8> {
     let kind = random.pick(&[0, 31, 32, 255]);
     let low = random.bits() as u16;
     let high = random.pick(&[low, low.wrapping_sub(1), low.wrapping_add(1)]);
-    let class_field = [
-        &[0x11, 0, 5, kind],
-        &low.to_be_bytes()[..],
-        &high.to_be_bytes()[..],
-    ];
+    let class_field = [&[0x11, 0, 5, kind], &low.to_be_bytes()[..], &high.to_be_bytes()[..]];
     if random.percent(40) {
         return class_field.concat();
     }

@@ -189,7 +189,8 @@ fn full_translation_pack(random: &mut Random) -> Vec<u8> {
 fn counting_translation(codes: [&[u8]; 3]) -> Translation {
     let (source, target) = (counting_language(), counting_language());
     let clauses = source.productions.iter().zip(codes);
-    let clauses = clauses.map(|(production, code)| Clause { key: production.key(), code }).collect();
+    let clauses =
+        clauses.map(|(production, code)| Clause { key: production.key(), code }).collect();
     let mapping = cut_mapping(&source, |_| 1);
     Translation { source, target, body: Body { mapping, clauses } }
 }
@@ -201,7 +202,7 @@ fn deep_join(random: &mut Random) -> Vec<u8> {
     let longer = [[1, 1].repeat(added), vec![3, 1]].concat();
     let dropped: &[u8] = random.pick(&[&[1, 0], &[3, 1], &[3, 2], &[1, 2, 3, 2, 3, 1]]);
     let outer = counting_translation([&[1, 0], &longer, dropped]);
-    let levels = random.within(15 / added..=18 / added).min(16).max(1);
+    let levels = random.within(15 / added..=18 / added).clamp(1, 16);
     let source = Language { classes: vec![], productions: vec![Production::new(5, 0, &[])] };
     let code = chain_code(levels);
     let clauses = [Clause { key: 0x0500, code: &code }].into_iter().collect();
@@ -291,13 +292,14 @@ fn wrong_constants(random: &mut Random) -> Vec<u8> {
     let mut constants = fitting_constants(random);
     let place = random.below(constants.languages.len());
     let term = [0x55, 0x40, 0];
-    match random.below(4) {
+    match random.below(8) {
         0 => constants.languages[place] = encoded(&full_language(random, LANGUAGE_LIMIT)),
         1 => constants.languages[place] = encoded(&full_language(random, LANGUAGE_LIMIT + 1)),
-        2 => constants.languages[place] = vec![0x11, 0, 5, 1, 0, 0, 0, 1, 0x12, 0, 2, 1, 0],
-        _ => {
-            constants.bodies.push(vec![0x23, 0, 2, 1, 1, 0x22, 0, 2, 1, 1]);
-        }
+        2 | 3 => constants.languages[place] = vec![0x11, 0, 5, 1, 0, 0, 0, 1, 0x12, 0, 2, 1, 0],
+        4 => constants.languages[place] = [0x12, 0, 2, 1, 0].repeat(2),
+        5 => constants.bodies.push([0x22, 0, 2, 1, 1].repeat(2)),
+        6 => constants.bodies.push(vec![0x23, 0, 2, 1, 1, 0x23, 0, 2, 1, 0]),
+        _ => constants.bodies.push(vec![0x23, 0, 2, 1, 1, 0x22, 0, 2, 1, 1]),
     }
     let mut pack = constants.pack(&term);
     if random.percent(30) {

@@ -28,7 +28,7 @@ impl<'a> TermWriter<'a> {
 
     /// A variable, sometimes one that is not bound.
     fn variable(random: &mut Random, bound: &[u8]) -> u8 {
-        if bound.is_empty() || random.percent(4) {
+        if bound.is_empty() || random.percent(8) {
             random.below(VARIABLES) as u8
         } else {
             random.pick(bound)
@@ -83,7 +83,7 @@ impl<'a> TermWriter<'a> {
     /// Appends a constant or a variable.
     fn language_leaf(&mut self, random: &mut Random, term: &mut Vec<u8>) {
         let variable = !self.languages.is_empty() && random.percent(50);
-        if variable || random.percent(1) {
+        if variable || random.percent(2) {
             let variable = Self::variable(random, &self.languages);
             term.extend_from_slice(&[0x41, variable]);
         } else {

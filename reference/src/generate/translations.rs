@@ -141,7 +141,8 @@ pub fn translation(random: &mut Random) -> Translation {
     let classes = source_classes(random, &target);
     let productions = source_productions(random, &classes);
     let whole = whole_mapping(random, &target, &classes);
-    let source = Language { classes: classes.into_iter().map(|(class, _)| class).collect(), productions };
+    let source =
+        Language { classes: classes.into_iter().map(|(class, _)| class).collect(), productions };
     trim(with_body(random, source, target, &whole), TRANSLATION_LIMIT)
 }
 
@@ -300,11 +301,21 @@ fn chain_translation(random: &mut Random) -> Translation {
 
 /// Gives a result kind of one of the languages a class too.
 fn clash(random: &mut Random, translation: &mut Translation) {
-    let language = if random.percent(50) { &mut translation.source } else { &mut translation.target };
+    let language =
+        if random.percent(50) { &mut translation.source } else { &mut translation.target };
     if let Some(production) = language.productions.first() {
         let class = Class { kind: production.result, low: 0, high: 1 };
         let place = language.classes.partition_point(|other| other.kind < class.kind);
         language.classes.insert(place, class);
+    }
+}
+
+/// Makes some of codes, clauses, mapping and languages wrong.
+fn several_wrong(random: &mut Random, translation: &mut Translation) {
+    for wrong in [wrong_codes, wrong_clauses, wrong_mapping, clash] {
+        if random.percent(50) {
+            wrong(random, translation);
+        }
     }
 }
 
@@ -324,6 +335,7 @@ pub fn translation_file(random: &mut Random) -> Vec<u8> {
         8..=10 => wrong_clauses(random, &mut value),
         11..=14 => wrong_codes(random, &mut value),
         15 | 16 => clash(random, &mut value),
+        24 | 25 => several_wrong(random, &mut value),
         _ => {}
     }
     let mut bytes = value.encode();

@@ -4,9 +4,7 @@ use super::damage::damage_bytes;
 use super::heights::Heights;
 use super::languages::{encoded, full_language, language, language_file};
 use super::random::Random;
-use crate::language::{
-    bit, read_language, Class, Language, Production, KINDS, LANGUAGE_LIMIT,
-};
+use crate::language::{bit, read_language, Class, Language, Production, KINDS, LANGUAGE_LIMIT};
 use crate::tree::TREE_LEVELS;
 
 /// The input of a check of a tree.
@@ -25,12 +23,16 @@ pub struct Grower<'a> {
     pub wild: bool,
     /// About how many bytes may still be grown beside what must be there.
     pub budget: usize,
+    /// The level of the node that is grown, and where the first one past the limit starts.
+    level: usize,
+    past: Option<usize>,
 }
 
 impl<'a> Grower<'a> {
     /// A grower of legal trees.
     pub fn new(language: &'a Language) -> Grower<'a> {
-        Grower { language, heights: Heights::new(language), wild: false, budget: 0 }
+        let heights = Heights::new(language);
+        Grower { language, heights, wild: false, budget: 0, level: 1, past: None }
     }
 
     /// The kinds that have a tree.
@@ -40,6 +42,9 @@ impl<'a> Grower<'a> {
 
     /// Appends a tree of exactly that height, which the kind must have.
     pub fn grow(&mut self, random: &mut Random, kind: u8, height: usize, tree: &mut Vec<u8>) {
+        if self.level > TREE_LEVELS && self.past.is_none() {
+            self.past = Some(tree.len());
+        }
         let classes = &self.language.classes;
         if let Some(class) = classes.iter().find(|class| class.kind == kind) {
             let value = self.token(random, class);
@@ -49,7 +54,9 @@ impl<'a> Grower<'a> {
         let production = self.production(random, kind, height);
         tree.push(production.name);
         self.budget = self.budget.saturating_sub(1);
+        self.level += 1;
         self.grow_arguments(random, &production, height, tree);
+        self.level -= 1;
     }
 
     /// Appends the arguments of a production, one of which reaches the height.
@@ -68,7 +75,8 @@ impl<'a> Grower<'a> {
         }
         let spine = random.pick(&reaching);
         for (number, &argument) in arguments.iter().enumerate() {
-            let below = if number == spine { height - 1 } else { self.low(random, argument, height - 1) };
+            let below =
+                if number == spine { height - 1 } else { self.low(random, argument, height - 1) };
             self.grow(random, argument, below, tree);
         }
     }
@@ -121,8 +129,19 @@ pub fn tree_of(random: &mut Random, grower: &mut Grower, kind: u8) -> Vec<u8> {
     let mut tree = Vec::new();
     let height = height(random, &grower.heights, kind);
     grower.budget = if random.percent(70) { 20 } else { 400 };
+    grower.past = None;
     grower.grow(random, kind, height, &mut tree);
     tree
+}
+
+/// Cuts or changes a tree just before or where it goes past the limit of levels.
+fn damage_at_limit(random: &mut Random, place: usize, tree: &mut Vec<u8>) {
+    match random.below(5) {
+        0 | 1 => tree.truncate(place),
+        2 => tree.truncate(place.saturating_sub(1)),
+        3 => tree[place] = random.byte(),
+        _ => tree[place - 1] = random.byte(),
+    }
 }
 
 /// A root kind and a tree of it, sometimes damaged; any root and bytes if no kind has a tree.
@@ -136,7 +155,10 @@ pub fn root_and_tree(random: &mut Random, language: &Language) -> (u32, Vec<u8>)
         return (root, (0..random.below(6)).map(|_| random.byte()).collect());
     }
     let mut tree = tree_of(random, &mut grower, kind);
-    damage_tree(random, &mut tree);
+    match grower.past {
+        Some(place) if random.percent(30) => damage_at_limit(random, place, &mut tree),
+        _ => damage_tree(random, &mut tree),
+    }
     (root, tree)
 }
 

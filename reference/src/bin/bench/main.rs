@@ -3,6 +3,8 @@
 //! The ratio is the reference's time over the library's: 1.0 or more if the library is
 //! at least as fast.
 
+#![forbid(unsafe_code)]
+
 mod inputs;
 mod measure;
 
@@ -64,7 +66,9 @@ fn bench_check_tree() {
 
 /// Prints the time for a byte at 10 MB over that at 100 KB, for both sides.
 fn print_growth(name: &str, growth: &[(usize, Timing)]) {
-    let &[_, (small, middle), (large, most)] = growth else { return };
+    let &[_, (small, middle), (large, most)] = growth else {
+        return;
+    };
     let growth = |middle: f64, most: f64| (most / large as f64) / (middle / small as f64);
     println!(
         "{name}: ns/byte at 10 MB over 100 KB: library {:.2}, reference {:.2}",

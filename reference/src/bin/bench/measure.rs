@@ -23,10 +23,7 @@ pub struct Timing {
 }
 
 /// Times both functions in turn, round by round.
-pub fn compare<A, B>(
-    mut library: impl FnMut() -> A,
-    mut reference: impl FnMut() -> B,
-) -> Timing {
+pub fn compare<A, B>(mut library: impl FnMut() -> A, mut reference: impl FnMut() -> B) -> Timing {
     let (library_calls, reference_calls) = (calls(&mut library), calls(&mut reference));
     let start = Instant::now();
     let mut times = Vec::new();
