@@ -1,6 +1,6 @@
 //! Compares the library with the reference on seeded random cases.
 //!
-//! Usage: differential OPERATION... [--cases N] [--seed N]
+//! Usage: differential OPERATION... [--cases N] [--seed N] [--first N] [--trace]
 
 #![forbid(unsafe_code)]
 
@@ -207,16 +207,23 @@ struct Request {
     operations: Vec<&'static Operation>,
     cases: u64,
     seed: u64,
+    /// The number of the first case.
+    first: u64,
+    /// Whether each case is announced before it is compared.
+    trace: bool,
 }
 
 /// Reads the arguments, or says what is wrong with them.
 fn request(arguments: impl Iterator<Item = String>) -> Result<Request, String> {
-    let mut request = Request { operations: vec![], cases: 200_000, seed: 1 };
+    let mut request =
+        Request { operations: vec![], cases: 200_000, seed: 1, first: 0, trace: false };
     let mut arguments = arguments;
     while let Some(argument) = arguments.next() {
         match argument.as_str() {
             "--cases" => request.cases = number(arguments.next())?,
             "--seed" => request.seed = number(arguments.next())?,
+            "--first" => request.first = number(arguments.next())?,
+            "--trace" => request.trace = true,
             name => request.operations.push(operation(name)?),
         }
     }
@@ -289,11 +296,14 @@ fn report(operation: &Operation, seed: u64, case: u64, comparison: &Comparison) 
 const SHOWN: u64 = 5;
 
 /// Compares one operation on all cases; gives the number of differences and missing answers.
-fn compare_all(operation: &Operation, cases: u64, seed: u64) -> (u64, u64) {
-    let start = Instant::now();
+fn compare_all(operation: &Operation, cases: u64, request: &Request) -> (u64, u64) {
+    let (seed, start) = (request.seed, Instant::now());
     let mut reached = [0u64; NUMBERS];
     let mut differences = 0;
-    for case in 0..cases {
+    for case in request.first..request.first + cases {
+        if request.trace {
+            eprintln!("{}, seed {seed}, case {case}", operation.name);
+        }
         let mut random = Random::new(case_seed(seed, operation, case));
         let comparison = (operation.compare)(&mut random);
         reached[comparison.reference.number as usize] += 1;
@@ -327,7 +337,9 @@ fn main() -> ExitCode {
         Ok(request) => request,
         Err(message) => {
             eprintln!("{message}");
-            eprintln!("usage: differential OPERATION... [--cases N] [--seed N]");
+            eprintln!(
+                "usage: differential OPERATION... [--cases N] [--seed N] [--first N] [--trace]"
+            );
             return ExitCode::from(2);
         }
     };
@@ -335,7 +347,7 @@ fn main() -> ExitCode {
     let (mut compared, mut failed, mut missing) = (0, 0, 0);
     for (place, operation) in request.operations.iter().enumerate() {
         let share = request.cases / count + u64::from((place as u64) < request.cases % count);
-        let (different, absent) = compare_all(operation, share, request.seed);
+        let (different, absent) = compare_all(operation, share, &request);
         compared += share;
         failed += different;
         missing += absent;
