@@ -1,5 +1,8 @@
-//! A safe wrapper over the C interface of the static library `algebra`.
+//! A safe wrapper over the C interface of the static library `algebra`, and over the clock
+//! that the benchmark needs from the C library of the system.
 #![allow(unsafe_code)]
+
+use std::time::Duration;
 
 extern "C" {
     fn algebra_check_language(language: *const u8, length: usize) -> u32;
@@ -33,6 +36,29 @@ extern "C" {
         output_length: usize,
         length: *mut u64,
     ) -> u32;
+}
+
+/// Seconds and nanoseconds, as the clock gives them.
+#[repr(C)]
+struct ClockTime {
+    seconds: i64,
+    nanoseconds: i64,
+}
+
+/// The clock that counts the processor time of the calling thread (Linux).
+const THREAD_CLOCK: i32 = 3;
+
+extern "C" {
+    fn clock_gettime(clock: i32, time: *mut ClockTime) -> i32;
+}
+
+/// The processor time that this thread has used.
+pub fn processor_time() -> Duration {
+    let mut time = ClockTime { seconds: 0, nanoseconds: 0 };
+    // SAFETY: the pointer is to a value of the layout that the call writes.
+    let status = unsafe { clock_gettime(THREAD_CLOCK, &mut time) };
+    assert_eq!(status, 0, "the clock of the thread can be read");
+    Duration::new(time.seconds as u64, time.nanoseconds as u32)
 }
 
 /// A number and a length, as the library gives them.

@@ -6,10 +6,11 @@ use super::random::Random;
 use super::terms::{deepened, Names, TermWriter};
 use super::translations::{
     chain_code, counting_language, cut_mapping, endomorphism, full_translation, translation_file,
+    wrong_body,
 };
 use crate::body::{Body, Clause};
 use crate::field::{put_header, Fields};
-use crate::language::{Language, Production, LANGUAGE_LIMIT};
+use crate::language::{Class, Language, Production, KINDS, LANGUAGE_LIMIT};
 use crate::pack::{BODY_TAG, LANGUAGE_TAG, PACK_LIMIT, TERM_TAG};
 use crate::reduce::{OUTPUT_LEAST, WORKSPACE_LEAST};
 use crate::term::TERM_LEVELS;
@@ -151,14 +152,29 @@ fn overlapping(random: &mut Random, bytes: usize) -> (Language, Language) {
     (left, right)
 }
 
-/// Sums of languages of exactly 1,024 or 1,025 bytes.
+/// Changes the arguments of the first production; it then fits no language that shares it.
+fn widen_first(language: &mut Language) {
+    if let Some(first) = language.productions.first_mut() {
+        let kinds = if first.arguments().is_empty() { &[1][..] } else { &[] };
+        *first = Production::new(first.result, first.name, kinds);
+    }
+}
+
+/// Sums of languages of exactly 1,024 or 1,025 bytes, some of which do not fit.
 fn full_language_sum(random: &mut Random) -> Vec<u8> {
     let mut constants = Constants::default();
     let bytes = LANGUAGE_LIMIT + random.below(2);
-    let (left, right) = overlapping(random, bytes);
+    let (left, mut right) = overlapping(random, bytes);
+    if random.percent(20) {
+        widen_first(&mut right);
+    }
     let left = constants.language(&left);
     let right = constants.language(&right);
-    let term = match random.below(3) {
+    let empty = constants.language(&Language::default());
+    let body = constants.body(empty, empty, &Body::default());
+    let from_empty = |target| [0x50, 0x40, empty, 0x40, target, body];
+    let term = match random.below(4) {
+        3 => [&[0x53][..], &from_empty(left), &from_empty(right)].concat(),
         0 => vec![0x55, 0x43, 0x40, left, 0x40, right],
         1 => vec![0x53, 0x55, 0x40, left, 0x55, 0x40, right],
         _ => vec![0x52, 0x55, 0x43, 0x40, right, 0x40, left, 0x40, left],
@@ -166,7 +182,49 @@ fn full_language_sum(random: &mut Random) -> Vec<u8> {
     constants.pack(&term)
 }
 
-/// A sign 50 or 53 whose value has exactly 4,096 or 4,097 bytes.
+/// Gives the first clause a code of one node of the counting language.
+fn shorten_first(translation: &mut Translation) {
+    let clauses: Vec<Clause> = translation.body.clauses.iter().collect();
+    let short = |(number, clause): (usize, &Clause)| {
+        let code = if number == 0 { vec![1, 0] } else { clause.code.to_vec() };
+        (clause.key, code)
+    };
+    let codes: Vec<(u16, Vec<u8>)> = clauses.iter().enumerate().map(short).collect();
+    let clauses = codes.iter().map(|(key, code)| Clause { key: *key, code });
+    translation.body.clauses = clauses.collect();
+}
+
+/// A sign 53 whose operands map a shared kind differently, if such a change is well formed.
+fn conflicting_sum(random: &mut Random) -> Vec<u8> {
+    let mut constants = Constants::default();
+    let base = language(random);
+    let whole = endomorphism(random, &base);
+    let left = cut(&whole, part_of(random, &whole.source));
+    let mut right = cut(&whole, part_of(random, &whole.source));
+    for _ in 0..8 {
+        let mut changed = right.clone();
+        let kind = random.below(KINDS);
+        changed.body.mapping[kind] = changed.body.mapping[kind].map(|_| random.below(KINDS) as u8);
+        if changed.check_well_formed().is_ok() {
+            right = changed;
+        }
+    }
+    let left = constants.translation(&left);
+    let right = constants.translation(&right);
+    constants.pack(&[&[0x53][..], &left, &right].concat())
+}
+
+/// A sign 50 whose value is over 4,096 bytes and may not be well formed.
+fn overfull_body(random: &mut Random) -> Vec<u8> {
+    let mut constants = Constants::default();
+    let bytes = TRANSLATION_LIMIT + random.within(1..=300);
+    let mut whole = full_translation(random, bytes);
+    wrong_body(random, &mut whole);
+    let term = constants.translation(&whole);
+    constants.pack(&term)
+}
+
+/// A sign 50 or 53 whose value has exactly 4,096 or 4,097 bytes, or a sum that does not fit.
 fn full_translation_pack(random: &mut Random) -> Vec<u8> {
     let mut constants = Constants::default();
     let bytes = TRANSLATION_LIMIT + random.below(2);
@@ -179,7 +237,10 @@ fn full_translation_pack(random: &mut Random) -> Vec<u8> {
     let middle = left.productions.len() / 2;
     left.productions.truncate(middle + random.below(2));
     right.productions.drain(..middle);
-    let (left, right) = (cut(&whole, left), cut(&whole, right));
+    let (left, mut right) = (cut(&whole, left), cut(&whole, right));
+    if random.percent(20) {
+        shorten_first(&mut right);
+    }
     let left = constants.translation(&left);
     let right = constants.translation(&right);
     constants.pack(&[&[0x53][..], &left, &right].concat())
@@ -223,11 +284,14 @@ fn long_join(random: &mut Random) -> Vec<u8> {
     let swapped: &[u8] = random.pick(&[&wide, &[1, 2, 3, 2, 3, 1], &[1, 1, 3, 2]]);
     let outer = counting_translation([&[1, 0], &many, swapped]);
     let bytes = random.within(500..=TRANSLATION_LIMIT);
-    let inner = if random.percent(50) {
+    let mut inner = if random.percent(50) {
         full_translation(random, bytes)
     } else {
         counting_translation([&chain_code(16), &[1, 1, 1, 1, 3, 1], &wide])
     };
+    if random.percent(15) {
+        inner.target.classes.push(Class { kind: 9, low: 0, high: 9 });
+    }
     let outer = constants.translation(&outer);
     let inner = constants.translation(&inner);
     constants.pack(&[&[0x54][..], &outer, &inner].concat())
@@ -331,6 +395,8 @@ fn pack_file(random: &mut Random) -> Vec<u8> {
             damage(random, &mut pack);
             pack
         }
+        22 => conflicting_sum(random),
+        23 => overfull_body(random),
         _ => random_pack(random),
     }
 }

@@ -310,12 +310,20 @@ fn clash(random: &mut Random, translation: &mut Translation) {
     }
 }
 
-/// Makes some of codes, clauses, mapping and languages wrong.
-fn several_wrong(random: &mut Random, translation: &mut Translation) {
-    for wrong in [wrong_codes, wrong_clauses, wrong_mapping, clash] {
+/// Makes some of codes, clauses and mapping wrong.
+pub fn wrong_body(random: &mut Random, translation: &mut Translation) {
+    for wrong in [wrong_codes, wrong_clauses, wrong_mapping] {
         if random.percent(50) {
             wrong(random, translation);
         }
+    }
+}
+
+/// Makes some of body and languages wrong.
+fn several_wrong(random: &mut Random, translation: &mut Translation) {
+    wrong_body(random, translation);
+    if random.percent(50) {
+        clash(random, translation);
     }
 }
 

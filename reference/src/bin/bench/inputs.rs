@@ -47,8 +47,14 @@ pub fn tree_language() -> Vec<u8> {
 
 /// A tree of kind 1 with about so many bytes, wide and mixed.
 pub fn wide_tree(bytes: usize) -> Vec<u8> {
-    let mut tree = Vec::with_capacity(bytes + bytes / 8);
-    put_wide(&mut Random::new(bytes as u64), bytes, 60, &mut tree);
+    let first = tree_for(bytes).len();
+    tree_for(bytes * bytes / first)
+}
+
+/// A tree of kind 1 with somewhat fewer bytes than asked for.
+fn tree_for(bytes: usize) -> Vec<u8> {
+    let mut tree = Vec::new();
+    put_wide(&mut Random::new(1), bytes, 60, &mut tree);
     tree
 }
 

@@ -1,7 +1,10 @@
 //! Timing of two functions in turn, and the median of several rounds.
+//!
+//! Times are processor times of the thread, so other programs disturb them less.
 
+use reference::library::processor_time;
 use std::hint::black_box;
-use std::time::{Duration, Instant};
+use std::time::Duration;
 
 /// Both functions are timed in at most so many rounds, and in at least the least number.
 const MOST_ROUNDS: usize = 41;
@@ -25,9 +28,11 @@ pub struct Timing {
 /// Times both functions in turn, round by round.
 pub fn compare<A, B>(mut library: impl FnMut() -> A, mut reference: impl FnMut() -> B) -> Timing {
     let (library_calls, reference_calls) = (calls(&mut library), calls(&mut reference));
-    let start = Instant::now();
+    let start = processor_time();
     let mut times = Vec::new();
-    while times.len() < LEAST_ROUNDS || times.len() < MOST_ROUNDS && start.elapsed() < TOTAL {
+    while times.len() < LEAST_ROUNDS
+        || times.len() < MOST_ROUNDS && processor_time() - start < TOTAL
+    {
         times.push((time(&mut library, library_calls), time(&mut reference, reference_calls)));
     }
     Timing {
@@ -52,9 +57,9 @@ fn calls<A>(function: &mut impl FnMut() -> A) -> u32 {
 
 /// Nanoseconds for one call, from so many calls.
 fn time<A>(function: &mut impl FnMut() -> A, calls: u32) -> f64 {
-    let start = Instant::now();
+    let start = processor_time();
     (0..calls).for_each(|_| drop(black_box(function())));
-    start.elapsed().as_secs_f64() * 1e9 / f64::from(calls)
+    (processor_time() - start).as_secs_f64() * 1e9 / f64::from(calls)
 }
 
 /// The middle of the values.
