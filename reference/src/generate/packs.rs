@@ -182,6 +182,44 @@ fn full_language_sum(random: &mut Random) -> Vec<u8> {
     constants.pack(&term)
 }
 
+/// Changes a class or production so that the language fits fewer others.
+fn change_entry(random: &mut Random, language: &mut Language) {
+    if language.classes.is_empty() {
+        return widen_first(language);
+    }
+    let place = random.below(language.classes.len());
+    match random.below(3) {
+        0 => {
+            let class = &mut language.classes[place];
+            class.high = class.low.max(class.high.wrapping_sub(1));
+        }
+        1 => {
+            let class = language.classes.remove(place);
+            let production = Production::new(class.kind, random.byte(), &[]);
+            let place = language.productions.partition_point(|p| p.key() < production.key());
+            language.productions.insert(place, production);
+        }
+        _ => widen_first(language),
+    }
+}
+
+/// A sum of languages or of identities of which one was changed; many do not fit.
+fn sum_with_change(random: &mut Random) -> Vec<u8> {
+    let mut constants = Constants::default();
+    let base = language(random);
+    let (mut left, right) = (part_of(random, &base), part_of(random, &base));
+    change_entry(random, &mut left);
+    let mut pair = [constants.language(&left), constants.language(&right)];
+    if random.percent(50) {
+        pair.swap(0, 1);
+    }
+    let [left, right] = pair;
+    constants.pack(&match random.below(2) {
+        0 => vec![0x55, 0x43, 0x40, left, 0x40, right],
+        _ => vec![0x53, 0x55, 0x40, left, 0x55, 0x40, right],
+    })
+}
+
 /// Gives the first clause a code of one node of the counting language.
 fn shorten_first(translation: &mut Translation) {
     let clauses: Vec<Clause> = translation.body.clauses.iter().collect();
@@ -397,6 +435,7 @@ fn pack_file(random: &mut Random) -> Vec<u8> {
         }
         22 => conflicting_sum(random),
         23 => overfull_body(random),
+        24 => sum_with_change(random),
         _ => random_pack(random),
     }
 }
