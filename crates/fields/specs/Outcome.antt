@@ -9,7 +9,7 @@ use Rattle.fields.specs.declared.outcome.Outcome.{Outcome}
 use Rattle.fields.specs.declared.outcome.Outcome.the-variants.{Accepted, Refused}
 
 -- The number of each refusal.
-unfoldable pub reasonNumber : Reason → ℕ
+abbrev pub reasonNumber : Reason → ℕ
 reasonNumber TooLong = 1
 reasonNumber Broken = 2
 reasonNumber Order = 3
@@ -29,12 +29,12 @@ reasonNumber Levels = 16
 reasonNumber Output = 17
 
 -- The number that an outsider sees.
-unfoldable pub numberOf : Outcome → ℕ
+abbrev pub numberOf : Outcome → ℕ
 numberOf (Accepted n) = 0
 numberOf (Refused r) = reasonNumber r
 
 -- The length that an outsider sees: 0 where it is refused.
-unfoldable pub lengthOf : Outcome → ℕ
+abbrev pub lengthOf : Outcome → ℕ
 lengthOf (Accepted n) = n
 lengthOf (Refused r) = 0
 

@@ -1,0 +1,64 @@
+// The C interface: each operation answers with its number. A slice is a pointer and a length.
+ghost use mathlib.Core.Path.{_≡_};
+ghost use Rattle.fields.specs.Outcome.{numberOf, reasonNumber};
+ghost use Rattle.language.specs.Operations.{checkLanguage};
+ghost use Rattle.reader.specs.Operations.{checkTree};
+use fields::outcome::Outcome;
+use fields::outcome::Reason;
+use language::check::check_language;
+use reader::tree::check_tree;
+
+// The number of a refusal.
+fn reason_number(reason: Reason) -> u32
+    ensures { λ r. ⌜ r ≡ reasonNumber reason ⌝ }
+{
+    match reason {
+        Reason::TooLong => 1,
+        Reason::Broken => 2,
+        Reason::Order => 3,
+        Reason::Clash => 4,
+        Reason::Mapping => 5,
+        Reason::Clauses => 6,
+        Reason::Code => 7,
+        Reason::Term => 8,
+        Reason::Lent => 9,
+        Reason::Unbound => 10,
+        Reason::Limit => 11,
+        Reason::SumUnfit => 12,
+        Reason::JoinUnfit => 13,
+        Reason::Root => 14,
+        Reason::Tree => 15,
+        Reason::Levels => 16,
+        Reason::Output => 17,
+    }
+}
+
+// The number of an outcome: 0 where it is accepted.
+fn number(outcome: Outcome) -> u32
+    ensures { λ r. ⌜ r ≡ numberOf outcome ⌝ }
+{
+    match outcome {
+        Outcome::Accepted(length) => 0,
+        Outcome::Refused(reason) => reason_number(reason),
+    }
+}
+
+// Check a language.
+#[no_mangle]
+pub extern "C" fn algebra_check_language(language: &[u8]) -> u32
+    ensures { λ r. ⌜ r ≡ numberOf (checkLanguage (now (language .entry))) ⌝ }
+{
+    let answer = check_language(language);
+    let outcome = answer.outcome;
+    number(outcome)
+}
+
+// Check a tree of a language, of the root kind.
+#[no_mangle]
+pub extern "C" fn algebra_check_tree(language: &[u8], root: u32, tree: &[u8]) -> u32
+    ensures { λ r. ⌜ r ≡ numberOf (checkTree (now (language .entry)) root (now (tree .entry))) ⌝ }
+{
+    let answer = check_tree(language, root, tree);
+    let outcome = answer.outcome;
+    number(outcome)
+}
