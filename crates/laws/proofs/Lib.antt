@@ -2,3 +2,4 @@ pub mod Reductions
 pub mod Runs
 pub mod Subsets
 pub mod Sums
+pub mod Examples

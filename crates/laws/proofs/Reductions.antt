@@ -29,7 +29,6 @@ use Rattle.laws.specs.Packed.{packed, putOut}
 
 -- No refusal has the number 0.
 reason-positive : (r : Reason) → reasonNumber r ≡ 0 → ⊥
-unfolding reasonNumber
 reason-positive TooLong e = omega arith
 reason-positive Broken e = omega arith
 reason-positive Order e = omega arith
@@ -50,17 +49,14 @@ reason-positive Output e = omega arith
 
 -- The number 0 is a value.
 pub accepted-value : (r : Result (List ℕ)) → numberOf (written r) ≡ 0 → (bytes : List ℕ) × (r ≡ value bytes)
-unfolding numberOf
 accepted-value (value bytes) e = (bytes, refl)
 accepted-value (refused r) e = absurd (reason-positive r e)
 
 pub value-accepted : (r : Result (List ℕ)) (bytes : List ℕ) → r ≡ value bytes → numberOf (written r) ≡ 0
-unfolding numberOf
 value-accepted r bytes e = rw e
 
 -- What was put out is the value.
 pub put-out : (output : List ℕ) (r : Result (List ℕ)) (bytes : List ℕ) → r ≡ value bytes → putOut (written r) (outputAfter output r) ≡ bytes
-unfolding lengthOf
 put-out output r bytes e = rw e (take-append-seam bytes (drop (length bytes) output))
 
 -- Reading a written term gives that term, whatever the levels.

@@ -140,7 +140,6 @@ module _ (f g j : Translation) (F G J : List ℕ) (pf : Operand f F) (pg : Opera
 
 -- A refused operation put out nothing, an accepted one its value, whatever the buffer.
 put-same : (r : Result (List ℕ)) (b c : List ℕ) → putOut (written r) (outputAfter b r) ≡ putOut (written r) (outputAfter c r)
-unfolding lengthOf
 put-same (value x) b c = put-out b (value x) x refl ∙ sym (put-out c (value x) x refl)
 put-same (refused r) b c = refl
 

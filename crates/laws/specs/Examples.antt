@@ -1,45 +1,89 @@
+-- The starred examples (paper 01, "Strap examples"), as rows of one table. C, K and the body are those of the paper.
 use Prim.Native.Nat.{ℕ}
-use mathlib.Core.Path.{_≡_, refl}
+use mathlib.Core.Bool.{Bool, true, false, _&&_}
 use mathlib.Core.List.{List, [], _∷_, _++_}
-use lib.ListN.{length}
-use Rattle.fields.specs.Outcome.{Result, value, refused, written}
-use Rattle.fields.specs.Fields.{Field, field, encodeField, encodeFields, pairAt, splitFields, fieldsOf, saysOver, hasOver}
-use Rattle.fields.specs.Lists.{all, any, keep, first, concatMap, traverse, countUp, sameNumbers}
-use Rattle.fields.specs.Keyed.{risingFrom, rising, insert, union, holds, within, without, agree}
-use Rattle.fields.specs.declared.outcome.Outcome.the-variants.{Accepted, Refused}
-use Rattle.language.specs.Language.{entryKey, sameEntry, inRange, rangeAt, rangeOf, argumentsAt, argumentsOf, resultIs, mentions, isIn, classIsResult, clashes}
-use Rattle.language.specs.LanguageFile.{classOf, productionOf, entryOf, entryField, entriesOf, encodeLanguage, languageOf}
-use Rattle.reader.specs.Syntax.{write, readAll, readOperands, readNode, readToken, readArgument, readTreeLevel, readCodeLevel, readLevel, read}
-use Rattle.reader.specs.Operations.{treeOf, checkTree}
-use Rattle.translation.specs.Translation.{itemKey, sameItem, targetAt, mappingOf, codeAt, clauseOf, mapped}
-use Rattle.translation.specs.Running.{nth, operand, substitute, run, mappedArguments, readClause, clausesOf, transform}
-use Rattle.translation.specs.WellFormed.{kinds, kindsMapped, reachesTarget, classKept, mappingFits, hasClause, hasProduction, clausesFit, codeFits, codesFit, wellFormed}
-use Rattle.translation.specs.TranslationFile.{mappingField, clauseField, itemOf, itemField, grouped, itemsIn, bodyOf, partsIn, partsOf, translationFields, encodeTranslation, allRising, translationOf}
+use lib.Dec.{eqb}
+use Rattle.fields.specs.Outcome.{Result, value, refused, _>>=_, numberOf, written}
+use Rattle.fields.specs.Lists.{sameNumbers}
+use Rattle.fields.specs.Fields.{Field, field, encodeFields}
 use Rattle.translation.specs.Operations.{runBytes}
-use Rattle.operators.specs.Algebra.{languagesFit, languageUnion, languageSum, languageWithout, translationsFit, translationUnion, translationSum, isOf, translationWithout, joinFits, joinItem, joined, translationJoin, argumentsFrom, identityClause, identityOf}
-use Rattle.reducer.specs.Terms.{languageSign, translationSign, readSign, readTerm, scoped}
-use Rattle.reducer.specs.Pack.{partOf, inGroups, packWith, packIn, packParts, packOf, termOf}
-use Rattle.operators.specs.Limits.{codeIsDeep, languageExceeds, translationExceeds}
-use Rattle.reducer.specs.Evaluation.{bound, evaluate}
-use Rattle.reducer.specs.Operations.{ready, work, reduceBytes}
+use Rattle.reducer.specs.Operations.{reduceBytes}
 
-pub c : List ℕ
-c = 0x11 ∷ 0 ∷ 5 ∷ 2 ∷ 0 ∷ 1 ∷ 0 ∷ 240 ∷ 0x12 ∷ 0 ∷ 3 ∷ 1 ∷ 1 ∷ 2 ∷ 0x12 ∷ 0 ∷ 4 ∷ 1 ∷ 2 ∷ 1 ∷ 1 ∷ 0x12 ∷ 0 ∷ 3 ∷ 1 ∷ 3 ∷ 2 ∷ []
+-- A pack that is reduced with the least workspace and output, or then run on a tree: the number and the bytes that
+-- come of it, no bytes where it is refused.
+pub data Row : Type 0 where
+  reduced : (pack : List Field) (number : ℕ) (bytes : List ℕ) → Row
+  ran : (pack : List Field) (root : ℕ) (tree : List ℕ) (room : ℕ) (number : ℕ) (bytes : List ℕ) → Row
 
-pub k : List ℕ
-k = 0x12 ∷ 0 ∷ 3 ∷ 1 ∷ 4 ∷ 1 ∷ []
+abbrev pub bytesOf : Result (List ℕ) → List ℕ
+bytesOf (value bytes) = bytes
+bytesOf (refused r) = []
 
-pub body : List ℕ
-body = 0x22 ∷ 0 ∷ 2 ∷ 1 ∷ 1 ∷ 0x23 ∷ 0 ∷ 8 ∷ 1 ∷ 4 ∷ 1 ∷ 2 ∷ 3 ∷ 1 ∷ 3 ∷ 1 ∷ []
+-- The result has this number and these bytes.
+abbrev pub comesTo : Result (List ℕ) → ℕ → List ℕ → Bool
+comesTo result number bytes = eqb (numberOf (written result)) number && sameNumbers (bytesOf result) bytes
 
-pub pack : List ℕ
-unfolding encodeField
-pack = encodeField (field 0x30 k) ++ (encodeField (field 0x30 c) ++ (encodeField (field 0x31 body) ++ encodeField (field 0x32 (0x53 ∷ 0x50 ∷ 0x40 ∷ 0 ∷ 0x40 ∷ 1 ∷ 0 ∷ 0x55 ∷ 0x40 ∷ 1 ∷ []))))
+unfoldable pub holds : Row → Bool
+holds (reduced pack number bytes) = comesTo (reduceBytes (encodeFields pack) 65536 4096) number bytes
+holds (ran pack root tree room number bytes) =
+    comesTo (reduceBytes (encodeFields pack) 65536 4096 >>= λ f. runBytes f root tree room) number bytes
 
-len : length pack ≡ 71
-unfolding pack c k body encodeField
-len = refl
+-- C: class 2 of 1 to 240; productions 1.1 (2), 1.2 (1 1), 1.3 (2).
+abbrev c : Field
+c =
+    field 0x30 (
+      0x11 ∷ 0 ∷ 5 ∷ 2 ∷ 0 ∷ 1 ∷ 0 ∷ 240 ∷ 0x12 ∷ 0 ∷ 3 ∷ 1 ∷ 1 ∷ 2 ∷ 0x12 ∷ 0 ∷ 4 ∷ 1 ∷ 2 ∷ 1 ∷ 1 ∷ 0x12 ∷ 0 ∷ 3 ∷ 1 ∷ 3 ∷ 2 ∷ []
+    )
 
-reduced : written (reduceBytes pack 65536 4096) ≡ Accepted 116
-unfolding pack c k body encodeField encodeFields pairAt splitFields fieldsOf saysOver hasOver all any keep first concatMap traverse countUp sameNumbers risingFrom rising insert union holds within without agree entryKey sameEntry inRange rangeAt rangeOf argumentsAt argumentsOf resultIs mentions isIn classIsResult clashes classOf productionOf entryOf entryField entriesOf encodeLanguage languageOf write readAll readOperands readNode readToken readArgument readTreeLevel readCodeLevel readLevel read treeOf checkTree itemKey sameItem targetAt mappingOf codeAt clauseOf mapped nth operand substitute run mappedArguments readClause clausesOf transform kinds kindsMapped reachesTarget classKept mappingFits hasClause hasProduction clausesFit codeFits codesFit wellFormed mappingField clauseField itemOf itemField grouped itemsIn bodyOf partsIn partsOf translationFields encodeTranslation allRising translationOf runBytes languagesFit languageUnion languageSum languageWithout translationsFit translationUnion translationSum isOf translationWithout joinFits joinItem joined translationJoin argumentsFrom identityClause identityOf languageSign translationSign readSign readTerm scoped partOf inGroups packWith packIn packParts packOf termOf bound codeIsDeep languageExceeds translationExceeds evaluate ready work reduceBytes
-reduced = refl
+-- K: production 1.4 (1).
+abbrev k : Field
+k = field 0x30 (0x12 ∷ 0 ∷ 3 ∷ 1 ∷ 4 ∷ 1 ∷ [])
+
+-- A language with production 1.4 (2).
+abbrev other : Field
+other = field 0x30 (0x12 ∷ 0 ∷ 3 ∷ 1 ∷ 4 ∷ 2 ∷ [])
+
+-- The body from K to C: 1 to 1; 1.4 is 01 02 03 01 03 01.
+abbrev twice : Field
+twice = field 0x31 (0x22 ∷ 0 ∷ 2 ∷ 1 ∷ 1 ∷ 0x23 ∷ 0 ∷ 8 ∷ 1 ∷ 4 ∷ 1 ∷ 2 ∷ 3 ∷ 1 ∷ 3 ∷ 1 ∷ [])
+
+-- From C to C: 1.3 is 01 01 03 01, others identity.
+abbrev rest : Field
+rest =
+    field 0x31 (
+      0x22 ∷ 0 ∷ 2 ∷ 1 ∷ 1 ∷ 0x22 ∷ 0 ∷ 2 ∷ 2 ∷ 2 ∷ 0x23 ∷ 0 ∷ 6 ∷ 1 ∷ 1 ∷ 1 ∷ 1 ∷ 3 ∷ 1
+      ∷ 0x23 ∷ 0 ∷ 8 ∷ 1 ∷ 2 ∷ 1 ∷ 2 ∷ 3 ∷ 1 ∷ 3 ∷ 2 ∷ 0x23 ∷ 0 ∷ 6 ∷ 1 ∷ 3 ∷ 1 ∷ 1 ∷ 3 ∷ 1 ∷ []
+    )
+
+abbrev term : List ℕ → Field
+term bytes = field 0x32 bytes
+
+-- 53 50 40 00 40 01 00 55 40 01: the body from K to C, and the identity of C.
+abbrev sum : List ℕ
+sum = 0x53 ∷ 0x50 ∷ 0x40 ∷ 0 ∷ 0x40 ∷ 1 ∷ 0 ∷ 0x55 ∷ 0x40 ∷ 1 ∷ []
+
+abbrev sumPack : List Field
+sumPack = k ∷ c ∷ twice ∷ term sum ∷ []
+
+-- The same as the second operand of a join, whose first is the body `rest` from C to C.
+abbrev joinPack : List Field
+joinPack = k ∷ c ∷ twice ∷ rest ∷ term (0x54 ∷ 0x50 ∷ 0x40 ∷ 1 ∷ 0x40 ∷ 1 ∷ 1 ∷ sum) ∷ []
+
+abbrev empty : List ℕ
+empty = 0x20 ∷ 0 ∷ 0 ∷ 0x21 ∷ 0 ∷ 0 ∷ []
+
+unfoldable pub rows : List Row
+rows =
+    ran sumPack 1 (4 ∷ 1 ∷ 0 ∷ 5 ∷ []) 7 0 (2 ∷ 1 ∷ 0 ∷ 5 ∷ 1 ∷ 0 ∷ 5 ∷ [])
+    ∷ ran sumPack 1 (4 ∷ 1 ∷ 0 ∷ 5 ∷ []) 6 17 []
+    ∷ ran sumPack 1 (1 ∷ 0 ∷ 0xF0 ∷ []) 4096 0 (1 ∷ 0 ∷ 0xF0 ∷ [])
+    ∷ ran sumPack 1 (1 ∷ 0 ∷ 0xF1 ∷ []) 4096 15 []
+    ∷ ran sumPack 1 (1 ∷ 0 ∷ 0 ∷ []) 4096 15 []
+    ∷ ran sumPack 1 [] 4096 15 []
+    ∷ ran sumPack 1 (1 ∷ 0 ∷ 5 ∷ 0 ∷ []) 4096 15 []
+    ∷ ran sumPack 9 (1 ∷ 0 ∷ 5 ∷ []) 4096 14 []
+    ∷ ran joinPack 1 (4 ∷ 3 ∷ 0 ∷ 3 ∷ []) 4096 0 (2 ∷ 1 ∷ 0 ∷ 3 ∷ 1 ∷ 0 ∷ 3 ∷ [])
+    ∷ reduced (field 0x30 [] ∷ term (0x55 ∷ 0x40 ∷ 0 ∷ []) ∷ []) 0 empty
+    ∷ reduced (k ∷ other ∷ term (0x55 ∷ 0x43 ∷ 0x40 ∷ 0 ∷ 0x40 ∷ 1 ∷ []) ∷ []) 12 []
+    ∷ reduced (c ∷ term (0x55 ∷ 0x42 ∷ 0x40 ∷ 0 ∷ 0x40 ∷ 0 ∷ []) ∷ []) 0 empty
+    ∷ []
