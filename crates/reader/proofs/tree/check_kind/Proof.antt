@@ -23,7 +23,7 @@ build-requires : tie.Need-build-requires
 build-requires c κs = (c .before .before .before .before .before .pre .0, refl, zeros 8224)
 
 read-requires : tie.Need-read-requires
-read-requires c κs = (c .before .before .before .build .ensures _ (c .before .before .before .before .before .before .before .before .before .pre .2 .1) .sound, c .before .before .before .before .before .before .before .before .before .pre .1, omega arith)
+read-requires c κs = record { sound = c .before .before .before .build .ensures _ (c .before .before .before .before .before .before .before .before .before .pre .2 .1) .sound; kind = c .before .before .before .before .before .before .before .before .before .pre .1; inside = omega arith }
 
 returns-2 : tie.Need-returns-2
 returns-2 c = λ l e. kind-in _ _ _ l e (c .before .before .before .before .before .before .before .before .is-in .ensures) (c .before .read .result) (not-false _ (c .before .before .before .before .before .before .before .if1 .left)) (c .before .read .ensures .0 l (c .before .before .before .before .before .build .ensures l e)) (c .before .read .ensures .1) (c .whole-tree .ensures)
