@@ -1,14 +1,14 @@
 -- Keys by place, in the terms of the code: a law for each return of `key_at`, and for each turn of `keys_rise`.
-use Prim.Native.Nat.{ℕ, suc, _+_, _<_, _≤_}
-use mathlib.Core.Path.{_≡_, refl, sym, ap, _∙_}
+use Prim.Native.Nat.{ℕ, _+_, _<_, _≤_}
+use mathlib.Core.Path.{_≡_, refl}
 use mathlib.Core.Bool.{Bool, true, false}
-use mathlib.Core.List.{List, [], _∷_}
+use mathlib.Core.List.{List}
 use native.Mathlib.Numerals.{add-one}
 use lib.ListN.{length, getD}
 use borrow.Author.Tests.{eq-eqb, ne-eqb}
 use Rattle.fields.specs.Fields.{pairAt}
-use Rattle.fields.specs.Keyed.{rising, risingFrom}
-use Rattle.fields.specs.Inner.Places.{fieldEnd, placesFrom, places, keyAt}
+use Rattle.fields.specs.Keyed.{risingFrom}
+use Rattle.fields.specs.Inner.Places.{fieldEnd, placesFrom, keyAt}
 use Rattle.fields.proofs.Lists.{rising-stop, rising-next}
 use Rattle.fields.proofs.Places.{pass-done, pass-next}
 

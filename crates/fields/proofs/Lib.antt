@@ -2,3 +2,6 @@ pub mod Lists
 pub mod Places
 pub mod Keys
 pub mod Split
+pub mod Truth
+pub mod Keyed
+pub mod Codec

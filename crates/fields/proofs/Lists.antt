@@ -1,24 +1,18 @@
 -- Laws of the words on lists, one element at a time.
-use Prim.Native.Nat.{ℕ, zero, suc, _+_, _-_, _<_, _≤_}
+use Prim.Native.Nat.{ℕ, suc, _+_, _<_, _≤_}
 use mathlib.Core.Path.{_≡_, refl, sym, ap, _∙_}
 use mathlib.Core.Bool.{Bool, true, false, cond, _&&_, _||_}
 use mathlib.Core.List.{List, [], _∷_, map}
-use mathlib.Core.Option.{Option, none, some}
+use mathlib.Core.Option.{none, some}
 use native.Mathlib.Omega.{arith}
 use native.Mathlib.Numerals.{add-one}
 use lib.ListN.{length, getD, take, drop, length-take, drop-of-length-le}
 use lib.Seq.{slice, slice-cons, take-add, drop-at, drop-drop, length-take-le}
 use borrow.Author.Tests.{le-leb, lt-leb}
-use Rattle.fields.specs.Lists.{all, any, traverse, before, isSome}
-use Rattle.fields.specs.Keyed.{rising, risingFrom}
-
--- A proof by the two cases of a test.
-pub by-test : {A : Type 0} (b : Bool) → (b ≡ true → A) → (b ≡ false → A) → A
-by-test true f g = f refl
-by-test false f g = g refl
-
-pub true-not-false : {A : Type 0} → _≡_ {A = Bool} true false → A
-true-not-false e = let z : _≡_ {A = ℕ} 0 1 = cc in absurd (omega arith)
+use Rattle.fields.specs.Lists.{all, any, before, isSome}
+use Rattle.fields.proofs.Truth.{and-both}
+pub use Rattle.fields.proofs.Truth.{by-test}
+use Rattle.fields.specs.Keyed.{risingFrom}
 
 -- A turn of a pass over a list: x is what the whole pass comes to.
 module _ {A : Type 0} (f : A → Bool) (a : A) (l : List A) {x : Bool} where
@@ -59,17 +53,10 @@ unfolding all
 all-and f g [] = refl
 all-and f g (a ∷ l) = ap (λ (b : Bool). (f a && g a) && b) (all-and f g l) ∙ and-four (f a) (g a) (all f l) (all g l)
 
--- Both of two tests hold where their conjunction does.
-pub and-true : (a b : Bool) → a && b ≡ true → (a ≡ true) × (b ≡ true)
-and-true true b e = (refl, e)
-and-true false b e = true-not-false (sym e)
-
 -- The first passes, and all others, where all do.
 pub all-true : {A : Type 0} (f : A → Bool) (a : A) (l : List A) → all f (a ∷ l) ≡ true → (f a ≡ true) × (all f l ≡ true)
-all-true f a l e =
-    by-test (f a)
-    (λ h. (h, all-next f a l e h))
-    (λ h. true-not-false (sym (all-stop f a l e h)))
+unfolding all
+all-true f a l e = and-both (f a) (all f l) e
 
 -- Some element passes: of a mapped list, of tests that agree where another holds, of the test that none passes.
 pub any-map : {A B : Type 0} (f : B → Bool) (g : A → B) (l : List A) → any f (map g l) ≡ any (λ a. f (g a)) l
@@ -124,13 +111,9 @@ before-conds true b a l = before-cond a b l
 before-conds false b a l = refl
 
 -- What is there under a condition is there if the condition holds.
-pub cond-some : {A : Type 0} (b : Bool) (a : A) → isSome (cond b (some a) none) ≡ b
-cond-some true a = refl
-cond-some false a = refl
-
-pub cond-is : {A : Type 0} (b : Bool) (a c : A) → cond b (some a) none ≡ some c → (b ≡ true) × (a ≡ c)
-cond-is true a c e = (refl, cc)
-cond-is false a c e = let z : _≡_ {A = ℕ} 0 1 = cc in absurd (omega arith)
+pub there-if : {A : Type 0} (b : Bool) (a : A) → isSome (cond b (some a) none) ≡ b
+there-if true a = refl
+there-if false a = refl
 
 -- The n bytes from q on are a part, and so is that part past its first m.
 pub part-is : (s : List ℕ) (q n : ℕ) → q ≤ length s → take n (drop q s) ≡ slice q (q + n) s

@@ -1,19 +1,18 @@
--- The walk by places: a turn at a time, and that it meets the fields of `fieldsOf`.
+-- The walk by places, a turn at a time, and the passes of the code that go by it.
 use Prim.Native.Nat.{ℕ, zero, suc, _+_, _-_, _<_, _≤_}
 use mathlib.Core.Path.{_≡_, refl, sym, ap, _∙_}
-use mathlib.Core.Bool.{Bool, true, false, cond, _&&_}
-use mathlib.Core.List.{List, [], _∷_, map}
-use mathlib.Core.Option.{Option, none, some}
+use mathlib.Core.Bool.{Bool, true, false}
+use mathlib.Core.List.{List, [], _∷_}
+use mathlib.Core.Option.{some}
 use native.Mathlib.Omega.{arith}
-use native.Mathlib.Numerals.{add-one}
-use lib.ListN.{length, getD, take, drop, length-take, length-drop, drop-of-length-le}
-use lib.Seq.{drop-cons, drop-drop, getD-drop, getD-take}
-use lib.Dec.{ltb, leb, eqb}
-use borrow.Author.Tests.{lt-ltb, le-ltb, le-leb, lt-leb, eq-eqb, ne-eqb, leb-true, leb-false}
-use Rattle.fields.specs.Lists.{all, any, traverse, before, isSome}
-use Rattle.fields.specs.Fields.{Field, field, pairAt, splitFields, fieldsOf}
-use Rattle.fields.specs.Inner.Places.{fieldEnd, isWhole, contentsAt, fieldAt, placesIn, placesFrom, places, keyAt}
-use Rattle.fields.proofs.Lists.{by-test, all-stop, all-next, all-true, any-stop, any-next}
+use lib.ListN.{length}
+use lib.Dec.{leb}
+use borrow.Author.Tests.{le-leb, lt-leb, leb-true, leb-false}
+use Rattle.fields.specs.Lists.{all, any}
+use Rattle.fields.specs.Fields.{field}
+use Rattle.fields.specs.Inner.Places.{fieldEnd, placesIn, placesFrom, places}
+use Rattle.fields.proofs.Truth.{by-test}
+use Rattle.fields.proofs.Lists.{all-stop, all-next, all-true, any-stop, any-next}
 
 -- A field's end lies past its place.
 pub end-past : (s : List ℕ) (p : ℕ) → p + 3 ≤ fieldEnd s p

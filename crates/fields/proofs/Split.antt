@@ -1,19 +1,20 @@
 -- The walk by places meets exactly the fields of `fieldsOf`.
 use Prim.Native.Nat.{ℕ, zero, suc, _+_, _-_, _<_, _≤_}
 use mathlib.Core.Path.{_≡_, refl, sym, ap, _∙_}
-use mathlib.Core.Bool.{Bool, true, false, cond, _&&_}
+use mathlib.Core.Bool.{Bool, true, cond}
 use mathlib.Core.List.{List, [], _∷_, map}
 use mathlib.Core.Option.{Option, none, some}
 use native.Mathlib.Omega.{arith}
 use native.Mathlib.Numerals.{add-one}
-use lib.ListN.{length, getD, take, drop, length-take, length-drop, drop-of-length-le}
+use lib.ListN.{length, getD, take, drop, length-drop, drop-of-length-le}
 use lib.Seq.{drop-cons, drop-drop, getD-drop, getD-take}
 use lib.Dec.{leb}
 use borrow.Author.Tests.{le-leb, lt-leb, leb-true, leb-false}
 use Rattle.fields.specs.Lists.{all, traverse, before}
 use Rattle.fields.specs.Fields.{Field, field, pairAt, splitFields, fieldsOf}
-use Rattle.fields.specs.Inner.Places.{fieldEnd, isWhole, contentsAt, fieldAt, placesIn, placesFrom, places}
-use Rattle.fields.proofs.Lists.{by-test, before-conds, all-true}
+use Rattle.fields.specs.Inner.Places.{fieldEnd, isWhole, fieldAt, placesIn, placesFrom, places}
+use Rattle.fields.proofs.Truth.{by-test}
+use Rattle.fields.proofs.Lists.{before-conds, all-true}
 use Rattle.fields.proofs.Places.{end-past, in-done, in-next}
 
 -- A byte, and a pair, of a part.

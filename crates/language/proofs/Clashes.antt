@@ -1,17 +1,17 @@
 -- The table of classes tells whether a language clashes with itself.
-use Prim.Native.Nat.{ℕ, _+_, _<_, _≤_}
+use Prim.Native.Nat.{ℕ, _+_, _<_}
 use mathlib.Core.Path.{_≡_, refl, sym, ap, _∙_}
-use mathlib.Core.Logic.{_⊎_, ⊎-elim, inl, inr}
-use mathlib.Core.Bool.{Bool, true, false, cond, _&&_, _||_}
+use mathlib.Core.Logic.{_⊎_, ⊎-elim}
+use mathlib.Core.Bool.{Bool, true, false, _&&_, _||_}
 use mathlib.Core.List.{List, [], _∷_, map}
-use native.Mathlib.Omega.{arith}
-use lib.ListN.{length, getD, set, replicate, length-set, length-replicate, getD-replicate}
+use lib.ListN.{length, getD, replicate, length-set, length-replicate, getD-replicate}
 use lib.Seq.{getD-set-same, getD-set-other}
 use lib.Dec.{eqb}
-use borrow.Author.Tests.{eq-eqb, ne-eqb, eqb-true, eqb-false}
-use Rattle.fields.specs.Lists.{all, any}
+use borrow.Author.Tests.{eqb-true, eqb-false}
+use Rattle.fields.specs.Lists.{any}
 use Rattle.fields.specs.Inner.Places.{places}
-use Rattle.fields.proofs.Lists.{by-test, any-map, any-same, any-none, any-swap}
+use Rattle.fields.proofs.Truth.{by-test}
+use Rattle.fields.proofs.Lists.{any-map, any-same, any-none, any-swap}
 use Rattle.language.specs.Language.{Entry, class, production, Language, resultIs, classIsResult, clashes}
 use Rattle.language.specs.Inner.Entries.{entryWhole, entryAt, Holds, IsClass, IsProduction, markClass, markClasses, classKinds, resultMarked, resultIsClass}
 use Rattle.language.proofs.Facts.{entry-facts, class-is, production-is}

@@ -1,36 +1,34 @@
 -- What is known of a whole entry: which of the two it is, its key, and the entry itself.
-use Prim.Native.Nat.{ℕ, _+_, _*_, _-_, _<_, _≤_}
-use mathlib.Core.Path.{_≡_, refl, sym, ap, _∙_}
-use mathlib.Core.Logic.{_⊎_, ⊎-elim, inl, inr}
-use mathlib.Core.Bool.{Bool, true, false, cond, _&&_}
+use Prim.Native.Nat.{ℕ, _+_}
+use mathlib.Core.Path.{_≡_}
+use mathlib.Core.Logic.{_⊎_, inl, inr}
+use mathlib.Core.Bool.{true}
 use mathlib.Core.List.{List}
 use native.Mathlib.Omega.{arith}
-use lib.ListN.{length, getD}
+use lib.ListN.{getD}
 use lib.Seq.{slice}
-use lib.Dec.{ltb, leb, eqb}
-use borrow.Author.Tests.{eq-eqb, leb-true, ltb-true, eqb-true, eqb-false}
-use Rattle.fields.specs.Lists.{all}
+use lib.Dec.{eqb}
+use borrow.Author.Tests.{eq-eqb, leb-true, ltb-true, eqb-true}
 use Rattle.fields.specs.Fields.{pairAt}
 use Rattle.fields.specs.Inner.Places.{fieldEnd, isWhole, keyAt}
-use Rattle.fields.proofs.Lists.{by-test, and-true, true-not-false}
-use Rattle.language.specs.Language.{Entry, class, production, entryKey}
-use Rattle.language.specs.LanguageFile.{isKind}
-use Rattle.language.specs.Inner.Entries.{sizeAt, classWhole, productionWhole, entryGood, entryWhole, entryAt, IsClass, IsProduction}
+use Rattle.fields.proofs.Truth.{by-test, false-true, and-both}
+use Rattle.language.specs.Language.{class, production, entryKey}
+use Rattle.language.specs.Inner.Entries.{classWhole, productionWhole, entryGood, entryWhole, entryAt, IsClass, IsProduction}
 
 module _ (s : List ℕ) (p : ℕ) where
   class-facts : isWhole s p ≡ true → getD s p 0 ≡ 0x11 → classWhole s p ≡ true → IsClass s p
   unfolding isWhole classWhole
   class-facts w t h =
-      let a = and-true _ _ h in
-      let b = and-true _ _ (a .1) in
+      let a = and-both _ _ h in
+      let b = and-both _ _ (a .1) in
       record { tag = t; fits = leb-true _ _ w; size = eqb-true _ _ (a .0); kind = ltb-true _ _ (b .0); range = leb-true _ _ (b .1) }
 
   production-facts : isWhole s p ≡ true → getD s p 0 ≡ 0x12 → productionWhole s p ≡ true → IsProduction s p
   unfolding isWhole productionWhole
   production-facts w t h =
-      let a = and-true _ _ h in
-      let b = and-true _ _ (a .1) in
-      let d = and-true _ _ (b .1) in
+      let a = and-both _ _ h in
+      let b = and-both _ _ (a .1) in
+      let d = and-both _ _ (b .1) in
       record {
         tag = t;
         fits = leb-true _ _ w;
@@ -47,12 +45,12 @@ module _ (s : List ℕ) (p : ℕ) where
       (λ e. inl (class-facts w (eqb-true _ _ e) (cc)))
       (λ e. by-test (eqb (getD s p 0) 0x12)
       (λ d. inr (production-facts w (eqb-true _ _ d) (cc)))
-      (λ d. true-not-false (cc)))
+      (λ d. false-true (cc)))
 
   -- A whole entry is a class or a production.
   pub entry-facts : entryWhole s p ≡ true → IsClass s p ⊎ IsProduction s p
   unfolding entryWhole
-  entry-facts h = let a = and-true _ _ h in good-facts (a .0) (a .1)
+  entry-facts h = let a = and-both _ _ h in good-facts (a .0) (a .1)
 
   -- The entry at a whole class, and at a whole production.
   pub class-is : IsClass s p → entryAt s p ≡ class (getD s (p + 3) 0) (pairAt s (p + 4)) (pairAt s (p + 6))

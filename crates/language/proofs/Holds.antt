@@ -1,21 +1,23 @@
 -- The entries by place are the entries of `entriesOf`.
-use Prim.Native.Nat.{ℕ, zero, suc, _+_, _-_, _<_, _≤_}
+use Prim.Native.Nat.{ℕ, _+_, _≤_}
 use mathlib.Core.Path.{_≡_, refl, sym, ap, _∙_}
-use mathlib.Core.Bool.{Bool, true, false, cond, _&&_}
-use mathlib.Core.List.{List, [], _∷_, map}
-use mathlib.Core.Option.{Option, none, some}
+use mathlib.Core.Bool.{true, cond}
+use mathlib.Core.List.{List, map}
+use mathlib.Core.Option.{none, some}
 use native.Mathlib.Omega.{arith}
 use lib.ListN.{length, getD, take, drop, length-take, length-drop}
 use lib.Seq.{slice}
-use lib.Dec.{ltb, leb, eqb}
-use borrow.Author.Tests.{le-leb, lt-leb, eq-eqb, ne-eqb, leb-true, leb-false, eqb-true, eqb-false}
-use Rattle.fields.specs.Lists.{all, isSome, traverse}
-use Rattle.fields.specs.Fields.{Field, field, pairAt, fieldsOf}
-use Rattle.fields.specs.Inner.Places.{fieldEnd, isWhole, contentsAt, fieldAt, places}
-use Rattle.fields.proofs.Lists.{by-test, all-and, cond-some, cond-is, part-is, part-past}
+use lib.Dec.{leb, eqb}
+use borrow.Author.Tests.{leb-true, eqb-true}
+use Rattle.fields.specs.Lists.{all, isSome}
+use Rattle.fields.specs.Fields.{field, pairAt}
+use Rattle.fields.specs.Inner.Places.{fieldEnd, isWhole, fieldAt, places}
+use Rattle.fields.proofs.Truth.{by-test}
+use Rattle.fields.proofs.Codec.{cond-some}
+use Rattle.fields.proofs.Lists.{all-and, there-if, part-is, part-past}
 use Rattle.fields.proofs.Split.{byte-in, pair-in, fields-at-places, traverse-at-places}
-use Rattle.language.specs.Language.{Entry, class, production, Language}
-use Rattle.language.specs.LanguageFile.{isKind, classOf, productionOf, entryOf, entriesIn, entriesOf}
+use Rattle.language.specs.Language.{class, production, Language}
+use Rattle.language.specs.LanguageFile.{classOf, productionOf, entryOf, entriesOf}
 use Rattle.language.specs.Inner.Entries.{sizeAt, classWhole, productionWhole, entryGood, entryWhole, entryAt, Holds}
 
 -- The contents of the whole field at p.
@@ -88,10 +90,10 @@ entries-at-places s =
 
 -- What `entries_whole` tests.
 pub entries-there : (s : List ℕ) → all (entryWhole s) (places s) ≡ isSome (entriesOf s)
-entries-there s = sym (ap isSome (entries-at-places s) ∙ cond-some _ _)
+entries-there s = sym (ap isSome (entries-at-places s) ∙ there-if _ _)
 
 -- The walk over a file of entries l meets exactly the entries of l.
 pub holds-entries : (s : List ℕ) (l : Language) → entriesOf s ≡ some l → Holds s l
 holds-entries s l e =
-    let b = cond-is _ _ l (sym (entries-at-places s) ∙ e) in
+    let b = cond-some _ _ l (sym (entries-at-places s) ∙ e) in
     record { entries = b .1; whole = b .0 }

@@ -4,3 +4,5 @@ pub mod Marks
 pub mod Facts
 pub mod Clashes
 pub mod Chain
+pub mod Lookup
+pub mod Codec

@@ -8,7 +8,7 @@ use fields::bytes::byte_at;
 use fields::bytes::wide;
 use fields::walk::field_end;
 
-// Marks the class at p, if there is one, in the table of kinds.
+// Marks the class at p, if there is one, in the table of kinds. A kind past the table is left out.
 fn mark_class(s: &[u8], p: usize, kinds: &mut [bool])
     requires { ⌜ p ≤ length (now s) ⌝ }
     ensures { λ r. ⌜ now (kinds .exit) ≡ markClass (now (s .entry)) (now (kinds .entry)) p ⌝ }

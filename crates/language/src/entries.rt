@@ -4,7 +4,7 @@ ghost use Prim.Native.Nat.{_+_, _≤_};
 ghost use lib.ListN.{length};
 ghost use lib.Seq.{slice};
 ghost use Rattle.fields.specs.Lists.{all, isSome};
-ghost use Rattle.fields.specs.Inner.Places.{EndsAt, fieldEnd};
+ghost use Rattle.fields.specs.Inner.Places.{EndsAt};
 ghost use Rattle.language.specs.LanguageFile.{isKind, entriesOf};
 ghost use Rattle.language.specs.Inner.Entries.{sizeAt, classWhole, productionWhole, entryWhole};
 use fields::bytes::byte_at;
@@ -12,7 +12,7 @@ use fields::bytes::pair_at;
 use fields::walk::field_end;
 
 // The bytes from p up to e are kinds.
-pub fn kinds_only(s: &[u8], p: usize, e: usize) -> bool
+fn kinds_only(s: &[u8], p: usize, e: usize) -> bool
     requires { ⌜ e ≤ length (now s) ⌝ }
     ensures { λ r. ⌜ r ≡ all isKind (slice p e (now (s .entry))) ⌝ }
 {
@@ -34,7 +34,8 @@ fn class_whole(s: &[u8], p: usize, n: usize) -> bool
     if n != 5 {
         return false;
     }
-    if 32 <= byte_at(s, p + 3) {
+    let kind = byte_at(s, p + 3);
+    if 32 <= kind {
         return false;
     }
     pair_at(s, p + 4) <= pair_at(s, p + 6)
@@ -51,7 +52,8 @@ fn production_whole(s: &[u8], p: usize, n: usize) -> bool
     if 10 < n {
         return false;
     }
-    if 32 <= byte_at(s, p + 3) {
+    let result = byte_at(s, p + 3);
+    if 32 <= result {
         return false;
     }
     kinds_only(s, p + 5, p + 3 + n)
@@ -65,12 +67,13 @@ fn entry_whole(s: &[u8], p: usize, e: usize) -> bool
     if s.len() < e {
         return false;
     }
+    let n = e - p - 3;
     let tag = byte_at(s, p);
     if tag == 0x11 {
-        return class_whole(s, p, e - p - 3);
+        return class_whole(s, p, n);
     }
     if tag == 0x12 {
-        return production_whole(s, p, e - p - 3);
+        return production_whole(s, p, n);
     }
     false
 }

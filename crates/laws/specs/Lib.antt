@@ -1,0 +1,4 @@
+pub mod Packed
+pub mod Runs
+pub mod Sums
+pub mod Examples

@@ -14,7 +14,7 @@ use Rattle.fields.specs.declared.outcome.Outcome.{Outcome}
 use Rattle.fields.specs.declared.outcome.Outcome.the-variants.{Accepted, Refused}
 use Rattle.fields.specs.declared.outcome.Reason.{Reason}
 use Rattle.fields.specs.declared.outcome.Reason.the-variants as Why
-use Rattle.fields.proofs.Lists.{by-test}
+use Rattle.fields.proofs.Truth.{by-test}
 use Rattle.fields.proofs.Split.{front}
 use Rattle.language.specs.Language.{Language, isIn, entryKey, clashes}
 use Rattle.language.specs.LanguageFile.{entriesOf, languageOf}

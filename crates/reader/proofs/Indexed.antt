@@ -14,7 +14,8 @@ use borrow.Author.Tests.{eq-eqb, ne-eqb, eqb-true, eqb-false, ltb-true}
 use Rattle.fields.specs.Fields.{pairAt}
 use Rattle.fields.specs.Lists.{all, first}
 use Rattle.fields.specs.Inner.Places.{fieldEnd, places, keyAt}
-use Rattle.fields.proofs.Lists.{by-test, all-true, part-next}
+use Rattle.fields.proofs.Truth.{by-test}
+use Rattle.fields.proofs.Lists.{all-true, part-next}
 use Rattle.language.specs.Language.{Entry, class, production, Language, Range, rangeAt, rangeOf, argumentsAt, argumentsOf, kindKey, productionKey}
 use Rattle.language.specs.LanguageFile.{isKind, entriesOf}
 use Rattle.language.specs.Inner.Entries.{sizeAt, entryWhole, entryAt, IsClass, IsProduction, Holds}

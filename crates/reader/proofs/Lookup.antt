@@ -11,7 +11,7 @@ use lib.Dec.{ltb, leb, eqb}
 use borrow.Author.Tests.{eq-eqb, ne-eqb, eqb-true, eqb-false}
 use Rattle.fields.specs.Fields.{pairAt}
 use Rattle.fields.specs.Inner.Places.{fieldEnd, placesFrom, keyAt}
-use Rattle.fields.proofs.Lists.{by-test}
+use Rattle.fields.proofs.Truth.{by-test}
 use Rattle.fields.proofs.Places.{pass-done, pass-next}
 use Rattle.reader.specs.Inner.Index.{putAt, putAll}
 

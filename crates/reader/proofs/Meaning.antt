@@ -11,7 +11,8 @@ use lib.Dec.{ltb, leb, eqb}
 use borrow.Author.Tests.{lt-ltb, le-ltb, le-leb, lt-leb, eq-eqb, ne-eqb, leb-true, leb-false, ltb-true, ltb-false, eqb-true, eqb-false}
 use Rattle.fields.specs.Fields.{pairAt}
 use Rattle.fields.specs.Inner.Places.{fieldEnd}
-use Rattle.fields.proofs.Lists.{by-test, part-done, part-next}
+use Rattle.fields.proofs.Truth.{by-test}
+use Rattle.fields.proofs.Lists.{part-done, part-next}
 use Rattle.fields.proofs.Split.{front}
 use Rattle.language.specs.Language.{Language, Range, rangeOf, argumentsOf, inRange, productionKey}
 use Rattle.reader.specs.Code.{node, token, argument, Codes, nil, cons}

@@ -12,7 +12,8 @@ use lib.Dec.{eqb}
 use borrow.Author.Tests.{eq-eqb, ne-eqb, eqb-true, ltb-true}
 use Rattle.fields.specs.Lists.{all, any}
 use Rattle.fields.specs.Inner.Places.{fieldEnd, placesFrom, places}
-use Rattle.fields.proofs.Lists.{by-test, true-not-false, all-true, any-map, any-stop, any-next, part-done, part-next}
+use Rattle.fields.proofs.Truth.{by-test, false-true}
+use Rattle.fields.proofs.Lists.{all-true, any-map, any-stop, any-next, part-done, part-next}
 use Rattle.fields.proofs.Places.{pass-done, pass-next}
 use Rattle.language.specs.Language.{Language, mentions, isIn}
 use Rattle.language.specs.LanguageFile.{isKind, entriesOf}
@@ -89,7 +90,7 @@ entries-whole s h = holds-entries s (h .0) (h .1) .whole
 -- A kind that is in a language is below 32.
 among-kinds : (k : ℕ) (l : List ℕ) → all isKind l ≡ true → any (λ a. eqb a k) l ≡ true → k < 32
 unfolding any
-among-kinds k [] h i = true-not-false (sym i)
+among-kinds k [] h i = false-true i
 among-kinds k (a ∷ l) h i =
     let w = all-true isKind a l h in
     by-test (eqb a k)
@@ -115,7 +116,7 @@ module _ (s : List ℕ) (k p : ℕ) where
 
 mentioned : (s : List ℕ) (k : ℕ) (l : List ℕ) → all (entryWhole s) l ≡ true → any (mentionsAt s k) l ≡ true → k < 32
 unfolding any
-mentioned s k [] h i = true-not-false (sym i)
+mentioned s k [] h i = false-true i
 mentioned s k (p ∷ l) h i =
     let w = all-true (entryWhole s) p l h in
     by-test (mentionsAt s k p)

@@ -1,0 +1,4 @@
+pub mod Terms
+pub mod Pack
+pub mod Evaluation
+pub mod Operations

@@ -1,0 +1,6 @@
+pub mod Translation
+pub mod Running
+pub mod WellFormed
+pub mod TranslationFile
+pub mod Operations
+pub mod Inner

@@ -1,5 +1,5 @@
 -- The fields of a file by their places, as the code walks over them.
--- `proofs/Places.antt` shows that they are the fields of `fieldsOf`.
+-- `proofs/Split.antt` shows that they are the fields of `fieldsOf`.
 use Prim.Native.Nat.{ℕ, zero, suc, _+_, _<_, _≤_}
 use mathlib.Core.Path.{_≡_}
 use mathlib.Core.Bool.{Bool, true, false, cond}
@@ -35,6 +35,7 @@ unfoldable pub placesIn : ℕ → List ℕ → ℕ → List ℕ
 placesIn zero s p = []
 placesIn (suc fuel) s p = elim (leb (length s) p) [ true ↦ [] | false ↦ p ∷ placesIn fuel s (fieldEnd s p) ]
 
+-- The same, with fuel for all bytes.
 unfoldable pub placesFrom : List ℕ → ℕ → List ℕ
 placesFrom s p = placesIn (suc (length s)) s p
 

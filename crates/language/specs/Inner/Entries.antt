@@ -1,18 +1,17 @@
 -- The entries of a language by their places, as the code reads them.
--- `proofs/Entries.antt` shows that they are the entries of `entriesOf`.
-use Prim.Native.Nat.{ℕ, zero, suc, _+_, _-_, _<_, _≤_}
+-- `proofs/Holds.antt` shows that they are the entries of `entriesOf`.
+use Prim.Native.Nat.{ℕ, _+_, _<_, _≤_}
 use mathlib.Core.Path.{_≡_}
 use mathlib.Core.Bool.{Bool, true, false, cond, _&&_}
 use mathlib.Core.List.{List, [], _∷_, map}
-use mathlib.Core.Option.{Option, some}
-use lib.ListN.{length, getD, drop, set, replicate}
+use lib.ListN.{length, getD, set, replicate}
 use lib.Seq.{slice}
 use lib.Dec.{leb, eqb}
 use Rattle.fields.specs.Lists.{all, any}
 use Rattle.fields.specs.Fields.{byteAt, pairAt}
 use Rattle.fields.specs.Inner.Places.{fieldEnd, isWhole, places}
 use Rattle.language.specs.Language.{Entry, class, production, Language}
-use Rattle.language.specs.LanguageFile.{isKind, entriesOf}
+use Rattle.language.specs.LanguageFile.{isKind}
 
 -- The length of the contents of the field at p.
 abbrev pub sizeAt : List ℕ → ℕ → ℕ

@@ -3,20 +3,9 @@ use lib.ListN.{List·getD-eq-default}
 use borrow.Author.Needs.{needs}
 use Rattle.fields.proofs.bytes.byte_at.Statement.{statement}
 use Rattle.fields.proofs.bytes.byte_at.Tie as tie
-use Rattle.fields.proofs.bytes.byte_at.Reads as reads
-use Rattle.fields.proofs.bytes.byte_at.Lts as lts
 
--- src/bytes.rt:18:22
-shared-slice-read-result : tie.Need-shared-slice-read-result
-shared-slice-read-result c = search needs
-
--- src/bytes.rt:15:1
-returns : tie.Need-returns
-returns c = search needs
-
--- src/bytes.rt:15:1
 returns-2 : tie.Need-returns-2
 returns-2 c = cc (List·getD-eq-default {A = ℕ} (c .before .args .s .now) 0 {n = c .before .args .i} (c .if1 .left))
 
 pub byte-at-spec : {M : Type 1} → statement M
-byte-at-spec = tie.close (tie.spec shared-slice-read-result returns returns-2)
+byte-at-spec = tie.close (tie.spec (λ c. search needs) (λ c. search needs) returns-2)

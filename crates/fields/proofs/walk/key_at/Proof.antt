@@ -3,11 +3,6 @@ use Rattle.fields.proofs.Keys.{key-first, key-second}
 use borrow.Author.Needs.{needs}
 use Rattle.fields.proofs.walk.key_at.Statement.{statement}
 use Rattle.fields.proofs.walk.key_at.Tie as tie
-use Rattle.fields.proofs.walk.key_at.Reads as reads
-use Rattle.fields.proofs.walk.key_at.Lts as lts
-use Rattle.fields.proofs.bytes.byte_at.Reads as byte-at-reads
-use Rattle.fields.proofs.bytes.pair_at.Reads as pair-at-reads
-use Rattle.fields.proofs.bytes.wide.Reads as wide-reads
 
 returns : tie.Need-returns
 returns c = (key-first _ _ _ _ _ (c .before .before .before .byte-at .ensures) (c .before .before .if1 .taken) (c .wide .ensures .0 ∙ c .before .byte-at2 .ensures), search needs)

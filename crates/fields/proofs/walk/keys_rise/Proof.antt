@@ -7,10 +7,6 @@ use Rattle.fields.specs.Inner.Places.{placesFrom, places, keyAt}
 use Rattle.fields.proofs.Keys.{keys-done, keys-stop, keys-next}
 use Rattle.fields.proofs.walk.keys_rise.Statement.{statement}
 use Rattle.fields.proofs.walk.keys_rise.Tie as tie
-use Rattle.fields.proofs.walk.keys_rise.Reads as reads
-use Rattle.fields.proofs.walk.keys_rise.Lts as lts
-use Rattle.fields.proofs.walk.field_end.Reads as field-end-reads
-use Rattle.fields.proofs.walk.key_at.Reads as key-at-reads
 
 abbrev Inv-loop : tie.InvT-loop
 Inv-loop s first least₀ p₀ least p = risingFrom (keyAt first s) least (placesFrom s p) ≡ rising (keyAt first s) (places s)

@@ -4,13 +4,6 @@ use Rattle.language.proofs.Chain.{too-long, broken, out-of-order, clash
 use borrow.Author.Needs.{needs}
 use Rattle.language.proofs.check.check_language.Statement.{statement}
 use Rattle.language.proofs.check.check_language.Tie as tie
-use Rattle.language.proofs.check.check_language.Reads as reads
-use Rattle.language.proofs.check.check_language.Lts as lts
-use Rattle.fields.proofs.outcome.accept.Reads as accept-reads
-use Rattle.fields.proofs.outcome.refuse.Reads as refuse-reads
-use Rattle.fields.proofs.walk.keys_rise.Reads as keys-rise-reads
-use Rattle.language.proofs.clash.result_is_class.Reads as result-is-class-reads
-use Rattle.language.proofs.entries.entries_whole.Reads as entries-whole-reads
 
 returns : tie.Need-returns
 returns c = c .refuse .ensures ∙ too-long _ (c .before .if1 .taken)

@@ -3,10 +3,6 @@ use mathlib.Core.Path.{_∙_}
 use borrow.Author.Needs.{needs}
 use Rattle.language.proofs.clash.mark_class.Statement.{statement}
 use Rattle.language.proofs.clash.mark_class.Tie as tie
-use Rattle.language.proofs.clash.mark_class.Reads as reads
-use Rattle.language.proofs.clash.mark_class.Lts as lts
-use Rattle.fields.proofs.bytes.byte_at.Reads as byte-at-reads
-use Rattle.fields.proofs.bytes.wide.Reads as wide-reads
 
 returns : tie.Need-returns
 returns c = mark-other _ _ _ _ (c .before .byte-at .ensures) (c .if1 .taken)

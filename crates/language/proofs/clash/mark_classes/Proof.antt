@@ -1,16 +1,12 @@
 use borrow.Author.Needs.{needs}
 use Prim.Native.Nat.{_-_}
-use mathlib.Core.Path.{_≡_, refl, sym, _∙_}
+use mathlib.Core.Path.{_≡_, refl}
 use lib.ListN.{length}
 use Rattle.fields.specs.Inner.Places.{placesFrom, places}
 use Rattle.language.specs.Inner.Entries.{markClasses}
 use Rattle.language.proofs.Marks.{marks-done, marks-next}
 use Rattle.language.proofs.clash.mark_classes.Statement.{statement}
 use Rattle.language.proofs.clash.mark_classes.Tie as tie
-use Rattle.language.proofs.clash.mark_classes.Reads as reads
-use Rattle.language.proofs.clash.mark_classes.Lts as lts
-use Rattle.fields.proofs.walk.field_end.Reads as field-end-reads
-use Rattle.language.proofs.clash.mark_class.Reads as mark-class-reads
 
 abbrev Inv-loop : tie.InvT-loop
 Inv-loop s kinds₀ p₀ kinds p = (length kinds ≡ length kinds₀) × (markClasses s kinds (placesFrom s p) ≡ markClasses s kinds₀ (places s))

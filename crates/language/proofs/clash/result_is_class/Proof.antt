@@ -9,11 +9,6 @@ use Rattle.language.proofs.Marks.{results-start}
 use Rattle.fields.proofs.Places.{some-done, some-stop, some-next}
 use Rattle.language.proofs.clash.result_is_class.Statement.{statement}
 use Rattle.language.proofs.clash.result_is_class.Tie as tie
-use Rattle.language.proofs.clash.result_is_class.Reads as reads
-use Rattle.language.proofs.clash.result_is_class.Lts as lts
-use Rattle.fields.proofs.walk.field_end.Reads as field-end-reads
-use Rattle.language.proofs.clash.mark_classes.Reads as mark-classes-reads
-use Rattle.language.proofs.clash.result_marked.Reads as result-marked-reads
 
 abbrev Inv-loop : tie.InvT-loop
 Inv-loop s kinds p₀ p = any (resultMarked s kinds) (placesFrom s p) ≡ resultIsClass s

@@ -3,10 +3,6 @@ use mathlib.Core.Path.{_∙_}
 use borrow.Author.Needs.{needs}
 use Rattle.language.proofs.clash.result_marked.Statement.{statement}
 use Rattle.language.proofs.clash.result_marked.Tie as tie
-use Rattle.language.proofs.clash.result_marked.Reads as reads
-use Rattle.language.proofs.clash.result_marked.Lts as lts
-use Rattle.fields.proofs.bytes.byte_at.Reads as byte-at-reads
-use Rattle.fields.proofs.bytes.wide.Reads as wide-reads
 
 returns : tie.Need-returns
 returns c = result-other _ _ _ _ (c .before .byte-at .ensures) (c .if1 .taken)

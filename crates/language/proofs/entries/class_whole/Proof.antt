@@ -3,10 +3,6 @@ use Rattle.language.proofs.Returns.{class-size, class-kind, class-range
 use borrow.Author.Needs.{needs}
 use Rattle.language.proofs.entries.class_whole.Statement.{statement}
 use Rattle.language.proofs.entries.class_whole.Tie as tie
-use Rattle.language.proofs.entries.class_whole.Reads as reads
-use Rattle.language.proofs.entries.class_whole.Lts as lts
-use Rattle.fields.proofs.bytes.byte_at.Reads as byte-at-reads
-use Rattle.fields.proofs.bytes.pair_at.Reads as pair-at-reads
 
 returns : tie.Need-returns
 returns c = class-size _ _ _ _ (c .before .before .pre .1) refl (c .if1 .taken)

@@ -11,10 +11,6 @@ use Rattle.language.proofs.Holds.{entries-there}
 use Rattle.fields.proofs.Places.{every-done, every-stop, every-next}
 use Rattle.language.proofs.entries.entries_whole.Statement.{statement}
 use Rattle.language.proofs.entries.entries_whole.Tie as tie
-use Rattle.language.proofs.entries.entries_whole.Reads as reads
-use Rattle.language.proofs.entries.entries_whole.Lts as lts
-use Rattle.fields.proofs.walk.field_end.Reads as field-end-reads
-use Rattle.language.proofs.entries.entry_whole.Reads as entry-whole-reads
 
 abbrev Inv-loop : tie.InvT-loop
 Inv-loop s p₀ p = all (entryWhole s) (placesFrom s p) ≡ isSome (entriesOf s)

@@ -4,11 +4,6 @@ use Rattle.language.proofs.Returns.{entry-cut, entry-class, entry-produ
 use borrow.Author.Needs.{needs}
 use Rattle.language.proofs.entries.entry_whole.Statement.{statement}
 use Rattle.language.proofs.entries.entry_whole.Tie as tie
-use Rattle.language.proofs.entries.entry_whole.Reads as reads
-use Rattle.language.proofs.entries.entry_whole.Lts as lts
-use Rattle.fields.proofs.bytes.byte_at.Reads as byte-at-reads
-use Rattle.language.proofs.entries.class_whole.Reads as class-whole-reads
-use Rattle.language.proofs.entries.production_whole.Reads as production-whole-reads
 
 returns : tie.Need-returns
 returns c = entry-cut _ _ _ 0 false (c .before .before .pre .is) (c .if1 .taken)
@@ -33,13 +28,11 @@ entry-whole-spec =
     tie.close
     (tie.spec
     returns
+    (λ c. search needs)
+    (λ c. search needs)
     (λ c κs. search needs)
-    (λ c. search needs)
-    (λ c. search needs)
     class-whole-requires
     returns-2
-    (λ c. search needs)
-    (λ c. search needs)
     production-whole-requires
     returns-3
     returns-4)

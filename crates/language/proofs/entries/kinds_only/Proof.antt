@@ -7,8 +7,6 @@ use Rattle.language.specs.LanguageFile.{isKind}
 use Rattle.language.proofs.Returns.{kinds-done, kinds-stop, kinds-next}
 use Rattle.language.proofs.entries.kinds_only.Statement.{statement}
 use Rattle.language.proofs.entries.kinds_only.Tie as tie
-use Rattle.language.proofs.entries.kinds_only.Reads as reads
-use Rattle.language.proofs.entries.kinds_only.Lts as lts
 
 abbrev Inv-loop : tie.InvT-loop
 Inv-loop s p e q₀ q = all isKind (slice q e s) ≡ all isKind (slice p e s)

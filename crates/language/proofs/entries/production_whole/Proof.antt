@@ -3,10 +3,6 @@ use Rattle.language.proofs.Returns.{production-short, production-long, 
 use borrow.Author.Needs.{needs}
 use Rattle.language.proofs.entries.production_whole.Statement.{statement}
 use Rattle.language.proofs.entries.production_whole.Tie as tie
-use Rattle.language.proofs.entries.production_whole.Reads as reads
-use Rattle.language.proofs.entries.production_whole.Lts as lts
-use Rattle.fields.proofs.bytes.byte_at.Reads as byte-at-reads
-use Rattle.language.proofs.entries.kinds_only.Reads as kinds-only-reads
 
 returns : tie.Need-returns
 returns c = production-short _ _ _ _ (c .before .before .pre .1) refl (c .if1 .taken)

@@ -1,0 +1,232 @@
+-- Languages in bytes: what is written is read back, and what is read was written.
+use Prim.Native.Nat.{ℕ, suc, _+_, _*_, _/_, _%_, _≤_}
+use mathlib.Core.Path.{_≡_, refl, sym, ap, _∙_}
+use mathlib.Core.Bool.{Bool, true, false, not, _&&_}
+use mathlib.Core.List.{List, [], _∷_, _++_, map}
+use mathlib.Core.Option.{Option, none, some}
+use native.Mathlib.Omega.{arith}
+use lib.ListN.{length, drop, length-drop}
+use lib.Dec.{ltb, leb}
+use borrow.Author.Tests.{le-leb, leb-true, eqb-true, le-ltb, ltb-false}
+use Rattle.fields.specs.Outcome.{Result, value, refuseIf, _>>=_}
+use Rattle.fields.specs.declared.outcome.Reason.the-variants.{TooLong, Order, Clash}
+use Rattle.fields.specs.Lists.{all, traverse}
+use Rattle.fields.specs.Fields.{Field, field, byteAt, pairAt, twoBytes, fieldsOf, encodeFields}
+use Rattle.fields.specs.Keyed.{rising}
+use Rattle.fields.proofs.Truth.{none-some, and-both, both-and}
+use Rattle.fields.proofs.Codec.{Bytes, contentsOf, Codec, cond-some, refused-value, two-tags, front-two, fields-encode, fields-sound, fields-length, entries-encode, entries-whole, entries-length, entries-sound}
+use Rattle.language.specs.Language.{Entry, class, production, Language, entryKey, clashes}
+use Rattle.language.specs.LanguageFile.{isKind, classOf, productionOf, entryOf, entryField, entriesIn, entriesOf, encodeLanguage, languageLimit, whole, languageOf}
+
+-- An entry that a file can hold: its kinds are kinds, low is at most high, and there are at most 8 arguments.
+unfoldable pub entryWhole : Entry → Bool
+entryWhole (class k low high) = isKind k && leb low high
+entryWhole (production r p arguments) = isKind r && (leb (length arguments) 8 && all isKind arguments)
+
+-- The number in two bytes.
+pub two-bytes : (n : ℕ) → n / 256 * 256 + n % 256 ≡ n
+two-bytes n = omega arith
+
+-- A whole entry that is written is read back.
+entry-reads : (e : Entry) → entryWhole e ≡ true → entryOf (entryField e) ≡ some e
+unfolding entryWhole entryOf entryField classOf productionOf pairAt
+entry-reads (class k low high) h =
+    let w = and-both (isKind k) (leb low high) h in
+    rw (two-bytes low, two-bytes high, w .0, w .1)
+entry-reads (production r p arguments) h =
+    let w = and-both (isKind r) (leb (length arguments) 8 && all isKind arguments) h in
+    let v = and-both (leb (length arguments) 8) (all isKind arguments) (w .1) in
+    let a : 2 ≤ suc (suc (length arguments)) = omega arith in
+    let b : suc (suc (length arguments)) ≤ 10 = omega (arith, leb-true (length arguments) 8 (v .0)) in
+    cc (le-leb 2 (suc (suc (length arguments))) a, le-leb (suc (suc (length arguments))) 10 b, w .0, v .1)
+
+-- What a token class is read from.
+record ClassIn (c : List ℕ) (e : Entry) : Type 0 where
+  long : length c ≡ 5
+  kind : isKind (byteAt c 0) ≡ true
+  rises : leb (pairAt c 1) (pairAt c 3) ≡ true
+  same : class (byteAt c 0) (pairAt c 1) (pairAt c 3) ≡ e
+
+-- A token class that is read.
+class-in : (c : List ℕ) (e : Entry) → classOf c ≡ some e → ClassIn c e
+unfolding classOf
+class-in c e h =
+    let w = cond-some _ _ e h in
+    let v = and-both _ _ (w .0) in
+    let u = and-both _ _ (v .1) in
+    record { long = eqb-true (length c) 5 (v .0); kind = u .0; rises = u .1; same = w .1 }
+
+-- What a production is read from.
+record ProductionIn (c : List ℕ) (e : Entry) : Type 0 where
+  least : 2 ≤ length c
+  most : length c ≤ 10
+  result : isKind (byteAt c 0) ≡ true
+  arguments : all isKind (drop 2 c) ≡ true
+  same : production (byteAt c 0) (byteAt c 1) (drop 2 c) ≡ e
+
+-- A production that is read.
+production-in : (c : List ℕ) (e : Entry) → productionOf c ≡ some e → ProductionIn c e
+unfolding productionOf
+production-in c e h =
+    let w = cond-some _ _ e h in
+    let v = and-both _ _ (w .0) in
+    let u = and-both _ _ (v .1) in
+    let t = and-both _ _ (u .1) in
+    record { least = leb-true 2 (length c) (v .0); most = leb-true (length c) 10 (u .0); result = t .0; arguments = t .1; same = w .1 }
+
+-- An entry that is read is one of the two.
+entry-in : {B : Type 0} (tag : ℕ) (c : List ℕ) (e : Entry) → entryOf (field tag c) ≡ some e
+    → (tag ≡ 0x11 → ClassIn c e → B) → (tag ≡ 0x12 → ProductionIn c e → B) → B
+unfolding entryOf
+entry-in tag c e h f g =
+    two-tags tag 0x11 0x12 (classOf c) (productionOf c) e h (λ t d. f t (class-in c e d)) (λ t d. g t (production-in c e d))
+
+-- An entry that is read is whole.
+entry-wholes : (f : Field) (e : Entry) → entryOf f ≡ some e → entryWhole e ≡ true
+unfolding entryWhole
+entry-wholes (field tag c) e h =
+    entry-in tag c e h
+    (λ t i. rw (← i .same) (both-and _ _ (i .kind) (i .rises)))
+    (λ t i.
+    let n : length (drop 2 c) ≤ 8 = simp length-drop (omega (arith, i .most)) in
+    rw (← i .same) (both-and _ _ (i .result) (both-and _ _ (le-leb (length (drop 2 c)) 8 n) (i .arguments))))
+
+-- It has as many bytes as it is read from.
+entry-sizes : (f : Field) (e : Entry) → entryOf f ≡ some e → length (contentsOf (entryField e)) ≡ length (contentsOf f)
+unfolding entryField
+entry-sizes (field tag c) e h =
+    entry-in tag c e h
+    (λ t i. rw (← i .same) (sym (i .long)))
+    (λ t i. rw (← i .same) (ap length (front-two c (i .least))))
+
+-- The bytes of a token class.
+class-bytes : (c : List ℕ) → length c ≡ 5 → Bytes c → byteAt c 0 ∷ (twoBytes (pairAt c 1) ++ twoBytes (pairAt c 3)) ≡ c
+unfolding pairAt
+class-bytes [] h b = absurd (omega arith)
+class-bytes (k ∷ []) h b = absurd (omega arith)
+class-bytes (k ∷ x ∷ []) h b = absurd (omega arith)
+class-bytes (k ∷ x ∷ y ∷ []) h b = absurd (omega arith)
+class-bytes (k ∷ x ∷ y ∷ u ∷ []) h b = absurd (omega arith)
+class-bytes (k ∷ x ∷ y ∷ u ∷ v ∷ w ∷ c) h b = absurd (omega arith)
+class-bytes (k ∷ x ∷ y ∷ u ∷ v ∷ []) h b =
+    let a : (x * 256 + y) / 256 ≡ x = omega arith in
+    let d : (x * 256 + y) % 256 ≡ y = omega arith in
+    let e : (u * 256 + v) / 256 ≡ u = omega arith in
+    let f : (u * 256 + v) % 256 ≡ v = omega arith in
+    cc
+
+-- It is written in the field that it is read from.
+entry-gives : (f : Field) (e : Entry) → entryOf f ≡ some e → Bytes (contentsOf f) → entryField e ≡ f
+unfolding entryField
+entry-gives (field tag c) e h b =
+    entry-in tag c e h
+    (λ t i. rw (← i .same, t) (ap (λ (l : List ℕ). field 0x11 l) (class-bytes c (i .long) b)))
+    (λ t i. rw (← i .same, t) (ap (λ (l : List ℕ). field 0x12 l) (front-two c (i .least))))
+
+-- Entries, one to a field.
+pub entryCodec : Codec entryOf entryField entryWhole
+entryCodec = record { reads = entry-reads; wholes = entry-wholes; sizes = entry-sizes; gives = entry-gives }
+
+-- The fields that entries are read from.
+entries-in : (o : Option (List Field)) (l : Language) → entriesIn o ≡ some l → (fs : List Field) × (o ≡ some fs) × (traverse entryOf fs ≡ some l)
+entries-in none l e = none-some e
+entries-in (some fs) l e = (fs, refl, e)
+
+-- Whole entries that are written are read back.
+pub language-encode : (l : Language) → all entryWhole l ≡ true → entriesOf (encodeLanguage l) ≡ some l
+unfolding entriesOf encodeLanguage
+language-encode l h = ap entriesIn (fields-encode (map entryField l)) ∙ entries-encode entryCodec l h
+
+module _ (s : List ℕ) (l : Language) (e : entriesOf s ≡ some l) where
+  -- The fields that the entries are read from.
+  entries-from : (fs : List Field) × (fieldsOf s ≡ some fs) × (traverse entryOf fs ≡ some l)
+  unfolding entriesOf
+  entries-from = entries-in (fieldsOf s) l e
+
+  -- Entries that are read are whole.
+  pub language-whole : all entryWhole l ≡ true
+  language-whole = let (fs, d, t) = entries-from in entries-whole entryCodec fs l t
+
+  -- They have as many bytes as they are read from.
+  pub language-length : length (encodeLanguage l) ≡ length s
+  unfolding encodeLanguage
+  language-length = let (fs, d, t) = entries-from in entries-length entryCodec fs l t ∙ fields-length s fs d
+
+  -- Bytes that are read are those that the entries are written in.
+  pub language-sound : Bytes s → s ≡ encodeLanguage l
+  unfolding encodeLanguage
+  language-sound b =
+      let (fs, d, t) = entries-from in
+      let w = fields-sound s fs b d in
+      w .0 ∙ ap encodeFields (sym (entries-sound entryCodec fs l (w .1) t))
+
+-- A language that a file can hold.
+pub record GoodLanguage (l : Language) : Type 0 where
+  pub whole : all entryWhole l ≡ true
+  pub rises : rising entryKey l ≡ true
+  pub apart : clashes l l ≡ false
+  pub short : length (encodeLanguage l) ≤ languageLimit
+
+-- How a file is opened, of a language, a translation or a pack: refusals 1 to 4, then what is made of it.
+abbrev pub opened : {A B : Type 0} → Bool → Option A → (A → Bool) → (A → Bool) → (A → Result B) → Result B
+opened long file rises clash rest =
+    refuseIf long TooLong
+    (whole file >>= λ a.
+    refuseIf (not (rises a)) Order
+    (refuseIf (clash a) Clash
+    (rest a)))
+
+-- A file that is opened: it is not too long, not broken, in order, and without a clash.
+pub record Opened {A B : Type 0} (long : Bool) (file : Option A) (rises clash : A → Bool) (rest : A → Result B) (b : B) : Type 0 where
+  pub held : A
+  pub fits : long ≡ false
+  pub reads : file ≡ some held
+  pub in-order : rises held ≡ true
+  pub apart : clash held ≡ false
+  pub made : rest held ≡ value b
+
+module _ {A B : Type 0} (rises clash : A → Bool) (rest : A → Result B) where
+  -- A file that was read, with both tests at hand.
+  open-held : (a : A) (b : B) (p q : Bool) → rises a ≡ p → clash a ≡ q → refuseIf (not p) Order (refuseIf q Clash (rest a)) ≡ value b
+      → Opened false (some a) rises clash rest b
+  open-held a b false q r c e = refused-value e
+  open-held a b true true r c e = refused-value e
+  open-held a b true false r c e = record { held = a; fits = refl; reads = refl; in-order = r; apart = c; made = e }
+
+  -- A file that comes to a value was opened.
+  pub open-value : (long : Bool) (file : Option A) (b : B) → opened long file rises clash rest ≡ value b → Opened long file rises clash rest b
+  open-value true file b e = refused-value e
+  open-value false none b e = refused-value e
+  open-value false (some a) b e = open-held a b (rises a) (clash a) refl refl e
+
+  -- Where nothing is refused, what is made of the file decides.
+  pub open-rest : (long : Bool) (file : Option A) (a : A) → long ≡ false → file ≡ some a → rises a ≡ true → clash a ≡ false
+      → opened long file rises clash rest ≡ rest a
+  open-rest long file a l f r c = rw (l, f, r, c)
+
+-- A language that a file holds: the entries that are read, which are good.
+pub language-good : (s : List ℕ) (l : Language) → languageOf s ≡ value l → (entriesOf s ≡ some l) × GoodLanguage l
+unfolding languageOf
+language-good s l e =
+    let o = open-value (rising entryKey) (λ m. clashes m m) value (ltb languageLimit (length s)) (entriesOf s) l e in
+    let z : o .held ≡ l = cc in
+    let d : entriesOf s ≡ some l = cc (o .reads) in (
+      d,
+      record {
+        whole = language-whole s l d;
+        rises = rw (← z) (o .in-order);
+        apart = rw (← z) (o .apart);
+        short = omega (arith, language-length s l d, ltb-false languageLimit (length s) (o .fits));
+      },
+    )
+
+-- The bytes of a language that a file holds.
+pub language-bytes : (s : List ℕ) (l : Language) → Bytes s → languageOf s ≡ value l → s ≡ encodeLanguage l
+language-bytes s l b e = language-sound s l (language-good s l e .0) b
+
+-- A good language that is written is read back.
+pub language-back : (l : Language) → GoodLanguage l → languageOf (encodeLanguage l) ≡ value l
+unfolding languageOf
+language-back l g =
+    open-rest (rising entryKey) (λ m. clashes m m) value _ _ l
+    (le-ltb languageLimit (length (encodeLanguage l)) (g .short)) (language-encode l (g .whole)) (g .rises) (g .apart)

@@ -1,0 +1,4 @@
+pub mod Reductions
+pub mod Runs
+pub mod Subsets
+pub mod Sums

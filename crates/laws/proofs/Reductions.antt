@@ -1,0 +1,147 @@
+-- What an accepted reduction was made of, and how one is made.
+use Prim.Native.Nat.{ℕ, zero, suc, _+_, _≤_, _<_}
+use mathlib.Core.Path.{_≡_, refl, ap, sym, subst, _∙_}
+use mathlib.Core.Bool.{Bool, true, false, not, _||_}
+use mathlib.Core.Option.{Option, none, some}
+use mathlib.Core.List.{List, [], _∷_, _++_, append-nil}
+use native.Mathlib.Omega.{arith}
+use lib.ListN.{length, take, drop}
+use lib.Seq.{take-append-seam}
+use lib.Dec.{ltb}
+use Rattle.fields.specs.Outcome.{Result, value, refused, refuseIf, _>>=_, reasonNumber, numberOf, lengthOf, written, outputAfter}
+use Rattle.fields.specs.Fields.{Field}
+use Rattle.fields.specs.declared.outcome.Reason.{Reason}
+use Rattle.fields.specs.declared.outcome.Reason.the-variants.{TooLong, Broken, Order, Clash, Mapping, Clauses, Code, Term as TermRefused, Lent, Unbound, Limit, SumUnfit, JoinUnfit, Root, Tree, Levels, Output}
+use Rattle.fields.specs.declared.outcome.Outcome.the-variants.{Accepted, Refused}
+use Rattle.fields.proofs.Truth.{true-not, none-some}
+use Rattle.fields.proofs.Codec.{refused-value}
+use Rattle.translation.specs.Translation.{Translation}
+use Rattle.translation.specs.TranslationFile.{encodeTranslation}
+use Rattle.translation.proofs.Fitting.{refuse-value}
+use Rattle.reducer.specs.Terms.{Sort, translations, Term, writeTerm, termLevels, Parse, readTerm, scoped}
+use Rattle.reducer.specs.Pack.{Pack, packOf, packLimit, termLimit, wholeTerm, termOf}
+use Rattle.reducer.specs.Evaluation.{Constants, constantsOf, nothingBound, evaluate}
+use Rattle.reducer.specs.Operations.{Ready, ready, work, reduceBytes, Reduced, reduce}
+use Rattle.reducer.proofs.TermCodec.{read-write, read-sound}
+use Rattle.reducer.proofs.PackCodec.{withTerm, newTerm, pack-term, pack-short, pack-good}
+use Rattle.reducer.proofs.Evaluated.{step-value, value-inj, GoodConstants}
+use Rattle.laws.specs.Packed.{packed, putOut}
+
+-- No refusal has the number 0.
+reason-positive : (r : Reason) → reasonNumber r ≡ 0 → ⊥
+unfolding reasonNumber
+reason-positive TooLong e = omega arith
+reason-positive Broken e = omega arith
+reason-positive Order e = omega arith
+reason-positive Clash e = omega arith
+reason-positive Mapping e = omega arith
+reason-positive Clauses e = omega arith
+reason-positive Code e = omega arith
+reason-positive TermRefused e = omega arith
+reason-positive Lent e = omega arith
+reason-positive Unbound e = omega arith
+reason-positive Limit e = omega arith
+reason-positive SumUnfit e = omega arith
+reason-positive JoinUnfit e = omega arith
+reason-positive Root e = omega arith
+reason-positive Tree e = omega arith
+reason-positive Levels e = omega arith
+reason-positive Output e = omega arith
+
+-- The number 0 is a value.
+pub accepted-value : (r : Result (List ℕ)) → numberOf (written r) ≡ 0 → (bytes : List ℕ) × (r ≡ value bytes)
+unfolding numberOf
+accepted-value (value bytes) e = (bytes, refl)
+accepted-value (refused r) e = absurd (reason-positive r e)
+
+pub value-accepted : (r : Result (List ℕ)) (bytes : List ℕ) → r ≡ value bytes → numberOf (written r) ≡ 0
+unfolding numberOf
+value-accepted r bytes e = rw e
+
+-- What was put out is the value.
+pub put-out : (output : List ℕ) (r : Result (List ℕ)) (bytes : List ℕ) → r ≡ value bytes → putOut (written r) (outputAfter output r) ≡ bytes
+unfolding lengthOf
+put-out output r bytes e = rw e (take-append-seam bytes (drop (length bytes) output))
+
+-- Reading a written term gives that term, whatever the levels.
+term-unique : {s : Sort} (n : ℕ) (t u : Term s) (r : List ℕ) → readTerm n s (writeTerm t) ≡ some (u, []) → u ≡ t
+term-unique n t u r e =
+    let same : writeTerm t ++ [] ≡ writeTerm u ++ [] = append-nil (writeTerm t) ∙ read-sound n (writeTerm t) [] u e .0 in
+    let a = read-write t (termLevels t + termLevels u) [] (omega arith) in
+    let b = read-write u (termLevels t + termLevels u) [] (omega arith) in
+    pair-first (some-same (sym b ∙ (ap (readTerm (termLevels t + termLevels u) _) (sym same) ∙ a)))
+  where
+    some-same : {A : Type 0} {x y : A} → some x ≡ some y → x ≡ y
+    some-same q = cc
+
+    pair-first : {A : Type 0} {x y : A} {p q : List ℕ} → _≡_ {A = A × List ℕ} (x, p) (y, q) → x ≡ y
+    pair-first q = ap (λ (z : _ × List ℕ). z .0) q
+
+whole-term : (l b : ℕ) (o : Parse (Term translations)) (t : Term translations) → wholeTerm l b o ≡ value t → (o ≡ some (t, [])) × (scoped l b t ≡ true)
+whole-term l b none t e = refused-value e
+whole-term l b (some (u, x ∷ s)) t e = refused-value e
+whole-term l b (some (u, [])) t e =
+    let r = refuse-value (not (scoped l b u)) TermRefused (value u) e in
+    let q : u ≡ t = value-inj (r .1) in
+    (ap (λ (v : Term translations). some (v, [])) q, rw (← q) (true-not (scoped l b u) (r .0)))
+
+-- What an accepted reduction of a pack with this term was made of.
+pub record Reduction (fields : List Field) (term : Term translations) (bytes : List ℕ) : Type 0 where
+  pub pack : Pack
+  pub opens : packOf (packed fields term) ≡ value pack
+  pub inScope : scoped (length (pack .languages)) (length (pack .bodies)) term ≡ true
+  pub result : Translation
+  pub evaluates : evaluate (constantsOf pack) nothingBound term ≡ value result
+  pub encodes : encodeTranslation result ≡ bytes
+
+term-value : (p : Pack) (t u : Term translations) → p .term ≡ writeTerm t → termOf p ≡ value u → (u ≡ t) × (scoped (length (p .languages)) (length (p .bodies)) u ≡ true)
+unfolding termOf
+term-value p t u e d =
+    let r = whole-term (length (p .languages)) (length (p .bodies)) (readTerm termLimit translations (p .term)) u d in
+    (term-unique termLimit t u [] (ap (readTerm termLimit translations) (sym e) ∙ r .0), r .1)
+
+-- The pack, the term and the lent room are accepted.
+ready-value : (bytes : List ℕ) (w o : ℕ) (r : Ready) → ready bytes w o ≡ value r
+    → (packOf bytes ≡ value (r .pack)) × (termOf (r .pack) ≡ value (r .term)) × ((ltb w 65536 || ltb o 4096) ≡ false)
+unfolding ready
+ready-value bytes w o r e =
+    let a = step-value (packOf bytes) _ e in
+    let b = step-value (termOf (a .0)) _ (a .2) in
+    let c = refuse-value (ltb w 65536 || ltb o 4096) Lent _ (b .2) in
+    let q : record { pack = a .0; term = b .0 } ≡ r = value-inj (c .1) in
+    subst (λ (x : Ready). (packOf bytes ≡ value (x .pack)) × (termOf (x .pack) ≡ value (x .term)) × ((ltb w 65536 || ltb o 4096) ≡ false)) q (a .1, b .1, c .0)
+
+pub reduction : (fields : List Field) (t : Term translations) (w o : ℕ) (bytes : List ℕ) → reduceBytes (packed fields t) w o ≡ value bytes
+    → Reduction fields t bytes × ((ltb w 65536 || ltb o 4096) ≡ false)
+unfolding reduceBytes work
+reduction fields t w o bytes e =
+    let a = step-value (ready (packed fields t) w o) work e in
+    let r = ready-value (packed fields t) w o (a .0) (a .1) in
+    let b = step-value (evaluate (constantsOf (a .0 .pack)) nothingBound (a .0 .term)) (λ f. value (encodeTranslation f)) (a .2) in
+    let p = pack-term fields (writeTerm t) (writeTerm t) (a .0 .pack) (r .0) (pack-short (packed fields t) (a .0 .pack) (r .0)) in
+    let u = term-value (a .0 .pack) t (a .0 .term) (p .0) (r .1) in (
+      record {
+        pack = a .0 .pack;
+        opens = r .0;
+        inScope = ap (scoped (length (a .0 .pack .languages)) (length (a .0 .pack .bodies))) (sym (u .0)) ∙ u .1;
+        result = b .0;
+        evaluates = ap (evaluate (constantsOf (a .0 .pack)) nothingBound) (sym (u .0)) ∙ b .1;
+        encodes = value-inj (b .2);
+      },
+      r .2,
+    )
+
+-- The constants of an accepted pack are good.
+pub reduction-good : {fields : List Field} {t : Term translations} {bytes : List ℕ} (r : Reduction fields t bytes) → GoodConstants (constantsOf (r .pack))
+reduction-good {fields} {t} r = let g = pack-good (packed fields t) (r .pack) (r .opens) in record { languages = g .0; bodies = g .1 }
+
+-- The same pack with another term, which is within the limits and in scope, reduces to what that term comes to.
+pub reduce-other : (fields : List Field) (t u : Term translations) (p : Pack) (w o : ℕ) (f : Translation) → packOf (packed fields t) ≡ value p
+    → length (packed fields u) ≤ packLimit → termLevels u ≤ termLimit → scoped (length (p .languages)) (length (p .bodies)) u ≡ true
+    → (ltb w 65536 || ltb o 4096) ≡ false → evaluate (constantsOf p) nothingBound u ≡ value f
+    → reduceBytes (packed fields u) w o ≡ value (encodeTranslation f)
+unfolding reduceBytes ready work termOf
+reduce-other fields t u p w o f e short levels s room v =
+    let q = pack-term fields (writeTerm t) (writeTerm u) p e short .1 in
+    let d : readTerm termLimit translations (writeTerm u) ≡ some (u, []) = ap (readTerm termLimit translations) (sym (append-nil (writeTerm u))) ∙ read-write u termLimit [] levels in
+    rw (q, d, s, room, v)

@@ -1,0 +1,250 @@
+-- The law of runs holds.
+use Prim.Native.Nat.{ℕ, zero, suc, _+_, _≤_, _<_}
+use mathlib.Core.Path.{_≡_, refl, ap, sym, subst, _∙_}
+use mathlib.Core.Logic.{_⊎_, inl, inr, ⊎-elim}
+use mathlib.Core.Bool.{Bool, true, false, not}
+use mathlib.Core.Option.{Option, none, some}
+use mathlib.Core.List.{List, [], _∷_, _++_, map, append-nil}
+use native.Mathlib.Omega.{arith}
+use lib.ListN.{length}
+use lib.Dec.{ltb}
+use Rattle.fields.specs.Outcome.{Result, value, refused, refuseIf, _>>=_, numberOf, lengthOf, written, outputAfter}
+use Rattle.fields.specs.Fields.{Field}
+use Rattle.fields.specs.declared.outcome.Reason.{Reason}
+use Rattle.fields.specs.declared.outcome.Reason.the-variants.{Root, Levels, Output}
+use Rattle.fields.specs.declared.outcome.Outcome.the-variants.{Accepted, Refused}
+use Rattle.fields.proofs.Truth.{true-not}
+use Rattle.fields.proofs.Codec.{refused-value}
+use Rattle.language.specs.Language.{Language, isIn}
+use Rattle.reader.specs.Code.{Code, levels}
+use Rattle.reader.specs.Typing.{Typed}
+use Rattle.reader.specs.Syntax.{Read, done, deep, broken, read, write, tree}
+use Rattle.reader.specs.Operations.{treeLevels, wholeTree, treeOf}
+use Rattle.reader.proofs.RoundTrip.{Apart, round, as-tree}
+use Rattle.reader.proofs.Sound.{read-done, more-levels}
+use Rattle.reader.proofs.Larger.{typed-larger}
+use Rattle.translation.specs.Translation.{Translation, mapped}
+use Rattle.translation.specs.Running.{transform, clausesOf}
+use Rattle.translation.specs.TranslationFile.{encodeTranslation, translationOf}
+use Rattle.translation.specs.Operations.{fitted, runBytes, Ran, runTree}
+use Rattle.translation.proofs.Preserved.{typed-run}
+use Rattle.translation.proofs.Fitting.{refuse-value, fit-carries}
+use Rattle.reducer.specs.Terms.{Term, translations, join, writeTerm}
+use Rattle.operators.specs.Algebra.{joinFits, joined, translationJoin}
+use Rattle.reducer.specs.Pack.{packOf}
+use Rattle.operators.specs.Limits.{translationExceeds}
+use Rattle.reducer.specs.Evaluation.{Constants, constantsOf, nothingBound, limited, evaluate}
+use Rattle.reducer.specs.Operations.{reduceBytes, reduce}
+use Rattle.reducer.proofs.PackCodec.{pack-term, pack-short}
+use Rattle.operators.proofs.Proper.{proper-apart, Sound, GoodTranslation, good-back}
+use Rattle.operators.proofs.JoinSound.{target-larger, join-lies, join-mapped, join-runs}
+use Rattle.reducer.proofs.Evaluated.{step-value, value-inj, limited-value, translation-join, within, nothing-good, evaluate-good}
+use Rattle.laws.specs.Packed.{packed, putOut}
+use Rattle.laws.specs.Runs.{Legal, mapsTo, targetIn, ReducesTo, Agrees, LawOfRuns}
+use Rattle.laws.proofs.Reductions.{accepted-value, put-out, Reduction, reduction, reduction-good}
+
+-- A transformation of a typed tree is typed.
+transform-typed : (f : Translation) → Sound f → (t : Code) (k : ℕ) → Typed (f .source) [] t k → Typed (f .target) [] (transform f t) (mapped (f .body) k)
+unfolding transform
+transform-typed f s t k h = typed-run (fit-carries f (s .rises) (s .fits)) h
+
+-- What is a tree is typed.
+whole-done : (o : Read Code) (t : Code) → wholeTree o ≡ value t → o ≡ done t []
+whole-done (done u []) t e = ap (λ (x : Code). done x []) (value-inj e)
+whole-done (done u (b ∷ s)) t e = refused-value e
+whole-done deep t e = refused-value e
+whole-done broken t e = refused-value e
+
+tree-typed : (l : Language) (k : ℕ) (bytes : List ℕ) (t : Code) → treeOf l k bytes ≡ value t → Typed l [] t k × (isIn l k ≡ true)
+unfolding treeOf
+tree-typed l k bytes t e =
+    let r = refuse-value (not (isIn l k)) Root (wholeTree (read tree l [] treeLevels k bytes)) e in
+    (read-done tree l [] treeLevels k bytes t [] (whole-done _ t (r .1)) .0, true-not (isIn l k) (r .0))
+
+-- What a run of a translation's bytes comes to.
+run-good : (f : Translation) → GoodTranslation f → (root : ℕ) (bytes : List ℕ) (room : ℕ)
+    → runBytes (encodeTranslation f) root bytes room ≡ (treeOf (f .source) root bytes >>= λ t. fitted room (write tree (transform f t)))
+unfolding runBytes
+run-good f g root bytes room = rw (good-back f g)
+
+-- A tree that was read, of a kind that is in the language.
+tree-of : (l : Language) (k : ℕ) (bytes : List ℕ) (o : Read Code) → isIn l k ≡ true → read tree l [] treeLevels k bytes ≡ o → treeOf l k bytes ≡ wholeTree o
+unfolding treeOf
+tree-of l k bytes o i e = rw (i, e)
+
+-- A written tree is read back, or is too deep to be handed in.
+written-tree : (l : Language) (k : ℕ) (t : Code) → Apart l → isIn l k ≡ true → Typed l [] t k
+    → (treeOf l k (write tree t) ≡ refused Levels) ⊎ (treeOf l k (write tree t) ≡ value t)
+written-tree l k t s i h =
+    let big = round l s h as-tree (treeLevels + levels t) [] (omega arith) in
+    let z : read tree l [] (treeLevels + levels t) k (write tree t) ≡ done t [] = ap (read tree l [] (treeLevels + levels t) k) (sym (append-nil (write tree t))) ∙ big in
+    ⊎-elim
+    (λ e. inl (tree-of l k (write tree t) deep i e))
+    (λ e. inr (tree-of l k (write tree t) (done t []) i (sym e ∙ z)))
+    (more-levels tree l [] treeLevels (treeLevels + levels t) k (write tree t) (omega arith))
+
+-- The bytes of a translation term's value, as a run sees them.
+record Operand (f : Translation) (bytes : List ℕ) : Type 0 where
+  good : GoodTranslation f
+  encodes : encodeTranslation f ≡ bytes
+
+operand-opens : (f : Translation) (bytes : List ℕ) → Operand f bytes → translationOf bytes ≡ value f
+operand-opens f bytes p = ap translationOf (sym (p .encodes)) ∙ good-back f (p .good)
+
+operand-runs : (f : Translation) (bytes : List ℕ) → Operand f bytes → (root : ℕ) (input : List ℕ) (room : ℕ)
+    → runBytes bytes root input room ≡ (treeOf (f .source) root input >>= λ t. fitted room (write tree (transform f t)))
+unfolding runBytes
+operand-runs f bytes p root input room = rw (operand-opens f bytes p)
+
+fitted-value : (room : ℕ) (bytes result : List ℕ) → fitted room bytes ≡ value result → bytes ≡ result
+fitted-value room bytes result e = value-inj (refuse-value (ltb room (length bytes)) Output (value bytes) e .1)
+
+-- The runs of three translations, of which the last is the join of the others.
+module _ (f g j : Translation) (F G J : List ℕ) (pf : Operand f F) (pg : Operand g G) (pj : Operand j J)
+    (mapped-on : (k : ℕ) → isIn (g .source) k ≡ true → mapped (j .body) k ≡ mapped (f .body) (mapped (g .body) k))
+    (lies : (k : ℕ) → isIn (g .source) k ≡ true → isIn (f .source) (mapped (g .body) k) ≡ true)
+    (source : j .source ≡ g .source) (target : j .target ≡ f .target)
+    (typed-on : (t : Code) (k : ℕ) → Typed (g .target) [] t k → Typed (f .source) [] t k)
+    (runs : (t : Code) (k : ℕ) → Typed (g .source) [] t k → transform j t ≡ transform f (transform g t)) where
+  -- The join's run and the second run come to the same.
+  same-runs : (root : ℕ) (bytes middle : List ℕ) (room space : ℕ) → runBytes G root bytes room ≡ value middle
+      → (runBytes F (mapped (g .body) root) middle space ≡ refused Levels → ⊥)
+      → (runBytes J root bytes space ≡ runBytes F (mapped (g .body) root) middle space)
+        × ((result : List ℕ) → runBytes J root bytes space ≡ value result → Legal (j .target) (mapped (j .body) root) result)
+  same-runs root bytes middle room space e shallow =
+      let a = step-value (treeOf (g .source) root bytes) (λ t. fitted room (write tree (transform g t))) (sym (operand-runs g G pg root bytes room) ∙ e) in
+      let t = a .0 in
+      let h = tree-typed (g .source) root bytes t (a .1) in
+      let m : write tree (transform g t) ≡ middle = fitted-value room (write tree (transform g t)) middle (a .2) in
+      let u = transform-typed g (pg .good .sound) t root (h .0) in
+      let v = typed-on (transform g t) (mapped (g .body) root) u in
+      let join-run : runBytes J root bytes space ≡ fitted space (write tree (transform f (transform g t)))
+      = operand-runs j J pj root bytes space
+        ∙ (ap (λ (l : Language). treeOf l root bytes >>= λ x. fitted space (write tree (transform j x))) source
+        ∙ (ap (λ (o : Result Code). o >>= λ x. fitted space (write tree (transform j x))) (a .1)
+        ∙ ap (λ (x : Code). fitted space (write tree x)) (runs t root (h .0)))) in
+      let second-run : (o : Result Code) → treeOf (f .source) (mapped (g .body) root) (write tree (transform g t)) ≡ o
+          → runBytes F (mapped (g .body) root) middle space ≡ (o >>= λ x. fitted space (write tree (transform f x)))
+      = λ o q.
+        operand-runs f F pf (mapped (g .body) root) middle space
+        ∙ (ap (λ (b : List ℕ). treeOf (f .source) (mapped (g .body) root) b >>= λ x. fitted space (write tree (transform f x))) (sym m)
+        ∙ ap (λ (z : Result Code). z >>= λ x. fitted space (write tree (transform f x))) q) in
+      let equal : runBytes J root bytes space ≡ runBytes F (mapped (g .body) root) middle space
+      = ⊎-elim
+        (λ q. absurd (shallow (second-run (refused Levels) q)))
+        (λ q. join-run ∙ sym (second-run (value (transform g t)) q))
+        (written-tree (f .source) (mapped (g .body) root) (transform g t) (proper-apart (f .source) (pf .good .sound .source)) (lies root (h .1)) v) in
+      (equal, λ result q.
+      let w = transform-typed f (pf .good .sound) (transform g t) (mapped (g .body) root) v in
+      (transform f (transform g t), rw (target, mapped-on root (h .1)) w, fitted-value space (write tree (transform f (transform g t))) result (sym join-run ∙ q)))
+
+-- A refused operation put out nothing, an accepted one its value, whatever the buffer.
+put-same : (r : Result (List ℕ)) (b c : List ℕ) → putOut (written r) (outputAfter b r) ≡ putOut (written r) (outputAfter c r)
+unfolding lengthOf
+put-same (value x) b c = put-out b (value x) x refl ∙ sym (put-out c (value x) x refl)
+put-same (refused r) b c = refl
+
+refused-written : (r : Result (List ℕ)) → r ≡ refused Levels → written r ≡ Refused Levels
+refused-written r e = rw e
+
+-- What is said of two results holds of the runs.
+agrees : (J F bytes middle : List ℕ) (root kind : ℕ) (b c : List ℕ) (l : Language) (k : ℕ) → length c ≡ length b
+    → runBytes J root bytes (length b) ≡ runBytes F kind middle (length b)
+    → ((result : List ℕ) → runBytes J root bytes (length b) ≡ value result → Legal l k result)
+    → Agrees (runTree J root bytes c) (runTree F kind middle b) l k
+unfolding runTree
+agrees J F bytes middle root kind b c l k n e legal =
+    let q : runBytes J root bytes (length c) ≡ runBytes J root bytes (length b) = ap (runBytes J root bytes) n in
+    record {
+      outcome = ap written (q ∙ e);
+      bytes = put-same (runBytes J root bytes (length c)) c b ∙ ap (λ (r : Result (List ℕ)). putOut (written r) (outputAfter b r)) (q ∙ e);
+      legal = λ z.
+          let v = accepted-value (runBytes J root bytes (length c)) z in
+          subst (Legal l k) (sym (put-out c (runBytes J root bytes (length c)) (v .0) (v .1))) (legal (v .0) (sym q ∙ v .1));
+    }
+
+-- What a pack reduces to.
+reduces : (fields : List Field) (t : Term translations) (w o bytes : List ℕ) → ReducesTo (packed fields t) w o bytes → Reduction fields t bytes
+unfolding reduce
+reduces fields t w o bytes e =
+    let r = reduceBytes (packed fields t) (length w) (length o) in
+    let v = accepted-value r (e .0) in
+    let q : v .0 ≡ bytes = sym (put-out o r (v .0) (v .1)) ∙ e .1 in
+    reduction fields t (length w) (length o) bytes (v .1 ∙ ap value q) .0
+
+-- Packs that differ only in field 32 have the same constants.
+same-constants : {fields : List Field} {t u : Term translations} {x y : List ℕ} (r : Reduction fields t x) (s : Reduction fields u y)
+    → constantsOf (r .pack) ≡ constantsOf (s .pack)
+same-constants {fields} {t} {u} r s =
+    let q = pack-term fields (writeTerm t) (writeTerm u) (r .pack) (r .opens) (pack-short (packed fields u) (s .pack) (s .opens)) in
+    ap constantsOf (value-inj (sym (q .1) ∙ s .opens))
+
+-- The value of the same term, under the constants of another pack.
+value-under : {fields : List Field} {t u : Term translations} {x y : List ℕ} (r : Reduction fields t x) (s : Reduction fields u y) (f : Translation)
+    → evaluate (constantsOf (r .pack)) nothingBound u ≡ value f → f ≡ s .result
+value-under {u = u} r s f e = value-inj (sym e ∙ (ap (λ (c : Constants). evaluate c nothingBound u) (same-constants r s) ∙ s .evaluates))
+
+operand : {fields : List Field} {t : Term translations} {x : List ℕ} (r : Reduction fields t x) → Operand (r .result) x
+operand {t = t} r = record {
+  good = evaluate-good (constantsOf (r .pack)) (reduction-good r) nothingBound nothing-good t (r .result) (r .evaluates);
+  encodes = r .encodes;
+}
+
+-- The join that was reduced is the join of its operands, which fit, and whose codes are not too deep.
+record Joins (f g j : Translation) : Type 0 where
+  fits : joinFits f g ≡ true
+  exceeds : translationExceeds (joined f g) ≡ false
+  is : joined f g ≡ j
+
+join-value : {fields : List Field} {f g : Term translations} {J F G : List ℕ} (rj : Reduction fields (join f g) J) (rf : Reduction fields f F) (rg : Reduction fields g G)
+    → Joins (rf .result) (rg .result) (rj .result)
+unfolding evaluate
+join-value {f = f} {g = g} rj rf rg =
+    let c = constantsOf (rj .pack) in
+    let a = step-value (evaluate c nothingBound f) _ (rj .evaluates) in
+    let b = step-value (evaluate c nothingBound g) _ (a .2) in
+    let h = step-value (translationJoin (a .0) (b .0)) (limited translations) (b .2) in
+    let l = limited-value translations (h .0) (rj .result) (h .2) in
+    let j = translation-join (a .0) (b .0) (h .0) (h .1) in
+    let p : a .0 ≡ rf .result = value-under rj rf (a .0) (a .1) in
+    let q : b .0 ≡ rg .result = value-under rj rg (b .0) (b .1) in
+    subst (λ (x : Translation). Joins x (rg .result) (rj .result)) p
+    (subst (λ (y : Translation). Joins (a .0) y (rj .result)) q
+    (record { fits = j .0; exceeds = ap translationExceeds (j .1) ∙ l .0; is = j .1 ∙ l .1 }))
+
+source-is : (f g : Translation) → joined f g .source ≡ g .source
+unfolding joined
+source-is f g = refl
+
+target-is : (f g : Translation) → joined f g .target ≡ f .target
+unfolding joined
+target-is f g = refl
+
+-- The law of runs.
+pub law-of-runs : LawOfRuns
+unfolding runTree
+law-of-runs fields f g w w₁ w₂ o o₁ o₂ ew ew₂ eo eo₂ J G F hj hg hf root bytes middle a b c n first put shallow =
+    let rj = reduces fields (join f g) w o J hj in
+    let rg = reduces fields g w₁ o₁ G hg in
+    let rf = reduces fields f w₂ o₂ F hf in
+    let j = join-value rj rf rg in
+    let pf = operand rf in
+    let pg = operand rg in
+    let pj : Operand (joined (rf .result) (rg .result)) J = subst (λ (x : Translation). Operand x J) (sym (j .is)) (operand rj) in
+    let sf = pf .good .sound in
+    let sg = pg .good .sound in
+    let codes = within (joined (rf .result) (rg .result)) (j .exceeds) .codes in
+    let v = accepted-value (runBytes G root bytes (length a)) first in
+    let m : runBytes G root bytes (length a) ≡ value middle = v .1 ∙ ap value (sym (put-out a (runBytes G root bytes (length a)) (v .0) (v .1)) ∙ put) in
+    let kind : mapsTo (translationOf G) root ≡ mapped (rg .result .body) root = ap (λ (r : Result Translation). mapsTo r root) (operand-opens (rg .result) G pg) in
+    let r = same-runs (rf .result) (rg .result) (joined (rf .result) (rg .result)) F G J pf pg pj
+    (join-mapped (rf .result) (rg .result) sf sg (j .fits)) (join-lies (rf .result) (rg .result) sf sg (j .fits))
+    (source-is (rf .result) (rg .result)) (target-is (rf .result) (rg .result))
+    (λ t k h. typed-larger (target-larger (rf .result) (rg .result) sf sg (j .fits)) h)
+    (λ t k h. join-runs (rf .result) (rg .result) sf sg (j .fits) codes h)
+    root bytes middle (length a) (length b) m
+    (λ q. shallow (refused-written _ (ap (λ (k : ℕ). runBytes F k middle (length b)) kind ∙ q))) in
+    subst (λ (o : Result Translation). Agrees (runTree J root bytes c) (runTree F (mapsTo (translationOf G) root) middle b) (targetIn o) (mapsTo o root))
+    (sym (operand-opens (joined (rf .result) (rg .result)) J pj))
+    (subst (λ (k : ℕ). Agrees (runTree J root bytes c) (runTree F k middle b) (joined (rf .result) (rg .result) .target) (mapped (joined (rf .result) (rg .result) .body) root)) (sym kind)
+    (agrees J F bytes middle root (mapped (rg .result .body) root) b c _ _ n (r .0) (r .1)))

@@ -1,0 +1,4 @@
+pub mod Proper
+pub mod SumSound
+pub mod JoinSound
+pub mod IdentitySound

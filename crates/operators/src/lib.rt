@@ -1,0 +1,1 @@
+// The signs' values on languages and translations: their definitions and laws.

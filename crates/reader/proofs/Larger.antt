@@ -1,0 +1,123 @@
+-- A code that is read in a language is read alike in a larger one.
+use Prim.Native.Nat.{ℕ, zero, suc}
+use mathlib.Core.Path.{_≡_, refl, ap, sym, _∙_}
+use mathlib.Core.Bool.{Bool, true, false}
+use mathlib.Core.List.{List, [], _∷_}
+use mathlib.Core.Option.{Option, none, some}
+use native.Mathlib.Omega.{arith}
+use lib.Dec.{eqb}
+use Rattle.fields.proofs.Truth.{Mem}
+use Rattle.fields.proofs.Keyed.{Rising}
+use Rattle.language.specs.Language.{Entry, class, production, Language, entryKey, Range, rangeOf, argumentsOf, inRange, clashes}
+use Rattle.language.proofs.Lookup.{range-mem, arguments-mem, mem-range, mem-arguments, clashes-none}
+use Rattle.reader.specs.Code.{Code, node, token, argument, Codes, nil, cons}
+use Rattle.reader.specs.Typing.{Typed, TypedAll, typed-node, typed-token, typed-argument, typed-nil, typed-cons}
+use Rattle.reader.specs.Syntax.{Syntax, tree, code, Read, done, deep, broken, andThen, readAll, readOperands, readNode, readToken, readArgument, readCodeLevel, readLevel, read}
+use Rattle.reader.proofs.RoundTrip.{Apart}
+
+-- A language with all classes and productions of another.
+pub record Larger (l m : Language) : Type 0 where
+  pub classes : (k : ℕ) (c : Range) → rangeOf l k ≡ some c → rangeOf m k ≡ some c
+  pub productions : (k p : ℕ) (ks : List ℕ) → argumentsOf l k p ≡ some ks → argumentsOf m k p ≡ some ks
+
+pub larger : (l m : Language) → Rising entryKey m → ((a : Entry) → Mem a l → Mem a m) → Larger l m
+larger l m rises h = record {
+  classes = λ k c e. mem-range m rises k (c .low) (c .high) (h _ (range-mem l k c e));
+  productions = λ k p ks e. mem-arguments m rises k p ks (h _ (arguments-mem l k p ks e));
+}
+
+-- A language in which no class is a result has its classes and productions apart.
+pub apart : (l : Language) → clashes l l ≡ false → Apart l
+apart l e k p ks q = go (rangeOf l k) refl
+  where
+    go : (o : Option Range) → rangeOf l k ≡ o → o ≡ none
+    go none f = refl
+    go (some c) f = absurd (clashes-none l l e k (c .low) (c .high) p ks (range-mem l k c f) (arguments-mem l k p ks q))
+
+module _ {l m : Language} (w : Larger l m) where
+  mutual
+    pub typed-larger : {r : List ℕ} {a : Code} {k : ℕ} → Typed l r a k → Typed m r a k
+    typed-larger (typed-node e h) = typed-node (w .productions _ _ _ e) (typed-largerAll h)
+    typed-larger (typed-token e h) = typed-token (w .classes _ _ e) h
+    typed-larger (typed-argument e) = typed-argument e
+
+    pub typed-largerAll : {r : List ℕ} {t : Codes} {ks : List ℕ} → TypedAll l r t ks → TypedAll m r t ks
+    typed-largerAll typed-nil = typed-nil
+    typed-largerAll (typed-cons h hs) = typed-cons (typed-larger h) (typed-largerAll hs)
+
+-- The second gives what the first gives.
+pub data Keeps {A : Type 0} : Read A → Read A → Type 0 where
+  keeps-done : {a : A} {r : List ℕ} → Keeps (done a r) (done a r)
+  keeps-deep : {o : Read A} → Keeps deep o
+  keeps-broken : {o : Read A} → Keeps broken o
+
+pub keeps-same : {A : Type 0} (o : Read A) → Keeps o o
+keeps-same (done a r) = keeps-done
+keeps-same deep = keeps-deep
+keeps-same broken = keeps-broken
+
+then-keeps : {A B : Type 0} {o p : Read A} (f g : A → List ℕ → Read B) → Keeps o p → ((a : A) (r : List ℕ) → Keeps (f a r) (g a r))
+    → Keeps (andThen o f) (andThen p g)
+then-keeps f g (keeps-done {a = a} {r = r}) h = h a r
+then-keeps f g keeps-deep h = keeps-deep
+then-keeps f g keeps-broken h = keeps-broken
+
+module _ {l m : Language} (w : Larger l m) (f g : ℕ → List ℕ → Read Code) (h : (k : ℕ) (s : List ℕ) → Keeps (f k s) (g k s)) where
+  all-keeps : (ks s : List ℕ) → Keeps (readAll f ks s) (readAll g ks s)
+  unfolding readAll
+  all-keeps [] s = keeps-done
+  all-keeps (k ∷ ks) s = then-keeps _ _ (h k s) (λ a r. then-keeps _ _ (all-keeps ks r) (λ t u. keeps-done))
+
+  operands-keep : (k p : ℕ) (s : List ℕ) (o : Option (List ℕ)) → argumentsOf l k p ≡ o
+      → Keeps (readOperands f k p o s) (readOperands g k p (argumentsOf m k p) s)
+  unfolding readOperands
+  operands-keep k p s none e = keeps-broken
+  operands-keep k p s (some ks) e = rw (w .productions k p ks e) (then-keeps _ _ (all-keeps ks s) (λ t u. keeps-done))
+
+  node-keeps : (k : ℕ) (s : List ℕ) → Keeps (readNode f l k s) (readNode g m k s)
+  unfolding readNode
+  node-keeps k [] = keeps-broken
+  node-keeps k (p ∷ s) = operands-keep k p s (argumentsOf l k p) refl
+
+  token-keeps : (k : ℕ) (s : List ℕ) (o : Option Range) → rangeOf l k ≡ o → Keeps (readToken o s) (readToken (rangeOf m k) s)
+  unfolding readToken
+  token-keeps k s none e = keeps-broken
+  token-keeps k s (some c) e = rw (w .classes k c e) (keeps-same (readToken (some c) s))
+
+  level-keeps : (arguments : List ℕ) (k : ℕ) (s : List ℕ) → Keeps (readCodeLevel f l arguments k s) (readCodeLevel g m arguments k s)
+  unfolding readCodeLevel
+  level-keeps arguments k [] = keeps-broken
+  level-keeps arguments k (b ∷ s) = go (eqb b 1) (eqb b 2) (eqb b 3)
+    where
+      go : (x y z : Bool) → Keeps {A = Code}
+          (elim x [ true ↦ readNode f l k s | false ↦ elim y [ true ↦ readToken (rangeOf l k) s | false ↦ elim z [ true ↦ readArgument arguments k s | false ↦ broken ] ] ])
+          (elim x [ true ↦ readNode g m k s | false ↦ elim y [ true ↦ readToken (rangeOf m k) s | false ↦ elim z [ true ↦ readArgument arguments k s | false ↦ broken ] ] ])
+      go true y z = node-keeps k s
+      go false true z = token-keeps k s (rangeOf l k) refl
+      go false false true = keeps-same (readArgument arguments k s)
+      go false false false = keeps-broken
+
+-- A code read in a language is read alike in a larger one.
+pub read-keeps : {l m : Language} → Larger l m → (arguments : List ℕ) (n k : ℕ) (s : List ℕ)
+    → Keeps (read code l arguments n k s) (read code m arguments n k s)
+unfolding read readLevel
+read-keeps w arguments zero k s = keeps-deep
+read-keeps w arguments (suc n) k s = level-keeps w _ _ (λ j r. read-keeps w arguments n j r) arguments k s
+
+-- Too deep, or broken, is not done.
+pub deep-done : {A B : Type 0} {a : A} {r : List ℕ} → deep ≡ done a r → B
+deep-done {A} {a = a} {r} e = absurd (clash a r e)
+  where
+    clash : (a : A) (r : List ℕ) → deep ≡ done a r → ⊥
+    clash a r e = let z : _≡_ {A = ℕ} 0 1 = cc in omega arith
+
+pub broken-done : {A B : Type 0} {a : A} {r : List ℕ} → broken ≡ done a r → B
+broken-done {A} {a = a} {r} e = absurd (clash a r e)
+  where
+    clash : (a : A) (r : List ℕ) → broken ≡ done a r → ⊥
+    clash a r e = let z : _≡_ {A = ℕ} 0 1 = cc in omega arith
+
+pub keeps : {A : Type 0} {o p : Read A} {a : A} {r : List ℕ} → Keeps o p → o ≡ done a r → p ≡ done a r
+keeps keeps-done e = e
+keeps keeps-deep e = deep-done e
+keeps keeps-broken e = broken-done e

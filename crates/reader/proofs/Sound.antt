@@ -1,0 +1,231 @@
+-- What was read is typed, is within the levels, and is exactly the bytes that were eaten.
+-- More levels change nothing but the refusal.
+use Prim.Native.Nat.{ℕ, zero, suc, _+_, _*_, _/_, _%_, _≤_, _<_, max}
+use mathlib.Core.Path.{_≡_, refl, ap, sym, _∙_}
+use mathlib.Core.Logic.{_⊎_, inl, inr, ⊎-elim}
+use mathlib.Core.Bool.{Bool, true, false, _&&_}
+use mathlib.Core.List.{List, [], _∷_, _++_, append-assoc}
+use mathlib.Core.Option.{Option, none, some}
+use native.Mathlib.Omega.{arith}
+use lib.Dec.{eqb}
+use borrow.Author.Tests.{eqb-true}
+use Rattle.fields.proofs.Truth.{none-some, false-true}
+use Rattle.fields.proofs.Codec.{Bytes}
+use Rattle.language.specs.Language.{Language, Range, rangeOf, argumentsOf, inRange}
+use Rattle.reader.specs.Code.{Code, node, token, argument, Codes, nil, cons, levels, levelsAll}
+use Rattle.reader.specs.Typing.{kindAt, Typed, TypedAll, typed-node, typed-token, typed-argument, typed-nil, typed-cons}
+use Rattle.reader.specs.Syntax.{Syntax, tree, code, sign, write, writeAll, Read, done, deep, broken, andThen, readAll, readOperands, readNode, readToken, isThe, readArgument, readTreeLevel, readCodeLevel, readLevel, read}
+
+-- The bytes were eaten: they are what the code is written as, and the rest.
+abbrev pub Eaten : List ℕ → List ℕ → List ℕ → Type 0
+Eaten s front rest = Bytes s → (s ≡ front ++ rest) × Bytes rest
+
+-- What reading a code of kind k from s came to is right.
+abbrev pub Right : Syntax → Language → List ℕ → ℕ → ℕ → List ℕ → Read Code → Type 0
+Right x l arguments n k s (done a r) = Typed l arguments a k × (levels a ≤ n) × Eaten s (write x a) r
+Right x l arguments n k s deep = Unit {0}
+Right x l arguments n k s broken = Unit {0}
+
+abbrev RightAll : Syntax → Language → List ℕ → ℕ → List ℕ → List ℕ → Read Codes → Type 0
+RightAll x l arguments n ks s (done t r) = TypedAll l arguments t ks × (levelsAll t ≤ n) × Eaten s (writeAll x t) r
+RightAll x l arguments n ks s deep = Unit {0}
+RightAll x l arguments n ks s broken = Unit {0}
+
+eaten-next : (s r u f g : List ℕ) → Eaten s f r → Eaten r g u → Eaten s (f ++ g) u
+eaten-next s r u f g h k b = let p = h b in let q = k (p .1) in (p .0 ∙ rw (q .0, append-assoc), q .1)
+
+-- A sign in front.
+eaten-sign : (x : ℕ) (s f r : List ℕ) → Eaten s f r → Eaten (x ∷ s) (x ∷ f) r
+eaten-sign x s f r h b = let p = h (b .1) in (ap (λ (l : List ℕ). x ∷ l) (p .0), p .1)
+
+eaten-signed : (x : Syntax) (b : ℕ) (s f r : List ℕ) → Eaten s f r → Eaten (sign x b ++ s) (sign x b ++ f) r
+eaten-signed tree b s f r h = h
+eaten-signed code b s f r h = eaten-sign b s f r h
+
+module _ (x : Syntax) (l : Language) (arguments : List ℕ) (n : ℕ) (reads : ℕ → List ℕ → Read Code)
+    (right : (k : ℕ) (s : List ℕ) → Right x l arguments n k s (reads k s)) where
+  cons-right : (a : Code) (k : ℕ) (ks s r : List ℕ) (o : Read Codes) → Right x l arguments n k s (done a r) → RightAll x l arguments n ks r o
+      → RightAll x l arguments n (k ∷ ks) s (andThen o λ t u. done (cons a t) u)
+  unfolding levels write
+  cons-right a k ks s r (done t u) h g =
+      (typed-cons (h .0) (g .0), omega (arith, h .1, g .1), eaten-next s r u (write x a) (writeAll x t) (h .2) (g .2))
+  cons-right a k ks s r deep h g = tt
+  cons-right a k ks s r broken h g = tt
+
+  next-right : (k : ℕ) (ks s : List ℕ) (o : Read Code) → Right x l arguments n k s o
+      → ((r : List ℕ) → RightAll x l arguments n ks r (readAll reads ks r))
+      → RightAll x l arguments n (k ∷ ks) s (andThen o λ a r. andThen (readAll reads ks r) λ t u. done (cons a t) u)
+  next-right k ks s (done a r) h g = cons-right a k ks s r (readAll reads ks r) h (g r)
+  next-right k ks s deep h g = tt
+  next-right k ks s broken h g = tt
+
+  all-right : (ks s : List ℕ) → RightAll x l arguments n ks s (readAll reads ks s)
+  unfolding readAll levels write
+  all-right [] s = (typed-nil, omega arith, λ b. (refl, b))
+  all-right (k ∷ ks) s = next-right k ks s (reads k s) (right k s) (λ r. all-right ks r)
+
+  -- A node, a token and an argument, each behind its sign.
+  operands-right : (k p : ℕ) (ks s : List ℕ) (o : Read Codes) → argumentsOf l k p ≡ some ks → RightAll x l arguments n ks s o
+      → Right x l arguments (suc n) k (sign x 1 ++ p ∷ s) (andThen o λ t r. done (node k p t) r)
+  unfolding levels write
+  operands-right k p ks s (done t r) e g =
+      (typed-node e (g .0), omega (arith, g .1), eaten-signed x 1 (p ∷ s) (p ∷ writeAll x t) r (eaten-sign p s (writeAll x t) r (g .2)))
+  operands-right k p ks s deep e g = tt
+  operands-right k p ks s broken e g = tt
+
+  named-right : (k p : ℕ) (s : List ℕ) (o : Option (List ℕ)) → argumentsOf l k p ≡ o
+      → Right x l arguments (suc n) k (sign x 1 ++ p ∷ s) (readOperands reads k p o s)
+  unfolding readOperands
+  named-right k p s none e = tt
+  named-right k p s (some ks) e = operands-right k p ks s (readAll reads ks s) e (all-right ks s)
+
+  node-right : (k : ℕ) (s : List ℕ) → Right x l arguments (suc n) k (sign x 1 ++ s) (readNode reads l k s)
+  unfolding readNode
+  node-right k [] = tt
+  node-right k (p ∷ s) = named-right k p s (argumentsOf l k p) refl
+
+  token-in : (k : ℕ) (c : Range) (a b : ℕ) (s : List ℕ) → rangeOf l k ≡ some c → (t : Bool) → inRange c (a * 256 + b) ≡ t
+      → Right x l arguments (suc n) k (sign x 2 ++ a ∷ b ∷ s) (elim t [ true ↦ done (token (a * 256 + b)) s | false ↦ broken ])
+  unfolding levels write
+  token-in k c a b s e true q =
+      (typed-token e q, omega arith, eaten-signed x 2 (a ∷ b ∷ s) ((a * 256 + b) / 256 ∷ (a * 256 + b) % 256 ∷ []) s eats)
+    where
+      eats : Eaten (a ∷ b ∷ s) ((a * 256 + b) / 256 ∷ (a * 256 + b) % 256 ∷ []) s
+      eats h =
+          let high : (a * 256 + b) / 256 ≡ a = omega (arith, h .1 .0) in
+          let low : (a * 256 + b) % 256 ≡ b = omega (arith, h .1 .0) in
+          (rw (high, low), h .1 .1)
+  token-in k c a b s e false q = tt
+
+  token-right : (k : ℕ) (o : Option Range) (s : List ℕ) → rangeOf l k ≡ o → Right x l arguments (suc n) k (sign x 2 ++ s) (readToken o s)
+  unfolding readToken
+  token-right k none s e = tt
+  token-right k (some c) [] e = tt
+  token-right k (some c) (a ∷ []) e = tt
+  token-right k (some c) (a ∷ b ∷ s) e = token-in k c a b s e (inRange c (a * 256 + b)) refl
+
+is-the : (k : ℕ) (o : Option ℕ) → isThe k o ≡ true → o ≡ some k
+is-the k none e = false-true e
+is-the k (some j) e = ap some (eqb-true j k e)
+
+argument-in : (l : Language) (arguments : List ℕ) (n k i : ℕ) (s : List ℕ) (t : Bool) → isThe k (kindAt arguments i) ≡ t
+    → Right code l arguments (suc n) k (3 ∷ i ∷ s) (elim t [ true ↦ done (argument i) s | false ↦ broken ])
+unfolding levels write
+argument-in l arguments n k i s true q = (typed-argument (is-the k (kindAt arguments i) q), omega arith, λ b. (refl, b .1 .1))
+argument-in l arguments n k i s false q = tt
+
+argument-right : (l : Language) (arguments : List ℕ) (n k : ℕ) (s : List ℕ)
+    → Right code l arguments (suc n) k (3 ∷ s) (readArgument arguments k s)
+unfolding readArgument
+argument-right l arguments n k [] = tt
+argument-right l arguments n k (i ∷ s) = argument-in l arguments n k i s (isThe k (kindAt arguments i)) refl
+
+tree-right : (l : Language) (arguments : List ℕ) (n : ℕ) (reads : ℕ → List ℕ → Read Code)
+    → ((k : ℕ) (s : List ℕ) → Right tree l arguments n k s (reads k s)) → (k : ℕ) (s : List ℕ) (o : Option Range) → rangeOf l k ≡ o
+    → Right tree l arguments (suc n) k s (elim o [ some c ↦ readToken (some c) s | none ↦ readNode reads l k s ])
+tree-right l arguments n reads right k s none e = node-right tree l arguments n reads right k s
+tree-right l arguments n reads right k s (some c) e = token-right tree l arguments n reads right k (some c) s e
+
+module _ (l : Language) (arguments : List ℕ) (n : ℕ) (reads : ℕ → List ℕ → Read Code)
+    (right : (k : ℕ) (s : List ℕ) → Right code l arguments n k s (reads k s)) (k b : ℕ) (s : List ℕ) where
+  third-right : (t : Bool) → eqb b 3 ≡ t
+      → Right code l arguments (suc n) k (b ∷ s) (elim t [ true ↦ readArgument arguments k s | false ↦ broken ])
+  third-right true q = rw (eqb-true b 3 q) (argument-right l arguments n k s)
+  third-right false q = tt
+
+  second-right : (t : Bool) → eqb b 2 ≡ t
+      → Right code l arguments (suc n) k (b ∷ s) (elim t [
+        | true ↦ readToken (rangeOf l k) s
+        | false ↦ elim (eqb b 3) [ true ↦ readArgument arguments k s | false ↦ broken ]
+      ])
+  second-right true q = rw (eqb-true b 2 q) (token-right code l arguments n reads right k (rangeOf l k) s refl)
+  second-right false q = third-right (eqb b 3) refl
+
+  first-right : (t : Bool) → eqb b 1 ≡ t
+      → Right code l arguments (suc n) k (b ∷ s) (elim t [
+        | true ↦ readNode reads l k s
+        | false ↦
+            elim (eqb b 2) [
+              | true ↦ readToken (rangeOf l k) s
+              | false ↦ elim (eqb b 3) [ true ↦ readArgument arguments k s | false ↦ broken ]
+            ]
+      ])
+  first-right true q = rw (eqb-true b 1 q) (node-right code l arguments n reads right k s)
+  first-right false q = second-right (eqb b 2) refl
+
+level-right : (x : Syntax) (l : Language) (arguments : List ℕ) (n : ℕ) (reads : ℕ → List ℕ → Read Code)
+    → ((k : ℕ) (s : List ℕ) → Right x l arguments n k s (reads k s)) → (k : ℕ) (s : List ℕ)
+    → Right x l arguments (suc n) k s (readLevel x reads l arguments k s)
+unfolding readLevel readTreeLevel readCodeLevel
+level-right tree l arguments n reads right k s = tree-right l arguments n reads right k s (rangeOf l k) refl
+level-right code l arguments n reads right k [] = tt
+level-right code l arguments n reads right k (b ∷ s) = first-right l arguments n reads right k b s (eqb b 1) refl
+
+-- Whatever is read is right.
+pub read-right : (x : Syntax) (l : Language) (arguments : List ℕ) (n k : ℕ) (s : List ℕ)
+    → Right x l arguments n k s (read x l arguments n k s)
+unfolding read
+read-right x l arguments zero k s = tt
+read-right x l arguments (suc n) k s =
+    level-right x l arguments n (read x l arguments n) (λ j r. read-right x l arguments n j r) k s
+
+pub read-done : (x : Syntax) (l : Language) (arguments : List ℕ) (n k : ℕ) (s : List ℕ) (a : Code) (r : List ℕ)
+    → read x l arguments n k s ≡ done a r → Right x l arguments n k s (done a r)
+read-done x l arguments n k s a r e = rw e at (read-right x l arguments n k s)
+
+-- The second is the first, unless the first ran out of levels.
+abbrev pub More : {A : Type 0} → Read A → Read A → Type 0
+More o p = (o ≡ deep) ⊎ (p ≡ o)
+
+then-same : {A B : Type 0} (o : Read A) (f g : A → List ℕ → Read B) → ((a : A) (r : List ℕ) → More (f a r) (g a r))
+    → More (andThen o f) (andThen o g)
+then-same (done a r) f g h = h a r
+then-same deep f g h = inr refl
+then-same broken f g h = inr refl
+
+then-more : {A B : Type 0} (o p : Read A) (f g : A → List ℕ → Read B) → More o p → ((a : A) (r : List ℕ) → More (f a r) (g a r))
+    → More (andThen o f) (andThen p g)
+then-more o p f g (inl e) h = inl (rw e)
+then-more o p f g (inr e) h = rw e (then-same o f g h)
+
+module _ (f g : ℕ → List ℕ → Read Code) (h : (k : ℕ) (s : List ℕ) → More (f k s) (g k s)) (l : Language) where
+  all-more : (ks s : List ℕ) → More (readAll f ks s) (readAll g ks s)
+  unfolding readAll
+  all-more [] s = inr refl
+  all-more (k ∷ ks) s =
+      then-more (f k s) (g k s) _ _ (h k s) (λ a r. then-more (readAll f ks r) (readAll g ks r) _ _ (all-more ks r) (λ t u. inr refl))
+
+  operands-more : (k p : ℕ) (o : Option (List ℕ)) (s : List ℕ) → More (readOperands f k p o s) (readOperands g k p o s)
+  unfolding readOperands
+  operands-more k p none s = inr refl
+  operands-more k p (some ks) s = then-more (readAll f ks s) (readAll g ks s) _ _ (all-more ks s) (λ t u. inr refl)
+
+  node-more : (k : ℕ) (s : List ℕ) → More (readNode f l k s) (readNode g l k s)
+  unfolding readNode
+  node-more k [] = inr refl
+  node-more k (p ∷ s) = operands-more k p (argumentsOf l k p) s
+
+  tree-more : (k : ℕ) (s : List ℕ) (o : Option Range)
+      → More {A = Code} (elim o [ some c ↦ readToken (some c) s | none ↦ readNode f l k s ]) (elim o [ some c ↦ readToken (some c) s | none ↦ readNode g l k s ])
+  tree-more k s none = node-more k s
+  tree-more k s (some c) = inr refl
+
+  code-more : (k : ℕ) (s : List ℕ) (t : Bool) (o : Read Code)
+      → More {A = Code} (elim t [ true ↦ readNode f l k s | false ↦ o ]) (elim t [ true ↦ readNode g l k s | false ↦ o ])
+  code-more k s true o = node-more k s
+  code-more k s false o = inr refl
+
+  level-more : (x : Syntax) (arguments : List ℕ) (k : ℕ) (s : List ℕ) → More (readLevel x f l arguments k s) (readLevel x g l arguments k s)
+  unfolding readLevel readTreeLevel readCodeLevel
+  level-more tree arguments k s = tree-more k s (rangeOf l k)
+  level-more code arguments k [] = inr refl
+  level-more code arguments k (b ∷ s) = code-more k s (eqb b 1) _
+
+-- More levels change nothing but the refusal.
+pub more-levels : (x : Syntax) (l : Language) (arguments : List ℕ) (n m k : ℕ) (s : List ℕ) → n ≤ m
+    → More (read x l arguments n k s) (read x l arguments m k s)
+unfolding read
+more-levels x l arguments zero m k s h = inl refl
+more-levels x l arguments (suc n) zero k s h = absurd (omega arith)
+more-levels x l arguments (suc n) (suc m) k s h =
+    level-more (read x l arguments n) (read x l arguments m) (λ j r. more-levels x l arguments n m j r (omega arith)) l x arguments k s

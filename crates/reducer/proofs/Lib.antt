@@ -1,0 +1,3 @@
+pub mod TermCodec
+pub mod PackCodec
+pub mod Evaluated

@@ -1,0 +1,5 @@
+pub mod Running
+pub mod Preserved
+pub mod Lookup
+pub mod Fitting
+pub mod Codec

@@ -1,0 +1,19 @@
+-- Where the parts of a translation stand in its bytes.
+use Prim.Native.Nat.{ℕ, _+_, _≤_}
+use mathlib.Core.Path.{_≡_}
+use mathlib.Core.List.{List}
+use mathlib.Core.Option.{some}
+use lib.ListN.{length, drop}
+use lib.Seq.{slice}
+use Rattle.language.specs.LanguageFile.{entriesOf}
+use Rattle.translation.specs.Translation.{Translation}
+use Rattle.translation.specs.TranslationFile.{bodyOf}
+
+-- The source's field ends at a, the target's at b, and the body follows.
+pub record Parted (s : List ℕ) (a b : ℕ) (f : Translation) : Type 0 where
+  pub source-past : 3 ≤ a
+  pub target-past : a + 3 ≤ b
+  pub inside : b ≤ length s
+  pub source : entriesOf (slice 3 a s) ≡ some (f .source)
+  pub target : entriesOf (slice (a + 3) b s) ≡ some (f .target)
+  pub body : bodyOf (drop b s) ≡ some (f .body)

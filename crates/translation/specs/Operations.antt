@@ -1,0 +1,38 @@
+-- The operations on translations (paper 01, "Operations and their refusals").
+use Prim.Native.Nat.{ℕ}
+use mathlib.Core.List.{List}
+use lib.ListN.{length}
+use lib.Dec.{ltb}
+use Rattle.fields.specs.Outcome.{Result, value, refused, refuseIf, _>>=_, checked, written, outputAfter}
+use Rattle.fields.specs.declared.outcome.Outcome.{Outcome}
+use Rattle.fields.specs.declared.outcome.Reason.the-variants.{Output}
+use Rattle.reader.specs.Syntax.{write, tree}
+use Rattle.reader.specs.Operations.{treeOf}
+use Rattle.translation.specs.Translation.{Translation}
+use Rattle.translation.specs.Running.{transform}
+use Rattle.translation.specs.TranslationFile.{translationOf}
+
+-- Check a translation: 1 to 7.
+unfoldable pub checkTranslation : List ℕ → Outcome
+checkTranslation translation = checked (translationOf translation)
+
+-- A result that fits into so many bytes of output: 17 where it is longer.
+abbrev pub fitted : ℕ → List ℕ → Result (List ℕ)
+fitted room bytes = refuseIf (ltb room (length bytes)) Output (value bytes)
+
+-- Run: 1 to 7, 14 to 16 against the source, 17; then the bytes of the tree that the clauses define.
+unfoldable pub runBytes : List ℕ → ℕ → List ℕ → ℕ → Result (List ℕ)
+runBytes translation root bytes room =
+    translationOf translation >>= λ f.
+    treeOf (f .source) root bytes >>= λ t.
+    fitted room (write tree (transform f t))
+
+-- All that a run answers and leaves.
+pub record Ran : Type 0 where
+  pub outcome : Outcome
+  pub output : List ℕ
+
+unfoldable pub runTree : List ℕ → ℕ → List ℕ → List ℕ → Ran
+runTree translation root bytes output =
+    let result = runBytes translation root bytes (length output) in
+    record { outcome = written result; output = outputAfter output result }

@@ -1,0 +1,187 @@
+//! Times the library against the reference on the same inputs.
+//!
+//! The ratio is the reference's time over the library's: 1.0 or more if the library is
+//! at least as fast.
+
+#![forbid(unsafe_code)]
+
+mod inputs;
+mod measure;
+
+use measure::{compare, Timing};
+use reference::library;
+use std::hint::black_box;
+
+/// Sizes of the trees in bytes, about.
+const SIZES: [(&str, usize); 3] = [("1 KB", 1000), ("100 KB", 100_000), ("10 MB", 10_000_000)];
+
+/// Prints one line: what was measured, the times, the times for a byte and the ratio.
+fn print_line(name: &str, bytes: usize, timing: Timing) {
+    let (library, reference) = (timing.library, timing.reference);
+    println!(
+        "{name:42} {bytes:9} {library:14.0} {reference:14.0} {:9.2} {:9.2} {:7.2}",
+        library / bytes as f64,
+        reference / bytes as f64,
+        timing.ratio
+    );
+}
+
+/// Prints the heading of the lines.
+fn print_heading() {
+    println!(
+        "{:42} {:>9} {:>14} {:>14} {:>9} {:>9} {:>7}",
+        "operation", "bytes", "library ns", "reference ns", "ns/byte", "ns/byte", "ratio"
+    );
+}
+
+/// Measures the check of a full language.
+fn bench_check_language() {
+    let language = inputs::full_language();
+    assert_eq!(library::check_language(&language), 0);
+    assert_eq!(reference::check_language(&language).number(), 0);
+    let timing = compare(
+        || library::check_language(black_box(&language)),
+        || reference::check_language(black_box(&language)),
+    );
+    print_line("check_language, 1,024 bytes", language.len(), timing);
+}
+
+/// Measures the check of trees of three sizes, and how the time for a byte grows.
+fn bench_check_tree() {
+    let language = inputs::tree_language();
+    let mut growth = Vec::new();
+    for (size, bytes) in SIZES {
+        let tree = inputs::wide_tree(bytes);
+        assert_eq!(library::check_tree(&language, 1, &tree), 0);
+        assert_eq!(reference::check_tree(&language, 1, &tree).number(), 0);
+        let timing = compare(
+            || library::check_tree(black_box(&language), 1, black_box(&tree)),
+            || reference::check_tree(black_box(&language), 1, black_box(&tree)),
+        );
+        print_line(&format!("check_tree, {size}"), tree.len(), timing);
+        growth.push((tree.len(), timing));
+    }
+    print_growth("check_tree", &growth);
+}
+
+/// Prints the time for a byte at 10 MB over that at 100 KB, for both sides.
+fn print_growth(name: &str, growth: &[(usize, Timing)]) {
+    let &[_, (small, middle), (large, most)] = growth else {
+        return;
+    };
+    let growth = |middle: f64, most: f64| (most / large as f64) / (middle / small as f64);
+    println!(
+        "{name}: ns/byte at 10 MB over 100 KB: library {:.2}, reference {:.2}",
+        growth(middle.library, most.library),
+        growth(middle.reference, most.reference)
+    );
+}
+
+#[cfg(feature = "translation")]
+fn bench_check_translation() {
+    let mut translation = [0x20, 0, 0, 0x21, 4, 0].to_vec();
+    translation.extend(inputs::full_language());
+    assert_eq!(library::check_translation(&translation), 0);
+    assert_eq!(reference::check_translation(&translation).number(), 0);
+    let timing = compare(
+        || library::check_translation(black_box(&translation)),
+        || reference::check_translation(black_box(&translation)),
+    );
+    print_line("check_translation, empty to 1,024 bytes", translation.len(), timing);
+}
+
+#[cfg(feature = "run")]
+mod run {
+    use super::*;
+    use inputs::runs;
+
+    /// Measures one run, with an output of exactly the length of the result.
+    fn bench_one(name: &str, translation: &[u8], tree: &[u8]) -> Timing {
+        let mut output = vec![0; 4 * tree.len() + 64];
+        let expected = reference::run(translation, 1, tree, &mut output);
+        assert_eq!(expected.number(), 0);
+        let mut library_output = vec![0; output.len()];
+        let found = library::run(translation, 1, tree, &mut library_output);
+        assert_eq!((found.number, found.length), (0, expected.length()));
+        assert_eq!(output, library_output);
+        let timing = compare(
+            || library::run(translation, 1, black_box(tree), &mut library_output),
+            || reference::run(translation, 1, black_box(tree), &mut output),
+        );
+        print_line(name, tree.len(), timing);
+        timing
+    }
+
+    /// Measures the four translations on trees of three sizes, and a chain and a flat tree.
+    pub fn bench() {
+        let translations = [
+            ("identity", runs::identity()),
+            ("doubling", runs::doubling()),
+            ("swapping", runs::swapping()),
+            ("dropping", runs::dropping()),
+        ];
+        for (name, translation) in &translations {
+            let mut growth = Vec::new();
+            for (size, bytes) in SIZES {
+                let tree = inputs::wide_tree(bytes);
+                let timing = bench_one(&format!("run, {name}, {size}"), translation, &tree);
+                growth.push((tree.len(), timing));
+            }
+            print_growth(&format!("run, {name}"), &growth);
+        }
+        for (name, translation) in &translations {
+            let (chain, flat) = (runs::chain_tree(), runs::flat_tree());
+            assert_eq!(chain.len(), flat.len());
+            let deep = bench_one(&format!("run, {name}, chain of 60 levels"), translation, &chain);
+            let wide = bench_one(&format!("run, {name}, flat tree"), translation, &flat);
+            println!(
+                "run, {name}: chain over flat: library {:.2}, reference {:.2}",
+                deep.library / wide.library,
+                deep.reference / wide.reference
+            );
+        }
+    }
+}
+
+#[cfg(feature = "reduce")]
+mod reduce {
+    use super::*;
+    use inputs::packs;
+
+    /// Measures one reduction.
+    fn bench_one(name: &str, pack: &[u8]) {
+        let (mut workspace, mut output) = (vec![0; 65_536], vec![0; 4096]);
+        let (mut library_workspace, mut library_output) = (workspace.clone(), output.clone());
+        let expected = reference::reduce(pack, &mut workspace, &mut output);
+        assert_eq!(expected.number(), 0);
+        let found = library::reduce(pack, &mut library_workspace, &mut library_output);
+        assert_eq!((found.number, found.length), (0, expected.length()));
+        assert_eq!(output, library_output);
+        let timing = compare(
+            || library::reduce(black_box(pack), &mut library_workspace, &mut library_output),
+            || reference::reduce(black_box(pack), &mut workspace, &mut output),
+        );
+        print_line(&format!("reduce, {name} (gives {})", expected.length()), pack.len(), timing);
+    }
+
+    /// Measures the example, and large sums, joins, identities and nested sums.
+    pub fn bench() {
+        bench_one("example", &packs::example());
+        bench_one("sum", &packs::sum());
+        bench_one("join", &packs::join());
+        bench_one("identity", &packs::identity());
+        bench_one("nested sums", &packs::nested_sums());
+    }
+}
+
+fn main() {
+    print_heading();
+    bench_check_language();
+    bench_check_tree();
+    #[cfg(feature = "translation")]
+    bench_check_translation();
+    #[cfg(feature = "run")]
+    run::bench();
+    #[cfg(feature = "reduce")]
+    reduce::bench();
+}

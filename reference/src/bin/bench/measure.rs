@@ -1,0 +1,70 @@
+//! Timing of two functions in turn, and the median of several rounds.
+//!
+//! Times are processor times of the thread, so other programs disturb them less.
+
+use reference::library::processor_time;
+use std::hint::black_box;
+use std::time::Duration;
+
+/// Both functions are timed in at most so many rounds, and in at least the least number.
+const MOST_ROUNDS: usize = 41;
+const LEAST_ROUNDS: usize = 7;
+/// A timing of one function in a round takes at least about this long.
+const LEAST: Duration = Duration::from_millis(2);
+/// All rounds together take about this long, unless the least number takes longer.
+const TOTAL: Duration = Duration::from_secs(1);
+
+/// What was measured: for both sides the median time of a call, and the median ratio.
+#[derive(Clone, Copy)]
+pub struct Timing {
+    /// Nanoseconds for a call of the library.
+    pub library: f64,
+    /// Nanoseconds for a call of the reference.
+    pub reference: f64,
+    /// The reference's time over the library's in the same round.
+    pub ratio: f64,
+}
+
+/// Times both functions in turn, round by round.
+pub fn compare<A, B>(mut library: impl FnMut() -> A, mut reference: impl FnMut() -> B) -> Timing {
+    let (library_calls, reference_calls) = (calls(&mut library), calls(&mut reference));
+    let start = processor_time();
+    let mut times = Vec::new();
+    while times.len() < LEAST_ROUNDS
+        || times.len() < MOST_ROUNDS && processor_time() - start < TOTAL
+    {
+        times.push((time(&mut library, library_calls), time(&mut reference, reference_calls)));
+    }
+    Timing {
+        library: median(times.iter().map(|(library, _)| *library)),
+        reference: median(times.iter().map(|(_, reference)| *reference)),
+        ratio: median(times.iter().map(|(library, reference)| reference / library)),
+    }
+}
+
+/// How many calls take about the least time of a round.
+fn calls<A>(function: &mut impl FnMut() -> A) -> u32 {
+    let mut calls = 1;
+    loop {
+        let elapsed = time(function, calls) * f64::from(calls);
+        let wanted = LEAST.as_nanos() as f64;
+        if elapsed >= wanted / 4.0 {
+            return ((wanted / elapsed * f64::from(calls)) as u32).max(1);
+        }
+        calls *= 2;
+    }
+}
+
+/// Nanoseconds for one call, from so many calls.
+fn time<A>(function: &mut impl FnMut() -> A, calls: u32) -> f64 {
+    let start = processor_time();
+    (0..calls).for_each(|_| drop(black_box(function())));
+    (processor_time() - start).as_secs_f64() * 1e9 / f64::from(calls)
+}
+
+/// The middle of the values.
+fn median(values: impl Iterator<Item = f64>) -> f64 {
+    let mut values: Vec<f64> = values.collect();
+    values.sort_unstable_by(f64::total_cmp);
+    values[values.len() / 2]
+}

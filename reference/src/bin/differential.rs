@@ -1,0 +1,357 @@
+//! Compares the library with the reference on seeded random cases.
+//!
+//! Usage: differential OPERATION... [--cases N] [--seed N] [--first N] [--trace]
+
+#![forbid(unsafe_code)]
+
+use reference::generate::{language_file, tree_case, Random};
+use reference::library;
+use std::fmt::Write as _;
+use std::process::ExitCode;
+use std::time::Instant;
+
+/// Answers are counted by number.
+const NUMBERS: usize = 18;
+
+/// What one side answered: number, length and the buffers at the end.
+#[derive(PartialEq, Eq)]
+struct Answer {
+    number: u32,
+    length: u64,
+    output: Vec<u8>,
+    workspace: Vec<u8>,
+}
+
+/// A case as it was compared: both answers and the inputs by name.
+struct Comparison {
+    library: Answer,
+    reference: Answer,
+    inputs: Vec<(&'static str, Input)>,
+}
+
+/// An input as it is shown for a difference.
+enum Input {
+    Bytes(Vec<u8>),
+    Number(u64),
+}
+
+/// An operation that can be compared.
+struct Operation {
+    name: &'static str,
+    /// The answers that are possible, all of which must be reached.
+    possible: &'static [usize],
+    compare: fn(&mut Random) -> Comparison,
+}
+
+/// The operations that this build can compare.
+const OPERATIONS: &[Operation] = &[
+    Operation {
+        name: "check_language",
+        possible: &[0, 1, 2, 3, 4],
+        compare: compare_check_language,
+    },
+    Operation {
+        name: "check_tree",
+        possible: &[0, 1, 2, 3, 4, 14, 15, 16],
+        compare: compare_check_tree,
+    },
+    #[cfg(feature = "translation")]
+    Operation {
+        name: "check_translation",
+        possible: &[0, 1, 2, 3, 4, 5, 6, 7],
+        compare: translation::compare,
+    },
+    #[cfg(feature = "run")]
+    Operation {
+        name: "run",
+        possible: &[0, 1, 2, 3, 4, 5, 6, 7, 14, 15, 16, 17],
+        compare: run::compare,
+    },
+    #[cfg(feature = "reduce")]
+    Operation {
+        name: "reduce",
+        possible: &[0, 1, 2, 3, 4, 5, 6, 7, 8, 9, 10, 11, 12, 13],
+        compare: reduce::compare,
+    },
+];
+
+impl Answer {
+    /// The answer of a check, which has no buffers.
+    fn of_check(number: u32) -> Answer {
+        Answer { number, length: 0, output: vec![], workspace: vec![] }
+    }
+}
+
+/// Compares one check of a language.
+fn compare_check_language(random: &mut Random) -> Comparison {
+    let language = language_file(random);
+    Comparison {
+        library: Answer::of_check(library::check_language(&language)),
+        reference: Answer::of_check(reference::check_language(&language).number()),
+        inputs: vec![("language", Input::Bytes(language))],
+    }
+}
+
+/// Compares one check of a tree.
+fn compare_check_tree(random: &mut Random) -> Comparison {
+    let case = tree_case(random);
+    let expected = reference::check_tree(&case.language, case.root, &case.tree);
+    let found = library::check_tree(&case.language, case.root, &case.tree);
+    Comparison {
+        library: Answer::of_check(found),
+        reference: Answer::of_check(expected.number()),
+        inputs: vec![
+            ("language", Input::Bytes(case.language)),
+            ("root", Input::Number(u64::from(case.root))),
+            ("tree", Input::Bytes(case.tree)),
+        ],
+    }
+}
+
+#[cfg(feature = "translation")]
+mod translation {
+    use super::*;
+    use reference::generate::translation_file;
+
+    /// Compares one check of a translation.
+    pub fn compare(random: &mut Random) -> Comparison {
+        let translation = translation_file(random);
+        let expected = reference::check_translation(&translation);
+        Comparison {
+            library: Answer::of_check(library::check_translation(&translation)),
+            reference: Answer::of_check(expected.number()),
+            inputs: vec![("translation", Input::Bytes(translation))],
+        }
+    }
+}
+
+/// A buffer with contents that show what was written.
+#[cfg(any(feature = "run", feature = "reduce"))]
+fn marked_buffer(random: &mut Random, length: usize) -> Vec<u8> {
+    let start = random.byte();
+    (0..length).map(|place| start.wrapping_add((place % 251) as u8)).collect()
+}
+
+#[cfg(feature = "run")]
+mod run {
+    use super::*;
+    use reference::generate::run_case;
+
+    /// Compares one run, with the whole output.
+    pub fn compare(random: &mut Random) -> Comparison {
+        let case = run_case(random);
+        let mut output = marked_buffer(random, case.output);
+        let mut library_output = output.clone();
+        let expected = reference::run(&case.translation, case.root, &case.tree, &mut output);
+        let found = library::run(&case.translation, case.root, &case.tree, &mut library_output);
+        Comparison {
+            library: Answer {
+                number: found.number,
+                length: found.length,
+                output: library_output,
+                workspace: vec![],
+            },
+            reference: Answer {
+                number: expected.number(),
+                length: expected.length(),
+                output,
+                workspace: vec![],
+            },
+            inputs: vec![
+                ("translation", Input::Bytes(case.translation)),
+                ("root", Input::Number(u64::from(case.root))),
+                ("tree", Input::Bytes(case.tree)),
+                ("output length", Input::Number(case.output as u64)),
+            ],
+        }
+    }
+}
+
+#[cfg(feature = "reduce")]
+mod reduce {
+    use super::*;
+    use reference::generate::reduce_case;
+
+    /// Compares one reduction, with the whole output and workspace.
+    pub fn compare(random: &mut Random) -> Comparison {
+        let case = reduce_case(random);
+        let mut output = marked_buffer(random, case.output);
+        let mut workspace = marked_buffer(random, case.workspace);
+        let (mut library_output, mut library_workspace) = (output.clone(), workspace.clone());
+        let expected = reference::reduce(&case.pack, &mut workspace, &mut output);
+        let found = library::reduce(&case.pack, &mut library_workspace, &mut library_output);
+        Comparison {
+            library: Answer {
+                number: found.number,
+                length: found.length,
+                output: library_output,
+                workspace: library_workspace,
+            },
+            reference: Answer {
+                number: expected.number(),
+                length: expected.length(),
+                output,
+                workspace,
+            },
+            inputs: vec![
+                ("pack", Input::Bytes(case.pack)),
+                ("workspace length", Input::Number(case.workspace as u64)),
+                ("output length", Input::Number(case.output as u64)),
+            ],
+        }
+    }
+}
+
+/// What the arguments ask for.
+struct Request {
+    operations: Vec<&'static Operation>,
+    cases: u64,
+    seed: u64,
+    /// The number of the first case.
+    first: u64,
+    /// Whether each case is announced before it is compared.
+    trace: bool,
+}
+
+/// Reads the arguments, or says what is wrong with them.
+fn request(arguments: impl Iterator<Item = String>) -> Result<Request, String> {
+    let mut request =
+        Request { operations: vec![], cases: 200_000, seed: 1, first: 0, trace: false };
+    let mut arguments = arguments;
+    while let Some(argument) = arguments.next() {
+        match argument.as_str() {
+            "--cases" => request.cases = number(arguments.next())?,
+            "--seed" => request.seed = number(arguments.next())?,
+            "--first" => request.first = number(arguments.next())?,
+            "--trace" => request.trace = true,
+            name => request.operations.push(operation(name)?),
+        }
+    }
+    if request.operations.is_empty() {
+        return Err("name one or more operations".to_string());
+    }
+    Ok(request)
+}
+
+/// The number that follows an option.
+fn number(argument: Option<String>) -> Result<u64, String> {
+    let argument = argument.ok_or("a number must follow the option")?;
+    argument.parse().map_err(|_| format!("{argument} is not a number"))
+}
+
+/// The operation with that name.
+fn operation(name: &str) -> Result<&'static Operation, String> {
+    let found = OPERATIONS.iter().find(|operation| operation.name == name);
+    found.ok_or_else(|| format!("{name} is not an operation of this build"))
+}
+
+/// The seed of one case, from the seed of all, the operation and the case's number.
+fn case_seed(seed: u64, operation: &Operation, case: u64) -> u64 {
+    let name = operation.name.bytes();
+    let name = name.fold(0, |sum: u64, byte| sum.wrapping_mul(257).wrapping_add(u64::from(byte)));
+    Random::new(seed ^ name.rotate_left(32))
+        .bits()
+        .wrapping_add(case.wrapping_mul(0xD134_2543_DE82_EF95))
+}
+
+/// Bytes as two hexadecimal digits each.
+fn hexadecimal(bytes: &[u8]) -> String {
+    let mut text = String::with_capacity(2 * bytes.len());
+    for byte in bytes {
+        write!(text, "{byte:02X}").expect("writing to a string does not fail");
+    }
+    text
+}
+
+/// Where two buffers differ first.
+fn first_difference(left: &[u8], right: &[u8]) -> Option<usize> {
+    (0..left.len()).find(|&place| left[place] != right[place])
+}
+
+/// Prints a difference with everything that is needed to repeat it.
+fn report(operation: &Operation, seed: u64, case: u64, comparison: &Comparison) {
+    let (library, reference) = (&comparison.library, &comparison.reference);
+    println!("DIFFERENCE in {}, seed {seed}, case {case}", operation.name);
+    println!("  library:   number {} length {}", library.number, library.length);
+    println!("  reference: number {} length {}", reference.number, reference.length);
+    if let Some(place) = first_difference(&library.output, &reference.output) {
+        println!("  outputs differ first at byte {place}");
+        println!("  library output:   {}", hexadecimal(&library.output));
+        println!("  reference output: {}", hexadecimal(&reference.output));
+    }
+    if let Some(place) = first_difference(&library.workspace, &reference.workspace) {
+        println!("  workspaces differ first at byte {place}");
+    }
+    for (name, input) in &comparison.inputs {
+        match input {
+            Input::Bytes(bytes) => {
+                println!("  {name} ({} bytes): {}", bytes.len(), hexadecimal(bytes));
+            }
+            Input::Number(number) => println!("  {name}: {number}"),
+        }
+    }
+}
+
+/// Differences are printed in full up to this number for each operation.
+const SHOWN: u64 = 5;
+
+/// Compares one operation on all cases; gives the number of differences and missing answers.
+fn compare_all(operation: &Operation, cases: u64, request: &Request) -> (u64, u64) {
+    let (seed, start) = (request.seed, Instant::now());
+    let mut reached = [0u64; NUMBERS];
+    let mut differences = 0;
+    for case in request.first..request.first + cases {
+        if request.trace {
+            eprintln!("{}, seed {seed}, case {case}", operation.name);
+        }
+        let mut random = Random::new(case_seed(seed, operation, case));
+        let comparison = (operation.compare)(&mut random);
+        reached[comparison.reference.number as usize] += 1;
+        if comparison.library != comparison.reference {
+            differences += 1;
+            if differences <= SHOWN {
+                report(operation, seed, case, &comparison);
+            }
+        }
+    }
+    let seconds = start.elapsed().as_secs_f64();
+    println!("{}: {cases} cases, seed {seed}, {seconds:.1} s", operation.name);
+    (differences, print_reached(operation, &reached))
+}
+
+/// Prints how often each answer was reached; gives the number of those never reached.
+fn print_reached(operation: &Operation, reached: &[u64; NUMBERS]) -> u64 {
+    let mut missing = 0;
+    for &number in operation.possible {
+        println!("  answer {number:2}: {:8}", reached[number]);
+        if reached[number] == 0 {
+            println!("MISSING: {} never answered {number}", operation.name);
+            missing += 1;
+        }
+    }
+    missing
+}
+
+fn main() -> ExitCode {
+    let request = match request(std::env::args().skip(1)) {
+        Ok(request) => request,
+        Err(message) => {
+            eprintln!("{message}");
+            eprintln!(
+                "usage: differential OPERATION... [--cases N] [--seed N] [--first N] [--trace]"
+            );
+            return ExitCode::from(2);
+        }
+    };
+    let count = request.operations.len() as u64;
+    let (mut compared, mut failed, mut missing) = (0, 0, 0);
+    for (place, operation) in request.operations.iter().enumerate() {
+        let share = request.cases / count + u64::from((place as u64) < request.cases % count);
+        let (different, absent) = compare_all(operation, share, &request);
+        compared += share;
+        failed += different;
+        missing += absent;
+    }
+    println!("{} passed, {} failed", compared - failed, failed + missing);
+    ExitCode::from(u8::from(failed + missing > 0))
+}

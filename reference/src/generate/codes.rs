@@ -1,0 +1,142 @@
+//! Codes: well-formed ones of a kind, ones of a wanted height, and broken ones.
+
+use super::damage::damage_bytes;
+use super::heights::Heights;
+use super::random::Random;
+use crate::code::{Symbol, CODE_LEVELS};
+use crate::language::{Class, Language, Production};
+
+/// Writes codes in a target language for one clause.
+pub struct Coder<'a> {
+    pub target: &'a Language,
+    pub heights: &'a Heights,
+    /// The kinds that the clause's arguments are mapped to.
+    pub arguments: &'a [u8],
+}
+
+impl Coder<'_> {
+    /// The least number of levels of a code of the kind, if one is found.
+    fn least(&self, kind: u8) -> Option<usize> {
+        if self.arguments.contains(&kind) {
+            return Some(1);
+        }
+        self.heights.least(kind)
+    }
+
+    /// A well-formed code of the kind, if one is found: mostly small, sometimes of 16 levels.
+    pub fn code(&self, random: &mut Random, kind: u8) -> Option<Vec<u8>> {
+        let mut code = Vec::new();
+        if random.percent(5) && self.heights.has(kind, CODE_LEVELS as usize) {
+            self.put_high(random, kind, CODE_LEVELS as usize, &mut code);
+            return Some(code);
+        }
+        let least = self.least(kind)?;
+        let levels = least.max(random.within(1..=5));
+        if least > CODE_LEVELS as usize {
+            return None;
+        }
+        self.put(random, kind, levels, &mut code);
+        (code.len() < 400).then_some(code)
+    }
+
+    /// Appends a code of the kind with at most so many levels, which must be enough.
+    fn put(&self, random: &mut Random, kind: u8, levels: usize, code: &mut Vec<u8>) {
+        if let Some(argument) = self.argument(random, kind) {
+            let short = self.heights.least(kind).is_none_or(|least| least > levels);
+            if short || random.percent(60) {
+                return argument.put(code);
+            }
+        }
+        match self.class(kind) {
+            Some(class) => token(random, class).put(code),
+            None => self.put_production(random, kind, levels, code),
+        }
+    }
+
+    /// Appends a production of the kind with arguments that fit into the levels.
+    fn put_production(&self, random: &mut Random, kind: u8, levels: usize, code: &mut Vec<u8>) {
+        let fits = |production: &&Production| {
+            let mut arguments = production.arguments().iter();
+            let low = |&kind: &u8| self.least(kind).is_some_and(|least| least < levels);
+            production.result == kind && arguments.all(low)
+        };
+        let list: Vec<&Production> = self.target.productions.iter().filter(fits).collect();
+        let production = random.pick(&list);
+        Symbol::Production(production.name).put(code);
+        for &argument in production.arguments() {
+            self.put(random, argument, levels - 1, code);
+        }
+    }
+
+    /// Appends a code of exactly that height, which the kind must have.
+    fn put_high(&self, random: &mut Random, kind: u8, height: usize, code: &mut Vec<u8>) {
+        if let Some(class) = self.class(kind) {
+            return token(random, class).put(code);
+        }
+        let fits = |p: &&Production| p.result == kind && self.heights.allows(p, height);
+        let list: Vec<&Production> = self.target.productions.iter().filter(fits).collect();
+        let production = random.pick(&list);
+        Symbol::Production(production.name).put(code);
+        let arguments = production.arguments();
+        let spine = arguments.iter().position(|&kind| self.heights.has(kind, height - 1));
+        for (number, &argument) in arguments.iter().enumerate() {
+            if Some(number) == spine {
+                self.put_high(random, argument, height - 1, code);
+            } else {
+                let least = self.least(argument).expect("the kind has a code");
+                self.put(random, argument, least, code);
+            }
+        }
+    }
+
+    /// One of the arguments that have the kind.
+    fn argument(&self, random: &mut Random, kind: u8) -> Option<Symbol> {
+        let fits = |number: &usize| self.arguments[*number] == kind;
+        let list: Vec<usize> = (0..self.arguments.len()).filter(fits).collect();
+        if list.is_empty() {
+            return None;
+        }
+        Some(Symbol::Argument(random.pick(&list) as u8))
+    }
+
+    /// The class of a kind of the target.
+    fn class(&self, kind: u8) -> Option<&Class> {
+        self.target.classes.iter().find(|class| class.kind == kind)
+    }
+
+    /// A code that is wrong in some way, made from a good one.
+    pub fn wrong_code(&self, random: &mut Random, kind: u8, code: &[u8]) -> Vec<u8> {
+        let mut wrong = code.to_vec();
+        match random.below(7) {
+            0 => wrong.clear(),
+            1 => wrong = vec![3, random.pick(&[0, 1, 8, 9, 255])],
+            2 => wrong = vec![3, self.arguments.len() as u8 + 1],
+            3 => wrong.extend_from_slice(&[3, 1]),
+            4 if self.heights.has(kind, CODE_LEVELS as usize + 1) => {
+                wrong.clear();
+                self.put_high(random, kind, CODE_LEVELS as usize + 1, &mut wrong);
+            }
+            5 => match self.class(kind) {
+                Some(class) => {
+                    let value =
+                        random.pick(&[class.low.wrapping_sub(1), class.high.wrapping_add(1)]);
+                    wrong.clear();
+                    Symbol::Token(value).put(&mut wrong);
+                }
+                None => wrong = vec![2, 0, random.byte()],
+            },
+            _ => damage_bytes(random, &mut wrong),
+        }
+        wrong
+    }
+}
+
+/// A token of the class, often its lowest or highest.
+fn token(random: &mut Random, class: &Class) -> Symbol {
+    let spread = usize::from(class.high - class.low) + 1;
+    Symbol::Token(match random.below(3) {
+        0 => class.low,
+        1 => class.high,
+        _ => class.low + random.below(spread) as u16,
+    })
+}

@@ -1,0 +1,17 @@
+//! Seeded generators of files: valid ones, ones at a limit or one past it, and damaged ones.
+
+mod codes;
+mod damage;
+mod heights;
+mod languages;
+mod packs;
+mod random;
+mod terms;
+mod translations;
+mod trees;
+
+pub use languages::language_file;
+pub use packs::{law_pack, pack_with_term, reduce_case, LawPack, ReduceCase};
+pub use random::Random;
+pub use translations::{run_case, translation_file, RunCase};
+pub use trees::{legal_tree, tree_case, TreeCase};

@@ -1,0 +1,485 @@
+//! Packs: ones that reduce, ones that end in each refusal, and damaged ones.
+
+use super::damage::{damage, damage_bytes, damage_fields};
+use super::languages::{encoded, full_language, language};
+use super::random::Random;
+use super::terms::{deepened, Names, TermWriter};
+use super::translations::{
+    chain_code, counting_language, cut_mapping, endomorphism, full_translation, translation_file,
+    wrong_body,
+};
+use crate::body::{Body, Clause};
+use crate::field::{put_header, Fields};
+use crate::language::{Class, Language, Production, KINDS, LANGUAGE_LIMIT};
+use crate::pack::{BODY_TAG, LANGUAGE_TAG, PACK_LIMIT, TERM_TAG};
+use crate::reduce::{OUTPUT_LEAST, WORKSPACE_LEAST};
+use crate::term::TERM_LEVELS;
+use crate::translation::{Translation, TRANSLATION_LIMIT};
+
+/// The input of a reduction.
+#[derive(Clone, Debug)]
+pub struct ReduceCase {
+    pub pack: Vec<u8>,
+    pub workspace: usize,
+    pub output: usize,
+}
+
+/// Languages and bodies as bytes, and what a term may name of them.
+#[derive(Clone, Debug, Default)]
+struct Constants {
+    languages: Vec<Vec<u8>>,
+    bodies: Vec<Vec<u8>>,
+    triples: Vec<(u8, u8, u8)>,
+}
+
+impl Constants {
+    /// Adds a language and gives its number.
+    fn language(&mut self, language: &Language) -> u8 {
+        self.languages.push(encoded(language));
+        self.languages.len() as u8 - 1
+    }
+
+    /// Adds a body for two languages and gives its number.
+    fn body(&mut self, source: u8, target: u8, body: &Body) -> u8 {
+        let mut bytes = Vec::new();
+        body.encode(&mut bytes);
+        self.bodies.push(bytes);
+        let number = self.bodies.len() as u8 - 1;
+        self.triples.push((source, target, number));
+        number
+    }
+
+    /// Adds a translation whole and gives the term for it.
+    fn translation(&mut self, translation: &Translation) -> Vec<u8> {
+        let source = self.language(&translation.source);
+        let target = self.language(&translation.target);
+        let body = self.body(source, target, &translation.body);
+        vec![0x50, 0x40, source, 0x40, target, body]
+    }
+
+    /// The pack with a term.
+    fn pack(&self, term: &[u8]) -> Vec<u8> {
+        let languages = self.languages.iter().map(|bytes| (LANGUAGE_TAG, bytes.as_slice()));
+        let bodies = self.bodies.iter().map(|bytes| (BODY_TAG, bytes.as_slice()));
+        let mut pack = Vec::new();
+        for (tag, contents) in languages.chain(bodies).chain([(TERM_TAG, term)]) {
+            put_header(&mut pack, tag, contents.len());
+            pack.extend_from_slice(contents);
+        }
+        pack
+    }
+
+    /// What a term may name.
+    fn names(&self) -> Names<'_> {
+        let (languages, bodies) = (self.languages.len(), self.bodies.len());
+        Names { languages, triples: &self.triples, bodies }
+    }
+}
+
+/// A part of a language: each entry is kept or not.
+fn part_of(random: &mut Random, language: &Language) -> Language {
+    let mut part = language.clone();
+    part.classes.retain(|_| random.percent(80));
+    part.productions.retain(|_| random.percent(60));
+    part
+}
+
+/// The translation cut to a part of its source.
+fn cut(whole: &Translation, source: Language) -> Translation {
+    let has = |clause: &Clause| {
+        source.productions.iter().any(|production| production.key() == clause.key)
+    };
+    let clauses = whole.body.clauses.iter().filter(has).collect();
+    let mapping = cut_mapping(&source, |kind| whole.mapped(kind));
+    Translation { source, target: whole.target.clone(), body: Body { mapping, clauses } }
+}
+
+/// Constants of which many fit: a language, parts of it, and a translation cut to the parts.
+fn fitting_constants(random: &mut Random) -> Constants {
+    let mut constants = Constants::default();
+    let base = language(random);
+    let whole = endomorphism(random, &base);
+    let target = constants.language(&whole.target);
+    let source = constants.language(&whole.source);
+    constants.body(source, target, &whole.body);
+    for _ in 0..random.within(1..=3) {
+        let part = cut(&whole, part_of(random, &whole.source));
+        let source = constants.language(&part.source);
+        constants.body(source, target, &part.body);
+    }
+    if random.percent(25) {
+        let other = endomorphism(random, &base);
+        let source = constants.language(&other.source);
+        constants.body(source, target, &other.body);
+    }
+    if random.percent(10) {
+        constants.language(&language(random));
+    }
+    constants
+}
+
+/// A pack over fitting constants with a random term.
+fn random_pack(random: &mut Random) -> Vec<u8> {
+    let constants = fitting_constants(random);
+    let names = constants.names();
+    let mut writer = TermWriter::new(&names);
+    let mut term = Vec::new();
+    let levels = random.pick(&[2, 3, 3, 4, 4, 5, 6]);
+    writer.translation(random, levels, &mut term);
+    if random.percent(8) {
+        damage_bytes(random, &mut term);
+    }
+    constants.pack(&term)
+}
+
+/// A pack whose term has exactly 12 or 13 levels.
+fn deep_pack(random: &mut Random) -> Vec<u8> {
+    let constants = fitting_constants(random);
+    let (source, target, body) = constants.triples[0];
+    let term = [0x50, 0x40, source, 0x40, target, body];
+    let levels = TERM_LEVELS + random.below(2);
+    constants.pack(&deepened(random, &term, 2, levels))
+}
+
+/// Two languages that share a part; their sum has exactly so many bytes.
+fn overlapping(random: &mut Random, bytes: usize) -> (Language, Language) {
+    let whole = full_language(random, bytes);
+    let (mut left, mut right) = (whole.clone(), whole);
+    let middle = left.productions.len() / 2;
+    let shared = random.below(middle);
+    left.productions.truncate(middle + shared);
+    right.productions.drain(..middle);
+    (left, right)
+}
+
+/// Changes the arguments of the first production; it then fits no language that shares it.
+fn widen_first(language: &mut Language) {
+    if let Some(first) = language.productions.first_mut() {
+        let kinds = if first.arguments().is_empty() { &[1][..] } else { &[] };
+        *first = Production::new(first.result, first.name, kinds);
+    }
+}
+
+/// Sums of languages of exactly 1,024 or 1,025 bytes, some of which do not fit.
+fn full_language_sum(random: &mut Random) -> Vec<u8> {
+    let mut constants = Constants::default();
+    let bytes = LANGUAGE_LIMIT + random.below(2);
+    let (left, mut right) = overlapping(random, bytes);
+    if random.percent(20) {
+        widen_first(&mut right);
+    }
+    let left = constants.language(&left);
+    let right = constants.language(&right);
+    let empty = constants.language(&Language::default());
+    let body = constants.body(empty, empty, &Body::default());
+    let from_empty = |target| [0x50, 0x40, empty, 0x40, target, body];
+    let term = match random.below(4) {
+        3 => [&[0x53][..], &from_empty(left), &from_empty(right)].concat(),
+        0 => vec![0x55, 0x43, 0x40, left, 0x40, right],
+        1 => vec![0x53, 0x55, 0x40, left, 0x55, 0x40, right],
+        _ => vec![0x52, 0x55, 0x43, 0x40, right, 0x40, left, 0x40, left],
+    };
+    constants.pack(&term)
+}
+
+/// Changes a class or production so that the language fits fewer others.
+fn change_entry(random: &mut Random, language: &mut Language) {
+    if language.classes.is_empty() {
+        return widen_first(language);
+    }
+    let place = random.below(language.classes.len());
+    match random.below(3) {
+        0 => {
+            let class = &mut language.classes[place];
+            class.high = class.low.max(class.high.wrapping_sub(1));
+        }
+        1 => {
+            let class = language.classes.remove(place);
+            let production = Production::new(class.kind, random.byte(), &[]);
+            let place = language.productions.partition_point(|p| p.key() < production.key());
+            language.productions.insert(place, production);
+        }
+        _ => widen_first(language),
+    }
+}
+
+/// A sum of languages or of identities of which one was changed; many do not fit.
+fn sum_with_change(random: &mut Random) -> Vec<u8> {
+    let mut constants = Constants::default();
+    let base = language(random);
+    let (mut left, right) = (part_of(random, &base), part_of(random, &base));
+    change_entry(random, &mut left);
+    let mut pair = [constants.language(&left), constants.language(&right)];
+    if random.percent(50) {
+        pair.swap(0, 1);
+    }
+    let [left, right] = pair;
+    constants.pack(&match random.below(2) {
+        0 => vec![0x55, 0x43, 0x40, left, 0x40, right],
+        _ => vec![0x53, 0x55, 0x40, left, 0x55, 0x40, right],
+    })
+}
+
+/// Gives the first clause a code of one node of the counting language.
+fn shorten_first(translation: &mut Translation) {
+    let clauses: Vec<Clause> = translation.body.clauses.iter().collect();
+    let short = |(number, clause): (usize, &Clause)| {
+        let code = if number == 0 { vec![1, 0] } else { clause.code.to_vec() };
+        (clause.key, code)
+    };
+    let codes: Vec<(u16, Vec<u8>)> = clauses.iter().enumerate().map(short).collect();
+    let clauses = codes.iter().map(|(key, code)| Clause { key: *key, code });
+    translation.body.clauses = clauses.collect();
+}
+
+/// A sign 53 whose operands map a shared kind differently, if such a change is well formed.
+fn conflicting_sum(random: &mut Random) -> Vec<u8> {
+    let mut constants = Constants::default();
+    let base = language(random);
+    let whole = endomorphism(random, &base);
+    let left = cut(&whole, part_of(random, &whole.source));
+    let mut right = cut(&whole, part_of(random, &whole.source));
+    for _ in 0..8 {
+        let mut changed = right.clone();
+        let kind = random.below(KINDS);
+        changed.body.mapping[kind] = changed.body.mapping[kind].map(|_| random.below(KINDS) as u8);
+        if changed.check_well_formed().is_ok() {
+            right = changed;
+        }
+    }
+    let left = constants.translation(&left);
+    let right = constants.translation(&right);
+    constants.pack(&[&[0x53][..], &left, &right].concat())
+}
+
+/// A sign 50 whose value is over 4,096 bytes and may not be well formed.
+fn overfull_body(random: &mut Random) -> Vec<u8> {
+    let mut constants = Constants::default();
+    let bytes = TRANSLATION_LIMIT + random.within(1..=300);
+    let mut whole = full_translation(random, bytes);
+    wrong_body(random, &mut whole);
+    let term = constants.translation(&whole);
+    constants.pack(&term)
+}
+
+/// A sign 50 or 53 whose value has exactly 4,096 or 4,097 bytes, or a sum that does not fit.
+fn full_translation_pack(random: &mut Random) -> Vec<u8> {
+    let mut constants = Constants::default();
+    let bytes = TRANSLATION_LIMIT + random.below(2);
+    let whole = full_translation(random, bytes);
+    if random.percent(40) {
+        let term = constants.translation(&whole);
+        return constants.pack(&term);
+    }
+    let (mut left, mut right) = (whole.source.clone(), whole.source.clone());
+    let middle = left.productions.len() / 2;
+    left.productions.truncate(middle + random.below(2));
+    right.productions.drain(..middle);
+    let (left, mut right) = (cut(&whole, left), cut(&whole, right));
+    if random.percent(20) {
+        shorten_first(&mut right);
+    }
+    let left = constants.translation(&left);
+    let right = constants.translation(&right);
+    constants.pack(&[&[0x53][..], &left, &right].concat())
+}
+
+/// A translation of the counting language into itself with these codes.
+fn counting_translation(codes: [&[u8]; 3]) -> Translation {
+    let (source, target) = (counting_language(), counting_language());
+    let clauses = source.productions.iter().zip(codes);
+    let clauses =
+        clauses.map(|(production, code)| Clause { key: production.key(), code }).collect();
+    let mapping = cut_mapping(&source, |_| 1);
+    Translation { source, target, body: Body { mapping, clauses } }
+}
+
+/// A join whose code has about 16 levels: a chain through a clause that adds levels.
+fn deep_join(random: &mut Random) -> Vec<u8> {
+    let mut constants = Constants::default();
+    let added = random.within(1..=4);
+    let longer = [[1, 1].repeat(added), vec![3, 1]].concat();
+    let dropped: &[u8] = random.pick(&[&[1, 0], &[3, 1], &[3, 2], &[1, 2, 3, 2, 3, 1]]);
+    let outer = counting_translation([&[1, 0], &longer, dropped]);
+    let levels = random.within(15 / added..=18 / added).clamp(1, 16);
+    let source = Language { classes: vec![], productions: vec![Production::new(5, 0, &[])] };
+    let code = chain_code(levels);
+    let clauses = [Clause { key: 0x0500, code: &code }].into_iter().collect();
+    let body = Body { mapping: cut_mapping(&source, |_| 1), clauses };
+    let inner = Translation { source, target: counting_language(), body };
+    let outer = constants.translation(&outer);
+    let inner = constants.translation(&inner);
+    constants.pack(&[&[0x54][..], &outer, &inner].concat())
+}
+
+/// A join whose value is about 4,096 bytes, or far above any count.
+fn long_join(random: &mut Random) -> Vec<u8> {
+    let mut constants = Constants::default();
+    let uses = random.within(1..=6);
+    let mut many = [1, 2, 3, 1].repeat(uses);
+    many.extend_from_slice(&[3, 1]);
+    let wide = vec![1, 2, 3, 1, 3, 2];
+    let swapped: &[u8] = random.pick(&[&wide, &[1, 2, 3, 2, 3, 1], &[1, 1, 3, 2]]);
+    let outer = counting_translation([&[1, 0], &many, swapped]);
+    let bytes = random.within(500..=TRANSLATION_LIMIT);
+    let mut inner = if random.percent(50) {
+        full_translation(random, bytes)
+    } else {
+        counting_translation([&chain_code(16), &[1, 1, 1, 1, 3, 1], &wide])
+    };
+    if random.percent(15) {
+        inner.target.classes.push(Class { kind: 9, low: 0, high: 9 });
+    }
+    let outer = constants.translation(&outer);
+    let inner = constants.translation(&inner);
+    constants.pack(&[&[0x54][..], &outer, &inner].concat())
+}
+
+/// A join with an identity of a value of exactly 4,096 bytes or a few less.
+fn full_join(random: &mut Random) -> Vec<u8> {
+    let mut constants = Constants::default();
+    let outer = counting_translation([&[1, 1, 1, 0], &[1, 1, 3, 1], &[1, 2, 3, 2, 3, 1]]);
+    let bytes = TRANSLATION_LIMIT - random.below(60);
+    let inner = full_translation(random, bytes);
+    let identity = vec![0x55, 0x40, 0];
+    let outer = constants.translation(&outer);
+    let inner = constants.translation(&inner);
+    let outer = if random.percent(40) { identity } else { outer };
+    constants.pack(&[&[0x54][..], &outer, &inner].concat())
+}
+
+/// A pack with a translation that may not be well formed at its sign 50.
+fn wrong_body_pack(random: &mut Random) -> Vec<u8> {
+    let file = translation_file(random);
+    let mut parts = Fields::new(&file).map_while(Result::ok);
+    let source = parts.next().map_or(vec![], |field| field.contents.to_vec());
+    let target = parts.next().map_or(vec![], |field| field.contents.to_vec());
+    let start = (6 + source.len() + target.len()).min(file.len());
+    let bodies = vec![file[start..].to_vec()];
+    let constants = Constants { languages: vec![source, target], bodies, triples: vec![] };
+    constants.pack(&[0x50, 0x40, 0, 0x40, 1, 0])
+}
+
+/// A pack of exactly 32,768 bytes or one more, filled by a body that is not used.
+fn full_pack(random: &mut Random) -> Vec<u8> {
+    let mut constants = fitting_constants(random);
+    let term = [0x55, 0x40, random.below(constants.languages.len()) as u8];
+    let wanted = PACK_LIMIT + random.below(2);
+    let code = wanted - constants.pack(&term).len() - 8;
+    let clauses = [Clause { key: 0, code: &vec![9; code] }].into_iter().collect();
+    constants.body(0, 0, &Body { clauses, ..Body::default() });
+    constants.pack(&term)
+}
+
+/// A pack with 32 or 33 languages or bodies, and a term that names the last.
+fn many_constants(random: &mut Random) -> Vec<u8> {
+    let mut constants = fitting_constants(random);
+    let language = constants.languages[0].clone();
+    let languages = random.pick(&[31, 32, 32, 33]);
+    constants.languages.resize(languages, language);
+    let (source, target, body) = constants.triples[0];
+    let last = constants.bodies[body as usize].clone();
+    let bodies = random.pick(&[31, 32, 32, 33]);
+    constants.bodies.resize(bodies, last);
+    let body = random.pick(&[30, 31, 32]);
+    let term = match random.below(2) {
+        0 => vec![0x50, 0x40, source, 0x40, target, body],
+        _ => vec![0x55, 0x40, random.pick(&[30, 31, 32])],
+    };
+    constants.pack(&term)
+}
+
+/// A pack in which some language has a clash, is too long, or a group is out of order.
+fn wrong_constants(random: &mut Random) -> Vec<u8> {
+    let mut constants = fitting_constants(random);
+    let place = random.below(constants.languages.len());
+    let term = [0x55, 0x40, 0];
+    match random.below(8) {
+        0 => constants.languages[place] = encoded(&full_language(random, LANGUAGE_LIMIT)),
+        1 => constants.languages[place] = encoded(&full_language(random, LANGUAGE_LIMIT + 1)),
+        2 | 3 => constants.languages[place] = vec![0x11, 0, 5, 1, 0, 0, 0, 1, 0x12, 0, 2, 1, 0],
+        4 => constants.languages[place] = [0x12, 0, 2, 1, 0].repeat(2),
+        5 => constants.bodies.push([0x22, 0, 2, 1, 1].repeat(2)),
+        6 => constants.bodies.push(vec![0x23, 0, 2, 1, 1, 0x23, 0, 2, 1, 0]),
+        _ => constants.bodies.push(vec![0x23, 0, 2, 1, 1, 0x22, 0, 2, 1, 1]),
+    }
+    let mut pack = constants.pack(&term);
+    if random.percent(30) {
+        damage(random, &mut pack);
+    }
+    pack
+}
+
+/// The bytes of a pack: one that reduces, at a limit, wrong in one way, or damaged.
+fn pack_file(random: &mut Random) -> Vec<u8> {
+    match random.below(40) {
+        0 => full_pack(random),
+        1 => many_constants(random),
+        2 | 3 => wrong_constants(random),
+        4 | 5 => full_language_sum(random),
+        6 | 7 => full_translation_pack(random),
+        8 | 9 => deep_join(random),
+        10 => long_join(random),
+        11 | 12 => full_join(random),
+        13..=15 => wrong_body_pack(random),
+        16 | 17 => deep_pack(random),
+        18..=20 => {
+            let mut pack = random_pack(random);
+            damage_fields(random, &mut pack);
+            pack
+        }
+        21 => {
+            let mut pack = random_pack(random);
+            damage(random, &mut pack);
+            pack
+        }
+        22 => conflicting_sum(random),
+        23 => overfull_body(random),
+        24 => sum_with_change(random),
+        _ => random_pack(random),
+    }
+}
+
+/// A pack with the lengths of workspace and output, seldom too short.
+pub fn reduce_case(random: &mut Random) -> ReduceCase {
+    let workspace = match random.below(20) {
+        0 => WORKSPACE_LEAST - 1,
+        1 => random.below(WORKSPACE_LEAST),
+        2 => WORKSPACE_LEAST + random.below(40),
+        _ => WORKSPACE_LEAST,
+    };
+    let output = match random.below(20) {
+        0 => OUTPUT_LEAST - 1,
+        1 => random.below(OUTPUT_LEAST),
+        2 => OUTPUT_LEAST + random.below(40),
+        _ => OUTPUT_LEAST,
+    };
+    ReduceCase { pack: pack_file(random), workspace, output }
+}
+
+/// A pack for the laws: constants and some translation terms over them.
+#[derive(Clone, Debug)]
+pub struct LawPack {
+    constants: Constants,
+    /// Terms of at most four levels.
+    pub terms: Vec<Vec<u8>>,
+}
+
+/// Constants and a few terms that often fit.
+pub fn law_pack(random: &mut Random) -> LawPack {
+    let constants = fitting_constants(random);
+    let names = constants.names();
+    let mut terms = Vec::new();
+    for _ in 0..random.within(2..=4) {
+        let mut term = Vec::new();
+        let levels = random.pick(&[2, 2, 2, 3, 4]);
+        TermWriter::new(&names).translation(random, levels, &mut term);
+        terms.push(term);
+    }
+    LawPack { constants, terms }
+}
+
+/// The pack with that term as its field 32.
+pub fn pack_with_term(pack: &LawPack, term: &[u8]) -> Vec<u8> {
+    pack.constants.pack(term)
+}

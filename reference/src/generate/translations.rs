@@ -1,0 +1,391 @@
+//! Translations: well-formed ones, exactly full ones, and files that are to be refused.
+
+use super::codes::Coder;
+use super::damage::{damage, damage_fields};
+use super::heights::Heights;
+use super::languages::{arguments, full_language, language, name};
+use super::random::Random;
+use super::trees::root_and_tree;
+use crate::body::{Body, Clause, Clauses, Mapping};
+use crate::code::{Symbol, CODE_LEVELS};
+use crate::language::{bit, Class, Language, Production, KINDS, LANGUAGE_LIMIT};
+use crate::run::run;
+use crate::translation::{Translation, TRANSLATION_LIMIT};
+use std::collections::BTreeMap;
+
+/// The input of a run.
+#[derive(Clone, Debug)]
+pub struct RunCase {
+    pub translation: Vec<u8>,
+    pub root: u32,
+    pub tree: Vec<u8>,
+    pub output: usize,
+}
+
+/// One of the kinds in a set that is not empty.
+fn kind_in(random: &mut Random, kinds: u32) -> u8 {
+    let list: Vec<u8> = (0..KINDS as u8).filter(|&kind| kinds & bit(kind) != 0).collect();
+    random.pick(&list)
+}
+
+/// A mapping for every kind: classes of the source as given, others to any kind of the target.
+fn whole_mapping(random: &mut Random, target: &Language, classes: &[(Class, u8)]) -> [u8; KINDS] {
+    let mut whole = [0; KINDS];
+    let heights = Heights::new(target);
+    let grown = (0..KINDS as u8).filter(|&kind| heights.least(kind).is_some());
+    let grown = grown.fold(0, |kinds, kind| kinds | bit(kind));
+    for place in whole.iter_mut() {
+        let usual = grown != 0 && random.percent(95);
+        *place = kind_in(random, if usual { grown } else { target.kinds() });
+    }
+    for (class, kind) in classes {
+        whole[class.kind as usize] = *kind;
+    }
+    whole
+}
+
+/// Source classes of equal range for some of the target's classes, by rising kind.
+fn source_classes(random: &mut Random, target: &Language) -> Vec<(Class, u8)> {
+    let mut table = BTreeMap::new();
+    for class in &target.classes {
+        for _ in 0..random.below(3) {
+            let kind = if random.percent(60) { class.kind } else { random.below(KINDS) as u8 };
+            let copy = Class { kind, ..*class };
+            table.entry(kind).or_insert((copy, class.kind));
+        }
+    }
+    table.into_values().collect()
+}
+
+/// Productions for a source with these classes.
+fn source_productions(random: &mut Random, classes: &[(Class, u8)]) -> Vec<Production> {
+    let taken = classes.iter().fold(0, |kinds, (class, _)| kinds | bit(class.kind));
+    if taken == u32::MAX {
+        return vec![];
+    }
+    let results: Vec<u8> = (0..random.within(1..=4)).map(|_| kind_in(random, !taken)).collect();
+    let mut kinds = results.clone();
+    kinds.extend(classes.iter().map(|(class, _)| class.kind));
+    let mut table = BTreeMap::new();
+    let most = if random.percent(10) { 60 } else { 8 };
+    for _ in 0..random.below(most) {
+        let list = if random.percent(30) && !classes.is_empty() {
+            &kinds[results.len()..]
+        } else {
+            &kinds
+        };
+        let arguments = arguments(random, list);
+        let production = Production::new(random.pick(&results), name(random), &arguments);
+        table.insert(production.key(), production);
+    }
+    table.into_values().collect()
+}
+
+/// A body for the source: the mapping cut to its kinds, and a code for each production.
+///
+/// Productions for which no code is found are dropped from the source.
+fn with_body(
+    random: &mut Random,
+    mut source: Language,
+    target: Language,
+    whole: &[u8; KINDS],
+) -> Translation {
+    let heights = Heights::new(&target);
+    let mut clauses = Clauses::default();
+    source.productions.retain(|production| {
+        let arguments: Vec<u8> =
+            production.arguments().iter().map(|&kind| whole[kind as usize]).collect();
+        let coder = Coder { target: &target, heights: &heights, arguments: &arguments };
+        let code = coder.code(random, whole[production.result as usize]);
+        let Some(code) = code else { return false };
+        clauses.push(Clause { key: production.key(), code: &code });
+        true
+    });
+    let mapping = cut_mapping(&source, |kind| whole[kind as usize]);
+    Translation { source, target, body: Body { mapping, clauses } }
+}
+
+/// A mapping of exactly the kinds in the language.
+pub fn cut_mapping(source: &Language, to: impl Fn(u8) -> u8) -> Mapping {
+    let kinds = source.kinds();
+    let mut mapping = Mapping::default();
+    for kind in (0..KINDS as u8).filter(|&kind| kinds & bit(kind) != 0) {
+        mapping[kind as usize] = Some(to(kind));
+    }
+    mapping
+}
+
+/// Drops the last productions of the source, with their clauses, until the limit holds.
+fn trim(mut translation: Translation, limit: usize) -> Translation {
+    while translation.encoded_length() > limit
+        || translation.source.encoded_length() > LANGUAGE_LIMIT
+    {
+        translation.source.productions.pop();
+        let count = translation.source.productions.len();
+        let clauses = translation.body.clauses.iter().take(count).collect();
+        let whole = translation.body.mapping;
+        let to = |kind| whole[kind as usize].expect("mapped before");
+        translation.body.mapping = cut_mapping(&translation.source, to);
+        translation.body.clauses = clauses;
+    }
+    translation
+}
+
+/// A well-formed translation.
+pub fn translation(random: &mut Random) -> Translation {
+    let target = language(random);
+    if target.kinds() == 0 {
+        let (source, body) = (Language::default(), Body::default());
+        return Translation { source, target, body };
+    }
+    let classes = source_classes(random, &target);
+    let productions = source_productions(random, &classes);
+    let whole = whole_mapping(random, &target, &classes);
+    let source =
+        Language { classes: classes.into_iter().map(|(class, _)| class).collect(), productions };
+    trim(with_body(random, source, target, &whole), TRANSLATION_LIMIT)
+}
+
+/// A well-formed translation of a language into itself.
+pub fn endomorphism(random: &mut Random, language: &Language) -> Translation {
+    if language.kinds() == 0 {
+        let (source, target) = (language.clone(), language.clone());
+        return Translation { source, target, body: Body::default() };
+    }
+    let classes: Vec<(Class, u8)> =
+        language.classes.iter().map(|class| (*class, class.kind)).collect();
+    let mut whole = whole_mapping(random, language, &classes);
+    if random.percent(60) {
+        whole = std::array::from_fn(|kind| kind as u8);
+    }
+    trim(with_body(random, language.clone(), language.clone(), &whole), TRANSLATION_LIMIT)
+}
+
+/// A language whose kind 1 has names 0, 1 and 2 with none, one and two arguments of kind 1.
+pub fn counting_language() -> Language {
+    let productions = (0..3).map(|count| Production::new(1, count, &[1, 1][..count as usize]));
+    Language { classes: vec![], productions: productions.collect() }
+}
+
+/// Appends a code over the counting language with so many nodes and few levels.
+pub fn put_counting_code(nodes: usize, code: &mut Vec<u8>) {
+    match nodes {
+        0 => {}
+        1 => Symbol::Production(0).put(code),
+        2 => {
+            Symbol::Production(1).put(code);
+            put_counting_code(1, code);
+        }
+        _ => {
+            Symbol::Production(2).put(code);
+            put_counting_code((nodes - 1) / 2, code);
+            put_counting_code(nodes - 1 - (nodes - 1) / 2, code);
+        }
+    }
+}
+
+/// A chain of one-argument nodes over the counting language with so many levels.
+pub fn chain_code(levels: usize) -> Vec<u8> {
+    let mut code = [1, 1].repeat(levels - 1);
+    code.extend_from_slice(&[1, 0]);
+    code
+}
+
+/// A well-formed translation of exactly so many bytes, into the counting language.
+pub fn full_translation(random: &mut Random, bytes: usize) -> Translation {
+    let target = counting_language();
+    let count = random.within(1..=bytes / 60);
+    let mut names: Vec<u8> = (0..count).map(|_| random.byte()).collect();
+    names.sort_unstable();
+    names.dedup();
+    let mut productions: Vec<Production> =
+        names.iter().map(|&name| Production::new(7, name, &vec![7; random.below(4)])).collect();
+    let fixed = |productions: &[Production]| {
+        let source = Language { classes: vec![], productions: productions.to_vec() };
+        let codes = productions.len() * 5;
+        6 + source.encoded_length() + target.encoded_length() + 5 + codes
+    };
+    if (bytes - fixed(&productions)) % 2 == 1 {
+        let first = productions[0];
+        let wider = [first.arguments(), &[7]].concat();
+        productions[0] = Production::new(7, first.name, &wider);
+    }
+    let nodes = (bytes - fixed(&productions)) / 2;
+    let mut clauses = Clauses::default();
+    let mut left = nodes;
+    for (number, production) in productions.iter().enumerate() {
+        let rest = productions.len() - number;
+        let share = if rest == 1 { left } else { random.within(1..=2 * left / rest - 1) };
+        let mut code = Vec::new();
+        put_counting_code(share, &mut code);
+        clauses.push(Clause { key: production.key(), code: &code });
+        left -= share;
+    }
+    let source = Language { classes: vec![], productions };
+    let mapping = cut_mapping(&source, |_| 1);
+    Translation { source, target, body: Body { mapping, clauses } }
+}
+
+/// A translation from one language of exactly so many bytes, with the empty one as the other.
+fn with_full_language(random: &mut Random, bytes: usize) -> Translation {
+    let (source, mut target) = (Language::default(), full_language(random, bytes));
+    if random.percent(30) {
+        target.productions.swap(0, 1);
+    }
+    Translation { source, target, body: Body::default() }
+}
+
+/// Changes one mapping so that it is likely wrong.
+fn wrong_mapping(random: &mut Random, translation: &mut Translation) {
+    let kinds = translation.source.kinds();
+    let inside = if kinds == 0 { 0 } else { kind_in(random, kinds) };
+    let outside = if kinds == u32::MAX { 31 } else { kind_in(random, !kinds) };
+    let mapping = &mut translation.body.mapping;
+    match random.below(4) {
+        0 => mapping[inside as usize] = None,
+        1 => mapping[outside as usize] = Some(random.below(KINDS) as u8),
+        2 if translation.target.kinds() != u32::MAX => {
+            mapping[inside as usize] = Some(kind_in(random, !translation.target.kinds()));
+        }
+        _ => mapping[inside as usize] = Some(random.below(KINDS) as u8),
+    }
+}
+
+/// Adds, drops or renames one clause.
+fn wrong_clauses(random: &mut Random, translation: &mut Translation) {
+    let clauses: Vec<Clause> = translation.body.clauses.iter().collect();
+    let mut table: BTreeMap<u16, Vec<u8>> =
+        clauses.iter().map(|clause| (clause.key, clause.code.to_vec())).collect();
+    let code = clauses.first().map_or(vec![1, 0], |clause| clause.code.to_vec());
+    if random.percent(50) && !clauses.is_empty() {
+        let gone = random.pick(&clauses).key;
+        table.remove(&gone);
+    }
+    if random.percent(50) {
+        table.entry(random.below(KINDS * 256) as u16).or_insert(code);
+    }
+    let clauses = table.iter().map(|(&key, code)| Clause { key, code });
+    translation.body.clauses = clauses.collect();
+}
+
+/// Makes one code wrong.
+fn wrong_codes(random: &mut Random, translation: &mut Translation) {
+    let count = translation.body.clauses.len();
+    if count == 0 {
+        return;
+    }
+    let heights = Heights::new(&translation.target);
+    let chosen = random.below(count);
+    let mut changed = Clauses::default();
+    let pairs = translation.source.productions.iter().zip(translation.body.clauses.iter());
+    for (number, (production, clause)) in pairs.enumerate() {
+        let arguments = production.arguments().iter();
+        let arguments: Vec<u8> = arguments.map(|&kind| translation.mapped(kind)).collect();
+        let coder = Coder { target: &translation.target, heights: &heights, arguments: &arguments };
+        let kind = translation.mapped(production.result);
+        let wrong = coder.wrong_code(random, kind, clause.code);
+        let code = if number == chosen { &wrong } else { clause.code };
+        changed.push(Clause { key: clause.key, code });
+    }
+    translation.body.clauses = changed;
+}
+
+/// A translation into the counting language with one code, a chain at or past the limit.
+fn chain_translation(random: &mut Random) -> Translation {
+    let levels = CODE_LEVELS as usize + random.below(2);
+    let source = Language { classes: vec![], productions: vec![Production::new(3, 4, &[])] };
+    let clauses = [Clause { key: 0x0304, code: &chain_code(levels) }].into_iter().collect();
+    let mapping = cut_mapping(&source, |_| 1);
+    Translation { source, target: counting_language(), body: Body { mapping, clauses } }
+}
+
+/// Gives a result kind of one of the languages a class too.
+fn clash(random: &mut Random, translation: &mut Translation) {
+    let language =
+        if random.percent(50) { &mut translation.source } else { &mut translation.target };
+    if let Some(production) = language.productions.first() {
+        let class = Class { kind: production.result, low: 0, high: 1 };
+        let place = language.classes.partition_point(|other| other.kind < class.kind);
+        language.classes.insert(place, class);
+    }
+}
+
+/// Makes some of codes, clauses and mapping wrong.
+pub fn wrong_body(random: &mut Random, translation: &mut Translation) {
+    for wrong in [wrong_codes, wrong_clauses, wrong_mapping] {
+        if random.percent(50) {
+            wrong(random, translation);
+        }
+    }
+}
+
+/// Makes some of body and languages wrong.
+fn several_wrong(random: &mut Random, translation: &mut Translation) {
+    wrong_body(random, translation);
+    if random.percent(50) {
+        clash(random, translation);
+    }
+}
+
+/// The bytes of a translation: valid, at a limit, wrong in one way, or damaged.
+pub fn translation_file(random: &mut Random) -> Vec<u8> {
+    let choice = random.below(32);
+    let mut value = match choice {
+        0 => full_translation(random, TRANSLATION_LIMIT),
+        1 => full_translation(random, TRANSLATION_LIMIT + 1),
+        2 => with_full_language(random, LANGUAGE_LIMIT),
+        3 => with_full_language(random, LANGUAGE_LIMIT + 1),
+        4 => chain_translation(random),
+        _ => translation(random),
+    };
+    match choice {
+        5..=7 => wrong_mapping(random, &mut value),
+        8..=10 => wrong_clauses(random, &mut value),
+        11..=14 => wrong_codes(random, &mut value),
+        15 | 16 => clash(random, &mut value),
+        24 | 25 => several_wrong(random, &mut value),
+        _ => {}
+    }
+    let mut bytes = value.encode();
+    match choice {
+        17..=20 => damage_fields(random, &mut bytes),
+        21..=23 => damage(random, &mut bytes),
+        3 if random.percent(50) => bytes.truncate(random.within(3..=bytes.len())),
+        _ => {}
+    }
+    bytes
+}
+
+/// An output length for a run: often exact or one short of it.
+fn output_length(random: &mut Random, translation: &[u8], root: u32, tree: &[u8]) -> usize {
+    const MOST: usize = 5000;
+    let outcome = run(translation, root, tree, &mut [0; MOST]);
+    let exact = outcome.length() as usize;
+    match random.below(6) {
+        0 | 1 => exact,
+        2 => exact.saturating_sub(1),
+        3 => random.below(exact + 10),
+        4 => MOST,
+        _ => exact + random.below(20),
+    }
+}
+
+/// A translation, a root, a tree and an output length.
+pub fn run_case(random: &mut Random) -> RunCase {
+    if random.percent(12) {
+        let bytes = translation_file(random);
+        let tree = (0..random.below(6)).map(|_| random.byte()).collect();
+        return RunCase { translation: bytes, root: random.below(34) as u32, tree, output: 64 };
+    }
+    let value = match random.below(3) {
+        0 => translation(random),
+        _ => {
+            let language = language(random);
+            endomorphism(random, &language)
+        }
+    };
+    let (root, tree) = root_and_tree(random, &value.source);
+    let translation = value.encode();
+    let output = output_length(random, &translation, root, &tree);
+    RunCase { translation, root, tree, output }
+}

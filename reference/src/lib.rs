@@ -1,0 +1,30 @@
+//! Languages, translations and a reducer over bytes: a reference on decoded structures.
+//!
+//! The five operations are `check_language`, `check_translation`, `check_tree`, `reduce`
+//! and `run`. Each answers with an `Outcome`: accepted with a length, or refused.
+#![deny(unsafe_code)]
+
+mod body;
+mod code;
+mod field;
+mod grammar;
+mod language;
+mod operators;
+mod outcome;
+mod pack;
+mod reduce;
+mod run;
+mod term;
+mod translation;
+mod tree;
+
+pub mod generate;
+#[cfg(feature = "library")]
+pub mod library;
+
+pub use language::check_language;
+pub use outcome::{Outcome, Refusal};
+pub use reduce::reduce;
+pub use run::run;
+pub use translation::check_translation;
+pub use tree::check_tree;

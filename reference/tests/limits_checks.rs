@@ -1,0 +1,325 @@
+//! The checks of languages, trees and translations: each refusal, and each limit on both sides.
+
+mod build;
+
+use build::*;
+use reference::{check_language, check_translation, check_tree};
+
+/// The number of checking a language.
+fn language_number(language: &[u8]) -> u32 {
+    let outcome = check_language(language);
+    assert_eq!(outcome.length(), 0);
+    outcome.number()
+}
+
+/// The number of checking a translation.
+fn translation_number(translation: &[u8]) -> u32 {
+    let outcome = check_translation(translation);
+    assert_eq!(outcome.length(), 0);
+    outcome.number()
+}
+
+/// A language of exactly so many bytes: productions without arguments and one to fill up.
+fn language_of(bytes: usize) -> Vec<u8> {
+    let last = 5 + bytes % 5;
+    let count = (bytes - last) / 5;
+    let keys = (0..count).map(|place| ((place / 256) as u8, place as u8));
+    let mut language: Vec<u8> = keys.flat_map(|(kind, name)| production(kind, name, &[])).collect();
+    language.extend(production(30, 0, &vec![30; last - 5]));
+    assert_eq!(language.len(), bytes);
+    language
+}
+
+#[test]
+fn the_length_of_a_language() {
+    assert_eq!(language_number(&[]), 0);
+    assert_eq!(language_number(&language_of(1024)), 0);
+    assert_eq!(language_number(&language_of(1025)), 1);
+    assert_eq!(language_number(&[0; 1024]), 2);
+    assert_eq!(language_number(&[0; 1025]), 1);
+}
+
+#[test]
+fn broken_fields_of_a_language() {
+    assert_eq!(language_number(&[0x11]), 2);
+    assert_eq!(language_number(&[0x12, 0]), 2);
+    assert_eq!(language_number(&[0x12, 0, 2]), 2);
+    assert_eq!(language_number(&[0x12, 0, 2, 0]), 2);
+    assert_eq!(language_number(&[0x12, 0, 2, 0, 0]), 0);
+    assert_eq!(language_number(&[0x12, 0, 1, 0]), 2);
+    assert_eq!(language_number(&[0x12, 0, 0]), 2);
+    assert_eq!(language_number(&[0x12, 1, 2, 0, 0]), 2);
+    assert_eq!(language_number(&[0x13, 0, 2, 0, 0]), 2);
+    assert_eq!(language_number(&[0x11, 0, 4, 0, 0, 0, 0]), 2);
+    assert_eq!(language_number(&[0x11, 0, 6, 0, 0, 0, 0, 0, 0]), 2);
+    assert_eq!(language_number(&[0x12, 0, 2, 0, 0, 0]), 2);
+}
+
+#[test]
+fn ranges_in_a_language() {
+    assert_eq!(language_number(&class(31, 7, 7)), 0);
+    assert_eq!(language_number(&class(32, 7, 7)), 2);
+    assert_eq!(language_number(&class(0, 0, 65_535)), 0);
+    assert_eq!(language_number(&class(0, 256, 255)), 2);
+    assert_eq!(language_number(&production(31, 255, &[31; 8])), 0);
+    assert_eq!(language_number(&production(31, 255, &[31; 9])), 2);
+    assert_eq!(language_number(&production(32, 0, &[])), 2);
+    assert_eq!(language_number(&production(0, 0, &[0, 32])), 2);
+}
+
+#[test]
+fn order_in_a_language() {
+    let (low, high) = (class(1, 0, 1), class(2, 0, 1));
+    let (first, second) = (production(3, 1, &[]), production(3, 2, &[]));
+    assert_eq!(
+        language_number(&[low.clone(), high.clone(), first.clone(), second.clone()].concat()),
+        0
+    );
+    assert_eq!(language_number(&[high.clone(), low.clone()].concat()), 3);
+    assert_eq!(language_number(&[low.clone(), low.clone()].concat()), 3);
+    assert_eq!(language_number(&[second.clone(), first.clone()].concat()), 3);
+    assert_eq!(language_number(&[first.clone(), first.clone()].concat()), 3);
+    assert_eq!(language_number(&[first.clone(), high.clone()].concat()), 3);
+    assert_eq!(language_number(&[production(3, 255, &[]), production(4, 0, &[])].concat()), 0);
+    assert_eq!(language_number(&[production(4, 0, &[]), production(3, 255, &[])].concat()), 3);
+}
+
+#[test]
+fn the_lowest_refusal_of_a_language() {
+    let (one, other) = (class(1, 0, 1), production(1, 0, &[]));
+    assert_eq!(language_number(&[one.clone(), other.clone()].concat()), 4);
+    assert_eq!(language_number(&[other.clone(), one.clone()].concat()), 3);
+    assert_eq!(language_number(&[other, one, vec![0x12]].concat()), 2);
+}
+
+/// Kind 1: a leaf 0, a chain link 1 and a link 2 to a token of class 2.
+fn chains() -> Vec<u8> {
+    [class(2, 5, 9), production(1, 0, &[]), production(1, 1, &[1]), production(1, 2, &[2])].concat()
+}
+
+/// The number of checking a tree of the chains.
+fn chain_number(root: u32, links: usize, end: &[u8]) -> u32 {
+    check_tree(&chains(), root, &[vec![1; links], end.to_vec()].concat()).number()
+}
+
+#[test]
+fn levels_of_a_tree() {
+    assert_eq!(chain_number(1, 63, &[0]), 0);
+    assert_eq!(chain_number(1, 64, &[0]), 16);
+    assert_eq!(chain_number(1, 62, &[2, 0, 5]), 0);
+    assert_eq!(chain_number(1, 63, &[2, 0, 5]), 16);
+    assert_eq!(chain_number(1, 63, &[2]), 16);
+    assert_eq!(chain_number(1, 64, &[]), 16);
+    assert_eq!(chain_number(1, 63, &[]), 15);
+    assert_eq!(chain_number(1, 64, &[99]), 16);
+    assert_eq!(chain_number(1, 63, &[99]), 15);
+    assert_eq!(chain_number(1, 10, &[99, 1, 1]), 15);
+}
+
+#[test]
+fn tokens_and_roots_of_a_tree() {
+    assert_eq!(chain_number(2, 0, &[0, 5]), 0);
+    assert_eq!(chain_number(2, 0, &[0, 9]), 0);
+    assert_eq!(chain_number(2, 0, &[0, 4]), 15);
+    assert_eq!(chain_number(2, 0, &[0, 10]), 15);
+    assert_eq!(chain_number(2, 0, &[0]), 15);
+    assert_eq!(chain_number(2, 0, &[0, 5, 0]), 15);
+    assert_eq!(chain_number(3, 0, &[0]), 14);
+    assert_eq!(chain_number(32, 0, &[0]), 14);
+    assert_eq!(chain_number(257, 0, &[0]), 14);
+    assert_eq!(chain_number(u32::MAX, 0, &[0]), 14);
+}
+
+#[test]
+fn undefined_kinds_in_a_tree() {
+    let language = production(1, 0, &[7]);
+    assert_eq!(check_tree(&language, 7, &[0]).number(), 15);
+    assert_eq!(check_tree(&language, 1, &[0, 0]).number(), 15);
+    assert_eq!(check_tree(&language, 0, &[0]).number(), 14);
+    assert_eq!(check_tree(&[], 0, &[]).number(), 14);
+    assert_eq!(check_tree(&[1], 0, &[]).number(), 2);
+}
+
+/// A translation of a language with one production 1.0 without arguments, into the chains.
+fn with_code(code: &[u8]) -> Vec<u8> {
+    let body = [mapping(1, 1), clause(1, 0, code)].concat();
+    translation(&production(1, 0, &[]), &chains(), &body)
+}
+
+/// Code of so many levels: a chain of links and a leaf.
+fn chain_code(levels: usize) -> Vec<u8> {
+    [[1, 1].repeat(levels - 1), vec![1, 0]].concat()
+}
+
+#[test]
+fn levels_of_a_code() {
+    assert_eq!(translation_number(&with_code(&chain_code(16))), 0);
+    assert_eq!(translation_number(&with_code(&chain_code(17))), 7);
+    let token = |links: usize| [[1, 1].repeat(links), vec![1, 2, 2, 0, 5]].concat();
+    assert_eq!(translation_number(&with_code(&token(14))), 0);
+    assert_eq!(translation_number(&with_code(&token(15))), 7);
+    let argument = |links: usize| {
+        let body = [mapping(1, 1), clause(1, 0, &[[1, 1].repeat(links), vec![3, 1]].concat())];
+        translation(&production(1, 0, &[1]), &chains(), &body.concat())
+    };
+    assert_eq!(translation_number(&argument(15)), 0);
+    assert_eq!(translation_number(&argument(16)), 7);
+}
+
+#[test]
+fn broken_and_ill_typed_codes() {
+    for code in [&[][..], &[1], &[1, 9], &[1, 0, 0], &[2, 0, 5], &[3, 0], &[3, 1], &[3], &[4, 0]] {
+        assert_eq!(translation_number(&with_code(code)), 7);
+    }
+    for code in [&[1, 2, 2, 0, 4][..], &[1, 2, 2, 0, 10], &[1, 2, 2, 0], &[1, 2, 1, 0], &[1, 1]] {
+        assert_eq!(translation_number(&with_code(code)), 7);
+    }
+    for code in [&[1, 0][..], &[1, 2, 2, 0, 9], &[1, 1, 1, 2, 2, 0, 5]] {
+        assert_eq!(translation_number(&with_code(code)), 0);
+    }
+}
+
+#[test]
+fn argument_numbers_in_a_code() {
+    let number = |code: &[u8]| {
+        let source = [class(2, 5, 9), production(1, 0, &[1, 2])].concat();
+        let body = [mapping(1, 1), mapping(2, 2), clause(1, 0, code)].concat();
+        translation_number(&translation(&source, &chains(), &body))
+    };
+    assert_eq!(number(&[3, 1]), 0);
+    assert_eq!(number(&[3, 2]), 7);
+    assert_eq!(number(&[1, 2, 3, 2]), 0);
+    assert_eq!(number(&[1, 2, 3, 1]), 7);
+    assert_eq!(number(&[1, 2, 3, 3]), 7);
+    assert_eq!(number(&[1, 0]), 0);
+}
+
+#[test]
+fn mappings_of_a_translation() {
+    let number = |body: &[Vec<u8>]| {
+        let source = [class(2, 5, 9), production(1, 0, &[7])].concat();
+        translation_number(&translation(&source, &chains(), &body.concat()))
+    };
+    let code = clause(1, 0, &[1, 0]);
+    assert_eq!(number(&[mapping(1, 1), mapping(2, 2), mapping(7, 2), code.clone()]), 0);
+    assert_eq!(number(&[mapping(1, 1), mapping(2, 2), code.clone()]), 5);
+    assert_eq!(number(&[mapping(1, 1), mapping(2, 2), mapping(7, 3), code.clone()]), 5);
+    assert_eq!(number(&[mapping(1, 1), mapping(2, 1), mapping(7, 2), code.clone()]), 5);
+    let more = [mapping(1, 1), mapping(2, 2), mapping(7, 2), mapping(8, 2), code.clone()];
+    assert_eq!(number(&more), 5);
+    assert_eq!(number(&[mapping(1, 1), mapping(2, 2), mapping(7, 2)]), 6);
+    assert_eq!(number(&[mapping(1, 1), mapping(2, 2)]), 5);
+    let extra = [mapping(1, 1), mapping(2, 2), mapping(7, 2), code.clone(), clause(2, 0, &[])];
+    assert_eq!(number(&extra), 6);
+    let other = [mapping(1, 1), mapping(2, 2), mapping(7, 2), clause(1, 1, &[1, 0])];
+    assert_eq!(number(&other), 6);
+}
+
+#[test]
+fn classes_are_mapped_to_classes_of_equal_range() {
+    let number = |low, high| {
+        let body = [mapping(4, 2)].concat();
+        translation_number(&translation(&class(4, low, high), &chains(), &body))
+    };
+    assert_eq!(number(5, 9), 0);
+    assert_eq!(number(5, 8), 5);
+    assert_eq!(number(4, 9), 5);
+}
+
+#[test]
+fn a_result_may_be_mapped_to_a_class_or_an_undefined_kind() {
+    let source = [production(1, 0, &[]), production(1, 1, &[1])].concat();
+    let to_class = [mapping(1, 2), clause(1, 0, &[2, 0, 9]), clause(1, 1, &[3, 1])].concat();
+    assert_eq!(translation_number(&translation(&source, &chains(), &to_class)), 0);
+    let target = production(1, 0, &[7]);
+    let to_undefined = [mapping(1, 7), clause(1, 1, &[3, 1])].concat();
+    let source = production(1, 1, &[1]);
+    assert_eq!(translation_number(&translation(&source, &target, &to_undefined)), 0);
+}
+
+#[test]
+fn groups_of_fields_in_a_translation() {
+    let (source, target) = (field(0x20, &[]), field(0x21, &[]));
+    assert_eq!(translation_number(&[source.clone(), target.clone()].concat()), 0);
+    assert_eq!(translation_number(&[]), 2);
+    assert_eq!(translation_number(&source), 2);
+    assert_eq!(translation_number(&target), 2);
+    assert_eq!(translation_number(&[target.clone(), source.clone()].concat()), 2);
+    assert_eq!(translation_number(&[source.clone(), target.clone(), target.clone()].concat()), 2);
+    assert_eq!(translation_number(&[source.clone(), target.clone(), source.clone()].concat()), 2);
+    let swapped = [source.clone(), target.clone(), clause(1, 1, &[]), mapping(1, 1)];
+    assert_eq!(translation_number(&swapped.concat()), 2);
+    let body = |fields: &[Vec<u8>]| [&[source.clone(), target.clone()], fields].concat().concat();
+    assert_eq!(translation_number(&body(&[mapping(2, 1), mapping(1, 1)])), 3);
+    assert_eq!(translation_number(&body(&[mapping(1, 1), mapping(1, 1)])), 3);
+    assert_eq!(translation_number(&body(&[clause(1, 2, &[]), clause(1, 1, &[])])), 3);
+    assert_eq!(translation_number(&body(&[clause(1, 1, &[]), clause(1, 1, &[])])), 3);
+    assert_eq!(translation_number(&body(&[mapping(32, 1)])), 2);
+    assert_eq!(translation_number(&body(&[mapping(1, 32)])), 2);
+    assert_eq!(translation_number(&body(&[clause(32, 0, &[])])), 2);
+    assert_eq!(translation_number(&body(&[field(0x22, &[1])])), 2);
+    assert_eq!(translation_number(&body(&[field(0x22, &[1, 1, 1])])), 2);
+    assert_eq!(translation_number(&body(&[field(0x23, &[1])])), 2);
+    assert_eq!(translation_number(&body(&[field(0x24, &[1, 1])])), 2);
+    assert_eq!(translation_number(&body(&[mapping(31, 31)])), 5);
+    assert_eq!(translation_number(&body(&[clause(31, 255, &[])])), 6);
+}
+
+#[test]
+fn refusals_of_the_languages_in_a_translation() {
+    let good = production(1, 0, &[]);
+    let clash = [class(1, 0, 1), good.clone()].concat();
+    let order = [good.clone(), good.clone()].concat();
+    let broken = vec![0x12, 0, 2, 0];
+    assert_eq!(translation_number(&translation(&clash, &[], &[])), 4);
+    assert_eq!(translation_number(&translation(&[], &clash, &[])), 4);
+    assert_eq!(translation_number(&translation(&clash, &order, &[])), 3);
+    assert_eq!(translation_number(&translation(&order, &broken, &[])), 2);
+    let both = [mapping(1, 1), mapping(1, 1)].concat();
+    assert_eq!(translation_number(&translation(&clash, &clash, &both)), 3);
+}
+
+#[test]
+fn languages_over_their_limit_in_a_translation() {
+    assert_eq!(translation_number(&translation(&language_of(1024), &[], &[])), 5);
+    assert_eq!(translation_number(&translation(&[], &language_of(1024), &[])), 0);
+    assert_eq!(translation_number(&translation(&[], &language_of(1025), &[])), 1);
+    assert_eq!(translation_number(&[0x20, 4, 1]), 1);
+    assert_eq!(translation_number(&[0x20, 4, 0]), 2);
+    assert_eq!(translation_number(&[0x21, 255, 255]), 1);
+    assert_eq!(translation_number(&[0x99, 0, 1, 7, 0x20, 4, 1]), 1);
+    assert_eq!(translation_number(&[0x99, 0, 9, 7, 0x20, 4, 1]), 2);
+    assert_eq!(translation_number(&[0x20, 4, 1][..2]), 2);
+    let late = [translation(&[], &[], &mapping(1, 1)), vec![0x21, 4, 1]].concat();
+    assert_eq!(translation_number(&late), 1);
+    assert_eq!(translation_number(&[0x22, 4, 1]), 2);
+}
+
+#[test]
+fn the_length_of_a_translation() {
+    let wide = |bytes: usize| {
+        let source = production(1, 0, &[1]);
+        let target = production(1, 0, &[1, 1]);
+        let fixed = translation(&source, &target, &mapping(1, 1)).len() + 5;
+        let links = (bytes - fixed - 2) / 4;
+        let code = full_code(links);
+        let padding = bytes - fixed - code.len();
+        let source = production(1, 0, &vec![1; 1 + padding]);
+        translation(&source, &target, &[mapping(1, 1), clause(1, 0, &code)].concat())
+    };
+    assert_eq!(wide(4096).len(), 4096);
+    assert_eq!(wide(4097).len(), 4097);
+    assert_eq!(translation_number(&wide(4096)), 0);
+    assert_eq!(translation_number(&wide(4097)), 1);
+    assert_eq!(translation_number(&[0; 4096]), 2);
+    assert_eq!(translation_number(&[0; 4097]), 1);
+}
+
+/// Code with so many productions 0 of two arguments, each leaf the first argument.
+fn full_code(links: usize) -> Vec<u8> {
+    if links == 0 {
+        return vec![3, 1];
+    }
+    let left = (links - 1) / 2;
+    [vec![1, 0], full_code(left), full_code(links - 1 - left)].concat()
+}
