@@ -51,7 +51,7 @@ module _ (s index : List ℕ) (k : ℕ) (b : List ℕ) (at : ℕ) where
   module _ {j p place : ℕ} (there : at < length b) (ej : j ≡ k) (ep : p ≡ getD b at 0) (ei : place ≡ getD index (productionKey j p) 0) where
     pub name-unknown : place ≡ 0 → Leaf Broken ≡ nameAt s index k b at
     unfolding nameAt operandsAt
-    name-unknown h = cc (lt-leb (length b) at there, eq-eqb place 0 h)
+    name-unknown h = cc (lt-leb (length b) at there)
 
     pub name-known : {n : ℕ} → (place ≡ 0 → ⊥) → n ≡ pairAt s place → Operands (place + 4) (place + 2 + n) (at + 1) ≡ nameAt s index k b at
     unfolding nameAt operandsAt
@@ -105,22 +105,21 @@ module _ (s index arguments : List ℕ) (k : ℕ) (b : List ℕ) (at : ℕ) wher
   module _ (there : at < length b) where
     pub code-name : {r : Node} → getD b at 0 ≡ 1 → r ≡ nameAt s index k b (at + 1) → r ≡ codeNode s index arguments k b at
     unfolding codeNode signNode
-    code-name h e = cc (lt-leb (length b) at there, eq-eqb (getD b at 0) 1 h)
+    code-name h e = cc (lt-leb (length b) at there)
 
-    module _ (not-1 : getD b at 0 ≡ 1 → ⊥) where
-      pub code-token : {r : Read} {j place : ℕ} → getD b at 0 ≡ 2 → j ≡ k → place ≡ getD index j 0 → r ≡ tokenAt s place b (at + 1)
-          → Leaf r ≡ codeNode s index arguments k b at
-      unfolding codeNode signNode
-      code-token h ej ei e = cc (lt-leb (length b) at there, ne-eqb (getD b at 0) 1 not-1, eq-eqb (getD b at 0) 2 h)
+    pub code-token : {r : Read} {j place : ℕ} → getD b at 0 ≡ 2 → j ≡ k → place ≡ getD index j 0 → r ≡ tokenAt s place b (at + 1)
+        → Leaf r ≡ codeNode s index arguments k b at
+    unfolding codeNode signNode
+    code-token h ej ei e = cc (lt-leb (length b) at there)
 
-      module _ (not-2 : getD b at 0 ≡ 2 → ⊥) where
-        pub code-argument : {r : Read} → getD b at 0 ≡ 3 → r ≡ argumentAt arguments k b (at + 1) → Leaf r ≡ codeNode s index arguments k b at
-        unfolding codeNode signNode
-        code-argument h e = cc (lt-leb (length b) at there, ne-eqb (getD b at 0) 1 not-1, ne-eqb (getD b at 0) 2 not-2, eq-eqb (getD b at 0) 3 h)
+    pub code-argument : {r : Read} → getD b at 0 ≡ 3 → r ≡ argumentAt arguments k b (at + 1) → Leaf r ≡ codeNode s index arguments k b at
+    unfolding codeNode signNode
+    code-argument h e = cc (lt-leb (length b) at there)
 
-        pub code-other : (getD b at 0 ≡ 3 → ⊥) → Leaf Broken ≡ codeNode s index arguments k b at
-        unfolding codeNode signNode
-        code-other h = cc (lt-leb (length b) at there, ne-eqb (getD b at 0) 1 not-1, ne-eqb (getD b at 0) 2 not-2, ne-eqb (getD b at 0) 3 h)
+    pub code-other : (getD b at 0 ≡ 1 → ⊥) → (getD b at 0 ≡ 2 → ⊥) → (getD b at 0 ≡ 3 → ⊥) → Leaf Broken ≡ codeNode s index arguments k b at
+    unfolding codeNode signNode
+    code-other h i j =
+        cc (lt-leb (length b) at there, ne-eqb (getD b at 0) 1 h, ne-eqb (getD b at 0) 2 i, ne-eqb (getD b at 0) 3 j)
 
 -- node_at
 module _ (s index arguments : List ℕ) (k : ℕ) (b : List ℕ) (at : ℕ) {x : Syntax} {r : Node} where

@@ -5,14 +5,14 @@ use mathlib.Core.List.{List, [], _∷_}
 use mathlib.Core.Bool.{Bool, true, false, _&&_}
 use mathlib.Core.Option.{Option, none, some}
 use native.Mathlib.Omega.{arith}
-use native.Mathlib.Numerals.{add-one}
-use lib.ListN.{length, getD, getElem?, take, drop, length-take, length-drop, drop-of-length-le}
-use lib.Seq.{slice, slice-cons}
+use lib.ListN.{length, getD, getElem?, drop, length-drop, drop-of-length-le}
+use lib.Seq.{slice}
 use lib.Dec.{ltb, leb, eqb}
 use borrow.Author.Tests.{lt-ltb, le-ltb, le-leb, lt-leb, eq-eqb, ne-eqb, leb-true, leb-false, ltb-true, ltb-false, eqb-true, eqb-false}
 use Rattle.fields.specs.Fields.{pairAt}
 use Rattle.fields.specs.Inner.Places.{fieldEnd}
 use Rattle.fields.proofs.Truth.{by-test}
+use Rattle.fields.proofs.Lists.{part-done, part-next}
 use Rattle.fields.proofs.Split.{front}
 use Rattle.language.specs.Language.{Language, Range, rangeOf, argumentsOf, inRange, productionKey}
 use Rattle.reader.specs.Code.{node, token, argument, Codes, nil, cons}
@@ -164,10 +164,10 @@ module _ (arguments : List ℕ) (k : ℕ) (b : List ℕ) (at : ℕ) where
 
 -- A part of a list, an element at a time.
 no-slice : (s : List ℕ) (q e : ℕ) → e ≤ q → slice q e s ≡ []
-no-slice s q e h = drop-of-length-le (take e s) {i = q} (rw length-take (omega arith))
+no-slice s q e h = sym (part-done (λ l. l) s q e (slice q e s) refl h)
 
 one-slice : (s : List ℕ) (q e : ℕ) → q < e → e ≤ length s → slice q e s ≡ getD s q 0 ∷ slice (q + 1) e s
-one-slice s q e h k = rw add-one (slice-cons q e s 0 h k)
+one-slice s q e h k = sym (part-next (λ l. l) s q e (slice q e s) refl h k)
 
 -- Operands, and what else stands at a level, where the levels below are read alike.
 module _ (s index arguments b : List ℕ) (l : Language) (z : Indexed index s l) (bytes : (i : ℕ) → getD b i 0 < 256)
@@ -209,7 +209,7 @@ module _ (s index arguments b : List ℕ) (l : Language) (z : Indexed index s l)
   name-found : (place k p at : ℕ) → place ≡ getD index (productionKey k p) 0 → k < 32 → p < 256
       → restAt b (follow f s (operandsAt s place at)) ≡ restOf (readOperands g k p (argumentsBefore s place) (drop at b))
   unfolding operandsAt readOperands fieldEnd
-  name-found zero k p at e h j = cc (eq-eqb 0 0 refl)
+  name-found zero k p at e h j = cc
   name-found (suc q) k p at e h j =
       let pos : suc q ≡ 0 → ⊥ = λ w. omega arith in
       let from : suc q + 4 ≡ q + 5 = omega arith in
@@ -251,9 +251,9 @@ module _ (s index arguments b : List ℕ) (l : Language) (z : Indexed index s l)
           by-test (eqb (getD b at 0) 1)
           (λ d. cc (Laws.code-name s index arguments k b at there (eqb-true _ _ d) refl, name-same k (at + 1) kind))
           (λ d. by-test (eqb (getD b at 0) 2)
-          (λ e. cc (Laws.code-token s index arguments k b at there (eqb-false _ _ d) (eqb-true _ _ e) refl refl refl, token-same s (getD index k 0) b (at + 1), z .range k kind))
+          (λ e. cc (Laws.code-token s index arguments k b at there (eqb-true _ _ e) refl refl refl, token-same s (getD index k 0) b (at + 1), z .range k kind))
           (λ e. by-test (eqb (getD b at 0) 3)
-          (λ c. cc (Laws.code-argument s index arguments k b at there (eqb-false _ _ d) (eqb-false _ _ e) (eqb-true _ _ c) refl, argument-same arguments k b (at + 1)))
+          (λ c. cc (Laws.code-argument s index arguments k b at there (eqb-true _ _ c) refl, argument-same arguments k b (at + 1)))
           (λ c. cc (Laws.code-other s index arguments k b at there (eqb-false _ _ d) (eqb-false _ _ e) (eqb-false _ _ c)))))
 
     code-same : restAt b (follow f s (codeNode s index arguments k b at)) ≡ restOf (readCodeLevel g l arguments k (drop at b))

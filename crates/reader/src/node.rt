@@ -5,7 +5,7 @@ ghost use Prim.Native.Nat.{ℕ, _+_, _<_, _≤_};
 ghost use lib.ListN.{length, getD};
 ghost use Rattle.fields.specs.Fields.{pairAt};
 ghost use Rattle.reader.specs.Inner.Positions.{tokenAt, nameAt, argumentIs, argumentAt, treeNode, codeNode, nodeAt, EndsBy, NodeIn};
-ghost use Rattle.reader.specs.Inner.Index.{Sound};
+ghost use Rattle.reader.specs.Inner.Index.{Ready};
 
 // Trees are written without signs, codes with them.
 pub enum Syntax {
@@ -66,7 +66,7 @@ fn token(language: &[u8], place: usize, bytes: &[u8], at: usize) -> Read
 
 // A production name of the kind, whose operands follow.
 fn name(language: &[u8], index: &[u16], kind: u8, bytes: &[u8], at: usize) -> Node
-    requires { ⌜ Sound (now index) (now language) × (kind < 32) × (at ≤ length (now bytes)) ⌝ }
+    requires { ⌜ Ready (now index) (now language) kind (now bytes) at ⌝ }
     ensures { λ r. ⌜ (r ≡ nameAt (now (language .entry)) (now (index .entry)) kind (now (bytes .entry)) at) × NodeIn (now (language .entry)) (now (bytes .entry)) r ⌝ }
 {
     if bytes.len() <= at {
@@ -108,7 +108,7 @@ fn argument(arguments: &[u8], kind: u8, bytes: &[u8], at: usize) -> Read
 
 // A node of a tree: a class has a token, any other kind a name.
 fn tree_node(language: &[u8], index: &[u16], kind: u8, bytes: &[u8], at: usize) -> Node
-    requires { ⌜ Sound (now index) (now language) × (kind < 32) × (at ≤ length (now bytes)) ⌝ }
+    requires { ⌜ Ready (now index) (now language) kind (now bytes) at ⌝ }
     ensures { λ r. ⌜ (r ≡ treeNode (now (language .entry)) (now (index .entry)) kind (now (bytes .entry)) at) × NodeIn (now (language .entry)) (now (bytes .entry)) r ⌝ }
 {
     let place = place_at(index, wide(kind));
@@ -127,7 +127,7 @@ fn code_node(
     bytes: &[u8],
     at: usize,
 ) -> Node
-    requires { ⌜ Sound (now index) (now language) × (kind < 32) × (at ≤ length (now bytes)) ⌝ }
+    requires { ⌜ Ready (now index) (now language) kind (now bytes) at ⌝ }
     ensures { λ r. ⌜ (r ≡ codeNode (now (language .entry)) (now (index .entry)) (now (arguments .entry)) kind (now (bytes .entry)) at) × NodeIn (now (language .entry)) (now (bytes .entry)) r ⌝ }
 {
     if bytes.len() <= at {
@@ -156,7 +156,7 @@ pub fn node_at(
     bytes: &[u8],
     at: usize,
 ) -> Node
-    requires { ⌜ Sound (now index) (now language) × (kind < 32) × (at ≤ length (now bytes)) ⌝ }
+    requires { ⌜ Ready (now index) (now language) kind (now bytes) at ⌝ }
     ensures { λ r. ⌜ (r ≡ nodeAt syntax (now (language .entry)) (now (index .entry)) (now (arguments .entry)) kind (now (bytes .entry)) at) × NodeIn (now (language .entry)) (now (bytes .entry)) r ⌝ }
 {
     match syntax {

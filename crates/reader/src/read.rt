@@ -9,7 +9,7 @@ ghost use lib.ListN.{length, getD, drop};
 ghost use Rattle.language.specs.Language.{Language};
 ghost use Rattle.reader.specs.Syntax.{read as readCode};
 ghost use Rattle.reader.specs.Inner.Positions.{readAt, EndsBy, restAt, restOf, syntaxOf};
-ghost use Rattle.reader.specs.Inner.Index.{Sound, Indexed};
+ghost use Rattle.reader.specs.Inner.Index.{Ready, Indexed};
 
 // A code of the kind at a position, with so many levels left: it calls itself on the operands, one level fewer.
 fn read_at(
@@ -22,7 +22,7 @@ fn read_at(
     at: usize,
     levels: usize,
 ) -> Read
-    requires { ⌜ Sound (now index) (now language) × (kind < 32) × (at ≤ length (now bytes)) ⌝ }
+    requires { ⌜ Ready (now index) (now language) kind (now bytes) at ⌝ }
     ensures { λ r. ⌜ (r ≡ readAt syntax (now (language .entry)) (now (index .entry)) (now (arguments .entry)) (now (bytes .entry)) levels kind at) × EndsBy (length (now (bytes .entry))) r ⌝ }
 {
     if levels == 0 {
@@ -72,7 +72,7 @@ pub fn read(
     at: usize,
     levels: usize,
 ) -> Read
-    requires { ⌜ Sound (now index) (now language) × (kind < 32) × (at ≤ length (now bytes)) ⌝ }
+    requires { ⌜ Ready (now index) (now language) kind (now bytes) at ⌝ }
     ensures is { λ r. ⌜ ((l : Language) → Indexed (now (index .entry)) (now (language .entry)) l
         → restAt (now (bytes .entry)) r ≡ restOf (readCode (syntaxOf syntax) l (now (arguments .entry)) levels kind (drop at (now (bytes .entry))))) ⌝ }
     ensures within { λ r. ⌜ EndsBy (length (now (bytes .entry))) r ⌝ }

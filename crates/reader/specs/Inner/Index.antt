@@ -43,6 +43,12 @@ pub record Sound (index s : List ℕ) : Type 0 where
   pub operands : (k p : ℕ) → k < 32 → p < 256 → 0 < getD index (productionKey k p) 0
       → KindsIn s (getD index (productionKey k p) 0 + 4) (getD index (productionKey k p) 0 + 2 + pairAt s (getD index (productionKey k p) 0))
 
+-- What reading a code of kind k at `at` asks: a sound index, a kind, a position in the bytes or at their end.
+pub record Ready (index s : List ℕ) (k : ℕ) (b : List ℕ) (at : ℕ) : Type 0 where
+  pub sound : Sound index s
+  pub kind : k < 32
+  pub inside : at ≤ length b
+
 -- The index of language l, whose bytes are s: what is looked up through it is what stands in l.
 pub record Indexed (index s : List ℕ) (l : Language) : Type 0 where
   pub sound : Sound index s

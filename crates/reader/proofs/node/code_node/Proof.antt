@@ -18,13 +18,13 @@ returns-2 : tie.Need-returns-2
 returns-2 c = (code-name _ _ _ _ _ _ (c .before .before .before .if1 .left) (c .before .if2 .taken) (c .name .ensures .0), c .name .ensures .1)
 
 token-requires : tie.Need-token-requires
-token-requires c κs = (omega arith, class-in _ _ (c .before .before .before .before .before .before .before .before .before .before .pre .0) (c .before .wide .ensures .0) (c .before .before .before .before .before .before .before .before .before .before .pre .1) (c .place-at .ensures))
+token-requires c κs = (omega arith, class-in _ _ (c .before .before .before .before .before .before .before .before .before .before .pre .sound) (c .before .wide .ensures .0) (c .before .before .before .before .before .before .before .before .before .before .pre .kind) (c .place-at .ensures))
 
 returns-3 : tie.Need-returns-3
-returns-3 c = (code-token _ _ _ _ _ _ (c .before .before .before .before .before .before .if1 .left) (c .before .before .before .before .if2 .left) (c .before .before .before .if3 .taken) (c .before .before .wide .ensures .0) (c .before .place-at .ensures) (c .token .ensures .0), c .token .ensures .1)
+returns-3 c = (code-token _ _ _ _ _ _ (c .before .before .before .before .before .before .if1 .left) (c .before .before .before .if3 .taken) (c .before .before .wide .ensures .0) (c .before .place-at .ensures) (c .token .ensures .0), c .token .ensures .1)
 
 returns-4 : tie.Need-returns-4
-returns-4 c = (code-argument _ _ _ _ _ _ (c .before .before .before .before .before .if1 .left) (c .before .before .before .if2 .left) (c .before .before .if3 .left) (c .before .if4 .taken) (c .argument .ensures .0), c .argument .ensures .1)
+returns-4 c = (code-argument _ _ _ _ _ _ (c .before .before .before .before .before .if1 .left) (c .before .if4 .taken) (c .argument .ensures .0), c .argument .ensures .1)
 
 returns-5 : tie.Need-returns-5
 returns-5 c = (code-other _ _ _ _ _ _ (c .before .before .before .before .if1 .left) (c .before .before .if2 .left) (c .before .if3 .left) (c .if4 .left), tt)

@@ -14,7 +14,7 @@ returns : tie.Need-returns
 returns c = (tree-name _ _ _ _ _ (c .before .before .before .wide .ensures .0) (c .before .before .place-at .ensures) (c .before .if1 .taken) (c .name .ensures .0), c .name .ensures .1)
 
 token-requires : tie.Need-token-requires
-token-requires c κs = (c .before .before .before .before .before .before .pre .2, class-in _ _ (c .before .before .before .before .before .before .pre .0) (c .before .before .wide .ensures .0) (c .before .before .before .before .before .before .pre .1) (c .before .place-at .ensures))
+token-requires c κs = (c .before .before .before .before .before .before .pre .inside, class-in _ _ (c .before .before .before .before .before .before .pre .sound) (c .before .before .wide .ensures .0) (c .before .before .before .before .before .before .pre .kind) (c .before .place-at .ensures))
 
 returns-2 : tie.Need-returns-2
 returns-2 c = (tree-token _ _ _ _ _ (c .before .before .before .wide .ensures .0) (c .before .before .place-at .ensures) (c .before .if1 .left) (c .token .ensures .0), c .token .ensures .1)

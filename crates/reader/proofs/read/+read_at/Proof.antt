@@ -42,7 +42,7 @@ read-at-shared-slice-read-read-at : (t : ℕ) → read-at-lts.Need-shared-slice-
 read-at-shared-slice-read-read-at t c = let b = c .before .before .loop .inv .1 _ (omega arith) (c .before .loop-test .taken) in omega arith
 
 read-at-read-at-requires : (t : ℕ) → read-at-lts.Need-read-at-requires (read-at-calls t) (read-at-at t) read-at.Post read-at-Inv-loop read-at-μ-loop
-read-at-read-at-requires t c κs = let b = c .before .before .loop .inv .1 _ (omega arith) (c .before .loop-test .taken) in (omega arith, (c .before .before .before .before .before .before .before .before .before .before .before .before .pre .1 .0, b .1, c .before .before .loop .inv .0))
+read-at-read-at-requires t c κs = let b = c .before .before .loop .inv .1 _ (omega arith) (c .before .loop-test .taken) in (omega arith, record { sound = c .before .before .before .before .before .before .before .before .before .before .before .before .pre .1 .sound; kind = b .1; inside = c .before .before .loop .inv .0 })
 
 read-at-returns-2 : (t : ℕ) → read-at-lts.Need-returns-2 (read-at-calls t) (read-at-at t) read-at.Post read-at-Inv-loop read-at-μ-loop
 read-at-returns-2 t c = (sym (operands-deep _ _ _ _ _ (c .before .before .before .before .loop-test .taken) (c .before .before .read-at .ensures .0) (c .enum-told .given .1)) ∙ c .before .before .before .before .before .loop .inv .2, tt)

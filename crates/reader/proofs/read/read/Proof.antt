@@ -12,7 +12,7 @@ use Rattle.reader.proofs.read.read_at.Reads as read-at-reads
 
 returns : tie.Need-returns
 returns c = (
-  (λ l z. ap (λ (r : Read). restAt (c .before .before .before .before .before .args .bytes .now) r) (c .read-at .ensures .0) ∙ read-same _ _ _ _ _ l z (λ i. omega (arith, c .before .shared-slice-known4 .given i)) _ _ _ (c .before .before .before .before .before .pre .1)),
+  (λ l z. ap (λ (r : Read). restAt (c .before .before .before .before .before .args .bytes .now) r) (c .read-at .ensures .0) ∙ read-same _ _ _ _ _ l z (λ i. omega (arith, c .before .shared-slice-known4 .given i)) _ _ _ (c .before .before .before .before .before .pre .kind)),
   c .read-at .ensures .1,
 )
 

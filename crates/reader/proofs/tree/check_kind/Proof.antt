@@ -1,7 +1,7 @@
 use mathlib.Core.Path.{refl}
 use native.Mathlib.Omega.{arith}
 use borrow.Author.Tests.{not-true, not-false}
-use Rattle.reader.proofs.Check.{zeros, kind-out, kind-in, entries-whole}
+use Rattle.reader.proofs.Check.{zeros, kind-out, kind-in}
 use borrow.Author.Needs.{needs}
 use Rattle.reader.proofs.tree.check_kind.Statement.{statement}
 use Rattle.reader.proofs.tree.check_kind.Tie as tie
@@ -10,23 +10,23 @@ use Rattle.reader.proofs.tree.check_kind.Lts as lts
 use Rattle.fields.proofs.outcome.refuse.Reads as refuse-reads
 use Rattle.reader.proofs.index.build.Reads as build-reads
 use Rattle.reader.proofs.read.read.Reads as read-reads
-use Rattle.reader.proofs.tree.is_in.Reads as is-in-reads
+use Rattle.reader.proofs.kinds.is_in.Reads as is-in-reads
 use Rattle.reader.proofs.tree.whole_tree.Reads as whole-tree-reads
 
 is-in-requires : tie.Need-is-in-requires
-is-in-requires c κs = entries-whole _ (c .before .before .pre .2)
+is-in-requires c κs = c .before .before .pre .2
 
 returns : tie.Need-returns
-returns c = λ l e. kind-out _ _ _ l e (c .before .before .is-in .ensures) (not-true _ (c .before .if1 .taken)) (c .refuse .ensures)
+returns c = λ l e. kind-out _ _ l (c .before .before .is-in .ensures l e) (not-true _ (c .before .if1 .taken)) (c .refuse .ensures)
 
 build-requires : tie.Need-build-requires
 build-requires c κs = (c .before .before .before .before .before .pre .0, refl, zeros 8224)
 
 read-requires : tie.Need-read-requires
-read-requires c κs = (c .before .before .before .build .ensures _ (c .before .before .before .before .before .before .before .before .before .pre .2 .1) .sound, c .before .before .before .before .before .before .before .before .before .pre .1, omega arith)
+read-requires c κs = record { sound = c .before .before .before .build .ensures _ (c .before .before .before .before .before .before .before .before .before .pre .2 .1) .sound; kind = c .before .before .before .before .before .before .before .before .before .pre .1; inside = omega arith }
 
 returns-2 : tie.Need-returns-2
-returns-2 c = λ l e. kind-in _ _ _ l e (c .before .before .before .before .before .before .before .before .is-in .ensures) (c .before .read .result) (not-false _ (c .before .before .before .before .before .before .before .if1 .left)) (c .before .read .ensures .0 l (c .before .before .before .before .before .build .ensures l e)) (c .before .read .ensures .1) (c .whole-tree .ensures)
+returns-2 c = λ l e. kind-in _ _ l (c .before .before .before .before .before .before .before .before .is-in .ensures l e) (c .before .read .result) (not-false _ (c .before .before .before .before .before .before .before .if1 .left)) (c .before .read .ensures .0 l (c .before .before .before .before .before .build .ensures l e)) (c .before .read .ensures .1) (c .whole-tree .ensures)
 
 pub check-kind-spec : {M : Type 1} → statement M
 check-kind-spec =

@@ -1,4 +1,4 @@
-use Rattle.reader.proofs.Trees.{whole-end, whole-more, whole-deep, whole-broken}
+use Rattle.reader.proofs.Check.{whole-all, whole-more, whole-deep, whole-broken}
 use borrow.Author.Needs.{needs}
 use Rattle.reader.proofs.tree.whole_tree.Statement.{statement}
 use Rattle.reader.proofs.tree.whole_tree.Tie as tie
@@ -8,7 +8,7 @@ use Rattle.fields.proofs.outcome.accept.Reads as accept-reads
 use Rattle.fields.proofs.outcome.refuse.Reads as refuse-reads
 
 returns : tie.Need-returns
-returns c = whole-end _ (c .before .before .before .read .given .1) (c .before .if1 .taken) (c .accept .ensures)
+returns c = whole-all _ (c .before .before .before .read .given .1) (c .before .if1 .taken) (c .accept .ensures)
 
 returns-2 : tie.Need-returns-2
 returns-2 c = whole-more _ (c .before .before .before .read .given .1) (c .before .if1 .left) (c .refuse .ensures)

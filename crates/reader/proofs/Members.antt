@@ -1,39 +1,26 @@
--- A law for each return, and for each turn of a loop, of the functions of the check of a tree.
-use Prim.Native.Nat.{ℕ, zero, suc, _+_, _*_, _-_, _<_, _≤_}
+-- The kinds that are in a language: a law for each return and turn of the functions on them, and what is known of such a kind.
+use Prim.Native.Nat.{ℕ, _+_, _<_, _≤_}
 use mathlib.Core.Path.{_≡_, refl, sym, ap, _∙_}
-use mathlib.Core.Logic.{_⊎_, ⊎-elim, inl, inr}
-use mathlib.Core.List.{List, [], _∷_, map}
-use mathlib.Core.Bool.{Bool, true, false, cond, not, _&&_, _||_}
-use mathlib.Core.Option.{Option, none, some}
+use mathlib.Core.Logic.{⊎-elim}
+use mathlib.Core.List.{List, [], _∷_}
+use mathlib.Core.Bool.{Bool, true, false, _||_}
+use mathlib.Core.Option.{some}
 use native.Mathlib.Omega.{arith}
-use lib.ListN.{length, getD, drop, length-drop, drop-of-length-le}
+use lib.ListN.{length, getD}
 use lib.Seq.{slice}
-use lib.Dec.{ltb, leb, eqb}
-use borrow.Author.Tests.{eq-eqb, ne-eqb, eqb-true, eqb-false, ltb-true, ltb-false}
-use Rattle.fields.specs.Fields.{pairAt}
+use lib.Dec.{eqb}
+use borrow.Author.Tests.{eq-eqb, ne-eqb, eqb-true, ltb-true}
 use Rattle.fields.specs.Lists.{all, any}
-use Rattle.fields.specs.Outcome.{Result, value, refused, refuseIf, _>>=_, checked}
-use Rattle.fields.specs.declared.outcome.Outcome.{Outcome}
-use Rattle.fields.specs.declared.outcome.Outcome.the-variants.{Accepted, Refused}
-use Rattle.fields.specs.declared.outcome.Reason.{Reason}
-use Rattle.fields.specs.declared.outcome.Reason.the-variants as Why
 use Rattle.fields.specs.Inner.Places.{fieldEnd, placesFrom, places}
 use Rattle.fields.proofs.Truth.{by-test, false-true}
 use Rattle.fields.proofs.Lists.{all-true, any-map, any-stop, any-next, part-done, part-next}
 use Rattle.fields.proofs.Places.{pass-done, pass-next}
-use Rattle.language.specs.Language.{Entry, class, production, Language, mentions, isIn}
-use Rattle.language.specs.LanguageFile.{entriesOf, languageOf}
-use Rattle.language.specs.Operations.{checkLanguage}
-use Rattle.language.specs.Inner.Entries.{entryWhole, entryAt, IsClass, IsProduction, Holds}
+use Rattle.language.specs.Language.{Language, mentions, isIn}
+use Rattle.language.specs.LanguageFile.{isKind, entriesOf}
+use Rattle.language.specs.Inner.Entries.{entryWhole, entryAt, IsClass, IsProduction}
 use Rattle.language.proofs.Facts.{entry-facts, class-is, production-is}
 use Rattle.language.proofs.Holds.{holds-entries}
-use Rattle.reader.specs.Code as C
-use Rattle.reader.specs.Syntax as Meant
-use Rattle.reader.specs.Operations.{wholeTree, treeOf, checkTree}
-use Rattle.reader.specs.declared.node.Read.{Read}
-use Rattle.reader.specs.declared.node.Read.the-variants.{End, Deep, Broken}
-use Rattle.reader.specs.Inner.Positions.{EndsBy, restAt, restOf, mentionsAt, wholeAt}
-use Rattle.reader.proofs.Meaning.{done-of, deep-of, broken-of}
+use Rattle.reader.specs.Inner.Positions.{mentionsAt}
 
 -- kind_among
 module _ (s : List ℕ) (q e k : ℕ) (x : Bool) (inv : any (λ a. eqb a k) (slice q e s) ≡ x) where
@@ -91,16 +78,50 @@ module _ (s : List ℕ) (k p : ℕ) (x : Bool) (inv : any (mentionsAt s k) (plac
       in-next h =
           (any-next (mentionsAt s k) p _ (pass-next (any (mentionsAt s k)) s p x inv e here ee) (sym er ∙ h), entries .1)
 
--- whole_tree
-module _ (n : ℕ) {f : Read} {o : Outcome} where
-  pub whole-end : {e : ℕ} → f ≡ End e → e ≡ n → o ≡ Accepted 0 → o ≡ wholeAt f n
-  whole-end {e} y h i = cc (eq-eqb e n h)
+-- What is_in tells.
+pub in-is : (s : List ℕ) (k : ℕ) (l : Language) → entriesOf s ≡ some l → any (mentionsAt s k) (places s) ≡ isIn l k
+unfolding isIn mentionsAt
+in-is s k l e = sym (any-map (mentions k) (entryAt s) (places s)) ∙ ap (any (mentions k)) (holds-entries s l e .entries)
 
-  pub whole-more : {e : ℕ} → f ≡ End e → (e ≡ n → ⊥) → o ≡ Refused Why.Tree → o ≡ wholeAt f n
-  whole-more {e} y h i = cc (ne-eqb e n h)
+-- The entries of a file of entries are whole.
+pub entries-whole : (s : List ℕ) → (l : Language) × (entriesOf s ≡ some l) → all (entryWhole s) (places s) ≡ true
+entries-whole s h = holds-entries s (h .0) (h .1) .whole
 
-  pub whole-deep : f ≡ Deep → o ≡ Refused Why.Levels → o ≡ wholeAt f n
-  whole-deep y i = cc
+-- A kind that is in a language is below 32.
+among-kinds : (k : ℕ) (l : List ℕ) → all isKind l ≡ true → any (λ a. eqb a k) l ≡ true → k < 32
+unfolding any
+among-kinds k [] h i = false-true i
+among-kinds k (a ∷ l) h i =
+    let w = all-true isKind a l h in
+    by-test (eqb a k)
+    (λ e. let j : a ≡ k = eqb-true _ _ e in let m : a < 32 = ltb-true _ _ (w .0) in omega arith)
+    (λ e. among-kinds k l (w .1) (any-next (λ a. eqb a k) a l i e))
 
-  pub whole-broken : f ≡ Broken → o ≡ Refused Why.Tree → o ≡ wholeAt f n
-  whole-broken y i = cc
+module _ (s : List ℕ) (k p : ℕ) where
+  class-kind : IsClass s p → mentionsAt s k p ≡ true → k < 32
+  unfolding mentionsAt mentions
+  class-kind w h =
+      let i : eqb (getD s (p + 3) 0) k ≡ true = sym (ap (mentions k) (class-is s p w)) ∙ h in
+      let j : getD s (p + 3) 0 ≡ k = eqb-true _ _ i in
+      let m = w .kind in
+      omega arith
+
+  production-kind : IsProduction s p → mentionsAt s k p ≡ true → k < 32
+  unfolding mentionsAt mentions
+  production-kind w h =
+      let i : eqb (getD s (p + 3) 0) k || any (λ a. eqb a k) (slice (p + 5) (fieldEnd s p) s) ≡ true = sym (ap (mentions k) (production-is s p w)) ∙ h in
+      by-test (eqb (getD s (p + 3) 0) k)
+      (λ d. let j : getD s (p + 3) 0 ≡ k = eqb-true _ _ d in let m = w .kind in omega arith)
+      (λ d. among-kinds k (slice (p + 5) (fieldEnd s p) s) (w .arguments) (rw d at i))
+
+mentioned : (s : List ℕ) (k : ℕ) (l : List ℕ) → all (entryWhole s) l ≡ true → any (mentionsAt s k) l ≡ true → k < 32
+unfolding any
+mentioned s k [] h i = false-true i
+mentioned s k (p ∷ l) h i =
+    let w = all-true (entryWhole s) p l h in
+    by-test (mentionsAt s k p)
+    (λ e. ⊎-elim (λ c. class-kind s k p c e) (λ c. production-kind s k p c e) (entry-facts s p (w .0)))
+    (λ e. mentioned s k l (w .1) (any-next (mentionsAt s k) p l i e))
+
+pub in-below : (s : List ℕ) (k : ℕ) (l : Language) → entriesOf s ≡ some l → isIn l k ≡ true → k < 32
+in-below s k l e h = mentioned s k (places s) (entries-whole s (l, e)) (in-is s k l e ∙ h)

@@ -1,10 +1,10 @@
-use Rattle.reader.proofs.Trees.{mentions-first, mentions-class, mentions-production}
+use Rattle.reader.proofs.Members.{mentions-first, mentions-class, mentions-production}
 use borrow.Author.Needs.{needs}
-use Rattle.reader.proofs.tree.mentions_kind.Statement.{statement}
-use Rattle.reader.proofs.tree.mentions_kind.Tie as tie
-use Rattle.reader.proofs.tree.mentions_kind.Reads as reads
-use Rattle.reader.proofs.tree.mentions_kind.Lts as lts
-use Rattle.reader.proofs.tree.kind_among.Reads as kind-among-reads
+use Rattle.reader.proofs.kinds.mentions_kind.Statement.{statement}
+use Rattle.reader.proofs.kinds.mentions_kind.Tie as tie
+use Rattle.reader.proofs.kinds.mentions_kind.Reads as reads
+use Rattle.reader.proofs.kinds.mentions_kind.Lts as lts
+use Rattle.reader.proofs.kinds.kind_among.Reads as kind-among-reads
 
 returns : tie.Need-returns
 returns c = mentions-first _ _ _ (c .if1 .taken)

@@ -4,11 +4,11 @@ use mathlib.Core.Path.{_≡_, refl}
 use lib.Seq.{slice}
 use lib.Dec.{eqb}
 use Rattle.fields.specs.Lists.{any}
-use Rattle.reader.proofs.Trees.{among-done, among-stop, among-next}
-use Rattle.reader.proofs.tree.kind_among.Statement.{statement}
-use Rattle.reader.proofs.tree.kind_among.Tie as tie
-use Rattle.reader.proofs.tree.kind_among.Reads as reads
-use Rattle.reader.proofs.tree.kind_among.Lts as lts
+use Rattle.reader.proofs.Members.{among-done, among-stop, among-next}
+use Rattle.reader.proofs.kinds.kind_among.Statement.{statement}
+use Rattle.reader.proofs.kinds.kind_among.Tie as tie
+use Rattle.reader.proofs.kinds.kind_among.Reads as reads
+use Rattle.reader.proofs.kinds.kind_among.Lts as lts
 
 abbrev Inv-loop : tie.InvT-loop
 Inv-loop s p e kind q₀ q = any (λ a. eqb a kind) (slice q e s) ≡ any (λ a. eqb a kind) (slice p e s)
