@@ -5,8 +5,8 @@ use super::languages::{encoded, full_language, language};
 use super::random::Random;
 use super::terms::{deepened, Names, TermWriter};
 use super::translations::{
-    chain_code, counting_language, cut_mapping, endomorphism, full_translation, translation_file,
-    wrong_body,
+    chain_code, counting_language, counting_translation, cut_mapping, endomorphism,
+    full_translation, translation_file, wrong_body,
 };
 use crate::body::{Body, Clause};
 use crate::field::{put_header, Fields};
@@ -130,6 +130,35 @@ fn random_pack(random: &mut Random) -> Vec<u8> {
         damage_bytes(random, &mut term);
     }
     constants.pack(&term)
+}
+
+/// A pack whose term uses a variable behind the let that binds it, or under another let.
+fn scoped_pack(random: &mut Random) -> Vec<u8> {
+    let constants = fitting_constants(random);
+    let mut constant = || [0x40, random.below(constants.languages.len()) as u8];
+    let (one, other) = (constant(), constant());
+    let variable = random.pick(&[0, 1, 14, 15]);
+    let used = if random.percent(70) { variable } else { random.pick(&[0, 15, 16]) };
+    let operands = match random.below(4) {
+        0 => {
+            [&[0x53, 0x56, variable], &one[..], &[0x55, 0x41, variable, 0x55, 0x41, used]].concat()
+        }
+        1 => [&[0x55, 0x43, 0x46, variable], &one[..], &[0x41, variable, 0x41, used]].concat(),
+        2 => {
+            let value = [&[0x55], &one[..]].concat();
+            [&[0x53, 0x57, variable], &value[..], &[0x51, variable, 0x51, used]].concat()
+        }
+        _ => {
+            let value = [&[0x55], &one[..]].concat();
+            let bound = [&[0x47, variable], &value[..], &[0x44, 0x51, variable]].concat();
+            [&[0x55, 0x43], &bound[..], &[0x45, 0x51, used]].concat()
+        }
+    };
+    constants.pack(&match random.below(3) {
+        0 => [&[0x56, used][..], &other, &operands].concat(),
+        1 => [&[0x57, used, 0x55][..], &other, &operands].concat(),
+        _ => operands,
+    })
 }
 
 /// A pack whose term has exactly 12 or 13 levels.
@@ -284,16 +313,6 @@ fn full_translation_pack(random: &mut Random) -> Vec<u8> {
     constants.pack(&[&[0x53][..], &left, &right].concat())
 }
 
-/// A translation of the counting language into itself with these codes.
-fn counting_translation(codes: [&[u8]; 3]) -> Translation {
-    let (source, target) = (counting_language(), counting_language());
-    let clauses = source.productions.iter().zip(codes);
-    let clauses =
-        clauses.map(|(production, code)| Clause { key: production.key(), code }).collect();
-    let mapping = cut_mapping(&source, |_| 1);
-    Translation { source, target, body: Body { mapping, clauses } }
-}
-
 /// A join whose code has about 16 levels: a chain through a clause that adds levels.
 fn deep_join(random: &mut Random) -> Vec<u8> {
     let mut constants = Constants::default();
@@ -436,6 +455,7 @@ fn pack_file(random: &mut Random) -> Vec<u8> {
         22 => conflicting_sum(random),
         23 => overfull_body(random),
         24 => sum_with_change(random),
+        25 => scoped_pack(random),
         _ => random_pack(random),
     }
 }

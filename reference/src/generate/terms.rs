@@ -35,8 +35,11 @@ impl<'a> TermWriter<'a> {
         }
     }
 
-    /// A variable to bind, often the first or the last.
+    /// A variable to bind, often the first or the last, seldom one past it.
     fn fresh(random: &mut Random) -> u8 {
+        if random.percent(1) {
+            return random.pick(&[16, 255]);
+        }
         random.pick(&[0, 1, 15, 2, 7])
     }
 

@@ -167,6 +167,16 @@ pub fn counting_language() -> Language {
     Language { classes: vec![], productions: productions.collect() }
 }
 
+/// A translation of the counting language into itself with these codes.
+pub fn counting_translation(codes: [&[u8]; 3]) -> Translation {
+    let (source, target) = (counting_language(), counting_language());
+    let clauses = source.productions.iter().zip(codes);
+    let clauses =
+        clauses.map(|(production, code)| Clause { key: production.key(), code }).collect();
+    let mapping = cut_mapping(&source, |_| 1);
+    Translation { source, target, body: Body { mapping, clauses } }
+}
+
 /// Appends a code over the counting language with so many nodes and few levels.
 pub fn put_counting_code(nodes: usize, code: &mut Vec<u8>) {
     match nodes {
@@ -370,8 +380,34 @@ fn output_length(random: &mut Random, translation: &[u8], root: u32, tree: &[u8]
     }
 }
 
+/// Code over the counting language that uses the first argument twice at each of some levels.
+fn doubling_code(levels: usize) -> Vec<u8> {
+    if levels == 0 {
+        return vec![3, 1];
+    }
+    let below = doubling_code(levels - 1);
+    [&[1, 2], &below[..], &below].concat()
+}
+
+/// A run whose result, or a part that is dropped, may be longer than any count.
+fn endless_run_case(random: &mut Random) -> RunCase {
+    let code = doubling_code(random.within(1..=4));
+    let both: &[u8] = random.pick(&[&[3, 1], &[3, 2], &[1, 2, 3, 1, 3, 2], &[1, 1, 3, 2]]);
+    let translation = counting_translation([&[1, 0], &code, both]).encode();
+    let links = random.within(1..=62);
+    let mut tree = [vec![2], vec![1; links], vec![0, 0]].concat();
+    if random.percent(50) {
+        tree = [vec![2, 0], vec![1; links], vec![0]].concat();
+    }
+    let output = output_length(random, &translation, 1, &tree);
+    RunCase { translation, root: 1, tree, output }
+}
+
 /// A translation, a root, a tree and an output length.
 pub fn run_case(random: &mut Random) -> RunCase {
+    if random.percent(5) {
+        return endless_run_case(random);
+    }
     if random.percent(12) {
         let bytes = translation_file(random);
         let tree = (0..random.below(6)).map(|_| random.byte()).collect();
