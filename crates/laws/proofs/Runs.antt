@@ -110,7 +110,7 @@ module _ (f g j : Translation) (F G J : List ℕ) (pf : Operand f F) (pg : Opera
   same-runs : (root : ℕ) (bytes middle : List ℕ) (room space : ℕ) → runBytes G root bytes room ≡ value middle
       → (runBytes F (mapped (g .body) root) middle space ≡ refused Levels → ⊥)
       → (runBytes J root bytes space ≡ runBytes F (mapped (g .body) root) middle space)
-        × ((result : List ℕ) → runBytes J root bytes space ≡ value result → Legal (j .target) (mapped (j .body) root) result)
+      × ((result : List ℕ) → runBytes J root bytes space ≡ value result → Legal (j .target) (mapped (j .body) root) result)
   same-runs root bytes middle room space e shallow =
       let a = step-value (treeOf (g .source) root bytes) (λ t. fitted room (write tree (transform g t))) (sym (operand-runs g G pg root bytes room) ∙ e) in
       let t = a .0 in
@@ -120,23 +120,25 @@ module _ (f g j : Translation) (F G J : List ℕ) (pf : Operand f F) (pg : Opera
       let v = typed-on (transform g t) (mapped (g .body) root) u in
       let join-run : runBytes J root bytes space ≡ fitted space (write tree (transform f (transform g t)))
       = operand-runs j J pj root bytes space
-        ∙ (ap (λ (l : Language). treeOf l root bytes >>= λ x. fitted space (write tree (transform j x))) source
-        ∙ (ap (λ (o : Result Code). o >>= λ x. fitted space (write tree (transform j x))) (a .1)
-        ∙ ap (λ (x : Code). fitted space (write tree x)) (runs t root (h .0)))) in
+      ∙ (ap (λ (l : Language). treeOf l root bytes >>= λ x. fitted space (write tree (transform j x))) source
+      ∙ (ap (λ (o : Result Code). o >>= λ x. fitted space (write tree (transform j x))) (a .1)
+      ∙ ap (λ (x : Code). fitted space (write tree x)) (runs t root (h .0)))) in
       let second-run : (o : Result Code) → treeOf (f .source) (mapped (g .body) root) (write tree (transform g t)) ≡ o
-          → runBytes F (mapped (g .body) root) middle space ≡ (o >>= λ x. fitted space (write tree (transform f x)))
+      → runBytes F (mapped (g .body) root) middle space ≡ (o >>= λ x. fitted space (write tree (transform f x)))
       = λ o q.
-        operand-runs f F pf (mapped (g .body) root) middle space
-        ∙ (ap (λ (b : List ℕ). treeOf (f .source) (mapped (g .body) root) b >>= λ x. fitted space (write tree (transform f x))) (sym m)
-        ∙ ap (λ (z : Result Code). z >>= λ x. fitted space (write tree (transform f x))) q) in
+      operand-runs f F pf (mapped (g .body) root) middle space
+      ∙ (ap (λ (b : List ℕ). treeOf (f .source) (mapped (g .body) root) b >>= λ x. fitted space (write tree (transform f x))) (sym m)
+      ∙ ap (λ (z : Result Code). z >>= λ x. fitted space (write tree (transform f x))) q) in
       let equal : runBytes J root bytes space ≡ runBytes F (mapped (g .body) root) middle space
       = ⊎-elim
-        (λ q. absurd (shallow (second-run (refused Levels) q)))
-        (λ q. join-run ∙ sym (second-run (value (transform g t)) q))
-        (written-tree (f .source) (mapped (g .body) root) (transform g t) (proper-apart (f .source) (pf .good .sound .source)) (lies root (h .1)) v) in
-      (equal, λ result q.
-      let w = transform-typed f (pf .good .sound) (transform g t) (mapped (g .body) root) v in
-      (transform f (transform g t), rw (target, mapped-on root (h .1)) w, fitted-value space (write tree (transform f (transform g t))) result (sym join-run ∙ q)))
+      (λ q. absurd (shallow (second-run (refused Levels) q)))
+      (λ q. join-run ∙ sym (second-run (value (transform g t)) q))
+      (written-tree (f .source) (mapped (g .body) root) (transform g t) (proper-apart (f .source) (pf .good .sound .source)) (lies root (h .1)) v) in (
+        equal,
+        λ result q.
+            let w = transform-typed f (pf .good .sound) (transform g t) (mapped (g .body) root) v in
+            (transform f (transform g t), rw (target, mapped-on root (h .1)) w, fitted-value space (write tree (transform f (transform g t))) result (sym join-run ∙ q)),
+      )
 
 -- A refused operation put out nothing, an accepted one its value, whatever the buffer.
 put-same : (r : Result (List ℕ)) (b c : List ℕ) → putOut (written r) (outputAfter b r) ≡ putOut (written r) (outputAfter c r)

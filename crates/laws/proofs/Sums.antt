@@ -73,10 +73,11 @@ module _ (c : Constants) (good : GoodConstants c) where
       let q = lies-built b v g (λ t m. h t (mem-append t (builtFrom a) (builtFrom b) (inr m))) in
       let f = lie-fit (p .0) (q .0) v (g .sound) (p .2) (q .2) in
       let l = sum-lies (p .0) (q .0) v (p .2) (q .2) in
-      let s = sound-union (p .0) (q .0) (value-good (asTerm a) (p .0) (p .1) .sound) (value-good (asTerm b) (q .0) (q .1) .sound) f in
-      (translationUnion (p .0) (q .0),
-      value-sum (asTerm a) (asTerm b) (p .0) (q .0) (p .1) (q .1) (translations-fit (p .0) (q .0) f) (lies-within (translationUnion (p .0) (q .0)) v s g l),
-      l)
+      let s = sound-union (p .0) (q .0) (value-good (asTerm a) (p .0) (p .1) .sound) (value-good (asTerm b) (q .0) (q .1) .sound) f in (
+        translationUnion (p .0) (q .0),
+        value-sum (asTerm a) (asTerm b) (p .0) (q .0) (p .1) (q .1) (translations-fit (p .0) (q .0) f) (lies-within (translationUnion (p .0) (q .0)) v s g l),
+        l,
+      )
 
   -- Two sums of the same terms have the same value.
   same-value : (a b : Sum) → ((t : Term translations) → In t (builtFrom b) → In t (builtFrom a)) → ((t : Term translations) → In t (builtFrom a) → In t (builtFrom b))

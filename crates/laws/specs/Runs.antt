@@ -61,5 +61,5 @@ LawOfRuns =
     → putOut (runTree first root bytes a .outcome) (runTree first root bytes a .output) ≡ middle
     → (runTree second (mapsTo (translationOf first) root) middle b .outcome ≡ Refused Levels → ⊥)
     → Agrees
-      (runTree joined root bytes c) (runTree second (mapsTo (translationOf first) root) middle b)
-      (targetIn (translationOf joined)) (mapsTo (translationOf joined) root)
+    (runTree joined root bytes c) (runTree second (mapsTo (translationOf first) root) middle b)
+    (targetIn (translationOf joined)) (mapsTo (translationOf joined) root)

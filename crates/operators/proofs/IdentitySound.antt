@@ -112,7 +112,7 @@ module _ (l : Language) (s : Proper l) where
   -- A member is the mapping of a kind in the language, or the clause of a production.
   cases : (a : Item) → Mem a (identityOf l .body)
       → ((k : ℕ) × (isIn l k ≡ true) × (k < 32) × (a ≡ mapping k k))
-        ⊎ ((r : ℕ) × (p : ℕ) × (ks : List ℕ) × Mem (production r p ks) l × (a ≡ clause r p (write code (node r p (argumentsFrom 1 ks)))))
+      ⊎ ((r : ℕ) × (p : ℕ) × (ks : List ℕ) × Mem (production r p ks) l × (a ≡ clause r p (write code (node r p (argumentsFrom 1 ks)))))
   unfolding identityOf kinds
   cases a m =
       ⊎-elim

@@ -103,10 +103,12 @@ module _ (f u : Translation) (w : Fitting f) (h : Part f u) where
   pub part-code : (r p : ℕ) (ks : List ℕ) (c : List ℕ) → Mem (production r p ks) (f .source) → Mem (production r p ks) (u .source)
       → Mem (clause r p c) (f .body) → (a : Code) × (readClause u r p c ≡ done a [])
   part-code r p ks c m n q =
-      let x = w .codes r p c q in
-      (x .0, clause-alike f u part-larger r p ks (mem-arguments (f .source) (h .source-rises) r p ks m) (mem-arguments (u .source) (h .whole-rises) r p ks n)
-        (part-mapped r (result-in (f .source) r p ks m) (result-in (u .source) r p ks n))
-        (λ j z. part-mapped j (argument-in (f .source) r p ks m j z) (argument-in (u .source) r p ks n j z)) c (x .0) (x .1))
+      let x = w .codes r p c q in (
+        x .0,
+        clause-alike f u part-larger r p ks (mem-arguments (f .source) (h .source-rises) r p ks m) (mem-arguments (u .source) (h .whole-rises) r p ks n)
+            (part-mapped r (result-in (f .source) r p ks m) (result-in (u .source) r p ks n))
+            (λ j z. part-mapped j (argument-in (f .source) r p ks m j z) (argument-in (u .source) r p ks n j z)) c (x .0) (x .1),
+      )
 
 -- Translations that fit: languages fit, and items agree by key (C.12).
 pub record TranslationsFit (f g : Translation) : Type 0 where
@@ -173,12 +175,22 @@ sound-union f g s t h =
       fits =
           union-fits f g (translationUnion f g) (s .fits) (t .fits)
           (record {
-            source-rises = s .source .rises; whole-rises = ps .rises; body-rises = s .rises; whole-body-rises = rises;
-            target = target .left; target-rises = pt .rises; mappings = λ k x e m. body .left _ m;
+            source-rises = s .source .rises;
+            whole-rises = ps .rises;
+            body-rises = s .rises;
+            whole-body-rises = rises;
+            target = target .left;
+            target-rises = pt .rises;
+            mappings = λ k x e m. body .left _ m;
           })
           (record {
-            source-rises = t .source .rises; whole-rises = ps .rises; body-rises = t .rises; whole-body-rises = rises;
-            target = target .right; target-rises = pt .rises; mappings = λ k x e m. body .right _ m;
+            source-rises = t .source .rises;
+            whole-rises = ps .rises;
+            body-rises = t .rises;
+            whole-body-rises = rises;
+            target = target .right;
+            target-rises = pt .rises;
+            mappings = λ k x e m. body .right _ m;
           })
           source target body (λ k e. in-union (f .source) (g .source) k e);
     }

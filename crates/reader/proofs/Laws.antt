@@ -184,6 +184,17 @@ leaf-in s b d r y h = rw y at h
 pub operands-in : (s b : List ℕ) (d : Node) (q e to : ℕ) → d ≡ Operands q e to → NodeIn s b d → (to ≤ length b) × KindsIn s q e
 operands-in s b d q e to y h = rw y at h
 
+-- One operand, a leaf or read with its own operands: what was read, within the bytes.
+module _ (x : Syntax) (s index arguments b : List ℕ) (n k at : ℕ) {d : Node} (pos : n ≡ 0 → ⊥)
+    (ed : d ≡ nodeAt x s index arguments k b at) (known : NodeIn s b d) where
+  pub one-leaf : {r one : Read} → d ≡ Leaf r → one ≡ r → (one ≡ readAt x s index arguments b n k at) × EndsBy (length b) one
+  one-leaf {r} y z = (z ∙ read-leaf x s index arguments b n k at pos ed y, rw z (leaf-in s b d r y known))
+
+  pub one-operands : {q e to : ℕ} {r one : Read} → d ≡ Operands q e to
+      → r ≡ operandsFrom (readAt x s index arguments b (n - 1)) s (e - q) q to → EndsBy (length b) r → one ≡ r
+      → (one ≡ readAt x s index arguments b n k at) × EndsBy (length b) one
+  one-operands y z h w = (w ∙ (z ∙ read-operands x s index arguments b n k at pos ed y), rw w h)
+
 -- A place that was looked up is that of a whole field.
 module _ (index s : List ℕ) (z : Sound index s) {j k : ℕ} (ej : j ≡ k) (kind : k < 32) where
   in-kinds : j < 32

@@ -64,6 +64,7 @@ sign-append x b s r = append-assoc (sign x b) s r
 module _ (l : Language) (apart : Apart l) where
   mutual
     unfolding read write levels readAll
+
     -- Reading what was written gives the same code.
     pub round : {x : Syntax} {arguments : List ℕ} {a : Code} {k : ℕ} → Typed l arguments a k → Written x arguments → (n : ℕ) (r : List ℕ) → levels a ≤ n
         → read x l arguments n k (write x a ++ r) ≡ done a r

@@ -2,16 +2,73 @@
 use crate::node::Node;
 use crate::node::Read;
 use crate::node::Syntax;
+use crate::node::node_at;
 ghost use mathlib.Core.Path.{_≡_};
-ghost use Prim.Native.Nat.{ℕ, _+_, _<_, _≤_};
+ghost use Prim.Native.Nat.{ℕ, _+_, _-_, _<_, _≤_};
 ghost use mathlib.Core.List.{List};
 ghost use lib.ListN.{length, getD, drop};
 ghost use Rattle.language.specs.Language.{Language};
 ghost use Rattle.reader.specs.Syntax.{read as readCode};
-ghost use Rattle.reader.specs.Inner.Positions.{readAt, EndsBy, restAt, restOf, syntaxOf};
-ghost use Rattle.reader.specs.Inner.Index.{Ready, Indexed};
+ghost use Rattle.reader.specs.Inner.Positions.{operandsFrom, readAt, KindsIn, EndsBy, restAt, restOf, syntaxOf};
+ghost use Rattle.reader.specs.Inner.Index.{Sound, Ready, Indexed};
 
-// A code of the kind at a position, with so many levels left: it calls itself on the operands, one level fewer.
+// The operands of a node, whose kinds stand in the language from `from` up to `stop`, one after the other. It calls
+// itself on the operands of an operand, one level fewer.
+fn operands(
+    syntax: Syntax,
+    language: &[u8],
+    index: &[u16],
+    arguments: &[u8],
+    from: usize,
+    stop: usize,
+    bytes: &[u8],
+    at: usize,
+    levels: usize,
+) -> Read
+    requires { ⌜ Sound (now index) (now language) × KindsIn (now language) from stop × (at ≤ length (now bytes)) ⌝ }
+    ensures { λ r. ⌜ (r ≡ operandsFrom (readAt syntax (now (language .entry)) (now (index .entry)) (now (arguments .entry)) (now (bytes .entry)) levels) (now (language .entry)) (stop - from) from at) × EndsBy (length (now (bytes .entry))) r ⌝ }
+{
+    if stop <= from {
+        return Read::End(at);
+    }
+    if levels == 0 {
+        return Read::Deep;
+    }
+    let mut q = from;
+    let mut to = at;
+    while q < stop {
+        let kind = language[q];
+        let one = match node_at(syntax, language, index, arguments, kind, bytes, to) {
+            Node::Leaf(r) => r,
+            Node::Operands(a, b, start) => operands(
+                syntax,
+                language,
+                index,
+                arguments,
+                a,
+                b,
+                bytes,
+                start,
+                levels - 1,
+            ),
+        };
+        match one {
+            Read::End(e) => {
+                to = e;
+            }
+            Read::Deep => {
+                return Read::Deep;
+            }
+            Read::Broken => {
+                return Read::Broken;
+            }
+        }
+        q += 1;
+    }
+    Read::End(to)
+}
+
+// A code of the kind at a position, with so many levels left.
 fn read_at(
     syntax: Syntax,
     language: &[u8],
@@ -28,36 +85,19 @@ fn read_at(
     if levels == 0 {
         return Read::Deep;
     }
-    match crate::node::node_at(syntax, language, index, arguments, kind, bytes, at) {
+    match node_at(syntax, language, index, arguments, kind, bytes, at) {
         Node::Leaf(r) => r,
-        Node::Operands(from, stop, start) => {
-            let mut q = from;
-            let mut to = start;
-            while q < stop {
-                match read_at(
-                    syntax,
-                    language,
-                    index,
-                    arguments,
-                    language[q],
-                    bytes,
-                    to,
-                    levels - 1,
-                ) {
-                    Read::End(e) => {
-                        to = e;
-                    }
-                    Read::Deep => {
-                        return Read::Deep;
-                    }
-                    Read::Broken => {
-                        return Read::Broken;
-                    }
-                }
-                q += 1;
-            }
-            Read::End(to)
-        }
+        Node::Operands(q, stop, to) => operands(
+            syntax,
+            language,
+            index,
+            arguments,
+            q,
+            stop,
+            bytes,
+            to,
+            levels - 1,
+        ),
     }
 }
 

@@ -26,7 +26,6 @@ use Rattle.operators.specs.Algebra.{languagesFit, languageUnion, languageSum, l
 use Rattle.operators.specs.Limits.{codeIsDeep, languageExceeds, translationExceeds}
 use Rattle.reducer.specs.Terms.{Sort, languages, translations, Term, constant, sourceOf, targetOf, make, join, identity, variable, without, sum, bind}
 use Rattle.reducer.specs.Evaluation.{Constants, Value, Environment, nothingBound, bound, there, exceeds, limited, sumOf, withoutOf, evaluate}
-
 use Rattle.operators.proofs.Proper.{Proper, good-proper, proper-good, Sound, formed-sound, GoodTranslation}
 use Rattle.operators.proofs.SumSound.{fit-languages, fit-translations, proper-union, proper-without, sound-union, sound-without}
 use Rattle.operators.proofs.JoinSound.{sound-join}

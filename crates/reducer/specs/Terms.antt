@@ -73,28 +73,76 @@ number (n ∷ s) = some (n, s)
 -- What follows a sign of a language term: the left column of the table.
 unfoldable pub languageSign : ((s : Sort) → List ℕ → Parse (Term s)) → ℕ → List ℕ → Parse (Term languages)
 languageSign reads b s =
-    elim (eqb b 0x40) [ true ↦ then (number s) λ c r. some (constant c, r) | false ↦
-    elim (eqb b 0x41) [ true ↦ then (number s) λ v r. some (variable v, r) | false ↦
-    elim (eqb b 0x42) [ true ↦ then (reads languages s) λ x r. then (reads languages r) λ y u. some (without x y, u) | false ↦
-    elim (eqb b 0x43) [ true ↦ then (reads languages s) λ x r. then (reads languages r) λ y u. some (sum x y, u) | false ↦
-    elim (eqb b 0x44) [ true ↦ then (reads translations s) λ x r. some (sourceOf x, r) | false ↦
-    elim (eqb b 0x45) [ true ↦ then (reads translations s) λ x r. some (targetOf x, r) | false ↦
-    elim (eqb b 0x46) [ true ↦ then (number s) λ v q. then (reads languages q) λ x r. then (reads languages r) λ y u. some (bind languages v x y, u) | false ↦
-    elim (eqb b 0x47) [ true ↦ then (number s) λ v q. then (reads translations q) λ x r. then (reads languages r) λ y u. some (bind translations v x y, u) | false ↦
-    none ] ] ] ] ] ] ] ]
+    elim (eqb b 0x40) [
+      | true ↦ then (number s) λ c r. some (constant c, r)
+      | false ↦
+          elim (eqb b 0x41) [
+            | true ↦ then (number s) λ v r. some (variable v, r)
+            | false ↦
+                elim (eqb b 0x42) [
+                  | true ↦ then (reads languages s) λ x r. then (reads languages r) λ y u. some (without x y, u)
+                  | false ↦
+                      elim (eqb b 0x43) [
+                        | true ↦ then (reads languages s) λ x r. then (reads languages r) λ y u. some (sum x y, u)
+                        | false ↦
+                            elim (eqb b 0x44) [
+                              | true ↦ then (reads translations s) λ x r. some (sourceOf x, r)
+                              | false ↦
+                                  elim (eqb b 0x45) [
+                                    | true ↦ then (reads translations s) λ x r. some (targetOf x, r)
+                                    | false ↦
+                                        elim (eqb b 0x46) [
+                                          | true ↦ then (number s) λ v q. then (reads languages q) λ x r. then (reads languages r) λ y u. some (bind languages v x y, u)
+                                          | false ↦
+                                              elim (eqb b 0x47) [
+                                                | true ↦ then (number s) λ v q. then (reads translations q) λ x r. then (reads languages r) λ y u. some (bind translations v x y, u)
+                                                | false ↦
+                                                    none
+                                              ]
+                                        ]
+                                  ]
+                            ]
+                      ]
+                ]
+          ]
+    ]
 
 -- What follows a sign of a translation term: the right column.
 unfoldable pub translationSign : ((s : Sort) → List ℕ → Parse (Term s)) → ℕ → List ℕ → Parse (Term translations)
 translationSign reads b s =
-    elim (eqb b 0x50) [ true ↦ then (reads languages s) λ x q. then (reads languages q) λ y r. then (number r) λ c u. some (make x y c, u) | false ↦
-    elim (eqb b 0x51) [ true ↦ then (number s) λ v r. some (variable v, r) | false ↦
-    elim (eqb b 0x52) [ true ↦ then (reads translations s) λ x r. then (reads languages r) λ y u. some (without x y, u) | false ↦
-    elim (eqb b 0x53) [ true ↦ then (reads translations s) λ x r. then (reads translations r) λ y u. some (sum x y, u) | false ↦
-    elim (eqb b 0x54) [ true ↦ then (reads translations s) λ x r. then (reads translations r) λ y u. some (join x y, u) | false ↦
-    elim (eqb b 0x55) [ true ↦ then (reads languages s) λ x r. some (identity x, r) | false ↦
-    elim (eqb b 0x56) [ true ↦ then (number s) λ v q. then (reads languages q) λ x r. then (reads translations r) λ y u. some (bind languages v x y, u) | false ↦
-    elim (eqb b 0x57) [ true ↦ then (number s) λ v q. then (reads translations q) λ x r. then (reads translations r) λ y u. some (bind translations v x y, u) | false ↦
-    none ] ] ] ] ] ] ] ]
+    elim (eqb b 0x50) [
+      | true ↦ then (reads languages s) λ x q. then (reads languages q) λ y r. then (number r) λ c u. some (make x y c, u)
+      | false ↦
+          elim (eqb b 0x51) [
+            | true ↦ then (number s) λ v r. some (variable v, r)
+            | false ↦
+                elim (eqb b 0x52) [
+                  | true ↦ then (reads translations s) λ x r. then (reads languages r) λ y u. some (without x y, u)
+                  | false ↦
+                      elim (eqb b 0x53) [
+                        | true ↦ then (reads translations s) λ x r. then (reads translations r) λ y u. some (sum x y, u)
+                        | false ↦
+                            elim (eqb b 0x54) [
+                              | true ↦ then (reads translations s) λ x r. then (reads translations r) λ y u. some (join x y, u)
+                              | false ↦
+                                  elim (eqb b 0x55) [
+                                    | true ↦ then (reads languages s) λ x r. some (identity x, r)
+                                    | false ↦
+                                        elim (eqb b 0x56) [
+                                          | true ↦ then (number s) λ v q. then (reads languages q) λ x r. then (reads translations r) λ y u. some (bind languages v x y, u)
+                                          | false ↦
+                                              elim (eqb b 0x57) [
+                                                | true ↦ then (number s) λ v q. then (reads translations q) λ x r. then (reads translations r) λ y u. some (bind translations v x y, u)
+                                                | false ↦
+                                                    none
+                                              ]
+                                        ]
+                                  ]
+                            ]
+                      ]
+                ]
+          ]
+    ]
 
 unfoldable pub readSign : ((s : Sort) → List ℕ → Parse (Term s)) → (s : Sort) → List ℕ → Parse (Term s)
 readSign reads languages [] = none

@@ -103,9 +103,10 @@ module _ (f : Translation) (below : KindsBelow f) (rises : Rising itemKey (f .bo
         maps = λ k i.
             let r = some-is (mappingOf (f .body) k) (mapped-test (g .0) k (below .0 k i) ∙ i) in
             (r .0, mapping-mem (f .body) k (r .0) (r .1));
-        mapsOnly = λ s t m.
-            (sym (mapped-test (g .0) s (below .1 s t m)) ∙ is-some (mappingOf (f .body) s) (mem-mapping (f .body) rises s t m),
-            all-mem (reachesTarget f) (f .body) (g .1) (mapping s t) m);
+        mapsOnly = λ s t m. (
+          sym (mapped-test (g .0) s (below .1 s t m)) ∙ is-some (mappingOf (f .body) s) (mem-mapping (f .body) rises s t m),
+          all-mem (reachesTarget f) (f .body) (g .1) (mapping s t) m,
+        );
         classes = λ k a b m. is-range a b _ (all-mem (classKept f) (f .source) (g .2) (class k a b) m);
         clauses = λ r p ks m.
             let q = some-is (clauseOf (f .body) r p) (all-mem (hasClause f) (f .source) (h .0) (production r p ks) m) in

@@ -25,6 +25,7 @@ nth-typed (suc i) k (typed-cons h hs) e = nth-typed i k hs e
 -- C.10.
 mutual
   unfolding substitute operand
+
   pub typed-substitute : {l : Language} {r s : List ℕ} {u : Codes} {a : Code} {k : ℕ} → TypedAll l r u s → Typed l s a k → Typed l r (substitute u a) k
   typed-substitute g (typed-node e h) = typed-node e (typed-substituteAll g h)
   typed-substitute g (typed-token e h) = typed-token e h
@@ -44,6 +45,7 @@ get-map to (x ∷ r) (suc i) k e = get-map to r i k e
 module _ {l m : Language} {to : ℕ → ℕ} {f : Clauses} (w : Carries l m to f) where
   mutual
     unfolding run
+
     pub typed-run : {r : List ℕ} {a : Code} {k : ℕ} → Typed l r a k → Typed m (map to r) (run f a) (to k)
     typed-run (typed-node e h) = typed-substitute (typed-runAll h) (w .nodes _ _ _ e)
     typed-run (typed-token e h) = typed-token (w .tokens _ _ e) h
@@ -58,6 +60,7 @@ module _ {l m : Language} {to : ℕ → ℕ} {f : Clauses} (w : Carries l m to f
 module _ {l : Language} {f g : Clauses} (w : (k p : ℕ) (ks : List ℕ) → argumentsOf l k p ≡ some ks → f k p ≡ g k p) where
   mutual
     unfolding run
+
     pub run-alike : {r : List ℕ} {a : Code} {k : ℕ} → Typed l r a k → run f a ≡ run g a
     run-alike (typed-node {k = k} {p = p} {t = t} {ks = ks} e h) = λ i. substitute (run-alikeAll h i) (w k p ks e i)
     run-alike (typed-token e h) = refl

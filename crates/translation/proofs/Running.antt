@@ -19,6 +19,7 @@ nth-run f (cons a r) (suc i) = nth-run f r i
 -- One substitution after another.
 mutual
   unfolding substitute operand
+
   pub substitute-substitute : (s r : Codes) (a : Code) → substitute s (substitute r a) ≡ substitute (substituteAll s r) a
   substitute-substitute s r (node k p t) = ap (node k p) (substitute-substituteAll s r t)
   substitute-substitute s r (token v) = refl
@@ -32,6 +33,7 @@ mutual
 -- The substitution lemma: running after a substitution is substituting runs into the run.
 mutual
   unfolding substitute operand run
+
   pub run-substitute : (f : Clauses) (s : Codes) (a : Code) → run f (substitute s a) ≡ substitute (runAll f s) (run f a)
   run-substitute f s (node k p t) =
       ap (λ (u : Codes). substitute u (f k p)) (run-substituteAll f s t)
@@ -51,6 +53,7 @@ chained f g k p = run f (g k p)
 -- The run of the joined clauses is the two runs in turn.
 mutual
   unfolding run
+
   pub run-chained : (f g : Clauses) (a : Code) → run (chained f g) a ≡ run f (run g a)
   run-chained f g (node k p t) =
       ap (λ (u : Codes). substitute u (run f (g k p))) (run-chainedAll f g t)
