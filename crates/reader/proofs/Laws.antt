@@ -1,7 +1,7 @@
 -- The definitions by position, one turn at a time, in the terms of the code: a law for each return.
 use Prim.Native.Nat.{ℕ, zero, suc, _+_, _-_, _<_, _≤_}
 use mathlib.Core.Path.{_≡_, refl, sym, ap, _∙_}
-use mathlib.Core.List.{List}
+use mathlib.Core.List.{List, [], _∷_}
 use mathlib.Core.Bool.{Bool, true, false}
 use native.Mathlib.Omega.{arith}
 use lib.ListN.{length, getD}
@@ -16,7 +16,7 @@ use Rattle.reader.specs.declared.node.Read.the-variants.{End, Deep, Brok
 use Rattle.reader.specs.declared.node.Node.{Node}
 use Rattle.reader.specs.declared.node.Node.the-variants.{Leaf, Operands}
 use Rattle.reader.specs.Inner.Index.{Sound}
-use Rattle.reader.specs.Inner.Positions.{tokenAt, operandsAt, nameAt, argumentIs, argumentAt, treeNode, signNode, codeNode, nodeAt, operandsFrom, readAt, EndsBy, NodeIn, KindsIn}
+use Rattle.reader.specs.Inner.Positions.{tokenAt, operandsAt, nameAt, argumentIs, argumentAt, treeNode, classPlace, signNode, codeNode, nodeAt, operandsFrom, readAt, EndsBy, NodeIn, KindsIn}
 
 -- token
 module _ (s : List ℕ) (place : ℕ) (b : List ℕ) (at : ℕ) where
@@ -153,6 +153,21 @@ module _ (f : ℕ → ℕ → Read) (s : List ℕ) (e q at : ℕ) where
     unfolding operandsFrom
     operands-broken y = rw left (cc)
 
+-- A list of one kind.
+pub one-kind : (k x : ℕ) → x < 1 → k < 32 → (x < length (k ∷ [])) × (getD (k ∷ []) x 0 < 32)
+one-kind k zero h j = (omega arith, j)
+one-kind k (suc x) h j = absurd (omega arith)
+
+-- One operand alone.
+pub one-operand : (f : ℕ → ℕ → Read) (k at : ℕ) → operandsFrom f (k ∷ []) (1 - 0) 0 at ≡ f k at
+unfolding operandsFrom
+one-operand f k at = go (f k at)
+  where
+    go : (r : Read) → (elim r [ End e ↦ End e | Deep ↦ Deep | Broken ↦ Broken ]) ≡ r
+    go (End e) = refl
+    go Deep = refl
+    go Broken = refl
+
 -- read_at
 module _ (x : Syntax) (s index arguments b : List ℕ) (n k at : ℕ) where
   pub read-deep : n ≡ 0 → Deep ≡ readAt x s index arguments b n k at
@@ -174,6 +189,28 @@ module _ (x : Syntax) (s index arguments b : List ℕ) (n k at : ℕ) where
         (let z : operandsFrom (readAt x s index arguments b (n - 1)) s (e - q) q to ≡ readAt x s index arguments b (suc (n - 1)) k at = cc in z)
         ∙ ap (λ (m : ℕ). readAt x s index arguments b m k at) (sym one-less)
 
+-- class_place
+pub place-tree : {x : Syntax} {j r : ℕ} (index : List ℕ) (k : ℕ) → x ≡ Tree → j ≡ k → r ≡ getD index j 0 → r ≡ classPlace x index k
+unfolding classPlace
+place-tree index k h d e = cc
+
+pub place-code : {x : Syntax} (index : List ℕ) (k : ℕ) → x ≡ Code → 0 ≡ classPlace x index k
+unfolding classPlace
+place-code index k h = cc
+
+-- A token of a tree, read by the place of its class.
+in-tree : (x : Syntax) (index : List ℕ) (k : ℕ) → (classPlace x index k ≡ 0 → ⊥) → (x ≡ Tree) × (classPlace x index k ≡ getD index k 0)
+unfolding classPlace
+in-tree Tree index k h = (refl, refl)
+in-tree Code index k h = absurd (h refl)
+
+module _ (x : Syntax) (s index arguments b : List ℕ) (n k at : ℕ) where
+  pub read-token : {place : ℕ} {r : Read} → (n ≡ 0 → ⊥) → place ≡ classPlace x index k → (place ≡ 0 → ⊥) → r ≡ tokenAt s place b at
+      → r ≡ readAt x s index arguments b n k at
+  read-token {place} pos e h t =
+      let w = in-tree x index k (λ z. h (e ∙ z)) in
+      read-leaf x s index arguments b n k at pos (node-tree s index arguments k b at (w .0) (tree-token s index k b at refl (e ∙ w .1) h t)) refl
+
 -- What is known of a result, once its case is known.
 pub end-in : {n e : ℕ} (r : Read) → r ≡ End e → EndsBy n r → e ≤ n
 end-in {n} r y h = rw y at h
@@ -183,17 +220,6 @@ leaf-in s b d r y h = rw y at h
 
 pub operands-in : (s b : List ℕ) (d : Node) (q e to : ℕ) → d ≡ Operands q e to → NodeIn s b d → (to ≤ length b) × KindsIn s q e
 operands-in s b d q e to y h = rw y at h
-
--- One operand, a leaf or read with its own operands: what was read, within the bytes.
-module _ (x : Syntax) (s index arguments b : List ℕ) (n k at : ℕ) {d : Node} (pos : n ≡ 0 → ⊥)
-    (ed : d ≡ nodeAt x s index arguments k b at) (known : NodeIn s b d) where
-  pub one-leaf : {r one : Read} → d ≡ Leaf r → one ≡ r → (one ≡ readAt x s index arguments b n k at) × EndsBy (length b) one
-  one-leaf {r} y z = (z ∙ read-leaf x s index arguments b n k at pos ed y, rw z (leaf-in s b d r y known))
-
-  pub one-operands : {q e to : ℕ} {r one : Read} → d ≡ Operands q e to
-      → r ≡ operandsFrom (readAt x s index arguments b (n - 1)) s (e - q) q to → EndsBy (length b) r → one ≡ r
-      → (one ≡ readAt x s index arguments b n k at) × EndsBy (length b) one
-  one-operands y z h w = (w ∙ (z ∙ read-operands x s index arguments b n k at pos ed y), rw w h)
 
 -- A place that was looked up is that of a whole field.
 module _ (index s : List ℕ) (z : Sound index s) {j k : ℕ} (ej : j ≡ k) (kind : k < 32) where
@@ -212,3 +238,12 @@ module _ (index s : List ℕ) (z : Sound index s) {j k : ℕ} (ej : j ≡ k) (ki
 
     pub kinds-in : {n : ℕ} → n ≡ pairAt s place → KindsIn s (place + 4) (place + 2 + n)
     kinds-in en = rw (en, e) (z .operands j p in-kinds byte there)
+
+-- The class of a token of a tree stands in the language.
+pub class-at : (x : Syntax) (s index : List ℕ) {place k : ℕ} → Sound index s → k < 32 → place ≡ classPlace x index k → (place ≡ 0 → ⊥)
+    → place + 7 ≤ length s
+class-at x s index {place} {k} z kind e h =
+    let w = in-tree x index k (λ q. h (e ∙ q)) in
+    let d : place ≡ getD index k 0 = e ∙ w .1 in
+    let pos : 0 < place = omega arith in
+    class-in index s z refl kind d pos

@@ -36,7 +36,7 @@ fn pair_in(s: &[u8], i: usize) -> usize
 }
 
 // What the index holds at i.
-fn place_at(index: &[u16], i: usize) -> usize
+pub fn place_at(index: &[u16], i: usize) -> usize
     requires { ⌜ i < length (now index) ⌝ }
     ensures { λ r. ⌜ r ≡ getD (now (index .entry)) i 0 ⌝ }
 {
@@ -44,7 +44,7 @@ fn place_at(index: &[u16], i: usize) -> usize
 }
 
 // A token of the class whose field stands before `place`.
-fn token(language: &[u8], place: usize, bytes: &[u8], at: usize) -> Read
+pub fn token(language: &[u8], place: usize, bytes: &[u8], at: usize) -> Read
     requires { ⌜ (at ≤ length (now bytes)) × (0 < place → place + 7 ≤ length (now language)) ⌝ }
     ensures { λ r. ⌜ (r ≡ tokenAt (now (language .entry)) place (now (bytes .entry)) at) × EndsBy (length (now (bytes .entry))) r ⌝ }
 {

@@ -3,69 +3,27 @@ use crate::node::Node;
 use crate::node::Read;
 use crate::node::Syntax;
 use crate::node::node_at;
+use crate::node::place_at;
+use crate::node::token;
+use fields::bytes::wide;
 ghost use mathlib.Core.Path.{_≡_};
 ghost use Prim.Native.Nat.{ℕ, _+_, _-_, _<_, _≤_};
 ghost use mathlib.Core.List.{List};
 ghost use lib.ListN.{length, getD, drop};
 ghost use Rattle.language.specs.Language.{Language};
 ghost use Rattle.reader.specs.Syntax.{read as readCode};
-ghost use Rattle.reader.specs.Inner.Positions.{operandsFrom, readAt, KindsIn, EndsBy, restAt, restOf, syntaxOf};
+ghost use Rattle.reader.specs.Inner.Positions.{classPlace, operandsFrom, readAt, KindsIn, EndsBy, restAt, restOf, syntaxOf};
 ghost use Rattle.reader.specs.Inner.Index.{Sound, Ready, Indexed};
 
-// The operands of a node, whose kinds stand in the language from `from` up to `stop`, one after the other. It calls
-// itself on the operands of an operand, one level fewer.
-fn operands(
-    syntax: Syntax,
-    language: &[u8],
-    index: &[u16],
-    arguments: &[u8],
-    from: usize,
-    stop: usize,
-    bytes: &[u8],
-    at: usize,
-    levels: usize,
-) -> Read
-    requires { ⌜ Sound (now index) (now language) × KindsIn (now language) from stop × (at ≤ length (now bytes)) ⌝ }
-    ensures { λ r. ⌜ (r ≡ operandsFrom (readAt syntax (now (language .entry)) (now (index .entry)) (now (arguments .entry)) (now (bytes .entry)) levels) (now (language .entry)) (stop - from) from at) × EndsBy (length (now (bytes .entry))) r ⌝ }
+// The place of the class that a token of the kind is read by: 0 in a code, where a sign stands before it.
+fn class_place(syntax: Syntax, index: &[u16], kind: u8) -> usize
+    requires { ⌜ kind < length (now index) ⌝ }
+    ensures { λ r. ⌜ r ≡ classPlace syntax (now (index .entry)) kind ⌝ }
 {
-    if stop <= from {
-        return Read::End(at);
+    match syntax {
+        Syntax::Tree => place_at(index, wide(kind)),
+        Syntax::Code => 0,
     }
-    if levels == 0 {
-        return Read::Deep;
-    }
-    let mut q = from;
-    let mut to = at;
-    while q < stop {
-        let kind = language[q];
-        let one = match node_at(syntax, language, index, arguments, kind, bytes, to) {
-            Node::Leaf(r) => r,
-            Node::Operands(a, b, start) => operands(
-                syntax,
-                language,
-                index,
-                arguments,
-                a,
-                b,
-                bytes,
-                start,
-                levels - 1,
-            ),
-        };
-        match one {
-            Read::End(e) => {
-                to = e;
-            }
-            Read::Deep => {
-                return Read::Deep;
-            }
-            Read::Broken => {
-                return Read::Broken;
-            }
-        }
-        q += 1;
-    }
-    Read::End(to)
 }
 
 // A code of the kind at a position, with so many levels left.
@@ -85,6 +43,10 @@ fn read_at(
     if levels == 0 {
         return Read::Deep;
     }
+    let place = class_place(syntax, index, kind);
+    if place != 0 {
+        return token(language, place, bytes, at);
+    }
     match node_at(syntax, language, index, arguments, kind, bytes, at) {
         Node::Leaf(r) => r,
         Node::Operands(q, stop, to) => operands(
@@ -92,6 +54,7 @@ fn read_at(
             language,
             index,
             arguments,
+            language,
             q,
             stop,
             bytes,
@@ -99,6 +62,42 @@ fn read_at(
             levels - 1,
         ),
     }
+}
+
+// Codes of the kinds that stand in `kinds` from `from` up to `stop`, one after the other.
+fn operands(
+    syntax: Syntax,
+    language: &[u8],
+    index: &[u16],
+    arguments: &[u8],
+    kinds: &[u8],
+    from: usize,
+    stop: usize,
+    bytes: &[u8],
+    at: usize,
+    levels: usize,
+) -> Read
+    requires { ⌜ Sound (now index) (now language) × KindsIn (now kinds) from stop × (at ≤ length (now bytes)) ⌝ }
+    ensures { λ r. ⌜ (r ≡ operandsFrom (readAt syntax (now (language .entry)) (now (index .entry)) (now (arguments .entry)) (now (bytes .entry)) levels) (now (kinds .entry)) (stop - from) from at) × EndsBy (length (now (bytes .entry))) r ⌝ }
+{
+    let mut q = from;
+    let mut to = at;
+    while q < stop {
+        let kind = kinds[q];
+        match read_at(syntax, language, index, arguments, kind, bytes, to, levels) {
+            Read::End(e) => {
+                to = e;
+            }
+            Read::Deep => {
+                return Read::Deep;
+            }
+            Read::Broken => {
+                return Read::Broken;
+            }
+        }
+        q += 1;
+    }
+    Read::End(to)
 }
 
 // A code of the kind at a position, of the language that the index is of.
@@ -117,5 +116,17 @@ pub fn read(
         → restAt (now (bytes .entry)) r ≡ restOf (readCode (syntaxOf syntax) l (now (arguments .entry)) levels kind (drop at (now (bytes .entry))))) ⌝ }
     ensures within { λ r. ⌜ EndsBy (length (now (bytes .entry))) r ⌝ }
 {
-    read_at(syntax, language, index, arguments, kind, bytes, at, levels)
+    let kinds = [kind];
+    operands(
+        syntax,
+        language,
+        index,
+        arguments,
+        &kinds,
+        0,
+        1,
+        bytes,
+        at,
+        levels,
+    )
 }

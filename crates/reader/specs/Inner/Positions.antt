@@ -51,6 +51,11 @@ unfoldable pub treeNode : List ℕ → List ℕ → ℕ → List ℕ → ℕ →
 treeNode s index k b at =
     cond (eqb (getD index k 0) 0) (nameAt s index k b at) (Leaf (tokenAt s (getD index k 0) b at))
 
+-- The place of the class that a token of kind k is read by: 0 in a code, where a sign stands before it.
+unfoldable pub classPlace : Syntax → List ℕ → ℕ → ℕ
+classPlace Tree index k = getD index k 0
+classPlace Code index k = 0
+
 -- What stands behind a sign.
 unfoldable pub signNode : List ℕ → List ℕ → List ℕ → ℕ → List ℕ → ℕ → ℕ → Node
 signNode s index arguments k b sign at =
