@@ -12,7 +12,7 @@ ghost use Rattle.reader.specs.Inner.Positions.{readAt, EndsBy, restAt, r
 ghost use Rattle.reader.specs.Inner.Index.{Sound, Indexed};
 
 // A code of the kind at a position, with so many levels left: it calls itself on the operands, one level fewer.
-fn read_at(
+pub fn read_at(
     syntax: Syntax,
     language: &[u8],
     index: &[u16],
