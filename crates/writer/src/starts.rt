@@ -47,9 +47,7 @@ fn end_of(
     ends: &mut [usize],
 ) -> Read
     requires { ⌜ Sound (now index) (now source) × (frame .from ≤ q) × (q < length (now source)) × (getD (now source) q 0 < 32) × (p ≤ length (now input)) × (reach syntax (now source) (now index) (now arguments) (now input) frame (q - frame .from) ≡ Read.End p) × Known syntax (now source) (now index) (now arguments) (now input) frame (now ends) ⌝ }
-    ensures is { λ r. ⌜ r ≡ reach syntax (now (source .entry)) (now (index .entry)) (now (arguments .entry)) (now (input .entry)) frame (q + 1 - frame .from) ⌝ }
-    ensures within { λ r. ⌜ EndsBy (length (now (input .entry))) r ⌝ }
-    ensures learnt { λ r. ⌜ Known syntax (now (source .entry)) (now (index .entry)) (now (arguments .entry)) (now (input .entry)) frame (now (ends .exit)) ⌝ }
+    ensures { λ r. ⌜ (r ≡ reach syntax (now (source .entry)) (now (index .entry)) (now (arguments .entry)) (now (input .entry)) frame (q + 1 - frame .from)) × EndsBy (length (now (input .entry))) r × Known syntax (now (source .entry)) (now (index .entry)) (now (arguments .entry)) (now (input .entry)) frame (now (ends .exit)) ⌝ }
 {
     let j = q - frame.from;
     let end = known(ends, j);
@@ -79,9 +77,7 @@ pub fn start_of(
     ends: &mut [usize],
 ) -> Read
     requires { ⌜ Sound (now index) (now source) × KindsIn (now source) (frame .from) upto × (frame .start ≤ length (now input)) × Known syntax (now source) (now index) (now arguments) (now input) frame (now ends) ⌝ }
-    ensures is { λ r. ⌜ r ≡ reach syntax (now (source .entry)) (now (index .entry)) (now (arguments .entry)) (now (input .entry)) frame (upto - frame .from) ⌝ }
-    ensures within { λ r. ⌜ EndsBy (length (now (input .entry))) r ⌝ }
-    ensures learnt { λ r. ⌜ Known syntax (now (source .entry)) (now (index .entry)) (now (arguments .entry)) (now (input .entry)) frame (now (ends .exit)) ⌝ }
+    ensures { λ r. ⌜ (r ≡ reach syntax (now (source .entry)) (now (index .entry)) (now (arguments .entry)) (now (input .entry)) frame (upto - frame .from)) × EndsBy (length (now (input .entry))) r × Known syntax (now (source .entry)) (now (index .entry)) (now (arguments .entry)) (now (input .entry)) frame (now (ends .exit)) ⌝ }
 {
     let mut q = frame.from;
     let mut p = frame.start;

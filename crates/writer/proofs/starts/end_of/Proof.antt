@@ -24,7 +24,7 @@ same-length c = search needs
 
 -- src/starts.rt:57:9
 returns : tie.Need-returns
-returns c = let b = end-known _ _ _ _ _ _ _ (c .before .before .before .before .before .before .before .before .before .pre .6) (c .before .before .before .before .before .before .before .before .before .args .q) (c .before .before .before .before .before .before .before .before .before .args .p) (c .before .before .before .before .before .before .before .before .before .pre .1) (c .before .known .ensures) (c .if1 .taken) in ((b .0, b .1), c .before .before .before .before .before .before .before .before .before .pre .6)
+returns c = let b = end-known _ _ _ _ _ _ _ (c .before .before .before .before .before .before .before .before .before .pre .6) (c .before .before .before .before .before .before .before .before .before .args .q) (c .before .before .before .before .before .before .before .before .before .args .p) (c .before .before .before .before .before .before .before .before .before .pre .1) (c .before .known .ensures) (c .if1 .taken) in (b .0, b .1, c .before .before .before .before .before .before .before .before .before .pre .6)
 
 -- src/starts.rt:59:16
 shared-slice-read-kind : tie.Need-shared-slice-read-kind
@@ -56,7 +56,7 @@ same-length-2 c = search needs
 
 -- src/starts.rt:38:1
 returns-2 : tie.Need-returns-2
-returns-2 c = let b = end-read _ _ _ _ _ _ _ (c .before .before .before .before .before .before .before .before .before .before .before .before .before .before .before .before .before .before .pre .6) _ _ (c .before .before .before .before .before .before .before .before .before .before .before .before .before .before .before .before .before .before .pre .1) (c .before .before .before .before .before .before .before .before .before .before .before .before .before .before .before .before .before .before .pre .5) (c .before .before .before .before .before .before .before .read-at .ensures .0) in ((sym (c .before .before .before .before .before .e .given .1) ∙ b, end-in _ (c .before .before .before .before .before .e .given .1) (c .before .before .before .before .before .before .before .read-at .ensures .1)), end-learnt _ _ _ _ _ _ _ (c .before .before .before .before .before .before .before .before .before .before .before .before .before .before .before .before .before .before .pre .6) _ _ (c .before .before .before .before .before .before .before .before .before .before .before .before .before .before .before .before .before .before .pre .1) (c .before .before .before .before .before .before .before .before .before .before .before .before .before .before .before .before .before .before .pre .5) (c .before .before .before .before .before .before .before .read-at .ensures .0) (c .before .before .before .before .before .e .given .1) (c .before .before .before .before .before .before .before .read-at .ensures .1) (c .before .before .learn .ensures))
+returns-2 c = let b = end-read _ _ _ _ _ _ _ (c .before .before .before .before .before .before .before .before .before .before .before .before .before .before .before .before .before .before .pre .6) _ _ (c .before .before .before .before .before .before .before .before .before .before .before .before .before .before .before .before .before .before .pre .1) (c .before .before .before .before .before .before .before .before .before .before .before .before .before .before .before .before .before .before .pre .5) (c .before .before .before .before .before .before .before .read-at .ensures .0) in (sym (c .before .before .before .before .before .e .given .1) ∙ b, end-in _ (c .before .before .before .before .before .e .given .1) (c .before .before .before .before .before .before .before .read-at .ensures .1), end-learnt _ _ _ _ _ _ _ (c .before .before .before .before .before .before .before .before .before .before .before .before .before .before .before .before .before .before .pre .6) _ _ (c .before .before .before .before .before .before .before .before .before .before .before .before .before .before .before .before .before .before .pre .1) (c .before .before .before .before .before .before .before .before .before .before .before .before .before .before .before .before .before .before .pre .5) (c .before .before .before .before .before .before .before .read-at .ensures .0) (c .before .before .before .before .before .e .given .1) (c .before .before .before .before .before .before .before .read-at .ensures .1) (c .before .before .learn .ensures))
 
 -- src/starts.rt:38:1
 same-length-3 : tie.Need-same-length-3
@@ -64,7 +64,7 @@ same-length-3 c = search needs
 
 -- src/starts.rt:38:1
 returns-3 : tie.Need-returns-3
-returns-3 c = let b = end-read _ _ _ _ _ _ _ (c .before .before .before .before .before .before .before .before .before .before .before .before .before .pre .6) _ _ (c .before .before .before .before .before .before .before .before .before .before .before .before .before .pre .1) (c .before .before .before .before .before .before .before .before .before .before .before .before .before .pre .5) (c .before .before .read-at .ensures .0) in ((sym (c .enum-told .given .1) ∙ b, tt), c .before .before .before .before .before .before .before .before .before .before .before .before .before .pre .6)
+returns-3 c = let b = end-read _ _ _ _ _ _ _ (c .before .before .before .before .before .before .before .before .before .before .before .before .before .pre .6) _ _ (c .before .before .before .before .before .before .before .before .before .before .before .before .before .pre .1) (c .before .before .before .before .before .before .before .before .before .before .before .before .before .pre .5) (c .before .before .read-at .ensures .0) in (sym (c .enum-told .given .1) ∙ b, tt, c .before .before .before .before .before .before .before .before .before .before .before .before .before .pre .6)
 
 -- src/starts.rt:38:1
 same-length-4 : tie.Need-same-length-4
@@ -72,7 +72,7 @@ same-length-4 c = search needs
 
 -- src/starts.rt:38:1
 returns-4 : tie.Need-returns-4
-returns-4 c = let b = end-read _ _ _ _ _ _ _ (c .before .before .before .before .before .before .before .before .before .before .before .before .before .pre .6) _ _ (c .before .before .before .before .before .before .before .before .before .before .before .before .before .pre .1) (c .before .before .before .before .before .before .before .before .before .before .before .before .before .pre .5) (c .before .before .read-at .ensures .0) in ((sym (c .enum-told2 .given .1) ∙ b, tt), c .before .before .before .before .before .before .before .before .before .before .before .before .before .pre .6)
+returns-4 c = let b = end-read _ _ _ _ _ _ _ (c .before .before .before .before .before .before .before .before .before .before .before .before .before .pre .6) _ _ (c .before .before .before .before .before .before .before .before .before .before .before .before .before .pre .1) (c .before .before .before .before .before .before .before .before .before .before .before .before .before .pre .5) (c .before .before .read-at .ensures .0) in (sym (c .enum-told2 .given .1) ∙ b, tt, c .before .before .before .before .before .before .before .before .before .before .before .before .before .pre .6)
 
 pub end-of-spec : {M : Type 1} → statement M
 end-of-spec =

@@ -41,7 +41,7 @@ same-length c = search needs
 
 -- src/starts.rt:94:17
 returns : tie.Need-returns Inv-loop μ-loop
-returns c = ((start-deep _ _ _ _ _ _ _ _ (c .before .before .before .before .before .before .loop-test .taken) (c .before .before .before .before .end-of .ensures .0 .0) (c .enum-told .given .1), tt), c .before .before .before .before .end-of .ensures .1)
+returns c = (start-deep _ _ _ _ _ _ _ _ (c .before .before .before .before .before .before .loop-test .taken) (c .before .before .before .before .end-of .ensures .0) (c .enum-told .given .1), tt, c .before .before .before .before .end-of .ensures .2)
 
 -- src/starts.rt:97:17
 enum-told-2 : tie.Need-enum-told-2 Inv-loop μ-loop
@@ -53,7 +53,7 @@ same-length-2 c = search needs
 
 -- src/starts.rt:97:17
 returns-2 : tie.Need-returns-2 Inv-loop μ-loop
-returns-2 c = ((start-broken _ _ _ _ _ _ _ _ (c .before .before .before .before .before .before .loop-test .taken) (c .before .before .before .before .end-of .ensures .0 .0) (c .enum-told2 .given .1), tt), c .before .before .before .before .end-of .ensures .1)
+returns-2 c = (start-broken _ _ _ _ _ _ _ _ (c .before .before .before .before .before .before .loop-test .taken) (c .before .before .before .before .end-of .ensures .0) (c .enum-told2 .given .1), tt, c .before .before .before .before .end-of .ensures .2)
 
 -- src/starts.rt:100:9
 add-q : tie.Need-add-q Inv-loop μ-loop
@@ -65,7 +65,7 @@ loop-less c = search needs
 
 -- src/starts.rt:88:5
 loop-again : tie.Need-loop-again Inv-loop μ-loop
-loop-again c = ((omega arith, end-in {n = length (c .before .before .before .before .before .before .before .before .before .before .before .before .before .before .args .input .now)} _ (c .before .e .given .1) (c .before .before .before .before .before .end-of .ensures .0 .1), omega arith), sym (c .before .before .before .before .before .end-of .ensures .0 .0) ∙ c .before .e .given .1, c .before .before .before .before .before .end-of .ensures .1, search needs)
+loop-again c = ((omega arith, end-in {n = length (c .before .before .before .before .before .before .before .before .before .before .before .before .before .before .args .input .now)} _ (c .before .e .given .1) (c .before .before .before .before .before .end-of .ensures .1), omega arith), sym (c .before .before .before .before .before .end-of .ensures .0) ∙ c .before .e .given .1, c .before .before .before .before .before .end-of .ensures .2, search needs)
 
 -- src/starts.rt:71:1
 same-length-3 : tie.Need-same-length-3 Inv-loop μ-loop
@@ -73,7 +73,7 @@ same-length-3 c = search needs
 
 -- src/starts.rt:71:1
 returns-3 : tie.Need-returns-3 Inv-loop μ-loop
-returns-3 c = ((start-done _ _ _ _ _ _ _ _ (c .before .loop .inv .0 .2) (c .loop-test .left) (c .before .loop .inv .1), c .before .loop .inv .0 .1), c .before .loop .inv .2)
+returns-3 c = (start-done _ _ _ _ _ _ _ _ (c .before .loop .inv .0 .2) (c .loop-test .left) (c .before .loop .inv .1), c .before .loop .inv .0 .1, c .before .loop .inv .2)
 
 pub start-of-spec : {M : Type 1} → statement M
 start-of-spec =
