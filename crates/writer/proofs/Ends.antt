@@ -77,10 +77,12 @@ module _ (x : Syntax) (source index arguments input : List ℕ) (a : Frame) (end
   -- What was learnt is known.
   pub known-more : (j e : ℕ) (after : List ℕ) → after ≡ set ends j e → reach x source index arguments input a (j + 1) ≡ End e → e ≤ length input
       → Known x source index arguments input a after
-  known-more j e after y r h = record { at = λ i.
-      rw y (by-test (eqb i j)
-      (λ d. let z : i ≡ j = eqb-true _ _ d in rw z here)
-      (λ d. rw (getD-set-other ends j i e 0 (eqb-false _ _ d)) (w .at i))) }
+  known-more j e after y r h = record {
+    at = λ i.
+        rw y (by-test (eqb i j)
+        (λ d. let z : i ≡ j = eqb-true _ _ d in rw z here)
+        (λ d. rw (getD-set-other ends j i e 0 (eqb-false _ _ d)) (w .at i)));
+  }
     where
       here : (getD (set ends j e) j 0 ≡ 0) ⊎ ((reach x source index arguments input a (j + 1) ≡ End (getD (set ends j e) j 0)) × (getD (set ends j e) j 0 ≤ length input))
       here =

@@ -70,14 +70,19 @@ module _ (b o : List ℕ) (from to pos : ℕ) (order : from ≤ to) (inside : to
       → Puts (copied b from to) (length b) o after pos (To to (pos + n))
   copy-done {n} {i} {after} h en fits low high e =
       let z : i ≡ to - from = omega arith in
-      record { says = (record {
-        bytes = take (to - from) (drop from b);
-        piece = refl;
-        to = omega (arith, part-length);
-        room = omega arith;
-        output = e ∙ (ap (paste o pos (drop from b)) z
-            ∙ rw (opened o pos (take (to - from) (drop from b)), part-length, append-assoc));
-      }, inside) }
+      record {
+        says = (
+          record {
+            bytes = take (to - from) (drop from b);
+            piece = refl;
+            to = omega (arith, part-length);
+            room = omega arith;
+            output = e ∙ (ap (paste o pos (drop from b)) z
+                ∙ rw (opened o pos (take (to - from) (drop from b)), part-length, append-assoc));
+          },
+          inside,
+        );
+      }
 
 -- leaf
 module _ (b : List ℕ) (n at : ℕ) (o : List ℕ) (pos : ℕ) {r : Read} where
@@ -115,7 +120,11 @@ behind-nothing none = refl
 
 pub held-start : (a : Piece) (o : List ℕ) (pos : ℕ) → pos ≤ length o → Held a o o pos pos a
 held-start a o pos h = record {
-  bytes = []; piece = behind-nothing a; to = omega arith; room = h; output = nothing-spliced o pos
+  bytes = [];
+  piece = behind-nothing a;
+  to = omega arith;
+  room = h;
+  output = nothing-spliced o pos;
 }
 
 behind-behind : (v u : List ℕ) (a : Piece) → behind v (behind u a) ≡ behind (v ++ u) a
@@ -161,8 +170,12 @@ module _ (a : Piece) (o mid : List ℕ) (pos p : ℕ) (rest : Piece) (h : Held a
       let t = h .to in
       let r = h .room in
       let i : TooLong rest (pos + length (h .bytes)) (length o) = rw (← t, ← e) l in
-      record { says = (rw (h .piece) (long-behind (h .bytes) rest pos (length o) i),
-      kept-after o mid after pos held-kept (kept-before mid after pos p (omega arith) (omega arith) k)) }
+      record {
+        says = (
+          rw (h .piece) (long-behind (h .bytes) rest pos (length o) i),
+          kept-after o mid after pos held-kept (kept-before mid after pos p (omega arith) (omega arith) k),
+        );
+      }
 
   -- What fits behind it is put in.
   held-more : (after v : List ℕ) (q : ℕ) → q ≡ p + length v → q ≤ length mid → after ≡ spliced mid p v
@@ -193,26 +206,58 @@ module _ (a : Piece) (o mid after : List ℕ) (pos p n : ℕ) (b : Piece) (g : �
       held-long a o mid pos p (then b g) h m after (long-first b g p (length mid) (x .0)) (x .1)
 
 pub held-done : (a : Piece) (o mid : List ℕ) (pos p e n : ℕ) (rest : Piece) → Held a o mid pos p rest → rest ≡ made e [] → e ≤ n → Puts a n o mid pos (To e p)
-held-done a o mid pos p e n rest h y i = record { says = (record {
-  bytes = h .bytes;
-  piece = h .piece ∙ (ap (behind (h .bytes)) y ∙ ap (made e) (append-nil (h .bytes)));
-  to = h .to;
-  room = h .room;
-  output = h .output;
-}, i) }
+held-done a o mid pos p e n rest h y i = record {
+  says = (
+    record {
+      bytes = h .bytes;
+      piece = h .piece ∙ (ap (behind (h .bytes)) y ∙ ap (made e) (append-nil (h .bytes)));
+      to = h .to;
+      room = h .room;
+      output = h .output;
+    },
+    i,
+  );
+}
+
+-- What is left of it is put in, or does not fit.
+module _ (a : Piece) (o mid after : List ℕ) (pos p n : ℕ) (rest : Piece) (h : Held a o mid pos p rest) where
+  last-says : (x : Ran) → Says rest n mid after p x → Puts a n o after pos x
+  last-says (To e q) w =
+      held-done a o after pos q e n (made e [])
+      (held-more a o mid pos p rest h after (w .0 .bytes) q (w .0 .to) (w .0 .room) (w .0 .output) (made e [])
+      (w .0 .piece ∙ ap (made e) (sym (append-nil (w .0 .bytes))))) refl (w .1)
+  last-says Full w = held-long a o mid pos p rest h n after (w .0) (w .1)
+
+  pub held-last : {x : Ran} → Puts rest n mid after p x → Puts a n o after pos x
+  held-last {x} w = last-says x (w .says)
+
+-- One piece, and another behind it.
+pub then-puts : (b : Piece) (g : ℕ → Piece) (o mid after : List ℕ) (pos m n e p : ℕ) {r x : Ran} → pos ≤ length o
+    → Puts b m o mid pos r → r ≡ To e p → Puts (g e) n mid after p x → Puts (then b g) n o after pos x
+then-puts b g o mid after pos m n e p h w y v =
+    held-last (then b g) o mid after pos p n (g e) (held-next (then b g) o o mid pos pos m b g (held-start (then b g) o pos h) w y) v
+
+pub then-full : (b : Piece) (g : ℕ → Piece) (o after : List ℕ) (pos m n : ℕ) {r : Ran} → pos ≤ length o
+    → Puts b m o after pos r → r ≡ Full → Puts (then b g) n o after pos Full
+then-full b g o after pos m n h w y = held-full (then b g) o o after pos pos m b g (held-start (then b g) o pos h) w n y
 
 -- The same bytes with another end.
 module _ (b : Piece) (n : ℕ) (o after : List ℕ) (pos : ℕ) {r : Ran} (w : Puts b n o after pos r) where
   pub ending-to : {d p : ℕ} → r ≡ To d p → (x : Read) (e m : ℕ) → x ≡ End e → e ≤ m → Puts (endingBy x b) m o after pos (To e p)
   ending-to {d} {p} y x e m z i =
       let h : Says b n o after pos (To d p) = rw y at (w .says) in
-      record { says = (record {
-        bytes = h .0 .bytes;
-        piece = ap (λ (q : Read). endingBy q b) z ∙ ap (endingAt e) (h .0 .piece);
-        to = h .0 .to;
-        room = h .0 .room;
-        output = h .0 .output;
-      }, i) }
+      record {
+        says = (
+          record {
+            bytes = h .0 .bytes;
+            piece = ap (λ (q : Read). endingBy q b) z ∙ ap (endingAt e) (h .0 .piece);
+            to = h .0 .to;
+            room = h .0 .room;
+            output = h .0 .output;
+          },
+          i,
+        );
+      }
 
   pub ending-full : r ≡ Full → (x : Read) (m : ℕ) → Puts (endingBy x b) m o after pos Full
   ending-full y x m = let h : Says b n o after pos Full = rw y at (w .says) in record { says = (long-ending x b (h .0), h .1) }

@@ -31,7 +31,7 @@ module _ (s index : List ℕ) (z : Sound index s) (k p : ℕ) (kind : k < 32) (b
 
   pub operands-some : {m : ℕ} → (place ≡ 0 → ⊥) → m ≡ pairAt s place
       → (Operands (place + 4) (place + 2 + m) ≡ operandsStep s (getD index (productionKey k p) 0))
-          × ((n at : ℕ) → at + 2 ≤ n → StepIn s n at (Operands (place + 4) (place + 2 + m)))
+      × ((n at : ℕ) → at + 2 ≤ n → StepIn s n at (Operands (place + 4) (place + 2 + m)))
   unfolding operandsStep
   operands-some {m} h y = (cc (ne-eqb place 0 h), λ n at i. (i, kinds-in index s z refl kind byte e h y))
 

@@ -55,7 +55,16 @@ fn end_of(
         return Read::End(end);
     }
     let kind = source[q];
-    match read_at(syntax, source, index, arguments, kind, input, p, frame.levels) {
+    match read_at(
+        syntax,
+        source,
+        index,
+        arguments,
+        kind,
+        input,
+        p,
+        frame.levels,
+    ) {
         Read::End(e) => {
             learn(ends, j, e);
             Read::End(e)

@@ -1,6 +1,6 @@
 // What stands at one position in the code of a clause.
-use fields::bytes::wide;
 use fields::bytes::pair_at;
+use fields::bytes::wide;
 use reader::node::Syntax;
 ghost use mathlib.Core.Path.{_≡_};
 ghost use Prim.Native.Nat.{ℕ, _+_, _-_, _<_, _≤_};

@@ -151,3 +151,11 @@ pub record Framed (w : Tables) (a : Frame) : Type 0 where
 -- What is known of where operands of the node end.
 abbrev pub KnownOf : Tables → Frame → List ℕ → Type 0
 KnownOf w a ends = Known (w .syntax) (w .source) (w .index) (w .arguments) (w .input) a ends
+
+-- The arguments of a node, each run.
+abbrev pub argumentsOf : Tables → Frame → ℕ → Piece
+argumentsOf w a = argumentOf w (termAt w (a .levels)) a
+
+-- What the functions of the run ask for, beside kinds and positions of their own: the output has its position.
+abbrev pub NodeAsks : Tables → Frame → List ℕ → ℕ → Type 0
+NodeAsks w a o pos = Sized w × Framed w a × (pos ≤ length o)

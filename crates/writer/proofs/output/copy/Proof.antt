@@ -24,10 +24,11 @@ loop-holds : tie.Need-loop-holds Inv-loop μ-loop
 loop-holds c = ((omega arith, refl), paste-zero (c .before .args .output .now) (c .before .args .pos) (drop (c .before .args .from) (c .before .args .bytes .now)))
 
 loop-again : tie.Need-loop-again Inv-loop μ-loop
-loop-again c =
-    ((omega arith, length-set (c .before .before .loop .output) (c .before .before .before .before .args .pos + c .before .before .loop .i) _ ∙ c .before .before .loop .inv .0 .1),
-    ap (λ (l : List ℕ). set l (c .before .before .before .before .args .pos + c .before .before .loop .i) (getD (c .before .before .before .before .args .bytes .now) (c .before .before .before .before .args .from + c .before .before .loop .i) 0)) (c .before .before .loop .inv .1)
-    ∙ copy-more (c .before .before .before .before .args .output .now) (c .before .before .before .before .args .bytes .now) (c .before .before .before .before .args .pos) (c .before .before .before .before .args .from) (c .before .before .loop .i) (omega arith) (omega arith))
+loop-again c = (
+  (omega arith, length-set (c .before .before .loop .output) (c .before .before .before .before .args .pos + c .before .before .loop .i) _ ∙ c .before .before .loop .inv .0 .1),
+  ap (λ (l : List ℕ). set l (c .before .before .before .before .args .pos + c .before .before .loop .i) (getD (c .before .before .before .before .args .bytes .now) (c .before .before .before .before .args .from + c .before .before .loop .i) 0)) (c .before .before .loop .inv .1)
+      ∙ copy-more (c .before .before .before .before .args .output .now) (c .before .before .before .before .args .bytes .now) (c .before .before .before .before .args .pos) (c .before .before .before .before .args .from) (c .before .before .loop .i) (omega arith) (omega arith),
+)
 
 returns-2 : tie.Need-returns-2 Inv-loop μ-loop
 returns-2 c = copy-done _ _ _ _ _ (c .before .before .before .pre .0) (c .before .before .before .pre .1) (c .before .before .before .pre .2) refl (c .before .before .if1 .left) (c .before .loop .inv .0 .0) (c .loop-test .left) (c .before .loop .inv .1)
