@@ -182,7 +182,7 @@ module _ (w : Tables) (n k at : ℕ) where
 
     pub term-node : {q e to l p : ℕ} → d ≡ Operands q e to → l ≡ signLength (w .syntax) → p ≡ getD (w .input) (at + l) 0
         → termAt w n k at ≡ clauseNext w (termAt w (n - 1)) (record { from = q; stop = e; start = to; levels = n - 1 })
-            (getD (w .mapped) k 0) (getD (w .clauses) (productionKey k p) 0)
+        (getD (w .mapped) k 0) (getD (w .clauses) (productionKey k p) 0)
     unfolding termNext
     term-node y el ep = by-node ∙ rw (y, ep, el)
 

@@ -7,21 +7,8 @@ use Rattle.writer.proofs.starts.known.Tie as tie
 use Rattle.writer.proofs.starts.known.Reads as reads
 use Rattle.writer.proofs.starts.known.Lts as lts
 
--- src/starts.rt:22:25
-mul-result : tie.Need-mul-result
-mul-result c = search needs
-
--- src/starts.rt:22:25
-shared-slice-read-result : tie.Need-shared-slice-read-result
-shared-slice-read-result c = search needs
-
--- src/starts.rt:19:1
-returns : tie.Need-returns
-returns c = search needs
-
--- src/starts.rt:19:1
 returns-2 : tie.Need-returns-2
 returns-2 c = sym (List·getD-eq-default {A = ℕ} (c .before .args .ends .now) 0 (c .if1 .left))
 
 pub known-spec : {M : Type 1} → statement M
-known-spec = tie.close (tie.spec mul-result shared-slice-read-result returns returns-2)
+known-spec = tie.close (tie.spec (λ c. search needs) (λ c. search needs) (λ c. search needs) returns-2)

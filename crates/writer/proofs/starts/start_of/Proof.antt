@@ -19,59 +19,21 @@ Inv-loop syntax source index arguments input frame upto ends₀ q₀ p₀ ends q
 abbrev μ-loop : tie.MeasureT-loop
 μ-loop syntax source index arguments input frame upto ends₀ q₀ p₀ ends q p = upto - q
 
--- src/starts.rt:88:5
 loop-holds : tie.Need-loop-holds Inv-loop μ-loop
 loop-holds c = ((omega arith, c .before .before .before .before .before .pre .2, omega arith), start-none _ _ _ _ _ _, c .before .before .before .before .before .pre .3, refl)
 
--- src/starts.rt:89:15
 end-of-requires : tie.Need-end-of-requires Inv-loop μ-loop
 end-of-requires c κs = let b = c .before .before .before .before .before .before .before .before .pre .1 _ (c .before .before .loop .inv .0 .0) (c .before .loop-test .taken) in (c .before .before .before .before .before .before .before .before .pre .0, c .before .before .loop .inv .0 .0, b .0, b .1, c .before .before .loop .inv .0 .1, c .before .before .loop .inv .1, c .before .before .loop .inv .2)
 
--- src/starts.rt:90:23
-enum-known-e : tie.Need-enum-known-e Inv-loop μ-loop
-enum-known-e c = search needs
-
--- src/starts.rt:94:17
-enum-told : tie.Need-enum-told Inv-loop μ-loop
-enum-told c = search needs
-
--- src/starts.rt:94:17
-same-length : tie.Need-same-length Inv-loop μ-loop
-same-length c = search needs
-
--- src/starts.rt:94:17
 returns : tie.Need-returns Inv-loop μ-loop
 returns c = (start-deep _ _ _ _ _ _ _ _ (c .before .before .before .before .before .before .loop-test .taken) (c .before .before .before .before .end-of .ensures .0) (c .enum-told .given .1), tt, c .before .before .before .before .end-of .ensures .2)
 
--- src/starts.rt:97:17
-enum-told-2 : tie.Need-enum-told-2 Inv-loop μ-loop
-enum-told-2 c = search needs
-
--- src/starts.rt:97:17
-same-length-2 : tie.Need-same-length-2 Inv-loop μ-loop
-same-length-2 c = search needs
-
--- src/starts.rt:97:17
 returns-2 : tie.Need-returns-2 Inv-loop μ-loop
 returns-2 c = (start-broken _ _ _ _ _ _ _ _ (c .before .before .before .before .before .before .loop-test .taken) (c .before .before .before .before .end-of .ensures .0) (c .enum-told2 .given .1), tt, c .before .before .before .before .end-of .ensures .2)
 
--- src/starts.rt:100:9
-add-q : tie.Need-add-q Inv-loop μ-loop
-add-q c = search needs
-
--- src/starts.rt:88:5
-loop-less : tie.Need-loop-less Inv-loop μ-loop
-loop-less c = search needs
-
--- src/starts.rt:88:5
 loop-again : tie.Need-loop-again Inv-loop μ-loop
 loop-again c = ((omega arith, end-in {n = length (c .before .before .before .before .before .before .before .before .before .before .before .before .before .before .args .input .now)} _ (c .before .e .given .1) (c .before .before .before .before .before .end-of .ensures .1), omega arith), sym (c .before .before .before .before .before .end-of .ensures .0) ∙ c .before .e .given .1, c .before .before .before .before .before .end-of .ensures .2, search needs)
 
--- src/starts.rt:71:1
-same-length-3 : tie.Need-same-length-3 Inv-loop μ-loop
-same-length-3 c = search needs
-
--- src/starts.rt:71:1
 returns-3 : tie.Need-returns-3 Inv-loop μ-loop
 returns-3 c = (start-done _ _ _ _ _ _ _ _ (c .before .loop .inv .0 .2) (c .loop-test .left) (c .before .loop .inv .1), c .before .loop .inv .0 .1, c .before .loop .inv .2)
 
@@ -83,15 +45,15 @@ start-of-spec =
     μ-loop
     loop-holds
     end-of-requires
-    enum-known-e
-    enum-told
-    same-length
+    (λ c. search needs)
+    (λ c. search needs)
+    (λ c. search needs)
     returns
-    enum-told-2
-    same-length-2
+    (λ c. search needs)
+    (λ c. search needs)
     returns-2
-    add-q
-    loop-less
+    (λ c. search needs)
+    (λ c. search needs)
     loop-again
-    same-length-3
+    (λ c. search needs)
     returns-3)
