@@ -27,7 +27,7 @@ fn class_place(syntax: Syntax, index: &[u16], kind: u8) -> usize
 }
 
 // A code of the kind at a position, with so many levels left.
-fn read_at(
+pub fn read_at(
     syntax: Syntax,
     language: &[u8],
     index: &[u16],

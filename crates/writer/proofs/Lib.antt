@@ -1,0 +1,4 @@
+pub mod Pieces
+pub mod Steps
+pub mod Ends
+pub mod Turns
