@@ -1,0 +1,1 @@
+// The length of the result of a run, measured in one pass over the tree.
