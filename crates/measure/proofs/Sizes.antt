@@ -3,17 +3,20 @@ use Prim.Native.Nat.{ℕ, zero, suc, _+_, _*_, min, _≤_, _<_}
 use mathlib.Core.Path.{_≡_, refl, ap, sym, _∙_}
 use mathlib.Core.Bool.{Bool, true, false, cond}
 use mathlib.Core.List.{List, [], _∷_, _++_}
-use mathlib.Core.Option.{none, some}
+use mathlib.Core.Option.{Option, none, some, Option·getD}
 use native.Mathlib.Omega.{arith}
-use lib.ListN.{length, getElem?, length-append}
+use lib.ListN.{length, getElem?, length-append, length-map}
 use lib.Dec.{leb, eqb}
 use borrow.Author.Tests.{eq-eqb, ne-eqb, leb-true, leb-false}
 use Rattle.fields.proofs.Truth.{none-some, by-test}
-use Rattle.language.specs.Language.{Language}
+use Rattle.language.specs.Language.{Language, argumentsOf}
 use Rattle.reader.specs.Code.{Code, node, token, argument, Codes, nil, cons}
 use Rattle.reader.specs.Typing.{kindAt, Typed, TypedAll, typed-node, typed-token, typed-argument, typed-nil, typed-cons}
-use Rattle.reader.specs.Syntax.{write, writeAll, tree}
-use Rattle.translation.specs.Running.{nth, operand, substitute, substituteAll, Clauses, run, runAll}
+use Rattle.reader.specs.Syntax.{write, writeAll, tree, code}
+use Rattle.reader.proofs.Sound.{read-done}
+use Rattle.translation.specs.Translation.{Translation, mapped}
+use Rattle.translation.specs.Running.{nth, operand, substitute, substituteAll, Clauses, run, runAll, codeLevels, mappedArguments, readClause, wholeCode, clausesOf, transform}
+use Rattle.translation.proofs.Fitting.{whole-done, mapped-arguments}
 use Rattle.measure.specs.Inner.Sizes.{many, size, own, ownAll, uses, usesAll, shares, capped}
 
 -- Weights that are alike from one number on and from another.
@@ -95,16 +98,32 @@ module _ {l : Language} {r : List ℕ} (s : Codes) (full : many s ≡ length r) 
         let y = length-append (write tree (substitute s a)) (writeAll tree (substituteAll s t)) in
         omega arith
 
-many-run : (f : Clauses) (t : Codes) → many (runAll f t) ≡ many t
+pub many-run : (f : Clauses) (t : Codes) → many (runAll f t) ≡ many t
 unfolding many runAll
 many-run f nil = refl
 many-run f (cons a t) = ap suc (many-run f t)
 
+-- The same of a clause's code: what is no code is a token.
+module _ (f : Translation) (k p : ℕ) (ks : List ℕ) (there : argumentsOf (f .source) k p ≡ some ks) (s : Codes) (full : many s ≡ length ks) where
+  code-size : (c : List ℕ) (o : Option Code) → wholeCode (readClause f k p c) ≡ o
+      → size (substitute s (Option·getD o (token 0))) ≡ own (Option·getD o (token 0)) + shares (λ i. uses i (Option·getD o (token 0))) 1 s
+  unfolding readClause substitute own uses write
+  code-size c none e = let z = shares-zero 1 s in omega arith
+  code-size c (some a) e =
+      let r : List ℕ = mappedArguments f k p in
+      let d = read-done code (f .target) r codeLevels (mapped (f .body) k) c a [] (whole-done (readClause f k p c) a e) in
+      let n : length r ≡ length ks = ap length (mapped-arguments f k p ks there) ∙ length-map ks (mapped (f .body)) in
+      size-substitute s (full ∙ sym n) (d .0)
+
+  clause-size : size (substitute s (clausesOf f k p)) ≡ own (clausesOf f k p) + shares (λ i. uses i (clausesOf f k p)) 1 s
+  unfolding clausesOf
+  clause-size = code-size _ _ refl
+
 -- The length of the run of a node: the clause's own bytes, and each operand's run as often as the clause uses it.
-pub size-run : {m : Language} {r : List ℕ} (f : Clauses) (k p j : ℕ) (t : Codes) → many t ≡ length r → Typed m r (f k p) j
-    → size (run f (node k p t)) ≡ own (f k p) + shares (λ i. uses i (f k p)) 1 (runAll f t)
-unfolding run
-size-run f k p j t full h = size-substitute (runAll f t) (many-run f t ∙ full) h
+pub size-run : (f : Translation) (k p : ℕ) (ks : List ℕ) → argumentsOf (f .source) k p ≡ some ks → (t : Codes) → many t ≡ length ks
+    → size (transform f (node k p t)) ≡ own (clausesOf f k p) + shares (λ i. uses i (clausesOf f k p)) 1 (runAll (clausesOf f) t)
+unfolding transform run
+size-run f k p ks there t full = clause-size f k p ks there (runAll (clausesOf f) t) (many-run (clausesOf f) t ∙ full)
 
 -- Capping at each step comes to the same as capping once.
 capped-under : (top a : ℕ) → a ≤ top → capped top a ≡ a

@@ -1,1 +1,3 @@
 // The length of the result of a run, measured in one pass over the tree.
+pub mod capped;
+pub mod measure;
