@@ -1,6 +1,7 @@
 // One pass over a tree that checks it and measures the result of its run.
 use crate::capped::add_share;
 use crate::capped::cap;
+use crate::table::count_at;
 use reader::node::Node;
 use reader::node::Read;
 use reader::node::Syntax;
@@ -19,13 +20,6 @@ pub enum Measured {
     End(usize, usize),
     Deep,
     Broken,
-}
-
-// The count at i, and 0 past the end.
-fn count_at(counts: &[u16], i: usize) -> usize
-    ensures { λ r. ⌜ r ≡ getD (now (counts .entry)) i 0 ⌝ }
-{
-    if i < counts.len() { counts[i] as usize } else { 0 }
 }
 
 // The own bytes of the clause whose production has its argument kinds from `from` on.

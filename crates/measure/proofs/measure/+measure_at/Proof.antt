@@ -13,7 +13,7 @@ use Rattle.measure.proofs.measure.measure_at.Reads as measure-at
 use Rattle.measure.proofs.measure.measure_at.Kinds as measure-at-kinds
 use Rattle.measure.proofs.measure.+measure_at.Lts-measure_at as measure-at-lts
 use Rattle.measure.proofs.capped.add_share.Reads as add-share-reads
-use Rattle.measure.proofs.measure.count_at.Reads as count-at-reads
+use Rattle.measure.proofs.table.count_at.Reads as count-at-reads
 use Rattle.measure.proofs.measure.leaf.Reads as leaf-reads
 use Rattle.measure.proofs.measure.own_at.Reads as own-at-reads
 use Rattle.reader.proofs.node.node_at.Reads as node-at-reads
@@ -63,7 +63,7 @@ measure-at-returns-3 : (t : ℕ) → measure-at-lts.Need-returns-3 (measure-at-c
 measure-at-returns-3 t c = (sym (shares-broken _ _ _ _ _ _ _ _ (c .before .before .before .before .loop-test .taken) (c .before .before .measure-at .ensures .0) (c .enum-told2 .given .1)) ∙ c .before .before .before .before .before .loop .inv .3, tt)
 
 measure-at-loop-again : (t : ℕ) → measure-at-lts.Need-loop-again (measure-at-calls t) (measure-at-at t) measure-at.Post measure-at-Inv-loop measure-at-μ-loop
-measure-at-loop-again t c = let o = c .add-share .ensures in ((end-ends _ _ _ (c .before .before .before .e .given .1) (c .before .before .before .before .before .measure-at .ensures .1)) .0, omega arith, (λ x i j. c .before .before .before .before .before .before .before .before .loop .inv .2 x (omega arith) j), sym (shares-next _ _ _ _ _ _ _ _ (c .before .before .before .before .before .before .before .loop-test .taken) (c .before .before .before .before .before .measure-at .ensures .0) (c .before .before .before .e .given .1) (c .before .count-at .ensures) (c .add-share .ensures)) ∙ c .before .before .before .before .before .before .before .before .loop .inv .3)
+measure-at-loop-again t c = let o = c .add-share .ensures in ((end-ends _ _ _ (c .before .before .before .e .given .1) (c .before .before .before .before .before .measure-at .ensures .1)) .0, omega arith, (λ x i j. c .before .before .before .before .before .before .before .before .loop .inv .2 x (omega arith) j), sym (shares-next _ _ _ _ _ _ _ _ (c .before .before .before .before .before .before .before .loop-test .taken) (c .before .before .before .before .before .measure-at .ensures .0) (c .before .before .before .e .given .1) (c .before .count-at .ensures .0) (c .add-share .ensures)) ∙ c .before .before .before .before .before .before .before .before .loop .inv .3)
 
 measure-at-returns-4 : (t : ℕ) → measure-at-lts.Need-returns-4 (measure-at-calls t) (measure-at-at t) measure-at.Post measure-at-Inv-loop measure-at-μ-loop
 measure-at-returns-4 t c = (measure-leaf _ _ _ _ _ _ _ _ (c .before .before .before .before .before .before .if1 .left) (c .before .before .before .before .node-at .ensures .0) (c .before .before .r .given .1) (c .leaf .ensures), leaf-ends _ _ _ (c .before .before .r .given .1) (c .before .before .before .before .node-at .ensures .1) (c .leaf .ensures))
