@@ -69,7 +69,7 @@ shares-one (suc m) i (cons a t) h =
     let z : one (i + suc m) i ≡ 0 = cc (ne-eqb (i + suc m) i ne) in
     rw z (omega arith)
 
-get-inside : (r : List ℕ) (i k : ℕ) → getElem? r i ≡ some k → i < length r
+pub get-inside : (r : List ℕ) (i k : ℕ) → getElem? r i ≡ some k → i < length r
 get-inside [] i k e = none-some e
 get-inside (x ∷ r) zero k e = omega arith
 get-inside (x ∷ r) (suc i) k e = let h = get-inside r i k e in omega arith
