@@ -1,0 +1,15 @@
+use borrow.Author.Needs.{needs}
+use Rattle.measure.proofs.Laws.{leaf-end}
+use Rattle.measure.proofs.measure.leaf.Statement.{statement}
+use Rattle.measure.proofs.measure.leaf.Tie as tie
+use Rattle.measure.proofs.measure.leaf.Reads as reads
+use Rattle.measure.proofs.measure.leaf.Lts as lts
+use Rattle.measure.proofs.capped.cap.Reads as cap-reads
+
+returns : tie.Need-returns
+returns c = leaf-end _ (c .before .before .read .given .1) (c .cap .ensures)
+
+pub leaf-spec : {M : Type 1} → statement M
+leaf-spec =
+    tie.close
+    (tie.spec (λ c. search needs) (λ c κs. search needs) (λ c. search needs) (λ c. search needs) returns (λ c. search needs) (λ c. search needs))

@@ -1,0 +1,23 @@
+// A table of counts.
+ghost use mathlib.Core.Path.{_≡_};
+ghost use Prim.Native.Nat.{ℕ, _+_, _<_};
+ghost use lib.ListN.{getD};
+ghost use Rattle.measure.specs.Inner.Counting.{addAt};
+
+// The count at i, and 0 past the end.
+pub fn count_at(counts: &[u16], i: usize) -> usize
+    ensures { λ r. ⌜ (r ≡ getD (now (counts .entry)) i 0) × (r < 65536) ⌝ }
+{
+    if i < counts.len() { counts[i] as usize } else { 0 }
+}
+
+// Adds n to the count at i.
+pub fn add_at(counts: &mut [u16], i: usize, n: u16)
+    requires { ⌜ getD (now counts) i 0 + n < 65536 ⌝ }
+    ensures { λ r. ⌜ now (counts .exit) ≡ addAt (now (counts .entry)) i n ⌝ }
+{
+    if counts.len() <= i {
+        return;
+    }
+    counts[i] = counts[i] + n;
+}
