@@ -2,3 +2,8 @@ pub mod Proper
 pub mod SumSound
 pub mod JoinSound
 pub mod IdentitySound
+pub mod Splices
+pub mod Walks
+pub mod Linear
+pub mod Turns
+pub mod Agreeing
