@@ -10,7 +10,7 @@ use Rattle.fields.specs.Keyed.{agree}
 use Rattle.fields.specs.Inner.Places.{fieldEnd, placesFrom, places}
 use Rattle.fields.proofs.Places.{every-done, every-stop, every-next}
 use Rattle.operators.specs.Inner.Parts.{Part, partKey, samePart, partAt, partsFrom, parts, partsClash, agrees}
-use Rattle.operators.proofs.Linear.{all-alike}
+use Rattle.operators.proofs.Mapped.{all-mapped}
 
 -- The fields at p and q do not clash, and the field at p clashes with none of b.
 abbrev pub fitAt : ℕ → List ℕ → List ℕ → ℕ → ℕ → Bool
@@ -18,11 +18,6 @@ fitAt first a b p q = not (partsClash (partAt first a p) (partAt first b q))
 
 abbrev pub fitsAll : ℕ → List ℕ → List ℕ → ℕ → Bool
 fitsAll first a b p = all (fitAt first a b p) (places b)
-
-all-map : {A B : Type 0} (f : B → Bool) (g : A → B) (l : List A) → all f (map g l) ≡ all (λ a. f (g a)) l
-unfolding all
-all-map f g [] = refl
-all-map f g (a ∷ l) = ap (λ (b : Bool). f (g a) && b) (all-map f g l)
 
 -- No clash: other keys, or the same field.
 no-clash : (k s : Bool) → not k || (k && s) ≡ not (k && not s)
@@ -37,10 +32,8 @@ fit-is x y = no-clash (eqb (x .key) (y .key)) (sameNumbers (x .bytes) (y .bytes)
 pub agrees-places : (first : ℕ) (a b : List ℕ) → all (fitsAll first a b) (places a) ≡ agrees first a b
 unfolding agrees agree partsFrom
 agrees-places first a b =
-    sym (all-map _ (partAt first a) (places a)
-    ∙ all-alike _ (fitsAll first a b) (places a) (λ p m.
-    all-map _ (partAt first b) (places b)
-    ∙ all-alike _ (fitAt first a b p) (places b) (λ q n. fit-is (partAt first a p) (partAt first b q))))
+    sym (all-mapped (partAt first a) _ (fitsAll first a b) (λ p.
+    all-mapped (partAt first b) _ (fitAt first a b p) (λ q. fit-is (partAt first a p) (partAt first b q)) (places b)) (places a))
 
 module _ (first : ℕ) (a b : List ℕ) (p q : ℕ) (inv : all (fitAt first a b p) (placesFrom b q) ≡ fitsAll first a b p) where
   -- the inner loop: at the end of b, at a clash, and past a field that does not clash

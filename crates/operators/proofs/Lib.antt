@@ -6,4 +6,6 @@ pub mod Splices
 pub mod Walks
 pub mod Linear
 pub mod Turns
+pub mod Mapped
 pub mod Agreeing
+pub mod Encoded
