@@ -1,4 +1,4 @@
--- Whether two files agree, by their places: a law for each return and turn of `agree`.
+-- Whether two files agree, by their places: a law for each return and turn of `agree` and `languages_fit`.
 use Prim.Native.Nat.{ℕ, _<_, _≤_}
 use mathlib.Core.Path.{_≡_, refl, sym, ap, _∙_}
 use mathlib.Core.Bool.{Bool, true, false, not, _&&_, _||_}
@@ -9,7 +9,8 @@ use Rattle.fields.specs.Lists.{all, sameNumbers}
 use Rattle.fields.specs.Keyed.{agree}
 use Rattle.fields.specs.Inner.Places.{fieldEnd, placesFrom, places}
 use Rattle.fields.proofs.Places.{every-done, every-stop, every-next}
-use Rattle.operators.specs.Inner.Parts.{Part, partKey, samePart, partAt, partsFrom, parts, partsClash, agrees}
+use Rattle.language.specs.Inner.Entries.{resultsMeet}
+use Rattle.operators.specs.Inner.Parts.{Part, partKey, samePart, partAt, partsFrom, parts, partsClash, agrees, fitTogether}
 use Rattle.operators.proofs.Mapped.{all-mapped}
 
 -- The fields at p and q do not clash, and the field at p clashes with none of b.
@@ -54,3 +55,18 @@ module _ (first : ℕ) (a b : List ℕ) (p q : ℕ) (inv : all (fitAt first a b 
 
     pub agree-on : length b ≤ q → (e : ℕ) → e ≡ fieldEnd a p → all (fitsAll first a b) (placesFrom a e) ≡ x
     agree-on h e ee = every-next (fitsAll first a b) a p x outer true (none-clashes h) e ee there refl
+
+-- `languages_fit`: x and y say whether a class of one is a result of the other
+module _ (a b : List ℕ) (x : Bool) (ex : x ≡ resultsMeet a b) where
+  pub fit-left : x ≡ true → false ≡ fitTogether a b
+  unfolding fitTogether
+  fit-left h = cc
+
+  module _ (none : x ≡ false) (y : Bool) (ey : y ≡ resultsMeet b a) where
+    pub fit-right : y ≡ true → false ≡ fitTogether a b
+    unfolding fitTogether
+    fit-right h = cc
+
+    pub fit-agree : y ≡ false → (z : Bool) → z ≡ agrees 0x11 a b → z ≡ fitTogether a b
+    unfolding fitTogether
+    fit-agree h z ez = cc

@@ -19,13 +19,15 @@ use Rattle.fields.proofs.Lists.{rising-map}
 use Rattle.fields.proofs.Split.{fields-at-places}
 use Rattle.language.specs.Language.{Entry, class, production, Language, entryKey, sameEntry}
 use Rattle.language.specs.LanguageFile.{entryField, encodeLanguage}
-use Rattle.language.proofs.Codec.{two-bytes}
+use Rattle.language.proofs.Codec.{entryWhole, two-bytes, language-encode}
+use Rattle.language.proofs.Holds.{holds-entries}
+use Rattle.language.proofs.Clashes.{meet-is}
 use Rattle.language.proofs.Lookup as Entries
 use Rattle.translation.specs.Translation.{Item, mapping, clause, Body, itemKey, sameItem}
 use Rattle.translation.specs.TranslationFile.{itemField}
 use Rattle.translation.proofs.Lookup as Items
-use Rattle.operators.specs.Algebra.{languageUnion, languageWithout}
-use Rattle.operators.specs.Inner.Parts.{Part, partKey, samePart, bytesOf, pieceAt, partAt, partsFrom, parts, Sorted, united, removed, liesWithin, agrees}
+use Rattle.operators.specs.Algebra.{languagesFit, languageUnion, languageWithout}
+use Rattle.operators.specs.Inner.Parts.{Part, partKey, samePart, bytesOf, pieceAt, partAt, partsFrom, parts, Sorted, united, removed, liesWithin, agrees, fitTogether}
 use Rattle.operators.proofs.Splices.{slice-is}
 use Rattle.operators.proofs.Walks.{parts-done, parts-next}
 use Rattle.operators.proofs.Mapped.{union-mapped, within-mapped, without-mapped, agree-mapped}
@@ -246,6 +248,15 @@ module _ (l m : Language) where
   pub languages-agree : agrees 0x11 (encodeLanguage l) (encodeLanguage m) ≡ agree entryKey sameEntry l m
   unfolding encodeLanguage
   languages-agree = agrees-of entries l m
+
+-- Languages of whole entries fit together as their bytes do.
+pub languages-fit : (l m : Language) → all entryWhole l ≡ true → all entryWhole m ≡ true
+    → fitTogether (encodeLanguage l) (encodeLanguage m) ≡ languagesFit l m
+unfolding fitTogether languagesFit
+languages-fit l m h k =
+    let a = holds-entries (encodeLanguage l) l (language-encode l h) in
+    let b = holds-entries (encodeLanguage m) m (language-encode m k) in
+    rw (meet-is _ _ l m a b, meet-is _ _ m l b a, languages-agree l m)
 
 -- Bodies.
 item-equal : (a b : Item) → itemField a ≡ itemField b → a ≡ b

@@ -3,3 +3,4 @@ pub mod copy;
 pub mod meet;
 pub mod merge;
 pub mod within;
+pub mod fit;

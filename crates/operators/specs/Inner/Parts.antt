@@ -10,6 +10,7 @@ use lib.Dec.{ltb, eqb}
 use Rattle.fields.specs.Lists.{all, concatMap, sameNumbers}
 use Rattle.fields.specs.Keyed.{rising, union, without, within, agree}
 use Rattle.fields.specs.Inner.Places.{fieldEnd, isWhole, placesFrom, keyAt}
+use Rattle.language.specs.Inner.Entries.{resultsMeet}
 use Rattle.operators.specs.declared.copy.Stored.{Stored}
 use Rattle.operators.specs.declared.copy.Stored.the-variants.{To, Full}
 
@@ -99,6 +100,10 @@ liesWithin first a b = within samePart (parts first a) (parts first b)
 -- Fields of one key are the same in both files.
 unfoldable pub agrees : ℕ → List ℕ → List ℕ → Bool
 agrees first a b = agree partKey samePart (parts first a) (parts first b)
+
+-- Two languages fit together: no class of one is a result of the other, and entries of one key are the same.
+unfoldable pub fitTogether : List ℕ → List ℕ → Bool
+fitTogether a b = not (resultsMeet a b) && (not (resultsMeet b a) && agrees 0x11 a b)
 
 -- There are bytes from p up to e.
 pub record Inside (s : List ℕ) (p e : ℕ) : Type 0 where
