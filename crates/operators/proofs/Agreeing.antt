@@ -1,8 +1,8 @@
 -- Whether two files agree, by their places: a law for each return and turn of `agree` and `languages_fit`.
 use Prim.Native.Nat.{ℕ, _<_, _≤_}
-use mathlib.Core.Path.{_≡_, refl, sym, ap, _∙_}
+use mathlib.Core.Path.{_≡_, refl, sym, ap}
 use mathlib.Core.Bool.{Bool, true, false, not, _&&_, _||_}
-use mathlib.Core.List.{List, [], _∷_, map}
+use mathlib.Core.List.{List}
 use lib.ListN.{length}
 use lib.Dec.{eqb}
 use Rattle.fields.specs.Lists.{all, sameNumbers}
@@ -10,7 +10,7 @@ use Rattle.fields.specs.Keyed.{agree}
 use Rattle.fields.specs.Inner.Places.{fieldEnd, placesFrom, places}
 use Rattle.fields.proofs.Places.{every-done, every-stop, every-next}
 use Rattle.language.specs.Inner.Entries.{resultsMeet}
-use Rattle.operators.specs.Inner.Parts.{Part, partKey, samePart, partAt, partsFrom, parts, partsClash, agrees, fitTogether}
+use Rattle.operators.specs.Inner.Parts.{Part, samePart, partAt, partsFrom, partsClash, agrees, fitTogether}
 use Rattle.operators.proofs.Mapped.{all-mapped}
 
 -- The fields at p and q do not clash, and the field at p clashes with none of b.

@@ -1,17 +1,17 @@
 -- What the operators on bytes come to for languages and for bodies that are written in bytes.
-use Prim.Native.Nat.{ℕ, suc, _+_, _*_, _-_, _/_, _%_, _<_, _≤_}
+use Prim.Native.Nat.{ℕ, _+_, _-_, _/_, _%_, _<_, _≤_}
 use mathlib.Core.Path.{_≡_, refl, sym, ap, _∙_}
-use mathlib.Core.Bool.{Bool, true, false, cond, not, _&&_, _||_}
+use mathlib.Core.Bool.{Bool, true, cond}
 use mathlib.Core.List.{List, [], _∷_, _++_, map, append-assoc}
 use mathlib.Core.Option.{some}
 use native.Mathlib.Omega.{arith}
-use lib.ListN.{length, getD, take, drop, length-append, List·getD-append}
-use lib.Seq.{slice, take-append-seam, drop-append-seam, getD-append-add}
+use lib.ListN.{length, take, length-append, List·getD-append}
+use lib.Seq.{take-append-seam, drop-append-seam, getD-append-add}
 use lib.Dec.{eqb}
 use borrow.Author.Tests.{eq-eqb}
-use Rattle.fields.specs.Lists.{all, any, keep, concatMap, sameNumbers}
+use Rattle.fields.specs.Lists.{all, concatMap, sameNumbers}
 use Rattle.fields.specs.Fields.{Field, field, byteAt, pairAt, encodeField, encodeFields, fieldsOf}
-use Rattle.fields.specs.Keyed.{Order, below, same, above, order, place, insert, union, holds, within, without, agree, rising}
+use Rattle.fields.specs.Keyed.{same, place, union, holds, within, without, agree, rising}
 use Rattle.fields.specs.Inner.Places.{fieldEnd, isWhole, keyAt, places}
 use Rattle.fields.proofs.Truth.{and-both, both-and, same-truth, numbers-equal, equal-numbers}
 use Rattle.fields.proofs.Codec.{Each, contentsOf, cond-some, fields-encode, field-length}

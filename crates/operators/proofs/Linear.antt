@@ -1,14 +1,14 @@
 -- Linear walks over two rising lists: union, "without" and "within" a turn at a time, where x is the first of the
 -- first list, and the second list is sought through for the key of x.
-use Prim.Native.Nat.{ℕ, zero, suc, _+_, _<_, _≤_}
+use Prim.Native.Nat.{ℕ, suc, _<_, _≤_}
 use mathlib.Core.Path.{_≡_, refl, sym, ap, _∙_}
 use mathlib.Core.Logic.{inl, inr}
 use mathlib.Core.Bool.{Bool, true, false, cond, not, _&&_, _||_}
 use mathlib.Core.List.{List, [], _∷_, _++_}
 use native.Mathlib.Omega.{arith}
-use lib.Dec.{ltb, eqb}
+use lib.Dec.{ltb}
 use borrow.Author.Tests.{ltb-true, ltb-false, ne-eqb}
-use Rattle.fields.specs.Lists.{all, any, keep, sameNumbers}
+use Rattle.fields.specs.Lists.{all, any, keep}
 use Rattle.fields.specs.Keyed.{Order, place, insert, union, holds, within, without}
 use Rattle.fields.proofs.Truth.{Mem, by-test, false-any}
 use Rattle.fields.proofs.Keyed.{Compared, is-below, is-same, is-above, compared, From, from-weaken, from-mem, union-from}

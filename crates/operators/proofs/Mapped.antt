@@ -1,9 +1,8 @@
 -- Operations by key on lists that are mapped, where the map g keeps the keys and tells the same entries apart.
 use Prim.Native.Nat.{ℕ}
-use mathlib.Core.Path.{_≡_, refl, sym, ap, _∙_}
-use mathlib.Core.Bool.{Bool, true, false, cond, not, _&&_, _||_}
+use mathlib.Core.Path.{_≡_, refl, ap, _∙_}
+use mathlib.Core.Bool.{Bool, true, false, cond, not}
 use mathlib.Core.List.{List, [], _∷_, map}
-use lib.Dec.{eqb}
 use Rattle.fields.specs.Lists.{all, any, keep}
 use Rattle.fields.specs.Keyed.{Order, below, same, above, order, place, insert, union, holds, within, without, agree}
 

@@ -10,7 +10,7 @@ use lib.Seq.{slice, slice-empty}
 use lib.Dec.{leb}
 use borrow.Author.Tests.{leb-true, leb-false}
 use Rattle.fields.specs.Lists.{all, keep, concatMap}
-use Rattle.fields.specs.Keyed.{rising, union, within, without}
+use Rattle.fields.specs.Keyed.{union, within, without}
 use Rattle.fields.specs.Inner.Places.{fieldEnd, keyAt}
 use Rattle.fields.proofs.Truth.{by-test}
 use Rattle.fields.proofs.Codec.{concat-append}
@@ -18,7 +18,7 @@ use Rattle.fields.proofs.Keyed.{From, is-rising}
 use Rattle.fields.proofs.Places.{end-past}
 use Rattle.operators.specs.declared.copy.Stored.{Stored}
 use Rattle.operators.specs.declared.copy.Stored.the-variants.{To, Full}
-use Rattle.operators.specs.Inner.Parts.{Part, partKey, samePart, bytesOf, pieceAt, partAt, partsFrom, parts, WholeAt, WholeFrom, Sorted, lower, seek, SoughtAt, leads, united, removed, liesWithin, Inside, Written, Stores}
+use Rattle.operators.specs.Inner.Parts.{Part, partKey, samePart, bytesOf, pieceAt, partAt, partsFrom, parts, WholeAt, WholeFrom, Sorted, lower, seek, SoughtAt, leads, united, removed, Inside, Written, Stores}
 use Rattle.operators.proofs.Splices.{slice-join, nothing-spliced, written-then}
 use Rattle.operators.proofs.Walks.{parts-done, parts-next, whole-here, whole-next}
 use Rattle.operators.proofs.Linear.{union-none, union-turn, without-turn, within-turn, seek-from, seek-further}

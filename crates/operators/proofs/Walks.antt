@@ -1,19 +1,19 @@
 -- The fields by key and bytes, a turn of the walk at a time: a law for each return and turn of the functions of `meet`.
-use Prim.Native.Nat.{ℕ, zero, suc, _+_, _-_, _<_, _≤_}
+use Prim.Native.Nat.{ℕ, _+_, _-_, _<_, _≤_}
 use mathlib.Core.Path.{_≡_, refl, sym, ap, _∙_}
-use mathlib.Core.Bool.{Bool, true, false, cond, not, _&&_}
-use mathlib.Core.List.{List, [], _∷_, _++_, map, append-nil, append-assoc}
+use mathlib.Core.Bool.{Bool, true, false, not}
+use mathlib.Core.List.{List, [], _∷_, _++_, append-nil, append-assoc}
 use native.Mathlib.Nat.{add-zero}
 use native.Mathlib.Omega.{arith}
 use lib.ListN.{length, getD}
 use lib.Seq.{slice, slice-empty, length-slice}
 use borrow.Author.Tests.{lt-ltb, le-ltb, eq-eqb, ne-eqb, leb-true}
 use Rattle.fields.specs.Lists.{all, concatMap, sameNumbers}
-use Rattle.fields.specs.Inner.Places.{fieldEnd, isWhole, placesFrom, keyAt}
+use Rattle.fields.specs.Inner.Places.{fieldEnd, isWhole, keyAt}
 use Rattle.fields.proofs.Truth.{numbers-equal, refuted}
 use Rattle.fields.proofs.Lists.{part-done, part-next}
 use Rattle.fields.proofs.Places.{end-past, places-done, places-next, every-here}
-use Rattle.operators.specs.Inner.Parts.{Part, partKey, samePart, bytesOf, pieceAt, partAt, partsFrom, WholeAt, WholeFrom, lower, seek, SoughtAt, leads, partsClash}
+use Rattle.operators.specs.Inner.Parts.{Part, samePart, bytesOf, pieceAt, partAt, partsFrom, WholeAt, WholeFrom, lower, seek, SoughtAt, leads, partsClash}
 use Rattle.operators.proofs.Splices.{slice-join}
 
 -- The fields from p on: at the end, and at a field.

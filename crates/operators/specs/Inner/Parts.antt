@@ -1,6 +1,6 @@
 -- The fields of a language, or of a body, as keys and bytes: what the operators on bytes do with them.
 -- `proofs/Encoded.antt` shows what this comes to for languages and for bodies.
-use Prim.Native.Nat.{ℕ, suc, _+_, _<_, _≤_}
+use Prim.Native.Nat.{ℕ, _+_, _<_, _≤_}
 use mathlib.Core.Path.{_≡_}
 use mathlib.Core.Bool.{Bool, true, false, cond, not, _&&_}
 use mathlib.Core.List.{List, [], _∷_, _++_, map}

@@ -8,8 +8,6 @@ use lib.Seq.{paste, paste-zero}
 use Rattle.operators.proofs.Splices.{put-more, put-full, put-done}
 use Rattle.operators.proofs.copy.put.Statement.{statement}
 use Rattle.operators.proofs.copy.put.Tie as tie
-use Rattle.operators.proofs.copy.put.Reads as reads
-use Rattle.operators.proofs.copy.put.Lts as lts
 
 abbrev Inv-loop : tie.InvT-loop
 Inv-loop s p e out₀ n size i₀ out i = ((i ≤ size) × (length out ≡ length out₀)) × (out ≡ paste out₀ n (drop p s) i)

@@ -3,9 +3,6 @@ use Rattle.operators.proofs.Splices.{put-wanted, put-unwanted}
 use borrow.Author.Needs.{needs}
 use Rattle.operators.proofs.copy.put_if.Statement.{statement}
 use Rattle.operators.proofs.copy.put_if.Tie as tie
-use Rattle.operators.proofs.copy.put_if.Reads as reads
-use Rattle.operators.proofs.copy.put_if.Lts as lts
-use Rattle.operators.proofs.copy.put.Reads as put-reads
 
 returns : tie.Need-returns
 returns c = put-wanted (c .before .before .before .before .before .before .before .args .wanted) (slice (c .before .before .before .before .before .before .before .args .p) (c .before .before .before .before .before .before .before .args .e) (c .before .before .before .before .before .before .before .args .s .now)) _ _ (c .before .before .before .before .if1 .taken) _ _ (c .before .before .put .ensures)

@@ -2,10 +2,6 @@ use Rattle.operators.proofs.Agreeing.{fit-left, fit-right, fit-agree}
 use borrow.Author.Needs.{needs}
 use Rattle.operators.proofs.fit.languages_fit.Statement.{statement}
 use Rattle.operators.proofs.fit.languages_fit.Tie as tie
-use Rattle.operators.proofs.fit.languages_fit.Reads as reads
-use Rattle.operators.proofs.fit.languages_fit.Lts as lts
-use Rattle.language.proofs.clash.results_meet.Reads as results-meet-reads
-use Rattle.operators.proofs.within.agree.Reads as agree-reads
 
 returns : tie.Need-returns
 returns c = fit-left (c .before .before .before .before .args .a .now) (c .before .before .before .before .args .b .now) _ (c .before .results-meet .ensures) (c .if1 .taken)

@@ -2,10 +2,6 @@ use Rattle.operators.proofs.Walks.{clash-other, clash-same}
 use borrow.Author.Needs.{needs}
 use Rattle.operators.proofs.meet.clash_at.Statement.{statement}
 use Rattle.operators.proofs.meet.clash_at.Tie as tie
-use Rattle.operators.proofs.meet.clash_at.Reads as reads
-use Rattle.operators.proofs.meet.clash_at.Lts as lts
-use Rattle.fields.proofs.walk.key_at.Reads as key-at-reads
-use Rattle.operators.proofs.meet.same_field.Reads as same-field-reads
 
 returns : tie.Need-returns
 returns c = clash-other _ (c .before .before .before .before .before .args .a .now) (c .before .before .before .before .before .args .p) (c .before .before .before .before .before .args .b .now) (c .before .before .before .before .before .args .q) _ _ (c .before .before .key-at .ensures .0) (c .before .key-at2 .ensures .0) (c .if1 .taken)

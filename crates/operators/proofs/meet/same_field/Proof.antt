@@ -1,5 +1,5 @@
 use borrow.Author.Needs.{needs}
-use Prim.Native.Nat.{_+_, _-_, _≤_}
+use Prim.Native.Nat.{_+_, _-_}
 use mathlib.Core.Path.{_≡_}
 use native.Mathlib.Omega.{arith}
 use lib.Seq.{slice}
@@ -8,9 +8,6 @@ use Rattle.fields.specs.Inner.Places.{fieldEnd}
 use Rattle.operators.proofs.Walks.{same-start, same-long, same-end, same-differ, same-on}
 use Rattle.operators.proofs.meet.same_field.Statement.{statement}
 use Rattle.operators.proofs.meet.same_field.Tie as tie
-use Rattle.operators.proofs.meet.same_field.Reads as reads
-use Rattle.operators.proofs.meet.same_field.Lts as lts
-use Rattle.fields.proofs.walk.field_end.Reads as field-end-reads
 
 abbrev Inv-loop : tie.InvT-loop
 Inv-loop a p b q n i₀ i = sameNumbers (slice (p + i) (fieldEnd a p) a) (slice (q + i) (fieldEnd b q) b) ≡ sameNumbers (slice p (fieldEnd a p) a) (slice q (fieldEnd b q) b)

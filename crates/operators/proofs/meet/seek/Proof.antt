@@ -4,10 +4,6 @@ use lib.ListN.{length}
 use Rattle.operators.proofs.Walks.{Seeking, seek-start, seek-end, seek-found, seek-on}
 use Rattle.operators.proofs.meet.seek.Statement.{statement}
 use Rattle.operators.proofs.meet.seek.Tie as tie
-use Rattle.operators.proofs.meet.seek.Reads as reads
-use Rattle.operators.proofs.meet.seek.Lts as lts
-use Rattle.fields.proofs.walk.field_end.Reads as field-end-reads
-use Rattle.fields.proofs.walk.key_at.Reads as key-at-reads
 
 abbrev Inv-loop : tie.InvT-loop
 Inv-loop s p key first q₀ q = Seeking first s p key q

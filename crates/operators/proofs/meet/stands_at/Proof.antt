@@ -2,10 +2,6 @@ use Rattle.operators.proofs.Walks.{whole-here, stands-end, stands-other
 use borrow.Author.Needs.{needs}
 use Rattle.operators.proofs.meet.stands_at.Statement.{statement}
 use Rattle.operators.proofs.meet.stands_at.Tie as tie
-use Rattle.operators.proofs.meet.stands_at.Reads as reads
-use Rattle.operators.proofs.meet.stands_at.Lts as lts
-use Rattle.fields.proofs.walk.key_at.Reads as key-at-reads
-use Rattle.operators.proofs.meet.same_field.Reads as same-field-reads
 
 returns : tie.Need-returns
 returns c = stands-end _ (c .before .before .before .args .a .now) (c .before .before .before .args .p) (c .before .before .before .args .b .now) (c .before .before .before .args .q) (c .if1 .taken)

@@ -7,13 +7,6 @@ use Rattle.operators.specs.Inner.Parts.{partKey, united}
 use Rattle.operators.proofs.Turns.{Going, merge-start, merge-turn, merge-on, merge-end, progress-on, progress-full, progress-last, rest-next, rest-sought, field-inside, going-room}
 use Rattle.operators.proofs.merge.merge.Statement.{statement}
 use Rattle.operators.proofs.merge.merge.Tie as tie
-use Rattle.operators.proofs.merge.merge.Reads as reads
-use Rattle.operators.proofs.merge.merge.Lts as lts
-use Rattle.fields.proofs.walk.field_end.Reads as field-end-reads
-use Rattle.fields.proofs.walk.key_at.Reads as key-at-reads
-use Rattle.operators.proofs.copy.put.Reads as put-reads
-use Rattle.operators.proofs.copy.put_both.Reads as put-both-reads
-use Rattle.operators.proofs.meet.seek.Reads as seek-reads
 
 abbrev Inv-loop : tie.InvT-loop
 Inv-loop a b first out₀ p₀ q₀ n₀ out p q n = Going (union partKey) (united first a b) first a b out₀ out p q n

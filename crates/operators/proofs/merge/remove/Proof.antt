@@ -7,13 +7,6 @@ use Rattle.operators.proofs.Walks.{whole-here}
 use Rattle.operators.proofs.Turns.{Going, remove-start, remove-turn, remove-end, progress-on, progress-full, progress-done, rest-next, rest-sought, field-inside, going-room}
 use Rattle.operators.proofs.merge.remove.Statement.{statement}
 use Rattle.operators.proofs.merge.remove.Tie as tie
-use Rattle.operators.proofs.merge.remove.Reads as reads
-use Rattle.operators.proofs.merge.remove.Lts as lts
-use Rattle.fields.proofs.walk.field_end.Reads as field-end-reads
-use Rattle.fields.proofs.walk.key_at.Reads as key-at-reads
-use Rattle.operators.proofs.copy.put_if.Reads as put-if-reads
-use Rattle.operators.proofs.meet.seek.Reads as seek-reads
-use Rattle.operators.proofs.meet.stands_at.Reads as stands-at-reads
 
 abbrev Inv-loop : tie.InvT-loop
 Inv-loop a b first out₀ p₀ q₀ n₀ out p q n = Going (without samePart) (removed first a b) first a b out₀ out p q n

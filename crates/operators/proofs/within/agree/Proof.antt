@@ -12,10 +12,6 @@ use Rattle.operators.proofs.Walks.{whole-here, whole-next}
 use Rattle.operators.proofs.Agreeing.{fitAt, fitsAll, agrees-places, inner-on, agree-clash, agree-on}
 use Rattle.operators.proofs.within.agree.Statement.{statement}
 use Rattle.operators.proofs.within.agree.Tie as tie
-use Rattle.operators.proofs.within.agree.Reads as reads
-use Rattle.operators.proofs.within.agree.Lts as lts
-use Rattle.fields.proofs.walk.field_end.Reads as field-end-reads
-use Rattle.operators.proofs.meet.clash_at.Reads as clash-at-reads
 
 abbrev Inv-loop : tie.InvT-loop
 Inv-loop a b first same₀ p q₀ same q = (same ≡ true) × ((all (fitAt first a b p) (placesFrom b q) ≡ fitsAll first a b p) × WholeFrom b q)

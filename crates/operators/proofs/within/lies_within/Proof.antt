@@ -9,12 +9,6 @@ use Rattle.operators.proofs.Walks.{whole-here}
 use Rattle.operators.proofs.Turns.{Rest, rest-start, rest-next, rest-sought, within-stop, within-on, within-end}
 use Rattle.operators.proofs.within.lies_within.Statement.{statement}
 use Rattle.operators.proofs.within.lies_within.Tie as tie
-use Rattle.operators.proofs.within.lies_within.Reads as reads
-use Rattle.operators.proofs.within.lies_within.Lts as lts
-use Rattle.fields.proofs.walk.field_end.Reads as field-end-reads
-use Rattle.fields.proofs.walk.key_at.Reads as key-at-reads
-use Rattle.operators.proofs.meet.seek.Reads as seek-reads
-use Rattle.operators.proofs.meet.stands_at.Reads as stands-at-reads
 
 abbrev Inv-loop : tie.InvT-loop
 Inv-loop a b first p₀ q₀ p q = (within samePart (partsFrom first a p) (partsFrom first b q) ≡ liesWithin first a b) × (Rest first a p × Rest first b q)
