@@ -1,4 +1,4 @@
--- The table of classes tells whether a language clashes with itself.
+-- The table of classes tells whether a language clashes with another, or with itself.
 use Prim.Native.Nat.{ℕ, _+_, _<_}
 use mathlib.Core.Path.{_≡_, refl, sym, ap, _∙_}
 use mathlib.Core.Logic.{_⊎_, ⊎-elim}
@@ -13,7 +13,7 @@ use Rattle.fields.specs.Inner.Places.{places}
 use Rattle.fields.proofs.Truth.{by-test}
 use Rattle.fields.proofs.Lists.{any-map, any-same, any-none, any-swap}
 use Rattle.language.specs.Language.{Entry, class, production, Language, resultIs, classIsResult, clashes}
-use Rattle.language.specs.Inner.Entries.{entryWhole, entryAt, Holds, IsClass, IsProduction, markClass, markClasses, classKinds, resultMarked, resultIsClass}
+use Rattle.language.specs.Inner.Entries.{entryWhole, entryAt, Holds, IsClass, IsProduction, markClass, markClasses, classKinds, resultMarked, resultsMeet, resultIsClass}
 use Rattle.language.proofs.Facts.{entry-facts, class-is, production-is}
 
 -- An entry is the class of the result of another.
@@ -78,27 +78,31 @@ table s k h =
     marked s k (replicate 32 false) (places s) (rw (length-replicate {A = Bool} 32 false) h)
     ∙ ap (λ (b : Bool). b || any (classHere s k) (places s)) (getD-replicate {A = Bool} 32 k false false h)
 
--- At a whole entry, its result is marked if it is a class of the file.
-module _ (s : List ℕ) (p : ℕ) where
-  at-class : IsClass s p → any (λ q. pair (entryAt s q) (entryAt s p)) (places s) ≡ resultMarked s (classKinds s) p
+-- At a whole entry of t, its result is marked if it is a class of s.
+module _ (s t : List ℕ) (p : ℕ) where
+  at-class : IsClass t p → any (λ q. pair (entryAt s q) (entryAt t p)) (places s) ≡ resultMarked t (classKinds s) p
   unfolding resultMarked
-  at-class h = simp (class-is s p h, pair-class, h .tag) (any-none (places s))
+  at-class h = simp (class-is t p h, pair-class, h .tag) (any-none (places s))
 
-  at-production : IsProduction s p → any (λ q. pair (entryAt s q) (entryAt s p)) (places s) ≡ resultMarked s (classKinds s) p
+  at-production : IsProduction t p → any (λ q. pair (entryAt s q) (entryAt t p)) (places s) ≡ resultMarked t (classKinds s) p
   unfolding resultMarked
-  at-production h = simp (production-is s p h, pair-here s, h .tag) (sym (table s (getD s (p + 3) 0) (h .kind)))
+  at-production h = simp (production-is t p h, pair-here s, h .tag) (sym (table s (getD t (p + 3) 0) (h .kind)))
 
-  at-entry : entryWhole s p ≡ true → any (λ q. pair (entryAt s q) (entryAt s p)) (places s) ≡ resultMarked s (classKinds s) p
-  at-entry h = ⊎-elim at-class at-production (entry-facts s p h)
+  at-entry : entryWhole t p ≡ true → any (λ q. pair (entryAt s q) (entryAt t p)) (places s) ≡ resultMarked t (classKinds s) p
+  at-entry h = ⊎-elim at-class at-production (entry-facts t p h)
+
+-- A class of a file of entries l is a result of a file of entries m if l clashes with m.
+clash-at : (s t : List ℕ) → clashes (map (entryAt s) (places s)) (map (entryAt t) (places t))
+    ≡ any (λ p. any (λ q. pair (entryAt s q) (entryAt t p)) (places s)) (places t)
+unfolding clashes
+clash-at s t = simp (any-map, pair-any) (any-swap (λ q p. pair (entryAt s q) (entryAt t p)) (places s) (places t))
+
+pub meet-is : (s t : List ℕ) (l m : Language) → Holds s l → Holds t m → resultsMeet s t ≡ clashes l m
+unfolding resultsMeet
+meet-is s t l m h k =
+    rw (← (h .entries), ← (k .entries))
+    (sym (clash-at s t ∙ any-same (entryWhole t) _ (resultMarked t (classKinds s)) (at-entry s t) (places t) (k .whole)))
 
 -- A file of entries l has a result that is a class if l clashes with itself.
-clash-at : (s : List ℕ) → clashes (map (entryAt s) (places s)) (map (entryAt s) (places s))
-    ≡ any (λ p. any (λ q. pair (entryAt s q) (entryAt s p)) (places s)) (places s)
-unfolding clashes
-clash-at s = simp (any-map, pair-any) (any-swap (λ q p. pair (entryAt s q) (entryAt s p)) (places s) (places s))
-
 pub clash-is : (s : List ℕ) (l : Language) → Holds s l → resultIsClass s ≡ clashes l l
-unfolding resultIsClass
-clash-is s l h =
-    rw (← (h .entries))
-    (sym (clash-at s ∙ any-same (entryWhole s) _ (resultMarked s (classKinds s)) (at-entry s) (places s) (h .whole)))
+clash-is s l h = meet-is s s l l h h

@@ -9,7 +9,7 @@ use borrow.Author.Tests.{eq-eqb, ne-eqb}
 use Rattle.fields.specs.Lists.{any}
 use Rattle.fields.specs.Inner.Places.{fieldEnd, placesFrom, places}
 use Rattle.fields.proofs.Places.{pass-done, pass-next}
-use Rattle.language.specs.Inner.Entries.{markClass, markClasses, classKinds, resultMarked, resultIsClass}
+use Rattle.language.specs.Inner.Entries.{markClass, markClasses, classKinds, resultMarked, resultsMeet}
 
 -- mark_class and result_marked: k is the kind that comes first in the contents
 module _ (s : List ℕ) (p : ℕ) (kinds : List Bool) (tag : ℕ) (et : tag ≡ getD s p 0) where
@@ -47,8 +47,8 @@ module _ (s : List ℕ) (p : ℕ) (kinds x : List Bool) (inv : markClasses s kin
   unfolding markClasses
   marks-next more em end ee here = rw em (pass-next (markClasses s kinds) s p x inv end here ee)
 
--- result_is_class
-pub results-start : (s : List ℕ) (kinds : List Bool) → kinds ≡ markClasses s (replicate 32 false) (places s)
-    → any (resultMarked s kinds) (places s) ≡ resultIsClass s
-unfolding resultIsClass classKinds
-results-start s kinds e = rw e
+-- results_meet
+pub results-start : (s t : List ℕ) (kinds : List Bool) → kinds ≡ markClasses s (replicate 32 false) (places s)
+    → any (resultMarked t kinds) (places t) ≡ resultsMeet s t
+unfolding resultsMeet classKinds
+results-start s t kinds e = rw e

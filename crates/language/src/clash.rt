@@ -3,7 +3,7 @@ ghost use mathlib.Core.Path.{_≡_};
 ghost use Prim.Native.Nat.{_≤_};
 ghost use lib.ListN.{length};
 ghost use Rattle.fields.specs.Inner.Places.{places};
-ghost use Rattle.language.specs.Inner.Entries.{markClass, markClasses, resultMarked, resultIsClass};
+ghost use Rattle.language.specs.Inner.Entries.{markClass, markClasses, resultMarked, resultsMeet, resultIsClass};
 use fields::bytes::byte_at;
 use fields::bytes::wide;
 use fields::walk::field_end;
@@ -49,18 +49,25 @@ fn result_marked(s: &[u8], p: usize, kinds: &[bool]) -> bool
     kinds[result]
 }
 
-// Some result is a class.
-pub fn result_is_class(s: &[u8]) -> bool
-    ensures { λ r. ⌜ r ≡ resultIsClass (now (s .entry)) ⌝ }
+// Some class of s is a result of t.
+pub fn results_meet(s: &[u8], t: &[u8]) -> bool
+    ensures { λ r. ⌜ r ≡ resultsMeet (now (s .entry)) (now (t .entry)) ⌝ }
 {
     let mut kinds = [false; 32];
     mark_classes(s, &mut kinds);
     let mut p = 0;
-    while p < s.len() {
-        if result_marked(s, p, &kinds) {
+    while p < t.len() {
+        if result_marked(t, p, &kinds) {
             return true;
         }
-        p = field_end(s, p);
+        p = field_end(t, p);
     }
     false
+}
+
+// Some result is a class.
+pub fn result_is_class(s: &[u8]) -> bool
+    ensures { λ r. ⌜ r ≡ resultIsClass (now (s .entry)) ⌝ }
+{
+    results_meet(s, s)
 }

@@ -84,6 +84,10 @@ classKinds s = markClasses s (replicate 32 false) (places s)
 unfoldable pub resultMarked : List ℕ → List Bool → ℕ → Bool
 resultMarked s kinds p = eqb (byteAt s p) 0x12 && getD kinds (byteAt s (p + 3)) false
 
+-- Some class of the first file is a result of the second.
+unfoldable pub resultsMeet : List ℕ → List ℕ → Bool
+resultsMeet s t = any (resultMarked t (classKinds s)) (places t)
+
 -- Some result is a class.
-unfoldable pub resultIsClass : List ℕ → Bool
-resultIsClass s = any (resultMarked s (classKinds s)) (places s)
+abbrev pub resultIsClass : List ℕ → Bool
+resultIsClass s = resultsMeet s s

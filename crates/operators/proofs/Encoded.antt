@@ -1,0 +1,291 @@
+-- What the operators on bytes come to for languages and for bodies that are written in bytes.
+use Prim.Native.Nat.{ℕ, _+_, _-_, _/_, _%_, _<_, _≤_}
+use mathlib.Core.Path.{_≡_, refl, sym, ap, _∙_}
+use mathlib.Core.Bool.{Bool, true, cond}
+use mathlib.Core.List.{List, [], _∷_, _++_, map, append-assoc}
+use mathlib.Core.Option.{some}
+use native.Mathlib.Omega.{arith}
+use lib.ListN.{length, take, length-append, List·getD-append}
+use lib.Seq.{take-append-seam, drop-append-seam, getD-append-add}
+use lib.Dec.{eqb}
+use borrow.Author.Tests.{eq-eqb}
+use Rattle.fields.specs.Lists.{all, concatMap, sameNumbers}
+use Rattle.fields.specs.Fields.{Field, field, byteAt, pairAt, encodeField, encodeFields, fieldsOf}
+use Rattle.fields.specs.Keyed.{same, place, union, holds, within, without, agree, rising}
+use Rattle.fields.specs.Inner.Places.{fieldEnd, isWhole, keyAt, places}
+use Rattle.fields.proofs.Truth.{and-both, both-and, same-truth, numbers-equal, equal-numbers}
+use Rattle.fields.proofs.Codec.{Each, contentsOf, cond-some, fields-encode, field-length}
+use Rattle.fields.proofs.Lists.{rising-map}
+use Rattle.fields.proofs.Split.{fields-at-places}
+use Rattle.language.specs.Language.{Entry, class, production, Language, entryKey, sameEntry}
+use Rattle.language.specs.LanguageFile.{entryField, encodeLanguage}
+use Rattle.language.proofs.Codec.{entryWhole, two-bytes, language-encode}
+use Rattle.language.proofs.Holds.{holds-entries}
+use Rattle.language.proofs.Clashes.{meet-is}
+use Rattle.language.proofs.Lookup as Entries
+use Rattle.translation.specs.Translation.{Item, mapping, clause, Body, itemKey, sameItem}
+use Rattle.translation.specs.TranslationFile.{itemField}
+use Rattle.translation.proofs.Lookup as Items
+use Rattle.operators.specs.Algebra.{languagesFit, languageUnion, languageWithout}
+use Rattle.operators.specs.Inner.Parts.{Part, partKey, samePart, bytesOf, pieceAt, partAt, partsFrom, parts, Sorted, united, removed, liesWithin, agrees, fitTogether}
+use Rattle.operators.proofs.Splices.{slice-is}
+use Rattle.operators.proofs.Walks.{parts-done, parts-next}
+use Rattle.operators.proofs.Mapped.{union-mapped, within-mapped, without-mapped, agree-mapped}
+
+-- The key of a field, and the field by key and bytes.
+abbrev fieldKey : ℕ → Field → ℕ
+fieldKey first (field tag c) = cond (eqb tag first) (byteAt c 0) (32 + pairAt c 0)
+
+abbrev fieldPart : ℕ → Field → Part
+fieldPart first f = record { key = fieldKey first f; bytes = encodeField f }
+
+-- A field that holds its key.
+abbrev Long : Field → Type 0
+Long f = 2 ≤ length (contentsOf f)
+
+-- A field in its place, behind `front` and in front of `rest`.
+module _ (front : List ℕ) (tag : ℕ) (c rest : List ℕ) where
+  -- the file
+  abbrev file : List ℕ
+  file = front ++ (encodeField (field tag c) ++ rest)
+
+  at-byte : (i : ℕ) → byteAt file (length front + i) ≡ byteAt (encodeField (field tag c) ++ rest) i
+  at-byte i = getD-append-add front (encodeField (field tag c) ++ rest) i 0
+
+  at-size : pairAt file (length front + 1) ≡ length c
+  unfolding pairAt encodeField
+  at-size =
+      let d : length front + 1 + 1 ≡ length front + 2 = omega arith in
+      rw d (cc (at-byte 1, at-byte 2, two-bytes (length c)))
+
+  at-end : fieldEnd file (length front) ≡ length (front ++ encodeField (field tag c))
+  unfolding fieldEnd
+  at-end = omega (arith, at-size, length-append front (encodeField (field tag c)), field-length (field tag c))
+
+  at-inside : length front < length file
+  at-inside =
+      omega (arith, length-append front (encodeField (field tag c) ++ rest), length-append (encodeField (field tag c)) rest, field-length (field tag c))
+
+  at-bytes : pieceAt file (length front) ≡ encodeField (field tag c)
+  at-bytes =
+      let x = encodeField (field tag c) in
+      let e = fieldEnd file (length front) in
+      let l : length file ≡ length front + (length x + length rest) = omega (arith, length-append front (x ++ rest), length-append x rest) in
+      let n : e - length front ≡ length x = omega (arith, at-end, length-append front x) in
+      let h : length front ≤ e = omega (arith, at-end, length-append front x) in
+      let k : e ≤ length file = omega (arith, at-end, length-append front x) in
+      slice-is file (length front) e h k
+      ∙ (ap (λ (r : List ℕ). take (e - length front) r) (drop-append-seam front (x ++ rest))
+      ∙ (ap (λ (j : ℕ). take j (x ++ rest)) n ∙ take-append-seam x rest))
+
+  at-key : (first : ℕ) → Long (field tag c) → keyAt first file (length front) ≡ fieldKey first (field tag c)
+  unfolding keyAt pairAt encodeField
+  at-key first h =
+      let z : length front + 0 ≡ length front = omega arith in
+      let d : length front + 3 + 1 ≡ length front + 4 = omega arith in
+      let i : 0 < length c = omega arith in
+      let j : 1 < length c = omega arith in
+      let t : byteAt file (length front) ≡ tag = ap (byteAt file) (sym z) ∙ at-byte 0 in
+      let a : byteAt file (length front + 3) ≡ byteAt c 0 = at-byte 3 ∙ List·getD-append c rest 0 0 i in
+      let b : byteAt file (length front + 3 + 1) ≡ byteAt c 1 = ap (byteAt file) d ∙ (at-byte 4 ∙ List·getD-append c rest 0 1 j) in
+      cc
+
+  at-part : (first : ℕ) → Long (field tag c) → partAt first file (length front) ≡ fieldPart first (field tag c)
+  unfolding partAt
+  at-part first h = λ i. record { key = at-key first h i; bytes = at-bytes i }
+
+-- The fields of a file that is written.
+parts-behind : (first : ℕ) (front : List ℕ) (fs : List Field) → Each Long fs
+    → partsFrom first (front ++ encodeFields fs) (length front) ≡ map (fieldPart first) fs
+unfolding encodeFields concatMap
+parts-behind first front [] h = parts-done first (front ++ []) (length front) (omega (arith, length-append front []))
+parts-behind first front (field tag c ∷ fs) h =
+    let x = encodeField (field tag c) in
+    let s = front ++ (x ++ encodeFields fs) in
+    parts-next first s (length front) (at-inside front tag c (encodeFields fs))
+    ∙ (ap (λ (a : Part). a ∷ partsFrom first s (fieldEnd s (length front))) (at-part front tag c (encodeFields fs) first (h .0))
+    ∙ ap (λ (l : List Part). fieldPart first (field tag c) ∷ l)
+    (ap (partsFrom first s) (at-end front tag c (encodeFields fs))
+    ∙ (ap (λ (l : List ℕ). partsFrom first l (length (front ++ x))) (sym (append-assoc front x (encodeFields fs)))
+    ∙ parts-behind first (front ++ x) fs (h .1))))
+
+pub parts-encode : (first : ℕ) (fs : List Field) → Each Long fs → parts first (encodeFields fs) ≡ map (fieldPart first) fs
+parts-encode first fs h = parts-behind first [] fs h
+
+-- Every field of a file that is written is whole.
+whole-encode : (fs : List Field) → all (isWhole (encodeFields fs)) (places (encodeFields fs)) ≡ true
+whole-encode fs = cond-some _ _ fs (sym (fields-at-places (encodeFields fs)) ∙ fields-encode fs) .0
+
+-- The bytes of mapped fields.
+bytes-map : (first : ℕ) (fs : List Field) → bytesOf (map (fieldPart first) fs) ≡ encodeFields fs
+unfolding bytesOf encodeFields concatMap
+bytes-map first [] = refl
+bytes-map first (f ∷ fs) = ap (λ (r : List ℕ). encodeField f ++ r) (bytes-map first fs)
+
+map-map : {A B C : Type 0} (f : B → C) (g : A → B) (l : List A) → map f (map g l) ≡ map (λ a. f (g a)) l
+map-map f g [] = refl
+map-map f g (a ∷ l) = ap (λ r. f (g a) ∷ r) (map-map f g l)
+
+-- A field is known by its bytes.
+field-equal : (f h : Field) → encodeField f ≡ encodeField h → f ≡ h
+unfolding encodeFields concatMap
+field-equal f h e =
+    let d : encodeFields (f ∷ []) ≡ encodeFields (h ∷ []) = ap (λ (x : List ℕ). x ++ []) e in
+    let z : some (f ∷ []) ≡ some (h ∷ []) = sym (fields-encode (f ∷ [])) ∙ (ap fieldsOf d ∙ fields-encode (h ∷ [])) in
+    cc
+
+-- Fields that are the same have the same bytes, and a field is the same as itself.
+same-bytes : (x y : Part) → samePart x y ≡ true → x .bytes ≡ y .bytes
+unfolding samePart
+same-bytes x y e = numbers-equal (x .bytes) (y .bytes) (and-both (eqb (x .key) (y .key)) (sameNumbers (x .bytes) (y .bytes)) e .1)
+
+same-self : (x : Part) → samePart x x ≡ true
+unfolding samePart
+same-self x = both-and (eqb (x .key) (x .key)) (sameNumbers (x .bytes) (x .bytes)) (eq-eqb (x .key) (x .key) refl) (equal-numbers (x .bytes))
+
+-- Entries that are kept one to a field: the field holds the key, and tells the entry.
+record Kept {A : Type 0} (first : ℕ) (encode : A → Field) (key : A → ℕ) (alike : A → A → Bool) : Type 0 where
+  long : (a : A) → Long (encode a)
+  keys : (a : A) → fieldKey first (encode a) ≡ key a
+  tells : (a b : A) → encode a ≡ encode b → a ≡ b
+  alike-equal : (a b : A) → alike a b ≡ true → a ≡ b
+  equal-alike : (a : A) → alike a a ≡ true
+
+module _ {A : Type 0} {first : ℕ} {encode : A → Field} {key : A → ℕ} {alike : A → A → Bool} (kept : Kept first encode key alike) where
+  -- An entry by key and bytes, and the bytes of entries.
+  abbrev entryPart : A → Part
+  entryPart a = fieldPart first (encode a)
+
+  abbrev written : List A → List ℕ
+  written l = encodeFields (map encode l)
+
+  all-long : (l : List A) → Each Long (map encode l)
+  all-long [] = tt
+  all-long (a ∷ l) = (kept .long a, all-long l)
+
+  entry-parts : (l : List A) → parts first (written l) ≡ map entryPart l
+  entry-parts l = parts-encode first (map encode l) (all-long l) ∙ map-map (fieldPart first) encode l
+
+  bytes-of : (l : List A) → bytesOf (map entryPart l) ≡ written l
+  bytes-of l = ap bytesOf (sym (map-map (fieldPart first) encode l)) ∙ bytes-map first (map encode l)
+
+  same-is : (a b : A) → samePart (entryPart a) (entryPart b) ≡ alike a b
+  same-is a b =
+      same-truth (samePart (entryPart a) (entryPart b)) (alike a b)
+      (λ e.
+      let d : a ≡ b = kept .tells a b (field-equal (encode a) (encode b) (same-bytes (entryPart a) (entryPart b) e)) in
+      rw d (kept .equal-alike b))
+      (λ e. rw (kept .alike-equal a b e) (same-self (entryPart b)))
+
+  sorted-of : (l : List A) → rising key l ≡ true → Sorted first (written l)
+  unfolding rising
+  sorted-of l h = record {
+    whole = whole-encode (map encode l);
+    rises = rw (entry-parts l) (rising-map partKey entryPart key (kept .keys) 0 l ∙ h);
+  }
+
+  united-of : (l m : List A) → united first (written l) (written m) ≡ written (union key l m)
+  unfolding united
+  united-of l m =
+      rw (entry-parts l, entry-parts m) (ap bytesOf (union-mapped entryPart partKey key (kept .keys) l m) ∙ bytes-of (union key l m))
+
+  removed-of : (l m : List A) → removed first (written l) (written m) ≡ written (without alike l m)
+  unfolding removed
+  removed-of l m =
+      rw (entry-parts l, entry-parts m) (ap bytesOf (without-mapped entryPart samePart alike same-is l m) ∙ bytes-of (without alike l m))
+
+  within-of : (l m : List A) → liesWithin first (written l) (written m) ≡ within alike l m
+  unfolding liesWithin
+  within-of l m = rw (entry-parts l, entry-parts m) (within-mapped entryPart samePart alike same-is l m)
+
+  agrees-of : (l m : List A) → agrees first (written l) (written m) ≡ agree key alike l m
+  unfolding agrees
+  agrees-of l m = rw (entry-parts l, entry-parts m) (agree-mapped entryPart samePart alike same-is partKey key (kept .keys) l m)
+
+-- Languages.
+entry-equal : (a b : Entry) → entryField a ≡ entryField b → a ≡ b
+unfolding entryField
+entry-equal (class k a b) (class j c d) e =
+    let z : k ≡ j = cc in
+    let p : a / 256 ≡ c / 256 = cc in
+    let q : a % 256 ≡ c % 256 = cc in
+    let r : b / 256 ≡ d / 256 = cc in
+    let s : b % 256 ≡ d % 256 = cc in
+    let x : a ≡ c = omega arith in
+    let y : b ≡ d = omega arith in
+    cc
+entry-equal (class k a b) (production s q js) e = let z : _≡_ {A = ℕ} 0x11 0x12 = cc in absurd (omega arith)
+entry-equal (production r p ks) (class j c d) e = let z : _≡_ {A = ℕ} 0x12 0x11 = cc in absurd (omega arith)
+entry-equal (production r p ks) (production s q js) e = cc
+
+entries : Kept 0x11 entryField entryKey sameEntry
+unfolding entryField entryKey pairAt
+entries = record {
+  long = λ a. elim a [ class k low high ↦ omega arith | production r p ks ↦ omega arith ];
+  keys = λ a. elim a [ class k low high ↦ refl | production r p ks ↦ refl ];
+  tells = entry-equal;
+  alike-equal = Entries.same-equal;
+  equal-alike = Entries.equal-same;
+}
+
+module _ (l m : Language) where
+  pub sorted-language : rising entryKey l ≡ true → Sorted 0x11 (encodeLanguage l)
+  unfolding encodeLanguage
+  sorted-language h = sorted-of entries l h
+
+  pub united-languages : united 0x11 (encodeLanguage l) (encodeLanguage m) ≡ encodeLanguage (languageUnion l m)
+  unfolding encodeLanguage languageUnion
+  united-languages = united-of entries l m
+
+  pub removed-language : removed 0x11 (encodeLanguage l) (encodeLanguage m) ≡ encodeLanguage (languageWithout l m)
+  unfolding encodeLanguage languageWithout
+  removed-language = removed-of entries l m
+
+  pub language-within : liesWithin 0x11 (encodeLanguage l) (encodeLanguage m) ≡ within sameEntry l m
+  unfolding encodeLanguage
+  language-within = within-of entries l m
+
+  pub languages-agree : agrees 0x11 (encodeLanguage l) (encodeLanguage m) ≡ agree entryKey sameEntry l m
+  unfolding encodeLanguage
+  languages-agree = agrees-of entries l m
+
+-- Languages of whole entries fit together as their bytes do.
+pub languages-fit : (l m : Language) → all entryWhole l ≡ true → all entryWhole m ≡ true
+    → fitTogether (encodeLanguage l) (encodeLanguage m) ≡ languagesFit l m
+unfolding fitTogether languagesFit
+languages-fit l m h k =
+    let a = holds-entries (encodeLanguage l) l (language-encode l h) in
+    let b = holds-entries (encodeLanguage m) m (language-encode m k) in
+    rw (meet-is _ _ l m a b, meet-is _ _ m l b a, languages-agree l m)
+
+-- Bodies.
+item-equal : (a b : Item) → itemField a ≡ itemField b → a ≡ b
+unfolding itemField
+item-equal (mapping s t) (mapping u v) e = cc
+item-equal (mapping s t) (clause q m d) e = let z : _≡_ {A = ℕ} 0x22 0x23 = cc in absurd (omega arith)
+item-equal (clause r p c) (mapping u v) e = let z : _≡_ {A = ℕ} 0x23 0x22 = cc in absurd (omega arith)
+item-equal (clause r p c) (clause q m d) e = cc
+
+items : Kept 0x22 itemField itemKey sameItem
+unfolding itemField itemKey pairAt
+items = record {
+  long = λ a. elim a [ mapping s t ↦ omega arith | clause r p c ↦ omega arith ];
+  keys = λ a. elim a [ mapping s t ↦ refl | clause r p c ↦ refl ];
+  tells = item-equal;
+  alike-equal = Items.same-equal;
+  equal-alike = Items.equal-same;
+}
+
+-- The bytes of a body.
+abbrev pub bodyBytes : Body → List ℕ
+bodyBytes b = encodeFields (map itemField b)
+
+module _ (x y : Body) where
+  pub sorted-body : rising itemKey x ≡ true → Sorted 0x22 (bodyBytes x)
+  sorted-body h = sorted-of items x h
+
+  pub united-bodies : united 0x22 (bodyBytes x) (bodyBytes y) ≡ bodyBytes (union itemKey x y)
+  united-bodies = united-of items x y
+
+  pub bodies-agree : agrees 0x22 (bodyBytes x) (bodyBytes y) ≡ agree itemKey sameItem x y
+  bodies-agree = agrees-of items x y

@@ -1,0 +1,38 @@
+use borrow.Author.Needs.{needs}
+use Prim.Native.Nat.{_-_}
+use lib.ListN.{length}
+use Rattle.operators.proofs.Walks.{Seeking, seek-start, seek-end, seek-found, seek-on}
+use Rattle.operators.proofs.meet.seek.Statement.{statement}
+use Rattle.operators.proofs.meet.seek.Tie as tie
+
+abbrev Inv-loop : tie.InvT-loop
+Inv-loop s p key first q₀ q = Seeking first s p key q
+
+abbrev μ-loop : tie.MeasureT-loop
+μ-loop s p key first q₀ q = length s - q
+
+loop-holds : tie.Need-loop-holds Inv-loop μ-loop
+loop-holds c = seek-start _ _ _ _ (c .before .pre)
+
+returns : tie.Need-returns Inv-loop μ-loop
+returns c = seek-found _ _ _ _ _ (c .before .before .before .loop .inv) _ (c .before .key-at .ensures .0) (c .before .before .loop-test .taken) (c .if1 .taken)
+
+loop-again : tie.Need-loop-again Inv-loop μ-loop
+loop-again c = seek-on _ _ _ _ _ (c .before .before .before .before .loop .inv) _ (c .before .before .key-at .ensures .0) (c .before .before .before .loop-test .taken) (c .before .if1 .left) _ (c .field-end .ensures .is)
+
+returns-2 : tie.Need-returns-2 Inv-loop μ-loop
+returns-2 c = seek-end _ _ _ _ _ (c .before .loop .inv) (c .loop-test .left)
+
+pub seek-spec : {M : Type 1} → statement M
+seek-spec =
+    tie.close
+    (tie.spec
+    Inv-loop
+    μ-loop
+    loop-holds
+    (λ c κs. search needs)
+    returns
+    (λ c κs. search needs)
+    (λ c. search needs)
+    loop-again
+    returns-2)

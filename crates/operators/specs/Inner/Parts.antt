@@ -1,0 +1,126 @@
+-- The fields of a language, or of a body, as keys and bytes: what the operators on bytes do with them.
+-- `proofs/Encoded.antt` shows what this comes to for languages and for bodies.
+use Prim.Native.Nat.{ℕ, _+_, _<_, _≤_}
+use mathlib.Core.Path.{_≡_}
+use mathlib.Core.Bool.{Bool, true, false, cond, not, _&&_}
+use mathlib.Core.List.{List, [], _∷_, _++_, map}
+use lib.ListN.{length, take, drop}
+use lib.Seq.{slice}
+use lib.Dec.{ltb, eqb}
+use Rattle.fields.specs.Lists.{all, concatMap, sameNumbers}
+use Rattle.fields.specs.Keyed.{rising, union, without, within, agree}
+use Rattle.fields.specs.Inner.Places.{fieldEnd, isWhole, placesFrom, keyAt}
+use Rattle.language.specs.Inner.Entries.{resultsMeet}
+use Rattle.operators.specs.declared.copy.Stored.{Stored}
+use Rattle.operators.specs.declared.copy.Stored.the-variants.{To, Full}
+
+-- A field: its key, and all its bytes.
+pub record Part : Type 0 where
+  pub key : ℕ
+  pub bytes : List ℕ
+
+abbrev pub partKey : Part → ℕ
+partKey a = a .key
+
+-- Two fields are the same, byte for byte.
+unfoldable pub samePart : Part → Part → Bool
+samePart a b = eqb (a .key) (b .key) && sameNumbers (a .bytes) (b .bytes)
+
+-- The bytes of fields, one after the other.
+unfoldable pub bytesOf : List Part → List ℕ
+bytesOf = concatMap (λ a. a .bytes)
+
+-- The bytes of the field at p.
+abbrev pub pieceAt : List ℕ → ℕ → List ℕ
+pieceAt s p = slice p (fieldEnd s p) s
+
+-- The field at p, where `first` is the tag of the fields that come first.
+unfoldable pub partAt : ℕ → List ℕ → ℕ → Part
+partAt first s p = record { key = keyAt first s p; bytes = pieceAt s p }
+
+-- The fields from p on, and all fields.
+unfoldable pub partsFrom : ℕ → List ℕ → ℕ → List Part
+partsFrom first s p = map (partAt first s) (placesFrom s p)
+
+abbrev pub parts : ℕ → List ℕ → List Part
+parts first s = partsFrom first s 0
+
+-- There is a field at p, and it is whole.
+pub record WholeAt (s : List ℕ) (p : ℕ) : Type 0 where
+  pub inside : p < length s
+  pub fits : fieldEnd s p ≤ length s
+
+-- p is in the file, and the fields from p on are whole.
+pub record WholeFrom (s : List ℕ) (p : ℕ) : Type 0 where
+  pub inside : p ≤ length s
+  pub whole : all (isWhole s) (placesFrom s p) ≡ true
+
+-- The file is whole fields, and their keys rise.
+pub record Sorted (first : ℕ) (s : List ℕ) : Type 0 where
+  pub whole : all (isWhole s) (placesFrom s 0) ≡ true
+  pub rises : rising partKey (parts first s) ≡ true
+
+-- The fields with a key below k that come first, and what comes after them.
+unfoldable pub lower : ℕ → List Part → List Part
+lower k [] = []
+lower k (a ∷ l) = cond (ltb (a .key) k) (a ∷ lower k l) []
+
+unfoldable pub seek : ℕ → List Part → List Part
+seek k [] = []
+seek k (a ∷ l) = cond (ltb (a .key) k) (seek k l) (a ∷ l)
+
+-- r is where the first field from p on stands whose key is k or more, or the end of the file.
+pub record SoughtAt (first : ℕ) (s : List ℕ) (p k r : ℕ) : Type 0 where
+  pub rest : partsFrom first s r ≡ seek k (partsFrom first s p)
+  pub skipped : slice p r s ≡ bytesOf (lower k (partsFrom first s p))
+  pub past : p ≤ r
+  pub from : WholeFrom s r
+
+-- The list begins with the field.
+abbrev pub leads : Part → List Part → Bool
+leads a [] = false
+leads a (b ∷ l) = samePart a b
+
+-- Two fields of one key that are not the same.
+unfoldable pub partsClash : Part → Part → Bool
+partsClash a b = eqb (a .key) (b .key) && not (sameNumbers (a .bytes) (b .bytes))
+
+-- The union of two files, by key.
+unfoldable pub united : ℕ → List ℕ → List ℕ → List ℕ
+united first a b = bytesOf (union partKey (parts first a) (parts first b))
+
+-- The first file without the fields of the second.
+unfoldable pub removed : ℕ → List ℕ → List ℕ → List ℕ
+removed first a b = bytesOf (without samePart (parts first a) (parts first b))
+
+-- Every field of the first file stands in the second.
+unfoldable pub liesWithin : ℕ → List ℕ → List ℕ → Bool
+liesWithin first a b = within samePart (parts first a) (parts first b)
+
+-- Fields of one key are the same in both files.
+unfoldable pub agrees : ℕ → List ℕ → List ℕ → Bool
+agrees first a b = agree partKey samePart (parts first a) (parts first b)
+
+-- Two languages fit together: no class of one is a result of the other, and entries of one key are the same.
+unfoldable pub fitTogether : List ℕ → List ℕ → Bool
+fitTogether a b = not (resultsMeet a b) && (not (resultsMeet b a) && agrees 0x11 a b)
+
+-- There are bytes from p up to e.
+pub record Inside (s : List ℕ) (p e : ℕ) : Type 0 where
+  pub rise : p ≤ e
+  pub fits : e ≤ length s
+
+-- o with v written from n on.
+unfoldable pub spliced : List ℕ → ℕ → List ℕ → List ℕ
+spliced o n v = take n o ++ (v ++ drop (n + length v) o)
+
+-- v stands from n up to m in what was the output o.
+pub record Written (v o o′ : List ℕ) (n m : ℕ) : Type 0 where
+  pub end : m ≡ n + length v
+  pub fits : m ≤ length o
+  pub bytes : o′ ≡ spliced o n v
+
+-- The answer r, where v is to be written from n on over the output o, and o′ is left.
+pub record Stores (v o o′ : List ℕ) (n : ℕ) (r : Stored) : Type 0 where
+  pub done : (m : ℕ) → r ≡ To m → Written v o o′ n m
+  pub full : r ≡ Full → length o < n + length v
