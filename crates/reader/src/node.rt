@@ -36,7 +36,7 @@ fn pair_in(s: &[u8], i: usize) -> usize
 }
 
 // What the index holds at i.
-fn place_at(index: &[u16], i: usize) -> usize
+pub fn place_at(index: &[u16], i: usize) -> usize
     requires { ⌜ i < length (now index) ⌝ }
     ensures { λ r. ⌜ r ≡ getD (now (index .entry)) i 0 ⌝ }
 {
