@@ -1,1 +1,3 @@
-// Translations: their definitions. The operations on them are built on the crates below.
+// Translations: their parts in bytes, and the check of a translation.
+pub mod body;
+pub mod parts;
