@@ -63,7 +63,7 @@ module _ (b : List ℕ) (g : Meant.Read C.Code) where
   whole-is Broken y h = cc (broken-of g (sym y))
 
 -- check_kind
-in-is : (s : List ℕ) (k : ℕ) (l : Language) → entriesOf s ≡ some l → any (mentionsAt s k) (places s) ≡ isIn l k
+pub in-is : (s : List ℕ) (k : ℕ) (l : Language) → entriesOf s ≡ some l → any (mentionsAt s k) (places s) ≡ isIn l k
 unfolding isIn mentionsAt
 in-is s k l e = sym (any-map (mentions k) (entryAt s) (places s)) ∙ ap (any (mentions k)) (holds-entries s l e .entries)
 

@@ -98,7 +98,8 @@ module _ (s : List ℕ) (p : ℕ) where
       let b = and-both _ _ (a .1) in
       let f : p + 3 + sizeAt s p ≤ length s = leb-true _ _ w in
       let n : sizeAt s p ≡ 2 = eqb-true _ _ (a .0) in
-      record { tag = t; fits = omega arith; source = ltb-true _ _ (b .0); target = ltb-true _ _ (b .1) }
+      let g : p + 5 ≤ length s = omega (arith, f, n) in
+      record { tag = t; fits = g; source = ltb-true _ _ (b .0); target = ltb-true _ _ (b .1) }
 
   clause-facts : isWhole s p ≡ true → getD s p 0 ≡ 0x23 → clauseWhole s p ≡ true → IsClause s p
   unfolding isWhole clauseWhole fieldEnd

@@ -5,3 +5,7 @@ pub mod Fitting
 pub mod Codec
 pub mod Items
 pub mod Found
+pub mod Rising
+pub mod IndexedItems
+pub mod Marked
+pub mod Mappings
