@@ -29,8 +29,14 @@ module _ (s : List ℕ) (p : ℕ) where
   unfolding placesIn
   in-next f h = cc (lt-leb (length s) p h)
 
+-- Past the end there is no place, whatever the fuel.
+pub in-past : (f : ℕ) (s : List ℕ) (p : ℕ) → length s ≤ p → placesIn f s p ≡ []
+unfolding placesIn
+in-past zero s p h = refl
+in-past (suc f) s p h = in-done s p f h
+
 -- More fuel than bytes that are left is enough.
-enough : (f g : ℕ) (s : List ℕ) (p : ℕ) → length s - p < f → length s - p < g → placesIn f s p ≡ placesIn g s p
+pub enough : (f g : ℕ) (s : List ℕ) (p : ℕ) → length s - p < f → length s - p < g → placesIn f s p ≡ placesIn g s p
 enough zero g s p h k = absurd (omega arith)
 enough (suc f) zero s p h k = absurd (omega arith)
 enough (suc f) (suc g) s p h k =

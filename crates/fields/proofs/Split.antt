@@ -15,7 +15,7 @@ use Rattle.fields.specs.Fields.{Field, field, pairAt, splitFields, field
 use Rattle.fields.specs.Inner.Places.{fieldEnd, isWhole, fieldAt, placesIn, placesFrom, places}
 use Rattle.fields.proofs.Truth.{by-test}
 use Rattle.fields.proofs.Lists.{before-conds, all-true}
-use Rattle.fields.proofs.Places.{end-past, in-done, in-next}
+use Rattle.fields.proofs.Places.{end-past, in-done, in-next, enough}
 
 -- A byte, and a pair, of a part.
 pub byte-drop : (s : List ℕ) (q i j : ℕ) → q + i ≡ j → getD (drop q s) i 0 ≡ getD s j 0
@@ -48,10 +48,10 @@ module _ (s : List ℕ) (p f : ℕ) where
 
   module _ (in-s : p < length s) where
     -- what the split sees of the field at p
-    size : pairAt (drop (p + 1) s) 0 ≡ pairAt s (p + 1)
+    pub size : pairAt (drop (p + 1) s) 0 ≡ pairAt s (p + 1)
     size = pair-drop s (p + 1) 0 (p + 1) (omega arith)
 
-    rest : length (drop (p + 1) s) ≡ length s - (p + 1)
+    pub rest : length (drop (p + 1) s) ≡ length s - (p + 1)
     rest = length-drop (p + 1) s
 
     split-whole : fieldEnd s p ≤ length s
@@ -102,6 +102,31 @@ split-read (suc f) s p h =
 pub fields-at-places : (s : List ℕ) → fieldsOf s ≡ cond (all (isWhole s) (places s)) (some (map (fieldAt s) (places s))) none
 unfolding fieldsOf placesFrom
 fields-at-places s = split-read (suc (length s)) s 0 (omega arith)
+
+-- More fuel than bytes is enough.
+split-enough : (f g : ℕ) (s : List ℕ) → length s < f → length s < g → splitFields f s ≡ splitFields g s
+split-enough f g s h k =
+    split-read f s 0 (omega arith) ∙ (ap (read s) (enough f g s 0 (omega arith) (omega arith)) ∙ sym (split-read g s 0 (omega arith)))
+
+-- A turn of the walk over what is left of a file from p on.
+module _ (s : List ℕ) (p : ℕ) where
+  pub fields-done : length s ≤ p → fieldsOf (drop p s) ≡ some []
+  unfolding fieldsOf
+  fields-done h = split-done s p (length (drop p s)) h
+
+  module _ (in-s : p < length s) where
+    pub fields-next : fieldEnd s p ≤ length s → fieldsOf (drop p s) ≡ before (some (fieldAt s p)) (fieldsOf (drop (fieldEnd s p) s))
+    unfolding fieldsOf
+    fields-next h =
+        let left = drop (fieldEnd s p) s in
+        let a : length left < length (drop p s) = simp length-drop (omega (arith, end-past s p)) in
+        let b : length left < suc (length left) = omega arith in
+        split-whole s p (length (drop p s)) in-s h
+        ∙ ap (λ (o : Option (List Field)). before (some (fieldAt s p)) o) (split-enough (length (drop p s)) (suc (length left)) left a b)
+
+    pub fields-cut : length s < fieldEnd s p → fieldsOf (drop p s) ≡ none
+    unfolding fieldsOf
+    fields-cut h = split-cut s p (length (drop p s)) in-s h
 
 -- What is read of each field is read at its place: ok and at say so of one field that is whole.
 module _ {E : Type 0} (of : Field → Option E) (ok : ℕ → Bool) (at : ℕ → E) (s : List ℕ)

@@ -1,9 +1,12 @@
 // The walk over the fields of a file, whatever their tags.
 ghost use mathlib.Core.Path.{_≡_};
+ghost use mathlib.Core.Bool.{_||_};
 ghost use Prim.Native.Nat.{_<_, _≤_};
+ghost use lib.Dec.{eqb};
 ghost use lib.ListN.{length};
+ghost use Rattle.fields.specs.Fields.{hasOver};
 ghost use Rattle.fields.specs.Keyed.{rising};
-ghost use Rattle.fields.specs.Inner.Places.{EndsAt, keyAt, places};
+ghost use Rattle.fields.specs.Inner.Places.{EndsAt, keyAt, places, overAt};
 use super::bytes::byte_at;
 use super::bytes::pair_at;
 use super::bytes::wide;
@@ -42,4 +45,36 @@ pub fn keys_rise(s: &[u8], first: u8) -> bool
         p = field_end(s, p);
     }
     true
+}
+
+// The field at p has one of the two tags, and says in its length bytes that it is over the limit.
+fn over_at(s: &[u8], p: usize, first: u8, second: u8, limit: usize) -> bool
+    requires { ⌜ p ≤ length (now s) ⌝ }
+    ensures { λ r. ⌜ r ≡ overAt (λ tag. eqb tag first || eqb tag second) limit (now (s .entry)) p ⌝ }
+{
+    if s.len() < p + 3 {
+        return false;
+    }
+    if pair_at(s, p + 1) <= limit {
+        return false;
+    }
+    let tag = byte_at(s, p);
+    if tag == first {
+        return true;
+    }
+    tag == second
+}
+
+// Some field of one of the two tags, reached over whole fields of any tag, says that it is over the limit.
+pub fn says_over(s: &[u8], first: u8, second: u8, limit: usize) -> bool
+    ensures { λ r. ⌜ r ≡ hasOver (λ tag. eqb tag first || eqb tag second) limit (now (s .entry)) ⌝ }
+{
+    let mut p = 0;
+    while p < s.len() {
+        if over_at(s, p, first, second, limit) {
+            return true;
+        }
+        p = field_end(s, p);
+    }
+    false
 }

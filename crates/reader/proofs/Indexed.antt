@@ -7,8 +7,8 @@ use mathlib.Core.Bool.{Bool, true, false, cond, _&&_}
 use mathlib.Core.Option.{Option, none, some}
 use native.Mathlib.Omega.{arith}
 use native.Mathlib.Numerals.{add-one}
-use lib.ListN.{length, getD, set, length-set}
-use lib.Seq.{slice, getD-set-same, getD-set-other}
+use lib.ListN.{length, getD}
+use lib.Seq.{slice}
 use lib.Dec.{ltb, leb, eqb}
 use borrow.Author.Tests.{eq-eqb, ne-eqb, eqb-true, eqb-false, ltb-true}
 use Rattle.fields.specs.Fields.{pairAt}
@@ -22,108 +22,8 @@ use Rattle.language.specs.Inner.Entries.{sizeAt, entryWhole, entryAt, IsClass, 
 use Rattle.language.proofs.Facts.{entry-facts, class-is, production-is}
 use Rattle.language.proofs.Holds.{holds-entries}
 use Rattle.reader.specs.Inner.Positions.{KindsIn}
-use Rattle.reader.specs.Inner.Index.{putAt, putAll, rangeBefore, argumentsBefore, Sound, Indexed}
-use Rattle.reader.proofs.Lookup.{put-not, put-in, put-length}
-
--- What stands at j after a value was put at a key.
-module _ (index : List ℕ) (key v j : ℕ) where
-  put-same : key ≡ j → j < length index → getD index j 0 ≡ 0 → getD (putAt index key v) j 0 ≡ v
-  put-same e h z = cc (put-in index key v (ap (λ (i : ℕ). getD index i 0) e ∙ z), getD-set-same index j v 0 h)
-
-  put-kept : (getD index j 0 ≡ 0 → ⊥) → getD (putAt index key v) j 0 ≡ getD index j 0
-  put-kept n =
-      by-test (eqb (getD index key 0) 0)
-      (λ e.
-      let z : getD index key 0 ≡ 0 = eqb-true _ _ e in
-      cc (put-in index key v z, getD-set-other index key j v 0 (λ d. n (ap (λ (i : ℕ). getD index i 0) d ∙ z))))
-      (λ e. cc (put-not index key v (eqb-false _ _ e)))
-
-  put-other : (key ≡ j → ⊥) → getD (putAt index key v) j 0 ≡ getD index j 0
-  put-other n =
-      by-test (eqb (getD index key 0) 0)
-      (λ e. cc (put-in index key v (eqb-true _ _ e), getD-set-other index key j v 0 (λ d. n (sym d))))
-      (λ e. cc (put-not index key v (eqb-false _ _ e)))
-
--- The first place of a key, and one more; 0 where it has none.
-unfoldable placeOf : List ℕ → ℕ → List ℕ → ℕ
-placeOf s j [] = 0
-placeOf s j (p ∷ l) = cond (eqb (keyAt 0x11 s p) j) (p + 1) (placeOf s j l)
-
-module _ (s : List ℕ) (j p : ℕ) (l : List ℕ) where
-  place-here : keyAt 0x11 s p ≡ j → placeOf s j (p ∷ l) ≡ p + 1
-  unfolding placeOf
-  place-here h = cc (eq-eqb _ _ h)
-
-  place-on : (keyAt 0x11 s p ≡ j → ⊥) → placeOf s j (p ∷ l) ≡ placeOf s j l
-  unfolding placeOf
-  place-on h = cc (ne-eqb _ _ h)
-
--- The index holds the first place of each key.
-puts-length : (s l index : List ℕ) → length (putAll s index l) ≡ length index
-unfolding putAll
-puts-length s [] index = refl
-puts-length s (p ∷ l) index = puts-length s l (putAt index (keyAt 0x11 s p) (p + 1)) ∙ put-length index (keyAt 0x11 s p) (p + 1)
-
-puts-kept : (s l index : List ℕ) (j : ℕ) → (getD index j 0 ≡ 0 → ⊥) → getD (putAll s index l) j 0 ≡ getD index j 0
-unfolding putAll
-puts-kept s [] index j n = refl
-puts-kept s (p ∷ l) index j n =
-    let k = put-kept index (keyAt 0x11 s p) (p + 1) j n in
-    puts-kept s l (putAt index (keyAt 0x11 s p) (p + 1)) j (λ z. n (sym k ∙ z)) ∙ k
-
-puts-place : (s l index : List ℕ) (j : ℕ) → j < length index → getD index j 0 ≡ 0 → getD (putAll s index l) j 0 ≡ placeOf s j l
-unfolding putAll placeOf
-puts-place s [] index j h z = z
-puts-place s (p ∷ l) index j h z =
-    let key : ℕ = keyAt 0x11 s p in
-    let more : List ℕ = putAt index key (p + 1) in
-    by-test (eqb key j)
-    (λ e.
-    let k = put-same index key (p + 1) j (eqb-true _ _ e) h z in
-    puts-kept s l more j (λ y. let w : p + 1 ≡ 0 = sym k ∙ y in omega arith) ∙ (k ∙ sym (place-here s j p l (eqb-true _ _ e))))
-    (λ e.
-    let k = put-other index key (p + 1) j (eqb-false _ _ e) in
-    puts-place s l more j (rw (put-length index key (p + 1)) h) (k ∙ z) ∙ sym (place-on s j p l (eqb-false _ _ e)))
-
--- A lookup of an entry by its key.
-module _ {B : Type 0} (f : Entry → Option B) (a : Entry) (l : List Entry) where
-  first-some : {b : B} → f a ≡ some b → first f (a ∷ l) ≡ some b
-  unfolding first
-  first-some h = cc
-
-  first-none : f a ≡ none → first f (a ∷ l) ≡ first f l
-  unfolding first
-  first-none h = cc
-
-module _ {B : Type 0} (look : Entry → Option B) (through : ℕ → Option B) (empty : through 0 ≡ none) (s : List ℕ) (j : ℕ)
-    (hit : (p : ℕ) → entryWhole s p ≡ true → keyAt 0x11 s p ≡ j → (b : B) × (look (entryAt s p) ≡ some b) × (through (p + 1) ≡ some b))
-    (miss : (p : ℕ) → entryWhole s p ≡ true → (keyAt 0x11 s p ≡ j → ⊥) → look (entryAt s p) ≡ none) where
-  looked : (l : List ℕ) → all (entryWhole s) l ≡ true → first look (map (entryAt s) l) ≡ through (placeOf s j l)
-  unfolding first placeOf
-  looked [] h = sym empty
-  looked (p ∷ l) h =
-      let w = all-true (entryWhole s) p l h in
-      by-test (eqb (keyAt 0x11 s p) j)
-      (λ e.
-      let b = hit p (w .0) (eqb-true _ _ e) in
-      first-some look (entryAt s p) (map (entryAt s) l) (b .1) ∙ (sym (b .2) ∙ ap through (sym (place-here s j p l (eqb-true _ _ e)))))
-      (λ e.
-      first-none look (entryAt s p) (map (entryAt s) l) (miss p (w .0) (eqb-false _ _ e))
-      ∙ (looked l (w .1) ∙ ap through (sym (place-on s j p l (eqb-false _ _ e)))))
-
--- A place that is not 0 is that of a whole entry of the key.
-found : (s : List ℕ) (j : ℕ) (l : List ℕ) → all (entryWhole s) l ≡ true → 0 < placeOf s j l
-    → (p : ℕ) × (placeOf s j l ≡ p + 1) × (keyAt 0x11 s p ≡ j) × (entryWhole s p ≡ true)
-unfolding placeOf
-found s j [] h z = absurd (omega arith)
-found s j (p ∷ l) h z =
-    let w = all-true (entryWhole s) p l h in
-    by-test (eqb (keyAt 0x11 s p) j)
-    (λ e. (p, place-here s j p l (eqb-true _ _ e), eqb-true _ _ e, w .0))
-    (λ e.
-    let k = place-on s j p l (eqb-false _ _ e) in
-    let f = found s j l (w .1) (rw k at z) in
-    (f .0, k ∙ f .1, f .2, f .3))
+use Rattle.reader.specs.Inner.Index.{putAll, rangeBefore, argumentsBefore, Sound, Indexed}
+use Rattle.reader.proofs.Placed.{placeOf, puts-length, puts-place, looked, found}
 
 -- The kinds of a part.
 part-kinds : (m : ℕ) (s : List ℕ) (q e : ℕ) → e - q ≡ m → e ≤ length s → all isKind (slice q e s) ≡ true → KindsIn s q e
@@ -218,22 +118,22 @@ module _ (s : List ℕ) (bytes : (i : ℕ) → getD s i 0 < 256) (k n : ℕ) (ki
 module _ (s index : List ℕ) (bytes : (i : ℕ) → getD s i 0 < 256) (short : length s ≤ 1024) (long : length index ≡ 8224)
     (zeros : (j : ℕ) → getD index j 0 ≡ 0) (l : Language) (e : entriesOf s ≡ some l) where
   abbrev built : List ℕ
-  built = putAll s index (places s)
+  built = putAll 0x11 s index (places s)
 
   held : Holds s l
   held = holds-entries s l e
 
   built-long : length built ≡ 8224
-  built-long = puts-length s (places s) index ∙ long
+  built-long = puts-length 0x11 s (places s) index ∙ long
 
-  at-key : (j : ℕ) → j < 8224 → getD built j 0 ≡ placeOf s j (places s)
-  at-key j h = puts-place s (places s) index j (omega arith) (zeros j)
+  at-key : (j : ℕ) → j < 8224 → getD built j 0 ≡ placeOf 0x11 s j (places s)
+  at-key j h = puts-place 0x11 s (places s) index j (omega arith) (zeros j)
 
   -- A place in the index is that of a whole entry of the key.
   found-at : (j : ℕ) → j < 8224 → 0 < getD built j 0 → (p : ℕ) × (getD built j 0 ≡ p + 1) × (keyAt 0x11 s p ≡ j) × (entryWhole s p ≡ true)
   found-at j h z =
       let k = at-key j h in
-      let f = found s j (places s) (held .whole) (rw k at z) in
+      let f = found 0x11 (entryWhole s) s j (places s) (held .whole) (rw k at z) in
       (f .0, k ∙ f .1, f .2, f .3)
 
   class-at : (k : ℕ) → k < 32 → 0 < getD built (kindKey k) 0 → getD built (kindKey k) 0 + 7 ≤ length s
@@ -269,11 +169,11 @@ module _ (s index : List ℕ) (bytes : (i : ℕ) → getD s i 0 < 256) (short : 
     entries = e;
     range = λ k h.
         ap (first (rangeAt k)) (sym (held .entries))
-        ∙ (looked (rangeAt k) (rangeBefore s) refl s k (range-hit s k h) (range-miss s k h) (places s) (held .whole)
+        ∙ (looked 0x11 (entryWhole s) (entryAt s) (rangeAt k) (rangeBefore s) refl s k (range-hit s k h) (range-miss s k h) (places s) (held .whole)
         ∙ ap (rangeBefore s) (sym (at-key k (omega arith))));
     arguments = λ k p h j.
         ap (first (argumentsAt k p)) (sym (held .entries))
-        ∙ (looked (argumentsAt k p) (argumentsBefore s) refl s (productionKey k p) (arguments-hit s bytes k p h j) (arguments-miss s bytes k p h j) (places s) (held .whole)
+        ∙ (looked 0x11 (entryWhole s) (entryAt s) (argumentsAt k p) (argumentsBefore s) refl s (productionKey k p) (arguments-hit s bytes k p h j) (arguments-miss s bytes k p h j) (places s) (held .whole)
         ∙ ap (argumentsBefore s) (sym (at-key (productionKey k p) (omega arith))));
   }
 

@@ -34,12 +34,12 @@ module _ (index : List ℕ) (key v : ℕ) where
   put-length = by-test (eqb (getD index key 0) 0) (λ e. cc (length-set index key v)) (λ e. cc)
 
 -- put_all
-module _ (s : List ℕ) (p : ℕ) (index x : List ℕ) (inv : putAll s index (placesFrom s p) ≡ x) where
+module _ (first : ℕ) (s : List ℕ) (p : ℕ) (index x : List ℕ) (inv : putAll first s index (placesFrom s p) ≡ x) where
   pub puts-done : length s ≤ p → index ≡ x
   unfolding putAll
-  puts-done h = pass-done (putAll s index) s p x inv h
+  puts-done h = pass-done (putAll first s index) s p x inv h
 
-  pub puts-next : (more : List ℕ) (key v end : ℕ) → more ≡ putAt index key v → key ≡ keyAt 0x11 s p → v ≡ p + 1 → end ≡ fieldEnd s p → p < length s
-      → putAll s more (placesFrom s end) ≡ x
+  pub puts-next : (more : List ℕ) (key v end : ℕ) → more ≡ putAt index key v → key ≡ keyAt first s p → v ≡ p + 1 → end ≡ fieldEnd s p → p < length s
+      → putAll first s more (placesFrom s end) ≡ x
   unfolding putAll
-  puts-next more key v end em ek ev ee here = rw (em, ek, ev) (pass-next (putAll s index) s p x inv end here ee)
+  puts-next more key v end em ek ev ee here = rw (em, ek, ev) (pass-next (putAll first s index) s p x inv end here ee)

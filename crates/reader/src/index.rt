@@ -1,4 +1,4 @@
-// The index of a language: where the field of each entry stands, by the entry's key.
+// The index of a language, or of a body: where the field of each entry stands, by the entry's key.
 use fields::walk::field_end;
 use fields::walk::key_at;
 ghost use mathlib.Core.Path.{_≡_};
@@ -23,15 +23,15 @@ fn put(index: &mut [u16], key: usize, value: u16)
     index[key] = value;
 }
 
-// Puts every entry of the language into the index.
-fn put_all(language: &[u8], index: &mut [u16])
-    requires { ⌜ length (now language) ≤ 1024 ⌝ }
-    ensures { λ r. ⌜ now (index .exit) ≡ putAll (now (language .entry)) (now (index .entry)) (places (now (language .entry))) ⌝ }
+// Puts every entry of a file into the index. Its first entries have the tag `first`.
+pub fn put_all(s: &[u8], first: u8, index: &mut [u16])
+    requires { ⌜ length (now s) ≤ 4096 ⌝ }
+    ensures { λ r. ⌜ now (index .exit) ≡ putAll first (now (s .entry)) (now (index .entry)) (places (now (s .entry))) ⌝ }
 {
     let mut p = 0;
-    while p < language.len() {
-        put(index, key_at(language, p, 0x11), (p + 1) as u16);
-        p = field_end(language, p);
+    while p < s.len() {
+        put(index, key_at(s, p, first), (p + 1) as u16);
+        p = field_end(s, p);
     }
 }
 
@@ -40,5 +40,5 @@ pub fn build(language: &[u8], index: &mut [u16])
     requires { ⌜ (length (now language) ≤ 1024) × (length (now index) ≡ 8224) × ((j : ℕ) → getD (now index) j 0 ≡ 0) ⌝ }
     ensures { λ r. ⌜ ((l : Language) → entriesOf (now (language .entry)) ≡ some l → Indexed (now (index .exit)) (now (language .entry)) l) ⌝ }
 {
-    put_all(language, index);
+    put_all(language, 0x11, index);
 }

@@ -253,7 +253,7 @@ pub record PartsIn (s : List ℕ) (f : Translation) : Type 0 where
   pub body : itemsIn items ≡ some (f .body)
 
 -- The three parts, taken apart.
-parts-some : (a b : Option Language) (c : Option Body) (f : Translation) → parts a b c ≡ some f
+pub parts-some : (a b : Option Language) (c : Option Body) (f : Translation) → parts a b c ≡ some f
     → (a ≡ some (f .source)) × (b ≡ some (f .target)) × (c ≡ some (f .body))
 parts-some none b c f e = none-some e
 parts-some (some x) none c f e = none-some e
@@ -328,7 +328,7 @@ module _ {s : List ℕ} {f : Translation} (p : PartsIn s f) where
       )
 
   -- No language says that it is over the limit: both are within it.
-  both-short : hasOver isLanguageTag languageLimit s ≡ false
+  pub both-short : hasOver isLanguageTag languageLimit s ≡ false
       → (length (encodeLanguage (f .source)) ≤ languageLimit) × (length (encodeLanguage (f .target)) ≤ languageLimit)
   both-short h =
       let fs = field 0x20 (p .sourceBytes) ∷ field 0x21 (p .targetBytes) ∷ p .items in

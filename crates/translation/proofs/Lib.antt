@@ -3,3 +3,9 @@ pub mod Preserved
 pub mod Lookup
 pub mod Fitting
 pub mod Codec
+pub mod Items
+pub mod Found
+pub mod Rising
+pub mod IndexedItems
+pub mod Marked
+pub mod Mappings

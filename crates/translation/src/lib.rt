@@ -1,1 +1,7 @@
-// Translations: their definitions. The operations on them are built on the crates below.
+// Translations: their parts in bytes, and the check of a translation.
+pub mod body;
+pub mod index;
+pub mod kinds;
+pub mod mapping;
+pub mod order;
+pub mod parts;

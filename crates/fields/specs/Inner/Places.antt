@@ -2,10 +2,10 @@
 -- `proofs/Split.antt` shows that they are the fields of `fieldsOf`.
 use Prim.Native.Nat.{ℕ, zero, suc, _+_, _<_, _≤_}
 use mathlib.Core.Path.{_≡_}
-use mathlib.Core.Bool.{Bool, true, false, cond}
+use mathlib.Core.Bool.{Bool, true, false, cond, _&&_}
 use mathlib.Core.List.{List, [], _∷_}
 use lib.ListN.{length, take, drop}
-use lib.Dec.{leb, eqb}
+use lib.Dec.{ltb, leb, eqb}
 use Rattle.fields.specs.Fields.{Field, field, byteAt, pairAt}
 
 -- Where the field at p ends, by its length bytes.
@@ -46,3 +46,8 @@ places s = placesFrom s 0
 -- The key of the entry at p: of a field of the first tag the kind that comes first, of any other the kind and name.
 unfoldable pub keyAt : ℕ → List ℕ → ℕ → ℕ
 keyAt first s p = cond (eqb (byteAt s p) first) (byteAt s (p + 3)) (32 + pairAt s (p + 3))
+
+-- The first three bytes of the field at p are there, its tag is of a language, and its length bytes say that it is
+-- over the limit. `proofs/Over.antt` shows that `hasOver` asks for such a place.
+unfoldable pub overAt : (ℕ → Bool) → ℕ → List ℕ → ℕ → Bool
+overAt isLanguage limit s p = leb (p + 3) (length s) && (isLanguage (byteAt s p) && ltb limit (pairAt s (p + 1)))

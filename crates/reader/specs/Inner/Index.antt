@@ -28,10 +28,10 @@ argumentsBefore s (suc p) = some (slice (p + 5) (fieldEnd s p) s)
 unfoldable pub putAt : List ℕ → ℕ → ℕ → List ℕ
 putAt index key v = cond (eqb (getD index key 0) 0) (set index key v) index
 
--- The index with the entries at places put in, one after the other.
-unfoldable pub putAll : List ℕ → List ℕ → List ℕ → List ℕ
-putAll s index [] = index
-putAll s index (p ∷ l) = putAll s (putAt index (keyAt 0x11 s p) (p + 1)) l
+-- The index with the entries at places put in, one after the other. The first entries have the tag `first`.
+unfoldable pub putAll : ℕ → List ℕ → List ℕ → List ℕ → List ℕ
+putAll first s index [] = index
+putAll first s index (p ∷ l) = putAll first s (putAt index (keyAt first s p) (p + 1)) l
 
 -- What a lookup may rely on: each place is that of a whole field.
 pub record Sound (index s : List ℕ) : Type 0 where

@@ -14,19 +14,19 @@ use Rattle.fields.proofs.walk.key_at.Reads as key-at-reads
 use Rattle.reader.proofs.index.put.Reads as put-reads
 
 abbrev Inv-loop : tie.InvT-loop
-Inv-loop language index₀ p₀ index p = (length index ≡ length index₀) × (putAll language index (placesFrom language p) ≡ putAll language index₀ (places language))
+Inv-loop s first index₀ p₀ index p = (length index ≡ length index₀) × (putAll first s index (placesFrom s p) ≡ putAll first s index₀ (places s))
 
 abbrev μ-loop : tie.MeasureT-loop
-μ-loop language index₀ p₀ index p = length language - p
+μ-loop s first index₀ p₀ index p = length s - p
 
 loop-holds : tie.Need-loop-holds Inv-loop μ-loop
 loop-holds c = (refl, refl)
 
 loop-again : tie.Need-loop-again Inv-loop μ-loop
-loop-again c = (search needs, puts-next _ _ _ _ (c .before .before .before .before .before .before .before .loop .inv .1) _ _ _ _ (c .before .before .before .put .ensures) (c .before .before .before .before .key-at .ensures .0) refl (c .field-end .ensures .is) (c .before .before .before .before .before .before .loop-test .taken))
+loop-again c = (search needs, puts-next _ _ _ _ _ (c .before .before .before .before .before .before .before .loop .inv .1) _ _ _ _ (c .before .before .before .put .ensures) (c .before .before .before .before .key-at .ensures .0) refl (c .field-end .ensures .is) (c .before .before .before .before .before .before .loop-test .taken))
 
 returns : tie.Need-returns Inv-loop μ-loop
-returns c = puts-done _ _ _ _ (c .before .loop .inv .1) (c .loop-test .left)
+returns c = puts-done _ _ _ _ _ (c .before .loop .inv .1) (c .loop-test .left)
 
 pub put-all-spec : {M : Type 1} → statement M
 put-all-spec =

@@ -1,0 +1,118 @@
+-- The index holds the first place of each key, whatever the entries are: what is looked up through it is what stands
+-- in the list of the entries.
+use Prim.Native.Nat.{ℕ, zero, suc, _+_, _<_, _≤_}
+use mathlib.Core.Path.{_≡_, refl, sym, ap, _∙_}
+use mathlib.Core.List.{List, [], _∷_, map}
+use mathlib.Core.Bool.{Bool, true, false, cond}
+use mathlib.Core.Option.{Option, none, some}
+use native.Mathlib.Omega.{arith}
+use lib.ListN.{length, getD, set, length-set}
+use lib.Seq.{getD-set-same, getD-set-other}
+use lib.Dec.{eqb}
+use borrow.Author.Tests.{eq-eqb, ne-eqb, eqb-true, eqb-false}
+use Rattle.fields.specs.Lists.{all, first}
+use Rattle.fields.specs.Inner.Places.{keyAt}
+use Rattle.fields.proofs.Truth.{by-test}
+use Rattle.fields.proofs.Lists.{all-true}
+use Rattle.reader.specs.Inner.Index.{putAt, putAll}
+use Rattle.reader.proofs.Lookup.{put-not, put-in, put-length}
+
+-- What stands at j after a value was put at a key.
+module _ (index : List ℕ) (key v j : ℕ) where
+  put-same : key ≡ j → j < length index → getD index j 0 ≡ 0 → getD (putAt index key v) j 0 ≡ v
+  put-same e h z = cc (put-in index key v (ap (λ (i : ℕ). getD index i 0) e ∙ z), getD-set-same index j v 0 h)
+
+  put-kept : (getD index j 0 ≡ 0 → ⊥) → getD (putAt index key v) j 0 ≡ getD index j 0
+  put-kept n =
+      by-test (eqb (getD index key 0) 0)
+      (λ e.
+      let z : getD index key 0 ≡ 0 = eqb-true _ _ e in
+      cc (put-in index key v z, getD-set-other index key j v 0 (λ d. n (ap (λ (i : ℕ). getD index i 0) d ∙ z))))
+      (λ e. cc (put-not index key v (eqb-false _ _ e)))
+
+  put-other : (key ≡ j → ⊥) → getD (putAt index key v) j 0 ≡ getD index j 0
+  put-other n =
+      by-test (eqb (getD index key 0) 0)
+      (λ e. cc (put-in index key v (eqb-true _ _ e), getD-set-other index key j v 0 (λ d. n (sym d))))
+      (λ e. cc (put-not index key v (eqb-false _ _ e)))
+
+-- The first place of a key, and one more; 0 where it has none. The first entries have the tag t.
+unfoldable pub placeOf : ℕ → List ℕ → ℕ → List ℕ → ℕ
+placeOf t s j [] = 0
+placeOf t s j (p ∷ l) = cond (eqb (keyAt t s p) j) (p + 1) (placeOf t s j l)
+
+module _ (t : ℕ) (s : List ℕ) (j p : ℕ) (l : List ℕ) where
+  place-here : keyAt t s p ≡ j → placeOf t s j (p ∷ l) ≡ p + 1
+  unfolding placeOf
+  place-here h = cc (eq-eqb _ _ h)
+
+  place-on : (keyAt t s p ≡ j → ⊥) → placeOf t s j (p ∷ l) ≡ placeOf t s j l
+  unfolding placeOf
+  place-on h = cc (ne-eqb _ _ h)
+
+-- The index holds the first place of each key.
+pub puts-length : (t : ℕ) (s l index : List ℕ) → length (putAll t s index l) ≡ length index
+unfolding putAll
+puts-length t s [] index = refl
+puts-length t s (p ∷ l) index = puts-length t s l (putAt index (keyAt t s p) (p + 1)) ∙ put-length index (keyAt t s p) (p + 1)
+
+puts-kept : (t : ℕ) (s l index : List ℕ) (j : ℕ) → (getD index j 0 ≡ 0 → ⊥) → getD (putAll t s index l) j 0 ≡ getD index j 0
+unfolding putAll
+puts-kept t s [] index j n = refl
+puts-kept t s (p ∷ l) index j n =
+    let k = put-kept index (keyAt t s p) (p + 1) j n in
+    puts-kept t s l (putAt index (keyAt t s p) (p + 1)) j (λ z. n (sym k ∙ z)) ∙ k
+
+pub puts-place : (t : ℕ) (s l index : List ℕ) (j : ℕ) → j < length index → getD index j 0 ≡ 0 → getD (putAll t s index l) j 0 ≡ placeOf t s j l
+unfolding putAll placeOf
+puts-place t s [] index j h z = z
+puts-place t s (p ∷ l) index j h z =
+    let key : ℕ = keyAt t s p in
+    let more : List ℕ = putAt index key (p + 1) in
+    by-test (eqb key j)
+    (λ e.
+    let k = put-same index key (p + 1) j (eqb-true _ _ e) h z in
+    puts-kept t s l more j (λ y. let w : p + 1 ≡ 0 = sym k ∙ y in omega arith) ∙ (k ∙ sym (place-here t s j p l (eqb-true _ _ e))))
+    (λ e.
+    let k = put-other index key (p + 1) j (eqb-false _ _ e) in
+    puts-place t s l more j (rw (put-length index key (p + 1)) h) (k ∙ z) ∙ sym (place-on t s j p l (eqb-false _ _ e)))
+
+-- A lookup of an entry by its key.
+module _ {E B : Type 0} (f : E → Option B) (a : E) (l : List E) where
+  first-some : {b : B} → f a ≡ some b → first f (a ∷ l) ≡ some b
+  unfolding first
+  first-some h = cc
+
+  first-none : f a ≡ none → first f (a ∷ l) ≡ first f l
+  unfolding first
+  first-none h = cc
+
+module _ {E B : Type 0} (t : ℕ) (ok : ℕ → Bool) (at : ℕ → E) (look : E → Option B) (through : ℕ → Option B) (empty : through 0 ≡ none) (s : List ℕ) (j : ℕ)
+    (hit : (p : ℕ) → ok p ≡ true → keyAt t s p ≡ j → (b : B) × (look (at p) ≡ some b) × (through (p + 1) ≡ some b))
+    (miss : (p : ℕ) → ok p ≡ true → (keyAt t s p ≡ j → ⊥) → look (at p) ≡ none) where
+  pub looked : (l : List ℕ) → all ok l ≡ true → first look (map at l) ≡ through (placeOf t s j l)
+  unfolding first placeOf
+  looked [] h = sym empty
+  looked (p ∷ l) h =
+      let w = all-true ok p l h in
+      by-test (eqb (keyAt t s p) j)
+      (λ e.
+      let b = hit p (w .0) (eqb-true _ _ e) in
+      first-some look (at p) (map at l) (b .1) ∙ (sym (b .2) ∙ ap through (sym (place-here t s j p l (eqb-true _ _ e)))))
+      (λ e.
+      first-none look (at p) (map at l) (miss p (w .0) (eqb-false _ _ e))
+      ∙ (looked l (w .1) ∙ ap through (sym (place-on t s j p l (eqb-false _ _ e)))))
+
+-- A place that is not 0 is that of a whole entry of the key.
+pub found : (t : ℕ) (ok : ℕ → Bool) (s : List ℕ) (j : ℕ) (l : List ℕ) → all ok l ≡ true → 0 < placeOf t s j l
+    → (p : ℕ) × (placeOf t s j l ≡ p + 1) × (keyAt t s p ≡ j) × (ok p ≡ true)
+unfolding placeOf
+found t ok s j [] h z = absurd (omega arith)
+found t ok s j (p ∷ l) h z =
+    let w = all-true ok p l h in
+    by-test (eqb (keyAt t s p) j)
+    (λ e. (p, place-here t s j p l (eqb-true _ _ e), eqb-true _ _ e, w .0))
+    (λ e.
+    let k = place-on t s j p l (eqb-false _ _ e) in
+    let f = found t ok s j l (w .1) (rw k at z) in
+    (f .0, k ∙ f .1, f .2, f .3))

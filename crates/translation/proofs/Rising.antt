@@ -1,0 +1,55 @@
+-- A law for each return of the functions on the order of keys and on clashes.
+use mathlib.Core.Path.{_≡_, sym, _∙_}
+use mathlib.Core.Bool.{Bool, true, false, _&&_, _||_}
+use mathlib.Core.List.{List}
+use Prim.Native.Nat.{ℕ}
+use Rattle.fields.specs.Keyed.{rising}
+use Rattle.fields.specs.Inner.Places.{places, keyAt}
+use Rattle.language.specs.Language.{clashes}
+use Rattle.language.specs.Inner.Entries.{resultIsClass}
+use Rattle.language.proofs.Holds.{holds-entries}
+use Rattle.language.proofs.Chain.{rising-is}
+use Rattle.language.proofs.Clashes.{clash-is}
+use Rattle.translation.specs.Translation.{Translation}
+use Rattle.translation.specs.TranslationFile.{allRising}
+use Rattle.translation.specs.Inner.Pieces.{Pieces}
+use Rattle.translation.proofs.Items.{holds-items, rising-is as items-rise}
+
+module _ (s t b : List ℕ) (f : Translation) (w : Pieces s t b f) where
+  -- The order of all keys, by the walk over the three parts.
+  rising-three : (rising (keyAt 0x11 s) (places s) && (rising (keyAt 0x11 t) (places t) && rising (keyAt 0x22 b) (places b))) ≡ allRising f
+  unfolding allRising
+  rising-three =
+      rw (
+        rising-is s (f .source) (holds-entries s (f .source) (w .source)),
+        rising-is t (f .target) (holds-entries t (f .target) (w .target)),
+        items-rise b (f .body) (holds-items b (f .body) (w .body)),
+      )
+
+  -- in_order
+  module _ (x : Bool) (ex : x ≡ rising (keyAt 0x11 s) (places s)) where
+    pub order-source : x ≡ false → false ≡ allRising f
+    order-source h = rw (← ex, h) at rising-three
+
+    module _ (xt : x ≡ true) (y : Bool) (ey : y ≡ rising (keyAt 0x11 t) (places t)) where
+      pub order-target : y ≡ false → false ≡ allRising f
+      order-target h = rw (← ex, xt, ← ey, h) at rising-three
+
+      pub order-body : y ≡ true → (z : Bool) → z ≡ rising (keyAt 0x22 b) (places b) → z ≡ allRising f
+      order-body h z ez = rw (← ex, xt, ← ey, h, ← ez) at rising-three
+
+  -- Clashes, by the walk over the two languages.
+  clash-two : (resultIsClass s || resultIsClass t) ≡ (clashes (f .source) (f .source) || clashes (f .target) (f .target))
+  clash-two =
+      rw (
+        clash-is s (f .source) (holds-entries s (f .source) (w .source)),
+        clash-is t (f .target) (holds-entries t (f .target) (w .target)),
+      )
+
+  -- languages_clash
+  module _ (x : Bool) (ex : x ≡ resultIsClass s) where
+    pub clash-source : x ≡ true → true ≡ (clashes (f .source) (f .source) || clashes (f .target) (f .target))
+    clash-source h = rw (← ex, h) at clash-two
+
+    pub clash-target : x ≡ false → (y : Bool) → y ≡ resultIsClass t → y ≡ (clashes (f .source) (f .source) || clashes (f .target) (f .target))
+    clash-target h y ey = rw (← ex, h, ← ey) at clash-two

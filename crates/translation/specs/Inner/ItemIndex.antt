@@ -1,0 +1,53 @@
+-- The index of a body, in the form of a language's: for the key of an item the place of its field in the body's
+-- bytes, and one more; 0 where there is no such item.
+use Prim.Native.Nat.{ℕ, zero, suc, _+_, _<_, _≤_}
+use mathlib.Core.Path.{_≡_}
+use mathlib.Core.Bool.{cond}
+use mathlib.Core.List.{List}
+use mathlib.Core.Option.{Option, none, some}
+use lib.ListN.{length, getD}
+use lib.Seq.{slice}
+use lib.Dec.{eqb}
+use Rattle.fields.specs.Fields.{byteAt, pairAt}
+use Rattle.fields.specs.Inner.Places.{fieldEnd}
+use Rattle.language.specs.Language.{kindKey, productionKey}
+use Rattle.reader.specs.Inner.Index.{Indexed}
+use Rattle.translation.specs.Translation.{Body, Translation, mappingOf, clauseOf}
+use Rattle.translation.specs.TranslationFile.{bodyOf}
+
+-- The target kind in the field before `place`.
+abbrev pub targetBefore : List ℕ → ℕ → Option ℕ
+targetBefore s zero = none
+targetBefore s (suc p) = some (byteAt s (p + 4))
+
+-- The code in the field before `place`.
+abbrev pub codeBefore : List ℕ → ℕ → Option (List ℕ)
+codeBefore s zero = none
+codeBefore s (suc p) = some (slice (p + 5) (fieldEnd s p) s)
+
+-- What a lookup may rely on: each place is that of a whole field.
+pub record SoundItems (index s : List ℕ) : Type 0 where
+  pub long : length index ≡ 8224
+  pub short : length s ≤ 4096
+  pub target : (k : ℕ) → k < 32 → 0 < getD index (kindKey k) 0
+      → (getD index (kindKey k) 0 + 3 < length s) × (byteAt s (getD index (kindKey k) 0 + 3) < 32)
+  pub code : (k p : ℕ) → k < 32 → p < 256 → 0 < getD index (productionKey k p) 0
+      → (2 ≤ pairAt s (getD index (productionKey k p) 0))
+      × (getD index (productionKey k p) 0 + 2 + pairAt s (getD index (productionKey k p) 0) ≤ length s)
+
+-- The index of body b, whose bytes are s: what is looked up through it is what stands in b.
+pub record IndexedItems (index s : List ℕ) (b : Body) : Type 0 where
+  pub sound : SoundItems index s
+  pub items : bodyOf s ≡ some b
+  pub mapping : (k : ℕ) → k < 32 → mappingOf b k ≡ targetBefore s (getD index (kindKey k) 0)
+  pub clause : (k p : ℕ) → k < 32 → p < 256 → clauseOf b k p ≡ codeBefore s (getD index (productionKey k p) 0)
+
+-- The kind that kind k maps to, looked up; 0 where it is not mapped.
+unfoldable pub mappedAt : List ℕ → List ℕ → ℕ → ℕ
+mappedAt s index k = cond (eqb (getD index k 0) 0) 0 (byteAt s (getD index k 0 + 3))
+
+-- The three parts of f, each with its index.
+pub record Ready (s is t it b ib : List ℕ) (f : Translation) : Type 0 where
+  pub source : Indexed is s (f .source)
+  pub target : Indexed it t (f .target)
+  pub body : IndexedItems ib b (f .body)

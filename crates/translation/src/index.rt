@@ -1,0 +1,31 @@
+// The index of a body, and lookups through it.
+ghost use mathlib.Core.Path.{_≡_};
+ghost use mathlib.Core.Option.{some};
+ghost use Prim.Native.Nat.{ℕ, _<_, _≤_};
+ghost use lib.ListN.{length, getD};
+ghost use Rattle.translation.specs.Translation.{Body};
+ghost use Rattle.translation.specs.TranslationFile.{bodyOf};
+ghost use Rattle.translation.specs.Inner.ItemIndex.{SoundItems, IndexedItems, mappedAt};
+use fields::bytes::wide;
+use reader::index::put_all;
+use reader::node::place_at;
+
+// Builds the index of a body in an index that is all zero.
+pub fn build_items(body: &[u8], index: &mut [u16])
+    requires { ⌜ (length (now body) ≤ 4096) × (length (now index) ≡ 8224) × ((j : ℕ) → getD (now index) j 0 ≡ 0) ⌝ }
+    ensures { λ r. ⌜ ((b : Body) → bodyOf (now (body .entry)) ≡ some b → IndexedItems (now (index .exit)) (now (body .entry)) b) ⌝ }
+{
+    put_all(body, 0x22, index);
+}
+
+// The kind that a kind maps to; 0 where it is not mapped.
+pub fn map_kind(body: &[u8], index: &[u16], kind: u8) -> u8
+    requires { ⌜ SoundItems (now index) (now body) × (kind < 32) ⌝ }
+    ensures { λ r. ⌜ (r ≡ mappedAt (now (body .entry)) (now (index .entry)) kind) × (r < 32) ⌝ }
+{
+    let place = place_at(index, wide(kind));
+    if place == 0 {
+        return 0;
+    }
+    body[place + 3]
+}

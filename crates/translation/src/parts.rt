@@ -1,0 +1,85 @@
+// The parts of a translation: the field of its source, the field of its target, and its body.
+ghost use mathlib.Core.Path.{_≡_};
+ghost use mathlib.Core.Bool.{_||_};
+ghost use mathlib.Core.Option.{some};
+ghost use Prim.Native.Nat.{_≤_};
+ghost use lib.Dec.{ltb};
+ghost use lib.ListN.{length};
+ghost use Rattle.fields.specs.Fields.{hasOver};
+ghost use Rattle.fields.specs.Lists.{isSome};
+ghost use Rattle.language.specs.LanguageFile.{languageLimit};
+ghost use Rattle.translation.specs.Translation.{Translation};
+ghost use Rattle.translation.specs.TranslationFile.{partsOf, translationLimit, isLanguageTag};
+ghost use Rattle.translation.specs.Inner.Parts.{Parted};
+ghost use Rattle.translation.specs.Inner.Pieces.{partEnd};
+use super::body::body_whole;
+use fields::bytes::byte_at;
+use fields::walk::field_end;
+use fields::walk::says_over;
+use language::entries::entries_whole;
+
+// Where the parts of a translation stand: the source's field ends at the first number, the target's at the second,
+// and the body follows.
+pub struct Parts {
+    pub source_end: usize,
+    pub target_end: usize,
+}
+
+// The file, or a language in it, is over its limit.
+pub fn over_limit(s: &[u8]) -> bool
+    ensures { λ r. ⌜ r ≡ ltb translationLimit (length (now (s .entry))) || hasOver isLanguageTag languageLimit (now (s .entry)) ⌝ }
+{
+    if 4096 < s.len() {
+        return true;
+    }
+    says_over(s, 0x20, 0x21, 1024)
+}
+
+// Where the whole field of this tag at p ends, or 0 where there is none.
+fn part_end(s: &[u8], p: usize, tag: u8) -> usize
+    requires { ⌜ p ≤ length (now s) ⌝ }
+    ensures { λ r. ⌜ (r ≡ partEnd tag (now (s .entry)) p) × (r ≤ length (now (s .entry))) ⌝ }
+{
+    if byte_at(s, p) != tag {
+        return 0;
+    }
+    let e = field_end(s, p);
+    if s.len() < e {
+        return 0;
+    }
+    e
+}
+
+// The file is a source, a target and a body, each of whole fields.
+pub fn parts_whole(s: &[u8]) -> bool
+    ensures { λ r. ⌜ r ≡ isSome (partsOf (now (s .entry))) ⌝ }
+{
+    let a = part_end(s, 0, 0x20);
+    if a == 0 {
+        return false;
+    }
+    let b = part_end(s, a, 0x21);
+    if b == 0 {
+        return false;
+    }
+    if !entries_whole(&s[3..a]) {
+        return false;
+    }
+    if !entries_whole(&s[a + 3..b]) {
+        return false;
+    }
+    body_whole(&s[b..])
+}
+
+// Where the parts of a whole translation stand.
+pub fn parts_of(s: &[u8]) -> Parts
+    requires { ⌜ ((f : Translation) × (partsOf (now s) ≡ some f)) ⌝ }
+    ensures { λ r. ⌜ ((f : Translation) → partsOf (now (s .entry)) ≡ some f → Parted (now (s .entry)) (r .«source_end») (r .«target_end») f) ⌝ }
+{
+    let a = field_end(s, 0);
+    let b = field_end(s, a);
+    Parts {
+        source_end: a,
+        target_end: b,
+    }
+}
