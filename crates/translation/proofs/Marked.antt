@@ -17,8 +17,8 @@ use Rattle.language.specs.Language.{Language, mentions, isIn}
 use Rattle.language.specs.LanguageFile.{entriesOf}
 use Rattle.language.specs.Inner.Entries.{entryWhole, entryAt}
 use Rattle.reader.specs.Inner.Positions.{mentionsAt}
-use Rattle.reader.proofs.Check.{in-is}
-use Rattle.reader.proofs.Trees.{in-fits}
+use Rattle.reader.proofs.Members.{in-is}
+use Rattle.reader.proofs.Members.{in-fits}
 use Rattle.translation.specs.Inner.Tests.{markAll, mentionedAt, markEntries}
 
 -- mark_part
