@@ -14,6 +14,7 @@ use Rattle.fields.specs.Fields.{hasOver}
 use Rattle.fields.specs.Outcome.{Result, value, refused, refuseIf, _>>=_, checked}
 use Rattle.fields.specs.declared.outcome.Outcome.{Outcome}
 use Rattle.fields.specs.declared.outcome.Outcome.the-variants.{Accepted, Refused}
+use Rattle.fields.specs.declared.outcome.Reason.{Reason}
 use Rattle.fields.specs.declared.outcome.Reason.the-variants as Why
 use Rattle.fields.proofs.Truth.{false-true, some-is, or-false}
 use Rattle.language.specs.Language.{clashes}
@@ -26,7 +27,7 @@ use Rattle.translation.specs.Operations.{checkTranslation}
 use Rattle.translation.specs.Inner.Parts.{Parted}
 use Rattle.translation.specs.Inner.Pieces.{Pieces, inOrder}
 use Rattle.translation.specs.Inner.ItemIndex.{Ready, Prepared}
-use Rattle.translation.proofs.Codec.{parts-in, both-short}
+use Rattle.translation.proofs.Codec.{parts-in, both-short, translation-whole, translation-parts, translation-length}
 use Rattle.translation.proofs.Found.{cut, cut-is, rest-is}
 
 -- check_prepared
@@ -113,3 +114,24 @@ module _ (s : List ℕ) (over : Bool) (eo : over ≡ (ltb translationLimit (leng
 
       pub pieces-checked : {o : Outcome} → o ≡ checked (inOrder f) → o ≡ checkTranslation s
       pieces-checked h = h ∙ sym (chain ∙ rw e)
+
+-- What a translation that was accepted holds.
+pub record Accepts (s : List ℕ) : Type 0 where
+  pub translation : Translation
+  pub is : translationOf s ≡ value translation
+  pub parts : partsOf s ≡ some translation
+  pub short : length s ≤ 4096
+
+refused-not : {A : Type 0} {n : ℕ} {r : Reason} → Refused r ≡ Accepted n → A
+refused-not y = let z : _≡_ {A = ℕ} 0 1 = cc in absurd (omega arith)
+
+pub accepts : (s : List ℕ) {o : Outcome} {n : ℕ} → o ≡ checkTranslation s → o ≡ Accepted n → Accepts s
+unfolding checkTranslation
+accepts s {o} {n} e h = go (translationOf s) refl (sym e ∙ h)
+  where
+    go : (r : Result Translation) → translationOf s ≡ r → checked r ≡ Accepted n → Accepts s
+    go (value f) d y =
+        let w = translation-whole s f d in
+        let k = w .1 .short in
+        record { translation = f; is = d; parts = translation-parts s f d; short = omega (arith, translation-length (w .0)) }
+    go (refused r) d y = refused-not {n = n} {r = r} y

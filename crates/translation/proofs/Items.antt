@@ -19,6 +19,7 @@ use Rattle.fields.proofs.Codec.{cond-some}
 use Rattle.fields.proofs.Lists.{all-and, there-if, part-is, part-past, rising-map}
 use Rattle.fields.proofs.Places.{pass-done, pass-next}
 use Rattle.fields.proofs.Split.{byte-in, fields-at-places, traverse-at-places}
+use Rattle.language.specs.LanguageFile.{isKind}
 use Rattle.language.specs.Inner.Entries.{sizeAt}
 use Rattle.translation.specs.Translation.{Item, mapping, clause, Body, itemKey}
 use Rattle.translation.specs.TranslationFile.{mappingField, clauseField, itemOf, isClause, grouped, inGroups, itemsIn, bodyIn, bodyOf}
@@ -82,7 +83,7 @@ module _ (s : List ℕ) (p : ℕ) where
   unfolding isWhole mappingWhole fieldEnd
   mapping-facts w t h =
       let a = and-both (eqb (sizeAt s p) 2) _ h in
-      let b = and-both _ _ (a .1) in
+      let b = and-both (isKind (getD s (p + 3) 0)) (isKind (getD s (p + 4) 0)) (a .1) in
       let f : p + 3 + sizeAt s p ≤ length s = leb-true _ _ w in
       let n : sizeAt s p ≡ 2 = eqb-true (sizeAt s p) 2 (a .0) in
       let g : p + 5 ≤ length s = omega arith in

@@ -10,35 +10,15 @@ use Rattle.translation.proofs.check.check_formed.Reads as check-formed-
 use Rattle.translation.proofs.order.in_order.Reads as in-order-reads
 use Rattle.translation.proofs.order.languages_clash.Reads as languages-clash-reads
 
--- src/check.rt:70:9
-in-order-requires : tie.Need-in-order-requires
-in-order-requires c κs = search needs
-
--- src/check.rt:71:9
-refuse-requires : tie.Need-refuse-requires
-refuse-requires c κs = search needs
-
--- src/check.rt:71:9
 returns : tie.Need-returns
 returns c = λ f w. order-refused f _ (c .before .before .in-order .ensures f w) (not-true _ (c .before .if1 .taken)) (c .refuse .ensures)
 
--- src/check.rt:73:8
-languages-clash-requires : tie.Need-languages-clash-requires
-languages-clash-requires c κs = search needs
-
--- src/check.rt:74:9
-refuse-requires-2 : tie.Need-refuse-requires-2
-refuse-requires-2 c κs = search needs
-
--- src/check.rt:74:9
 returns-2 : tie.Need-returns-2
 returns-2 c = λ f w. clash-refused f _ (c .before .before .before .before .in-order .ensures f w) (not-false _ (c .before .before .before .if1 .left)) _ (c .before .before .languages-clash .ensures f w) (c .before .if2 .taken) (c .refuse2 .ensures)
 
--- src/check.rt:76:5
 check-formed-requires : tie.Need-check-formed-requires
 check-formed-requires c κs = c .before .before .before .before .before .before .before .pre
 
--- src/check.rt:65:1
 returns-3 : tie.Need-returns-3
 returns-3 c = λ f w. formed-next f _ (c .before .before .before .before .in-order .ensures f w) (not-false _ (c .before .before .before .if1 .left)) _ (c .before .before .languages-clash .ensures f w) (c .before .if2 .left) (c .check-formed .ensures f w)
 
@@ -46,11 +26,11 @@ pub check-pieces-spec : {M : Type 1} → statement M
 check-pieces-spec =
     tie.close
     (tie.spec
-    in-order-requires
-    refuse-requires
+    (λ c κs. search needs)
+    (λ c κs. search needs)
     returns
-    languages-clash-requires
-    refuse-requires-2
+    (λ c κs. search needs)
+    (λ c κs. search needs)
     returns-2
     check-formed-requires
     returns-3)

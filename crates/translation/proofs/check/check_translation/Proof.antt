@@ -12,79 +12,45 @@ use Rattle.translation.proofs.parts.over_limit.Reads as over-limit-read
 use Rattle.translation.proofs.parts.parts_of.Reads as parts-of-reads
 use Rattle.translation.proofs.parts.parts_whole.Reads as parts-whole-reads
 
--- src/check.rt:83:8
-over-limit-requires : tie.Need-over-limit-requires
-over-limit-requires c κs = search needs
-
--- src/check.rt:84:9
-refuse-requires : tie.Need-refuse-requires
-refuse-requires c κs = search needs
-
--- src/check.rt:84:9
 returns : tie.Need-returns
 returns c = over-refused _ _ (c .before .before .over-limit .ensures) (c .before .if1 .taken) (c .refuse .ensures)
 
--- src/check.rt:86:9
-parts-whole-requires : tie.Need-parts-whole-requires
-parts-whole-requires c κs = search needs
-
--- src/check.rt:87:9
-refuse-requires-2 : tie.Need-refuse-requires-2
-refuse-requires-2 c κs = search needs
-
--- src/check.rt:87:9
 returns-2 : tie.Need-returns-2
 returns-2 c = broken-refused _ _ (c .before .before .before .before .over-limit .ensures) (c .before .before .before .if1 .left) _ (c .before .before .parts-whole .ensures) (not-true _ (c .before .if2 .taken)) (c .refuse2 .ensures)
 
--- src/check.rt:89:9
 parts-of-requires : tie.Need-parts-of-requires
 parts-of-requires c κs = parts-there _ _ (c .before .before .before .over-limit .ensures) (c .before .before .if1 .left) _ (c .before .parts-whole .ensures) (not-false _ (c .if2 .left))
 
--- src/check.rt:93:9
 sub-check-pieces : tie.Need-sub-check-pieces
 sub-check-pieces c = let p = parts-there _ _ (c .before .before .before .before .over-limit .ensures) (c .before .before .before .if1 .left) _ (c .before .before .parts-whole .ensures) (not-false _ (c .before .if2 .left)) in let w = c .parts-of .ensures (p .0) (p .1) in omega (arith, w .source-past, w .target-past, w .inside)
 
--- src/check.rt:93:9
 part-check-pieces-start : tie.Need-part-check-pieces-start
 part-check-pieces-start c = let p = parts-there _ _ (c .before .before .before .before .over-limit .ensures) (c .before .before .before .if1 .left) _ (c .before .before .parts-whole .ensures) (not-false _ (c .before .if2 .left)) in let w = c .parts-of .ensures (p .0) (p .1) in omega (arith, w .source-past, w .target-past, w .inside)
 
--- src/check.rt:93:9
 part-check-pieces-end : tie.Need-part-check-pieces-end
 part-check-pieces-end c = let p = parts-there _ _ (c .before .before .before .before .over-limit .ensures) (c .before .before .before .if1 .left) _ (c .before .before .parts-whole .ensures) (not-false _ (c .before .if2 .left)) in let w = c .parts-of .ensures (p .0) (p .1) in omega (arith, w .source-past, w .target-past, w .inside)
 
--- src/check.rt:94:22
 add-check-pieces : tie.Need-add-check-pieces
 add-check-pieces c = let p = parts-there _ _ (c .before .before .before .before .before .over-limit .ensures) (c .before .before .before .before .if1 .left) _ (c .before .before .before .parts-whole .ensures) (not-false _ (c .before .before .if2 .left)) in let w = c .before .parts-of .ensures (p .0) (p .1) in omega (arith, w .source-past, w .target-past, w .inside)
 
--- src/check.rt:94:9
 sub-check-pieces-2 : tie.Need-sub-check-pieces-2
 sub-check-pieces-2 c = let p = parts-there _ _ (c .before .before .before .before .before .over-limit .ensures) (c .before .before .before .before .if1 .left) _ (c .before .before .before .parts-whole .ensures) (not-false _ (c .before .before .if2 .left)) in let w = c .before .parts-of .ensures (p .0) (p .1) in omega (arith, w .source-past, w .target-past, w .inside)
 
--- src/check.rt:94:9
 part-check-pieces-start-2 : tie.Need-part-check-pieces-start-2
 part-check-pieces-start-2 c = let p = parts-there _ _ (c .before .before .before .before .before .over-limit .ensures) (c .before .before .before .before .if1 .left) _ (c .before .before .before .parts-whole .ensures) (not-false _ (c .before .before .if2 .left)) in let w = c .before .parts-of .ensures (p .0) (p .1) in omega (arith, w .source-past, w .target-past, w .inside)
 
--- src/check.rt:94:9
 part-check-pieces-end-2 : tie.Need-part-check-pieces-end-2
 part-check-pieces-end-2 c = let p = parts-there _ _ (c .before .before .before .before .before .over-limit .ensures) (c .before .before .before .before .if1 .left) _ (c .before .before .before .parts-whole .ensures) (not-false _ (c .before .before .if2 .left)) in let w = c .before .parts-of .ensures (p .0) (p .1) in omega (arith, w .source-past, w .target-past, w .inside)
 
--- src/check.rt:95:9
 sub-check-pieces-3 : tie.Need-sub-check-pieces-3
 sub-check-pieces-3 c = let p = parts-there _ _ (c .before .before .before .before .before .before .over-limit .ensures) (c .before .before .before .before .before .if1 .left) _ (c .before .before .before .before .parts-whole .ensures) (not-false _ (c .before .before .before .if2 .left)) in let w = c .before .before .parts-of .ensures (p .0) (p .1) in omega (arith, w .source-past, w .target-past, w .inside)
 
--- src/check.rt:95:9
 part-check-pieces-start-3 : tie.Need-part-check-pieces-start-3
 part-check-pieces-start-3 c = let p = parts-there _ _ (c .before .before .before .before .before .before .over-limit .ensures) (c .before .before .before .before .before .if1 .left) _ (c .before .before .before .before .parts-whole .ensures) (not-false _ (c .before .before .before .if2 .left)) in let w = c .before .before .parts-of .ensures (p .0) (p .1) in omega (arith, w .source-past, w .target-past, w .inside)
 
--- src/check.rt:95:9
-part-check-pieces-end-3 : tie.Need-part-check-pieces-end-3
-part-check-pieces-end-3 c = search needs
-
--- src/check.rt:92:5
 check-pieces-requires : tie.Need-check-pieces-requires
 check-pieces-requires c κs = let p = parts-there _ _ (c .before .before .before .before .before .before .before .over-limit .ensures) (c .before .before .before .before .before .before .if1 .left) _ (c .before .before .before .before .before .parts-whole .ensures) (not-false _ (c .before .before .before .before .if2 .left)) in let w = c .before .before .before .parts-of .ensures (p .0) (p .1) in (p .0, pieces _ _ (c .before .before .before .before .before .before .before .over-limit .ensures) (c .before .before .before .before .before .before .if1 .left) _ _ (p .0) w (p .1))
 
--- src/check.rt:80:1
 returns-3 : tie.Need-returns-3
 returns-3 c = let p = parts-there _ _ (c .before .before .before .before .before .before .before .before .over-limit .ensures) (c .before .before .before .before .before .before .before .if1 .left) _ (c .before .before .before .before .before .before .parts-whole .ensures) (not-false _ (c .before .before .before .before .before .if2 .left)) in let w = c .before .before .before .before .parts-of .ensures (p .0) (p .1) in pieces-checked _ _ (c .before .before .before .before .before .before .before .before .over-limit .ensures) (c .before .before .before .before .before .before .before .if1 .left) _ _ (p .0) w (p .1) (c .check-pieces .ensures (p .0) (pieces _ _ (c .before .before .before .before .before .before .before .before .over-limit .ensures) (c .before .before .before .before .before .before .before .if1 .left) _ _ (p .0) w (p .1)))
 
@@ -92,11 +58,11 @@ pub check-translation-spec : {M : Type 1} → statement M
 check-translation-spec =
     tie.close
     (tie.spec
-    over-limit-requires
-    refuse-requires
+    (λ c κs. search needs)
+    (λ c κs. search needs)
     returns
-    parts-whole-requires
-    refuse-requires-2
+    (λ c κs. search needs)
+    (λ c κs. search needs)
     returns-2
     parts-of-requires
     sub-check-pieces
@@ -108,6 +74,6 @@ check-translation-spec =
     part-check-pieces-end-2
     sub-check-pieces-3
     part-check-pieces-start-3
-    part-check-pieces-end-3
+    (λ c. search needs)
     check-pieces-requires
     returns-3)

@@ -8,21 +8,11 @@ use Rattle.translation.proofs.clauses.clauses_fit.Reads as reads
 use Rattle.translation.proofs.clauses.clauses_fit.Lts as lts
 use Rattle.translation.proofs.clauses.keys_known.Reads as keys-known-reads
 
--- src/clauses.rt:50:9
-keys-known-requires : tie.Need-keys-known-requires
-keys-known-requires c κs = search needs
-
--- src/clauses.rt:51:9
 returns : tie.Need-returns
 returns c = λ f z w. fit-missing _ _ _ _ f z w (λ i. omega (arith, c .before .before .before .before .before .shared-slice-known .given i)) (λ i. omega (arith, c .before .before .before .shared-slice-known3 .given i)) _ (c .before .keys-known .ensures) (not-true _ (c .if1 .taken))
 
--- src/clauses.rt:53:5
-keys-known-requires-2 : tie.Need-keys-known-requires-2
-keys-known-requires-2 c κs = search needs
-
--- src/clauses.rt:46:1
 returns-2 : tie.Need-returns-2
 returns-2 c = λ f z w. fit-extra _ _ _ _ f z w (λ i. omega (arith, c .before .before .before .before .before .before .shared-slice-known .given i)) (λ i. omega (arith, c .before .before .before .before .shared-slice-known3 .given i)) _ (c .before .before .keys-known .ensures) (not-false _ (c .before .if1 .left)) _ (c .keys-known2 .ensures)
 
 pub clauses-fit-spec : {M : Type 1} → statement M
-clauses-fit-spec = tie.close (tie.spec keys-known-requires returns keys-known-requires-2 returns-2)
+clauses-fit-spec = tie.close (tie.spec (λ c κs. search needs) returns (λ c κs. search needs) returns-2)

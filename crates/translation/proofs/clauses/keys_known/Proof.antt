@@ -20,31 +20,15 @@ Inv-loop s first index p₀ p = all (knownAt first s index) (placesFrom s p) ≡
 abbrev μ-loop : tie.MeasureT-loop
 μ-loop s first index p₀ p = length s - p
 
--- src/clauses.rt:36:5
 loop-holds : tie.Need-loop-holds Inv-loop μ-loop
 loop-holds c = refl
 
--- src/clauses.rt:37:13
-known-at-requires : tie.Need-known-at-requires Inv-loop μ-loop
-known-at-requires c κs = search needs
-
--- src/clauses.rt:38:13
 returns : tie.Need-returns Inv-loop μ-loop
 returns c = every-stop _ _ _ _ (c .before .before .before .loop .inv) _ (c .before .known-at .ensures) _ refl (c .before .before .loop-test .taken) (not-true _ (c .if1 .taken))
 
--- src/clauses.rt:40:9
-field-end-requires : tie.Need-field-end-requires Inv-loop μ-loop
-field-end-requires c κs = search needs
-
--- src/clauses.rt:36:5
-loop-less : tie.Need-loop-less Inv-loop μ-loop
-loop-less c = search needs
-
--- src/clauses.rt:36:5
 loop-again : tie.Need-loop-again Inv-loop μ-loop
 loop-again c = every-next _ _ _ _ (c .before .before .before .before .loop .inv) _ (c .before .before .known-at .ensures) _ (c .field-end .ensures .is) (c .before .before .before .loop-test .taken) (not-false _ (c .before .if1 .left))
 
--- src/clauses.rt:32:1
 returns-2 : tie.Need-returns-2 Inv-loop μ-loop
 returns-2 c = every-done _ _ _ _ (c .before .loop .inv) (c .loop-test .left)
 
@@ -55,9 +39,9 @@ keys-known-spec =
     Inv-loop
     μ-loop
     loop-holds
-    known-at-requires
+    (λ c κs. search needs)
     returns
-    field-end-requires
-    loop-less
+    (λ c κs. search needs)
+    (λ c. search needs)
     loop-again
     returns-2)

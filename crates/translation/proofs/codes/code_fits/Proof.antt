@@ -15,67 +15,42 @@ use Rattle.translation.proofs.codes.ends_at.Reads as ends-at-reads
 use Rattle.translation.proofs.codes.map_arguments.Reads as map-arguments-reads
 use Rattle.translation.proofs.index.map_kind.Reads as map-kind-reads
 
--- src/codes.rt:97:64
-slice-aggregate-map-arguments : tie.Need-slice-aggregate-map-arguments
-slice-aggregate-map-arguments c = search needs
-
--- src/codes.rt:97:9
 map-arguments-requires : tie.Need-map-arguments-requires
 map-arguments-requires c κs = (c .before .before .before .before .before .before .before .pre .0, refl, c .before .before .before .before .before .before .before .pre .2 .1 .body .sound, (_, c .before .before .before .before .before .before .before .pre .2 .1 .source))
 
--- src/codes.rt:98:52
 add-byte-at : tie.Need-add-byte-at
 add-byte-at c = let k = code-cut _ _ _ (c .before .before .before .before .before .before .before .before .before .pre .0) (c .before .before .before .before .before .before .before .before .before .pre .1) in omega (arith, k .0, k .1)
 
--- src/codes.rt:98:38
-byte-at-requires : tie.Need-byte-at-requires
-byte-at-requires c κs = search needs
-
--- src/codes.rt:98:9
 map-kind-requires : tie.Need-map-kind-requires
 map-kind-requires c κs = (c .before .before .before .before .before .before .before .before .before .before .pre .2 .1 .body .sound, result-kind _ _ _ (c .before .before .before .before .before .before .before .before .before .before .pre .0) (c .byte-at .ensures))
 
--- src/codes.rt:103:9
 array-share-prefix-kinds : tie.Need-array-share-prefix-kinds
 array-share-prefix-kinds c = omega (arith, c .before .before .before .map-arguments .ensures .1)
 
--- src/codes.rt:103:9
 slice-aggregate-read : tie.Need-slice-aggregate-read
 slice-aggregate-read c = front-long _ _ _ (c .before .before .before .before .map-arguments .ensures .1) (c .before .before .before .before .map-arguments .kept .1 .1 .1 .1 .1 .0)
 
--- src/codes.rt:105:15
 add-read : tie.Need-add-read
 add-read c = let k = code-cut _ _ _ (c .before .before .before .before .before .before .before .before .before .before .before .before .pre .0) (c .before .before .before .before .before .before .before .before .before .before .before .before .pre .1) in omega (arith, k .0, k .1)
 
--- src/codes.rt:105:9
 sub-read : tie.Need-sub-read
 sub-read c = let k = code-cut _ _ _ (c .before .before .before .before .before .before .before .before .before .before .before .before .pre .0) (c .before .before .before .before .before .before .before .before .before .before .before .before .pre .1) in omega (arith, k .0, k .1)
 
--- src/codes.rt:105:9
 part-read-start : tie.Need-part-read-start
 part-read-start c = let k = code-cut _ _ _ (c .before .before .before .before .before .before .before .before .before .before .before .before .pre .0) (c .before .before .before .before .before .before .before .before .before .before .before .before .pre .1) in omega (arith, k .0, k .1)
 
--- src/codes.rt:105:9
 part-read-end : tie.Need-part-read-end
 part-read-end c = let k = code-cut _ _ _ (c .before .before .before .before .before .before .before .before .before .before .before .before .pre .0) (c .before .before .before .before .before .before .before .before .before .before .before .before .pre .1) in omega (arith, k .0, k .1)
 
--- src/codes.rt:99:9
 read-requires : tie.Need-read-requires
 read-requires c κs = (c .before .before .before .before .before .before .before .before .before .before .before .before .before .pre .2 .1 .target .sound, c .before .before .map-kind .ensures .1, omega arith)
 
--- src/codes.rt:109:18
 sub-ends-at : tie.Need-sub-ends-at
 sub-ends-at c = let k = code-cut _ _ _ (c .before .before .before .before .before .before .before .before .before .before .before .before .before .before .pre .0) (c .before .before .before .before .before .before .before .before .before .before .before .before .before .before .pre .1) in omega (arith, k .0, k .1)
 
--- src/codes.rt:109:18
 sub-ends-at-2 : tie.Need-sub-ends-at-2
 sub-ends-at-2 c = let k = code-cut _ _ _ (c .before .before .before .before .before .before .before .before .before .before .before .before .before .before .pre .0) (c .before .before .before .before .before .before .before .before .before .before .before .before .before .before .pre .1) in omega (arith, k .0, k .1)
 
--- src/codes.rt:109:5
-ends-at-requires : tie.Need-ends-at-requires
-ends-at-requires c κs = search needs
-
--- src/codes.rt:82:1
 returns : tie.Need-returns
 returns c = λ f z. code-read (c .before .before .before .before .before .before .before .before .before .before .before .before .before .before .before .args .source .now) (c .before .before .before .before .before .before .before .before .before .before .before .before .before .before .before .args .sources .now) (c .before .before .before .before .before .before .before .before .before .before .before .before .before .before .before .args .target .now) (c .before .before .before .before .before .before .before .before .before .before .before .before .before .before .before .args .targets .now) (c .before .before .before .before .before .before .before .before .before .before .before .before .before .before .before .args .body .now) (c .before .before .before .before .before .before .before .before .before .before .before .before .before .before .before .args .items .now) f z (λ i. omega (arith, c .before .before .before .before .before .before .before .before .before .before .shared-slice-known5 .given i)) _ _ (c .before .before .before .before .before .before .before .before .before .before .before .before .before .before .before .pre .0) (c .before .before .before .before .before .before .before .before .before .before .before .before .before .before .before .pre .1) _ (c .before .before .before .before .before .before .before .map-arguments .ensures .0) _ (c .before .before .before .before .map-kind .ensures .0 ∙ ap (λ (i : ℕ). mappedAt (c .before .before .before .before .before .before .before .before .before .before .before .before .before .before .before .args .body .now) (c .before .before .before .before .before .before .before .before .before .before .before .before .before .before .before .args .items .now) i) (c .before .before .before .before .before .byte-at .ensures)) (c .before .read .result) (c .before .read .ensures .0 (f .target) (z .target)) (c .before .read .ensures .1) _ (c .ends-at .ensures)
 
@@ -83,10 +58,10 @@ pub code-fits-spec : {M : Type 1} → statement M
 code-fits-spec =
     tie.close
     (tie.spec
-    slice-aggregate-map-arguments
+    (λ c. search needs)
     map-arguments-requires
     add-byte-at
-    byte-at-requires
+    (λ c κs. search needs)
     map-kind-requires
     array-share-prefix-kinds
     slice-aggregate-read
@@ -97,5 +72,5 @@ code-fits-spec =
     read-requires
     sub-ends-at
     sub-ends-at-2
-    ends-at-requires
+    (λ c κs. search needs)
     returns)

@@ -26,31 +26,18 @@ Inv-loop source sources target targets body items p₀ p = (all (itemWhole body)
 abbrev μ-loop : tie.MeasureT-loop
 μ-loop source sources target targets body items p₀ p = length body - p
 
--- src/codes.rt:147:5
 loop-holds : tie.Need-loop-holds Inv-loop μ-loop
 loop-holds c = (holds-items _ _ (c .before .before .before .before .before .before .pre .1 .body .items) .whole, λ f z. codes-start _ _ _ _ _ _ f z)
 
--- src/codes.rt:148:13
-field-end-requires : tie.Need-field-end-requires Inv-loop μ-loop
-field-end-requires c κs = search needs
-
--- src/codes.rt:149:13
 item-fits-requires : tie.Need-item-fits-requires Inv-loop μ-loop
 item-fits-requires c κs = (item-here _ _ (c .before .before .loop .inv .0) _ (c .field-end .ensures .is) (c .before .loop-test .taken), c .field-end .ensures, c .before .before .before .before .before .before .before .before .before .pre)
 
--- src/codes.rt:150:13
 returns : tie.Need-returns Inv-loop μ-loop
 returns c = λ f z. every-stop _ _ _ _ (c .before .before .before .before .loop .inv .1 f z) _ (c .before .item-fits .ensures f z) _ (c .before .before .field-end .ensures .is) (c .before .before .before .loop-test .taken) (not-true _ (c .if1 .taken))
 
--- src/codes.rt:147:5
-loop-less : tie.Need-loop-less Inv-loop μ-loop
-loop-less c = search needs
-
--- src/codes.rt:147:5
 loop-again : tie.Need-loop-again Inv-loop μ-loop
 loop-again c = (items-on _ _ (c .before .before .before .before .loop .inv .0) _ (c .before .before .field-end .ensures .is) (c .before .before .before .loop-test .taken), λ f z. every-next _ _ _ _ (c .before .before .before .before .loop .inv .1 f z) _ (c .before .item-fits .ensures f z) _ (c .before .before .field-end .ensures .is) (c .before .before .before .loop-test .taken) (not-false _ (c .if1 .left)))
 
--- src/codes.rt:134:1
 returns-2 : tie.Need-returns-2 Inv-loop μ-loop
 returns-2 c = λ f z. every-done _ _ _ _ (c .before .loop .inv .1 f z) (c .loop-test .left)
 
@@ -61,9 +48,9 @@ codes-fit-spec =
     Inv-loop
     μ-loop
     loop-holds
-    field-end-requires
+    (λ c κs. search needs)
     item-fits-requires
     returns
-    loop-less
+    (λ c. search needs)
     loop-again
     returns-2)

@@ -7,21 +7,14 @@ use Rattle.translation.proofs.codes.item_fits.Lts as lts
 use Rattle.fields.proofs.bytes.byte_at.Reads as byte-at-reads
 use Rattle.translation.proofs.codes.code_fits.Reads as code-fits-reads
 
--- src/codes.rt:127:8
-byte-at-requires : tie.Need-byte-at-requires
-byte-at-requires c κs = search needs
-
--- src/codes.rt:128:9
 returns : tie.Need-returns
 returns c = λ f z. item-mapping _ _ _ _ _ _ f z _ _ (c .before .byte-at .ensures) (c .before .before .before .before .before .before .before .before .pre .0) (c .if1 .taken)
 
--- src/codes.rt:130:5
 code-fits-requires : tie.Need-code-fits-requires
 code-fits-requires c κs = (other-clause _ _ _ (c .before .byte-at .ensures) (c .before .before .before .before .before .before .before .before .pre .0) (c .if1 .left), c .before .before .before .before .before .before .before .before .pre .1 .is, c .before .before .before .before .before .before .before .before .pre .2)
 
--- src/codes.rt:113:1
 returns-2 : tie.Need-returns-2
 returns-2 c = c .code-fits .ensures
 
 pub item-fits-spec : {M : Type 1} → statement M
-item-fits-spec = tie.close (tie.spec byte-at-requires returns code-fits-requires returns-2)
+item-fits-spec = tie.close (tie.spec (λ c κs. search needs) returns code-fits-requires returns-2)

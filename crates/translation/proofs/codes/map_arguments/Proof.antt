@@ -11,43 +11,30 @@ use Rattle.fields.proofs.walk.key_at.Reads as key-at-reads
 use Rattle.reader.proofs.node.place_at.Reads as place-at-reads
 use Rattle.translation.proofs.codes.map_part.Reads as map-part-reads
 
--- src/codes.rt:62:35
 key-at-requires : tie.Need-key-at-requires
 key-at-requires c κs = let k = code-cut _ _ _ (c .before .before .before .before .before .pre .0) refl in omega (arith, k .0, k .1)
 
--- src/codes.rt:62:9
 place-at-requires : tie.Need-place-at-requires
 place-at-requires c κs = key-in (c .before .before .before .before .before .before .args .source .now) (c .before .before .before .before .before .before .args .sources .now) (c .before .before .before .before .before .before .args .body .now) (c .before .before .before .before .before .before .args .items .now) _ (c .before .before .before .before .before .before .pre .3 .1) (λ i. omega (arith, c .before .before .before .shared-slice-known3 .given i)) _ (c .before .before .before .before .before .before .pre .0) _ (c .key-at .ensures .0)
 
--- src/codes.rt:64:9
 returns : tie.Need-returns
 returns c = (mapped-none (c .before .before .before .before .before .before .before .before .args .source .now) (c .before .before .before .before .before .before .before .before .args .sources .now) (c .before .before .before .before .before .before .before .before .args .body .now) (c .before .before .before .before .before .before .before .before .args .items .now) _ (c .before .before .before .before .before .before .before .before .pre .3 .1) (λ i. omega (arith, c .before .before .before .before .before .shared-slice-known3 .given i)) _ (c .before .before .before .before .before .before .before .before .pre .0) _ (c .before .before .key-at .ensures .0) _ (c .before .place-at .ensures) (c .if1 .taken), omega arith)
 
--- src/codes.rt:66:15
 add-end : tie.Need-add-end
 add-end c = let k = place-fits (c .before .before .before .before .before .before .before .before .args .source .now) (c .before .before .before .before .before .before .before .before .args .sources .now) (c .before .before .before .before .before .before .before .before .args .body .now) (c .before .before .before .before .before .before .before .before .args .items .now) _ (c .before .before .before .before .before .before .before .before .pre .3 .1) (λ i. omega (arith, c .before .before .before .before .before .shared-slice-known3 .given i)) _ (c .before .before .before .before .before .before .before .before .pre .0) _ (c .before .before .key-at .ensures .0) _ (c .before .place-at .ensures) (c .if1 .left) in omega (arith, k .0, k .1)
 
--- src/codes.rt:66:27
 pair-at-requires : tie.Need-pair-at-requires
 pair-at-requires c κs = let k = place-fits (c .before .before .before .before .before .before .before .before .args .source .now) (c .before .before .before .before .before .before .before .before .args .sources .now) (c .before .before .before .before .before .before .before .before .args .body .now) (c .before .before .before .before .before .before .before .before .args .items .now) _ (c .before .before .before .before .before .before .before .before .pre .3 .1) (λ i. omega (arith, c .before .before .before .before .before .shared-slice-known3 .given i)) _ (c .before .before .before .before .before .before .before .before .pre .0) _ (c .before .before .key-at .ensures .0) _ (c .before .place-at .ensures) (c .if1 .left) in omega (arith, k .0, k .1)
 
--- src/codes.rt:66:15
 add-end-2 : tie.Need-add-end-2
 add-end-2 c = let k = place-fits (c .before .before .before .before .before .before .before .before .before .args .source .now) (c .before .before .before .before .before .before .before .before .before .args .sources .now) (c .before .before .before .before .before .before .before .before .before .args .body .now) (c .before .before .before .before .before .before .before .before .before .args .items .now) _ (c .before .before .before .before .before .before .before .before .before .pre .3 .1) (λ i. omega (arith, c .before .before .before .before .before .before .shared-slice-known3 .given i)) _ (c .before .before .before .before .before .before .before .before .before .pre .0) _ (c .before .before .before .key-at .ensures .0) _ (c .before .before .place-at .ensures) (c .before .if1 .left) in omega (arith, k .0, k .1, c .pair-at .ensures .1)
 
--- src/codes.rt:67:22
 add-map-part : tie.Need-add-map-part
 add-map-part c = let k = place-fits (c .before .before .before .before .before .before .before .before .before .args .source .now) (c .before .before .before .before .before .before .before .before .before .args .sources .now) (c .before .before .before .before .before .before .before .before .before .args .body .now) (c .before .before .before .before .before .before .before .before .before .args .items .now) _ (c .before .before .before .before .before .before .before .before .before .pre .3 .1) (λ i. omega (arith, c .before .before .before .before .before .before .shared-slice-known3 .given i)) _ (c .before .before .before .before .before .before .before .before .before .pre .0) _ (c .before .before .before .key-at .ensures .0) _ (c .before .before .place-at .ensures) (c .before .if1 .left) in omega (arith, k .0, k .1)
 
--- src/codes.rt:67:5
 map-part-requires : tie.Need-map-part-requires
 map-part-requires c κs = (operands-in (c .before .before .before .before .before .before .before .before .before .before .args .source .now) (c .before .before .before .before .before .before .before .before .before .before .args .sources .now) (c .before .before .before .before .before .before .before .before .before .before .args .body .now) (c .before .before .before .before .before .before .before .before .before .before .args .items .now) _ (c .before .before .before .before .before .before .before .before .before .before .pre .3 .1) (λ i. omega (arith, c .before .before .before .before .before .before .before .shared-slice-known3 .given i)) _ (c .before .before .before .before .before .before .before .before .before .before .pre .0) _ (c .before .before .before .before .key-at .ensures .0) _ (c .before .before .before .place-at .ensures) (c .before .before .if1 .left) _ (c .before .pair-at .ensures .0), c .before .before .before .before .before .before .before .before .before .before .pre .2, omega (arith, operands-few (c .before .before .before .before .before .before .before .before .before .before .args .source .now) (c .before .before .before .before .before .before .before .before .before .before .args .sources .now) (c .before .before .before .before .before .before .before .before .before .before .args .body .now) (c .before .before .before .before .before .before .before .before .before .before .args .items .now) _ (c .before .before .before .before .before .before .before .before .before .before .pre .3 .1) (λ i. omega (arith, c .before .before .before .before .before .before .before .shared-slice-known3 .given i)) _ (c .before .before .before .before .before .before .before .before .before .before .pre .0) _ (c .before .before .before .before .key-at .ensures .0) _ (c .before .before .before .place-at .ensures) (c .before .before .if1 .left) _ (c .before .pair-at .ensures .0), c .before .before .before .before .before .before .before .before .before .before .pre .1))
 
--- src/codes.rt:51:1
-same-length : tie.Need-same-length
-same-length c = search needs
-
--- src/codes.rt:51:1
 returns-2 : tie.Need-returns-2
 returns-2 c = (mapped-some (c .before .before .before .before .before .before .before .before .before .before .before .before .before .args .source .now) (c .before .before .before .before .before .before .before .before .before .before .before .before .before .args .sources .now) (c .before .before .before .before .before .before .before .before .before .before .before .before .before .args .body .now) (c .before .before .before .before .before .before .before .before .before .before .before .before .before .args .items .now) _ (c .before .before .before .before .before .before .before .before .before .before .before .before .before .pre .3 .1) (λ i. omega (arith, c .before .before .before .before .before .before .before .before .before .before .shared-slice-known3 .given i)) _ (c .before .before .before .before .before .before .before .before .before .before .before .before .before .pre .0) _ (c .before .before .before .before .before .before .before .key-at .ensures .0) _ (c .before .before .before .before .before .before .place-at .ensures) (c .before .before .before .before .before .if1 .left) _ (c .before .before .before .before .pair-at .ensures .0) _ (c .before .before .map-part .ensures .0), c .before .before .map-part .ensures .1)
 
@@ -63,5 +50,5 @@ map-arguments-spec =
     add-end-2
     add-map-part
     map-part-requires
-    same-length
+    (λ c. search needs)
     returns-2)

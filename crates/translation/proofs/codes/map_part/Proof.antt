@@ -21,43 +21,18 @@ Inv-loop source p e body items kinds₀ i₀ q₀ kinds i q = (length kinds ≡ 
 abbrev μ-loop : tie.MeasureT-loop
 μ-loop source p e body items kinds₀ i₀ q₀ kinds i q = e - q
 
--- src/codes.rt:39:5
 loop-holds : tie.Need-loop-holds Inv-loop μ-loop
 loop-holds c = (refl, omega arith, omega arith, c .before .before .before .before .pre .0, refl)
 
--- src/codes.rt:40:42
 shared-slice-read-map-kind : tie.Need-shared-slice-read-map-kind Inv-loop μ-loop
 shared-slice-read-map-kind c = kinds-here (c .before .before .before .before .before .before .before .args .source .now) _ _ (c .before .before .loop .inv .3) (c .before .loop-test .taken) .0
 
--- src/codes.rt:40:20
 map-kind-requires : tie.Need-map-kind-requires Inv-loop μ-loop
 map-kind-requires c κs = (c .before .before .before .before .before .before .before .pre .1, kinds-here (c .before .before .before .before .before .before .before .args .source .now) _ _ (c .before .before .loop .inv .3) (c .before .loop-test .taken) .1)
 
--- src/codes.rt:40:9
-slice-write-kinds : tie.Need-slice-write-kinds Inv-loop μ-loop
-slice-write-kinds c = search needs
-
--- src/codes.rt:41:9
-add-i : tie.Need-add-i Inv-loop μ-loop
-add-i c = search needs
-
--- src/codes.rt:42:9
-add-q : tie.Need-add-q Inv-loop μ-loop
-add-q c = search needs
-
--- src/codes.rt:39:5
-loop-less : tie.Need-loop-less Inv-loop μ-loop
-loop-less c = search needs
-
--- src/codes.rt:39:5
 loop-again : tie.Need-loop-again Inv-loop μ-loop
 loop-again c = (search needs, omega arith, mapped-room (c .before .before .before .loop .kinds) (c .before .before .before .loop .i) _ (omega arith), kinds-on (c .before .before .before .before .before .before .before .before .args .source .now) _ _ (c .before .before .before .loop .inv .3), mapped-next (mappedAt (c .before .before .before .before .before .before .before .before .args .body .now) (c .before .before .before .before .before .before .before .before .args .items .now)) (c .before .before .before .before .before .before .before .before .args .source .now) _ _ (c .before .before .before .loop .i) (c .before .before .before .loop .kinds) _ (c .before .before .before .loop .inv .4) (c .before .before .loop-test .taken) (c .before .before .before .loop .inv .3) (omega arith) _ (c .map-kind .ensures .0))
 
--- src/codes.rt:26:1
-same-length : tie.Need-same-length Inv-loop μ-loop
-same-length c = search needs
-
--- src/codes.rt:26:1
 returns : tie.Need-returns Inv-loop μ-loop
 returns c = (mapped-done (mappedAt (c .before .before .before .before .before .before .args .body .now) (c .before .before .before .before .before .before .args .items .now)) (c .before .before .before .before .before .before .args .source .now) _ _ (c .before .loop .i) (c .before .loop .kinds) _ (c .before .loop .inv .4) (c .loop-test .left), omega arith)
 
@@ -70,10 +45,10 @@ map-part-spec =
     loop-holds
     shared-slice-read-map-kind
     map-kind-requires
-    slice-write-kinds
-    add-i
-    add-q
-    loop-less
+    (λ c. search needs)
+    (λ c. search needs)
+    (λ c. search needs)
+    (λ c. search needs)
     loop-again
-    same-length
+    (λ c. search needs)
     returns)
