@@ -40,7 +40,7 @@ module _ (s : List ℕ) (p : ℕ) where
   unfolding keyAt
   class-key w = cc (eq-eqb _ _ (w .tag))
 
-  production-key : IsProduction s p → keyAt 0x11 s p ≡ productionKey (getD s (p + 3) 0) (getD s (p + 4) 0)
+  pub production-key : IsProduction s p → keyAt 0x11 s p ≡ productionKey (getD s (p + 3) 0) (getD s (p + 4) 0)
   unfolding keyAt pairAt
   production-key w = let d : p + 3 + 1 ≡ p + 4 = omega arith in cc (w .tag)
 

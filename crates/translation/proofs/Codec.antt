@@ -374,6 +374,14 @@ translation-whole s f e =
       ap wellFormed (sym z) ∙ o .made,
     )
 
+-- Its parts are those that are read.
+pub translation-parts : (s : List ℕ) (f : Translation) → translationOf s ≡ value f → partsOf s ≡ some f
+unfolding translationOf
+translation-parts s f e =
+    let o = open-value allRising eitherClashes wellFormed (ltb translationLimit (length s) || hasOver isLanguageTag languageLimit s) (partsOf s) f e in
+    let z : o .held ≡ f = well-same (o .held) f (o .made) in
+    rw (← z) (o .reads)
+
 -- The bytes of a translation that a file holds.
 pub translation-bytes : (s : List ℕ) (f : Translation) → Bytes s → translationOf s ≡ value f → s ≡ encodeTranslation f
 translation-bytes s f b e = translation-sound (translation-whole s f e .0) b

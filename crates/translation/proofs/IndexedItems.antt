@@ -20,9 +20,9 @@ use Rattle.reader.specs.Inner.Index.{putAll}
 use Rattle.reader.proofs.Placed.{placeOf, puts-length, puts-place, looked, found}
 use Rattle.translation.specs.Translation.{Body, targetAt, mappingOf, codeAt, clauseOf, mapped}
 use Rattle.translation.specs.TranslationFile.{bodyOf}
-use Rattle.translation.specs.Inner.Items.{itemWhole, itemAt, HoldsItems}
+use Rattle.translation.specs.Inner.Items.{itemWhole, itemAt, IsMapping, IsClause, HoldsItems}
 use Rattle.translation.specs.Inner.ItemIndex.{targetBefore, codeBefore, SoundItems, IndexedItems, mappedAt}
-use Rattle.translation.proofs.Items.{IsMapping, IsClause, item-facts, mapping-is, clause-is, holds-items}
+use Rattle.translation.proofs.Items.{item-facts, mapping-is, clause-is, holds-items}
 
 -- Keys of whole items.
 module _ (s : List ℕ) (p : ℕ) where

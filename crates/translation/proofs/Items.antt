@@ -19,10 +19,11 @@ use Rattle.fields.proofs.Codec.{cond-some}
 use Rattle.fields.proofs.Lists.{all-and, there-if, part-is, part-past, rising-map}
 use Rattle.fields.proofs.Places.{pass-done, pass-next}
 use Rattle.fields.proofs.Split.{byte-in, fields-at-places, traverse-at-places}
+use Rattle.language.specs.LanguageFile.{isKind}
 use Rattle.language.specs.Inner.Entries.{sizeAt}
 use Rattle.translation.specs.Translation.{Item, mapping, clause, Body, itemKey}
 use Rattle.translation.specs.TranslationFile.{mappingField, clauseField, itemOf, isClause, grouped, inGroups, itemsIn, bodyIn, bodyOf}
-use Rattle.translation.specs.Inner.Items.{mappingWhole, clauseWhole, itemGood, itemWhole, itemAt, itemsWhole, HoldsItems}
+use Rattle.translation.specs.Inner.Items.{mappingWhole, clauseWhole, itemGood, itemWhole, itemAt, IsMapping, IsClause, itemsWhole, HoldsItems}
 
 -- The contents of the whole field at p.
 module _ (s : List ℕ) (p n : ℕ) (en : n ≡ sizeAt s p) (fits : p + 3 + n ≤ length s) where
@@ -77,28 +78,15 @@ item-at : (s : List ℕ) (p : ℕ) → isWhole s p ≡ true → itemOf (fieldAt 
 unfolding isWhole fieldEnd
 item-at s p h = item-here s p (sizeAt s p) refl (leb-true _ _ h)
 
--- What is known of a whole mapping, and of a whole clause.
-pub record IsMapping (s : List ℕ) (p : ℕ) : Type 0 where
-  pub tag : getD s p 0 ≡ 0x22
-  pub fits : p + 5 ≤ length s
-  pub source : getD s (p + 3) 0 < 32
-  pub target : getD s (p + 4) 0 < 32
-
-pub record IsClause (s : List ℕ) (p : ℕ) : Type 0 where
-  pub tag : getD s p 0 ≡ 0x23
-  pub ends : fieldEnd s p ≤ length s
-  pub past : p + 5 ≤ fieldEnd s p
-  pub result : getD s (p + 3) 0 < 32
-
 module _ (s : List ℕ) (p : ℕ) where
   mapping-facts : isWhole s p ≡ true → getD s p 0 ≡ 0x22 → mappingWhole s p ≡ true → IsMapping s p
   unfolding isWhole mappingWhole fieldEnd
   mapping-facts w t h =
-      let a = and-both _ _ h in
-      let b = and-both _ _ (a .1) in
+      let a = and-both (eqb (sizeAt s p) 2) _ h in
+      let b = and-both (isKind (getD s (p + 3) 0)) (isKind (getD s (p + 4) 0)) (a .1) in
       let f : p + 3 + sizeAt s p ≤ length s = leb-true _ _ w in
-      let n : sizeAt s p ≡ 2 = eqb-true _ _ (a .0) in
-      let g : p + 5 ≤ length s = omega (arith, f, n) in
+      let n : sizeAt s p ≡ 2 = eqb-true (sizeAt s p) 2 (a .0) in
+      let g : p + 5 ≤ length s = omega arith in
       record { tag = t; fits = g; source = ltb-true _ _ (b .0); target = ltb-true _ _ (b .1) }
 
   clause-facts : isWhole s p ≡ true → getD s p 0 ≡ 0x23 → clauseWhole s p ≡ true → IsClause s p

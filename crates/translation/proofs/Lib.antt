@@ -9,3 +9,6 @@ pub mod Rising
 pub mod IndexedItems
 pub mod Marked
 pub mod Mappings
+pub mod Known
+pub mod Coded
+pub mod Chain

@@ -24,10 +24,10 @@ use Rattle.reader.specs.Inner.Index.{rangeBefore, Sound, Indexed}
 use Rattle.translation.specs.Translation.{Item, Body, Translation, mappingOf, mapped}
 use Rattle.translation.specs.TranslationFile.{bodyOf}
 use Rattle.translation.specs.WellFormed.{kinds, kindsMapped, reachesTarget, isRange, classKept, mappingFits}
-use Rattle.translation.specs.Inner.Items.{itemWhole, itemAt}
+use Rattle.translation.specs.Inner.Items.{itemWhole, itemAt, IsMapping, IsClause}
 use Rattle.translation.specs.Inner.ItemIndex.{targetBefore, SoundItems, IndexedItems, mappedAt, Ready}
 use Rattle.translation.specs.Inner.Tests.{mappedIf, reachesAt, sameRange, keptAt}
-use Rattle.translation.proofs.Items.{IsMapping, IsClause, item-facts, mapping-is, clause-is, holds-items}
+use Rattle.translation.proofs.Items.{item-facts, mapping-is, clause-is, holds-items}
 use Rattle.translation.proofs.IndexedItems.{mapped-is, mapped-kind}
 
 -- mapped_if
@@ -143,7 +143,7 @@ items-alike s b e f g same =
     let h = holds-items s b e in
     all-alike (itemWhole s) f (itemAt s) g same (places s) (h .whole) ∙ ap (all g) (h .items)
 
-module _ (s is t it b ib : List ℕ) (f : Translation) (z : Ready s is t it b ib f) where
+module _ (s t it b ib : List ℕ) (f : Translation) (z : Ready s t it b ib f) where
   -- A kind is looked up if it is mapped.
   is-there : (place k : ℕ) → mappingOf (f .body) k ≡ targetBefore b place → not (eqb place 0) ≡ isSome (mappingOf (f .body) k)
   is-there zero k e = rw e
@@ -184,7 +184,7 @@ module _ (s is t it b ib : List ℕ) (f : Translation) (z : Ready s is t it b ib
   pub kept-test : all (keptAt s t it b ib) (places s) ≡ all (classKept f) (f .source)
   unfolding keptAt classKept
   kept-test =
-      entries-alike s (f .source) (z .source .entries) (keptAt s t it b ib) (classKept f)
+      entries-alike s (f .source) (z .source) (keptAt s t it b ib) (classKept f)
       (λ p w. ⊎-elim
       (λ c.
       let j : ℕ = getD s (p + 3) 0 in
@@ -194,3 +194,26 @@ module _ (s is t it b ib : List ℕ) (f : Translation) (z : Ready s is t it b ib
       rw (class-is s p c, c .tag, e) (range-same p (getD it k 0) k (z .target .range k i)))
       (λ c. rw (production-is s p c, c .tag))
       (entry-facts s p w))
+
+  -- mapping_fits
+  module _ (table : List Bool) (et : (k : ℕ) → k < 32 → getD table k false ≡ isIn (f .source) k)
+      (x : Bool) (ex : x ≡ all (mappedIf ib table) (countUp 32 0)) where
+    first-test : kindsMapped f ≡ x
+    first-test = sym (ex ∙ mapped-test table et)
+
+    pub fits-kinds : x ≡ false → false ≡ mappingFits f
+    unfolding mappingFits
+    fits-kinds h = rw (first-test, h)
+
+    module _ (xt : x ≡ true) (marks : List Bool) (em : (k : ℕ) → k < 32 → getD marks k false ≡ isIn (f .target) k)
+        (y : Bool) (ey : y ≡ all (reachesAt b marks) (places b)) where
+      second-test : all (reachesTarget f) (f .body) ≡ y
+      second-test = sym (ey ∙ reaches-test marks em)
+
+      pub fits-targets : y ≡ false → false ≡ mappingFits f
+      unfolding mappingFits
+      fits-targets h = rw (first-test, xt, second-test, h)
+
+      pub fits-classes : y ≡ true → (c : Bool) → c ≡ all (keptAt s t it b ib) (places s) → c ≡ mappingFits f
+      unfolding mappingFits
+      fits-classes h c ec = rw (first-test, xt, second-test, h) (ec ∙ kept-test)

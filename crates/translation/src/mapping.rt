@@ -7,9 +7,12 @@ ghost use Rattle.fields.specs.Lists.{all, countUp};
 ghost use Rattle.fields.specs.Inner.Places.{places};
 ghost use Rattle.language.specs.Inner.Entries.{entryWhole};
 ghost use Rattle.reader.specs.Inner.Index.{Sound};
-ghost use Rattle.translation.specs.Inner.ItemIndex.{SoundItems};
+ghost use Rattle.translation.specs.Translation.{Translation};
+ghost use Rattle.translation.specs.WellFormed.{mappingFits};
+ghost use Rattle.translation.specs.Inner.ItemIndex.{SoundItems, Ready};
 ghost use Rattle.translation.specs.Inner.Tests.{mappedIf, reachesAt, sameRange, keptAt};
 use super::index::map_kind;
+use super::kinds::mark_entries;
 use fields::bytes::byte_at;
 use fields::bytes::pair_at;
 use fields::bytes::wide;
@@ -28,7 +31,7 @@ fn mapped_if(index: &[u16], kinds: &[bool], k: usize) -> bool
 }
 
 // Exactly the kinds that are marked are mapped.
-pub fn kinds_mapped(index: &[u16], kinds: &[bool]) -> bool
+fn kinds_mapped(index: &[u16], kinds: &[bool]) -> bool
     requires { ⌜ (length (now index) ≡ 8224) × (length (now kinds) ≡ 32) ⌝ }
     ensures { λ r. ⌜ r ≡ all (mappedIf (now (index .entry)) (now (kinds .entry))) (countUp 32 0) ⌝ }
 {
@@ -58,7 +61,7 @@ fn reaches_at(s: &[u8], p: usize, kinds: &[bool]) -> bool
 }
 
 // Each mapping is to a kind that is marked.
-pub fn targets_marked(s: &[u8], kinds: &[bool]) -> bool
+fn targets_marked(s: &[u8], kinds: &[bool]) -> bool
     ensures { λ r. ⌜ r ≡ all (reachesAt (now (s .entry)) (now (kinds .entry))) (places (now (s .entry))) ⌝ }
 {
     let mut p = 0;
@@ -105,7 +108,7 @@ fn kept_at(
 }
 
 // Each source class maps to a target class of equal range.
-pub fn classes_kept(
+fn classes_kept(
     source: &[u8],
     target: &[u8],
     targets: &[u16],
@@ -123,4 +126,28 @@ pub fn classes_kept(
         p = field_end(source, p);
     }
     true
+}
+
+// The mapping is as required.
+pub fn mapping_fits(
+    source: &[u8],
+    target: &[u8],
+    targets: &[u16],
+    body: &[u8],
+    items: &[u16],
+) -> bool
+    requires { ⌜ ((f : Translation) × Ready (now source) (now target) (now targets) (now body) (now items) f) ⌝ }
+    ensures { λ r. ⌜ ((f : Translation) → Ready (now (source .entry)) (now (target .entry)) (now (targets .entry)) (now (body .entry)) (now (items .entry)) f → r ≡ mappingFits f) ⌝ }
+{
+    let mut mentioned = [false; 32];
+    mark_entries(source, &mut mentioned);
+    if !kinds_mapped(items, &mentioned) {
+        return false;
+    }
+    let mut reached = [false; 32];
+    mark_entries(target, &mut reached);
+    if !targets_marked(body, &reached) {
+        return false;
+    }
+    classes_kept(source, target, targets, body, items)
 }

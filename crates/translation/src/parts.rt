@@ -7,9 +7,10 @@ ghost use lib.Dec.{ltb};
 ghost use lib.ListN.{length};
 ghost use Rattle.fields.specs.Fields.{hasOver};
 ghost use Rattle.fields.specs.Lists.{isSome};
+ghost use Rattle.fields.specs.Outcome.{value};
 ghost use Rattle.language.specs.LanguageFile.{languageLimit};
 ghost use Rattle.translation.specs.Translation.{Translation};
-ghost use Rattle.translation.specs.TranslationFile.{partsOf, translationLimit, isLanguageTag};
+ghost use Rattle.translation.specs.TranslationFile.{partsOf, translationLimit, isLanguageTag, translationOf};
 ghost use Rattle.translation.specs.Inner.Parts.{Parted};
 ghost use Rattle.translation.specs.Inner.Pieces.{partEnd};
 use super::body::body_whole;
@@ -82,4 +83,12 @@ pub fn parts_of(s: &[u8]) -> Parts
         source_end: a,
         target_end: b,
     }
+}
+
+// Where the parts of a translation that was accepted stand.
+pub fn accepted_parts(s: &[u8]) -> Parts
+    requires { ⌜ ((f : Translation) × (translationOf (now s) ≡ value f)) ⌝ }
+    ensures { λ r. ⌜ ((f : Translation) → translationOf (now (s .entry)) ≡ value f → Parted (now (s .entry)) (r .«source_end») (r .«target_end») f) ⌝ }
+{
+    parts_of(s)
 }

@@ -11,6 +11,7 @@ use lib.Dec.{eqb}
 use Rattle.fields.specs.Fields.{byteAt, pairAt}
 use Rattle.fields.specs.Inner.Places.{fieldEnd}
 use Rattle.language.specs.Language.{kindKey, productionKey}
+use Rattle.language.specs.LanguageFile.{entriesOf}
 use Rattle.reader.specs.Inner.Index.{Indexed}
 use Rattle.translation.specs.Translation.{Body, Translation, mappingOf, clauseOf}
 use Rattle.translation.specs.TranslationFile.{bodyOf}
@@ -46,8 +47,14 @@ pub record IndexedItems (index s : List ℕ) (b : Body) : Type 0 where
 unfoldable pub mappedAt : List ℕ → List ℕ → ℕ → ℕ
 mappedAt s index k = cond (eqb (getD index k 0) 0) 0 (byteAt s (getD index k 0 + 3))
 
+-- The three parts of f, the target and the body each with its index.
+pub record Ready (s t it b ib : List ℕ) (f : Translation) : Type 0 where
+  pub source : entriesOf s ≡ some (f .source)
+  pub target : Indexed it t (f .target)
+  pub body : IndexedItems ib b (f .body)
+
 -- The three parts of f, each with its index.
-pub record Ready (s is t it b ib : List ℕ) (f : Translation) : Type 0 where
+pub record Prepared (s is t it b ib : List ℕ) (f : Translation) : Type 0 where
   pub source : Indexed is s (f .source)
   pub target : Indexed it t (f .target)
   pub body : IndexedItems ib b (f .body)

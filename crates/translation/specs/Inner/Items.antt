@@ -1,9 +1,10 @@
 -- The items of a body by their places, as the code reads them.
 -- `proofs/Items.antt` shows that they are the items of `bodyOf`.
-use Prim.Native.Nat.{ℕ, _+_}
+use Prim.Native.Nat.{ℕ, _+_, _<_, _≤_}
 use mathlib.Core.Path.{_≡_}
 use mathlib.Core.Bool.{Bool, true, false, cond, _&&_}
 use mathlib.Core.List.{List, [], _∷_, map}
+use lib.ListN.{length}
 use lib.Seq.{slice}
 use lib.Dec.{ltb, leb, eqb}
 use Rattle.fields.specs.Lists.{all}
@@ -37,6 +38,20 @@ itemAt s p =
     cond (eqb (byteAt s p) 0x22)
     (mapping (byteAt s (p + 3)) (byteAt s (p + 4)))
     (clause (byteAt s (p + 3)) (byteAt s (p + 4)) (slice (p + 5) (fieldEnd s p) s))
+
+-- The field at p is a whole mapping.
+pub record IsMapping (s : List ℕ) (p : ℕ) : Type 0 where
+  pub tag : byteAt s p ≡ 0x22
+  pub fits : p + 5 ≤ length s
+  pub source : byteAt s (p + 3) < 32
+  pub target : byteAt s (p + 4) < 32
+
+-- The field at p is a whole clause.
+pub record IsClause (s : List ℕ) (p : ℕ) : Type 0 where
+  pub tag : byteAt s p ≡ 0x23
+  pub ends : fieldEnd s p ≤ length s
+  pub past : p + 5 ≤ fieldEnd s p
+  pub result : byteAt s (p + 3) < 32
 
 -- The fields at places are whole items, and their tags do not fall below the one before: no mapping after a clause.
 unfoldable pub itemsWhole : List ℕ → ℕ → List ℕ → Bool

@@ -1,5 +1,5 @@
 -- The tests of "well formed" by place, looked up through tables and indexes.
--- `proofs/Mappings.antt`, `proofs/Clauses.antt` and `proofs/Codes.antt` show that they are those of `wellFormed`.
+-- `proofs/Mappings.antt`, `proofs/Known.antt` and `proofs/Coded.antt` show that they are those of `wellFormed`.
 use Prim.Native.Nat.{ℕ, _+_}
 use mathlib.Core.Bool.{Bool, true, false, cond, not, _&&_, Bool·beq}
 use mathlib.Core.List.{List, [], _∷_, map}
@@ -10,6 +10,8 @@ use lib.Dec.{eqb}
 use Rattle.fields.specs.Fields.{byteAt, pairAt}
 use Rattle.fields.specs.Inner.Places.{fieldEnd, keyAt}
 use Rattle.reader.specs.Inner.Index.{argumentsBefore}
+use Rattle.reader.specs.declared.node.Read.{Read}
+use Rattle.reader.specs.declared.node.Read.the-variants.{End, Deep, Broken}
 use Rattle.translation.specs.Inner.ItemIndex.{mappedAt}
 
 -- The table of kinds with the kinds of a list marked in it.
@@ -52,3 +54,9 @@ knownAt first s index p = cond (eqb (byteAt s p) first) true (not (eqb (getD ind
 -- The kinds that the arguments of the production in s before `place` map to.
 unfoldable pub mappedBefore : List ℕ → ℕ → List ℕ → List ℕ → List ℕ
 mappedBefore s place b ib = map (mappedAt b ib) (Option·getD (argumentsBefore s place) [])
+
+-- What was read ends at n.
+abbrev pub endsAt : Read → ℕ → Bool
+endsAt (End e) n = eqb e n
+endsAt Deep n = false
+endsAt Broken n = false

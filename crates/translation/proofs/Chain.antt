@@ -1,0 +1,137 @@
+-- The chain of tests of `checkTranslation`: a law for each return of the functions of the check.
+use Prim.Native.Nat.{ℕ, _+_, _-_, _<_, _≤_}
+use mathlib.Core.Path.{_≡_, refl, sym, ap, _∙_}
+use mathlib.Core.Bool.{Bool, true, false, not, _&&_, _||_}
+use mathlib.Core.List.{List}
+use mathlib.Core.Option.{Option, none, some}
+use native.Mathlib.Omega.{arith}
+use lib.ListN.{length, drop, length-drop}
+use lib.Seq.{slice}
+use lib.Dec.{ltb}
+use borrow.Author.Tests.{ltb-false}
+use Rattle.fields.specs.Lists.{isSome}
+use Rattle.fields.specs.Fields.{hasOver}
+use Rattle.fields.specs.Outcome.{Result, value, refused, refuseIf, _>>=_, checked}
+use Rattle.fields.specs.declared.outcome.Outcome.{Outcome}
+use Rattle.fields.specs.declared.outcome.Outcome.the-variants.{Accepted, Refused}
+use Rattle.fields.specs.declared.outcome.Reason.{Reason}
+use Rattle.fields.specs.declared.outcome.Reason.the-variants as Why
+use Rattle.fields.proofs.Truth.{false-true, some-is, or-false}
+use Rattle.language.specs.Language.{clashes}
+use Rattle.language.specs.LanguageFile.{languageLimit, whole}
+use Rattle.language.proofs.Codec.{language-length}
+use Rattle.translation.specs.Translation.{Translation}
+use Rattle.translation.specs.TranslationFile.{partsOf, translationLimit, isLanguageTag, allRising, translationOf}
+use Rattle.translation.specs.WellFormed.{mappingFits, clausesFit, codesFit, wellFormed}
+use Rattle.translation.specs.Operations.{checkTranslation}
+use Rattle.translation.specs.Inner.Parts.{Parted}
+use Rattle.translation.specs.Inner.Pieces.{Pieces, inOrder}
+use Rattle.translation.specs.Inner.ItemIndex.{Ready, Prepared}
+use Rattle.translation.proofs.Codec.{parts-in, both-short, translation-whole, translation-parts, translation-length}
+use Rattle.translation.proofs.Found.{cut, cut-is, rest-is}
+
+-- check_prepared
+pub ready : {s is t it b ib : List ℕ} {f : Translation} → Prepared s is t it b ib f → Ready s t it b ib f
+ready z = record { source = z .source .entries; target = z .target; body = z .body }
+
+module _ (f : Translation) {o : Outcome} (x : Bool) (ex : x ≡ mappingFits f) where
+  pub formed-mapping : x ≡ false → o ≡ Refused Why.Mapping → o ≡ checked (wellFormed f)
+  unfolding wellFormed
+  formed-mapping h i = cc
+
+  module _ (xt : x ≡ true) (y : Bool) (ey : y ≡ clausesFit f) where
+    pub formed-clauses : y ≡ false → o ≡ Refused Why.Clauses → o ≡ checked (wellFormed f)
+    unfolding wellFormed
+    formed-clauses h i = cc
+
+    module _ (yt : y ≡ true) (z : Bool) (ez : z ≡ codesFit f) where
+      pub formed-codes : z ≡ false → o ≡ Refused Why.Code → o ≡ checked (wellFormed f)
+      unfolding wellFormed
+      formed-codes h i = cc
+
+      pub formed-all : z ≡ true → o ≡ Accepted 0 → o ≡ checked (wellFormed f)
+      unfolding wellFormed
+      formed-all h i = cc
+
+-- check_pieces
+module _ (f : Translation) {o : Outcome} (x : Bool) (ex : x ≡ allRising f) where
+  pub order-refused : x ≡ false → o ≡ Refused Why.Order → o ≡ checked (inOrder f)
+  order-refused h i = cc
+
+  module _ (xt : x ≡ true) (y : Bool) (ey : y ≡ (clashes (f .source) (f .source) || clashes (f .target) (f .target))) where
+    pub clash-refused : y ≡ true → o ≡ Refused Why.Clash → o ≡ checked (inOrder f)
+    clash-refused h i = cc
+
+    pub formed-next : y ≡ false → o ≡ checked (wellFormed f) → o ≡ checked (inOrder f)
+    formed-next h i = cc
+
+-- check_translation
+module _ (s : List ℕ) (over : Bool) (eo : over ≡ (ltb translationLimit (length s) || hasOver isLanguageTag languageLimit s)) where
+  pub over-refused : {o : Outcome} → over ≡ true → o ≡ Refused Why.TooLong → o ≡ checkTranslation s
+  unfolding checkTranslation translationOf
+  over-refused h i = cc
+
+  module _ (within : over ≡ false) where
+    chain : checkTranslation s ≡ checked (whole (partsOf s) >>= inOrder)
+    unfolding checkTranslation translationOf
+    chain = cc
+
+    module _ (there : Bool) (et : there ≡ isSome (partsOf s)) where
+      absent : (p : Option Translation) → partsOf s ≡ p → isSome p ≡ false → checked (whole (partsOf s) >>= inOrder) ≡ Refused Why.Broken
+      absent none e h = rw e
+      absent (some f) e h = false-true (sym h)
+
+      pub broken-refused : {o : Outcome} → there ≡ false → o ≡ Refused Why.Broken → o ≡ checkTranslation s
+      broken-refused h i = i ∙ sym (chain ∙ absent (partsOf s) refl (sym et ∙ h))
+
+      pub parts-there : there ≡ true → (f : Translation) × (partsOf s ≡ some f)
+      parts-there h = some-is (partsOf s) (sym et ∙ h)
+
+    -- the parts that are lent
+    module _ (a b : ℕ) (f : Translation) (w : Parted s a b f) (e : partsOf s ≡ some f) where
+      limits : (length s ≤ 4096) × (hasOver isLanguageTag languageLimit s ≡ false)
+      limits =
+          let r = or-false (ltb translationLimit (length s)) (hasOver isLanguageTag languageLimit s) (sym eo ∙ within) in
+          (ltb-false translationLimit (length s) (r .0), r .1)
+
+      pub pieces : Pieces (cut s 3 a) (cut s (a + 3) b) (cut s b (length s)) f
+      pieces =
+          let short = both-short (parts-in s f e) (limits .1) in
+          let i = w .source-past in
+          let j = w .target-past in
+          let k = w .inside in
+          let fits : a ≤ length s = omega arith in
+          let long = limits .0 in
+          let last : length (drop b s) ≤ 4096 = simp length-drop (omega arith) in
+          rw (cut-is s 3 a i fits, cut-is s (a + 3) b j k, rest-is s b) (record {
+            source = w .source;
+            target = w .target;
+            body = w .body;
+            source-short = omega (arith, short .0, language-length (slice 3 a s) (f .source) (w .source));
+            target-short = omega (arith, short .1, language-length (slice (a + 3) b s) (f .target) (w .target));
+            body-short = last;
+          })
+
+      pub pieces-checked : {o : Outcome} → o ≡ checked (inOrder f) → o ≡ checkTranslation s
+      pieces-checked h = h ∙ sym (chain ∙ rw e)
+
+-- What a translation that was accepted holds.
+pub record Accepts (s : List ℕ) : Type 0 where
+  pub translation : Translation
+  pub is : translationOf s ≡ value translation
+  pub parts : partsOf s ≡ some translation
+  pub short : length s ≤ 4096
+
+refused-not : {A : Type 0} {n : ℕ} {r : Reason} → Refused r ≡ Accepted n → A
+refused-not y = let z : _≡_ {A = ℕ} 0 1 = cc in absurd (omega arith)
+
+pub accepts : (s : List ℕ) {o : Outcome} {n : ℕ} → o ≡ checkTranslation s → o ≡ Accepted n → Accepts s
+unfolding checkTranslation
+accepts s {o} {n} e h = go (translationOf s) refl (sym e ∙ h)
+  where
+    go : (r : Result Translation) → translationOf s ≡ r → checked r ≡ Accepted n → Accepts s
+    go (value f) d y =
+        let w = translation-whole s f d in
+        let k = w .1 .short in
+        record { translation = f; is = d; parts = translation-parts s f d; short = omega (arith, translation-length (w .0)) }
+    go (refused r) d y = refused-not {n = n} {r = r} y
