@@ -6,8 +6,8 @@ use mathlib.Core.List.{List, [], _∷_, _++_}
 use mathlib.Core.Option.{Option, none, some, Option·getD}
 use native.Mathlib.Omega.{arith}
 use lib.ListN.{length, getElem?, length-append, length-map}
-use lib.Dec.{leb, eqb}
-use borrow.Author.Tests.{eq-eqb, ne-eqb, leb-true, leb-false}
+use lib.Dec.{ltb, leb, eqb}
+use borrow.Author.Tests.{lt-ltb, le-ltb, eq-eqb, ne-eqb, leb-true, leb-false}
 use Rattle.fields.proofs.Truth.{none-some, by-test}
 use Rattle.language.specs.Language.{Language, argumentsOf}
 use Rattle.reader.specs.Code.{Code, node, token, argument, Codes, nil, cons}
@@ -151,3 +151,13 @@ pub capped-share : (top n u a : ℕ) → capped top (n + u * a) ≡ capped top (
 capped-share top n u a =
     let h = capped-times top u a in
     capped-add top n (u * a) ∙ (ap (λ (m : ℕ). capped top (capped top n + m)) h ∙ omega arith)
+
+-- A length is over the room exactly if it is over it up to one more than the room; within the room it is whole.
+pub over-room : (room n : ℕ) → ltb room (capped (room + 1) n) ≡ ltb room n
+over-room room n =
+    by-test (leb n room)
+    (λ e. let h : n ≤ room = leb-true n room e in let k : capped (room + 1) n ≤ room = omega arith in rw (le-ltb room n h, le-ltb room (capped (room + 1) n) k))
+    (λ e. let h : room < n = leb-false n room e in let k : room < capped (room + 1) n = omega arith in rw (lt-ltb room n h, lt-ltb room (capped (room + 1) n) k))
+
+pub within-room : (room n : ℕ) → capped (room + 1) n ≤ room → capped (room + 1) n ≡ n
+within-room room n h = omega arith
