@@ -148,7 +148,7 @@ module _ (source index s : List ℕ) (f : Translation) (z : Indexed index source
         let ends = at-p .ends in
         let d : length (write code c) ≡ e - (p + 5) = ap length (sym (is-right .1)) ∙ length-slice (p + 5) e s ends in
         let front : drop (p + 5) s ≡ write code c ++ drop (e - (p + 5)) (drop (p + 5) s) =
-            part-front s (p + 5) e past ends ∙ ap (λ (l : List ℕ). l ++ drop (e - (p + 5)) (drop (p + 5) s)) (is-right .1) in
+        part-front s (p + 5) e past ends ∙ ap (λ (l : List ℕ). l ++ drop (e - (p + 5)) (drop (p + 5) s)) (is-right .1) in
         sym (clause-known s index p counts tag refl refl found refl refl)
         ∙ (code-counted s e (place (key p) + 3) c (p + 5) (drop (e - (p + 5)) (drop (p + 5) s)) counts front (omega arith)
         ∙ code-done s (p + 5 + length (write code c)) e (place (key p) + 3) (added (place (key p) + 3) c counts) (omega arith))

@@ -26,7 +26,7 @@ shares-alike u v i j nil h = refl
 shares-alike u v i j (cons a t) h =
     let e : u i ≡ v j = (let z : i + 0 ≡ i = omega arith in let w : j + 0 ≡ j = omega arith in rw (← z, ← w) (h 0 (omega arith))) in
     let more : shares u (suc i) t ≡ shares v (suc j) t =
-        shares-alike u v (suc i) (suc j) t (λ m k. let z : suc i + m ≡ i + suc m = omega arith in let w : suc j + m ≡ j + suc m = omega arith in rw (z, w) (h (suc m) (omega arith))) in
+    shares-alike u v (suc i) (suc j) t (λ m k. let z : suc i + m ≡ i + suc m = omega arith in let w : suc j + m ≡ j + suc m = omega arith in rw (z, w) (h (suc m) (omega arith))) in
     rw (e, more)
 
 -- Weights that are 0, and weights added.
@@ -78,6 +78,7 @@ get-inside (x ∷ r) (suc i) k e = let h = get-inside r i k e in omega arith
 module _ {l : Language} {r : List ℕ} (s : Codes) (full : many s ≡ length r) where
   mutual
     unfolding substitute operand write own uses
+
     pub size-substitute : {a : Code} {k : ℕ} → Typed l r a k → size (substitute s a) ≡ own a + shares (λ i. uses i a) 1 s
     size-substitute (typed-node e h) = let w = size-substituteAll h in omega arith
     size-substitute (typed-token e h) = let w = shares-zero 1 s in omega arith
