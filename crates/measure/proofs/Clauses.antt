@@ -148,7 +148,7 @@ module _ (source index s : List ℕ) (f : Translation) (z : Indexed index source
         let ends = at-p .ends in
         let d : length (write code c) ≡ e - (p + 5) = ap length (sym (is-right .1)) ∙ length-slice (p + 5) e s ends in
         let front : drop (p + 5) s ≡ write code c ++ drop (e - (p + 5)) (drop (p + 5) s) =
-            part-front s (p + 5) e past ends ∙ ap (λ (l : List ℕ). l ++ drop (e - (p + 5)) (drop (p + 5) s)) (is-right .1) in
+        part-front s (p + 5) e past ends ∙ ap (λ (l : List ℕ). l ++ drop (e - (p + 5)) (drop (p + 5) s)) (is-right .1) in
         sym (clause-known s index p counts tag refl refl found refl refl)
         ∙ (code-counted s e (place (key p) + 3) c (p + 5) (drop (e - (p + 5)) (drop (p + 5) s)) counts front (omega arith)
         ∙ code-done s (p + 5 + length (write code c)) e (place (key p) + 3) (added (place (key p) + 3) c counts) (omega arith))
@@ -159,20 +159,97 @@ module _ (source index s : List ℕ) (f : Translation) (z : Indexed index source
 
     -- Elsewhere the counts stay.
     step-off : (j i : ℕ) (counts : List ℕ) → (key p ≡ j → ⊥) → 0 < place j → i ≤ pairAt source (place j) - 2
-        → getD (countClause s index p counts) (place j + 3 + i) 0 ≡ getD counts (place j + 3 + i) 0
+        → getD (added (place (key p) + 3) c counts) (place j + 3 + i) 0 ≡ getD counts (place j + 3 + i) 0
     step-off j i counts ne pos h =
-        rw (step counts)
-        (added-out (place (key p) + 3) (place j + 3 + i)
+        added-out (place (key p) + 3) (place j + 3 + i)
         (λ m l e. let q = kinds-most in ⊎-elim (λ a. omega arith) (λ a. omega arith) (x .apart (key p) j ne (omega arith) pos))
-        (is-right .0) counts)
+        (is-right .0) counts
 
-  step-else : (p j i : ℕ) (counts : List ℕ) → Mem p (places s) → (getD s p 0 ≡ 0x23 → key p ≡ j → ⊥) → 0 < place j → i ≤ pairAt source (place j) - 2
-      → getD (countClause s index p counts) (place j + 3 + i) 0 ≡ getD counts (place j + 3 + i) 0
-  step-else p j i counts here ne pos h =
+  -- The field at p adds nothing, or what its code counts for.
+  step-cases : (P : List ℕ → Type 0) (p : ℕ) (counts : List ℕ) → Mem p (places s) → P counts
+      → ((tag : getD s p 0 ≡ 0x23) → (place (key p) ≡ 0 → ⊥) → P (added (place (key p) + 3) (clausesOf f (getD s (p + 3) 0) (getD s (p + 4) 0)) counts))
+      → P (countClause s index p counts)
+  step-cases P p counts here same more =
       by-test (eqb (getD s p 0) 0x23)
       (λ t.
       let tag = eqb-true _ _ t in
       by-test (eqb (place (key p)) 0)
-      (λ e. rw (← clause-unknown s index p counts tag refl refl (eqb-true _ _ e)))
-      (λ e. step-off p here tag (eqb-false _ _ e) j i counts (ne tag) pos h))
-      (λ t. rw (← clause-other s index p counts (eqb-false _ _ t)))
+      (λ e. rw (← clause-unknown s index p counts tag refl refl (eqb-true _ _ e)) same)
+      (λ e. let found = eqb-false _ _ e in rw (step p here tag found counts) (more tag found)))
+      (λ t. rw (← clause-other s index p counts (eqb-false _ _ t)) same)
+
+  step-else : (p j i : ℕ) (counts : List ℕ) → Mem p (places s) → (getD s p 0 ≡ 0x23 → key p ≡ j → ⊥) → 0 < place j → i ≤ pairAt source (place j) - 2
+      → getD (countClause s index p counts) (place j + 3 + i) 0 ≡ getD counts (place j + 3 + i) 0
+  step-else p j i counts here ne pos h =
+      step-cases (λ a. getD a (place j + 3 + i) 0 ≡ getD counts (place j + 3 + i) 0) p counts here refl
+      (λ tag found. step-off p here tag found j i counts (ne tag) pos h)
+
+  step-length : (p : ℕ) (counts : List ℕ) → Mem p (places s) → length (countClause s index p counts) ≡ length counts
+  step-length p counts here =
+      step-cases (λ a. length a ≡ length counts) p counts here refl
+      (λ tag found. added-length (place (key p) + 3) (clausesOf f (getD s (p + 3) 0) (getD s (p + 4) 0)) counts)
+
+  -- Clauses of other keys leave the counts of a key.
+  kept : (l : List ℕ) → ((p : ℕ) → Mem p l → Mem p (places s)) → (j i : ℕ) (counts : List ℕ)
+      → ((p : ℕ) → Mem p l → getD s p 0 ≡ 0x23 → key p ≡ j → ⊥) → 0 < place j → i ≤ pairAt source (place j) - 2
+      → getD (countAll s index l counts) (place j + 3 + i) 0 ≡ getD counts (place j + 3 + i) 0
+  unfolding countAll
+  kept [] inside j i counts ne pos h = refl
+  kept (p ∷ l) inside j i counts ne pos h =
+      kept l (λ q m. inside q (inr m)) j i (countClause s index p counts) (λ q m. ne q (inr m)) pos h
+      ∙ step-else p j i counts (inside p (inl refl)) (ne p (inl refl)) pos h
+
+  -- The clause at p is counted once.
+  once : (m : ℕ) (l : List ℕ) → ((p : ℕ) → Mem p l → Mem p (places s)) → From (keyAt 0x22 s) m l
+      → (p : ℕ) → Mem p l → getD s p 0 ≡ 0x23 → (place (key p) ≡ 0 → ⊥) → (i : ℕ) (counts : List ℕ)
+      → i ≤ pairAt source (place (key p)) - 2 → place (key p) + 3 + i < length counts
+      → getD (countAll s index l counts) (place (key p) + 3 + i) 0
+      ≡ getD counts (place (key p) + 3 + i) 0 + counted i (clausesOf f (getD s (p + 3) 0) (getD s (p + 4) 0))
+  unfolding countAll
+  once m (q ∷ l) inside r p (inl e) tag found i counts h g =
+      let kp = clause-key s p tag in
+      let kq : keyAt 0x22 s p ≡ keyAt 0x22 s q = ap (keyAt 0x22 s) e in
+      kept l (λ a b. inside a (inr b)) (key p) i (countClause s index q counts)
+      (λ a b t d. let ka = clause-key s a t in let u = from-mem (keyAt 0x22 s) l (r .1) b in omega arith) (omega arith) h
+      ∙ (ap (λ (a : ℕ). getD (countClause s index a counts) (place (key p) + 3 + i) 0) (sym e)
+      ∙ step-here p (rw e (inside q (inl refl))) tag found i counts g)
+  once m (q ∷ l) inside r p (inr b) tag found i counts h g =
+      let kp = clause-key s p tag in
+      let u = from-mem (keyAt 0x22 s) l (r .1) b in
+      let v = step-else q (key p) i counts (inside q (inl refl)) (λ t d. let kq = clause-key s q t in omega arith) (omega arith) h in
+      let n = step-length q counts (inside q (inl refl)) in
+      once (suc (keyAt 0x22 s q)) l (λ a t. inside a (inr t)) (r .1) p b tag found i (countClause s index q counts) h (omega arith)
+      ∙ ap (λ (a : ℕ). a + counted i (clausesOf f (getD s (p + 3) 0) (getD s (p + 4) 0))) v
+
+  module _ (counts : List ℕ) (long : length counts ≡ 1024) (clear : (j : ℕ) → getD counts j 0 ≡ 0) where
+    at-key : (k n : ℕ) (ks : List ℕ) → k < 32 → n < 256 → argumentsOf (f .source) k n ≡ some ks → (i : ℕ) → i ≤ length ks
+        → getD (countAll s index (places s) counts) (place (productionKey k n) + 3 + i) 0 ≡ counted i (clausesOf f k n)
+    at-key k n ks hk hn there i h =
+        let most = arguments-most source (place (productionKey k n)) ks (sym (z .arguments k n hk hn) ∙ there) in
+        let room : place (productionKey k n) + 3 + i < length source = room-of i h most in
+        let short = z .sound .short in
+        let (p, m, tag, ek, en) = w .every k n ks there in
+        let d : key p ≡ productionKey k n = ap (λ (a : ℕ). 32 + a) (clause-pair s p) ∙ rw (ek, en) in
+        let e : clausesOf f (getD s (p + 3) 0) (getD s (p + 4) 0) ≡ clausesOf f k n = λ i. clausesOf f (ek i) (en i) in
+        let found : place (key p) ≡ 0 → ⊥ = λ q. let v : place (productionKey k n) ≡ 0 = rw (← d) q in omega arith in
+        let o = once 0 (places s) (λ a b. b) (w .rises) p m tag found i counts (rw d (omega arith)) (rw d (omega arith)) in
+        let c = clear (place (key p) + 3 + i) in
+        rw (← d) (o ∙ (omega arith ∙ ap (counted i) e))
+      where
+        room-of : (i : ℕ) → i ≤ length ks → (0 < place (productionKey k n)) × (length ks ≤ pairAt source (place (productionKey k n)) - 2) → place (productionKey k n) + 3 + i < length source
+        room-of zero h most = let v = z .sound .name k n hk hn (most .0) in omega arith
+        room-of (suc i) h most =
+            let q = most .1 in
+            z .sound .operands k n hk hn (most .0) (place (productionKey k n) + 3 + suc i) (omega arith) (omega arith) .0
+
+    -- The table that is counted over a body.
+    pub all-counted : Counted (countAll s index (places s) counts) index f
+    all-counted = record {
+      owns = λ k n ks hk hn there.
+          let d : place (productionKey k n) + 3 + 0 ≡ place (productionKey k n) + 3 = omega arith in
+          rw (← d) (at-key k n ks hk hn there 0 (omega arith));
+      used = λ k n ks hk hn there i h.
+          let d : place (productionKey k n) + 3 + suc i ≡ place (productionKey k n) + 4 + i = omega arith in
+          let e : suc i ≡ 1 + i = omega arith in
+          rw (← d, ← e) (at-key k n ks hk hn there (suc i) h);
+    }

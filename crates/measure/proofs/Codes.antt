@@ -48,6 +48,7 @@ module _ (s : List ℕ) (e to : ℕ) where
 
   mutual
     unfolding write added amountOf slotOf
+
     pub code-counted : (c : Code) (q : ℕ) (r counts : List ℕ) → drop q s ≡ write code c ++ r → q + length (write code c) ≤ e
         → countCode s q e to counts ≡ countCode s (q + length (write code c)) e to (added to c counts)
     code-counted (node k p t) q r counts h l =
@@ -87,6 +88,7 @@ add-here counts to i j n h =
 
 mutual
   unfolding added
+
   pub added-length : (to : ℕ) (a : Code) (counts : List ℕ) → length (added to a counts) ≡ length counts
   added-length to (node k p t) counts = addedAll-length to t (addAt counts (to + 0) 1) ∙ add-length counts (to + 0) 1
   added-length to (token v) counts = add-length counts (to + 0) 2
@@ -100,6 +102,7 @@ module _ {l : Language} {r : List ℕ} (to : ℕ) where
   -- At 0 and at each argument there is as much more as the code counts for.
   mutual
     unfolding added own uses
+
     pub added-at : {a : Code} {k : ℕ} → Typed l r a k → (i : ℕ) (counts : List ℕ) → to + i < length counts
         → getD (added to a counts) (to + i) 0 ≡ getD counts (to + i) 0 + counted i a
     added-at (typed-node {t = t} e hs) zero counts h =
@@ -137,6 +140,7 @@ module _ {l : Language} {r : List ℕ} (to : ℕ) where
   module _ (j : ℕ) (out : (i : ℕ) → i ≤ length r → to + i ≡ j → ⊥) where
     mutual
       unfolding added
+
       pub added-out : {a : Code} {k : ℕ} → Typed l r a k → (counts : List ℕ) → getD (added to a counts) j 0 ≡ getD counts j 0
       added-out (typed-node e hs) counts = addedAll-out hs (addAt counts (to + 0) 1) ∙ add-other counts (to + 0) 1 j (out 0 (omega arith))
       added-out (typed-token e g) counts = add-other counts (to + 0) 2 j (out 0 (omega arith))

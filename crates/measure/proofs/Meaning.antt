@@ -137,7 +137,7 @@ module _ (s index counts b : List ℕ) (f : Translation) (z : Indexed index s (f
   next (End e l) i q ks at n y h ih =
       let d = sized-done f top (g (getD s q 0) (drop at b)) (drop e b) l (sym h) in
       let sum : capped top (capped top n + weight q * l) ≡ capped top (n + weight q * size (transform f (d .0))) =
-          ap (λ (x : ℕ). capped top (capped top n + weight q * x)) (d .2) ∙ sym (capped-share top n (weight q) (size (transform f (d .0)))) in
+      ap (λ (x : ℕ). capped top (capped top n + weight q * x)) (d .2) ∙ sym (capped-share top n (weight q) (size (transform f (d .0)))) in
       ap (sizedAt b) (code-next i q at (capped top n) e l y)
       ∙ (ap (λ (x : ℕ). sizedAt b (sharesFrom m s counts top i (q + 1) e x)) sum
       ∙ (ih e (n + weight q * size (transform f (d .0)))
@@ -164,10 +164,10 @@ module _ (s index counts b : List ℕ) (f : Translation) (z : Indexed index s (f
       → sizedAll (weight x) q o ≡ sizedOf top f (andThen o λ t r. Meant.done (node k p t) r)
   node-made k p x q ks (Meant.done t r) there full eo eu =
       let e : size (transform f (node k p t)) ≡ own (clausesOf f k p) + shares (λ i. uses i (clausesOf f k p)) 1 (runAll (clausesOf f) t) =
-          size-run f k p ks there t full in
+      size-run f k p ks there t full in
       let d : shares weight q (runAll (clausesOf f) t) ≡ shares (λ i. uses i (clausesOf f k p)) 1 (runAll (clausesOf f) t) =
-          shares-alike weight (λ i. uses i (clausesOf f k p)) q 1 (runAll (clausesOf f) t)
-          (λ i h. let l = many-run (clausesOf f) t in eu i (omega arith)) in
+      shares-alike weight (λ i. uses i (clausesOf f k p)) q 1 (runAll (clausesOf f) t)
+      (λ i h. let l = many-run (clausesOf f) t in eu i (omega arith)) in
       ap (λ (x : ℕ). sized r (capped top x)) (omega arith)
   node-made k p x q ks Meant.deep there full eo eu = refl
   node-made k p x q ks Meant.broken there full eo eu = refl
@@ -182,7 +182,7 @@ module _ (s index counts b : List ℕ) (f : Translation) (z : Indexed index s (f
       let from : suc q + 4 ≡ q + 5 = omega arith in
       let before : q + 5 - 1 ≡ suc q + 3 = omega arith in
       let stop : suc q + 2 + pairAt s (suc q) ≡ q + 3 + pairAt s (q + 1) =
-          (let n : pairAt s (suc q) ≡ pairAt s (q + 1) = ap (pairAt s) (omega arith) in omega arith) in
+      (let n : pairAt s (suc q) ≡ pairAt s (q + 1) = ap (pairAt s) (omega arith) in omega arith) in
       let ks : List ℕ = slice (q + 5) (q + 3 + pairAt s (q + 1)) s in
       let v = Read-laws.kinds-in index s (z .sound) refl h j e pos refl in
       rw (ne-eqb (suc q) 0 pos, stop, from, before)
@@ -208,9 +208,9 @@ module _ (s index counts b : List ℕ) (f : Translation) (z : Indexed index s (f
   token-same p k at e h =
       let pos : suc p ≡ 0 → ⊥ = λ v. omega arith in
       let r : restAt b (readAt Tree s index [] b 1 k at) ≡ restOf (Meant.read Meant.tree (f .source) [] 1 k (drop at b)) =
-          read-same Tree s index [] b (f .source) z bytes 1 k at h in
+      read-same Tree s index [] b (f .source) z bytes 1 k at h in
       let q : restAt b (tokenAt s (suc p) b at) ≡ restOf (readToken (rangeBefore s (suc p)) (drop at b)) =
-          cc (Read-laws.tree-token s index k b at refl e pos refl, z .range k h) in
+      cc (Read-laws.tree-token s index k b at refl e pos refl, z .range k h) in
       leaf-same f top b (tokenAt s (suc p) b at) (readToken (rangeBefore s (suc p)) (drop at b)) (token-two f top _ (drop at b)) q
 
   level-same : (place k at : ℕ) → place ≡ getD index k 0 → k < 32

@@ -6,8 +6,8 @@ use mathlib.Core.List.{List, [], _∷_, _++_}
 use mathlib.Core.Option.{Option, none, some, Option·getD}
 use native.Mathlib.Omega.{arith}
 use lib.ListN.{length, getElem?, length-append, length-map}
-use lib.Dec.{leb, eqb}
-use borrow.Author.Tests.{eq-eqb, ne-eqb, leb-true, leb-false}
+use lib.Dec.{ltb, leb, eqb}
+use borrow.Author.Tests.{lt-ltb, le-ltb, eq-eqb, ne-eqb, leb-true, leb-false}
 use Rattle.fields.proofs.Truth.{none-some, by-test}
 use Rattle.language.specs.Language.{Language, argumentsOf}
 use Rattle.reader.specs.Code.{Code, node, token, argument, Codes, nil, cons}
@@ -26,7 +26,7 @@ shares-alike u v i j nil h = refl
 shares-alike u v i j (cons a t) h =
     let e : u i ≡ v j = (let z : i + 0 ≡ i = omega arith in let w : j + 0 ≡ j = omega arith in rw (← z, ← w) (h 0 (omega arith))) in
     let more : shares u (suc i) t ≡ shares v (suc j) t =
-        shares-alike u v (suc i) (suc j) t (λ m k. let z : suc i + m ≡ i + suc m = omega arith in let w : suc j + m ≡ j + suc m = omega arith in rw (z, w) (h (suc m) (omega arith))) in
+    shares-alike u v (suc i) (suc j) t (λ m k. let z : suc i + m ≡ i + suc m = omega arith in let w : suc j + m ≡ j + suc m = omega arith in rw (z, w) (h (suc m) (omega arith))) in
     rw (e, more)
 
 -- Weights that are 0, and weights added.
@@ -78,6 +78,7 @@ get-inside (x ∷ r) (suc i) k e = let h = get-inside r i k e in omega arith
 module _ {l : Language} {r : List ℕ} (s : Codes) (full : many s ≡ length r) where
   mutual
     unfolding substitute operand write own uses
+
     pub size-substitute : {a : Code} {k : ℕ} → Typed l r a k → size (substitute s a) ≡ own a + shares (λ i. uses i a) 1 s
     size-substitute (typed-node e h) = let w = size-substituteAll h in omega arith
     size-substitute (typed-token e h) = let w = shares-zero 1 s in omega arith
@@ -151,3 +152,13 @@ pub capped-share : (top n u a : ℕ) → capped top (n + u * a) ≡ capped top (
 capped-share top n u a =
     let h = capped-times top u a in
     capped-add top n (u * a) ∙ (ap (λ (m : ℕ). capped top (capped top n + m)) h ∙ omega arith)
+
+-- A length is over the room exactly if it is over it up to one more than the room; within the room it is whole.
+pub over-room : (room n : ℕ) → ltb room (capped (room + 1) n) ≡ ltb room n
+over-room room n =
+    by-test (leb n room)
+    (λ e. let h : n ≤ room = leb-true n room e in let k : capped (room + 1) n ≤ room = omega arith in rw (le-ltb room n h, le-ltb room (capped (room + 1) n) k))
+    (λ e. let h : room < n = leb-false n room e in let k : room < capped (room + 1) n = omega arith in rw (lt-ltb room n h, lt-ltb room (capped (room + 1) n) k))
+
+pub within-room : (room n : ℕ) → capped (room + 1) n ≤ room → capped (room + 1) n ≡ n
+within-room room n h = omega arith

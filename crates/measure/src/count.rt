@@ -58,8 +58,8 @@ fn count_clause(body: &[u8], p: usize, e: usize, index: &[u16], counts: &mut [u1
     count_code(body, p + 5, e, counts, place + 3);
 }
 
-// Counts every clause of the body.
-fn count_all(body: &[u8], index: &[u16], counts: &mut [u16])
+// Counts every clause of the body into a table that is all zero.
+pub fn count_all(body: &[u8], index: &[u16], counts: &mut [u16])
     requires { ⌜ (all (isWhole (now body)) (places (now body)) ≡ true) × (length (now body) ≤ 4096) × ((j : ℕ) → getD (now counts) j 0 ≡ 0) ⌝ }
     ensures { λ r. ⌜ now (counts .exit) ≡ countAll (now (body .entry)) (now (index .entry)) (places (now (body .entry))) (now (counts .entry)) ⌝ }
 {

@@ -1,5 +1,5 @@
 // The length of the result of a run, measured in one pass over the tree.
 pub mod capped;
-pub mod table;
 pub mod count;
 pub mod measure;
+pub mod table;

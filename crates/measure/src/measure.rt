@@ -65,16 +65,7 @@ fn measure_at(
             let mut to = start;
             let mut sum = own_at(counts, from, top);
             while q < stop {
-                match measure_at(
-                    source,
-                    index,
-                    counts,
-                    source[q],
-                    tree,
-                    to,
-                    levels - 1,
-                    top,
-                ) {
+                match measure_at(source, index, counts, source[q], tree, to, levels - 1, top) {
                     Measured::End(e, n) => {
                         to = e;
                         sum = add_share(sum, count_at(counts, q), n, top);

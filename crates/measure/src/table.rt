@@ -8,7 +8,11 @@ ghost use Rattle.measure.specs.Inner.Counting.{addAt};
 pub fn count_at(counts: &[u16], i: usize) -> usize
     ensures { λ r. ⌜ (r ≡ getD (now (counts .entry)) i 0) × (r < 65536) ⌝ }
 {
-    if i < counts.len() { counts[i] as usize } else { 0 }
+    if i < counts.len() {
+        counts[i] as usize
+    } else {
+        0
+    }
 }
 
 // Adds n to the count at i.

@@ -32,6 +32,7 @@ countIn (suc fuel) s q e own counts =
       | false ↦ countIn fuel s (q + (amountOf (byteAt s q) + 1)) e own (countSign s q own counts)
     ]
 
+-- The same, with fuel for all bytes.
 unfoldable pub countCode : List ℕ → ℕ → ℕ → ℕ → List ℕ → List ℕ
 countCode s q e own counts = countIn (e - q) s q e own counts
 

@@ -58,6 +58,7 @@ pub data Sized : Type 0 where
   deep : Sized
   broken : Sized
 
+-- What the code measured, with what is left after the position that it reached.
 abbrev pub sizedAt : List ℕ → Measured → Sized
 sizedAt b (End e n) = sized (drop e b) n
 sizedAt b Deep = deep
