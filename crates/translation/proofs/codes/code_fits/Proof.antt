@@ -43,7 +43,11 @@ part-read-end : tie.Need-part-read-end
 part-read-end c = let k = code-cut _ _ _ (c .before .before .before .before .before .before .before .before .before .before .before .before .pre .0) (c .before .before .before .before .before .before .before .before .before .before .before .before .pre .1) in omega (arith, k .0, k .1)
 
 read-requires : tie.Need-read-requires
-read-requires c κs = (c .before .before .before .before .before .before .before .before .before .before .before .before .before .pre .2 .1 .target .sound, c .before .before .map-kind .ensures .1, omega arith)
+read-requires c κs = record {
+  sound = c .before .before .before .before .before .before .before .before .before .before .before .before .before .pre .2 .1 .target .sound;
+  kind = c .before .before .map-kind .ensures .1;
+  inside = omega arith;
+}
 
 sub-ends-at : tie.Need-sub-ends-at
 sub-ends-at c = let k = code-cut _ _ _ (c .before .before .before .before .before .before .before .before .before .before .before .before .before .before .pre .0) (c .before .before .before .before .before .before .before .before .before .before .before .before .before .before .pre .1) in omega (arith, k .0, k .1)

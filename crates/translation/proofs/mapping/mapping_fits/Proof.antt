@@ -1,6 +1,6 @@
 use borrow.Author.Tests.{not-true, not-false}
 use mathlib.Core.Path.{refl}
-use Rattle.reader.proofs.Check.{entries-whole}
+use Rattle.reader.proofs.Members.{entries-whole}
 use Rattle.translation.proofs.Marked.{table-is}
 use Rattle.translation.proofs.Mappings.{fits-kinds, fits-targets, fits-classes}
 use borrow.Author.Needs.{needs}
