@@ -3,10 +3,12 @@ ghost use mathlib.Core.Path.{_≡_};
 ghost use Rattle.fields.specs.Outcome.{numberOf, reasonNumber};
 ghost use Rattle.language.specs.Operations.{checkLanguage};
 ghost use Rattle.reader.specs.Operations.{checkTree};
+ghost use Rattle.translation.specs.Operations.{checkTranslation};
 use fields::outcome::Outcome;
 use fields::outcome::Reason;
 use language::check::check_language;
 use reader::tree::check_tree;
+use translation::check::check_translation;
 
 // The number of a refusal.
 fn reason_number(reason: Reason) -> u32
@@ -49,6 +51,16 @@ pub extern "C" fn algebra_check_language(language: &[u8]) -> u32
     ensures { λ r. ⌜ r ≡ numberOf (checkLanguage (now (language .entry))) ⌝ }
 {
     let answer = check_language(language);
+    let outcome = answer.outcome;
+    number(outcome)
+}
+
+// Check a translation.
+#[no_mangle]
+pub extern "C" fn algebra_check_translation(translation: &[u8]) -> u32
+    ensures { λ r. ⌜ r ≡ numberOf (checkTranslation (now (translation .entry))) ⌝ }
+{
+    let answer = check_translation(translation);
     let outcome = answer.outcome;
     number(outcome)
 }
