@@ -190,8 +190,8 @@ module _ (s is t it b ib : List ℕ) (f : Translation) (z : Prepared s is t it b
       unfolding codeFits readClause
       clause-read =
           let k : kinds ≡ mappedArguments f (getD b (p + 3) 0) (getD b (p + 4) 0) =
-              ek ∙ (ap (λ (j : ℕ). mappedBefore s (getD is j 0) b ib) (clause-key b p c)
-              ∙ arguments-map (getD b (p + 3) 0) (getD b (p + 4) 0) (c .result) (bytes (p + 4))) in
+          ek ∙ (ap (λ (j : ℕ). mappedBefore s (getD is j 0) b ib) (clause-key b p c)
+          ∙ arguments-map (getD b (p + 3) 0) (getD b (p + 4) 0) (c .result) (bytes (p + 4))) in
           let m : kind ≡ mapped (f .body) (getD b (p + 3) 0) = em ∙ mapped-is b ib (f .body) (z .body) (getD b (p + 3) 0) (c .result) in
           let u : cut b (p + 5) e ≡ slice (p + 5) (fieldEnd b p) b = cut-is b (p + 5) e (code-cut b p e c ee .0) (code-cut b p e c ee .1) ∙ ap (λ (j : ℕ). slice (p + 5) j b) ee in
           rw (clause-is b p c, k, m, u)

@@ -108,13 +108,7 @@ fn kept_at(
 }
 
 // Each source class maps to a target class of equal range.
-fn classes_kept(
-    source: &[u8],
-    target: &[u8],
-    targets: &[u16],
-    body: &[u8],
-    items: &[u16],
-) -> bool
+fn classes_kept(source: &[u8], target: &[u8], targets: &[u16], body: &[u8], items: &[u16]) -> bool
     requires { ⌜ (all (entryWhole (now source)) (places (now source)) ≡ true) × Sound (now targets) (now target) × SoundItems (now items) (now body) ⌝ }
     ensures { λ r. ⌜ r ≡ all (keptAt (now (source .entry)) (now (target .entry)) (now (targets .entry)) (now (body .entry)) (now (items .entry))) (places (now (source .entry))) ⌝ }
 {
