@@ -2,3 +2,4 @@
 pub mod Pieces
 pub mod Starts
 pub mod Runs
+pub mod Prepared

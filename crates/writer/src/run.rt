@@ -14,11 +14,18 @@ use reader::node::Node;
 use reader::node::Read;
 use reader::node::Syntax;
 use reader::node::node_at;
+ghost use mathlib.Core.Path.{_≡_};
+ghost use mathlib.Core.List.{List};
 ghost use Prim.Native.Nat.{ℕ, _+_, _-_, _<_, _≤_};
-ghost use lib.ListN.{length, getD};
+ghost use lib.ListN.{length, getD, drop};
+ghost use Rattle.reader.specs.Code.{Code};
+ghost use Rattle.reader.specs.Syntax.{read, done, write};
+ghost use Rattle.translation.specs.Translation.{Translation};
+ghost use Rattle.translation.specs.Running.{transform};
 ghost use Rattle.language.specs.Language.{productionKey};
-ghost use Rattle.reader.specs.Inner.Positions.{KindsIn};
+ghost use Rattle.reader.specs.Inner.Positions.{KindsIn, syntaxOf};
 ghost use Rattle.writer.specs.Inner.Pieces.{then, copied, Puts};
+ghost use Rattle.writer.specs.Inner.Prepared.{Prepared, Written};
 ghost use Rattle.writer.specs.Inner.Runs.{Tables, tables, Sized, NodeAsks, KnownOf, argumentsOf, rowAt, codeAt, argumentOf, clauseNext, termAt};
 
 // A production name and the codes behind it, whose kinds stand in the target from `first` up to `stop`.
@@ -342,4 +349,46 @@ pub fn run_term(
             )
         }
     }
+}
+
+// The run of the term of a kind at a position in the input, through the translation that the tables are of.
+pub fn run(
+    syntax: Syntax,
+    source: &[u8],
+    index: &[u16],
+    target: &[u8],
+    places: &[u16],
+    body: &[u8],
+    clauses: &[u16],
+    mapped: &[u8],
+    arguments: &[u8],
+    input: &[u8],
+    kind: u8,
+    at: usize,
+    levels: usize,
+    output: &mut [u8],
+    pos: usize,
+) -> Ran
+    requires { ⌜ Sized (tables syntax (now source) (now index) (now target) (now places) (now body) (now clauses) (now mapped) (now arguments) (now input)) × (kind < 32) × (at ≤ length (now input)) × (pos ≤ length (now output)) ⌝ }
+    ensures { λ r. ⌜ ((f : Translation) (t : Code) (rest : List ℕ) → Prepared (tables syntax (now (source .entry)) (now (index .entry)) (now (target .entry)) (now (places .entry)) (now (body .entry)) (now (clauses .entry)) (now (mapped .entry)) (now (arguments .entry)) (now (input .entry))) f
+        → read (syntaxOf syntax) (f .source) (now (arguments .entry)) levels kind (drop at (now (input .entry))) ≡ done t rest
+        → Written (write (syntaxOf syntax) (transform f t)) rest (now (input .entry)) (now (output .entry)) (now (output .exit)) pos r) ⌝ }
+{
+    run_term(
+        syntax,
+        source,
+        index,
+        target,
+        places,
+        body,
+        clauses,
+        mapped,
+        arguments,
+        input,
+        kind,
+        at,
+        levels,
+        output,
+        pos,
+    )
 }
