@@ -2,10 +2,9 @@
 use Prim.Native.Nat.{ℕ, zero, suc, _+_, _-_, _<_, _≤_}
 use mathlib.Core.Path.{_≡_, refl, sym, ap, _∙_}
 use mathlib.Core.Logic.{_⊎_, ⊎-elim, inl, inr}
-use mathlib.Core.List.{List, [], _∷_}
+use mathlib.Core.List.{List}
 use native.Mathlib.Omega.{arith}
-use native.Mathlib.Numerals.{add-one}
-use lib.ListN.{length, getD, set, length-set, replicate, List·getD-eq-default}
+use lib.ListN.{length, getD, set, length-set, List·getD-eq-default}
 use lib.Seq.{getD-set-same, getD-set-other}
 use lib.Dec.{ltb, eqb}
 use borrow.Author.Tests.{eqb-true, eqb-false, ltb-true, ltb-false}
@@ -13,17 +12,17 @@ use Rattle.fields.proofs.Truth.{by-test}
 use Rattle.reader.specs.declared.node.Syntax.{Syntax}
 use Rattle.reader.specs.declared.node.Read.{Read}
 use Rattle.reader.specs.declared.node.Read.the-variants.{End, Deep, Broken}
-use Rattle.reader.specs.Inner.Positions.{operandsFrom, readAt, EndsBy, KindsIn}
+use Rattle.reader.specs.Inner.Positions.{operandsFrom, readAt, EndsBy}
 use Rattle.writer.specs.declared.starts.Frame.{Frame}
 use Rattle.writer.specs.Inner.Starts.{reach, Known}
 
 end-not-deep : {A : Type 0} {e : ℕ} → End e ≡ Deep → A
 end-not-deep y = let z : _≡_ {A = ℕ} 0 1 = cc in absurd (omega arith)
 
-end-not-broken : {A : Type 0} {e : ℕ} → End e ≡ Broken → A
+pub end-not-broken : {A : Type 0} {e : ℕ} → End e ≡ Broken → A
 end-not-broken y = let z : _≡_ {A = ℕ} 0 1 = cc in absurd (omega arith)
 
-end-inj : {e d : ℕ} → End e ≡ End d → e ≡ d
+pub end-inj : {e d : ℕ} → End e ≡ End d → e ≡ d
 end-inj y = cc
 
 module _ (f : ℕ → ℕ → Read) (s : List ℕ) where

@@ -1,22 +1,20 @@
 -- The run by position is the run of translation/specs/Running.antt, written in the syntax of the input.
-use Prim.Native.Nat.{ℕ, zero, suc, _+_, _*_, _/_, _%_, _-_, _<_, _≤_, max}
+use Prim.Native.Nat.{ℕ, zero, suc, _+_, _/_, _%_, _-_, _<_, _≤_}
 use mathlib.Core.Path.{_≡_, refl, sym, ap, _∙_}
 use mathlib.Core.List.{List, [], _∷_, _++_, map, append-assoc, append-nil}
-use mathlib.Core.Bool.{Bool, true, false, cond}
-use mathlib.Core.Option.{Option, none, some, Option·getD}
+use mathlib.Core.Option.{none, some}
 use native.Mathlib.Omega.{arith}
-use native.Mathlib.Numerals.{add-one}
-use lib.ListN.{length, getD, getElem?, take, drop, length-append, length-take, length-drop, take-append-drop, drop-of-length-le}
+use lib.ListN.{length, getD, getElem?, take, drop, length-drop, take-append-drop, drop-of-length-le}
 use lib.Seq.{slice, take-append-seam, drop-append-le}
 use lib.Dec.{ltb, leb, eqb}
-use borrow.Author.Tests.{lt-ltb, le-ltb, le-leb, lt-leb, eq-eqb, ne-eqb, leb-true, leb-false, ltb-true, ltb-false}
+use borrow.Author.Tests.{le-ltb, lt-leb, eq-eqb, ne-eqb, leb-true, leb-false}
 use Rattle.fields.specs.Fields.{pairAt}
 use Rattle.fields.specs.Inner.Places.{fieldEnd}
 use Rattle.fields.proofs.Truth.{by-test, none-some, some-inj}
 use Rattle.fields.proofs.Lists.{part-done, part-next}
 use Rattle.fields.proofs.Split.{front}
 use Rattle.fields.proofs.Codec.{Bytes, each-front, bytes-from}
-use Rattle.language.specs.Language.{Language, Range, rangeOf, argumentsOf, inRange, productionKey}
+use Rattle.language.specs.Language.{Language, Range, rangeOf, argumentsOf, productionKey}
 use Rattle.reader.specs.Code.{Code, node, token, argument, Codes, nil, cons, levels, levelsAll}
 use Rattle.reader.specs.Typing.{kindAt, Typed, TypedAll, typed-node, typed-token, typed-argument, typed-nil, typed-cons}
 use Rattle.reader.specs.Syntax.{sign, write, writeAll, done}
@@ -27,35 +25,32 @@ use Rattle.reader.specs.declared.node.Read.{Read}
 use Rattle.reader.specs.declared.node.Read.the-variants.{End, Deep, Broken}
 use Rattle.reader.specs.declared.node.Node.{Node}
 use Rattle.reader.specs.declared.node.Node.the-variants.{Leaf, Operands}
-use Rattle.reader.specs.Inner.Index.{Sound, Indexed, rangeBefore, argumentsBefore}
-use Rattle.reader.specs.Inner.Positions.{tokenAt, argumentAt, argumentIs, nameAt, operandsAt, treeNode, codeNode, nodeAt, operandsFrom, follow, readAt, KindsIn, rest, restAt, restOf, syntaxOf}
+use Rattle.reader.specs.Inner.Index.{Indexed, rangeBefore, argumentsBefore}
+use Rattle.reader.specs.Inner.Positions.{tokenAt, argumentAt, argumentIs, nameAt, operandsAt, nodeAt, operandsFrom, follow, readAt, KindsIn, rest, restAt, restOf, syntaxOf}
 use Rattle.reader.proofs.Laws as Laws
 use Rattle.reader.proofs.Meaning.{read-same}
 use Rattle.reader.proofs.RoundTrip as Round
 use Rattle.reader.proofs.Sound.{read-done}
 use Rattle.translation.specs.Translation.{Translation, itemKey, clauseOf, mapped}
-use Rattle.translation.specs.Running.{nth, operand, substitute, substituteAll, Clauses, run, runAll, mappedArguments, readClause, clausesOf, codeLevels, transform}
+use Rattle.translation.specs.Running.{nth, operand, substitute, substituteAll, run, runAll, mappedArguments, readClause, clausesOf, codeLevels, transform}
 use Rattle.fields.proofs.Keyed.{Rising}
 use Rattle.language.proofs.Lookup.{arguments-mem}
 use Rattle.translation.proofs.Lookup.{mem-clause, clause-mem}
 use Rattle.translation.proofs.Fitting.{Fitting, mapped-arguments}
-use Rattle.writer.specs.declared.step.Step.{Step}
 use Rattle.writer.specs.declared.step.Step.the-variants as Steps
 use Rattle.writer.specs.declared.starts.Frame.{Frame}
 use Rattle.writer.specs.Inner.Pieces.{Piece, made, behind, then, endingAt, copied, leafOf, spliced, Says, Puts}
 use Rattle.writer.specs.declared.output.Ran.{Ran}
 use Rattle.writer.specs.declared.output.Ran.the-variants.{To, Full}
 use Rattle.writer.specs.Inner.Starts.{reach}
-use Rattle.writer.specs.Inner.Runs.{Tables, Sized, signLength, operandsStep, stepAt, rowAt, codeNext, codeAt, reached, argumentOf, clauseNext, clauseOfNode, termNext, termAt}
+use Rattle.writer.specs.Inner.Runs.{Tables, Sized, signLength, operandsStep, stepAt, rowAt, codeNext, codeAt, argumentOf, clauseNext, termNext, termAt}
 use Rattle.writer.specs.Inner.Prepared.{codeBefore, Prepared, Written}
 use Rattle.writer.proofs.Steps.{step-argument, step-token}
-use Rattle.writer.proofs.Turns.{row-done, row-next, argument-at, node-code}
+use Rattle.writer.proofs.Ends.{end-inj, end-not-broken}
+use Rattle.writer.proofs.Turns.{made-both, row-done, row-next, argument-at, node-code}
 
 empty-cons : {A : Type 0} {y : ℕ} {s : List ℕ} → [] ≡ y ∷ s → A
 empty-cons e = let z : _≡_ {A = ℕ} 0 1 = cc in absurd (omega arith)
-
-end-inj : {e d : ℕ} → End e ≡ End d → e ≡ d
-end-inj y = cc
 
 cons-both : {x y : ℕ} {r s : List ℕ} → x ∷ r ≡ y ∷ s → (x ≡ y) × (r ≡ s)
 cons-both e = (cc, cc)
@@ -259,25 +254,19 @@ rest-end b s Broken y = let z : _≡_ {A = ℕ} 0 1 = cc in absurd (omega arith)
 token-to : (s b : List ℕ) (place at e : ℕ) → tokenAt s place b at ≡ End e → e ≡ at + 2
 unfolding tokenAt
 token-to s b place at e y =
-    by-test (eqb place 0) (λ t. stopped (rw t at y))
-    (λ t. by-test (ltb (length b - at) 2) (λ u. stopped (rw (t, u) at y))
-    (λ u. by-test (ltb (pairAt b at) (pairAt s (place + 3))) (λ v. stopped (rw (t, u, v) at y))
-    (λ v. by-test (ltb (pairAt s (place + 5)) (pairAt b at)) (λ x. stopped (rw (t, u, v, x) at y))
+    by-test (eqb place 0) (λ t. end-not-broken (sym (rw t at y)))
+    (λ t. by-test (ltb (length b - at) 2) (λ u. end-not-broken (sym (rw (t, u) at y)))
+    (λ u. by-test (ltb (pairAt b at) (pairAt s (place + 3))) (λ v. end-not-broken (sym (rw (t, u, v) at y)))
+    (λ v. by-test (ltb (pairAt s (place + 5)) (pairAt b at)) (λ x. end-not-broken (sym (rw (t, u, v, x) at y)))
     (λ x. let q : End (at + 2) ≡ End e = rw (t, u, v, x) at y in end-inj (sym q)))))
-  where
-    stopped : {A : Type 0} → Broken ≡ End e → A
-    stopped q = let z : _≡_ {A = ℕ} 0 1 = cc in absurd (omega arith)
 
 argument-to : (arguments b : List ℕ) (k at e : ℕ) → argumentAt arguments k b at ≡ End e → e ≡ at + 1
 unfolding argumentAt
 argument-to arguments b k at e y =
-    by-test (leb (length b) at) (λ t. stopped (rw t at y))
+    by-test (leb (length b) at) (λ t. end-not-broken (sym (rw t at y)))
     (λ t. by-test (argumentIs arguments k (getD b at 0))
     (λ u. let q : End (at + 1) ≡ End e = rw (t, u) at y in end-inj (sym q))
-    (λ u. stopped (rw (t, u) at y)))
-  where
-    stopped : {A : Type 0} → Broken ≡ End e → A
-    stopped q = let z : _≡_ {A = ℕ} 0 1 = cc in absurd (omega arith)
+    (λ u. end-not-broken (sym (rw (t, u) at y))))
 
 no-range : (s : List ℕ) (place : ℕ) → rangeBefore s place ≡ none → place ≡ 0
 no-range s zero e = refl
@@ -572,9 +561,6 @@ module _ (w : Tables) (f : Translation) (z : Prepared w f) (sized : Sized w) (by
 as-written : (x : Syntax) (arguments : List ℕ) → (x ≡ Syntaxes.Tree → arguments ≡ []) → Round.Written (syntaxOf x) arguments
 as-written Syntaxes.Tree arguments h = rw (h refl) Round.as-tree
 as-written Syntaxes.Code arguments h = Round.as-code
-
-made-both : {e d : ℕ} {v u : List ℕ} → made e v ≡ made d u → (e ≡ d) × (v ≡ u)
-made-both y = (cc, cc)
 
 -- What was put in is what is meant.
 puts-written : (a : Piece) (e : ℕ) (v s b o after : List ℕ) (pos : ℕ) (r : Ran) → a ≡ made e v → drop e b ≡ s → Says a (length b) o after pos r → Written v s b o after pos r

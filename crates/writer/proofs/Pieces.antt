@@ -1,12 +1,10 @@
 -- Laws of what is put out: one piece behind another.
-use Prim.Native.Nat.{ℕ, zero, suc, _+_, _-_, _≤_, _<_}
+use Prim.Native.Nat.{ℕ, _+_, _-_, _≤_, _<_}
 use mathlib.Core.Path.{_≡_, refl, sym, ap, _∙_}
-use mathlib.Core.Bool.{Bool, true, false, cond}
-use mathlib.Core.List.{List, [], _∷_, _++_, append-assoc, append-nil}
+use mathlib.Core.List.{List, [], _++_, append-assoc, append-nil}
 use native.Mathlib.Nat.{add-assoc, add-zero}
 use native.Mathlib.Numerals.{add-one}
 use native.Mathlib.Omega.{arith}
-use lib.Dec.{ltb}
 use borrow.Author.Tests.{lt-ltb, le-ltb}
 use lib.ListN.{length, take, drop, set, getD, length-append, length-drop, take-append-drop}
 use lib.Seq.{take-at, drop-append-add, drop-drop, length-take-le, take-take, paste, paste-suc, getD-drop}
@@ -14,7 +12,7 @@ use Rattle.reader.specs.declared.node.Read.{Read}
 use Rattle.reader.specs.declared.node.Read.the-variants.{End, Deep, Broken}
 use Rattle.writer.specs.declared.output.Ran.{Ran}
 use Rattle.writer.specs.declared.output.Ran.the-variants.{To, Full}
-use Rattle.writer.specs.Inner.Pieces.{Piece, made, none, behind, then, endingAt, endingBy, copied, leafOf, spliced, TooLong, Kept, Holds, Says, Puts}
+use Rattle.writer.specs.Inner.Pieces.{Piece, made, none, behind, then, endingAt, endingBy, copied, leafOf, spliced, TooLong, Kept, Says, Puts}
 
 opened : (o : List ℕ) (pos : ℕ) (v : List ℕ) → spliced o pos v ≡ take pos o ++ (v ++ drop (pos + length v) o)
 unfolding spliced

@@ -1,6 +1,6 @@
 -- The steps through the code of a clause: a law for each return.
-use Prim.Native.Nat.{ℕ, zero, suc, _+_, _-_, _*_, _<_, _≤_}
-use mathlib.Core.Path.{_≡_, refl, sym, ap, _∙_}
+use Prim.Native.Nat.{ℕ, _+_, _-_, _*_, _<_, _≤_}
+use mathlib.Core.Path.{_≡_, refl}
 use mathlib.Core.List.{List}
 use native.Mathlib.Omega.{arith}
 use lib.ListN.{length, getD}
@@ -8,7 +8,6 @@ use borrow.Author.Tests.{lt-ltb, le-ltb, eq-eqb, ne-eqb}
 use Rattle.fields.specs.Fields.{pairAt}
 use Rattle.language.specs.Language.{productionKey}
 use Rattle.reader.specs.Inner.Index.{Sound}
-use Rattle.reader.specs.Inner.Positions.{KindsIn}
 use Rattle.reader.proofs.Laws.{kinds-in, name-in}
 use Rattle.writer.specs.declared.step.Step.{Step}
 use Rattle.writer.specs.declared.step.Step.the-variants.{Token, Operands, Argument, Unknown}

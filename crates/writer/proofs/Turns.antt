@@ -1,11 +1,10 @@
 -- The run by position, one turn at a time, in the terms of the code: a law for each return.
 use Prim.Native.Nat.{ℕ, zero, suc, _+_, _-_, _<_, _≤_}
 use mathlib.Core.Path.{_≡_, refl, sym, ap, _∙_}
-use mathlib.Core.List.{List, [], _∷_}
-use mathlib.Core.Bool.{Bool, true, false, cond}
+use mathlib.Core.List.{List, []}
 use native.Mathlib.Omega.{arith}
 use lib.ListN.{length, getD, set}
-use lib.Dec.{ltb, leb, eqb}
+use lib.Dec.{ltb, eqb}
 use borrow.Author.Tests.{lt-ltb, le-ltb, eq-eqb, ne-eqb}
 use Rattle.fields.proofs.Truth.{by-test}
 use Rattle.language.specs.Language.{productionKey}
@@ -13,15 +12,15 @@ use Rattle.reader.specs.declared.node.Read.{Read}
 use Rattle.reader.specs.declared.node.Read.the-variants.{End, Deep, Broken}
 use Rattle.reader.specs.declared.node.Node.{Node}
 use Rattle.reader.specs.declared.node.Node.the-variants.{Leaf, Operands}
-use Rattle.reader.specs.Inner.Positions.{KindsIn, NodeIn, nodeAt, operandsFrom, readAt}
+use Rattle.reader.specs.Inner.Positions.{KindsIn, nodeAt, readAt}
 use Rattle.writer.specs.declared.output.Ran.{Ran}
 use Rattle.writer.specs.declared.output.Ran.the-variants.{To, Full}
 use Rattle.writer.specs.declared.step.Step.{Step}
 use Rattle.writer.specs.declared.step.Step.the-variants as Steps
 use Rattle.writer.specs.declared.starts.Frame.{Frame}
-use Rattle.writer.specs.Inner.Pieces.{Piece, made, none, then, endingAt, endingBy, copied, leafOf, Says, Puts, Holds}
-use Rattle.writer.specs.Inner.Starts.{reach, Known}
-use Rattle.writer.specs.Inner.Runs.{Tables, Sized, signLength, stepAt, StepIn, rowAt, codeNext, codeAt, reached, startingBy, argumentOf, clauseNext, termNext, termAt, Framed, KnownOf}
+use Rattle.writer.specs.Inner.Pieces.{Piece, made, none, then, endingBy, copied, leafOf, Says, Puts}
+use Rattle.writer.specs.Inner.Starts.{reach}
+use Rattle.writer.specs.Inner.Runs.{Tables, signLength, stepAt, StepIn, rowAt, codeNext, codeAt, reached, startingBy, argumentOf, clauseNext, termNext, termAt, KnownOf}
 use Rattle.writer.proofs.Pieces.{Held, then-puts, then-full, ending-full}
 use Rattle.writer.proofs.Ends.{known-more, next-operand}
 
@@ -190,18 +189,18 @@ module _ (w : Tables) (n k at : ℕ) where
 no-piece : {A : Type 0} {e : ℕ} {v : List ℕ} → none ≡ made e v → A
 no-piece y = let z : _≡_ {A = ℕ} 0 1 = cc in absurd (omega arith)
 
-made-end : {e d : ℕ} {v u : List ℕ} → made e v ≡ made d u → e ≡ d
-made-end y = cc
+pub made-both : {e d : ℕ} {v u : List ℕ} → made e v ≡ made d u → (e ≡ d) × (v ≡ u)
+made-both y = (cc, cc)
 
 leaf-end : (b : List ℕ) (at e : ℕ) (v : List ℕ) (r : Read) → leafOf b at r ≡ made e v → r ≡ End e
 unfolding leafOf
 leaf-end b at e v (End d) y =
-    by-test (ltb d at) (λ t. no-piece (rw t at y)) (λ t. let z : made d _ ≡ made e v = rw t at y in ap End (made-end z))
+    by-test (ltb d at) (λ t. no-piece (rw t at y)) (λ t. let z : made d _ ≡ made e v = rw t at y in ap End (made-both z .0))
 leaf-end b at e v Deep y = no-piece y
 leaf-end b at e v Broken y = no-piece y
 
 ending-end : (r : Read) (a : Piece) (e : ℕ) (v : List ℕ) → endingBy r a ≡ made e v → r ≡ End e
-ending-end (End d) (made c u) e v y = ap End (made-end y)
+ending-end (End d) (made c u) e v y = ap End (made-both y .0)
 ending-end (End d) none e v y = no-piece y
 ending-end Deep a e v y = no-piece y
 ending-end Broken a e v y = no-piece y

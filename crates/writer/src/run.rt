@@ -16,17 +16,15 @@ use reader::node::Syntax;
 use reader::node::node_at;
 ghost use mathlib.Core.Path.{_≡_};
 ghost use mathlib.Core.List.{List};
-ghost use Prim.Native.Nat.{ℕ, _+_, _-_, _<_, _≤_};
-ghost use lib.ListN.{length, getD, drop};
+ghost use Prim.Native.Nat.{ℕ, _<_};
+ghost use lib.ListN.{drop};
 ghost use Rattle.reader.specs.Code.{Code};
 ghost use Rattle.reader.specs.Syntax.{read, done, write};
 ghost use Rattle.translation.specs.Translation.{Translation};
 ghost use Rattle.translation.specs.Running.{transform};
-ghost use Rattle.language.specs.Language.{productionKey};
-ghost use Rattle.reader.specs.Inner.Positions.{KindsIn, syntaxOf};
-ghost use Rattle.writer.specs.Inner.Pieces.{then, copied, Puts};
+ghost use Rattle.reader.specs.Inner.Positions.{syntaxOf};
 ghost use Rattle.writer.specs.Inner.Prepared.{Prepared, Written};
-ghost use Rattle.writer.specs.Inner.Runs.{Tables, tables, Sized, NodeAsks, KnownOf, argumentsOf, rowAt, codeAt, argumentOf, clauseNext, termAt};
+ghost use Rattle.writer.specs.Inner.Runs.{Tables, tables, NodeAsks, NodeGives, OperandsAsk, OperandsGive, CodeAsks, CodeGives, ArgumentAsks, ArgumentGives, TermAsks, TermGives};
 
 // A production name and the codes behind it, whose kinds stand in the target from `first` up to `stop`.
 fn run_operands(
@@ -50,8 +48,11 @@ fn run_operands(
     output: &mut [u8],
     pos: usize,
 ) -> Ran
-    requires { ⌜ NodeAsks (tables syntax (now source) (now index) (now target) (now places) (now body) (now clauses) (now mapped) (now arguments) (now input)) frame (now output) pos × KnownOf (tables syntax (now source) (now index) (now target) (now places) (now body) (now clauses) (now mapped) (now arguments) (now input)) frame (now ends) × KindsIn (now target) first stop × (from ≤ at + 2) × (at + 2 ≤ length (now body)) ⌝ }
-    ensures { λ r. ⌜ Puts (then (copied (now (body .entry)) from (at + 2)) (rowAt (codeAt (tables syntax (now (source .entry)) (now (index .entry)) (now (target .entry)) (now (places .entry)) (now (body .entry)) (now (clauses .entry)) (now (mapped .entry)) (now (arguments .entry)) (now (input .entry))) (argumentsOf (tables syntax (now (source .entry)) (now (index .entry)) (now (target .entry)) (now (places .entry)) (now (body .entry)) (now (clauses .entry)) (now (mapped .entry)) (now (arguments .entry)) (now (input .entry))) frame) levels) (now (target .entry)) (stop - first) first)) (length (now (body .entry))) (now (output .entry)) (now (output .exit)) pos r × KnownOf (tables syntax (now (source .entry)) (now (index .entry)) (now (target .entry)) (now (places .entry)) (now (body .entry)) (now (clauses .entry)) (now (mapped .entry)) (now (arguments .entry)) (now (input .entry))) frame (now (ends .exit)) ⌝ }
+    requires { ⌜ OperandsAsk (tables syntax (now source) (now index) (now target) (now places) (now body) (now clauses) (now mapped) (now arguments) (now input))
+        frame (now ends) first stop from at (now output) pos ⌝ }
+    ensures { λ r. ⌜ OperandsGive (tables syntax (now (source .entry)) (now (index .entry)) (now (target .entry)) (now (places .entry)) (now (body .entry))
+        (now (clauses .entry)) (now (mapped .entry)) (now (arguments .entry)) (now (input .entry)))
+        frame (now (ends .exit)) first stop from at levels (now (output .entry)) (now (output .exit)) pos r ⌝ }
 {
     match copy(body, from, at + 2, output, pos) {
         Ran::Full => Ran::Full,
@@ -114,8 +115,11 @@ fn run_code(
     output: &mut [u8],
     pos: usize,
 ) -> Ran
-    requires { ⌜ NodeAsks (tables syntax (now source) (now index) (now target) (now places) (now body) (now clauses) (now mapped) (now arguments) (now input)) frame (now output) pos × KnownOf (tables syntax (now source) (now index) (now target) (now places) (now body) (now clauses) (now mapped) (now arguments) (now input)) frame (now ends) × (kind < 32) × (at ≤ length (now body)) ⌝ }
-    ensures { λ r. ⌜ Puts (codeAt (tables syntax (now (source .entry)) (now (index .entry)) (now (target .entry)) (now (places .entry)) (now (body .entry)) (now (clauses .entry)) (now (mapped .entry)) (now (arguments .entry)) (now (input .entry))) (argumentsOf (tables syntax (now (source .entry)) (now (index .entry)) (now (target .entry)) (now (places .entry)) (now (body .entry)) (now (clauses .entry)) (now (mapped .entry)) (now (arguments .entry)) (now (input .entry))) frame) levels kind at) (length (now (body .entry))) (now (output .entry)) (now (output .exit)) pos r × KnownOf (tables syntax (now (source .entry)) (now (index .entry)) (now (target .entry)) (now (places .entry)) (now (body .entry)) (now (clauses .entry)) (now (mapped .entry)) (now (arguments .entry)) (now (input .entry))) frame (now (ends .exit)) ⌝ }
+    requires { ⌜ CodeAsks (tables syntax (now source) (now index) (now target) (now places) (now body) (now clauses) (now mapped) (now arguments) (now input))
+        frame (now ends) kind at (now output) pos ⌝ }
+    ensures { λ r. ⌜ CodeGives (tables syntax (now (source .entry)) (now (index .entry)) (now (target .entry)) (now (places .entry)) (now (body .entry))
+        (now (clauses .entry)) (now (mapped .entry)) (now (arguments .entry)) (now (input .entry)))
+        frame (now (ends .exit)) levels kind at (now (output .entry)) (now (output .exit)) pos r ⌝ }
 {
     if levels == 0 {
         return Ran::Full;
@@ -186,8 +190,11 @@ fn run_argument(
     output: &mut [u8],
     pos: usize,
 ) -> Ran
-    requires { ⌜ NodeAsks (tables syntax (now source) (now index) (now target) (now places) (now body) (now clauses) (now mapped) (now arguments) (now input)) frame (now output) pos × KnownOf (tables syntax (now source) (now index) (now target) (now places) (now body) (now clauses) (now mapped) (now arguments) (now input)) frame (now ends) ⌝ }
-    ensures { λ r. ⌜ Puts (argumentsOf (tables syntax (now (source .entry)) (now (index .entry)) (now (target .entry)) (now (places .entry)) (now (body .entry)) (now (clauses .entry)) (now (mapped .entry)) (now (arguments .entry)) (now (input .entry))) frame number) (length (now (input .entry))) (now (output .entry)) (now (output .exit)) pos r × KnownOf (tables syntax (now (source .entry)) (now (index .entry)) (now (target .entry)) (now (places .entry)) (now (body .entry)) (now (clauses .entry)) (now (mapped .entry)) (now (arguments .entry)) (now (input .entry))) frame (now (ends .exit)) ⌝ }
+    requires { ⌜ ArgumentAsks (tables syntax (now source) (now index) (now target) (now places) (now body) (now clauses) (now mapped) (now arguments) (now input))
+        frame (now ends) (now output) pos ⌝ }
+    ensures { λ r. ⌜ ArgumentGives (tables syntax (now (source .entry)) (now (index .entry)) (now (target .entry)) (now (places .entry)) (now (body .entry))
+        (now (clauses .entry)) (now (mapped .entry)) (now (arguments .entry)) (now (input .entry)))
+        frame (now (ends .exit)) number (now (output .entry)) (now (output .exit)) pos r ⌝ }
 {
     if number == 0 {
         return Ran::Full;
@@ -246,8 +253,11 @@ fn run_node(
     output: &mut [u8],
     pos: usize,
 ) -> Ran
-    requires { ⌜ NodeAsks (tables syntax (now source) (now index) (now target) (now places) (now body) (now clauses) (now mapped) (now arguments) (now input)) frame (now output) pos × (kind < 32) ⌝ }
-    ensures { λ r. ⌜ Puts (clauseNext (tables syntax (now (source .entry)) (now (index .entry)) (now (target .entry)) (now (places .entry)) (now (body .entry)) (now (clauses .entry)) (now (mapped .entry)) (now (arguments .entry)) (now (input .entry))) (termAt (tables syntax (now (source .entry)) (now (index .entry)) (now (target .entry)) (now (places .entry)) (now (body .entry)) (now (clauses .entry)) (now (mapped .entry)) (now (arguments .entry)) (now (input .entry))) (frame .levels)) frame (getD (now (mapped .entry)) kind 0) (getD (now (clauses .entry)) (productionKey kind name) 0)) (length (now (input .entry))) (now (output .entry)) (now (output .exit)) pos r ⌝ }
+    requires { ⌜ NodeAsks (tables syntax (now source) (now index) (now target) (now places) (now body) (now clauses) (now mapped) (now arguments) (now input))
+        frame (now output) pos × (kind < 32) ⌝ }
+    ensures { λ r. ⌜ NodeGives (tables syntax (now (source .entry)) (now (index .entry)) (now (target .entry)) (now (places .entry)) (now (body .entry))
+        (now (clauses .entry)) (now (mapped .entry)) (now (arguments .entry)) (now (input .entry)))
+        frame kind name (now (output .entry)) (now (output .exit)) pos r ⌝ }
 {
     let place = place_of(clauses, kind, name);
     if place == 0 {
@@ -314,8 +324,11 @@ pub fn run_term(
     output: &mut [u8],
     pos: usize,
 ) -> Ran
-    requires { ⌜ Sized (tables syntax (now source) (now index) (now target) (now places) (now body) (now clauses) (now mapped) (now arguments) (now input)) × (kind < 32) × (at ≤ length (now input)) × (pos ≤ length (now output)) ⌝ }
-    ensures { λ r. ⌜ Puts (termAt (tables syntax (now (source .entry)) (now (index .entry)) (now (target .entry)) (now (places .entry)) (now (body .entry)) (now (clauses .entry)) (now (mapped .entry)) (now (arguments .entry)) (now (input .entry))) levels kind at) (length (now (input .entry))) (now (output .entry)) (now (output .exit)) pos r ⌝ }
+    requires { ⌜ TermAsks (tables syntax (now source) (now index) (now target) (now places) (now body) (now clauses) (now mapped) (now arguments) (now input))
+        kind at (now output) pos ⌝ }
+    ensures { λ r. ⌜ TermGives (tables syntax (now (source .entry)) (now (index .entry)) (now (target .entry)) (now (places .entry)) (now (body .entry))
+        (now (clauses .entry)) (now (mapped .entry)) (now (arguments .entry)) (now (input .entry)))
+        levels kind at (now (output .entry)) (now (output .exit)) pos r ⌝ }
 {
     if levels == 0 {
         return Ran::Full;
@@ -369,8 +382,11 @@ pub fn run(
     output: &mut [u8],
     pos: usize,
 ) -> Ran
-    requires { ⌜ Sized (tables syntax (now source) (now index) (now target) (now places) (now body) (now clauses) (now mapped) (now arguments) (now input)) × (kind < 32) × (at ≤ length (now input)) × (pos ≤ length (now output)) ⌝ }
-    ensures { λ r. ⌜ ((f : Translation) (t : Code) (rest : List ℕ) → Prepared (tables syntax (now (source .entry)) (now (index .entry)) (now (target .entry)) (now (places .entry)) (now (body .entry)) (now (clauses .entry)) (now (mapped .entry)) (now (arguments .entry)) (now (input .entry))) f
+    requires { ⌜ TermAsks (tables syntax (now source) (now index) (now target) (now places) (now body) (now clauses) (now mapped) (now arguments) (now input))
+        kind at (now output) pos ⌝ }
+    ensures { λ r. ⌜ ((f : Translation) (t : Code) (rest : List ℕ)
+        → Prepared (tables syntax (now (source .entry)) (now (index .entry)) (now (target .entry)) (now (places .entry)) (now (body .entry))
+        (now (clauses .entry)) (now (mapped .entry)) (now (arguments .entry)) (now (input .entry))) f
         → read (syntaxOf syntax) (f .source) (now (arguments .entry)) levels kind (drop at (now (input .entry))) ≡ done t rest
         → Written (write (syntaxOf syntax) (transform f t)) rest (now (input .entry)) (now (output .entry)) (now (output .exit)) pos r) ⌝ }
 {

@@ -1,7 +1,7 @@
 -- The run by position: what stands where in the input and in the codes of the clauses.
-use Prim.Native.Nat.{ℕ, zero, suc, _+_, _-_, _*_, _<_, _≤_}
+use Prim.Native.Nat.{ℕ, zero, suc, _+_, _-_, _<_, _≤_}
 use mathlib.Core.Path.{_≡_}
-use mathlib.Core.Bool.{Bool, true, false, cond}
+use mathlib.Core.Bool.{cond}
 use mathlib.Core.List.{List, []}
 use lib.ListN.{length, getD}
 use lib.Dec.{ltb, eqb}
@@ -15,11 +15,12 @@ use Rattle.reader.specs.declared.node.Node.{Node}
 use Rattle.reader.specs.declared.node.Node.the-variants.{Leaf, Operands}
 use Rattle.reader.specs.Inner.Index.{Sound}
 use Rattle.reader.specs.Inner.Positions.{KindsIn, nodeAt}
+use Rattle.writer.specs.declared.output.Ran.{Ran}
 use Rattle.writer.specs.declared.step.Step.{Step}
 use Rattle.writer.specs.declared.step.Step.the-variants as Steps
 use Rattle.writer.specs.declared.starts.Frame.{Frame}
 use Rattle.writer.specs.Inner.Starts.{reach, Known}
-use Rattle.writer.specs.Inner.Pieces.{Piece, made, none, then, endingAt, endingBy, copied, leafOf}
+use Rattle.writer.specs.Inner.Pieces.{Piece, made, none, then, endingAt, endingBy, copied, leafOf, Puts}
 
 -- All that a run looks at: the syntax of input and output; the source and its index; the target and its index; the
 -- body, where each clause stands in it, and the kind that each kind maps to; the kinds of the arguments in the input;
@@ -156,6 +157,39 @@ KnownOf w a ends = Known (w .syntax) (w .source) (w .index) (w .arguments) (w .i
 abbrev pub argumentsOf : Tables → Frame → ℕ → Piece
 argumentsOf w a = argumentOf w (termAt w (a .levels)) a
 
--- What the functions of the run ask for, beside kinds and positions of their own: the output has its position.
+-- What the functions of the run ask for, and what they give: of a node whose operands are known so far, the output
+-- with its position; then of a name and the codes behind it, a code, an argument, a node and a term.
 abbrev pub NodeAsks : Tables → Frame → List ℕ → ℕ → Type 0
 NodeAsks w a o pos = Sized w × Framed w a × (pos ≤ length o)
+
+abbrev pub OperandsAsk : Tables → Frame → List ℕ → ℕ → ℕ → ℕ → ℕ → List ℕ → ℕ → Type 0
+OperandsAsk w a ends first stop from at o pos =
+    NodeAsks w a o pos × KnownOf w a ends × KindsIn (w .target) first stop × (from ≤ at + 2) × (at + 2 ≤ length (w .body))
+
+abbrev pub OperandsGive : Tables → Frame → List ℕ → ℕ → ℕ → ℕ → ℕ → ℕ → List ℕ → List ℕ → ℕ → Ran → Type 0
+OperandsGive w a ends first stop from at n o after pos r =
+    Puts (then (copied (w .body) from (at + 2)) (rowAt (codeAt w (argumentsOf w a) n) (w .target) (stop - first) first)) (length (w .body)) o after pos r
+    × KnownOf w a ends
+
+abbrev pub CodeAsks : Tables → Frame → List ℕ → ℕ → ℕ → List ℕ → ℕ → Type 0
+CodeAsks w a ends k at o pos = NodeAsks w a o pos × KnownOf w a ends × (k < 32) × (at ≤ length (w .body))
+
+abbrev pub CodeGives : Tables → Frame → List ℕ → ℕ → ℕ → ℕ → List ℕ → List ℕ → ℕ → Ran → Type 0
+CodeGives w a ends n k at o after pos r =
+    Puts (codeAt w (argumentsOf w a) n k at) (length (w .body)) o after pos r × KnownOf w a ends
+
+abbrev pub ArgumentAsks : Tables → Frame → List ℕ → List ℕ → ℕ → Type 0
+ArgumentAsks w a ends o pos = NodeAsks w a o pos × KnownOf w a ends
+
+abbrev pub ArgumentGives : Tables → Frame → List ℕ → ℕ → List ℕ → List ℕ → ℕ → Ran → Type 0
+ArgumentGives w a ends i o after pos r = Puts (argumentsOf w a i) (length (w .input)) o after pos r × KnownOf w a ends
+
+abbrev pub NodeGives : Tables → Frame → ℕ → ℕ → List ℕ → List ℕ → ℕ → Ran → Type 0
+NodeGives w a k p o after pos r =
+    Puts (clauseNext w (termAt w (a .levels)) a (getD (w .mapped) k 0) (getD (w .clauses) (productionKey k p) 0)) (length (w .input)) o after pos r
+
+abbrev pub TermAsks : Tables → ℕ → ℕ → List ℕ → ℕ → Type 0
+TermAsks w k at o pos = Sized w × (k < 32) × (at ≤ length (w .input)) × (pos ≤ length o)
+
+abbrev pub TermGives : Tables → ℕ → ℕ → ℕ → List ℕ → List ℕ → ℕ → Ran → Type 0
+TermGives w n k at o after pos r = Puts (termAt w n k at) (length (w .input)) o after pos r

@@ -1,7 +1,7 @@
 use borrow.Author.Needs.{needs}
 use native.Mathlib.Omega.{arith}
-use mathlib.Core.Path.{_≡_, refl, sym}
-use Prim.Native.Nat.{_+_, _-_, _*_, _≤_}
+use mathlib.Core.Path.{_≡_, refl}
+use Prim.Native.Nat.{ℕ, _+_, _-_, _*_, _<_, _≤_}
 use lib.ListN.{length}
 use Rattle.reader.proofs.Laws.{end-in, leaf-in}
 use Rattle.reader.proofs.Laws as Read
@@ -12,7 +12,6 @@ use Rattle.writer.proofs.Pieces.{Held, puts-none, held-start, held-next
 use Rattle.writer.proofs.Ends.{known-none}
 use Rattle.writer.proofs.Turns.{puts-as, puts-of, held-as, code-none, code-token, code-operands, code-argument, code-unknown, token-in, operands-in, argument-in, row-done, row-next, row-puts, row-full, put-to, argument-zero, argument-past, argument-none, argument-at, argument-deep, argument-broken, node-none, node-cut, node-code, node-full, node-stopped, term-none, term-leaf, term-node, argument-learnt}
 use borrow.Author.Needs.{needs}
-use Prim.Native.Nat.{ℕ, _<_}
 use borrow.Fn.Kinds.{In}
 use borrow.Fn.PlainCycle.{Measures, is, falls, and}
 use Rattle.writer.proofs.run.run_argument.Reads as run-argument

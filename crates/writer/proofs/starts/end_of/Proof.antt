@@ -1,4 +1,4 @@
-use mathlib.Core.Path.{_≡_, sym, _∙_}
+use mathlib.Core.Path.{sym, _∙_}
 use Rattle.reader.proofs.Laws.{end-in}
 use Rattle.writer.proofs.Ends.{end-known, end-read, end-learnt}
 use borrow.Author.Needs.{needs}

@@ -1,7 +1,6 @@
 use Rattle.writer.proofs.Steps.{place-is}
 use native.Mathlib.Omega.{arith}
-use mathlib.Core.Path.{_≡_, refl, ap}
-use Prim.Native.Nat.{ℕ, _+_, _*_}
+use Prim.Native.Nat.{_+_, _*_}
 use borrow.Author.Needs.{needs}
 use Rattle.writer.proofs.step.place_of.Statement.{statement}
 use Rattle.writer.proofs.step.place_of.Tie as tie
