@@ -1,24 +1,23 @@
 -- The index that was built is the index of the language: what is looked up through it is what stands in the language.
-use Prim.Native.Nat.{ℕ, zero, suc, _+_, _*_, _-_, _<_, _≤_}
+use Prim.Native.Nat.{ℕ, zero, suc, _+_, _-_, _<_, _≤_}
 use mathlib.Core.Path.{_≡_, refl, sym, ap, _∙_}
-use mathlib.Core.Logic.{_⊎_, ⊎-elim, inl, inr}
-use mathlib.Core.List.{List, [], _∷_, map}
-use mathlib.Core.Bool.{Bool, true, false, cond, _&&_}
-use mathlib.Core.Option.{Option, none, some}
+use mathlib.Core.List.{List}
+use mathlib.Core.Bool.{true}
+use mathlib.Core.Option.{some}
 use native.Mathlib.Omega.{arith}
 use native.Mathlib.Numerals.{add-one}
 use lib.ListN.{length, getD}
 use lib.Seq.{slice}
-use lib.Dec.{ltb, leb, eqb}
-use borrow.Author.Tests.{eq-eqb, ne-eqb, eqb-true, eqb-false, ltb-true}
+use lib.Dec.{eqb}
+use borrow.Author.Tests.{eq-eqb, eqb-true, eqb-false, ltb-true}
 use Rattle.fields.specs.Fields.{pairAt}
 use Rattle.fields.specs.Lists.{all, first}
 use Rattle.fields.specs.Inner.Places.{fieldEnd, places, keyAt}
 use Rattle.fields.proofs.Truth.{by-test}
 use Rattle.fields.proofs.Lists.{all-true, part-next}
-use Rattle.language.specs.Language.{Entry, class, production, Language, Range, rangeAt, rangeOf, argumentsAt, argumentsOf, kindKey, productionKey}
+use Rattle.language.specs.Language.{class, Language, rangeAt, rangeOf, argumentsAt, argumentsOf, kindKey, productionKey}
 use Rattle.language.specs.LanguageFile.{isKind, entriesOf}
-use Rattle.language.specs.Inner.Entries.{sizeAt, entryWhole, entryAt, IsClass, IsProduction, Holds}
+use Rattle.language.specs.Inner.Entries.{entryWhole, entryAt, IsClass, IsProduction, Holds}
 use Rattle.language.proofs.Facts.{entry-facts, class-is, production-is}
 use Rattle.language.proofs.Holds.{holds-entries}
 use Rattle.reader.specs.Inner.Positions.{KindsIn}
