@@ -1,29 +1,28 @@
 -- The index that was built is the index of the language: what is looked up through it is what stands in the language.
-use Prim.Native.Nat.{ℕ, zero, suc, _+_, _*_, _-_, _<_, _≤_}
+use Prim.Native.Nat.{ℕ, zero, suc, _+_, _-_, _<_, _≤_}
 use mathlib.Core.Path.{_≡_, refl, sym, ap, _∙_}
-use mathlib.Core.Logic.{_⊎_, ⊎-elim, inl, inr}
-use mathlib.Core.List.{List, [], _∷_, map}
-use mathlib.Core.Bool.{Bool, true, false, cond, _&&_}
-use mathlib.Core.Option.{Option, none, some}
+use mathlib.Core.List.{List}
+use mathlib.Core.Bool.{true}
+use mathlib.Core.Option.{some}
 use native.Mathlib.Omega.{arith}
 use native.Mathlib.Numerals.{add-one}
 use lib.ListN.{length, getD}
 use lib.Seq.{slice}
-use lib.Dec.{ltb, leb, eqb}
-use borrow.Author.Tests.{eq-eqb, ne-eqb, eqb-true, eqb-false, ltb-true}
+use lib.Dec.{eqb}
+use borrow.Author.Tests.{eq-eqb, eqb-true, eqb-false, ltb-true}
 use Rattle.fields.specs.Fields.{pairAt}
 use Rattle.fields.specs.Lists.{all, first}
 use Rattle.fields.specs.Inner.Places.{fieldEnd, places, keyAt}
 use Rattle.fields.proofs.Truth.{by-test}
 use Rattle.fields.proofs.Lists.{all-true, part-next}
-use Rattle.language.specs.Language.{Entry, class, production, Language, Range, rangeAt, rangeOf, argumentsAt, argumentsOf, kindKey, productionKey}
+use Rattle.language.specs.Language.{class, Language, rangeAt, rangeOf, argumentsAt, argumentsOf, kindKey, productionKey}
 use Rattle.language.specs.LanguageFile.{isKind, entriesOf}
-use Rattle.language.specs.Inner.Entries.{sizeAt, entryWhole, entryAt, IsClass, IsProduction, Holds}
+use Rattle.language.specs.Inner.Entries.{entryWhole, entryAt, IsClass, IsProduction, Holds}
 use Rattle.language.proofs.Facts.{entry-facts, class-is, production-is}
 use Rattle.language.proofs.Holds.{holds-entries}
 use Rattle.reader.specs.Inner.Positions.{KindsIn}
 use Rattle.reader.specs.Inner.Index.{putAll, rangeBefore, argumentsBefore, Sound, Indexed}
-use Rattle.reader.proofs.Placed.{placeOf, puts-length, puts-place, looked, found}
+use Rattle.reader.proofs.Placed.{placeOf, puts-length, puts-place, found, Groups, of-first, of-second, looked-kind, looked-name}
 
 -- The kinds of a part.
 part-kinds : (m : ℕ) (s : List ℕ) (q e : ℕ) → e - q ≡ m → e ≤ length s → all isKind (slice q e s) ≡ true → KindsIn s q e
@@ -55,64 +54,14 @@ module _ (s : List ℕ) (p : ℕ) where
   production-kinds : IsProduction s p → KindsIn s (p + 5) (fieldEnd s p)
   production-kinds w = part-kinds _ s (p + 5) (fieldEnd s p) refl (w .fits) (w .arguments)
 
-  whole-class : entryWhole s p ≡ true → keyAt 0x11 s p < 32 → IsClass s p
-  whole-class w h = ⊎-elim (λ a. a) (λ a. absurd (omega (arith, production-key a))) (entry-facts s p w)
-
-  whole-production : entryWhole s p ≡ true → 32 ≤ keyAt 0x11 s p → IsProduction s p
-  whole-production w h =
-      ⊎-elim (λ a. let k = a .kind in absurd (omega (arith, class-key a))) (λ a. a) (entry-facts s p w)
-
--- The range of a class, looked up.
-module _ (s : List ℕ) (k : ℕ) (kind : k < 32) (p : ℕ) (w : entryWhole s p ≡ true) where
-  abbrev range : Range
-  range = record { low = pairAt s (p + 4); high = pairAt s (p + 6) }
-
-  range-hit : keyAt 0x11 s p ≡ k → (b : Range) × (rangeAt k (entryAt s p) ≡ some b) × (rangeBefore s (p + 1) ≡ some b)
-  unfolding rangeAt
-  range-hit e =
-      let c = whole-class s p w (omega arith) in
-      let j : getD s (p + 3) 0 ≡ k = sym (class-key s p c) ∙ e in
-      (range, cc (class-is s p c, eq-eqb _ _ j), rw add-one refl)
-
-  range-miss : (keyAt 0x11 s p ≡ k → ⊥) → rangeAt k (entryAt s p) ≡ none
-  unfolding rangeAt
-  range-miss n =
-      ⊎-elim
-      (λ c. cc (class-is s p c, ne-eqb (getD s (p + 3) 0) k (λ d. n (class-key s p c ∙ d))))
-      (λ c. cc (production-is s p c))
-      (entry-facts s p w)
-
--- The arguments of a production, looked up.
-module _ (s : List ℕ) (bytes : (i : ℕ) → getD s i 0 < 256) (k n : ℕ) (kind : k < 32) (byte : n < 256)
-    (p : ℕ) (w : entryWhole s p ≡ true) where
-  same-name : (c : IsProduction s p) → keyAt 0x11 s p ≡ productionKey k n → (getD s (p + 3) 0 ≡ k) × (getD s (p + 4) 0 ≡ n)
-  same-name c e =
-      let d : productionKey (getD s (p + 3) 0) (getD s (p + 4) 0) ≡ productionKey k n = sym (production-key s p c) ∙ e in
-      let b = bytes (p + 4) in
-      (omega arith, omega arith)
-
-  arguments-hit : keyAt 0x11 s p ≡ productionKey k n
-      → (b : List ℕ) × (argumentsAt k n (entryAt s p) ≡ some b) × (argumentsBefore s (p + 1) ≡ some b)
-  unfolding argumentsAt
-  arguments-hit e =
-      let c = whole-production s p w (omega arith) in
-      let j = same-name c e in
-      (slice (p + 5) (fieldEnd s p) s, cc (production-is s p c, eq-eqb _ _ (j .0), eq-eqb _ _ (j .1)), rw add-one refl)
-
-  arguments-miss : (keyAt 0x11 s p ≡ productionKey k n → ⊥) → argumentsAt k n (entryAt s p) ≡ none
-  unfolding argumentsAt
-  arguments-miss m =
-      ⊎-elim
-      (λ c. cc (class-is s p c))
-      (λ c. by-test (eqb (getD s (p + 3) 0) k)
-      (λ d. by-test (eqb (getD s (p + 4) 0) n)
-      (λ e.
-      let i : getD s (p + 3) 0 ≡ k = eqb-true _ _ d in
-      let j : getD s (p + 4) 0 ≡ n = eqb-true _ _ e in
-      absurd (m (production-key s p c ∙ cc)))
-      (λ e. cc (production-is s p c)))
-      (λ d. cc (production-is s p c)))
-      (entry-facts s p w)
+-- Classes and productions.
+groups : (s : List ℕ) → Groups 0x11 s (entryWhole s) (IsClass s) (IsProduction s)
+groups s = record {
+  facts = entry-facts s;
+  kind = λ p c. c .kind;
+  kind-key = class-key s;
+  name-key = production-key s;
+}
 
 -- The index that was built.
 module _ (s index : List ℕ) (bytes : (i : ℕ) → getD s i 0 < 256) (short : length s ≤ 1024) (long : length index ≡ 8224)
@@ -140,14 +89,14 @@ module _ (s index : List ℕ) (bytes : (i : ℕ) → getD s i 0 < 256) (short : 
   class-at k h z =
       let f = found-at k (omega arith) z in
       let i = f .1 in
-      let b = class-fits s (f .0) (whole-class s (f .0) (f .3) (rw (f .2) h)) in
+      let b = class-fits s (f .0) (of-first 0x11 s (entryWhole s) (IsClass s) (IsProduction s) (groups s) (f .0) (f .3) (rw (f .2) h)) in
       omega arith
 
   production-at : (k p : ℕ) → k < 32 → p < 256 → 0 < getD built (productionKey k p) 0
       → (q : ℕ) × (getD built (productionKey k p) 0 ≡ q + 1) × IsProduction s q
   production-at k p h j z =
       let f = found-at (productionKey k p) (omega arith) z in
-      (f .0, f .1, whole-production s (f .0) (f .3) (rw (f .2) (omega arith)))
+      (f .0, f .1, of-second 0x11 s (entryWhole s) (IsClass s) (IsProduction s) (groups s) (f .0) (f .3) (rw (f .2) (omega arith)))
 
   kinds-at : (q place : ℕ) → place ≡ q + 1 → IsProduction s q → KindsIn s (place + 4) (place + 2 + pairAt s place)
   unfolding fieldEnd
@@ -163,17 +112,21 @@ module _ (s index : List ℕ) (bytes : (i : ℕ) → getD s i 0 < 256) (short : 
   }
 
   index-built : Indexed built s l
-  unfolding rangeOf argumentsOf
+  unfolding rangeOf argumentsOf rangeAt argumentsAt
   index-built = record {
     sound = sound;
     entries = e;
     range = λ k h.
         ap (first (rangeAt k)) (sym (held .entries))
-        ∙ (looked 0x11 (entryWhole s) (entryAt s) (rangeAt k) (rangeBefore s) refl s k (range-hit s k h) (range-miss s k h) (places s) (held .whole)
+        ∙ (looked-kind 0x11 s (entryWhole s) (IsClass s) (IsProduction s) (groups s) (entryAt s) (rangeAt k) (rangeBefore s) refl
+        (λ p. record { low = pairAt s (p + 4); high = pairAt s (p + 6) }) (λ p. rw add-one refl) k h
+        (λ p c. ap (rangeAt k) (class-is s p c)) (λ p c. ap (rangeAt k) (production-is s p c)) (places s) (held .whole)
         ∙ ap (rangeBefore s) (sym (at-key k (omega arith))));
     arguments = λ k p h j.
         ap (first (argumentsAt k p)) (sym (held .entries))
-        ∙ (looked 0x11 (entryWhole s) (entryAt s) (argumentsAt k p) (argumentsBefore s) refl s (productionKey k p) (arguments-hit s bytes k p h j) (arguments-miss s bytes k p h j) (places s) (held .whole)
+        ∙ (looked-name 0x11 s (entryWhole s) (IsClass s) (IsProduction s) (groups s) (entryAt s) (argumentsAt k p) (argumentsBefore s) refl
+        (λ q. slice (q + 5) (fieldEnd s q) s) (λ q. rw add-one refl) k h p j bytes
+        (λ q c. ap (argumentsAt k p) (class-is s q c)) (λ q c. ap (argumentsAt k p) (production-is s q c)) (places s) (held .whole)
         ∙ ap (argumentsBefore s) (sym (at-key (productionKey k p) (omega arith))));
   }
 

@@ -1,12 +1,13 @@
 -- The index holds the first place of each key, whatever the entries are: what is looked up through it is what stands
 -- in the list of the entries.
-use Prim.Native.Nat.{ℕ, zero, suc, _+_, _<_, _≤_}
+use Prim.Native.Nat.{ℕ, _+_, _<_, _≤_}
 use mathlib.Core.Path.{_≡_, refl, sym, ap, _∙_}
+use mathlib.Core.Logic.{_⊎_, ⊎-elim}
 use mathlib.Core.List.{List, [], _∷_, map}
-use mathlib.Core.Bool.{Bool, true, false, cond}
+use mathlib.Core.Bool.{Bool, true, cond, _&&_}
 use mathlib.Core.Option.{Option, none, some}
 use native.Mathlib.Omega.{arith}
-use lib.ListN.{length, getD, set, length-set}
+use lib.ListN.{length, getD}
 use lib.Seq.{getD-set-same, getD-set-other}
 use lib.Dec.{eqb}
 use borrow.Author.Tests.{eq-eqb, ne-eqb, eqb-true, eqb-false}
@@ -14,6 +15,7 @@ use Rattle.fields.specs.Lists.{all, first}
 use Rattle.fields.specs.Inner.Places.{keyAt}
 use Rattle.fields.proofs.Truth.{by-test}
 use Rattle.fields.proofs.Lists.{all-true}
+use Rattle.language.specs.Language.{productionKey}
 use Rattle.reader.specs.Inner.Index.{putAt, putAll}
 use Rattle.reader.proofs.Lookup.{put-not, put-in, put-length}
 
@@ -90,7 +92,7 @@ module _ {E B : Type 0} (f : E → Option B) (a : E) (l : List E) where
 module _ {E B : Type 0} (t : ℕ) (ok : ℕ → Bool) (at : ℕ → E) (look : E → Option B) (through : ℕ → Option B) (empty : through 0 ≡ none) (s : List ℕ) (j : ℕ)
     (hit : (p : ℕ) → ok p ≡ true → keyAt t s p ≡ j → (b : B) × (look (at p) ≡ some b) × (through (p + 1) ≡ some b))
     (miss : (p : ℕ) → ok p ≡ true → (keyAt t s p ≡ j → ⊥) → look (at p) ≡ none) where
-  pub looked : (l : List ℕ) → all ok l ≡ true → first look (map at l) ≡ through (placeOf t s j l)
+  looked : (l : List ℕ) → all ok l ≡ true → first look (map at l) ≡ through (placeOf t s j l)
   unfolding first placeOf
   looked [] h = sym empty
   looked (p ∷ l) h =
@@ -116,3 +118,69 @@ found t ok s j (p ∷ l) h z =
     let k = place-on t s j p l (eqb-false _ _ e) in
     let f = found t ok s j l (w .1) (rw k at z) in
     (f .0, k ∙ f .1, f .2, f .3))
+
+-- Entries in two groups: the key of one of the first tag is a kind, that of any other a kind and a name.
+pub record Groups (t : ℕ) (s : List ℕ) (ok : ℕ → Bool) (First Second : ℕ → Type 0) : Type 0 where
+  pub facts : (p : ℕ) → ok p ≡ true → First p ⊎ Second p
+  pub kind : (p : ℕ) → First p → getD s (p + 3) 0 < 32
+  pub kind-key : (p : ℕ) → First p → keyAt t s p ≡ getD s (p + 3) 0
+  pub name-key : (p : ℕ) → Second p → keyAt t s p ≡ productionKey (getD s (p + 3) 0) (getD s (p + 4) 0)
+
+module _ (t : ℕ) (s : List ℕ) (ok : ℕ → Bool) (First Second : ℕ → Type 0) (g : Groups t s ok First Second) where
+  pub of-first : (p : ℕ) → ok p ≡ true → keyAt t s p < 32 → First p
+  of-first p w h = ⊎-elim (λ a. a) (λ a. absurd (omega (arith, g .name-key p a))) (g .facts p w)
+
+  pub of-second : (p : ℕ) → ok p ≡ true → 32 ≤ keyAt t s p → Second p
+  of-second p w h = ⊎-elim (λ a. absurd (omega (arith, g .kind-key p a, g .kind p a))) (λ a. a) (g .facts p w)
+
+  module _ {E B : Type 0} (at : ℕ → E) (look : E → Option B) (through : ℕ → Option B) (empty : through 0 ≡ none)
+      (value : ℕ → B) (here : (p : ℕ) → through (p + 1) ≡ some (value p)) (k : ℕ) (kind : k < 32) where
+    -- A lookup by kind.
+    module _ (in-first : (p : ℕ) → First p → look (at p) ≡ cond (eqb (getD s (p + 3) 0) k) (some (value p)) none)
+        (in-second : (p : ℕ) → Second p → look (at p) ≡ none) where
+      kind-hit : (p : ℕ) → ok p ≡ true → keyAt t s p ≡ k → (b : B) × (look (at p) ≡ some b) × (through (p + 1) ≡ some b)
+      kind-hit p w e =
+          let c = of-first p w (omega arith) in
+          let j : getD s (p + 3) 0 ≡ k = sym (g .kind-key p c) ∙ e in
+          (value p, cc (in-first p c, eq-eqb _ _ j), here p)
+
+      kind-miss : (p : ℕ) → ok p ≡ true → (keyAt t s p ≡ k → ⊥) → look (at p) ≡ none
+      kind-miss p w n =
+          ⊎-elim
+          (λ c. cc (in-first p c, ne-eqb (getD s (p + 3) 0) k (λ d. n (g .kind-key p c ∙ d))))
+          (in-second p)
+          (g .facts p w)
+
+      pub looked-kind : (l : List ℕ) → all ok l ≡ true → first look (map at l) ≡ through (placeOf t s k l)
+      looked-kind = looked t ok at look through empty s k kind-hit kind-miss
+
+    -- A lookup by kind and name.
+    module _ (n : ℕ) (byte : n < 256) (bytes : (i : ℕ) → getD s i 0 < 256) (in-first : (p : ℕ) → First p → look (at p) ≡ none)
+        (in-second : (p : ℕ) → Second p
+        → look (at p) ≡ cond (eqb (getD s (p + 3) 0) k && eqb (getD s (p + 4) 0) n) (some (value p)) none) where
+      name-hit : (p : ℕ) → ok p ≡ true → keyAt t s p ≡ productionKey k n
+          → (b : B) × (look (at p) ≡ some b) × (through (p + 1) ≡ some b)
+      name-hit p w e =
+          let c = of-second p w (omega arith) in
+          let d : productionKey (getD s (p + 3) 0) (getD s (p + 4) 0) ≡ productionKey k n = sym (g .name-key p c) ∙ e in
+          let b = bytes (p + 4) in
+          let i : getD s (p + 3) 0 ≡ k = omega arith in
+          let j : getD s (p + 4) 0 ≡ n = omega arith in
+          (value p, cc (in-second p c, eq-eqb _ _ i, eq-eqb _ _ j), here p)
+
+      name-miss : (p : ℕ) → ok p ≡ true → (keyAt t s p ≡ productionKey k n → ⊥) → look (at p) ≡ none
+      name-miss p w m =
+          ⊎-elim
+          (in-first p)
+          (λ c. by-test (eqb (getD s (p + 3) 0) k)
+          (λ d. by-test (eqb (getD s (p + 4) 0) n)
+          (λ e.
+          let i : getD s (p + 3) 0 ≡ k = eqb-true _ _ d in
+          let j : getD s (p + 4) 0 ≡ n = eqb-true _ _ e in
+          absurd (m (g .name-key p c ∙ cc)))
+          (λ e. cc (in-second p c)))
+          (λ d. cc (in-second p c)))
+          (g .facts p w)
+
+      pub looked-name : (l : List ℕ) → all ok l ≡ true → first look (map at l) ≡ through (placeOf t s (productionKey k n) l)
+      looked-name = looked t ok at look through empty s (productionKey k n) name-hit name-miss

@@ -2,7 +2,7 @@
 use Prim.Native.Nat.{ℕ, zero, suc, _+_, _-_, _<_, _≤_}
 use mathlib.Core.Path.{_≡_, refl, sym, ap, _∙_}
 use mathlib.Core.Logic.{⊎-elim}
-use mathlib.Core.Bool.{Bool, true, false, not, _&&_}
+use mathlib.Core.Bool.{Bool, true, false, _&&_}
 use mathlib.Core.List.{List, [], _∷_, _++_, map, append-nil}
 use mathlib.Core.Option.{Option, none, some, Option·getD}
 use native.Mathlib.Omega.{arith}
@@ -10,7 +10,7 @@ use native.Mathlib.Numerals.{add-one}
 use lib.ListN.{length, getD, set, length-set, take, drop, length-take, length-drop, drop-of-length-le}
 use lib.Seq.{slice, length-take-le, take-suc-set, append-snoc, length-slice}
 use lib.Dec.{leb, eqb}
-use borrow.Author.Tests.{eq-eqb, ne-eqb, eqb-true, eqb-false, leb-true, leb-false, ltb-true}
+use borrow.Author.Tests.{eqb-true, eqb-false, leb-true, leb-false, ltb-true}
 use Rattle.fields.specs.Lists.{all, isSome}
 use Rattle.fields.specs.Fields.{pairAt}
 use Rattle.fields.specs.Inner.Places.{fieldEnd, placesFrom, places, keyAt}
@@ -27,15 +27,15 @@ use Rattle.reader.specs.Syntax as Meant
 use Rattle.reader.specs.declared.node.Read.{Read}
 use Rattle.reader.specs.declared.node.Read.the-variants.{End, Deep, Broken}
 use Rattle.reader.specs.Inner.Positions.{KindsIn, EndsBy, restAt, restOf}
-use Rattle.reader.specs.Inner.Index.{argumentsBefore, Sound, Indexed}
+use Rattle.reader.specs.Inner.Index.{argumentsBefore, Indexed}
 use Rattle.reader.proofs.Meaning.{done-of, deep-of, broken-of}
 use Rattle.translation.specs.Translation.{Body, Translation, mapped}
 use Rattle.translation.specs.Running.{mappedArguments, readClause, wholeCode}
 use Rattle.translation.specs.WellFormed.{codeFits, codesFit}
-use Rattle.translation.specs.Inner.Items.{itemWhole, itemAt, IsMapping, IsClause}
-use Rattle.translation.specs.Inner.ItemIndex.{SoundItems, IndexedItems, mappedAt, Ready, Prepared}
+use Rattle.translation.specs.Inner.Items.{itemWhole, itemAt, IsClause}
+use Rattle.translation.specs.Inner.ItemIndex.{IndexedItems, mappedAt, Prepared}
 use Rattle.translation.specs.Inner.Tests.{mappedBefore, endsAt}
-use Rattle.translation.proofs.Items.{item-facts, mapping-is, clause-is, holds-items}
+use Rattle.translation.proofs.Items.{item-facts, mapping-is, clause-is}
 use Rattle.translation.proofs.IndexedItems.{clause-key, mapped-is}
 use Rattle.translation.proofs.Found.{cut, cut-is}
 use Rattle.translation.proofs.Mappings.{items-alike}

@@ -12,18 +12,17 @@ use borrow.Author.Tests.{lt-ltb, le-ltb, le-leb, lt-leb, eq-eqb, ne-eqb, leb-tru
 use Rattle.fields.specs.Lists.{before, isSome}
 use Rattle.fields.specs.Fields.{Field, field, pairAt, fieldsOf, hasOver}
 use Rattle.fields.specs.Inner.Places.{fieldEnd, isWhole, fieldAt, contentsAt}
-use Rattle.fields.proofs.Truth.{by-test, false-true, none-some, and-both, both-and}
+use Rattle.fields.proofs.Truth.{by-test, none-some}
 use Rattle.fields.proofs.Lists.{part-is}
 use Rattle.fields.proofs.Places.{end-past}
 use Rattle.fields.proofs.Split.{fields-done, fields-next, fields-cut}
 use Rattle.language.specs.Language.{Language}
-use Rattle.language.specs.LanguageFile.{entriesOf, languageLimit}
-use Rattle.language.proofs.Codec.{language-length}
+use Rattle.language.specs.LanguageFile.{entriesOf}
 use Rattle.translation.specs.Translation.{Body, Translation}
 use Rattle.translation.specs.TranslationFile.{itemsIn, bodyIn, bodyOf, parts, partsIn, partsOfFields, partsOf, isLanguageTag}
 use Rattle.translation.specs.Inner.Parts.{Parted}
-use Rattle.translation.specs.Inner.Pieces.{partEnd, Pieces}
-use Rattle.translation.proofs.Codec.{parts-some, parts-in, both-short}
+use Rattle.translation.specs.Inner.Pieces.{partEnd}
+use Rattle.translation.proofs.Codec.{parts-some}
 
 -- Parts of a list of fields, by its first two.
 one-field : (x : ℕ) (c : List ℕ) (o : Option (List Field)) → eqb x 0x20 ≡ false → partsOfFields (before (some (field x c)) o) ≡ none

@@ -1,23 +1,22 @@
 -- The index that was built is the index of the body: what is looked up through it is what stands in the body.
-use Prim.Native.Nat.{ℕ, zero, suc, _+_, _*_, _-_, _<_, _≤_}
+use Prim.Native.Nat.{ℕ, zero, suc, _+_, _-_, _<_, _≤_}
 use mathlib.Core.Path.{_≡_, refl, sym, ap, _∙_}
-use mathlib.Core.Logic.{_⊎_, ⊎-elim, inl, inr}
-use mathlib.Core.List.{List, [], _∷_, map}
-use mathlib.Core.Bool.{Bool, true, false, cond, _&&_}
-use mathlib.Core.Option.{Option, none, some, Option·getD}
+use mathlib.Core.List.{List}
+use mathlib.Core.Bool.{true}
+use mathlib.Core.Option.{some, Option·getD}
 use native.Mathlib.Omega.{arith}
 use native.Mathlib.Numerals.{add-one}
 use lib.ListN.{length, getD}
 use lib.Seq.{slice}
 use lib.Dec.{eqb}
-use borrow.Author.Tests.{eq-eqb, ne-eqb, eqb-true, eqb-false}
+use borrow.Author.Tests.{eq-eqb, ne-eqb, eqb-false}
 use Rattle.fields.specs.Fields.{pairAt}
 use Rattle.fields.specs.Lists.{first}
 use Rattle.fields.specs.Inner.Places.{fieldEnd, places, keyAt}
 use Rattle.fields.proofs.Truth.{by-test}
 use Rattle.language.specs.Language.{kindKey, productionKey}
 use Rattle.reader.specs.Inner.Index.{putAll}
-use Rattle.reader.proofs.Placed.{placeOf, puts-length, puts-place, looked, found}
+use Rattle.reader.proofs.Placed.{placeOf, puts-length, puts-place, found, Groups, of-first, of-second, looked-kind, looked-name}
 use Rattle.translation.specs.Translation.{Body, targetAt, mappingOf, codeAt, clauseOf, mapped}
 use Rattle.translation.specs.TranslationFile.{bodyOf}
 use Rattle.translation.specs.Inner.Items.{itemWhole, itemAt, IsMapping, IsClause, HoldsItems}
@@ -34,61 +33,14 @@ module _ (s : List ℕ) (p : ℕ) where
   unfolding keyAt pairAt
   clause-key w = let d : p + 3 + 1 ≡ p + 4 = omega arith in cc (w .tag)
 
-  whole-mapping : itemWhole s p ≡ true → keyAt 0x22 s p < 32 → IsMapping s p
-  whole-mapping w h = ⊎-elim (λ a. a) (λ a. absurd (omega (arith, clause-key a))) (item-facts s p w)
-
-  whole-clause : itemWhole s p ≡ true → 32 ≤ keyAt 0x22 s p → IsClause s p
-  whole-clause w h =
-      ⊎-elim (λ a. let k = a .source in absurd (omega (arith, mapping-key a))) (λ a. a) (item-facts s p w)
-
--- The target of a mapping, looked up.
-module _ (s : List ℕ) (k : ℕ) (kind : k < 32) (p : ℕ) (w : itemWhole s p ≡ true) where
-  target-hit : keyAt 0x22 s p ≡ k → (b : ℕ) × (targetAt k (itemAt s p) ≡ some b) × (targetBefore s (p + 1) ≡ some b)
-  unfolding targetAt
-  target-hit e =
-      let c = whole-mapping s p w (omega arith) in
-      let j : getD s (p + 3) 0 ≡ k = sym (mapping-key s p c) ∙ e in
-      (getD s (p + 4) 0, cc (mapping-is s p c, eq-eqb _ _ j), rw add-one refl)
-
-  target-miss : (keyAt 0x22 s p ≡ k → ⊥) → targetAt k (itemAt s p) ≡ none
-  unfolding targetAt
-  target-miss n =
-      ⊎-elim
-      (λ c. cc (mapping-is s p c, ne-eqb (getD s (p + 3) 0) k (λ d. n (mapping-key s p c ∙ d))))
-      (λ c. cc (clause-is s p c))
-      (item-facts s p w)
-
--- The code of a clause, looked up.
-module _ (s : List ℕ) (bytes : (i : ℕ) → getD s i 0 < 256) (k n : ℕ) (kind : k < 32) (byte : n < 256)
-    (p : ℕ) (w : itemWhole s p ≡ true) where
-  same-name : (c : IsClause s p) → keyAt 0x22 s p ≡ productionKey k n → (getD s (p + 3) 0 ≡ k) × (getD s (p + 4) 0 ≡ n)
-  same-name c e =
-      let d : productionKey (getD s (p + 3) 0) (getD s (p + 4) 0) ≡ productionKey k n = sym (clause-key s p c) ∙ e in
-      let b = bytes (p + 4) in
-      (omega arith, omega arith)
-
-  code-hit : keyAt 0x22 s p ≡ productionKey k n
-      → (b : List ℕ) × (codeAt k n (itemAt s p) ≡ some b) × (codeBefore s (p + 1) ≡ some b)
-  unfolding codeAt
-  code-hit e =
-      let c = whole-clause s p w (omega arith) in
-      let j = same-name c e in
-      (slice (p + 5) (fieldEnd s p) s, cc (clause-is s p c, eq-eqb _ _ (j .0), eq-eqb _ _ (j .1)), rw add-one refl)
-
-  code-miss : (keyAt 0x22 s p ≡ productionKey k n → ⊥) → codeAt k n (itemAt s p) ≡ none
-  unfolding codeAt
-  code-miss m =
-      ⊎-elim
-      (λ c. cc (mapping-is s p c))
-      (λ c. by-test (eqb (getD s (p + 3) 0) k)
-      (λ d. by-test (eqb (getD s (p + 4) 0) n)
-      (λ e.
-      let i : getD s (p + 3) 0 ≡ k = eqb-true _ _ d in
-      let j : getD s (p + 4) 0 ≡ n = eqb-true _ _ e in
-      absurd (m (clause-key s p c ∙ cc)))
-      (λ e. cc (clause-is s p c)))
-      (λ d. cc (clause-is s p c)))
-      (item-facts s p w)
+-- Mappings and clauses.
+groups : (s : List ℕ) → Groups 0x22 s (itemWhole s) (IsMapping s) (IsClause s)
+groups s = record {
+  facts = item-facts s;
+  kind = λ p c. c .source;
+  kind-key = mapping-key s;
+  name-key = clause-key s;
+}
 
 -- The index that was built.
 module _ (s index : List ℕ) (bytes : (i : ℕ) → getD s i 0 < 256) (short : length s ≤ 4096) (long : length index ≡ 8224)
@@ -112,7 +64,7 @@ module _ (s index : List ℕ) (bytes : (i : ℕ) → getD s i 0 < 256) (short : 
   target-in : (k place : ℕ) → place ≡ getD built (kindKey k) 0 → k < 32 → 0 < place → (place + 3 < length s) × (getD s (place + 3) 0 < 32)
   target-in k place i h z =
       let f = found-at k (omega arith) (rw i at z) in
-      let c = whole-mapping s (f .0) (f .3) (rw (f .2) h) in
+      let c = of-first 0x22 s (itemWhole s) (IsMapping s) (IsClause s) (groups s) (f .0) (f .3) (rw (f .2) h) in
       let d : place + 3 ≡ f .0 + 4 = omega (arith, i, f .1) in
       let g = c .fits in
       (omega arith, rw d (c .target))
@@ -121,14 +73,14 @@ module _ (s index : List ℕ) (bytes : (i : ℕ) → getD s i 0 < 256) (short : 
   unfolding fieldEnd
   code-in k p place i h j z =
       let f = found-at (productionKey k p) (omega arith) (rw i at z) in
-      let c = whole-clause s (f .0) (f .3) (rw (f .2) (omega arith)) in
+      let c = of-second 0x22 s (itemWhole s) (IsMapping s) (IsClause s) (groups s) (f .0) (f .3) (rw (f .2) (omega arith)) in
       let d : place ≡ f .0 + 1 = i ∙ f .1 in
       let g = c .past in
       let l = c .ends in
       rw d (omega arith, omega arith)
 
   index-built : IndexedItems built s b
-  unfolding mappingOf clauseOf
+  unfolding mappingOf clauseOf targetAt codeAt
   index-built = record {
     sound = record {
       long = puts-length 0x22 s (places s) index ∙ long;
@@ -139,11 +91,15 @@ module _ (s index : List ℕ) (bytes : (i : ℕ) → getD s i 0 < 256) (short : 
     items = e;
     mapping = λ k h.
         ap (first (targetAt k)) (sym (held .items))
-        ∙ (looked 0x22 (itemWhole s) (itemAt s) (targetAt k) (targetBefore s) refl s k (target-hit s k h) (target-miss s k h) (places s) (held .whole)
+        ∙ (looked-kind 0x22 s (itemWhole s) (IsMapping s) (IsClause s) (groups s) (itemAt s) (targetAt k) (targetBefore s) refl
+        (λ p. getD s (p + 4) 0) (λ p. rw add-one refl) k h
+        (λ p c. ap (targetAt k) (mapping-is s p c)) (λ p c. ap (targetAt k) (clause-is s p c)) (places s) (held .whole)
         ∙ ap (targetBefore s) (sym (at-key k (omega arith))));
     clause = λ k p h j.
         ap (first (codeAt k p)) (sym (held .items))
-        ∙ (looked 0x22 (itemWhole s) (itemAt s) (codeAt k p) (codeBefore s) refl s (productionKey k p) (code-hit s bytes k p h j) (code-miss s bytes k p h j) (places s) (held .whole)
+        ∙ (looked-name 0x22 s (itemWhole s) (IsMapping s) (IsClause s) (groups s) (itemAt s) (codeAt k p) (codeBefore s) refl
+        (λ q. slice (q + 5) (fieldEnd s q) s) (λ q. rw add-one refl) k h p j bytes
+        (λ q c. ap (codeAt k p) (mapping-is s q c)) (λ q c. ap (codeAt k p) (clause-is s q c)) (places s) (held .whole)
         ∙ ap (codeBefore s) (sym (at-key (productionKey k p) (omega arith))));
   }
 

@@ -1,17 +1,17 @@
 -- The items by place are the items of `bodyOf`, and a law for each return of the functions on items.
-use Prim.Native.Nat.{ℕ, _+_, _*_, _-_, _<_, _≤_}
+use Prim.Native.Nat.{ℕ, _+_, _-_, _<_, _≤_}
 use mathlib.Core.Path.{_≡_, refl, sym, ap, _∙_}
 use mathlib.Core.Logic.{_⊎_, inl, inr, ⊎-elim}
 use mathlib.Core.Bool.{Bool, true, false, cond, not, _&&_, _||_}
 use mathlib.Core.List.{List, [], _∷_, map}
-use mathlib.Core.Option.{Option, none, some}
+use mathlib.Core.Option.{none, some}
 use native.Mathlib.Omega.{arith}
 use lib.ListN.{length, getD, take, drop, length-take, length-drop}
 use lib.Seq.{slice}
 use lib.Dec.{ltb, leb, eqb}
-use borrow.Author.Tests.{lt-ltb, le-ltb, le-leb, lt-leb, eq-eqb, ne-eqb, leb-true, ltb-true, eqb-true, eqb-false}
+use borrow.Author.Tests.{lt-ltb, le-ltb, le-leb, lt-leb, eq-eqb, ne-eqb, leb-true, ltb-true, eqb-true}
 use Rattle.fields.specs.Lists.{all, isSome}
-use Rattle.fields.specs.Fields.{field, pairAt}
+use Rattle.fields.specs.Fields.{pairAt}
 use Rattle.fields.specs.Keyed.{rising}
 use Rattle.fields.specs.Inner.Places.{fieldEnd, isWhole, fieldAt, placesFrom, places, keyAt}
 use Rattle.fields.proofs.Truth.{by-test, false-true, and-both}
@@ -21,8 +21,8 @@ use Rattle.fields.proofs.Places.{pass-done, pass-next}
 use Rattle.fields.proofs.Split.{byte-in, fields-at-places, traverse-at-places}
 use Rattle.language.specs.LanguageFile.{isKind}
 use Rattle.language.specs.Inner.Entries.{sizeAt}
-use Rattle.translation.specs.Translation.{Item, mapping, clause, Body, itemKey}
-use Rattle.translation.specs.TranslationFile.{mappingField, clauseField, itemOf, isClause, grouped, inGroups, itemsIn, bodyIn, bodyOf}
+use Rattle.translation.specs.Translation.{mapping, clause, Body, itemKey}
+use Rattle.translation.specs.TranslationFile.{mappingField, clauseField, itemOf, isClause, grouped, inGroups, itemsIn, bodyOf}
 use Rattle.translation.specs.Inner.Items.{mappingWhole, clauseWhole, itemGood, itemWhole, itemAt, IsMapping, IsClause, itemsWhole, HoldsItems}
 
 -- The contents of the whole field at p.

@@ -1,21 +1,21 @@
 -- Clauses and productions by their keys: a law for each return of the functions on them, and what the tests say.
 use Prim.Native.Nat.{ℕ, zero, suc, _+_, _<_, _≤_}
-use mathlib.Core.Path.{_≡_, refl, sym, ap, _∙_}
+use mathlib.Core.Path.{_≡_, refl, sym, _∙_}
 use mathlib.Core.Logic.{⊎-elim}
 use mathlib.Core.Bool.{Bool, true, false, not, _&&_}
 use mathlib.Core.List.{List}
-use mathlib.Core.Option.{Option, none, some}
+use mathlib.Core.Option.{Option, none}
 use native.Mathlib.Omega.{arith}
 use lib.ListN.{length, getD, List·getD-eq-default}
 use lib.Dec.{eqb}
 use borrow.Author.Tests.{eq-eqb, ne-eqb}
 use Rattle.fields.specs.Lists.{all, isSome}
 use Rattle.fields.specs.Inner.Places.{places, keyAt}
-use Rattle.language.specs.Language.{productionKey, argumentsOf}
+use Rattle.language.specs.Language.{productionKey}
 use Rattle.language.proofs.Facts.{entry-facts, class-is, production-is}
 use Rattle.reader.specs.Inner.Index.{argumentsBefore, Indexed}
 use Rattle.reader.proofs.Indexed.{production-key}
-use Rattle.translation.specs.Translation.{Translation, clauseOf}
+use Rattle.translation.specs.Translation.{Translation}
 use Rattle.translation.specs.WellFormed.{hasClause, hasProduction, clausesFit}
 use Rattle.translation.specs.Inner.ItemIndex.{codeBefore, IndexedItems}
 use Rattle.translation.specs.Inner.Tests.{knownAt}

@@ -2,11 +2,10 @@
 use Prim.Native.Nat.{ℕ, zero, suc, _+_, _-_, _<_, _≤_}
 use mathlib.Core.Path.{_≡_, refl, sym, ap, _∙_}
 use mathlib.Core.Logic.{_⊎_, inl, inr, ⊎-elim}
-use mathlib.Core.Bool.{Bool, true, false, cond, not, _&&_, Bool·beq}
+use mathlib.Core.Bool.{Bool, true, false, not, Bool·beq}
 use mathlib.Core.List.{List, [], _∷_, map}
-use mathlib.Core.Option.{Option, none, some}
+use mathlib.Core.Option.{some}
 use native.Mathlib.Omega.{arith}
-use native.Mathlib.Numerals.{add-one}
 use lib.ListN.{length, getD, List·getD-eq-default}
 use lib.Dec.{eqb}
 use borrow.Author.Tests.{eq-eqb, ne-eqb, eqb-true, eqb-false}
@@ -15,17 +14,17 @@ use Rattle.fields.specs.Fields.{pairAt}
 use Rattle.fields.specs.Inner.Places.{places}
 use Rattle.fields.proofs.Lists.{all-stop, all-next, all-true}
 use Rattle.fields.proofs.Truth.{Mem, by-test, count-mem}
-use Rattle.language.specs.Language.{Entry, Language, isIn, rangeOf, kindKey}
+use Rattle.language.specs.Language.{Entry, Language, isIn, rangeOf}
 use Rattle.language.specs.LanguageFile.{entriesOf}
-use Rattle.language.specs.Inner.Entries.{entryWhole, entryAt, IsClass, IsProduction}
+use Rattle.language.specs.Inner.Entries.{entryWhole, entryAt}
 use Rattle.language.proofs.Facts.{entry-facts, class-is, production-is}
 use Rattle.language.proofs.Holds.{holds-entries}
-use Rattle.reader.specs.Inner.Index.{rangeBefore, Sound, Indexed}
+use Rattle.reader.specs.Inner.Index.{rangeBefore, Sound}
 use Rattle.translation.specs.Translation.{Item, Body, Translation, mappingOf, mapped}
 use Rattle.translation.specs.TranslationFile.{bodyOf}
 use Rattle.translation.specs.WellFormed.{kinds, kindsMapped, reachesTarget, isRange, classKept, mappingFits}
-use Rattle.translation.specs.Inner.Items.{itemWhole, itemAt, IsMapping, IsClause}
-use Rattle.translation.specs.Inner.ItemIndex.{targetBefore, SoundItems, IndexedItems, mappedAt, Ready}
+use Rattle.translation.specs.Inner.Items.{itemWhole, itemAt}
+use Rattle.translation.specs.Inner.ItemIndex.{targetBefore, mappedAt, Ready}
 use Rattle.translation.specs.Inner.Tests.{mappedIf, reachesAt, sameRange, keptAt}
 use Rattle.translation.proofs.Items.{item-facts, mapping-is, clause-is, holds-items}
 use Rattle.translation.proofs.IndexedItems.{mapped-is, mapped-kind}

@@ -6,7 +6,7 @@ use mathlib.Core.Bool.{Bool, true, false, cond, _&&_}
 use mathlib.Core.List.{List, [], _∷_, map}
 use lib.ListN.{length}
 use lib.Seq.{slice}
-use lib.Dec.{ltb, leb, eqb}
+use lib.Dec.{leb, eqb}
 use Rattle.fields.specs.Lists.{all}
 use Rattle.fields.specs.Fields.{byteAt}
 use Rattle.fields.specs.Inner.Places.{fieldEnd, isWhole, places}
