@@ -296,7 +296,7 @@ module _ (index s arguments b : List ℕ) (l : Language) (z : Indexed index s l)
   token-node Syntaxes.Code at c u e d =
       let h = head-at b at 2 u d in (
         tokenAt s (getD index k 0) b (at + 1),
-        sym (Laws.code-token s index arguments k b at (h .0) (λ q. omega (arith, h .1)) (h .1) refl refl refl),
+        sym (Laws.code-token s index arguments k b at (h .0) (h .1) refl refl refl),
         λ j y. omega (arith, token-to s b (getD index k 0) (at + 1) j y),
       )
 
@@ -307,7 +307,7 @@ module _ (index s arguments b : List ℕ) (l : Language) (z : Indexed index s l)
   argument-node Syntaxes.Code at i u v e d =
       let h = head-at b at 3 u d in (
         argumentAt arguments k b (at + 1),
-        sym (Laws.code-argument s index arguments k b at (h .0) (λ q. omega (arith, h .1)) (λ q. omega (arith, h .1)) (h .1) refl),
+        sym (Laws.code-argument s index arguments k b at (h .0) (h .1) refl),
         λ j y. omega (arith, argument-to arguments b k (at + 1) j y),
       )
 

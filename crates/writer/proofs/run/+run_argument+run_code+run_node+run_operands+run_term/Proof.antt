@@ -252,7 +252,11 @@ run-term-returns : (t : ℕ) → run-term-lts.Need-returns (run-term-calls t) (r
 run-term-returns t c = puts-none _ _ _ _ (term-none _ _ _ _ (c .if1 .taken))
 
 run-term-node-at-requires : (t : ℕ) → run-term-lts.Need-node-at-requires (run-term-calls t) (run-term-at t) run-term.Post
-run-term-node-at-requires t c κs = (c .before .before .before .before .before .before .before .before .before .before .before .pre .1 .0 .source, c .before .before .before .before .before .before .before .before .before .before .before .pre .1 .1, c .before .before .before .before .before .before .before .before .before .before .before .pre .1 .2)
+run-term-node-at-requires t c κs = record {
+  sound = c .before .before .before .before .before .before .before .before .before .before .before .pre .1 .0 .source;
+  kind = c .before .before .before .before .before .before .before .before .before .before .before .pre .1 .1;
+  inside = c .before .before .before .before .before .before .before .before .before .before .before .pre .1 .2;
+}
 
 run-term-leaf-requires : (t : ℕ) → run-term-lts.Need-leaf-requires (run-term-calls t) (run-term-at t) run-term.Post
 run-term-leaf-requires t c κs = (leaf-in _ _ _ _ (c .before .before .read .given .1) (c .before .before .before .before .node-at .ensures .1), c .before .before .before .before .before .before .before .before .before .before .before .before .before .before .before .before .pre .1 .3)
