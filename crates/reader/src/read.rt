@@ -49,18 +49,23 @@ pub fn read_at(
     }
     match node_at(syntax, language, index, arguments, kind, bytes, at) {
         Node::Leaf(r) => r,
-        Node::Operands(q, stop, to) => operands(
-            syntax,
-            language,
-            index,
-            arguments,
-            language,
-            q,
-            stop,
-            bytes,
-            to,
-            levels - 1,
-        ),
+        Node::Operands(q, stop, to) => {
+            if stop <= q {
+                return Read::End(to);
+            }
+            operands(
+                syntax,
+                language,
+                index,
+                arguments,
+                language,
+                q,
+                stop,
+                bytes,
+                to,
+                levels - 1,
+            )
+        }
     }
 }
 

@@ -114,14 +114,17 @@ read-at-token-requires t c κs = (c .before .before .before .before .before .bef
 read-at-returns-2 : (t : ℕ) → read-at-lts.Need-returns-2 (read-at-calls t) (read-at-at t) read-at.Post
 read-at-returns-2 t c = (read-token _ _ _ _ _ _ _ _ (c .before .before .before .if1 .left) (c .before .before .class-place .ensures) (c .before .if2 .taken) (c .token .ensures .0), c .token .ensures .1)
 
-read-at-operands-requires : (t : ℕ) → read-at-lts.Need-operands-requires (read-at-calls t) (read-at-at t) read-at.Post
-read-at-operands-requires t c κs = let b = operands-in _ _ _ _ _ _ (c .before .q .given .1) (c .before .before .before .node-at .ensures .1) in (omega arith, (c .before .before .before .before .before .before .before .before .before .before .before .pre .1 .sound, b .1, b .0))
-
 read-at-returns-3 : (t : ℕ) → read-at-lts.Need-returns-3 (read-at-calls t) (read-at-at t) read-at.Post
-read-at-returns-3 t c = (read-leaf _ _ _ _ _ _ _ _ (c .before .before .before .before .before .before .if1 .left) (c .before .before .before .node-at .ensures .0) (c .before .r .given .1), leaf-in _ _ _ _ (c .before .r .given .1) (c .before .before .before .node-at .ensures .1))
+read-at-returns-3 t c = (sym (operands-done _ _ _ _ _ (c .if3 .taken)) ∙ read-operands _ _ _ _ _ _ _ _ (c .before .before .before .before .before .before .before .if1 .left) (c .before .before .before .before .node-at .ensures .0) (c .before .before .q .given .1), operands-in _ _ _ _ _ _ (c .before .before .q .given .1) (c .before .before .before .before .node-at .ensures .1) .0)
+
+read-at-operands-requires : (t : ℕ) → read-at-lts.Need-operands-requires (read-at-calls t) (read-at-at t) read-at.Post
+read-at-operands-requires t c κs = let b = operands-in _ _ _ _ _ _ (c .before .before .q .given .1) (c .before .before .before .before .node-at .ensures .1) in (omega arith, (c .before .before .before .before .before .before .before .before .before .before .before .before .pre .1 .sound, b .1, b .0))
 
 read-at-returns-4 : (t : ℕ) → read-at-lts.Need-returns-4 (read-at-calls t) (read-at-at t) read-at.Post
-read-at-returns-4 t c = (c .operands .ensures .0 ∙ read-operands _ _ _ _ _ _ _ _ (c .before .before .before .before .before .before .before .if1 .left) (c .before .before .before .before .node-at .ensures .0) (c .before .before .q .given .1), c .operands .ensures .1)
+read-at-returns-4 t c = (read-leaf _ _ _ _ _ _ _ _ (c .before .before .before .before .before .before .if1 .left) (c .before .before .before .node-at .ensures .0) (c .before .r .given .1), leaf-in _ _ _ _ (c .before .r .given .1) (c .before .before .before .node-at .ensures .1))
+
+read-at-returns-5 : (t : ℕ) → read-at-lts.Need-returns-5 (read-at-calls t) (read-at-at t) read-at.Post
+read-at-returns-5 t c = (c .operands .ensures .0 ∙ read-operands _ _ _ _ _ _ _ _ (c .before .before .before .before .before .before .before .before .if1 .left) (c .before .before .before .before .before .node-at .ensures .0) (c .before .before .before .q .given .1), c .operands .ensures .1)
 
 pub +operands+read-at-spec : {M : Type 1} → statement M
 +operands+read-at-spec = close μ-operands μ-read-at (λ t. operands-lts.spec (operands-calls t)
@@ -151,7 +154,8 @@ pub +operands+read-at-spec : {M : Type 1} → statement M
     (λ c κs. search needs)
     (λ c. search needs)
     (λ c. search needs)
+    (read-at-returns-3 t)
     (λ c. search needs)
     (read-at-operands-requires t)
-    (read-at-returns-3 t)
     (read-at-returns-4 t)
+    (read-at-returns-5 t)
