@@ -3,7 +3,9 @@
  * Each function returns the number of the answer: 0 for accepted, otherwise the number of
  * the refusal. Where there is a length it is stored through the last pointer; a refusal
  * stores 0 and leaves the output unchanged. A slice is a pointer and a length; the pointer
- * must be valid for that many bytes, and must not be null even if the length is 0. */
+ * must be valid for that many bytes, and must not be null even if the length is 0.
+ *
+ * The library has the three checks so far; reduce and run are declared for what is to come. */
 #ifndef ALGEBRA_H
 #define ALGEBRA_H
 
