@@ -3,3 +3,4 @@ pub mod Runs
 pub mod Subsets
 pub mod Sums
 pub mod Examples
+pub mod Values

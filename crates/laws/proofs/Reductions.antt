@@ -97,7 +97,7 @@ term-value p t u e d =
     (term-unique termLimit t u [] (ap (readTerm termLimit translations) (sym e) ∙ r .0), r .1)
 
 -- The pack, the term and the lent room are accepted.
-ready-value : (bytes : List ℕ) (w o : ℕ) (r : Ready) → ready bytes w o ≡ value r
+pub ready-value : (bytes : List ℕ) (w o : ℕ) (r : Ready) → ready bytes w o ≡ value r
     → (packOf bytes ≡ value (r .pack)) × (termOf (r .pack) ≡ value (r .term)) × ((ltb w 65536 || ltb o 4096) ≡ false)
 unfolding ready
 ready-value bytes w o r e =

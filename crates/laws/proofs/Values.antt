@@ -1,0 +1,26 @@
+-- Whatever reduce accepts is a translation that the check accepts (document 000: C.14, C.16, C.18, and "without").
+use Prim.Native.Nat.{ℕ}
+use mathlib.Core.Path.{_≡_, ap, sym, _∙_}
+use mathlib.Core.List.{List}
+use Rattle.fields.specs.Outcome.{value, checked}
+use Rattle.fields.specs.declared.outcome.Outcome.the-variants.{Accepted}
+use Rattle.translation.specs.TranslationFile.{encodeTranslation, translationOf}
+use Rattle.translation.specs.Operations.{checkTranslation}
+use Rattle.operators.proofs.Proper.{good-back}
+use Rattle.reducer.specs.Evaluation.{constantsOf, nothingBound, evaluate}
+use Rattle.reducer.specs.Operations.{ready, work, reduceBytes}
+use Rattle.reducer.proofs.PackCodec.{pack-good}
+use Rattle.reducer.proofs.Evaluated.{step-value, value-inj, GoodConstants, nothing-good, evaluate-good}
+use Rattle.laws.proofs.Reductions.{ready-value}
+
+pub reduced-checked : (pack : List ℕ) (workspace output : ℕ) (bytes : List ℕ) → reduceBytes pack workspace output ≡ value bytes
+    → checkTranslation bytes ≡ Accepted 0
+unfolding reduceBytes work checkTranslation
+reduced-checked pack workspace output bytes e =
+    let a = step-value (ready pack workspace output) work e in
+    let r = ready-value pack workspace output (a .0) (a .1) in
+    let b = step-value (evaluate (constantsOf (a .0 .pack)) nothingBound (a .0 .term)) (λ f. value (encodeTranslation f)) (a .2) in
+    let p = pack-good pack (a .0 .pack) (r .0) in
+    let constants : GoodConstants (constantsOf (a .0 .pack)) = record { languages = p .0; bodies = p .1 } in
+    let good = evaluate-good (constantsOf (a .0 .pack)) constants nothingBound nothing-good (a .0 .term) (b .0) (b .1) in
+    ap checked (ap translationOf (sym (value-inj (b .2))) ∙ good-back (b .0) good)
