@@ -42,6 +42,7 @@ splitFields (suc fuel) (tag ∷ r) =
       | false ↦ none
     ]
 
+-- The same, with fuel for all bytes.
 unfoldable pub fieldsOf : List ℕ → Option (List Field)
 fieldsOf s = splitFields (suc (length s)) s
 
@@ -64,5 +65,6 @@ saysOver (suc fuel) isLanguage limit (tag ∷ r) =
           ]
     ]
 
+-- The same, with fuel for all bytes.
 unfoldable pub hasOver : (ℕ → Bool) → ℕ → List ℕ → Bool
 hasOver isLanguage limit s = saysOver (suc (length s)) isLanguage limit s

@@ -11,11 +11,13 @@ use Rattle.fields.specs.Lists.{all, any, keep}
 pub data Order : Type 0 where
   below same above : Order
 
+-- From the two tests, whether the first is less and whether the second is.
 abbrev pub ordered : Bool → Bool → Order
 ordered true b = below
 ordered false true = above
 ordered false false = same
 
+-- How the first number stands to the second.
 abbrev pub order : ℕ → ℕ → Order
 order m n = ordered (ltb m n) (ltb n m)
 

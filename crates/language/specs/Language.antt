@@ -20,9 +20,11 @@ Language = List Entry
 abbrev pub kindKey : ℕ → ℕ
 kindKey kind = kind
 
+-- The key of a production, or of its clause.
 abbrev pub productionKey : ℕ → ℕ → ℕ
 productionKey result name = 32 + (result * 256 + name)
 
+-- The key of an entry.
 unfoldable pub entryKey : Entry → ℕ
 entryKey (class k low high) = kindKey k
 entryKey (production r p arguments) = productionKey r p
@@ -48,6 +50,7 @@ unfoldable pub rangeAt : ℕ → Entry → Option Range
 rangeAt k (class j low high) = cond (eqb j k) (some (record { low = low; high = high })) none
 rangeAt k (production r p arguments) = none
 
+-- The same in a language.
 unfoldable pub rangeOf : Language → ℕ → Option Range
 rangeOf l k = first (rangeAt k) l
 
@@ -56,6 +59,7 @@ unfoldable pub argumentsAt : ℕ → ℕ → Entry → Option (List ℕ)
 argumentsAt k p (class j low high) = none
 argumentsAt k p (production r q arguments) = cond (eqb r k && eqb q p) (some arguments) none
 
+-- The same in a language.
 unfoldable pub argumentsOf : Language → ℕ → ℕ → Option (List ℕ)
 argumentsOf l k p = first (argumentsAt k p) l
 
@@ -69,6 +73,7 @@ unfoldable pub mentions : ℕ → Entry → Bool
 mentions k (class j low high) = eqb j k
 mentions k (production r p arguments) = eqb r k || any (λ a. eqb a k) arguments
 
+-- The same in a language.
 unfoldable pub isIn : Language → ℕ → Bool
 isIn l k = any (mentions k) l
 
@@ -81,5 +86,6 @@ unfoldable pub classIsResult : Language → Entry → Bool
 classIsResult m (class k low high) = any (resultIs k) m
 classIsResult m (production r p arguments) = false
 
+-- The same over all entries of the first.
 unfoldable pub clashes : Language → Language → Bool
 clashes l m = any (classIsResult m) l

@@ -30,6 +30,7 @@ productionOf c =
     (some (production (byteAt c 0) (byteAt c 1) (drop 2 c)))
     none
 
+-- The entry of a field, by its tag.
 unfoldable pub entryOf : Field → Option Entry
 entryOf (field tag c) = cond (eqb tag 0x11) (classOf c) (cond (eqb tag 0x12) (productionOf c) none)
 
@@ -43,6 +44,7 @@ abbrev pub entriesIn : Option (List Field) → Option Language
 entriesIn none = none
 entriesIn (some fs) = traverse entryOf fs
 
+-- The entries of a file.
 unfoldable pub entriesOf : List ℕ → Option Language
 entriesOf s = entriesIn (fieldsOf s)
 

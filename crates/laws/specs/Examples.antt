@@ -15,6 +15,7 @@ pub data Row : Type 0 where
   reduced : (pack : List Field) (number : ℕ) (bytes : List ℕ) → Row
   ran : (pack : List Field) (root : ℕ) (tree : List ℕ) (room : ℕ) (number : ℕ) (bytes : List ℕ) → Row
 
+-- The bytes of a result, none where it is refused.
 abbrev pub bytesOf : Result (List ℕ) → List ℕ
 bytesOf (value bytes) = bytes
 bytesOf (refused r) = []
@@ -23,6 +24,7 @@ bytesOf (refused r) = []
 abbrev pub comesTo : Result (List ℕ) → ℕ → List ℕ → Bool
 comesTo result number bytes = eqb (numberOf (written result)) number && sameNumbers (bytesOf result) bytes
 
+-- The row comes out as it says.
 unfoldable pub holds : Row → Bool
 holds (reduced pack number bytes) = comesTo (reduceBytes (encodeFields pack) 65536 4096) number bytes
 holds (ran pack root tree room number bytes) =
@@ -72,6 +74,7 @@ joinPack = k ∷ c ∷ twice ∷ rest ∷ term (0x54 ∷ 0x50 ∷ 0x40 ∷ 1 ∷
 abbrev empty : List ℕ
 empty = 0x20 ∷ 0 ∷ 0 ∷ 0x21 ∷ 0 ∷ 0 ∷ []
 
+-- The table.
 unfoldable pub rows : List Row
 rows =
     ran sumPack 1 (4 ∷ 1 ∷ 0 ∷ 5 ∷ []) 7 0 (2 ∷ 1 ∷ 0 ∷ 5 ∷ 1 ∷ 0 ∷ 5 ∷ [])

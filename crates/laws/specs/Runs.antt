@@ -28,6 +28,7 @@ abbrev pub mapsTo : Result Translation → ℕ → ℕ
 mapsTo (value f) kind = mapped (f .body) kind
 mapsTo (refused r) kind = 0
 
+-- The target language of the translation in a file.
 abbrev pub targetIn : Result Translation → Language
 targetIn (value f) = f .target
 targetIn (refused r) = []

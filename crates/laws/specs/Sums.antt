@@ -21,6 +21,7 @@ unfoldable pub asTerm : Sum → Term translations
 asTerm (alone t) = t
 asTerm (plus a b) = sum (asTerm a) (asTerm b)
 
+-- The terms that a sum is built from.
 unfoldable pub builtFrom : Sum → List (Term translations)
 builtFrom (alone t) = t ∷ []
 builtFrom (plus a b) = builtFrom a ++ builtFrom b

@@ -24,6 +24,7 @@ languagesFit l m = not (clashes l m) && (not (clashes m l) && agree entryKey sam
 unfoldable pub languageUnion : Language → Language → Language
 languageUnion l m = union entryKey l m
 
+-- The sum, or 12 where it does not fit.
 unfoldable pub languageSum : Language → Language → Result Language
 languageSum l m = refuseIf (not (languagesFit l m)) SumUnfit (value (languageUnion l m))
 
@@ -45,6 +46,7 @@ translationUnion f g = record {
   body = union itemKey (f .body) (g .body);
 }
 
+-- The sum, or 12 where it does not fit.
 unfoldable pub translationSum : Translation → Translation → Result Translation
 translationSum f g = refuseIf (not (translationsFit f g)) SumUnfit (value (translationUnion f g))
 
@@ -72,6 +74,7 @@ joinItem f g (clause r p bytes) = clause r p (write code (run (clausesOf f) (cla
 unfoldable pub joined : Translation → Translation → Translation
 joined f g = record { source = g .source; target = f .target; body = map (joinItem f g) (g .body) }
 
+-- The join, or 13 where it does not fit.
 unfoldable pub translationJoin : Translation → Translation → Result Translation
 translationJoin f g = refuseIf (not (joinFits f g)) JoinUnfit (value (joined f g))
 

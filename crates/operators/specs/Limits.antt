@@ -17,6 +17,7 @@ isDeep (done c s) = false
 isDeep deep = true
 isDeep broken = false
 
+-- The same of an item; a mapping has no code.
 unfoldable pub codeIsDeep : Translation → Item → Bool
 codeIsDeep f (mapping s t) = false
 codeIsDeep f (clause r p bytes) = isDeep (readClause f r p bytes)
@@ -25,6 +26,7 @@ codeIsDeep f (clause r p bytes) = isDeep (readClause f r p bytes)
 unfoldable pub languageExceeds : Language → Bool
 languageExceeds l = ltb languageLimit (length (encodeLanguage l))
 
+-- Both languages, the whole file, and each code.
 unfoldable pub translationExceeds : Translation → Bool
 translationExceeds f =
     languageExceeds (f .source)

@@ -13,6 +13,7 @@ use Rattle.reader.specs.Typing.{kindAt}
 pub data Syntax : Type 0 where
   tree code : Syntax
 
+-- The sign that stands in front, in code syntax.
 abbrev pub sign : Syntax → ℕ → List ℕ
 sign tree n = []
 sign code n = n ∷ []
@@ -34,6 +35,7 @@ pub data Read (A : Type 0) : Type 0 where
   deep : Read A
   broken : Read A
 
+-- The next reading, on what was read and what is left; the first that fails ends it.
 abbrev pub andThen : {A B : Type 0} → Read A → (A → List ℕ → Read B) → Read B
 andThen (done a r) f = f a r
 andThen deep f = deep
@@ -89,6 +91,7 @@ readCodeLevel reads l arguments k (b ∷ s) =
           ]
     ]
 
+-- One level in either syntax.
 unfoldable pub readLevel : Syntax → (ℕ → List ℕ → Read Code) → Language → List ℕ → ℕ → List ℕ → Read Code
 readLevel tree reads l arguments k s = readTreeLevel reads l k s
 readLevel code reads l arguments k s = readCodeLevel reads l arguments k s

@@ -22,6 +22,7 @@ pub record Constants : Type 0 where
   pub languages : List Language
   pub bodies : List Body
 
+-- The constants of a pack.
 abbrev pub constantsOf : Pack → Constants
 constantsOf p = record { languages = p .languages; bodies = p .bodies }
 
@@ -34,6 +35,7 @@ Value translations = Translation
 abbrev pub Environment : Type 0
 Environment = (s : Sort) → ℕ → Option (Value s)
 
+-- At the start nothing is bound.
 abbrev pub nothingBound : Environment
 nothingBound s v = none
 
@@ -49,17 +51,21 @@ abbrev pub there : {A : Type 0} → Reason → Option A → Result A
 there r none = refused r
 there r (some a) = value a
 
+-- The limits of each sort.
 abbrev pub exceeds : (s : Sort) → Value s → Bool
 exceeds languages l = languageExceeds l
 exceeds translations f = translationExceeds f
 
+-- A value, or 11 where it exceeds a limit.
 abbrev pub limited : (s : Sort) → Value s → Result (Value s)
 limited s v = refuseIf (exceeds s v) Limit (value v)
 
+-- The sum of each sort.
 abbrev pub sumOf : (s : Sort) → Value s → Value s → Result (Value s)
 sumOf languages l m = languageSum l m
 sumOf translations f g = translationSum f g
 
+-- "Without" of each sort.
 abbrev pub withoutOf : (s : Sort) → Value s → Language → Value s
 withoutOf languages l m = languageWithout l m
 withoutOf translations f m = translationWithout f m

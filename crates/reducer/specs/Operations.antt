@@ -44,6 +44,7 @@ pub record Reduced : Type 0 where
   pub output : List ℕ
   pub workspace : List ℕ
 
+-- Reduce, on the pack, the workspace and the output as they are lent.
 unfoldable pub reduce : List ℕ → List ℕ → List ℕ → Reduced
 reduce bytes workspace output =
     let result = reduceBytes bytes (length workspace) (length output) in

@@ -29,10 +29,12 @@ pub data Part : Type 0 where
   bodyPart : Body → Part
   termPart : List ℕ → Part
 
+-- A part that is a language, where its entries are there.
 abbrev pub languageIn : Option Language → Option Part
 languageIn none = none
 languageIn (some l) = some (languagePart l)
 
+-- A part that is a body, where its items are there.
 abbrev pub bodyIn : Option Body → Option Part
 bodyIn none = none
 bodyIn (some b) = some (bodyPart b)
@@ -50,20 +52,24 @@ group (languagePart l) = 0
 group (bodyPart b) = 1
 group (termPart t) = 2
 
+-- The parts stand in the order of their groups.
 unfoldable pub inGroups : ℕ → List Part → Bool
 inGroups n [] = true
 inGroups n (p ∷ l) = leb n (group p) && inGroups (group p) l
 
+-- The language in a part, if it is one.
 abbrev pub asLanguage : Part → List Language
 asLanguage (languagePart l) = l ∷ []
 asLanguage (bodyPart b) = []
 asLanguage (termPart t) = []
 
+-- The body in a part, if it is one.
 abbrev pub asBody : Part → List Body
 asBody (languagePart l) = []
 asBody (bodyPart b) = b ∷ []
 asBody (termPart t) = []
 
+-- The term in a part, if it is one.
 abbrev pub asTerm : Part → List (List ℕ)
 asTerm (languagePart l) = []
 asTerm (bodyPart b) = []
@@ -76,18 +82,22 @@ packWith ls bs (t ∷ []) =
     cond (leb (length ls) 32 && leb (length bs) 32) (some (record { languages = ls; bodies = bs; term = t })) none
 packWith ls bs (t ∷ u ∷ ts) = none
 
+-- The pack that parts make, in their groups.
 unfoldable pub packIn : List Part → Option Pack
 packIn ps =
     cond (inGroups 0 ps) (packWith (concatMap asLanguage ps) (concatMap asBody ps) (concatMap asTerm ps)) none
 
+-- The same, where the parts are there.
 abbrev pub packInParts : Option (List Part) → Option Pack
 packInParts none = none
 packInParts (some ps) = packIn ps
 
+-- The same, of fields.
 abbrev pub packInFields : Option (List Field) → Option Pack
 packInFields none = none
 packInFields (some fs) = packInParts (traverse partOf fs)
 
+-- The same, of bytes.
 unfoldable pub packParts : List ℕ → Option Pack
 packParts s = packInFields (fieldsOf s)
 
@@ -95,6 +105,7 @@ packParts s = packInFields (fieldsOf s)
 abbrev pub packLimit : ℕ
 packLimit = 32768
 
+-- The tag of a language in a pack.
 abbrev pub isLanguageTag : ℕ → Bool
 isLanguageTag tag = eqb tag 0x30
 
@@ -117,5 +128,6 @@ wholeTerm l b none = refused Term
 wholeTerm l b (some r) =
     elim (r .1) [ [] ↦ refuseIf (not (scoped l b (r .0))) Term (value (r .0)) | x ∷ s ↦ refused Term ]
 
+-- The term of a pack, or 8.
 unfoldable pub termOf : Pack → Result (Terms.Term translations)
 termOf p = wholeTerm (length (p .languages)) (length (p .bodies)) (readTerm termLimit translations (p .term))

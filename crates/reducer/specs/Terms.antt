@@ -27,6 +27,7 @@ abbrev pub signed : Sort → ℕ → ℕ → ℕ
 signed languages a b = a
 signed translations a b = b
 
+-- The sign of a let: 46 and 56 bind a language, 47 and 57 a translation.
 abbrev pub bindSign : Sort → Sort → ℕ
 bindSign languages s = signed s 0x46 0x56
 bindSign translations s = signed s 0x47 0x57
@@ -61,6 +62,7 @@ termLevels (bind r v x y) = suc (max (termLevels x) (termLevels y))
 abbrev pub Parse : Type 0 → Type 0
 Parse A = Option (A × List ℕ)
 
+-- The next parse, on what was read and what is left.
 abbrev pub then : {A B : Type 0} → Parse A → (A → List ℕ → Parse B) → Parse B
 then none f = none
 then (some p) f = f (p .0) (p .1)
@@ -144,6 +146,7 @@ translationSign reads b s =
           ]
     ]
 
+-- What follows a sign, in a term of the sort.
 unfoldable pub readSign : ((s : Sort) → List ℕ → Parse (Term s)) → (s : Sort) → List ℕ → Parse (Term s)
 readSign reads languages [] = none
 readSign reads translations [] = none

@@ -32,6 +32,7 @@ pub record Ran : Type 0 where
   pub outcome : Outcome
   pub output : List ℕ
 
+-- Run, with the output as it is lent.
 unfoldable pub runTree : List ℕ → ℕ → List ℕ → List ℕ → Ran
 runTree translation root bytes output =
     let result = runBytes translation root bytes (length output) in

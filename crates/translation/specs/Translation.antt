@@ -16,11 +16,13 @@ pub data Item : Type 0 where
 abbrev pub Body : Type 0
 Body = List Item
 
+-- A translation: its source, its target and its body.
 pub record Translation : Type 0 where
   pub source : Language
   pub target : Language
   pub body : Body
 
+-- The key of an item: that of its kind or of its production.
 unfoldable pub itemKey : Item → ℕ
 itemKey (mapping s t) = kindKey s
 itemKey (clause r p code) = productionKey r p
@@ -37,6 +39,7 @@ unfoldable pub targetAt : ℕ → Item → Option ℕ
 targetAt k (mapping s t) = cond (eqb s k) (some t) none
 targetAt k (clause r p code) = none
 
+-- The same in a body.
 unfoldable pub mappingOf : Body → ℕ → Option ℕ
 mappingOf b k = first (targetAt k) b
 
@@ -45,6 +48,7 @@ unfoldable pub codeAt : ℕ → ℕ → Item → Option (List ℕ)
 codeAt k p (mapping s t) = none
 codeAt k p (clause r q code) = cond (eqb r k && eqb q p) (some code) none
 
+-- The same in a body.
 unfoldable pub clauseOf : Body → ℕ → ℕ → Option (List ℕ)
 clauseOf b k p = first (codeAt k p) b
 

@@ -26,6 +26,7 @@ mappingField c =
 unfoldable pub clauseField : List ℕ → Option Item
 clauseField c = cond (leb 2 (length c) && isKind (byteAt c 0)) (some (clause (byteAt c 0) (byteAt c 1) (drop 2 c))) none
 
+-- The item of a field, by its tag.
 unfoldable pub itemOf : Field → Option Item
 itemOf (field tag c) = cond (eqb tag 0x22) (mappingField c) (cond (eqb tag 0x23) (clauseField c) none)
 
@@ -39,10 +40,12 @@ abbrev pub isClause : Item → Bool
 isClause (mapping s t) = false
 isClause (clause r p code) = true
 
+-- The items stand in their groups; the first argument says whether a clause has come.
 unfoldable pub grouped : Bool → List Item → Bool
 grouped past [] = true
 grouped past (a ∷ l) = (isClause a || not past) && grouped (isClause a) l
 
+-- A body, where its items stand in their groups.
 abbrev pub inGroups : Option Body → Option Body
 inGroups none = none
 inGroups (some b) = cond (grouped false b) (some b) none
@@ -51,6 +54,7 @@ inGroups (some b) = cond (grouped false b) (some b) none
 unfoldable pub itemsIn : List Field → Option Body
 itemsIn fs = inGroups (traverse itemOf fs)
 
+-- The same, where the fields are there.
 abbrev pub bodyIn : Option (List Field) → Option Body
 bodyIn none = none
 bodyIn (some fs) = itemsIn fs
@@ -73,10 +77,12 @@ partsIn (f ∷ []) = none
 partsIn (field x s ∷ field y t ∷ fs) =
     cond (eqb x 0x20 && eqb y 0x21) (parts (entriesOf s) (entriesOf t) (itemsIn fs)) none
 
+-- The same, where the fields are there.
 abbrev pub partsOfFields : Option (List Field) → Option Translation
 partsOfFields none = none
 partsOfFields (some fs) = partsIn fs
 
+-- The parts of a file.
 unfoldable pub partsOf : List ℕ → Option Translation
 partsOf s = partsOfFields (fieldsOf s)
 
@@ -85,6 +91,7 @@ unfoldable pub translationFields : Translation → List Field
 translationFields f =
     field 0x20 (encodeLanguage (f .source)) ∷ field 0x21 (encodeLanguage (f .target)) ∷ map itemField (f .body)
 
+-- The bytes of a translation.
 unfoldable pub encodeTranslation : Translation → List ℕ
 encodeTranslation f = encodeFields (translationFields f)
 
@@ -92,6 +99,7 @@ encodeTranslation f = encodeFields (translationFields f)
 abbrev pub translationLimit : ℕ
 translationLimit = 4096
 
+-- The tags of the two languages in a translation.
 abbrev pub isLanguageTag : ℕ → Bool
 isLanguageTag tag = eqb tag 0x20 || eqb tag 0x21
 

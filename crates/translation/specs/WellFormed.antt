@@ -34,6 +34,7 @@ unfoldable pub classKept : Translation → Entry → Bool
 classKept f (class k low high) = isRange low high (rangeOf (f .target) (mapped (f .body) k))
 classKept f (production r p arguments) = true
 
+-- The mapping is as required: 5 where it is not.
 unfoldable pub mappingFits : Translation → Bool
 mappingFits f = kindsMapped f && (all (reachesTarget f) (f .body) && all (classKept f) (f .source))
 
@@ -42,10 +43,12 @@ unfoldable pub hasClause : Translation → Entry → Bool
 hasClause f (class k low high) = true
 hasClause f (production r p arguments) = isSome (clauseOf (f .body) r p)
 
+-- Each clause has its production in the source.
 unfoldable pub hasProduction : Translation → Item → Bool
 hasProduction f (mapping s t) = true
 hasProduction f (clause r p code) = isSome (argumentsOf (f .source) r p)
 
+-- No clause is missing and none is extra: 6 where it is not so.
 unfoldable pub clausesFit : Translation → Bool
 clausesFit f = all (hasClause f) (f .source) && all (hasProduction f) (f .body)
 
@@ -54,6 +57,7 @@ unfoldable pub codeFits : Translation → Item → Bool
 codeFits f (mapping s t) = true
 codeFits f (clause r p code) = isSome (wholeCode (readClause f r p code))
 
+-- All codes are of their kinds: 7 where one is not.
 unfoldable pub codesFit : Translation → Bool
 codesFit f = all (codeFits f) (f .body)
 
