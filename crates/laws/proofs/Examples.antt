@@ -15,8 +15,8 @@ use Rattle.translation.specs.TranslationFile.{mappingField, clauseField, itemOf
 use Rattle.translation.specs.Operations.{runBytes}
 use Rattle.operators.specs.Algebra.{languagesFit, languageUnion, languageSum, languageWithout, translationsFit, translationUnion, translationSum, joinFits, joinItem, joined, translationJoin, argumentsFrom, identityClause, identityOf}
 use Rattle.operators.specs.Limits.{codeIsDeep, languageExceeds, translationExceeds}
-use Rattle.reducer.specs.Terms.{languageSign, translationSign, readSign, readTerm, scoped}
-use Rattle.reducer.specs.Pack.{partOf, inGroups, packWith, packIn, packParts, packOf, termOf}
+use Rattle.pack.specs.Terms.{languageSign, translationSign, readSign, readTerm, scoped}
+use Rattle.pack.specs.Pack.{partOf, inGroups, packWith, packIn, packParts, packOf, termOf}
 use Rattle.reducer.specs.Evaluation.{evaluate}
 use Rattle.reducer.specs.Operations.{ready, work, reduceBytes}
 use Rattle.laws.specs.Examples.{holds, rows}

@@ -18,12 +18,12 @@ use Rattle.fields.proofs.Codec.{refused-value}
 use Rattle.translation.specs.Translation.{Translation}
 use Rattle.translation.specs.TranslationFile.{encodeTranslation}
 use Rattle.translation.proofs.Fitting.{refuse-value}
-use Rattle.reducer.specs.Terms.{Sort, translations, Term, writeTerm, termLevels, Parse, readTerm, scoped}
-use Rattle.reducer.specs.Pack.{Pack, packOf, packLimit, termLimit, wholeTerm, termOf}
+use Rattle.pack.specs.Terms.{Sort, translations, Term, writeTerm, termLevels, Parse, readTerm, scoped}
+use Rattle.pack.specs.Pack.{Pack, packOf, packLimit, termLimit, wholeTerm, termOf}
 use Rattle.reducer.specs.Evaluation.{Constants, constantsOf, nothingBound, evaluate}
 use Rattle.reducer.specs.Operations.{Ready, ready, work, reduceBytes, Reduced, reduce}
-use Rattle.reducer.proofs.TermCodec.{read-write, read-sound}
-use Rattle.reducer.proofs.PackCodec.{withTerm, newTerm, pack-term, pack-short, pack-good}
+use Rattle.pack.proofs.TermCodec.{read-write, read-sound}
+use Rattle.pack.proofs.PackCodec.{withTerm, newTerm, pack-term, pack-short, pack-good}
 use Rattle.reducer.proofs.Evaluated.{step-value, value-inj, GoodConstants}
 use Rattle.laws.specs.Packed.{packed, putOut}
 

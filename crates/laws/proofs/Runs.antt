@@ -29,13 +29,13 @@ use Rattle.translation.specs.TranslationFile.{encodeTranslation, translationOf}
 use Rattle.translation.specs.Operations.{fitted, runBytes, Ran, runTree}
 use Rattle.translation.proofs.Preserved.{typed-run}
 use Rattle.translation.proofs.Fitting.{refuse-value, fit-carries}
-use Rattle.reducer.specs.Terms.{Term, translations, join, writeTerm}
+use Rattle.pack.specs.Terms.{Term, translations, join, writeTerm}
 use Rattle.operators.specs.Algebra.{joinFits, joined, translationJoin}
-use Rattle.reducer.specs.Pack.{packOf}
+use Rattle.pack.specs.Pack.{packOf}
 use Rattle.operators.specs.Limits.{translationExceeds}
 use Rattle.reducer.specs.Evaluation.{Constants, constantsOf, nothingBound, limited, evaluate}
 use Rattle.reducer.specs.Operations.{reduceBytes, reduce}
-use Rattle.reducer.proofs.PackCodec.{pack-term, pack-short}
+use Rattle.pack.proofs.PackCodec.{pack-term, pack-short}
 use Rattle.operators.proofs.Proper.{proper-apart, Sound, GoodTranslation, good-back}
 use Rattle.operators.proofs.JoinSound.{target-larger, join-lies, join-mapped, join-runs}
 use Rattle.reducer.proofs.Evaluated.{step-value, value-inj, limited-value, translation-join, within, nothing-good, evaluate-good}

@@ -11,9 +11,9 @@ use Rattle.fields.specs.Fields.{Field}
 use Rattle.fields.proofs.Truth.{and-both, both-and, mem-append, append-cases}
 use Rattle.translation.specs.Translation.{Translation}
 use Rattle.translation.specs.TranslationFile.{encodeTranslation}
-use Rattle.reducer.specs.Terms.{Term, translations, sum, termLevels, scoped}
+use Rattle.pack.specs.Terms.{Term, translations, sum, termLevels, scoped}
 use Rattle.operators.specs.Algebra.{translationsFit, translationUnion, translationSum}
-use Rattle.reducer.specs.Pack.{Pack}
+use Rattle.pack.specs.Pack.{Pack}
 use Rattle.operators.specs.Limits.{translationExceeds}
 use Rattle.reducer.specs.Evaluation.{Constants, constantsOf, nothingBound, limited, sumOf, evaluate}
 use Rattle.reducer.specs.Operations.{reduceBytes, Reduced, reduce}

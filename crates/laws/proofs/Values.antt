@@ -9,7 +9,7 @@ use Rattle.translation.specs.Operations.{checkTranslation}
 use Rattle.operators.proofs.Proper.{good-back}
 use Rattle.reducer.specs.Evaluation.{constantsOf, nothingBound, evaluate}
 use Rattle.reducer.specs.Operations.{ready, work, reduceBytes}
-use Rattle.reducer.proofs.PackCodec.{pack-good}
+use Rattle.pack.proofs.PackCodec.{pack-good}
 use Rattle.reducer.proofs.Evaluated.{step-value, value-inj, GoodConstants, nothing-good, evaluate-good}
 use Rattle.laws.proofs.Reductions.{ready-value}
 

@@ -5,7 +5,7 @@ use lib.ListN.{take}
 use Rattle.fields.specs.Outcome.{lengthOf}
 use Rattle.fields.specs.Fields.{Field, field, encodeFields}
 use Rattle.fields.specs.declared.outcome.Outcome.{Outcome}
-use Rattle.reducer.specs.Terms.{Term, translations, writeTerm}
+use Rattle.pack.specs.Terms.{Term, translations, writeTerm}
 
 -- The pack of these fields with a term as its field 32 (paper 01, "Rules", on the laws of joins and sums).
 abbrev pub packed : List Field → Term translations → List ℕ

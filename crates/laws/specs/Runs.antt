@@ -15,7 +15,7 @@ use Rattle.reader.specs.Syntax.{write, tree}
 use Rattle.translation.specs.Translation.{Translation, mapped}
 use Rattle.translation.specs.TranslationFile.{translationOf}
 use Rattle.translation.specs.Operations.{Ran, runTree}
-use Rattle.reducer.specs.Terms.{Term, translations, join}
+use Rattle.pack.specs.Terms.{Term, translations, join}
 use Rattle.reducer.specs.Operations.{Reduced, reduce}
 use Rattle.laws.specs.Packed.{packed, putOut}
 

@@ -6,8 +6,8 @@ use mathlib.Core.List.{List, [], _∷_, _++_}
 use lib.ListN.{length}
 use Rattle.fields.specs.Outcome.{numberOf, lengthOf}
 use Rattle.fields.specs.Fields.{Field}
-use Rattle.reducer.specs.Terms.{Term, translations, sum, termLevels}
-use Rattle.reducer.specs.Pack.{packLimit, termLimit}
+use Rattle.pack.specs.Terms.{Term, translations, sum, termLevels}
+use Rattle.pack.specs.Pack.{packLimit, termLimit}
 use Rattle.reducer.specs.Operations.{Reduced, reduce}
 use Rattle.laws.specs.Packed.{packed, putOut}
 

@@ -24,7 +24,7 @@ use Rattle.translation.proofs.Codec.{itemWhole, GoodBody}
 use Rattle.translation.proofs.Fitting.{refuse-value}
 use Rattle.operators.specs.Algebra.{languagesFit, languageUnion, languageSum, languageWithout, translationsFit, translationUnion, translationSum, translationWithout, joinFits, joined, translationJoin, identityOf}
 use Rattle.operators.specs.Limits.{codeIsDeep, languageExceeds, translationExceeds}
-use Rattle.reducer.specs.Terms.{Sort, languages, translations, Term, constant, sourceOf, targetOf, make, join, identity, variable, without, sum, bind}
+use Rattle.pack.specs.Terms.{Sort, languages, translations, Term, constant, sourceOf, targetOf, make, join, identity, variable, without, sum, bind}
 use Rattle.reducer.specs.Evaluation.{Constants, Value, Environment, nothingBound, bound, there, exceeds, limited, sumOf, withoutOf, evaluate}
 use Rattle.operators.proofs.Proper.{Proper, good-proper, proper-good, Sound, formed-sound, GoodTranslation}
 use Rattle.operators.proofs.SumSound.{fit-languages, fit-translations, proper-union, proper-without, sound-union, sound-without}

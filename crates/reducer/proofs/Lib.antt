@@ -1,3 +1,1 @@
-pub mod TermCodec
-pub mod PackCodec
 pub mod Evaluated

@@ -14,8 +14,8 @@ use Rattle.translation.specs.Translation.{Body, Translation}
 use Rattle.translation.specs.WellFormed.{wellFormed}
 use Rattle.operators.specs.Limits.{languageExceeds, translationExceeds}
 use Rattle.operators.specs.Algebra.{languageSum, languageWithout, translationSum, translationWithout, translationJoin, identityOf}
-use Rattle.reducer.specs.Terms.{Sort, languages, translations, Term, constant, sourceOf, targetOf, make, join, identity, variable, without, sum, bind}
-use Rattle.reducer.specs.Pack.{Pack}
+use Rattle.pack.specs.Terms.{Sort, languages, translations, Term, constant, sourceOf, targetOf, make, join, identity, variable, without, sum, bind}
+use Rattle.pack.specs.Pack.{Pack}
 
 -- The languages and bodies of a pack, which a term names by number.
 pub record Constants : Type 0 where

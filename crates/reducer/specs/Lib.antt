@@ -1,4 +1,2 @@
-pub mod Terms
-pub mod Pack
 pub mod Evaluation
 pub mod Operations

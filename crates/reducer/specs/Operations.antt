@@ -8,8 +8,8 @@ use Rattle.fields.specs.Outcome.{Result, value, refused, refuseIf, _>>=_, writt
 use Rattle.fields.specs.declared.outcome.Outcome.{Outcome}
 use Rattle.fields.specs.declared.outcome.Reason.the-variants.{Lent}
 use Rattle.translation.specs.TranslationFile.{encodeTranslation}
-use Rattle.reducer.specs.Terms.{Term, translations}
-use Rattle.reducer.specs.Pack.{Pack, packOf, termOf}
+use Rattle.pack.specs.Terms.{Term, translations}
+use Rattle.pack.specs.Pack.{Pack, packOf, termOf}
 use Rattle.reducer.specs.Evaluation.{constantsOf, evaluate, nothingBound}
 
 -- What is ready to be worked out: a pack and its term.

@@ -1,1 +1,1 @@
-// Packs and terms: their definitions. The operation reduce is built on the crates below.
+// The working out of terms and the operation reduce: their definitions.

@@ -7,7 +7,7 @@ use mathlib.Core.Option.{none, some}
 use native.Mathlib.Omega.{arith}
 use lib.Dec.{eqb}
 use borrow.Author.Tests.{eqb-true}
-use Rattle.reducer.specs.Terms.{Sort, languages, translations, Term, constant, sourceOf, targetOf, make, join, identity, variable, without, sum, bind, writeTerm, termLevels, Parse, then, number, readTerm, readSign, languageSign, translationSign}
+use Rattle.pack.specs.Terms.{Sort, languages, translations, Term, constant, sourceOf, targetOf, make, join, identity, variable, without, sum, bind, writeTerm, termLevels, Parse, then, number, readTerm, readSign, languageSign, translationSign}
 
 -- A term has a level.
 pub term-level : {s : Sort} (t : Term s) → 1 ≤ termLevels t

@@ -20,7 +20,7 @@ use Rattle.language.proofs.Codec.{entryWhole, GoodLanguage, language-whole, lan
 use Rattle.translation.specs.Translation.{Body, itemKey}
 use Rattle.translation.specs.TranslationFile.{bodyOf}
 use Rattle.translation.proofs.Codec.{itemWhole, GoodBody, body-whole}
-use Rattle.reducer.specs.Pack.{Pack, Part, languagePart, bodyPart, termPart, languageIn, bodyIn, partOf, group, inGroups, asLanguage, asBody, asTerm, packWith, packIn, packInParts, packInFields, packParts, packLimit, isLanguageTag, packOf}
+use Rattle.pack.specs.Pack.{Pack, Part, languagePart, bodyPart, termPart, languageIn, bodyIn, partOf, group, inGroups, asLanguage, asBody, asTerm, packWith, packIn, packInParts, packInFields, packParts, packLimit, isLanguageTag, packOf}
 
 -- The bytes of a pack: fields, and last the term.
 abbrev pub withTerm : List Field → List ℕ → List ℕ

@@ -14,8 +14,8 @@ use Rattle.language.specs.Language.{Language, entryKey, clashes}
 use Rattle.language.specs.LanguageFile.{entriesOf, languageLimit, whole}
 use Rattle.translation.specs.Translation.{Body, itemKey}
 use Rattle.translation.specs.TranslationFile.{bodyOf}
-use Rattle.reducer.specs.Terms as Terms
-use Rattle.reducer.specs.Terms.{Sort, translations, Parse, readTerm, scoped}
+use Rattle.pack.specs.Terms as Terms
+use Rattle.pack.specs.Terms.{Sort, translations, Parse, readTerm, scoped}
 
 -- Languages and bodies, numbered from 0, and the bytes of the term.
 pub record Pack : Type 0 where

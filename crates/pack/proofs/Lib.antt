@@ -1,0 +1,2 @@
+pub mod TermCodec
+pub mod PackCodec

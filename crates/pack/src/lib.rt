@@ -1,0 +1,1 @@
+// Packs and terms: their definitions.
