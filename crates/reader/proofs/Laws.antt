@@ -153,21 +153,6 @@ module _ (f : ℕ → ℕ → Read) (s : List ℕ) (e q at : ℕ) where
     unfolding operandsFrom
     operands-broken y = rw left (cc)
 
--- A list of one kind.
-pub one-kind : (k x : ℕ) → x < 1 → k < 32 → (x < length (k ∷ [])) × (getD (k ∷ []) x 0 < 32)
-one-kind k zero h j = (omega arith, j)
-one-kind k (suc x) h j = absurd (omega arith)
-
--- One operand alone.
-pub one-operand : (f : ℕ → ℕ → Read) (k at : ℕ) → operandsFrom f (k ∷ []) (1 - 0) 0 at ≡ f k at
-unfolding operandsFrom
-one-operand f k at = go (f k at)
-  where
-    go : (r : Read) → (elim r [ End e ↦ End e | Deep ↦ Deep | Broken ↦ Broken ]) ≡ r
-    go (End e) = refl
-    go Deep = refl
-    go Broken = refl
-
 -- read_at
 module _ (x : Syntax) (s index arguments b : List ℕ) (n k at : ℕ) where
   pub read-deep : n ≡ 0 → Deep ≡ readAt x s index arguments b n k at
@@ -198,6 +183,10 @@ pub place-code : {x : Syntax} (index : List ℕ) (k : ℕ) → x ≡ Code → 0 
 unfolding classPlace
 place-code index k h = cc
 
+pub class-none : {x : Syntax} (index : List ℕ) (k : ℕ) → x ≡ Tree → classPlace x index k ≡ 0 → getD index k 0 ≡ 0
+unfolding classPlace
+class-none index k h e = cc
+
 -- A token of a tree, read by the place of its class.
 in-tree : (x : Syntax) (index : List ℕ) (k : ℕ) → (classPlace x index k ≡ 0 → ⊥) → (x ≡ Tree) × (classPlace x index k ≡ getD index k 0)
 unfolding classPlace
@@ -210,6 +199,10 @@ module _ (x : Syntax) (s index arguments b : List ℕ) (n k at : ℕ) where
   read-token {place} pos e h t =
       let w = in-tree x index k (λ z. h (e ∙ z)) in
       read-leaf x s index arguments b n k at pos (node-tree s index arguments k b at (w .0) (tree-token s index k b at refl (e ∙ w .1) h t)) refl
+
+-- What is known of one of two results.
+pub carried : {r u v : Read} (n : ℕ) → r ≡ u → (u ≡ v) × EndsBy n u → (r ≡ v) × EndsBy n r
+carried n e h = rw e h
 
 -- What is known of a result, once its case is known.
 pub end-in : {n e : ℕ} (r : Read) → r ≡ End e → EndsBy n r → e ≤ n

@@ -65,7 +65,7 @@ pub fn token(language: &[u8], place: usize, bytes: &[u8], at: usize) -> Read
 }
 
 // A production name of the kind, whose operands follow.
-fn name(language: &[u8], index: &[u16], kind: u8, bytes: &[u8], at: usize) -> Node
+pub fn name(language: &[u8], index: &[u16], kind: u8, bytes: &[u8], at: usize) -> Node
     requires { ⌜ Ready (now index) (now language) kind (now bytes) at ⌝ }
     ensures { λ r. ⌜ (r ≡ nameAt (now (language .entry)) (now (index .entry)) kind (now (bytes .entry)) at) × NodeIn (now (language .entry)) (now (bytes .entry)) r ⌝ }
 {
@@ -119,7 +119,7 @@ fn tree_node(language: &[u8], index: &[u16], kind: u8, bytes: &[u8], at: usize) 
 }
 
 // A node of a code: its sign says what follows.
-fn code_node(
+pub fn code_node(
     language: &[u8],
     index: &[u16],
     arguments: &[u8],

@@ -2,6 +2,8 @@
 use crate::node::Node;
 use crate::node::Read;
 use crate::node::Syntax;
+use crate::node::code_node;
+use crate::node::name;
 use crate::node::node_at;
 use crate::node::place_at;
 use crate::node::token;
@@ -12,7 +14,7 @@ ghost use mathlib.Core.List.{List};
 ghost use lib.ListN.{length, getD, drop};
 ghost use Rattle.language.specs.Language.{Language};
 ghost use Rattle.reader.specs.Syntax.{read as readCode};
-ghost use Rattle.reader.specs.Inner.Positions.{classPlace, operandsFrom, readAt, KindsIn, EndsBy, restAt, restOf, syntaxOf};
+ghost use Rattle.reader.specs.Inner.Positions.{classPlace, nodeAt, operandsFrom, readAt, NodeIn, KindsIn, EndsBy, restAt, restOf, syntaxOf};
 ghost use Rattle.reader.specs.Inner.Index.{Sound, Ready, Indexed};
 
 // The place of the class that a token of the kind is read by: 0 in a code, where a sign stands before it.
@@ -24,6 +26,105 @@ fn class_place(syntax: Syntax, index: &[u16], kind: u8) -> usize
         Syntax::Tree => place_at(index, wide(kind)),
         Syntax::Code => 0,
     }
+}
+
+// What stands at a position where no token of a class is read: a name in a tree, and in a code what its sign says.
+fn inner_node(
+    syntax: Syntax,
+    language: &[u8],
+    index: &[u16],
+    arguments: &[u8],
+    kind: u8,
+    bytes: &[u8],
+    at: usize,
+) -> Node
+    requires { ⌜ Ready (now index) (now language) kind (now bytes) at × (classPlace syntax (now index) kind ≡ 0) ⌝ }
+    ensures { λ r. ⌜ (r ≡ nodeAt syntax (now (language .entry)) (now (index .entry)) (now (arguments .entry)) kind (now (bytes .entry)) at) × NodeIn (now (language .entry)) (now (bytes .entry)) r ⌝ }
+{
+    match syntax {
+        Syntax::Tree => name(language, index, kind, bytes, at),
+        Syntax::Code => code_node(language, index, arguments, kind, bytes, at),
+    }
+}
+
+// A code of the kind at a position where no token of a class is read, with so many levels left.
+fn read_node(
+    syntax: Syntax,
+    language: &[u8],
+    index: &[u16],
+    arguments: &[u8],
+    kind: u8,
+    bytes: &[u8],
+    at: usize,
+    levels: usize,
+) -> Read
+    requires { ⌜ Ready (now index) (now language) kind (now bytes) at × (classPlace syntax (now index) kind ≡ 0) × (0 < levels) ⌝ }
+    ensures { λ r. ⌜ (r ≡ readAt syntax (now (language .entry)) (now (index .entry)) (now (arguments .entry)) (now (bytes .entry)) levels kind at) × EndsBy (length (now (bytes .entry))) r ⌝ }
+{
+    match inner_node(syntax, language, index, arguments, kind, bytes, at) {
+        Node::Leaf(r) => r,
+        Node::Operands(q, stop, to) => {
+            if stop <= q {
+                return Read::End(to);
+            }
+            operands(
+                syntax,
+                language,
+                index,
+                arguments,
+                q,
+                stop,
+                bytes,
+                to,
+                levels - 1,
+            )
+        }
+    }
+}
+
+// Codes of the kinds that stand in the language from `from` up to `stop`, one after the other: tokens of a class are
+// read here, other codes one call deeper.
+fn operands(
+    syntax: Syntax,
+    language: &[u8],
+    index: &[u16],
+    arguments: &[u8],
+    from: usize,
+    stop: usize,
+    bytes: &[u8],
+    at: usize,
+    levels: usize,
+) -> Read
+    requires { ⌜ Sound (now index) (now language) × KindsIn (now language) from stop × (at ≤ length (now bytes)) ⌝ }
+    ensures { λ r. ⌜ (r ≡ operandsFrom (readAt syntax (now (language .entry)) (now (index .entry)) (now (arguments .entry)) (now (bytes .entry)) levels) (now (language .entry)) (stop - from) from at) × EndsBy (length (now (bytes .entry))) r ⌝ }
+{
+    let mut q = from;
+    let mut to = at;
+    while q < stop {
+        if levels == 0 {
+            return Read::Deep;
+        }
+        let kind = language[q];
+        let place = class_place(syntax, index, kind);
+        let read = if place != 0 {
+            token(language, place, bytes, to)
+        } else {
+            read_node(syntax, language, index, arguments, kind, bytes, to, levels)
+        };
+        match read {
+            Read::End(e) => {
+                to = e;
+            }
+            Read::Deep => {
+                return Read::Deep;
+            }
+            Read::Broken => {
+                return Read::Broken;
+            }
+        }
+        q += 1;
+    }
+    Read::End(to)
 }
 
 // A code of the kind at a position, with so many levels left.
@@ -43,66 +144,20 @@ pub fn read_at(
     if levels == 0 {
         return Read::Deep;
     }
-    let place = class_place(syntax, index, kind);
-    if place != 0 {
-        return token(language, place, bytes, at);
-    }
     match node_at(syntax, language, index, arguments, kind, bytes, at) {
         Node::Leaf(r) => r,
-        Node::Operands(q, stop, to) => {
-            if stop <= q {
-                return Read::End(to);
-            }
-            operands(
-                syntax,
-                language,
-                index,
-                arguments,
-                language,
-                q,
-                stop,
-                bytes,
-                to,
-                levels - 1,
-            )
-        }
+        Node::Operands(q, stop, to) => operands(
+            syntax,
+            language,
+            index,
+            arguments,
+            q,
+            stop,
+            bytes,
+            to,
+            levels - 1,
+        ),
     }
-}
-
-// Codes of the kinds that stand in `kinds` from `from` up to `stop`, one after the other.
-fn operands(
-    syntax: Syntax,
-    language: &[u8],
-    index: &[u16],
-    arguments: &[u8],
-    kinds: &[u8],
-    from: usize,
-    stop: usize,
-    bytes: &[u8],
-    at: usize,
-    levels: usize,
-) -> Read
-    requires { ⌜ Sound (now index) (now language) × KindsIn (now kinds) from stop × (at ≤ length (now bytes)) ⌝ }
-    ensures { λ r. ⌜ (r ≡ operandsFrom (readAt syntax (now (language .entry)) (now (index .entry)) (now (arguments .entry)) (now (bytes .entry)) levels) (now (kinds .entry)) (stop - from) from at) × EndsBy (length (now (bytes .entry))) r ⌝ }
-{
-    let mut q = from;
-    let mut to = at;
-    while q < stop {
-        let kind = kinds[q];
-        match read_at(syntax, language, index, arguments, kind, bytes, to, levels) {
-            Read::End(e) => {
-                to = e;
-            }
-            Read::Deep => {
-                return Read::Deep;
-            }
-            Read::Broken => {
-                return Read::Broken;
-            }
-        }
-        q += 1;
-    }
-    Read::End(to)
 }
 
 // A code of the kind at a position, of the language that the index is of.
@@ -121,17 +176,5 @@ pub fn read(
         → restAt (now (bytes .entry)) r ≡ restOf (readCode (syntaxOf syntax) l (now (arguments .entry)) levels kind (drop at (now (bytes .entry))))) ⌝ }
     ensures within { λ r. ⌜ EndsBy (length (now (bytes .entry))) r ⌝ }
 {
-    let kinds = [kind];
-    operands(
-        syntax,
-        language,
-        index,
-        arguments,
-        &kinds,
-        0,
-        1,
-        bytes,
-        at,
-        levels,
-    )
+    read_at(syntax, language, index, arguments, kind, bytes, at, levels)
 }
