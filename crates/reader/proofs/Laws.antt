@@ -6,8 +6,9 @@ use mathlib.Core.Bool.{Bool, true, false}
 use native.Mathlib.Omega.{arith}
 use lib.ListN.{length, getD}
 use lib.Dec.{ltb, leb, eqb}
-use borrow.Author.Tests.{lt-ltb, le-ltb, le-leb, lt-leb, eq-eqb, ne-eqb}
+use borrow.Author.Tests.{ltb-true, ltb-false, lt-ltb, le-ltb, le-leb, lt-leb, eq-eqb, ne-eqb}
 use Rattle.fields.specs.Fields.{pairAt}
+use Rattle.fields.proofs.Truth.{by-test}
 use Rattle.language.specs.Language.{productionKey}
 use Rattle.reader.specs.declared.node.Syntax.{Syntax}
 use Rattle.reader.specs.declared.node.Syntax.the-variants.{Tree, Code}
@@ -152,6 +153,24 @@ module _ (f : ℕ → ℕ → Read) (s : List ℕ) (e q at : ℕ) where
     pub operands-broken : r ≡ Broken → operandsFrom f s (e - q) q at ≡ Broken
     unfolding operandsFrom
     operands-broken y = rw left (cc)
+
+-- The last operand alone.
+pub operands-last : (f : ℕ → ℕ → Read) (s : List ℕ) (e q at : ℕ) {r : Read} → q + 1 ≡ e → r ≡ f (getD s q 0) at
+    → r ≡ operandsFrom f s (e - q) q at
+unfolding operandsFrom
+operands-last f s e q at h y = let z : e - q ≡ 1 = omega arith in rw z (y ∙ go (f (getD s q 0) at))
+  where
+    go : (r : Read) → r ≡ (elim r [ End e ↦ End e | Deep ↦ Deep | Broken ↦ Broken ])
+    go (End e) = refl
+    go Deep = refl
+    go Broken = refl
+
+-- Kinds in a row are no more than the language has bytes.
+pub row-short : (s : List ℕ) (q e : ℕ) → length s ≤ 1024 → KindsIn s q e → e - q ≤ 1024
+row-short s q e h k =
+    by-test (ltb q e)
+    (λ t. let l = ltb-true q e t in let b = k (e - 1) (omega arith) (omega arith) in omega (arith, b .0))
+    (λ t. let l = ltb-false q e t in omega arith)
 
 -- read_at
 module _ (x : Syntax) (s index arguments b : List ℕ) (n k at : ℕ) where

@@ -82,8 +82,8 @@ fn read_node(
     }
 }
 
-// Codes of the kinds that stand in the language from `from` up to `stop`, one after the other: tokens of a class are
-// read here, other codes one call deeper.
+// Codes of the kinds that stand in the language from `from` up to `stop`, one after the other. Tokens of a class are
+// read here, other codes one call deeper; behind the last one nothing is left to do, so its operands are read here.
 fn operands(
     syntax: Syntax,
     language: &[u8],
@@ -99,30 +99,46 @@ fn operands(
     ensures { λ r. ⌜ (r ≡ operandsFrom (readAt syntax (now (language .entry)) (now (index .entry)) (now (arguments .entry)) (now (bytes .entry)) levels) (now (language .entry)) (stop - from) from at) × EndsBy (length (now (bytes .entry))) r ⌝ }
 {
     let mut q = from;
+    let mut end = stop;
     let mut to = at;
-    while q < stop {
-        if levels == 0 {
+    let mut left = levels;
+    while q < end {
+        if left == 0 {
             return Read::Deep;
         }
         let kind = language[q];
         let place = class_place(syntax, index, kind);
-        let read = if place != 0 {
-            token(language, place, bytes, to)
+        if place == 0 && q + 1 == end {
+            match inner_node(syntax, language, index, arguments, kind, bytes, to) {
+                Node::Leaf(r) => {
+                    return r;
+                }
+                Node::Operands(first, last, start) => {
+                    q = first;
+                    end = last;
+                    to = start;
+                    left -= 1;
+                }
+            }
         } else {
-            read_node(syntax, language, index, arguments, kind, bytes, to, levels)
-        };
-        match read {
-            Read::End(e) => {
-                to = e;
-            }
-            Read::Deep => {
-                return Read::Deep;
-            }
-            Read::Broken => {
-                return Read::Broken;
+            let read = if place != 0 {
+                token(language, place, bytes, to)
+            } else {
+                read_node(syntax, language, index, arguments, kind, bytes, to, left)
+            };
+            match read {
+                Read::End(e) => {
+                    to = e;
+                    q += 1;
+                }
+                Read::Deep => {
+                    return Read::Deep;
+                }
+                Read::Broken => {
+                    return Read::Broken;
+                }
             }
         }
-        q += 1;
     }
     Read::End(to)
 }

@@ -3,9 +3,10 @@ use mathlib.Core.Path.{_≡_, refl, sym, _∙_}
 use mathlib.Core.Logic.{⊎-elim}
 use native.Mathlib.Omega.{arith}
 use lib.ListN.{length}
+use borrow.Author.Tests.{eqb-true}
 use borrow.Author.Needs.{needs}
 use Rattle.reader.specs.Inner.Positions.{operandsFrom, readAt, KindsIn}
-use Rattle.reader.proofs.Laws.{read-deep, read-token, read-leaf, read-operands, operands-done, operands-next, operands-deep, operands-broken, carried, end-in, leaf-in, operands-in, class-at}
+use Rattle.reader.proofs.Laws.{read-deep, read-token, read-leaf, read-operands, operands-done, operands-next, operands-last, operands-deep, operands-broken, row-short, carried, end-in, leaf-in, operands-in, class-at}
 use borrow.Fn.Kinds.{In}
 use borrow.Fn.PlainCycle.{Measures, is, falls, and}
 use Rattle.reader.proofs.read.operands.Reads as operands
@@ -41,258 +42,86 @@ read-node-below t =
     and 4 read-node-kinds.ps (falls 4 read-node-kinds.ps _<_ μ-read-node t) read-node.Pre
 
 abbrev operands-Inv-loop : operands-lts.InvT-loop
-operands-Inv-loop syntax language index arguments from stop bytes at levels q₀ to₀ q to = 
-    (to ≤ length bytes) × KindsIn language q stop × (operandsFrom (readAt syntax language index arguments bytes levels) language (stop - q) q to ≡ operandsFrom (readAt syntax language index arguments bytes levels) language (stop - from) from at)
+operands-Inv-loop syntax language index arguments from stop bytes at levels q₀ end₀ to₀ left₀ q end to left =
+    (to ≤ length bytes) × (left ≤ levels) × KindsIn language q end × (operandsFrom (readAt syntax language index arguments bytes left) language (end - q) q to ≡ operandsFrom (readAt syntax language index arguments bytes levels) language (stop - from) from at)
 
 abbrev operands-μ-loop : operands-lts.MeasureT-loop
-operands-μ-loop syntax language index arguments from stop bytes at levels q₀ to₀ q to = stop - q
+operands-μ-loop syntax language index arguments from stop bytes at levels q₀ end₀ to₀ left₀ q end to left = 1025 * left + (end - q)
 
--- src/read.rt:103:5
-operands-loop-holds : (t : ℕ) → operands-lts.Need-loop-holds (
-  class-place-reads.Asked,
-  class-place-reads.Learnt,
-  token-reads.Asked,
-  token-reads.Learnt,
-  read-node-below t,
-  read-node.Post,
-) (operands-at t) operands.Post operands-Inv-loop operands-μ-loop
-operands-loop-holds t c = let p = c .before .before .before .before .pre .1 in (p .2, p .1, refl)
+abbrev operands-calls : ℕ → operands-lts.Claims
+operands-calls t = (class-place-reads.Asked, class-place-reads.Learnt, inner-node-reads.Asked, inner-node-reads.Learnt, token-reads.Asked, token-reads.Learnt, read-node-below t, read-node.Post)
 
--- src/read.rt:105:13
-operands-returns : (t : ℕ) → operands-lts.Need-returns (
-  class-place-reads.Asked,
-  class-place-reads.Learnt,
-  token-reads.Asked,
-  token-reads.Learnt,
-  read-node-below t,
-  read-node.Post,
-) (operands-at t) operands.Post operands-Inv-loop operands-μ-loop
-operands-returns t c = (sym (operands-deep _ _ _ _ _ (c .before .loop-test .taken) (read-deep _ _ _ _ _ _ _ _ (c .if1 .taken)) refl) ∙ c .before .before .loop .inv .2, tt)
+abbrev read-node-calls : ℕ → read-node-lts.Claims
+read-node-calls t = (inner-node-reads.Asked, inner-node-reads.Learnt, operands-below t, operands.Post)
 
--- src/read.rt:107:20
-operands-shared-slice-read-kind : (t : ℕ) → operands-lts.Need-shared-slice-read-kind (
-  class-place-reads.Asked,
-  class-place-reads.Learnt,
-  token-reads.Asked,
-  token-reads.Learnt,
-  read-node-below t,
-  read-node.Post,
-) (operands-at t) operands.Post operands-Inv-loop operands-μ-loop
-operands-shared-slice-read-kind t c = let b = c .before .before .before .loop .inv .1 _ (omega arith) (c .before .before .loop-test .taken) in omega arith
+operands-loop-holds : (t : ℕ) → operands-lts.Need-loop-holds (operands-calls t) (operands-at t) operands.Post operands-Inv-loop operands-μ-loop
+operands-loop-holds t c = let p = c .before .before .before .before .pre .1 in (p .2, omega arith, p .1, refl)
 
--- src/read.rt:108:13
-operands-class-place-requires : (t : ℕ) → operands-lts.Need-class-place-requires (
-  class-place-reads.Asked,
-  class-place-reads.Learnt,
-  token-reads.Asked,
-  token-reads.Learnt,
-  read-node-below t,
-  read-node.Post,
-) (operands-at t) operands.Post operands-Inv-loop operands-μ-loop
-operands-class-place-requires t c κs = let b = c .before .before .before .loop .inv .1 _ (omega arith) (c .before .before .loop-test .taken) in let z = c .before .before .before .before .before .before .before .before .pre .1 .0 in omega (arith, z .long, b .1)
+operands-returns : (t : ℕ) → operands-lts.Need-returns (operands-calls t) (operands-at t) operands.Post operands-Inv-loop operands-μ-loop
+operands-returns t c = (sym (operands-deep _ _ _ _ _ (c .before .loop-test .taken) (read-deep _ _ _ _ _ _ _ _ (c .if1 .taken)) refl) ∙ c .before .before .loop .inv .3, tt)
 
--- src/read.rt:110:13
-operands-token-requires : (t : ℕ) → operands-lts.Need-token-requires (
-  class-place-reads.Asked,
-  class-place-reads.Learnt,
-  token-reads.Asked,
-  token-reads.Learnt,
-  read-node-below t,
-  read-node.Post,
-) (operands-at t) operands.Post operands-Inv-loop operands-μ-loop
-operands-token-requires t c κs = let b = c .before .before .before .before .before .loop .inv .1 _ (omega arith) (c .before .before .before .before .loop-test .taken) in (c .before .before .before .before .before .loop .inv .0, λ h. class-at _ _ _ (c .before .before .before .before .before .before .before .before .before .before .pre .1 .0) (b .1) (c .before .class-place .ensures) (c .if2 .taken))
+operands-shared-slice-read-kind : (t : ℕ) → operands-lts.Need-shared-slice-read-kind (operands-calls t) (operands-at t) operands.Post operands-Inv-loop operands-μ-loop
+operands-shared-slice-read-kind t c = let b = c .before .before .before .loop .inv .2 _ (omega arith) (c .before .before .loop-test .taken) in omega arith
 
--- src/read.rt:112:13
-operands-read-node-requires : (t : ℕ) → operands-lts.Need-read-node-requires (
-  class-place-reads.Asked,
-  class-place-reads.Learnt,
-  token-reads.Asked,
-  token-reads.Learnt,
-  read-node-below t,
-  read-node.Post,
-) (operands-at t) operands.Post operands-Inv-loop operands-μ-loop
-operands-read-node-requires t c κs = let b = c .before .before .before .before .before .loop .inv .1 _ (omega arith) (c .before .before .before .before .loop-test .taken) in (omega arith, (record { sound = c .before .before .before .before .before .before .before .before .before .before .pre .1 .0; kind = b .1; inside = c .before .before .before .before .before .loop .inv .0 }, sym (c .before .class-place .ensures) ∙ c .if2 .left, omega (arith, c .before .before .before .if1 .left)))
+operands-class-place-requires : (t : ℕ) → operands-lts.Need-class-place-requires (operands-calls t) (operands-at t) operands.Post operands-Inv-loop operands-μ-loop
+operands-class-place-requires t c κs = let b = c .before .before .before .loop .inv .2 _ (omega arith) (c .before .before .loop-test .taken) in let z = c .before .before .before .before .before .before .before .before .pre .1 .0 in omega (arith, z .long, b .1)
 
--- src/read.rt:115:23
-operands-enum-known-read : (t : ℕ) → operands-lts.Need-enum-known-read (
-  class-place-reads.Asked,
-  class-place-reads.Learnt,
-  token-reads.Asked,
-  token-reads.Learnt,
-  read-node-below t,
-  read-node.Post,
-) (operands-at t) operands.Post operands-Inv-loop operands-μ-loop
-operands-enum-known-read t c = search needs
+operands-add-if3 : (t : ℕ) → operands-lts.Need-add-if3 (operands-calls t) (operands-at t) operands.Post operands-Inv-loop operands-μ-loop
+operands-add-if3 t c = let b = c .before .before .before .before .before .loop .inv .2 _ (omega arith) (c .before .before .before .before .loop-test .taken) in let z = c .before .before .before .before .before .before .before .before .before .before .pre .1 .0 in omega (arith, z .short, b .0)
 
--- src/read.rt:119:17
-operands-enum-told : (t : ℕ) → operands-lts.Need-enum-told (
-  class-place-reads.Asked,
-  class-place-reads.Learnt,
-  token-reads.Asked,
-  token-reads.Learnt,
-  read-node-below t,
-  read-node.Post,
-) (operands-at t) operands.Post operands-Inv-loop operands-μ-loop
-operands-enum-told t c = search needs
+operands-inner-node-requires : (t : ℕ) → operands-lts.Need-inner-node-requires (operands-calls t) (operands-at t) operands.Post operands-Inv-loop operands-μ-loop
+operands-inner-node-requires t c κs = let b = c .before .before .before .before .before .before .loop .inv .2 _ (omega arith) (c .before .before .before .before .before .loop-test .taken) in (record { sound = c .before .before .before .before .before .before .before .before .before .before .before .pre .1 .0; kind = b .1; inside = c .before .before .before .before .before .before .loop .inv .0 }, sym (c .before .before .class-place .ensures) ∙ c .before .if2 .taken)
 
--- src/read.rt:119:17
-operands-returns-2 : (t : ℕ) → operands-lts.Need-returns-2 (
-  class-place-reads.Asked,
-  class-place-reads.Learnt,
-  token-reads.Asked,
-  token-reads.Learnt,
-  read-node-below t,
-  read-node.Post,
-) (operands-at t) operands.Post operands-Inv-loop operands-μ-loop
-operands-returns-2 t c = let w = ⊎-elim (λ a. carried _ (a .2) (read-token _ _ _ _ _ _ _ _ (c .before .before .before .before .before .if1 .left) (c .before .before .before .class-place .ensures) (a .0 .taken) (a .1 .ensures .0), a .1 .ensures .1)) (λ a. carried _ (a .2) (a .1 .ensures)) (c .before .before .if2 .came) in (sym (operands-deep _ _ _ _ _ (c .before .before .before .before .before .before .loop-test .taken) (w .0) (c .enum-told .given .1)) ∙ c .before .before .before .before .before .before .before .loop .inv .2, tt)
+operands-returns-2 : (t : ℕ) → operands-lts.Need-returns-2 (operands-calls t) (operands-at t) operands.Post operands-Inv-loop operands-μ-loop
+operands-returns-2 t c = (operands-last _ _ _ _ _ (eqb-true _ _ (c .before .before .before .before .if3 .taken)) (read-leaf _ _ _ _ _ _ _ _ (c .before .before .before .before .before .before .before .before .if1 .left) (c .before .before .before .inner-node .ensures .0) (c .before .r .given .1)) ∙ c .before .before .before .before .before .before .before .before .before .before .loop .inv .3, leaf-in _ _ _ _ (c .before .r .given .1) (c .before .before .before .inner-node .ensures .1))
 
--- src/read.rt:122:17
-operands-enum-told-2 : (t : ℕ) → operands-lts.Need-enum-told-2 (
-  class-place-reads.Asked,
-  class-place-reads.Learnt,
-  token-reads.Asked,
-  token-reads.Learnt,
-  read-node-below t,
-  read-node.Post,
-) (operands-at t) operands.Post operands-Inv-loop operands-μ-loop
-operands-enum-told-2 t c = search needs
+operands-loop-less : (t : ℕ) → operands-lts.Need-loop-less (operands-calls t) (operands-at t) operands.Post operands-Inv-loop operands-μ-loop
+operands-loop-less t c = let b = operands-in _ _ _ _ _ _ (c .before .first .given .1) (c .before .before .before .inner-node .ensures .1) in let z = c .before .before .before .before .before .before .before .before .before .before .before .before .before .before .before .pre .1 .0 in omega (arith, row-short (c .before .before .before .before .before .before .before .before .before .before .before .before .before .before .before .args .language .now) _ _ (z .short) (b .1), c .before .before .before .before .before .before .before .before .if1 .left)
 
--- src/read.rt:122:17
-operands-returns-3 : (t : ℕ) → operands-lts.Need-returns-3 (
-  class-place-reads.Asked,
-  class-place-reads.Learnt,
-  token-reads.Asked,
-  token-reads.Learnt,
-  read-node-below t,
-  read-node.Post,
-) (operands-at t) operands.Post operands-Inv-loop operands-μ-loop
-operands-returns-3 t c = let w = ⊎-elim (λ a. carried _ (a .2) (read-token _ _ _ _ _ _ _ _ (c .before .before .before .before .before .if1 .left) (c .before .before .before .class-place .ensures) (a .0 .taken) (a .1 .ensures .0), a .1 .ensures .1)) (λ a. carried _ (a .2) (a .1 .ensures)) (c .before .before .if2 .came) in (sym (operands-broken _ _ _ _ _ (c .before .before .before .before .before .before .loop-test .taken) (w .0) (c .enum-told2 .given .1)) ∙ c .before .before .before .before .before .before .before .loop .inv .2, tt)
+operands-loop-again : (t : ℕ) → operands-lts.Need-loop-again (operands-calls t) (operands-at t) operands.Post operands-Inv-loop operands-μ-loop
+operands-loop-again t c = let b = operands-in _ _ _ _ _ _ (c .before .first .given .1) (c .before .before .before .inner-node .ensures .1) in (b .0, omega arith, b .1, operands-last _ _ _ _ _ (eqb-true _ _ (c .before .before .before .before .if3 .taken)) (read-operands _ _ _ _ _ _ _ _ (c .before .before .before .before .before .before .before .before .if1 .left) (c .before .before .before .inner-node .ensures .0) (c .before .first .given .1)) ∙ c .before .before .before .before .before .before .before .before .before .before .loop .inv .3)
 
--- src/read.rt:125:9
-operands-add-q : (t : ℕ) → operands-lts.Need-add-q (
-  class-place-reads.Asked,
-  class-place-reads.Learnt,
-  token-reads.Asked,
-  token-reads.Learnt,
-  read-node-below t,
-  read-node.Post,
-) (operands-at t) operands.Post operands-Inv-loop operands-μ-loop
-operands-add-q t c = search needs
+operands-token-requires : (t : ℕ) → operands-lts.Need-token-requires (operands-calls t) (operands-at t) operands.Post operands-Inv-loop operands-μ-loop
+operands-token-requires t c κs = let b = c .before .before .before .before .before .before .loop .inv .2 _ (omega arith) (c .before .before .before .before .before .loop-test .taken) in (c .before .before .before .before .before .before .loop .inv .0, λ h. class-at _ _ _ (c .before .before .before .before .before .before .before .before .before .before .before .pre .1 .0) (b .1) (c .before .before .class-place .ensures) (c .if4 .taken))
 
--- src/read.rt:103:5
-operands-loop-less : (t : ℕ) → operands-lts.Need-loop-less (
-  class-place-reads.Asked,
-  class-place-reads.Learnt,
-  token-reads.Asked,
-  token-reads.Learnt,
-  read-node-below t,
-  read-node.Post,
-) (operands-at t) operands.Post operands-Inv-loop operands-μ-loop
-operands-loop-less t c = search needs
+operands-read-node-requires : (t : ℕ) → operands-lts.Need-read-node-requires (operands-calls t) (operands-at t) operands.Post operands-Inv-loop operands-μ-loop
+operands-read-node-requires t c κs = let b = c .before .before .before .before .before .before .loop .inv .2 _ (omega arith) (c .before .before .before .before .before .loop-test .taken) in (omega (arith, c .before .before .before .before .before .before .loop .inv .1), (record { sound = c .before .before .before .before .before .before .before .before .before .before .before .pre .1 .0; kind = b .1; inside = c .before .before .before .before .before .before .loop .inv .0 }, sym (c .before .before .class-place .ensures) ∙ c .if4 .left, omega (arith, c .before .before .before .before .if1 .left)))
 
--- src/read.rt:103:5
-operands-loop-again : (t : ℕ) → operands-lts.Need-loop-again (
-  class-place-reads.Asked,
-  class-place-reads.Learnt,
-  token-reads.Asked,
-  token-reads.Learnt,
-  read-node-below t,
-  read-node.Post,
-) (operands-at t) operands.Post operands-Inv-loop operands-μ-loop
-operands-loop-again t c = let w = ⊎-elim (λ a. carried _ (a .2) (read-token _ _ _ _ _ _ _ _ (c .before .before .before .before .before .before .if1 .left) (c .before .before .before .before .class-place .ensures) (a .0 .taken) (a .1 .ensures .0), a .1 .ensures .1)) (λ a. carried _ (a .2) (a .1 .ensures)) (c .before .before .before .if2 .came) in (end-in _ (c .before .read .given .1) (w .1), (λ x i j. c .before .before .before .before .before .before .before .before .loop .inv .1 x (omega arith) j), sym (operands-next _ _ _ _ _ (c .before .before .before .before .before .before .before .loop-test .taken) (w .0) (c .before .read .given .1)) ∙ c .before .before .before .before .before .before .before .before .loop .inv .2)
+operands-add-q : (t : ℕ) → operands-lts.Need-add-q (operands-calls t) (operands-at t) operands.Post operands-Inv-loop operands-μ-loop
+operands-add-q t c = let b = c .before .before .before .before .before .before .before .before .before .loop .inv .2 _ (omega arith) (c .before .before .before .before .before .before .before .before .loop-test .taken) in let z = c .before .before .before .before .before .before .before .before .before .before .before .before .before .before .pre .1 .0 in omega (arith, z .short, b .0)
 
--- src/read.rt:87:1
-operands-returns-4 : (t : ℕ) → operands-lts.Need-returns-4 (
-  class-place-reads.Asked,
-  class-place-reads.Learnt,
-  token-reads.Asked,
-  token-reads.Learnt,
-  read-node-below t,
-  read-node.Post,
-) (operands-at t) operands.Post operands-Inv-loop operands-μ-loop
-operands-returns-4 t c = (sym (operands-done _ _ _ _ _ (c .loop-test .left)) ∙ c .before .loop .inv .2, c .before .loop .inv .0)
+operands-loop-less-2 : (t : ℕ) → operands-lts.Need-loop-less-2 (operands-calls t) (operands-at t) operands.Post operands-Inv-loop operands-μ-loop
+operands-loop-less-2 t c = let t = c .before .before .before .before .before .before .before .before .loop-test .taken in omega arith
 
--- src/read.rt:64:11
-read-node-inner-node-requires : (t : ℕ) → read-node-lts.Need-inner-node-requires (
-  inner-node-reads.Asked,
-  inner-node-reads.Learnt,
-  operands-below t,
-  operands.Post,
-) (read-node-at t) read-node.Post
+operands-loop-again-2 : (t : ℕ) → operands-lts.Need-loop-again-2 (operands-calls t) (operands-at t) operands.Post operands-Inv-loop operands-μ-loop
+operands-loop-again-2 t c = let w = ⊎-elim (λ a. carried _ (a .2) (read-token _ _ _ _ _ _ _ _ (c .before .before .before .before .before .before .before .if1 .left) (c .before .before .before .before .before .class-place .ensures) (a .0 .taken) (a .1 .ensures .0), a .1 .ensures .1)) (λ a. carried _ (a .2) (a .1 .ensures)) (c .before .before .before .if4 .came) in (end-in _ (c .before .read .given .1) (w .1), c .before .before .before .before .before .before .before .before .before .loop .inv .1, (λ x i j. c .before .before .before .before .before .before .before .before .before .loop .inv .2 x (omega arith) j), sym (operands-next _ _ _ _ _ (c .before .before .before .before .before .before .before .before .loop-test .taken) (w .0) (c .before .read .given .1)) ∙ c .before .before .before .before .before .before .before .before .before .loop .inv .3)
+
+operands-returns-3 : (t : ℕ) → operands-lts.Need-returns-3 (operands-calls t) (operands-at t) operands.Post operands-Inv-loop operands-μ-loop
+operands-returns-3 t c = let w = ⊎-elim (λ a. carried _ (a .2) (read-token _ _ _ _ _ _ _ _ (c .before .before .before .before .before .before .if1 .left) (c .before .before .before .before .class-place .ensures) (a .0 .taken) (a .1 .ensures .0), a .1 .ensures .1)) (λ a. carried _ (a .2) (a .1 .ensures)) (c .before .before .if4 .came) in (sym (operands-deep _ _ _ _ _ (c .before .before .before .before .before .before .before .loop-test .taken) (w .0) (c .enum-told .given .1)) ∙ c .before .before .before .before .before .before .before .before .loop .inv .3, tt)
+
+operands-returns-4 : (t : ℕ) → operands-lts.Need-returns-4 (operands-calls t) (operands-at t) operands.Post operands-Inv-loop operands-μ-loop
+operands-returns-4 t c = let w = ⊎-elim (λ a. carried _ (a .2) (read-token _ _ _ _ _ _ _ _ (c .before .before .before .before .before .before .if1 .left) (c .before .before .before .before .class-place .ensures) (a .0 .taken) (a .1 .ensures .0), a .1 .ensures .1)) (λ a. carried _ (a .2) (a .1 .ensures)) (c .before .before .if4 .came) in (sym (operands-broken _ _ _ _ _ (c .before .before .before .before .before .before .before .loop-test .taken) (w .0) (c .enum-told2 .given .1)) ∙ c .before .before .before .before .before .before .before .before .loop .inv .3, tt)
+
+operands-returns-5 : (t : ℕ) → operands-lts.Need-returns-5 (operands-calls t) (operands-at t) operands.Post operands-Inv-loop operands-μ-loop
+operands-returns-5 t c = (sym (operands-done _ _ _ _ _ (c .loop-test .left)) ∙ c .before .loop .inv .3, c .before .loop .inv .0)
+
+read-node-inner-node-requires : (t : ℕ) → read-node-lts.Need-inner-node-requires (read-node-calls t) (read-node-at t) read-node.Post
 read-node-inner-node-requires t c κs = (c .before .before .before .before .pre .1 .0, c .before .before .before .before .pre .1 .1)
 
--- src/read.rt:65:20
-read-node-enum-known-r : (t : ℕ) → read-node-lts.Need-enum-known-r (
-  inner-node-reads.Asked,
-  inner-node-reads.Learnt,
-  operands-below t,
-  operands.Post,
-) (read-node-at t) read-node.Post
-read-node-enum-known-r t c = search needs
-
--- src/read.rt:66:24
-read-node-enum-known-q : (t : ℕ) → read-node-lts.Need-enum-known-q (
-  inner-node-reads.Asked,
-  inner-node-reads.Learnt,
-  operands-below t,
-  operands.Post,
-) (read-node-at t) read-node.Post
-read-node-enum-known-q t c = search needs
-
--- src/read.rt:68:17
-read-node-returns : (t : ℕ) → read-node-lts.Need-returns (
-  inner-node-reads.Asked,
-  inner-node-reads.Learnt,
-  operands-below t,
-  operands.Post,
-) (read-node-at t) read-node.Post
+read-node-returns : (t : ℕ) → read-node-lts.Need-returns (read-node-calls t) (read-node-at t) read-node.Post
 read-node-returns t c = (sym (operands-done _ _ _ _ _ (c .if1 .taken)) ∙ read-operands _ _ _ _ _ _ _ _ (λ z. omega (arith, c .before .before .before .before .before .before .before .before .before .pre .1 .2)) (c .before .before .before .before .inner-node .ensures .0) (c .before .before .q .given .1), operands-in _ _ _ _ _ _ (c .before .before .q .given .1) (c .before .before .before .before .inner-node .ensures .1) .0)
 
--- src/read.rt:79:17
-read-node-sub-operands : (t : ℕ) → read-node-lts.Need-sub-operands (
-  inner-node-reads.Asked,
-  inner-node-reads.Learnt,
-  operands-below t,
-  operands.Post,
-) (read-node-at t) read-node.Post
-read-node-sub-operands t c = search needs
-
--- src/read.rt:70:13
-read-node-operands-requires : (t : ℕ) → read-node-lts.Need-operands-requires (
-  inner-node-reads.Asked,
-  inner-node-reads.Learnt,
-  operands-below t,
-  operands.Post,
-) (read-node-at t) read-node.Post
+read-node-operands-requires : (t : ℕ) → read-node-lts.Need-operands-requires (read-node-calls t) (read-node-at t) read-node.Post
 read-node-operands-requires t c κs = let b = operands-in _ _ _ _ _ _ (c .before .before .q .given .1) (c .before .before .before .before .inner-node .ensures .1) in (omega (arith, c .before .before .before .before .before .before .before .before .before .pre .1 .2), (c .before .before .before .before .before .before .before .before .before .pre .1 .0 .sound, b .1, b .0))
 
--- src/read.rt:51:1
-read-node-returns-2 : (t : ℕ) → read-node-lts.Need-returns-2 (
-  inner-node-reads.Asked,
-  inner-node-reads.Learnt,
-  operands-below t,
-  operands.Post,
-) (read-node-at t) read-node.Post
+read-node-returns-2 : (t : ℕ) → read-node-lts.Need-returns-2 (read-node-calls t) (read-node-at t) read-node.Post
 read-node-returns-2 t c = (read-leaf _ _ _ _ _ _ _ _ (λ z. omega (arith, c .before .before .before .before .before .before .before .before .pre .1 .2)) (c .before .before .before .inner-node .ensures .0) (c .before .r .given .1), leaf-in _ _ _ _ (c .before .r .given .1) (c .before .before .before .inner-node .ensures .1))
 
--- src/read.rt:51:1
-read-node-returns-3 : (t : ℕ) → read-node-lts.Need-returns-3 (
-  inner-node-reads.Asked,
-  inner-node-reads.Learnt,
-  operands-below t,
-  operands.Post,
-) (read-node-at t) read-node.Post
+read-node-returns-3 : (t : ℕ) → read-node-lts.Need-returns-3 (read-node-calls t) (read-node-at t) read-node.Post
 read-node-returns-3 t c = (c .operands .ensures .0 ∙ read-operands _ _ _ _ _ _ _ _ (λ z. omega (arith, c .before .before .before .before .before .before .before .before .before .before .pre .1 .2)) (c .before .before .before .before .before .inner-node .ensures .0) (c .before .before .before .q .given .1), c .operands .ensures .1)
 
 pub +operands+read-node-spec : {M : Type 1} → statement M
-+operands+read-node-spec = close μ-operands μ-read-node (λ t. operands-lts.spec (
-  class-place-reads.Asked,
-  class-place-reads.Learnt,
-  token-reads.Asked,
-  token-reads.Learnt,
-  read-node-below t,
-  read-node.Post,
-)
++operands+read-node-spec = close μ-operands μ-read-node (λ t. operands-lts.spec (operands-calls t)
     (operands-at t)
     operands.Post
     operands-Inv-loop
@@ -301,26 +130,33 @@ pub +operands+read-node-spec : {M : Type 1} → statement M
     (operands-returns t)
     (operands-shared-slice-read-kind t)
     (operands-class-place-requires t)
-    (operands-token-requires t)
-    (operands-read-node-requires t)
-    (operands-enum-known-read t)
-    (operands-enum-told t)
+    (operands-add-if3 t)
+    (operands-inner-node-requires t)
+    (λ c. search needs)
     (operands-returns-2 t)
-    (operands-enum-told-2 t)
-    (operands-returns-3 t)
-    (operands-add-q t)
+    (λ c. search needs)
+    (λ c. search needs)
     (operands-loop-less t)
     (operands-loop-again t)
-    (operands-returns-4 t))
-    λ t. read-node-lts.spec
-    (inner-node-reads.Asked, inner-node-reads.Learnt, operands-below t, operands.Post)
+    (operands-token-requires t)
+    (operands-read-node-requires t)
+    (λ c. search needs)
+    (operands-add-q t)
+    (operands-loop-less-2 t)
+    (operands-loop-again-2 t)
+    (λ c. search needs)
+    (operands-returns-3 t)
+    (λ c. search needs)
+    (operands-returns-4 t)
+    (operands-returns-5 t))
+    λ t. read-node-lts.spec (read-node-calls t)
     (read-node-at t)
     read-node.Post
     (read-node-inner-node-requires t)
-    (read-node-enum-known-r t)
-    (read-node-enum-known-q t)
+    (λ c. search needs)
+    (λ c. search needs)
     (read-node-returns t)
-    (read-node-sub-operands t)
+    (λ c. search needs)
     (read-node-operands-requires t)
     (read-node-returns-2 t)
     (read-node-returns-3 t)

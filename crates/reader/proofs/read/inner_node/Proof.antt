@@ -8,30 +8,12 @@ use Rattle.reader.proofs.read.inner_node.Lts as lts
 use Rattle.reader.proofs.node.code_node.Reads as code-node-reads
 use Rattle.reader.proofs.node.name.Reads as name-reads
 
--- src/read.rt:45:25
-enum-told : tie.Need-enum-told
-enum-told c = search needs
-
--- src/read.rt:45:25
-name-requires : tie.Need-name-requires
-name-requires c κs = search needs
-
--- src/read.rt:46:25
-enum-told-2 : tie.Need-enum-told-2
-enum-told-2 c = search needs
-
--- src/read.rt:46:25
-code-node-requires : tie.Need-code-node-requires
-code-node-requires c κs = search needs
-
--- src/read.rt:32:1
 returns : tie.Need-returns
 returns c = (node-tree _ _ _ _ _ _ (c .before .enum-told .given .1) (tree-name _ _ _ _ _ refl refl (class-none _ _ (c .before .enum-told .given .1) (c .before .before .before .before .before .before .before .pre .1)) (c .name .ensures .0)), c .name .ensures .1)
 
--- src/read.rt:32:1
 returns-2 : tie.Need-returns-2
 returns-2 c = (node-code _ _ _ _ _ _ (c .before .enum-told2 .given .1) (c .code-node .ensures .0), c .code-node .ensures .1)
 
 pub inner-node-spec : {M : Type 1} → statement M
 inner-node-spec =
-    tie.close (tie.spec enum-told name-requires enum-told-2 code-node-requires returns returns-2)
+    tie.close (tie.spec (λ c. search needs) (λ c κs. search needs) (λ c. search needs) (λ c κs. search needs) returns returns-2)

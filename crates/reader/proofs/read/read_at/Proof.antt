@@ -9,35 +9,15 @@ use Rattle.reader.proofs.read.read_at.Lts as lts
 use Rattle.reader.proofs.node.node_at.Reads as node-at-reads
 use Rattle.reader.proofs.read.operands.Reads as operands-reads
 
--- src/read.rt:145:9
 returns : tie.Need-returns
 returns c = (read-deep _ _ _ _ _ _ _ _ (c .if1 .taken), tt)
 
--- src/read.rt:147:11
-node-at-requires : tie.Need-node-at-requires
-node-at-requires c κs = search needs
-
--- src/read.rt:148:20
-enum-known-r : tie.Need-enum-known-r
-enum-known-r c = search needs
-
--- src/read.rt:149:24
-enum-known-q : tie.Need-enum-known-q
-enum-known-q c = search needs
-
--- src/read.rt:158:13
-sub-operands : tie.Need-sub-operands
-sub-operands c = search needs
-
--- src/read.rt:149:40
 operands-requires : tie.Need-operands-requires
 operands-requires c κs = let b = operands-in _ _ _ _ _ _ (c .before .q .given .1) (c .before .before .before .node-at .ensures .1) in (c .before .before .before .before .before .before .before .before .before .pre .sound, b .1, b .0)
 
--- src/read.rt:131:1
 returns-2 : tie.Need-returns-2
 returns-2 c = (read-leaf _ _ _ _ _ _ _ _ (c .before .before .before .before .if1 .left) (c .before .before .before .node-at .ensures .0) (c .before .r .given .1), leaf-in _ _ _ _ (c .before .r .given .1) (c .before .before .before .node-at .ensures .1))
 
--- src/read.rt:131:1
 returns-3 : tie.Need-returns-3
 returns-3 c = (c .operands .ensures .0 ∙ read-operands _ _ _ _ _ _ _ _ (c .before .before .before .before .before .if1 .left) (c .before .before .before .before .node-at .ensures .0) (c .before .before .q .given .1), c .operands .ensures .1)
 
@@ -46,10 +26,10 @@ read-at-spec =
     tie.close
     (tie.spec
     returns
-    node-at-requires
-    enum-known-r
-    enum-known-q
-    sub-operands
+    (λ c κs. search needs)
+    (λ c. search needs)
+    (λ c. search needs)
+    (λ c. search needs)
     operands-requires
     returns-2
     returns-3)
