@@ -2,11 +2,11 @@
 use Prim.Native.Nat.{ℕ, zero, suc, _+_, _-_, _<_, _≤_}
 use mathlib.Core.Path.{_≡_, refl, sym, ap, _∙_}
 use mathlib.Core.List.{List, [], _∷_}
-use mathlib.Core.Bool.{Bool, true, false}
+use mathlib.Core.Bool.{Bool, true, false, cond}
 use native.Mathlib.Omega.{arith}
 use lib.ListN.{length, getD}
 use lib.Dec.{ltb, leb, eqb}
-use borrow.Author.Tests.{ltb-true, ltb-false, lt-ltb, le-ltb, le-leb, lt-leb, eq-eqb, ne-eqb}
+use borrow.Author.Tests.{ltb-true, ltb-false, leb-false, eqb-true, lt-ltb, le-ltb, le-leb, lt-leb, eq-eqb, ne-eqb}
 use Rattle.fields.specs.Fields.{pairAt}
 use Rattle.fields.proofs.Truth.{by-test}
 use Rattle.language.specs.Language.{productionKey}
@@ -17,7 +17,7 @@ use Rattle.reader.specs.declared.node.Read.the-variants.{End, Deep, Brok
 use Rattle.reader.specs.declared.node.Node.{Node}
 use Rattle.reader.specs.declared.node.Node.the-variants.{Leaf, Operands}
 use Rattle.reader.specs.Inner.Index.{Sound}
-use Rattle.reader.specs.Inner.Positions.{tokenAt, operandsAt, nameAt, argumentIs, argumentAt, treeNode, classPlace, signNode, codeNode, nodeAt, operandsFrom, readAt, EndsBy, NodeIn, KindsIn}
+use Rattle.reader.specs.Inner.Positions.{nameLength, productionPlace, tokenAt, operandsAt, nameAt, argumentIs, argumentAt, treeNode, classPlace, signNode, codeNode, nodeAt, operandsFrom, readAt, EndsBy, NodeIn, KindsIn}
 
 -- token
 module _ (s : List ℕ) (place : ℕ) (b : List ℕ) (at : ℕ) where
@@ -202,10 +202,6 @@ pub place-code : {x : Syntax} (index : List ℕ) (k : ℕ) → x ≡ Code → 0 
 unfolding classPlace
 place-code index k h = cc
 
-pub class-none : {x : Syntax} (index : List ℕ) (k : ℕ) → x ≡ Tree → classPlace x index k ≡ 0 → getD index k 0 ≡ 0
-unfolding classPlace
-class-none index k h e = cc
-
 -- A token of a tree, read by the place of its class.
 in-tree : (x : Syntax) (index : List ℕ) (k : ℕ) → (classPlace x index k ≡ 0 → ⊥) → (x ≡ Tree) × (classPlace x index k ≡ getD index k 0)
 unfolding classPlace
@@ -218,6 +214,42 @@ module _ (x : Syntax) (s index arguments b : List ℕ) (n k at : ℕ) where
   read-token {place} pos e h t =
       let w = in-tree x index k (λ z. h (e ∙ z)) in
       read-leaf x s index arguments b n k at pos (node-tree s index arguments k b at (w .0) (tree-token s index k b at refl (e ∙ w .1) h t)) refl
+
+-- name_place
+module _ (index : List ℕ) (k : ℕ) (b : List ℕ) (at : ℕ) where
+  pub place-end : length b ≤ at → 0 ≡ productionPlace Tree index k b at
+  unfolding productionPlace
+  place-end h = simp (le-leb (length b) at h)
+
+  pub place-name : {j p place : ℕ} → at < length b → j ≡ k → p ≡ getD b at 0 → place ≡ getD index (productionKey j p) 0
+      → place ≡ productionPlace Tree index k b at
+  unfolding productionPlace
+  place-name there ej ep ei = cc (lt-leb (length b) at there)
+
+-- production_place
+module _ (x : Syntax) (index : List ℕ) (k : ℕ) (b : List ℕ) (at class : ℕ) where
+  pub place-class : (class ≡ 0 → ⊥) → 0 ≡ cond (eqb class 0) (productionPlace x index k b at) 0
+  place-class h = simp (ne-eqb class 0 h)
+
+  module _ (none : class ≡ 0) where
+    pub place-in-tree : {r : ℕ} → x ≡ Tree → r ≡ productionPlace Tree index k b at → r ≡ cond (eqb class 0) (productionPlace x index k b at) 0
+    place-in-tree h e = cc (eq-eqb class 0 none)
+
+    pub place-short : x ≡ Code → length b - at < 2 → 0 ≡ cond (eqb class 0) (productionPlace x index k b at) 0
+    unfolding productionPlace
+    place-short h i = let j : length b ≤ at + 1 = omega arith in cc (eq-eqb class 0 none, le-leb (length b) (at + 1) j)
+
+    pub place-sign : x ≡ Code → 2 ≤ length b - at → (getD b at 0 ≡ 1 → ⊥) → 0 ≡ cond (eqb class 0) (productionPlace x index k b at) 0
+    unfolding productionPlace
+    place-sign h i j =
+        let l : at + 1 < length b = omega arith in
+        cc (eq-eqb class 0 none, lt-leb (length b) (at + 1) l, ne-eqb (getD b at 0) 1 j)
+
+    pub place-in-code : {r : ℕ} → x ≡ Code → 2 ≤ length b - at → getD b at 0 ≡ 1 → r ≡ productionPlace Tree index k b (at + 1)
+        → r ≡ cond (eqb class 0) (productionPlace x index k b at) 0
+    unfolding productionPlace
+    place-in-code h i j e =
+        let l : at + 1 < length b = omega arith in cc (eq-eqb class 0 none, lt-leb (length b) (at + 1) l)
 
 -- What is known of one of two results.
 pub carried : {r u v : Read} (n : ℕ) → r ≡ u → (u ≡ v) × EndsBy n u → (r ≡ v) × EndsBy n r
@@ -259,3 +291,52 @@ class-at x s index {place} {k} z kind e h =
     let d : place ≡ getD index k 0 = e ∙ w .1 in
     let pos : 0 < place = omega arith in
     class-in index s z refl kind d pos
+
+-- A production that was found: its name stands at i, and the node is a name.
+pub record Named (x : Syntax) (s index arguments : List ℕ) (k : ℕ) (b : List ℕ) (at place : ℕ) : Type 0 where
+  pub name : ℕ
+  pub next : name + 1 ≡ at + nameLength x
+  pub inside : name < length b
+  pub found : place ≡ getD index (productionKey k (getD b name 0)) 0
+  pub node : nameAt s index k b name ≡ nodeAt x s index arguments k b at
+
+named-by : (x : Syntax) (s index arguments : List ℕ) (k : ℕ) (b : List ℕ) (at place : ℕ) → classPlace x index k ≡ 0
+    → place ≡ productionPlace x index k b at → (place ≡ 0 → ⊥) → Named x s index arguments k b at place
+unfolding classPlace productionPlace nodeAt treeNode codeNode signNode
+named-by Tree s index arguments k b at place none e pos =
+    by-test (leb (length b) at)
+    (λ t. absurd (pos (cc)))
+    (λ t. record { name = at; next = refl; inside = leb-false _ _ t; found = cc; node = cc (eq-eqb (getD index k 0) 0 none) })
+named-by Code s index arguments k b at place none e pos =
+    by-test (leb (length b) (at + 1))
+    (λ t. absurd (pos (cc)))
+    (λ t.
+    by-test (eqb (getD b at 0) 1)
+    (λ u.
+    let l = leb-false (length b) (at + 1) t in
+    let m : at < length b = omega arith in
+    record { name = at + 1; next = omega arith; inside = l; found = cc; node = cc (lt-leb (length b) at m) })
+    (λ u. absurd (pos (cc))))
+
+module _ (x : Syntax) (s index arguments : List ℕ) (k : ℕ) (b : List ℕ) (at : ℕ) {class place : ℕ} (ec : class ≡ classPlace x index k) (ep : place ≡ cond (eqb class 0) (productionPlace x index k b at) 0) (pos : place ≡ 0 → ⊥) where
+  pub named : Named x s index arguments k b at place
+  named =
+      by-test (eqb class 0)
+      (λ t. named-by x s index arguments k b at place (sym ec ∙ eqb-true class 0 t) (ep ∙ ap (λ (u : Bool). cond u (productionPlace x index k b at) 0) t) pos)
+      (λ t. absurd (pos (ep ∙ ap (λ (u : Bool). cond u (productionPlace x index k b at) 0) t)))
+
+  -- The node that was found, and where its operands and their kinds stand.
+  pub named-node : {n m : ℕ} → n ≡ pairAt s place → m ≡ nameLength x → Operands (place + 4) (place + 2 + n) (at + m) ≡ nodeAt x s index arguments k b at
+  named-node {n} e d =
+      ap (λ (j : ℕ). Operands (place + 4) (place + 2 + n) j) (ap (λ (j : ℕ). at + j) d ∙ sym (named .next))
+      ∙ (name-known s index k b (named .name) (named .inside) refl refl (named .found) pos e ∙ named .node)
+
+  module _ (z : Sound index s) (kind : k < 32) (bytes : (i : ℕ) → getD b i 0 < 256) where
+    pub named-in : (place + 4 ≤ length s) × (length s ≤ 1024)
+    named-in = name-in index s z refl kind (bytes (named .name)) (named .found) pos
+
+    pub named-kinds : {n : ℕ} → n ≡ pairAt s place → KindsIn s (place + 4) (place + 2 + n)
+    named-kinds e = kinds-in index s z refl kind (bytes (named .name)) (named .found) pos e
+
+  pub named-end : {m : ℕ} → m ≡ nameLength x → at + m ≤ length b
+  named-end d = omega (arith, named .next, named .inside)

@@ -2,9 +2,11 @@
 use fields::bytes::wide;
 ghost use mathlib.Core.Path.{_≡_};
 ghost use Prim.Native.Nat.{ℕ, _+_, _<_, _≤_};
+ghost use mathlib.Core.Bool.{cond};
+ghost use lib.Dec.{eqb};
 ghost use lib.ListN.{length, getD};
 ghost use Rattle.fields.specs.Fields.{pairAt};
-ghost use Rattle.reader.specs.Inner.Positions.{tokenAt, nameAt, argumentIs, argumentAt, treeNode, codeNode, nodeAt, EndsBy, NodeIn};
+ghost use Rattle.reader.specs.Inner.Positions.{nameLength, productionPlace, tokenAt, nameAt, argumentIs, argumentAt, treeNode, codeNode, nodeAt, EndsBy, NodeIn};
 ghost use Rattle.reader.specs.Inner.Index.{Ready};
 
 // Trees are written without signs, codes with them.
@@ -28,7 +30,7 @@ pub enum Node {
 }
 
 // The number in the two bytes at i.
-fn pair_in(s: &[u8], i: usize) -> usize
+pub fn pair_in(s: &[u8], i: usize) -> usize
     requires { ⌜ i + 1 < length (now s) ⌝ }
     ensures { λ r. ⌜ (r ≡ pairAt (now (s .entry)) i) × (r < 65536) ⌝ }
 {
@@ -41,6 +43,57 @@ pub fn place_at(index: &[u16], i: usize) -> usize
     ensures { λ r. ⌜ r ≡ getD (now (index .entry)) i 0 ⌝ }
 {
     index[i] as usize
+}
+
+// How many bytes a production's name takes, with its sign in a code.
+pub fn name_length(syntax: Syntax) -> usize
+    ensures { λ r. ⌜ (r ≡ nameLength syntax) × (r ≤ 2) ⌝ }
+{
+    match syntax {
+        Syntax::Tree => 1,
+        Syntax::Code => 2,
+    }
+}
+
+// The place of the production of the kind whose name stands at a position of a tree, or 0.
+fn name_place(index: &[u16], kind: u8, bytes: &[u8], at: usize) -> usize
+    requires { ⌜ (length (now index) ≡ 8224) × (kind < 32) ⌝ }
+    ensures { λ r. ⌜ r ≡ productionPlace Syntax.Tree (now (index .entry)) kind (now (bytes .entry)) at ⌝ }
+{
+    if bytes.len() <= at {
+        return 0;
+    }
+    place_at(index, 32 + (wide(kind) * 256 + wide(bytes[at])))
+}
+
+// The place of the production of the kind whose name stands at a position; 0 if there is none, or if a token of a class
+// stands there.
+pub fn production_place(
+    syntax: Syntax,
+    index: &[u16],
+    class: usize,
+    kind: u8,
+    bytes: &[u8],
+    at: usize,
+) -> usize
+    requires { ⌜ (length (now index) ≡ 8224) × (kind < 32) × (at ≤ length (now bytes)) ⌝ }
+    ensures { λ r. ⌜ r ≡ cond (eqb class 0) (productionPlace syntax (now (index .entry)) kind (now (bytes .entry)) at) 0 ⌝ }
+{
+    if class != 0 {
+        return 0;
+    }
+    match syntax {
+        Syntax::Tree => name_place(index, kind, bytes, at),
+        Syntax::Code => {
+            if bytes.len() - at < 2 {
+                return 0;
+            }
+            if bytes[at] != 1 {
+                return 0;
+            }
+            name_place(index, kind, bytes, at + 1)
+        }
+    }
 }
 
 // A token of the class whose field stands before `place`.
@@ -65,7 +118,7 @@ pub fn token(language: &[u8], place: usize, bytes: &[u8], at: usize) -> Read
 }
 
 // A production name of the kind, whose operands follow.
-pub fn name(language: &[u8], index: &[u16], kind: u8, bytes: &[u8], at: usize) -> Node
+fn name(language: &[u8], index: &[u16], kind: u8, bytes: &[u8], at: usize) -> Node
     requires { ⌜ Ready (now index) (now language) kind (now bytes) at ⌝ }
     ensures { λ r. ⌜ (r ≡ nameAt (now (language .entry)) (now (index .entry)) kind (now (bytes .entry)) at) × NodeIn (now (language .entry)) (now (bytes .entry)) r ⌝ }
 {
@@ -119,7 +172,7 @@ fn tree_node(language: &[u8], index: &[u16], kind: u8, bytes: &[u8], at: usize) 
 }
 
 // A node of a code: its sign says what follows.
-pub fn code_node(
+fn code_node(
     language: &[u8],
     index: &[u16],
     arguments: &[u8],

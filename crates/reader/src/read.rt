@@ -2,10 +2,11 @@
 use crate::node::Node;
 use crate::node::Read;
 use crate::node::Syntax;
-use crate::node::code_node;
-use crate::node::name;
+use crate::node::name_length;
 use crate::node::node_at;
+use crate::node::pair_in;
 use crate::node::place_at;
+use crate::node::production_place;
 use crate::node::token;
 use fields::bytes::wide;
 ghost use mathlib.Core.Path.{_≡_};
@@ -14,7 +15,7 @@ ghost use mathlib.Core.List.{List};
 ghost use lib.ListN.{length, getD, drop};
 ghost use Rattle.language.specs.Language.{Language};
 ghost use Rattle.reader.specs.Syntax.{read as readCode};
-ghost use Rattle.reader.specs.Inner.Positions.{classPlace, nodeAt, operandsFrom, readAt, NodeIn, KindsIn, EndsBy, restAt, restOf, syntaxOf};
+ghost use Rattle.reader.specs.Inner.Positions.{classPlace, operandsFrom, readAt, KindsIn, EndsBy, restAt, restOf, syntaxOf};
 ghost use Rattle.reader.specs.Inner.Index.{Sound, Ready, Indexed};
 
 // The place of the class that a token of the kind is read by: 0 in a code, where a sign stands before it.
@@ -26,121 +27,6 @@ fn class_place(syntax: Syntax, index: &[u16], kind: u8) -> usize
         Syntax::Tree => place_at(index, wide(kind)),
         Syntax::Code => 0,
     }
-}
-
-// What stands at a position where no token of a class is read: a name in a tree, and in a code what its sign says.
-fn inner_node(
-    syntax: Syntax,
-    language: &[u8],
-    index: &[u16],
-    arguments: &[u8],
-    kind: u8,
-    bytes: &[u8],
-    at: usize,
-) -> Node
-    requires { ⌜ Ready (now index) (now language) kind (now bytes) at × (classPlace syntax (now index) kind ≡ 0) ⌝ }
-    ensures { λ r. ⌜ (r ≡ nodeAt syntax (now (language .entry)) (now (index .entry)) (now (arguments .entry)) kind (now (bytes .entry)) at) × NodeIn (now (language .entry)) (now (bytes .entry)) r ⌝ }
-{
-    match syntax {
-        Syntax::Tree => name(language, index, kind, bytes, at),
-        Syntax::Code => code_node(language, index, arguments, kind, bytes, at),
-    }
-}
-
-// A code of the kind at a position where no token of a class is read, with so many levels left.
-fn read_node(
-    syntax: Syntax,
-    language: &[u8],
-    index: &[u16],
-    arguments: &[u8],
-    kind: u8,
-    bytes: &[u8],
-    at: usize,
-    levels: usize,
-) -> Read
-    requires { ⌜ Ready (now index) (now language) kind (now bytes) at × (classPlace syntax (now index) kind ≡ 0) × (0 < levels) ⌝ }
-    ensures { λ r. ⌜ (r ≡ readAt syntax (now (language .entry)) (now (index .entry)) (now (arguments .entry)) (now (bytes .entry)) levels kind at) × EndsBy (length (now (bytes .entry))) r ⌝ }
-{
-    match inner_node(syntax, language, index, arguments, kind, bytes, at) {
-        Node::Leaf(r) => r,
-        Node::Operands(q, stop, to) => {
-            if stop <= q {
-                return Read::End(to);
-            }
-            operands(
-                syntax,
-                language,
-                index,
-                arguments,
-                q,
-                stop,
-                bytes,
-                to,
-                levels - 1,
-            )
-        }
-    }
-}
-
-// Codes of the kinds that stand in the language from `from` up to `stop`, one after the other. Tokens of a class are
-// read here, other codes one call deeper; behind the last one nothing is left to do, so its operands are read here.
-fn operands(
-    syntax: Syntax,
-    language: &[u8],
-    index: &[u16],
-    arguments: &[u8],
-    from: usize,
-    stop: usize,
-    bytes: &[u8],
-    at: usize,
-    levels: usize,
-) -> Read
-    requires { ⌜ Sound (now index) (now language) × KindsIn (now language) from stop × (at ≤ length (now bytes)) ⌝ }
-    ensures { λ r. ⌜ (r ≡ operandsFrom (readAt syntax (now (language .entry)) (now (index .entry)) (now (arguments .entry)) (now (bytes .entry)) levels) (now (language .entry)) (stop - from) from at) × EndsBy (length (now (bytes .entry))) r ⌝ }
-{
-    let mut q = from;
-    let mut end = stop;
-    let mut to = at;
-    let mut left = levels;
-    while q < end {
-        if left == 0 {
-            return Read::Deep;
-        }
-        let kind = language[q];
-        let place = class_place(syntax, index, kind);
-        if place == 0 && q + 1 == end {
-            match inner_node(syntax, language, index, arguments, kind, bytes, to) {
-                Node::Leaf(r) => {
-                    return r;
-                }
-                Node::Operands(first, last, start) => {
-                    q = first;
-                    end = last;
-                    to = start;
-                    left -= 1;
-                }
-            }
-        } else {
-            let read = if place != 0 {
-                token(language, place, bytes, to)
-            } else {
-                read_node(syntax, language, index, arguments, kind, bytes, to, left)
-            };
-            match read {
-                Read::End(e) => {
-                    to = e;
-                    q += 1;
-                }
-                Read::Deep => {
-                    return Read::Deep;
-                }
-                Read::Broken => {
-                    return Read::Broken;
-                }
-            }
-        }
-    }
-    Read::End(to)
 }
 
 // A code of the kind at a position, with so many levels left.
@@ -174,6 +60,88 @@ pub fn read_at(
             levels - 1,
         ),
     }
+}
+
+// Codes of the kinds that stand in the language from `from` up to `stop`, one after the other. Tokens of a class are
+// read here, other codes one call deeper; behind the last one nothing is left to do, so its operands are read here.
+fn operands(
+    syntax: Syntax,
+    language: &[u8],
+    index: &[u16],
+    arguments: &[u8],
+    from: usize,
+    stop: usize,
+    bytes: &[u8],
+    at: usize,
+    levels: usize,
+) -> Read
+    requires { ⌜ Sound (now index) (now language) × KindsIn (now language) from stop × (at ≤ length (now bytes)) ⌝ }
+    ensures { λ r. ⌜ (r ≡ operandsFrom (readAt syntax (now (language .entry)) (now (index .entry)) (now (arguments .entry)) (now (bytes .entry)) levels) (now (language .entry)) (stop - from) from at) × EndsBy (length (now (bytes .entry))) r ⌝ }
+{
+    let mut q = from;
+    let mut end = stop;
+    let mut to = at;
+    let mut left = levels;
+    while q < end {
+        if left == 0 {
+            return Read::Deep;
+        }
+        let kind = language[q];
+        let class = class_place(syntax, index, kind);
+        let place = production_place(syntax, index, class, kind, bytes, to);
+        if place != 0 {
+            let first = place + 4;
+            let last = place + 2 + pair_in(language, place);
+            to += name_length(syntax);
+            q += 1;
+            if q == end {
+                q = first;
+                end = last;
+                left -= 1;
+            } else if first < last {
+                match operands(
+                    syntax,
+                    language,
+                    index,
+                    arguments,
+                    first,
+                    last,
+                    bytes,
+                    to,
+                    left - 1,
+                ) {
+                    Read::End(e) => {
+                        to = e;
+                    }
+                    Read::Deep => {
+                        return Read::Deep;
+                    }
+                    Read::Broken => {
+                        return Read::Broken;
+                    }
+                }
+            }
+        } else {
+            let read = if class != 0 {
+                token(language, class, bytes, to)
+            } else {
+                read_at(syntax, language, index, arguments, kind, bytes, to, left)
+            };
+            match read {
+                Read::End(e) => {
+                    to = e;
+                    q += 1;
+                }
+                Read::Deep => {
+                    return Read::Deep;
+                }
+                Read::Broken => {
+                    return Read::Broken;
+                }
+            }
+        }
+    }
+    Read::End(to)
 }
 
 // A code of the kind at a position, of the language that the index is of.

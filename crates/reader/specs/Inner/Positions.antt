@@ -56,6 +56,18 @@ unfoldable pub classPlace : Syntax → List ℕ → ℕ → ℕ
 classPlace Tree index k = getD index k 0
 classPlace Code index k = 0
 
+-- How many bytes a production's name takes, with its sign in a code.
+abbrev pub nameLength : Syntax → ℕ
+nameLength Tree = 1
+nameLength Code = 2
+
+-- The place of the production of kind k whose name stands at `at`, or 0: in a code the sign 01 stands before the name.
+unfoldable pub productionPlace : Syntax → List ℕ → ℕ → List ℕ → ℕ → ℕ
+productionPlace Tree index k b at = cond (leb (length b) at) 0 (getD index (productionKey k (getD b at 0)) 0)
+productionPlace Code index k b at =
+    cond (leb (length b) (at + 1)) 0
+    (cond (eqb (getD b at 0) 1) (getD index (productionKey k (getD b (at + 1) 0)) 0) 0)
+
 -- What stands behind a sign.
 unfoldable pub signNode : List ℕ → List ℕ → List ℕ → ℕ → List ℕ → ℕ → ℕ → Node
 signNode s index arguments k b sign at =
