@@ -59,7 +59,7 @@ module _ (s : List ℕ) (f : Translation) (e : bodyOf s ≡ some (f .body)) (ris
   held : HoldsItems s (f .body)
   held = holds-items s (f .body) e
 
-  items-rise : Rising itemKey (f .body)
+  pub items-rise : Rising itemKey (f .body)
   items-rise = is-rising itemKey (f .body) (rises-parts f rises .2)
 
   item-is : (p : ℕ) → Mem p (places s) → IsMapping s p ⊎ IsClause s p
@@ -82,7 +82,7 @@ module _ (s : List ℕ) (f : Translation) (e : bodyOf s ≡ some (f .body)) (ris
   }
 
   -- All kinds in the source, and all that is mapped, are kinds.
-  kinds-below : (source : List ℕ) → entriesOf source ≡ some (f .source) → KindsBelow f
+  pub kinds-below : (source : List ℕ) → entriesOf source ≡ some (f .source) → KindsBelow f
   unfolding isItem
   kinds-below source d = (
     λ k i. in-below source k (f .source) d i,
