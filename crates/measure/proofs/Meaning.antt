@@ -59,18 +59,18 @@ read-many g (k ∷ ks) s = many-first (length ks) (g k s) (readAll g ks) (λ r. 
 
 module _ (f : Translation) (top : ℕ) where
   -- What was read, by what was measured of it.
-  sized-done : (o : Meant.Read Code) (u : List ℕ) (n : ℕ) → sizedOf top f o ≡ sized u n
+  pub sized-done : (o : Meant.Read Code) (u : List ℕ) (n : ℕ) → sizedOf top f o ≡ sized u n
       → (a : Code) × (o ≡ Meant.done a u) × (n ≡ capped top (size (transform f a)))
   sized-done (Meant.done a r) u n e = (a, cc, cc)
   sized-done Meant.deep u n e = let z : _≡_ {A = ℕ} 0 1 = cc in absurd (omega arith)
   sized-done Meant.broken u n e = let z : _≡_ {A = ℕ} 0 1 = cc in absurd (omega arith)
 
-  sized-deep : (o : Meant.Read Code) → sizedOf top f o ≡ deep → o ≡ Meant.deep
+  pub sized-deep : (o : Meant.Read Code) → sizedOf top f o ≡ deep → o ≡ Meant.deep
   sized-deep (Meant.done a r) e = let z : _≡_ {A = ℕ} 0 1 = cc in absurd (omega arith)
   sized-deep Meant.deep e = refl
   sized-deep Meant.broken e = let z : _≡_ {A = ℕ} 0 1 = cc in absurd (omega arith)
 
-  sized-broken : (o : Meant.Read Code) → sizedOf top f o ≡ broken → o ≡ Meant.broken
+  pub sized-broken : (o : Meant.Read Code) → sizedOf top f o ≡ broken → o ≡ Meant.broken
   sized-broken (Meant.done a r) e = let z : _≡_ {A = ℕ} 0 1 = cc in absurd (omega arith)
   sized-broken Meant.deep e = let z : _≡_ {A = ℕ} 0 1 = cc in absurd (omega arith)
   sized-broken Meant.broken e = refl

@@ -2,4 +2,5 @@
 pub mod capped;
 pub mod count;
 pub mod measure;
+pub mod prepare;
 pub mod table;

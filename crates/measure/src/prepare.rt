@@ -1,0 +1,29 @@
+// What measuring takes, made ready once for a run.
+use crate::count::count_all;
+use reader::index::put_all;
+ghost use mathlib.Core.Path.{_≡_};
+ghost use mathlib.Core.Bool.{true};
+ghost use mathlib.Core.Option.{some};
+ghost use Prim.Native.Nat.{ℕ, _≤_};
+ghost use lib.ListN.{length, getD};
+ghost use Rattle.fields.specs.Outcome.{value};
+ghost use Rattle.language.specs.LanguageFile.{entriesOf};
+ghost use Rattle.reader.specs.Inner.Index.{Indexed};
+ghost use Rattle.translation.specs.Translation.{Translation};
+ghost use Rattle.translation.specs.TranslationFile.{bodyOf, allRising};
+ghost use Rattle.translation.specs.WellFormed.{wellFormed};
+ghost use Rattle.measure.specs.Inner.Measuring.{Counted};
+
+// Builds the index of the source and, along its bytes, the counts of the body's clauses: what each code writes itself
+// and how often it uses each argument. Both tables are all zero before.
+pub fn prepare(source: &[u8], body: &[u8], index: &mut [u16], counts: &mut [u16])
+    requires { ⌜ (length (now source) ≤ 1024) × (length (now body) ≤ 4096) × (length (now index) ≡ 8224) × ((j : ℕ) → getD (now index) j 0 ≡ 0)
+        × (length (now counts) ≡ 1024) × ((j : ℕ) → getD (now counts) j 0 ≡ 0)
+        × ((f : Translation) × (entriesOf (now source) ≡ some (f .source)) × (bodyOf (now body) ≡ some (f .body))) ⌝ }
+    ensures { λ r. ⌜ ((f : Translation) → entriesOf (now (source .entry)) ≡ some (f .source) → bodyOf (now (body .entry)) ≡ some (f .body)
+        → allRising f ≡ true → wellFormed f ≡ value f
+        → Indexed (now (index .exit)) (now (source .entry)) (f .source) × Counted (now (counts .exit)) (now (index .exit)) f) ⌝ }
+{
+    put_all(source, 0x11, index);
+    count_all(body, index, counts);
+}

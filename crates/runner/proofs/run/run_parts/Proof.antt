@@ -1,0 +1,72 @@
+use mathlib.Core.Path.{refl}
+use native.Mathlib.Omega.{arith}
+use borrow.Author.Tests.{not-true, not-false}
+use Rattle.reader.proofs.Check.{zeros}
+use Rattle.runner.proofs.Laws.{rises, formed, kind-out, tree-deep, tree-broken, tree-more, tree-long, tree-fits}
+use borrow.Author.Needs.{needs}
+use Rattle.runner.proofs.run.run_parts.Statement.{statement}
+use Rattle.runner.proofs.run.run_parts.Tie as tie
+use Rattle.runner.proofs.run.run_parts.Reads as reads
+use Rattle.runner.proofs.run.run_parts.Lts as lts
+use Rattle.fields.proofs.outcome.refuse.Reads as refuse-reads
+use Rattle.measure.proofs.measure.measure.Reads as measure-reads
+use Rattle.measure.proofs.prepare.prepare.Reads as prepare-reads
+use Rattle.reader.proofs.kinds.is_in.Reads as is-in-reads
+use Rattle.runner.proofs.run.write_tree.Reads as write-tree-reads
+
+returns : tie.Need-returns
+returns c = λ f z. kind-out f _ _ _ _ (c .before .before .is-in .ensures (f .source) (z .pieces .source)) (not-true _ (c .before .if1 .taken)) (c .refuse .ensures)
+
+prepare-requires : tie.Need-prepare-requires
+prepare-requires c κs = (c .before .before .before .before .before .before .before .before .before .pre .1 .1 .pieces .source-short, c .before .before .before .before .before .before .before .before .before .pre .1 .1 .pieces .body-short, refl, zeros 8224, refl, zeros 1024, (c .before .before .before .before .before .before .before .before .before .pre .1 .0, c .before .before .before .before .before .before .before .before .before .pre .1 .1 .pieces .source, c .before .before .before .before .before .before .before .before .before .pre .1 .1 .pieces .body))
+
+measure-requires : tie.Need-measure-requires
+measure-requires c κs = (c .before .before .before .before .prepare .ensures (c .before .before .before .before .before .before .before .before .before .before .before .before .before .before .pre .1 .0) (c .before .before .before .before .before .before .before .before .before .before .before .before .before .before .pre .1 .1 .pieces .source) (c .before .before .before .before .before .before .before .before .before .before .before .before .before .before .pre .1 .1 .pieces .body) (rises (c .before .before .before .before .before .before .before .before .before .before .before .before .before .before .pre .1 .1)) (formed (c .before .before .before .before .before .before .before .before .before .before .before .before .before .before .pre .1 .1)) .0 .sound, c .before .before .before .before .before .before .before .before .before .before .before .before .before .before .pre .0, omega arith)
+
+returns-2 : tie.Need-returns-2
+returns-2 c = λ f z. let p = c .before .before .before .before .before .before .before .before .before .before .prepare .ensures f (z .pieces .source) (z .pieces .body) (rises z) (formed z) in tree-more f _ _ _ _ (c .before .before .before .before .before .before .before .before .before .before .before .before .before .before .is-in .ensures (f .source) (z .pieces .source)) (not-false _ (c .before .before .before .before .before .before .before .before .before .before .before .before .before .if1 .left)) (c .before .before .before .before .before .measure .result) (c .before .before .before .before .before .measure .ensures .0 f (p .0) (p .1)) _ _ (c .before .before .before .e .given .1) (c .before .before .before .before .before .measure .ensures .1) (c .before .if2 .taken) (c .refuse2 .ensures)
+
+returns-3 : tie.Need-returns-3
+returns-3 c = λ f z. let p = c .before .before .before .before .before .before .before .before .before .before .before .prepare .ensures f (z .pieces .source) (z .pieces .body) (rises z) (formed z) in tree-long f _ _ _ _ (c .before .before .before .before .before .before .before .before .before .before .before .before .before .before .before .is-in .ensures (f .source) (z .pieces .source)) (not-false _ (c .before .before .before .before .before .before .before .before .before .before .before .before .before .before .if1 .left)) (c .before .before .before .before .before .before .measure .result) (c .before .before .before .before .before .before .measure .ensures .0 f (p .0) (p .1)) _ _ (c .before .before .before .before .e .given .1) (c .before .before .if2 .left) (c .before .if3 .taken) (c .refuse3 .ensures)
+
+write-tree-requires : tie.Need-write-tree-requires
+write-tree-requires c κs = (c .before .before .before .before .before .before .before .before .before .before .before .before .before .before .before .before .before .before .before .before .before .before .pre .0, (c .before .before .before .before .before .before .before .before .before .before .before .before .before .before .before .before .before .before .before .before .before .before .pre .1 .0, c .before .before .before .before .before .before .before .before .before .before .before .before .before .before .before .before .before .before .before .before .before .before .pre .1 .1, c .before .before .before .before .before .before .before .before .before .before .before .before .prepare .ensures (c .before .before .before .before .before .before .before .before .before .before .before .before .before .before .before .before .before .before .before .before .before .before .pre .1 .0) (c .before .before .before .before .before .before .before .before .before .before .before .before .before .before .before .before .before .before .before .before .before .before .pre .1 .1 .pieces .source) (c .before .before .before .before .before .before .before .before .before .before .before .before .before .before .before .before .before .before .before .before .before .before .pre .1 .1 .pieces .body) (rises (c .before .before .before .before .before .before .before .before .before .before .before .before .before .before .before .before .before .before .before .before .before .before .pre .1 .1)) (formed (c .before .before .before .before .before .before .before .before .before .before .before .before .before .before .before .before .before .before .before .before .before .before .pre .1 .1)) .0))
+
+returns-4 : tie.Need-returns-4
+returns-4 c = λ f z. let p = c .before .before .before .before .before .before .before .before .before .before .before .before .before .before .before .prepare .ensures f (z .pieces .source) (z .pieces .body) (rises z) (formed z) in tree-fits f _ _ _ _ (c .before .before .before .before .before .before .before .before .before .before .before .before .before .before .before .before .before .before .before .is-in .ensures (f .source) (z .pieces .source)) (not-false _ (c .before .before .before .before .before .before .before .before .before .before .before .before .before .before .before .before .before .before .if1 .left)) (c .before .before .before .before .before .before .before .before .before .before .measure .result) (c .before .before .before .before .before .before .before .before .before .before .measure .ensures .0 f (p .0) (p .1)) _ _ (c .before .before .before .before .before .before .before .before .e .given .1) (c .before .before .before .before .before .before .if2 .left) (c .before .before .before .before .before .if3 .left) (λ t e h. c .before .before .write-tree .ensures f t z (p .0) e h)
+
+returns-5 : tie.Need-returns-5
+returns-5 c = λ f z. let p = c .before .before .before .before .before .before .before .before .prepare .ensures f (z .pieces .source) (z .pieces .body) (rises z) (formed z) in tree-deep f _ _ _ _ (c .before .before .before .before .before .before .before .before .before .before .before .before .is-in .ensures (f .source) (z .pieces .source)) (not-false _ (c .before .before .before .before .before .before .before .before .before .before .before .if1 .left)) (c .before .before .before .measure .result) (c .before .before .before .measure .ensures .0 f (p .0) (p .1)) (c .before .enum-told .given .1) (c .refuse4 .ensures)
+
+returns-6 : tie.Need-returns-6
+returns-6 c = λ f z. let p = c .before .before .before .before .before .before .before .before .prepare .ensures f (z .pieces .source) (z .pieces .body) (rises z) (formed z) in tree-broken f _ _ _ _ (c .before .before .before .before .before .before .before .before .before .before .before .before .is-in .ensures (f .source) (z .pieces .source)) (not-false _ (c .before .before .before .before .before .before .before .before .before .before .before .if1 .left)) (c .before .before .before .measure .result) (c .before .before .before .measure .ensures .0 f (p .0) (p .1)) (c .before .enum-told2 .given .1) (c .refuse5 .ensures)
+
+pub run-parts-spec : {M : Type 1} → statement M
+run-parts-spec =
+    tie.close
+    (tie.spec
+    (λ c κs. search needs)
+    (λ c κs. search needs)
+    returns
+    (λ c. search needs)
+    (λ c. search needs)
+    prepare-requires
+    (λ c. search needs)
+    (λ c. search needs)
+    (λ c. search needs)
+    measure-requires
+    (λ c. search needs)
+    (λ c κs. search needs)
+    returns-2
+    (λ c κs. search needs)
+    returns-3
+    (λ c. search needs)
+    write-tree-requires
+    (λ c. search needs)
+    (λ c κs. search needs)
+    (λ c. search needs)
+    (λ c κs. search needs)
+    (λ c. search needs)
+    returns-4
+    returns-5
+    returns-6)

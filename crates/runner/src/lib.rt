@@ -1,0 +1,3 @@
+// The operation run: a tree through a translation, into an output.
+pub mod kinds;
+pub mod run;

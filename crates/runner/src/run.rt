@@ -1,0 +1,133 @@
+// The operation run. It measures the result first and writes it only where it fits.
+use crate::kinds::map_kinds;
+use fields::outcome::Answer;
+use fields::outcome::Outcome;
+use fields::outcome::Reason;
+use fields::outcome::accept;
+use fields::outcome::refuse;
+use measure::measure::Measured;
+use measure::measure::measure;
+use measure::prepare::prepare;
+use reader::index::build;
+use reader::kinds::is_in;
+use reader::node::Syntax;
+use translation::check::check_translation;
+use translation::index::build_items;
+use translation::parts::accepted_parts;
+use writer::output::Ran;
+ghost use mathlib.Core.Path.{_≡_};
+ghost use mathlib.Core.List.{[]};
+ghost use Prim.Native.Nat.{_<_, _≤_};
+ghost use lib.ListN.{length};
+ghost use Rattle.fields.specs.Outcome.{value};
+ghost use Rattle.reader.specs.Code.{Code};
+ghost use Rattle.reader.specs.Syntax.{read, done, write, tree as inTrees};
+ghost use Rattle.reader.specs.Inner.Index.{Indexed};
+ghost use Rattle.translation.specs.Translation.{Translation};
+ghost use Rattle.translation.specs.Running.{transform};
+ghost use Rattle.translation.specs.Operations.{runTree};
+ghost use Rattle.runner.specs.Inner.Runs.{Checked, runOf, Answers};
+
+// Writes the run of a tree whose result fits into the output.
+fn write_tree(
+    source: &[u8],
+    index: &[u16],
+    target: &[u8],
+    body: &[u8],
+    kind: u8,
+    tree: &[u8],
+    output: &mut [u8],
+) -> Answer
+    requires { ⌜ (kind < 32) × ((f : Translation) × Checked (now source) (now target) (now body) f × Indexed (now index) (now source) (f .source)) ⌝ }
+    ensures { λ r. ⌜ ((f : Translation) (t : Code) → Checked (now (source .entry)) (now (target .entry)) (now (body .entry)) f → Indexed (now (index .entry)) (now (source .entry)) (f .source)
+        → read inTrees (f .source) [] 64 kind (now (tree .entry)) ≡ done t [] → length (write inTrees (transform f t)) ≤ length (now (output .entry))
+        → Answers (value (write inTrees (transform f t))) (now (output .entry)) (now (output .exit)) (r .outcome)) ⌝ }
+{
+    let mut places = [0u16; 8224];
+    build(target, &mut places);
+    let mut items = [0u16; 8224];
+    build_items(body, &mut items);
+    let mut mapped = [0u8; 32];
+    map_kinds(body, &items, &mut mapped);
+    match writer::run::run(
+        Syntax::Tree,
+        source,
+        index,
+        target,
+        &places,
+        body,
+        &items,
+        &mapped,
+        &[],
+        tree,
+        kind,
+        0,
+        64,
+        output,
+        0,
+    ) {
+        Ran::To(_, p) => accept(p),
+        Ran::Full => refuse(Reason::Output),
+    }
+}
+
+// The run of a tree of a kind, through a translation that was accepted: 14 to 17.
+fn run_parts(
+    source: &[u8],
+    target: &[u8],
+    body: &[u8],
+    kind: u8,
+    tree: &[u8],
+    output: &mut [u8],
+) -> Answer
+    requires { ⌜ (kind < 32) × ((f : Translation) × Checked (now source) (now target) (now body) f) ⌝ }
+    ensures { λ r. ⌜ ((f : Translation) → Checked (now (source .entry)) (now (target .entry)) (now (body .entry)) f
+        → Answers (runOf f kind (now (tree .entry)) (length (now (output .entry)))) (now (output .entry)) (now (output .exit)) (r .outcome)) ⌝ }
+{
+    if !is_in(source, kind) {
+        return refuse(Reason::Root);
+    }
+    let mut index = [0u16; 8224];
+    let mut counts = [0u16; 1024];
+    prepare(source, body, &mut index, &mut counts);
+    let room = output.len();
+    match measure(source, &index, &counts, kind, tree, 0, 64, room + 1) {
+        Measured::End(e, n) => {
+            if e != tree.len() {
+                return refuse(Reason::Tree);
+            }
+            if room < n {
+                return refuse(Reason::Output);
+            }
+            write_tree(source, &index, target, body, kind, tree, output)
+        }
+        Measured::Deep => refuse(Reason::Levels),
+        Measured::Broken => refuse(Reason::Tree),
+    }
+}
+
+// Run: 1 to 7 for the translation, 14 to 16 for the tree against its source, 17 where the result is longer than the output.
+pub fn run(translation: &[u8], root: u32, tree: &[u8], output: &mut [u8]) -> Answer
+    ensures { λ r. ⌜ (r .outcome ≡ runTree (now (translation .entry)) root (now (tree .entry)) (now (output .entry)) .outcome)
+        × (now (output .exit) ≡ runTree (now (translation .entry)) root (now (tree .entry)) (now (output .entry)) .output) ⌝ }
+{
+    let answer = check_translation(translation);
+    let outcome = answer.outcome;
+    if let Outcome::Refused(reason) = outcome {
+        return refuse(reason);
+    }
+    if 31 < root {
+        return refuse(Reason::Root);
+    }
+    let parts = accepted_parts(translation);
+    let a = parts.source_end;
+    let b = parts.target_end;
+    run_parts(
+        &translation[3..a],
+        &translation[a + 3..b],
+        &translation[b..],
+        root as u8,
+        tree,
+        output,
+    )
+}
