@@ -1,2 +1,5 @@
 pub mod TermCodec
 pub mod PackCodec
+pub mod ByPlace
+pub mod Passes
+pub mod Standing
