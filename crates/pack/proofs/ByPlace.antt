@@ -1,6 +1,6 @@
 -- The parts by place are the parts of `packParts`.
 use Prim.Native.Nat.{ℕ, _-_, _≤_}
-use mathlib.Core.Path.{_≡_, refl, sym, ap, _∙_}
+use mathlib.Core.Path.{_≡_, refl, sym, _∙_}
 use mathlib.Core.Bool.{Bool, true, false, cond, _&&_}
 use mathlib.Core.List.{List, [], _∷_, map}
 use mathlib.Core.Option.{Option, none, some}
@@ -18,7 +18,7 @@ use Rattle.language.specs.Language.{Language}
 use Rattle.language.specs.LanguageFile.{entriesOf}
 use Rattle.translation.specs.Translation.{Body}
 use Rattle.translation.specs.TranslationFile.{bodyOf}
-use Rattle.pack.specs.Pack.{Pack, Part, languagePart, bodyPart, termPart, languageIn, bodyIn, partOf, group, inGroups, asLanguage, asBody, asTerm, packWith, packIn, packInParts, packInFields, packParts}
+use Rattle.pack.specs.Pack.{Pack, Part, languagePart, bodyPart, languageIn, bodyIn, partOf, group, inGroups, asLanguage, asBody, asTerm, packWith, packIn, packInParts, packParts}
 use Rattle.pack.specs.Inner.Parts.{listIn, languageAt, bodyAt, partGood, partWhole, partAt, partsOrdered, isTag, tagged}
 use Rattle.pack.proofs.PackCodec.{pack-from}
 
@@ -98,7 +98,11 @@ past-leb a b h k =
     (λ e. let n = leb-true a b e in le-leb (a - 0x30) (b - 0x30) (omega arith) ∙ sym e)
     (λ e. let n = leb-false a b e in lt-leb (a - 0x30) (b - 0x30) (omega arith) ∙ sym e)
 
--- Tests of which all must hold, in another order.
+-- Tests of which all must hold, in another grouping or order.
+pub and-join : (a b c : Bool) → (a && (b && c)) ≡ ((a && b) && c)
+and-join true b c = refl
+and-join false b c = refl
+
 pub and-swap : (a b c : Bool) → (a && (b && c)) ≡ (b && (a && c))
 and-swap true b c = refl
 and-swap false true c = refl

@@ -3,3 +3,5 @@ pub mod PackCodec
 pub mod ByPlace
 pub mod Passes
 pub mod Standing
+pub mod Levels
+pub mod Readings

@@ -16,7 +16,7 @@ use Rattle.fields.specs.declared.outcome.Outcome.{Outcome}
 use Rattle.fields.specs.declared.outcome.Outcome.the-variants.{Accepted, Refused}
 use Rattle.fields.specs.declared.outcome.Reason.the-variants as Why
 use Rattle.fields.specs.Inner.Places.{fieldEnd, isWhole, contentsAt, placesFrom, places, keyAt}
-use Rattle.fields.proofs.Truth.{by-test, false-true, some-is}
+use Rattle.fields.proofs.Truth.{false-true, some-is}
 use Rattle.fields.proofs.Lists.{all-true}
 use Rattle.fields.proofs.Places.{pass-done, pass-next, every-here}
 use Rattle.language.specs.Language.{entryKey, clashes}
@@ -32,7 +32,7 @@ use Rattle.translation.proofs.Found.{cut}
 use Rattle.pack.specs.Pack.{Pack, packParts, packLimit, isLanguageTag, packOf}
 use Rattle.pack.specs.Inner.Parts.{languageAt, bodyAt, partGood, partWhole, partsOrdered, isTag, tagged, risesAt, clashAt}
 use Rattle.pack.proofs.PackCodec.{packRises, packClashes}
-use Rattle.pack.proofs.ByPlace.{part-cases, and-swap, parts-there, HoldsParts, holds-parts, wholes}
+use Rattle.pack.proofs.ByPlace.{part-cases, and-swap, and-join, parts-there, HoldsParts, holds-parts, wholes}
 
 -- part_whole, rises_at and clash_at: the field at p ends at e
 module _ (s : List ℕ) (p e : ℕ) (ee : e ≡ fieldEnd s p) where
@@ -172,15 +172,11 @@ rises-places s (p ∷ l) h =
     (λ e i.
     let z : eqb (getD s p 0) 0x31 ≡ false = cc (eqb-true (getD s p 0) 0x30 e) in
     let r = rising-is (contentsAt s p) (languageAt s p) (holds-entries _ _ (language-is s p i)) in
-    cc (more, r, and-assoc (rising entryKey (languageAt s p)) (all (rising entryKey) (map (languageAt s) (keep (isTag 0x30 s) l))) (all (rising itemKey) (map (bodyAt s) (keep (isTag 0x31 s) l)))))
+    cc (more, r, and-join (rising entryKey (languageAt s p)) (all (rising entryKey) (map (languageAt s) (keep (isTag 0x30 s) l))) (all (rising itemKey) (map (bodyAt s) (keep (isTag 0x31 s) l)))))
     (λ d e i.
     let r = items-rise (contentsAt s p) (bodyAt s p) (holds-items _ _ (body-is s p i)) in
     cc (more, r, and-swap (rising itemKey (bodyAt s p)) (all (rising entryKey) (map (languageAt s) (keep (isTag 0x30 s) l))) (all (rising itemKey) (map (bodyAt s) (keep (isTag 0x31 s) l)))))
     (λ d f e. cc more)
-  where
-    and-assoc : (a b c : Bool) → ((a && b) && c) ≡ (a && (b && c))
-    and-assoc true b c = refl
-    and-assoc false b c = refl
 
 clash-places : (s l : List ℕ) → all (partWhole s) l ≡ true
     → any (clashAt s) l ≡ any (λ m. clashes m m) (map (languageAt s) (keep (isTag 0x30 s) l))

@@ -2,4 +2,6 @@
 pub mod check;
 pub mod order;
 pub mod parts;
+pub mod signs;
+pub mod term;
 pub mod whole;

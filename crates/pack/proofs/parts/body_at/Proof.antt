@@ -1,4 +1,3 @@
-use borrow.Author.Needs.{needs}
 use Rattle.pack.proofs.Standing.{accepted-whole, body-found}
 use Rattle.pack.proofs.parts.body_at.Statement.{statement}
 use Rattle.pack.proofs.parts.body_at.Tie as tie

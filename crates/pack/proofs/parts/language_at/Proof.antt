@@ -1,4 +1,3 @@
-use borrow.Author.Needs.{needs}
 use Rattle.pack.proofs.Standing.{accepted-whole, language-found}
 use Rattle.pack.proofs.parts.language_at.Statement.{statement}
 use Rattle.pack.proofs.parts.language_at.Tie as tie

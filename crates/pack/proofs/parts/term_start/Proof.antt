@@ -1,4 +1,3 @@
-use borrow.Author.Needs.{needs}
 use native.Mathlib.Omega.{arith}
 use Rattle.pack.proofs.Standing.{accepted-whole, term-found}
 use Rattle.pack.proofs.parts.term_start.Statement.{statement}
