@@ -31,12 +31,12 @@ abbrev pub newTerm : Pack → List ℕ → Pack
 newTerm p t = record { languages = p .languages; bodies = p .bodies; term = t }
 
 -- The parts that a pack is made of.
-record PackFrom (ps : List Part) (p : Pack) : Type 0 where
-  groups : inGroups 0 ps ≡ true
-  languages : concatMap asLanguage ps ≡ p .languages
-  bodies : concatMap asBody ps ≡ p .bodies
-  term : concatMap asTerm ps ≡ p .term ∷ []
-  few : leb (length (p .languages)) 32 && leb (length (p .bodies)) 32 ≡ true
+pub record PackFrom (ps : List Part) (p : Pack) : Type 0 where
+  pub groups : inGroups 0 ps ≡ true
+  pub languages : concatMap asLanguage ps ≡ p .languages
+  pub bodies : concatMap asBody ps ≡ p .bodies
+  pub term : concatMap asTerm ps ≡ p .term ∷ []
+  pub few : leb (length (p .languages)) 32 && leb (length (p .bodies)) 32 ≡ true
 
 -- A pack with one term.
 with-one : (ls : List Language) (bs : List Body) (ts : List (List ℕ)) (p : Pack) → packWith ls bs ts ≡ some p
@@ -53,7 +53,7 @@ with-one ls bs (t ∷ []) p e =
     )
 
 -- The pack of parts, and the parts of a pack.
-pack-from : (ps : List Part) (p : Pack) → packIn ps ≡ some p → PackFrom ps p
+pub pack-from : (ps : List Part) (p : Pack) → packIn ps ≡ some p → PackFrom ps p
 unfolding packIn
 pack-from ps p e =
     let (g, d) = cond-there (inGroups 0 ps) (packWith (concatMap asLanguage ps) (concatMap asBody ps) (concatMap asTerm ps)) p e in
@@ -139,23 +139,23 @@ front-parts fs a p i =
     (ps, x, subst (λ (l : List Part). PackFrom l p) (z ∙ ap (λ (l : List Part). ps ++ l) t) (i .from))
 
 -- What rises in a pack.
-abbrev packRises : Pack → Bool
+abbrev pub packRises : Pack → Bool
 packRises p = all (rising entryKey) (p .languages) && all (rising itemKey) (p .bodies)
 
 -- What clashes in a pack.
-abbrev packClashes : Pack → Bool
+abbrev pub packClashes : Pack → Bool
 packClashes p = any (λ l. clashes l l) (p .languages)
 
 -- A pack that a file holds: its parts, and what was asked of them.
-record PackIn (s : List ℕ) (p : Pack) : Type 0 where
-  short : ltb packLimit (length s) ≡ false
-  within : hasOver isLanguageTag languageLimit s ≡ false
-  parts : packParts s ≡ some p
-  rises : packRises p ≡ true
-  apart : packClashes p ≡ false
+pub record PackIn (s : List ℕ) (p : Pack) : Type 0 where
+  pub short : ltb packLimit (length s) ≡ false
+  pub within : hasOver isLanguageTag languageLimit s ≡ false
+  pub parts : packParts s ≡ some p
+  pub rises : packRises p ≡ true
+  pub apart : packClashes p ≡ false
 
 -- A file that is a pack.
-pack-in : (s : List ℕ) (p : Pack) → packOf s ≡ value p → PackIn s p
+pub pack-in : (s : List ℕ) (p : Pack) → packOf s ≡ value p → PackIn s p
 unfolding packOf
 pack-in s p e =
     let o = open-value packRises packClashes value (ltb packLimit (length s) || hasOver isLanguageTag languageLimit s) (packParts s) p e in

@@ -1,0 +1,258 @@
+-- The passes over a pack: a law for each return of the functions of its check.
+use Prim.Native.Nat.{ℕ, _+_, _-_, _<_, _≤_}
+use mathlib.Core.Path.{_≡_, refl, sym, ap, _∙_}
+use mathlib.Core.Bool.{Bool, true, false, not, _&&_, _||_}
+use mathlib.Core.List.{List, [], _∷_, map}
+use mathlib.Core.Option.{Option, none, some}
+use native.Mathlib.Omega.{arith}
+use lib.ListN.{length, getD, take, drop}
+use lib.Dec.{ltb, leb, eqb}
+use borrow.Author.Tests.{lt-ltb, le-ltb, le-leb, lt-leb, eq-eqb, ne-eqb, leb-true, eqb-true}
+use Rattle.fields.specs.Lists.{all, any, isSome, keep}
+use Rattle.fields.specs.Fields.{pairAt, hasOver}
+use Rattle.fields.specs.Keyed.{rising}
+use Rattle.fields.specs.Outcome.{value, refuseIf, checked}
+use Rattle.fields.specs.declared.outcome.Outcome.{Outcome}
+use Rattle.fields.specs.declared.outcome.Outcome.the-variants.{Accepted, Refused}
+use Rattle.fields.specs.declared.outcome.Reason.the-variants as Why
+use Rattle.fields.specs.Inner.Places.{fieldEnd, isWhole, contentsAt, placesFrom, places, keyAt}
+use Rattle.fields.proofs.Truth.{false-true, some-is}
+use Rattle.fields.proofs.Lists.{all-true}
+use Rattle.fields.proofs.Places.{pass-done, pass-next, every-here}
+use Rattle.language.specs.Language.{entryKey, clashes}
+use Rattle.language.specs.LanguageFile.{entriesOf, languageLimit}
+use Rattle.language.specs.Inner.Entries.{resultsMeet}
+use Rattle.language.proofs.Holds.{holds-entries}
+use Rattle.language.proofs.Chain.{rising-is}
+use Rattle.language.proofs.Clashes.{clash-is}
+use Rattle.translation.specs.Translation.{itemKey}
+use Rattle.translation.specs.TranslationFile.{bodyOf}
+use Rattle.translation.proofs.Items.{holds-items, rising-is as items-rise}
+use Rattle.translation.proofs.Found.{cut}
+use Rattle.pack.specs.Pack.{Pack, packParts, packLimit, isLanguageTag, packOf}
+use Rattle.pack.specs.Inner.Parts.{languageAt, bodyAt, partGood, partWhole, partsOrdered, isTag, tagged, risesAt, clashAt}
+use Rattle.pack.proofs.PackCodec.{packRises, packClashes}
+use Rattle.pack.proofs.ByPlace.{part-cases, and-swap, and-join, parts-there, HoldsParts, holds-parts, wholes}
+
+-- part_whole, rises_at and clash_at: the field at p ends at e
+module _ (s : List ℕ) (p e : ℕ) (ee : e ≡ fieldEnd s p) where
+  pub part-cut : length s < e → false ≡ partWhole s p
+  unfolding partWhole isWhole
+  part-cut h = cc (lt-leb e (length s) h)
+
+  -- the bytes that are lent of it
+  pub lent : cut s (p + 3) e ≡ contentsAt s p
+  unfolding fieldEnd
+  lent =
+      let n : e - (p + 3) ≡ pairAt s (p + 1) = omega (arith, ee) in
+      ap (λ (n : ℕ). take n (drop (p + 3) s)) n
+
+  module _ (tag : ℕ) (et : tag ≡ getD s p 0) (x : Bool) where
+    module _ (fits : e ≤ length s) where
+      pub part-language : tag ≡ 0x30 → x ≡ isSome (entriesOf (cut s (p + 3) e)) → x ≡ partWhole s p
+      unfolding partWhole isWhole partGood
+      part-language h ex = cc (lent, le-leb e (length s) fits, eq-eqb tag 0x30 h)
+
+      pub part-body : (tag ≡ 0x30 → ⊥) → tag ≡ 0x31 → x ≡ isSome (bodyOf (cut s (p + 3) e)) → x ≡ partWhole s p
+      unfolding partWhole isWhole partGood
+      part-body n h ex = cc (lent, le-leb e (length s) fits, ne-eqb tag 0x30 n, eq-eqb tag 0x31 h)
+
+      pub part-term : (tag ≡ 0x30 → ⊥) → (tag ≡ 0x31 → ⊥) → eqb tag 0x32 ≡ partWhole s p
+      unfolding partWhole isWhole partGood
+      part-term n h = cc (le-leb e (length s) fits, ne-eqb tag 0x30 n, ne-eqb tag 0x31 h)
+
+    pub rises-language : tag ≡ 0x30 → x ≡ rising (keyAt 0x11 (cut s (p + 3) e)) (places (cut s (p + 3) e)) → x ≡ risesAt s p
+    unfolding risesAt
+    rises-language h ex = cc (lent, eq-eqb tag 0x30 h)
+
+    pub rises-body : (tag ≡ 0x30 → ⊥) → tag ≡ 0x31 → x ≡ rising (keyAt 0x22 (cut s (p + 3) e)) (places (cut s (p + 3) e)) → x ≡ risesAt s p
+    unfolding risesAt
+    rises-body n h ex = cc (lent, ne-eqb tag 0x30 n, eq-eqb tag 0x31 h)
+
+    pub rises-term : (tag ≡ 0x30 → ⊥) → (tag ≡ 0x31 → ⊥) → true ≡ risesAt s p
+    unfolding risesAt
+    rises-term n h = cc (ne-eqb tag 0x30 n, ne-eqb tag 0x31 h)
+
+    pub clash-other : (tag ≡ 0x30 → ⊥) → false ≡ clashAt s p
+    unfolding clashAt
+    clash-other n = cc (ne-eqb tag 0x30 n)
+
+    pub clash-language : tag ≡ 0x30 → x ≡ resultsMeet (cut s (p + 3) e) (cut s (p + 3) e) → x ≡ clashAt s p
+    unfolding clashAt
+    clash-language h ex = cc (lent, eq-eqb tag 0x30 h)
+
+-- A field that is whole ends in the file, and those after it are whole.
+pub ends-in : (s : List ℕ) (p e : ℕ) → e ≡ fieldEnd s p → isWhole s p ≡ true → e ≤ length s
+unfolding isWhole
+ends-in s p e h w = rw h (leb-true (fieldEnd s p) (length s) w)
+
+pub whole-next : (s : List ℕ) (p e : ℕ) → e ≡ fieldEnd s p → all (isWhole s) (placesFrom s p) ≡ true → p < length s → all (isWhole s) (placesFrom s e) ≡ true
+whole-next s p e h inv here = rw h (every-here (isWhole s) s p inv here .1)
+
+-- parts_ordered
+module _ (s : List ℕ) (last p : ℕ) (x : Bool) (inv : partsOrdered s last (placesFrom s p) ≡ x) where
+  pub ordered-done : length s ≤ p → true ≡ x
+  unfolding partsOrdered
+  ordered-done h = pass-done (partsOrdered s last) s p x inv h
+
+  module _ (b : Bool) (eb : b ≡ partWhole s p) (end : ℕ) (ee : end ≡ fieldEnd s p) (here : p < length s) where
+    turn : ((b && leb last (getD s p 0)) && partsOrdered s (getD s p 0) (placesFrom s end)) ≡ x
+    unfolding partsOrdered
+    turn = rw eb (pass-next (partsOrdered s last) s p x inv end here ee)
+
+    pub ordered-broken : b ≡ false → false ≡ x
+    ordered-broken h = rw h at turn
+
+    module _ (good : b ≡ true) (tag : ℕ) (et : tag ≡ getD s p 0) where
+      pub ordered-falls : tag < last → false ≡ x
+      ordered-falls h = rw (good, ← et, lt-leb last tag h) at turn
+
+      pub ordered-next : last ≤ tag → partsOrdered s tag (placesFrom s end) ≡ x
+      ordered-next h = rw (good, ← et, le-leb last tag h) at turn
+
+-- count_tag
+pub count-start : (tag : ℕ) (s : List ℕ) → 0 + length (keep (isTag tag s) (places s)) ≡ length (tagged tag s)
+unfolding tagged
+count-start tag s = omega arith
+
+module _ (tag : ℕ) (s : List ℕ) (p n x : ℕ) (inv : n + length (keep (isTag tag s) (placesFrom s p)) ≡ x) where
+  pub count-done : length s ≤ p → n ≡ x
+  unfolding keep
+  count-done h = let e = pass-done (λ l. n + length (keep (isTag tag s) l)) s p x inv h in omega arith
+
+  module _ (end : ℕ) (ee : end ≡ fieldEnd s p) (here : p < length s) (t : ℕ) (et : t ≡ getD s p 0) where
+    pub count-here : t ≡ tag → n + 1 + length (keep (isTag tag s) (placesFrom s end)) ≡ x
+    unfolding keep
+    count-here h =
+        let e = pass-next (λ l. n + length (keep (isTag tag s) l)) s p x inv end here ee in
+        let d = rw (← et, eq-eqb t tag h) at e in
+        omega arith
+
+    pub count-other : (t ≡ tag → ⊥) → n + length (keep (isTag tag s) (placesFrom s end)) ≡ x
+    unfolding keep
+    count-other h =
+        let e = pass-next (λ l. n + length (keep (isTag tag s) l)) s p x inv end here ee in
+        rw (← et, ne-eqb t tag h) at e
+
+-- parts_whole
+module _ (s : List ℕ) (x : Bool) (ex : x ≡ partsOrdered s 0x30 (places s)) where
+  pub whole-unordered : x ≡ false → false ≡ isSome (packParts s)
+  whole-unordered h = rw (← ex, h) at (parts-there s)
+
+  module _ (xt : x ≡ true) (m : ℕ) (em : m ≡ length (tagged 0x30 s)) where
+    pub whole-languages : 32 < m → false ≡ isSome (packParts s)
+    whole-languages h = rw (← ex, xt, ← em, lt-leb m 32 h) at (parts-there s)
+
+    module _ (few : m ≤ 32) (n : ℕ) (en : n ≡ length (tagged 0x31 s)) where
+      pub whole-bodies : 32 < n → false ≡ isSome (packParts s)
+      whole-bodies h = rw (← ex, xt, ← em, le-leb m 32 few, ← en, lt-leb n 32 h) at (parts-there s)
+
+      pub whole-term : n ≤ 32 → (k : ℕ) → k ≡ length (tagged 0x32 s) → eqb k 1 ≡ isSome (packParts s)
+      whole-term h k ek = rw (← ex, xt, ← em, le-leb m 32 few, ← en, le-leb n 32 h, ← ek) at (parts-there s)
+
+-- A language at a place, and a body.
+module _ (s : List ℕ) (p : ℕ) where
+  pub language-is : isSome (entriesOf (contentsAt s p)) ≡ true → entriesOf (contentsAt s p) ≡ some (languageAt s p)
+  unfolding languageAt
+  language-is h = let r = some-is (entriesOf (contentsAt s p)) h in rw (r .1)
+
+  pub body-is : isSome (bodyOf (contentsAt s p)) ≡ true → bodyOf (contentsAt s p) ≡ some (bodyAt s p)
+  unfolding bodyAt
+  body-is h = let r = some-is (bodyOf (contentsAt s p)) h in rw (r .1)
+
+-- The keys of all languages and bodies rise where they do at each place.
+rises-places : (s l : List ℕ) → all (partWhole s) l ≡ true
+    → all (risesAt s) l ≡ (all (rising entryKey) (map (languageAt s) (keep (isTag 0x30 s) l)) && all (rising itemKey) (map (bodyAt s) (keep (isTag 0x31 s) l)))
+unfolding all keep risesAt
+rises-places s [] h = refl
+rises-places s (p ∷ l) h =
+    let w = all-true (partWhole s) p l h in
+    let more = rises-places s l (w .1) in
+    part-cases s p (w .0)
+    (λ e i.
+    let z : eqb (getD s p 0) 0x31 ≡ false = cc (eqb-true (getD s p 0) 0x30 e) in
+    let r = rising-is (contentsAt s p) (languageAt s p) (holds-entries _ _ (language-is s p i)) in
+    cc (more, r, and-join (rising entryKey (languageAt s p)) (all (rising entryKey) (map (languageAt s) (keep (isTag 0x30 s) l))) (all (rising itemKey) (map (bodyAt s) (keep (isTag 0x31 s) l)))))
+    (λ d e i.
+    let r = items-rise (contentsAt s p) (bodyAt s p) (holds-items _ _ (body-is s p i)) in
+    cc (more, r, and-swap (rising itemKey (bodyAt s p)) (all (rising entryKey) (map (languageAt s) (keep (isTag 0x30 s) l))) (all (rising itemKey) (map (bodyAt s) (keep (isTag 0x31 s) l)))))
+    (λ d f e. cc more)
+
+clash-places : (s l : List ℕ) → all (partWhole s) l ≡ true
+    → any (clashAt s) l ≡ any (λ m. clashes m m) (map (languageAt s) (keep (isTag 0x30 s) l))
+unfolding any keep clashAt
+clash-places s [] h = refl
+clash-places s (p ∷ l) h =
+    let w = all-true (partWhole s) p l h in
+    let more = clash-places s l (w .1) in
+    part-cases s p (w .0)
+    (λ e i.
+    let r = clash-is (contentsAt s p) (languageAt s p) (holds-entries _ _ (language-is s p i)) in
+    cc (more, r))
+    (λ d e i. cc more)
+    (λ d f e. cc more)
+
+-- over_limit
+same-tag : (t : Bool) → (t || t) ≡ t
+same-tag true = refl
+same-tag false = refl
+
+module _ (s : List ℕ) where
+  pub over-file : 32768 < length s → true ≡ (ltb packLimit (length s) || hasOver isLanguageTag languageLimit s)
+  over-file h = rw (lt-ltb 32768 (length s) h)
+
+  pub over-language : length s ≤ 32768 → (x : Bool) → x ≡ hasOver (λ tag. eqb tag 0x30 || eqb tag 0x30) languageLimit s
+      → x ≡ (ltb packLimit (length s) || hasOver isLanguageTag languageLimit s)
+  over-language h x ex =
+      rw (le-ltb 32768 (length s) h) (ex ∙ ap (λ (f : ℕ → Bool). hasOver f languageLimit s) (λ i t. same-tag (eqb t 0x30) i))
+
+-- check_pack
+module _ (s : List ℕ) (over : Bool) (eo : over ≡ (ltb packLimit (length s) || hasOver isLanguageTag languageLimit s)) where
+  pub over-refused : {o : Outcome} → over ≡ true → o ≡ Refused Why.TooLong → o ≡ checked (packOf s)
+  unfolding packOf
+  over-refused h i = cc
+
+  module _ (within : over ≡ false) (there : Bool) (et : there ≡ isSome (packParts s)) where
+    absent : (p : Option Pack) → packParts s ≡ p → isSome p ≡ false → checked (packOf s) ≡ Refused Why.Broken
+    unfolding packOf
+    absent none e h = cc
+    absent (some p) e h = false-true (sym h)
+
+    pub broken-refused : {o : Outcome} → there ≡ false → o ≡ Refused Why.Broken → o ≡ checked (packOf s)
+    broken-refused h i = i ∙ sym (absent (packParts s) refl (sym et ∙ h))
+
+    module _ (whole-is : there ≡ true) where
+      held : (p : Pack) × (packParts s ≡ some p)
+      held = some-is (packParts s) (sym et ∙ whole-is)
+
+      holds : HoldsParts s (held .0)
+      holds = holds-parts s (held .0) (held .1)
+
+      pub each-whole : all (isWhole s) (places s) ≡ true
+      each-whole = wholes s (places s) (holds .parts)
+
+      opened : (p : Pack) → packParts s ≡ some p → packOf s ≡ refuseIf (not (packRises p)) Why.Order (refuseIf (packClashes p) Why.Clash (value p))
+      unfolding packOf
+      opened p e = rw (sym eo ∙ within, e)
+
+      rise-is : all (risesAt s) (places s) ≡ packRises (held .0)
+      unfolding tagged
+      rise-is = let h = holds in rises-places s (places s) (h .parts) ∙ rw (h .languages, h .bodies)
+
+      clash-all : any (clashAt s) (places s) ≡ packClashes (held .0)
+      unfolding tagged
+      clash-all = let h = holds in clash-places s (places s) (h .parts) ∙ rw (h .languages)
+
+      chain : checked (packOf s) ≡ checked (refuseIf (not (all (risesAt s) (places s))) Why.Order (refuseIf (any (clashAt s) (places s)) Why.Clash (value (held .0))))
+      chain = rw (rise-is, clash-all) (ap checked (opened (held .0) (held .1)))
+
+      module _ (rise : Bool) (er : rise ≡ all (risesAt s) (places s)) where
+        pub order-refused : {o : Outcome} → rise ≡ false → o ≡ Refused Why.Order → o ≡ checked (packOf s)
+        order-refused h i = i ∙ sym (chain ∙ rw (← er, h))
+
+        module _ (rises : rise ≡ true) (both : Bool) (eb : both ≡ any (clashAt s) (places s)) where
+          pub clash-refused : {o : Outcome} → both ≡ true → o ≡ Refused Why.Clash → o ≡ checked (packOf s)
+          clash-refused h i = i ∙ sym (chain ∙ rw (← er, rises, ← eb, h))
+
+          pub pack-accepted : {o : Outcome} → both ≡ false → o ≡ Accepted 0 → o ≡ checked (packOf s)
+          pack-accepted h i = i ∙ sym (chain ∙ rw (← er, rises, ← eb, h))

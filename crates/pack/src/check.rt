@@ -1,0 +1,46 @@
+// The check of a pack.
+ghost use mathlib.Core.Path.{_≡_};
+ghost use mathlib.Core.Bool.{_||_};
+ghost use lib.Dec.{ltb};
+ghost use lib.ListN.{length};
+ghost use Rattle.fields.specs.Fields.{hasOver};
+ghost use Rattle.fields.specs.Outcome.{checked};
+ghost use Rattle.language.specs.LanguageFile.{languageLimit};
+ghost use Rattle.pack.specs.Pack.{packLimit, isLanguageTag, packOf};
+use super::order::in_order;
+use super::order::languages_clash;
+use super::whole::parts_whole;
+use fields::outcome::Answer;
+use fields::outcome::Reason;
+use fields::outcome::accept;
+use fields::outcome::refuse;
+use fields::walk::says_over;
+
+// The file, or a language in it, is over its limit.
+fn over_limit(pack: &[u8]) -> bool
+    ensures { λ r. ⌜ r ≡ ltb packLimit (length (now (pack .entry))) || hasOver isLanguageTag languageLimit (now (pack .entry)) ⌝ }
+{
+    if 32768 < pack.len() {
+        return true;
+    }
+    says_over(pack, 0x30, 0x30, 1024)
+}
+
+// Check a pack: the lowest refusal of 1 to 4 that applies, or accepted.
+pub fn check_pack(pack: &[u8]) -> Answer
+    ensures { λ r. ⌜ r .outcome ≡ checked (packOf (now (pack .entry))) ⌝ }
+{
+    if over_limit(pack) {
+        return refuse(Reason::TooLong);
+    }
+    if !parts_whole(pack) {
+        return refuse(Reason::Broken);
+    }
+    if !in_order(pack) {
+        return refuse(Reason::Order);
+    }
+    if languages_clash(pack) {
+        return refuse(Reason::Clash);
+    }
+    accept(0)
+}

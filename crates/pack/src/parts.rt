@@ -1,0 +1,77 @@
+// Where the parts of a pack stand.
+ghost use mathlib.Core.Path.{_≡_};
+ghost use mathlib.Core.Bool.{true};
+ghost use mathlib.Core.Option.{some};
+ghost use Prim.Native.Nat.{_≤_};
+ghost use lib.ListN.{length, getElem?, drop};
+ghost use lib.Seq.{slice};
+ghost use Rattle.fields.specs.Lists.{all};
+ghost use Rattle.fields.specs.Keyed.{rising};
+ghost use Rattle.fields.specs.Outcome.{value};
+ghost use Rattle.fields.specs.Inner.Places.{isWhole, places};
+ghost use Rattle.language.specs.Language.{Language};
+ghost use Rattle.language.specs.LanguageFile.{languageOf};
+ghost use Rattle.translation.specs.Translation.{Body, itemKey};
+ghost use Rattle.translation.specs.TranslationFile.{bodyOf};
+ghost use Rattle.pack.specs.Pack.{Pack, packOf};
+ghost use Rattle.pack.specs.Inner.Parts.{StandsAt};
+use fields::bytes::byte_at;
+use fields::walk::field_end;
+
+// Where a part stands: from the start up to the end.
+pub struct Place {
+    pub start: usize,
+    pub end: usize,
+}
+
+// Where the contents of the field of this tag and number, from 0, stand.
+fn field_place(s: &[u8], tag: u8, number: usize) -> Place
+    requires { ⌜ all (isWhole (now s)) (places (now s)) ≡ true ⌝ }
+    ensures { λ r. ⌜ StandsAt tag (now (s .entry)) number (r .start) (r .end) ⌝ }
+{
+    let mut left = number;
+    let mut p = 0;
+    while p < s.len() {
+        let e = field_end(s, p);
+        if byte_at(s, p) == tag {
+            if left == 0 {
+                return Place {
+                    start: p + 3,
+                    end: e,
+                };
+            }
+            left -= 1;
+        }
+        p = e;
+    }
+    Place { start: 0, end: 0 }
+}
+
+// Where the term of an accepted pack starts; it goes on to the end of the pack.
+pub fn term_start(pack: &[u8]) -> usize
+    requires { ⌜ ((p : Pack) × (packOf (now pack) ≡ value p)) ⌝ }
+    ensures { λ r. ⌜ (r ≤ length (now (pack .entry))) × ((p : Pack) → packOf (now (pack .entry)) ≡ value p → drop r (now (pack .entry)) ≡ p .term) ⌝ }
+{
+    let place = field_place(pack, 0x32, 0);
+    place.start
+}
+
+// Where the language (field 30) of this number, from 0, stands.
+pub fn language_at(pack: &[u8], number: usize) -> Place
+    requires { ⌜ ((p : Pack) × (packOf (now pack) ≡ value p)) ⌝ }
+    ensures { λ r. ⌜ (r .start ≤ r .end) × (r .end ≤ length (now (pack .entry)))
+        × ((p : Pack) (l : Language) → packOf (now (pack .entry)) ≡ value p → getElem? (p .languages) number ≡ some l
+        → languageOf (slice (r .start) (r .end) (now (pack .entry))) ≡ value l) ⌝ }
+{
+    field_place(pack, 0x30, number)
+}
+
+// Where the body (field 31) of this number stands.
+pub fn body_at(pack: &[u8], number: usize) -> Place
+    requires { ⌜ ((p : Pack) × (packOf (now pack) ≡ value p)) ⌝ }
+    ensures { λ r. ⌜ (r .start ≤ r .end) × (r .end ≤ length (now (pack .entry)))
+        × ((p : Pack) (b : Body) → packOf (now (pack .entry)) ≡ value p → getElem? (p .bodies) number ≡ some b
+        → (bodyOf (slice (r .start) (r .end) (now (pack .entry))) ≡ some b) × (rising itemKey b ≡ true)) ⌝ }
+{
+    field_place(pack, 0x31, number)
+}
