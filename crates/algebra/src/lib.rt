@@ -1,13 +1,14 @@
 // The C interface: each operation answers with its number. A slice is a pointer and a length.
 ghost use mathlib.Core.Path.{_≡_};
-ghost use Rattle.fields.specs.Outcome.{numberOf, reasonNumber};
+ghost use Rattle.fields.specs.Outcome.{numberOf, lengthOf, reasonNumber};
 ghost use Rattle.language.specs.Operations.{checkLanguage};
 ghost use Rattle.reader.specs.Operations.{checkTree};
-ghost use Rattle.translation.specs.Operations.{checkTranslation};
+ghost use Rattle.translation.specs.Operations.{checkTranslation, runTree};
 use fields::outcome::Outcome;
 use fields::outcome::Reason;
 use language::check::check_language;
 use reader::tree::check_tree;
+use runner::run::run;
 use translation::check::check_translation;
 
 // The number of a refusal.
@@ -45,6 +46,16 @@ fn number(outcome: Outcome) -> u32
     }
 }
 
+// The length of an outcome: 0 where it is refused.
+fn length_of(outcome: Outcome) -> u64
+    ensures { λ r. ⌜ r ≡ lengthOf outcome ⌝ }
+{
+    match outcome {
+        Outcome::Accepted(length) => length as u64,
+        Outcome::Refused(reason) => 0,
+    }
+}
+
 // Check a language.
 #[no_mangle]
 pub extern "C" fn algebra_check_language(language: &[u8]) -> u32
@@ -72,5 +83,24 @@ pub extern "C" fn algebra_check_tree(language: &[u8], root: u32, tree: &[u8]) ->
 {
     let answer = check_tree(language, root, tree);
     let outcome = answer.outcome;
+    number(outcome)
+}
+
+// Run a translation on a tree of the root kind; the length of the result is put into `length`.
+#[no_mangle]
+pub extern "C" fn algebra_run(
+    translation: &[u8],
+    root: u32,
+    tree: &[u8],
+    output: &mut [u8],
+    length: &mut u64,
+) -> u32
+    ensures { λ r. ⌜ (r ≡ numberOf (runTree (now (translation .entry)) root (now (tree .entry)) (now (output .entry)) .outcome))
+        × (now (length .exit) ≡ lengthOf (runTree (now (translation .entry)) root (now (tree .entry)) (now (output .entry)) .outcome))
+        × (now (output .exit) ≡ runTree (now (translation .entry)) root (now (tree .entry)) (now (output .entry)) .output) ⌝ }
+{
+    let answer = run(translation, root, tree, output);
+    let outcome = answer.outcome;
+    *length = length_of(outcome);
     number(outcome)
 }
