@@ -2,7 +2,7 @@
 use Prim.Native.Nat.{ℕ, zero, suc, _+_, _*_, _-_, _/_, min, _<_, _≤_}
 use mathlib.Core.Path.{_≡_, refl, sym, ap, _∙_}
 use mathlib.Core.List.{List, []}
-use mathlib.Core.Bool.{Bool, true, false}
+use mathlib.Core.Bool.{Bool, true, false, cond}
 use native.Mathlib.Omega.{arith}
 use native.Mathlib.Nat.{le-div-iff-mul-le, div-lt-iff-lt-mul}
 use lib.ListN.{length, getD}
@@ -14,7 +14,7 @@ use Rattle.reader.specs.declared.node.Read.{Read}
 use Rattle.reader.specs.declared.node.Read.the-variants as Read
 use Rattle.reader.specs.declared.node.Node.{Node}
 use Rattle.reader.specs.declared.node.Node.the-variants.{Leaf, Operands}
-use Rattle.reader.specs.Inner.Positions.{tokenAt, operandsAt, nameAt, treeNode, nodeAt, EndsBy, NodeIn}
+use Rattle.reader.specs.Inner.Positions.{productionPlace, tokenAt, operandsAt, nameAt, treeNode, nodeAt, EndsBy, NodeIn}
 use Rattle.reader.proofs.Laws.{leaf-in}
 use Rattle.measure.specs.declared.measure.Measured.{Measured}
 use Rattle.measure.specs.declared.measure.Measured.the-variants.{End, Deep, Broken}
@@ -25,6 +25,9 @@ use Rattle.measure.specs.Inner.Measuring.{leafAt, sharesFrom, measureAt,
 module _ (sum count length top : ℕ) (under : sum ≤ top) where
   pub share-none : count ≡ 0 → sum ≡ capped top (sum + count * length)
   share-none h = rw h (omega arith)
+
+  pub share-one : {r : ℕ} → count ≡ 1 → r ≡ capped top (sum + length) → r ≡ capped top (sum + count * length)
+  share-one h e = rw h (e ∙ omega arith)
 
   module _ (some : count ≡ 0 → ⊥) where
     positive : 0 < count
@@ -48,11 +51,28 @@ read-ends n top (Read.End e) y h = rw y (h, omega arith)
 read-ends n top Read.Deep y h = rw y tt
 read-ends n top Read.Broken y h = rw y tt
 
+pub token-ends : (n top : ℕ) {m : Measured} {r u : Read} → r ≡ u → m ≡ leafAt top r → EndsBy n r → EndsIn n top m
+token-ends n top {m} {r} e y h = read-ends n top r y h
+
 pub leaf-ends : (s b : List ℕ) (top : ℕ) {d : Node} {r : Read} {m : Measured} → d ≡ Leaf r → NodeIn s b d → m ≡ leafAt top r → EndsIn (length b) top m
 leaf-ends s b top {d} {r} y h em = read-ends (length b) top r em (leaf-in s b d r y h)
 
 pub end-ends : (n top : ℕ) {e m : ℕ} (r : Measured) → r ≡ End e m → EndsIn n top r → (e ≤ n) × (m ≤ top)
 end-ends n top r y h = rw y at h
+
+-- Where there is no production, there is a token of a class, or nothing legal.
+pub token-node : (s index : List ℕ) (k : ℕ) (b : List ℕ) (at : ℕ) {class place : ℕ} → class ≡ getD index k 0
+    → place ≡ cond (eqb class 0) (productionPlace Tree index k b at) 0 → place ≡ 0
+    → Leaf (tokenAt s class b at) ≡ nodeAt Tree s index [] k b at
+unfolding nodeAt treeNode nameAt operandsAt productionPlace tokenAt
+token-node s index k b at {class} {place} ec ep none =
+    by-test (eqb class 0)
+    (λ d. by-test (leb (length b) at) (λ e. cc) (λ e. cc))
+    (λ d. cc)
+
+-- What is known of one of two results.
+pub carried : {r u v : Measured} (n top : ℕ) → r ≡ u → (u ≡ v) × EndsIn n top u → (r ≡ v) × EndsIn n top r
+carried n top e h = rw e h
 
 -- The operands of a production stand past the start of the language.
 operands-not-leaf : {A : Type 0} {r : Read} {q e to : ℕ} → Leaf r ≡ Operands q e to → A

@@ -10,6 +10,17 @@ pub fn cap(length: usize, top: usize) -> usize
     if length < top { length } else { top }
 }
 
+// A sum and one length more.
+fn add(sum: usize, length: usize, top: usize) -> usize
+    requires { ⌜ sum ≤ top ⌝ }
+    ensures { λ r. ⌜ r ≡ capped top (sum + length) ⌝ }
+{
+    if top - sum < length {
+        return top;
+    }
+    sum + length
+}
+
 // A sum and one length more, as often as it is used.
 pub fn add_share(sum: usize, count: usize, length: usize, top: usize) -> usize
     requires { ⌜ sum ≤ top ⌝ }
@@ -17,6 +28,9 @@ pub fn add_share(sum: usize, count: usize, length: usize, top: usize) -> usize
 {
     if count == 0 {
         return sum;
+    }
+    if count == 1 {
+        return add(sum, length, top);
     }
     if (top - sum) / count < length {
         return top;

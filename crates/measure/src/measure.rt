@@ -2,18 +2,25 @@
 use crate::capped::add_share;
 use crate::capped::cap;
 use crate::table::count_at;
+use fields::bytes::wide;
 use reader::node::Node;
 use reader::node::Read;
 use reader::node::Syntax;
+use reader::node::node_at;
+use reader::node::pair_in;
+use reader::node::place_at;
+use reader::node::production_place;
+use reader::node::token;
 ghost use mathlib.Core.Path.{_≡_};
 ghost use mathlib.Core.List.{[]};
 ghost use Prim.Native.Nat.{ℕ, _-_, _<_, _≤_};
 ghost use lib.ListN.{length, getD, drop};
 ghost use Rattle.reader.specs.Syntax.{read as readCode, tree as inTrees};
 ghost use Rattle.reader.specs.Inner.Index.{Sound, Indexed};
+ghost use Rattle.reader.specs.Inner.Positions.{KindsIn};
 ghost use Rattle.translation.specs.Translation.{Translation};
 ghost use Rattle.measure.specs.Inner.Sizes.{capped};
-ghost use Rattle.measure.specs.Inner.Measuring.{leafAt, measureAt, EndsIn, sizedAt, sizedOf, Counted};
+ghost use Rattle.measure.specs.Inner.Measuring.{leafAt, sharesFrom, measureAt, EndsIn, sizedAt, sizedOf, Counted};
 
 // The position after a tree, and the length of its run up to a top; one level too many; or bytes that are no such tree.
 pub enum Measured {
@@ -41,7 +48,67 @@ fn leaf(read: Read, top: usize) -> Measured
     }
 }
 
-// The tree of the kind at a position, with so many levels left: it calls itself on the operands, one level fewer.
+// Trees of the kinds that stand in the source from `from` up to `stop`, one after the other, each counted as often as it
+// is used, on top of a sum. It calls itself on the operands of a tree, one level fewer.
+fn measure_row(
+    source: &[u8],
+    index: &[u16],
+    counts: &[u16],
+    from: usize,
+    stop: usize,
+    tree: &[u8],
+    at: usize,
+    levels: usize,
+    own: usize,
+    top: usize,
+) -> Measured
+    requires { ⌜ Sound (now index) (now source) × KindsIn (now source) from stop × (at ≤ length (now tree)) × (own ≤ top) ⌝ }
+    ensures { λ r. ⌜ (r ≡ sharesFrom (measureAt (now (source .entry)) (now (index .entry)) (now (counts .entry)) (now (tree .entry)) top levels) (now (source .entry)) (now (counts .entry)) top (stop - from) from at own) × EndsIn (length (now (tree .entry))) top r ⌝ }
+{
+    let mut q = from;
+    let mut to = at;
+    let mut sum = own;
+    while q < stop {
+        if levels == 0 {
+            return Measured::Deep;
+        }
+        let kind = source[q];
+        let class = place_at(index, wide(kind));
+        let place = production_place(Syntax::Tree, index, class, kind, tree, to);
+        let part = if place == 0 {
+            leaf(token(source, class, tree, to), top)
+        } else {
+            measure_row(
+                source,
+                index,
+                counts,
+                place + 4,
+                place + 2 + pair_in(source, place),
+                tree,
+                to + 1,
+                levels - 1,
+                own_at(counts, place + 4, top),
+                top,
+            )
+        };
+        match part {
+            Measured::End(e, n) => {
+                to = e;
+                sum = add_share(sum, count_at(counts, q), n, top);
+            }
+            Measured::Deep => {
+                return Measured::Deep;
+            }
+            Measured::Broken => {
+                return Measured::Broken;
+            }
+        }
+        q += 1;
+    }
+    Measured::End(to, sum)
+}
+
+// The tree of the kind at a position, with so many levels left.
 fn measure_at(
     source: &[u8],
     index: &[u16],
@@ -58,28 +125,22 @@ fn measure_at(
     if levels == 0 {
         return Measured::Deep;
     }
-    match reader::node::node_at(Syntax::Tree, source, index, &[], kind, tree, at) {
+    match node_at(Syntax::Tree, source, index, &[], kind, tree, at) {
         Node::Leaf(r) => leaf(r, top),
         Node::Operands(from, stop, start) => {
-            let mut q = from;
-            let mut to = start;
-            let mut sum = own_at(counts, from, top);
-            while q < stop {
-                match measure_at(source, index, counts, source[q], tree, to, levels - 1, top) {
-                    Measured::End(e, n) => {
-                        to = e;
-                        sum = add_share(sum, count_at(counts, q), n, top);
-                    }
-                    Measured::Deep => {
-                        return Measured::Deep;
-                    }
-                    Measured::Broken => {
-                        return Measured::Broken;
-                    }
-                }
-                q += 1;
-            }
-            Measured::End(to, sum)
+            let own = own_at(counts, from, top);
+            measure_row(
+                source,
+                index,
+                counts,
+                from,
+                stop,
+                tree,
+                start,
+                levels - 1,
+                own,
+                top,
+            )
         }
     }
 }

@@ -1,6 +1,6 @@
 use native.Mathlib.Omega.{arith}
 use borrow.Author.Needs.{needs}
-use Rattle.measure.proofs.Laws.{share-none, share-over, share-fits, share-under}
+use Rattle.measure.proofs.Laws.{share-none, share-one, share-over, share-fits, share-under}
 use Rattle.measure.proofs.capped.add_share.Statement.{statement}
 use Rattle.measure.proofs.capped.add_share.Tie as tie
 use Rattle.measure.proofs.capped.add_share.Reads as reads
@@ -10,17 +10,20 @@ returns : tie.Need-returns
 returns c = share-none _ _ _ _ (c .before .pre) (c .if1 .taken)
 
 returns-2 : tie.Need-returns-2
-returns-2 c = share-over _ _ _ _ (c .before .before .pre) (c .before .if1 .left) (c .if2 .taken)
-
-mul-result : tie.Need-mul-result
-mul-result c = let k = share-fits _ _ _ _ (c .before .before .pre) (c .before .if1 .left) (c .if2 .left) in omega arith
-
-add-result : tie.Need-add-result
-add-result c = let k = share-fits _ _ _ _ (c .before .before .pre) (c .before .if1 .left) (c .if2 .left) in omega arith
+returns-2 c = share-one _ _ _ _ (c .before .before .before .pre) (c .before .if2 .taken) (c .add .ensures)
 
 returns-3 : tie.Need-returns-3
-returns-3 c = share-under _ _ _ _ (c .before .before .pre) (c .before .if1 .left) (c .if2 .left)
+returns-3 c = share-over _ _ _ _ (c .before .before .before .pre) (c .before .before .if1 .left) (c .if3 .taken)
+
+mul-result : tie.Need-mul-result
+mul-result c = let k = share-fits _ _ _ _ (c .before .before .before .pre) (c .before .before .if1 .left) (c .if3 .left) in omega arith
+
+add-result : tie.Need-add-result
+add-result c = let k = share-fits _ _ _ _ (c .before .before .before .pre) (c .before .before .if1 .left) (c .if3 .left) in omega arith
+
+returns-4 : tie.Need-returns-4
+returns-4 c = share-under _ _ _ _ (c .before .before .before .pre) (c .before .before .if1 .left) (c .if3 .left)
 
 pub add-share-spec : {M : Type 1} → statement M
 add-share-spec =
-    tie.close (tie.spec returns (λ c. search needs) (λ c. search needs) returns-2 mul-result add-result returns-3)
+    tie.close (tie.spec returns (λ c κs. search needs) returns-2 (λ c. search needs) (λ c. search needs) returns-3 mul-result add-result returns-4)
