@@ -29,3 +29,15 @@ pub fn map_kind(body: &[u8], index: &[u16], kind: u8) -> u8
     }
     body[place + 3]
 }
+
+// Puts the kind that each kind maps to into a table of 32; 0 where a kind is not mapped.
+pub fn map_kinds(body: &[u8], index: &[u16], mapped: &mut [u8])
+    requires { ⌜ SoundItems (now index) (now body) × (length (now mapped) ≡ 32) ⌝ }
+    ensures { λ r. ⌜ ((k : ℕ) → k < 32 → getD (now (mapped .exit)) k 0 ≡ mappedAt (now (body .entry)) (now (index .entry)) k) × ((k : ℕ) → getD (now (mapped .exit)) k 0 < 32) × (length (now (mapped .exit)) ≡ 32) ⌝ }
+{
+    let mut kind = 0u8;
+    while kind < 32 {
+        mapped[wide(kind)] = map_kind(body, index, kind);
+        kind += 1;
+    }
+}
