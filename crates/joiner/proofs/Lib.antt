@@ -1,0 +1,3 @@
+pub mod Splices
+pub mod Told
+pub mod Turns

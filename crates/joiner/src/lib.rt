@@ -1,0 +1,2 @@
+// The join of two translations on bytes.
+pub mod body;
