@@ -1,0 +1,3 @@
+// The operators of the signs on bytes: copies, sums, "without", identities, and translations made of their parts.
+pub mod assemble;
+pub mod limit;
