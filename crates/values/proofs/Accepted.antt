@@ -2,19 +2,19 @@
 use Prim.Native.Nat.{ℕ, _+_, _≤_, _<_}
 use mathlib.Core.Path.{_≡_, refl, sym, ap, subst, _∙_}
 use mathlib.Core.Bool.{Bool, true, false, _||_}
-use mathlib.Core.List.{List, map}
+use mathlib.Core.List.{List, _++_, map}
 use native.Mathlib.Omega.{arith}
 use mathlib.Core.Option.{some}
-use lib.ListN.{length, take, drop, take-append-drop}
+use lib.ListN.{length, take, drop, take-append-drop, length-append}
 use lib.Seq.{slice}
 use lib.Dec.{ltb}
-use borrow.Author.Tests.{le-ltb}
-use Rattle.fields.specs.Outcome.{Result, value, refuseIf}
+use borrow.Author.Tests.{le-ltb, lt-ltb}
+use Rattle.fields.specs.Outcome.{Result, value, refused, refuseIf}
 use Rattle.fields.specs.declared.outcome.Outcome.{Outcome}
 use Rattle.fields.specs.declared.outcome.Reason.the-variants.{Limit}
-use Rattle.fields.specs.Fields.{byteAt, encodeFields}
+use Rattle.fields.specs.Fields.{field, byteAt, encodeField, encodeFields}
 use Rattle.fields.specs.Lists.{any}
-use Rattle.fields.proofs.Truth.{Mem, false-any, all-mem}
+use Rattle.fields.proofs.Truth.{Mem, or-right, false-any, all-mem}
 use Rattle.fields.proofs.Keyed.{is-rising}
 use Rattle.fields.proofs.Codec.{Bytes, bytes-from, each-front}
 use Rattle.language.specs.Language.{Language, entryKey}
@@ -97,6 +97,39 @@ pub sound-bytes : (f : Translation) → Sound f → length (encodeLanguage (f .s
     → refuseIf (ltb 4096 (length (encodeTranslation f))) Limit (value (encodeTranslation f)) ≡ translationBytes (value f)
 unfolding languageExceeds
 sound-bytes f s h k = rw (sound-exceeds f s, le-ltb 1024 (length (encodeLanguage (f .source))) h, le-ltb 1024 (length (encodeLanguage (f .target))) k)
+
+-- A translation exceeds a limit where its source, its target or its body does.
+or-third : (a b c d : Bool) → c ≡ true → (a || (b || (c || d))) ≡ true
+or-third true b c d e = refl
+or-third false true c d e = refl
+or-third false false c d e = rw e
+
+module _ (f : Translation) where
+  pub source-over : 1024 < length (encodeLanguage (f .source)) → translationBytes (value f) ≡ refused Limit
+  unfolding translationExceeds languageExceeds
+  source-over h = rw (lt-ltb 1024 (length (encodeLanguage (f .source))) h)
+
+  pub target-over : 1024 < length (encodeLanguage (f .target)) → translationBytes (value f) ≡ refused Limit
+  unfolding translationExceeds languageExceeds
+  target-over h =
+      let z : (languageExceeds (f .source) || true) ≡ true = or-right (languageExceeds (f .source)) true refl in
+      rw (lt-ltb 1024 (length (encodeLanguage (f .target))) h) (rw z)
+
+  pub whole-over : 4096 < length (encodeTranslation f) → translationBytes (value f) ≡ refused Limit
+  unfolding translationExceeds
+  whole-over h =
+      rw (or-third (languageExceeds (f .source)) (languageExceeds (f .target)) (ltb translationLimit (length (encodeTranslation f))) (any (codeIsDeep f) (f .body)) (lt-ltb 4096 (length (encodeTranslation f)) h))
+
+  body-in : length (encodeFields (map itemField (f .body))) ≤ length (encodeTranslation f)
+  unfolding assembled
+  body-in =
+      let s = encodeLanguage (f .source) in
+      let t = encodeLanguage (f .target) in
+      let b = encodeFields (map itemField (f .body)) in
+      omega (arith, ap length (assembled-is f), length-append (encodeField (field 0x20 s)) (encodeField (field 0x21 t) ++ b), length-append (encodeField (field 0x21 t)) b)
+
+  pub body-over : 4096 < length (encodeFields (map itemField (f .body))) → translationBytes (value f) ≡ refused Limit
+  body-over h = whole-over (omega (arith, body-in))
 
 -- What is told of bytes within the limit, said of the translation that they are.
 module _ (f : Translation) (s : Sound f) (h : length (encodeLanguage (f .source)) ≤ 1024) (k : length (encodeLanguage (f .target)) ≤ 1024) where

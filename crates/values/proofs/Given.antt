@@ -5,7 +5,7 @@ use mathlib.Core.Bool.{Bool, true, false, cond}
 use mathlib.Core.List.{List, [], _∷_, _++_, map}
 use native.Mathlib.Omega.{arith}
 use lib.ListN.{length, take, drop, length-append}
-use lib.Seq.{slice, take-append-seam, take-length}
+use lib.Seq.{slice, take-append-seam, take-length, length-take-le}
 use lib.Dec.{ltb}
 use borrow.Author.Tests.{ltb-true, ltb-false, lt-ltb, le-ltb}
 use Rattle.fields.specs.Outcome.{Result, value, refused, refuseIf, written}
@@ -39,6 +39,22 @@ gives-refused v o after r e l = record {
 written-first : (v o o′ : List ℕ) (m : ℕ) → Written v o o′ 0 m → take (length v) o′ ≡ v
 unfolding spliced
 written-first v o o′ m w = rw (w .bytes) (take-append-seam v (drop (0 + length v) o))
+
+pub stored-first : (v o o′ : List ℕ) (m : ℕ) (x : Stored) → Stores v o o′ 0 x → x ≡ To m → take m o′ ≡ v
+stored-first v o o′ m x w e =
+    let k : m ≡ length v = omega (arith, w .done m e .end) in
+    rw k (written-first v o o′ m (w .done m e))
+
+-- How long what was written is.
+module _ (v o o′ : List ℕ) (m : ℕ) (x : Stored) (w : Stores v o o′ 0 x) (e : x ≡ To m) (l : length o′ ≡ length o) where
+  pub stored-room : m ≤ length o′
+  stored-room = omega (arith, w .done m e .fits)
+
+  pub stored-length : m ≡ length (take m o′)
+  stored-length = sym (length-take-le m o′ stored-room)
+
+  pub stored-short : length (take m o′) ≤ length o
+  stored-short = omega (arith, stored-room, stored-length)
 
 -- The answer once a value is written, where a limit holds.
 module _ (limit : ℕ) (v o o′ : List ℕ) (room : limit ≤ length o) (long : length o′ ≡ length o) where

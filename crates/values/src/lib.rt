@@ -3,3 +3,4 @@ pub mod assemble;
 pub mod copy;
 pub mod languages;
 pub mod limit;
+pub mod translations;
