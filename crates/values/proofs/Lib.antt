@@ -1,0 +1,4 @@
+pub mod Given
+pub mod Accepted
+pub mod LanguageLaws
+pub mod TranslationLaws
