@@ -10,9 +10,8 @@ use lib.ListN.{length, getD, take, drop}
 use lib.Seq.{slice}
 use Rattle.fields.specs.Outcome.{value}
 use Rattle.fields.specs.Inner.Places.{fieldEnd, placesFrom, places, keyAt}
-use Rattle.fields.proofs.Truth.{Mem, all-mem, mem-map, mem-append}
+use Rattle.fields.proofs.Truth.{Mem, mem-map, mem-append}
 use Rattle.fields.proofs.Places.{places-next}
-use Rattle.fields.proofs.Keyed.{is-rising}
 use Rattle.reader.specs.Code.{Code}
 use Rattle.reader.specs.Syntax as Meant
 use Rattle.reader.specs.declared.node.Syntax.the-variants as Syntaxes
@@ -24,7 +23,6 @@ use Rattle.translation.specs.Running.{mappedArguments, readClause, clausesOf, t
 use Rattle.translation.specs.Inner.Items.{itemAt, IsClause}
 use Rattle.translation.specs.Inner.ItemIndex.{IndexedItems, mappedAt}
 use Rattle.translation.specs.Inner.Tests.{mappedBefore}
-use Rattle.translation.proofs.Codec.{itemWhole, WholeTranslation, rises-parts, translation-whole}
 use Rattle.translation.proofs.Items.{clause-is, holds-items}
 use Rattle.translation.proofs.IndexedItems.{clause-key, mapped-is}
 use Rattle.translation.proofs.Coded.{arguments-map, code-cut}
@@ -38,30 +36,15 @@ use Rattle.writer.specs.Inner.Pieces as Pieces
 use Rattle.writer.proofs.Meaning.{fit-each, fit-codes}
 use Rattle.operators.specs.declared.copy.Stored.the-variants.{To, Full}
 use Rattle.operators.specs.Inner.Parts.{spliced, Stores}
-use Rattle.operators.proofs.Proper.{good-proper, proper-apart, Sound, formed-sound, GoodTranslation}
+use Rattle.operators.proofs.Proper.{proper-apart, Sound}
+use Rattle.values.proofs.Accepted.{accepted-good}
 use Rattle.operators.proofs.JoinSound.{target-larger}
 use Rattle.joiner.specs.Inner.Joining.{Held, Joining, Reached, joinedCode}
 use Rattle.joiner.proofs.Splices.{stored-to, stored-full}
 
--- A translation that a file can hold is good.
-pub held-good : (f : Translation) → Held f → GoodTranslation f
-held-good f h =
-    let w = translation-whole (h .0) f (h .1) in
-    let x : WholeTranslation f = w .1 in
-    let r = rises-parts f (x .rises) in
-    record {
-      sound =
-          formed-sound f f
-          (good-proper (f .source) (record { whole = x .source; rises = r .0; apart = x .source-apart; short = x .source-short }))
-          (good-proper (f .target) (record { whole = x .target; rises = r .1; apart = x .target-apart; short = x .target-short }))
-          (all-mem itemWhole (f .body) (x .body)) (is-rising itemKey (f .body) (r .2)) (w .2) .0;
-      source-short = x .source-short;
-      target-short = x .target-short;
-      short = x .short;
-    }
-
+-- A translation that a file can hold is sound.
 pub held-sound : (f : Translation) → Held f → Sound f
-held-sound f h = held-good f h .sound
+held-sound f h = accepted-good (h .0) f (h .1) .sound
 
 -- The two spellings of what was written.
 same-spliced : (o : List ℕ) (n : ℕ) (v : List ℕ) → Pieces.spliced o n v ≡ spliced o n v

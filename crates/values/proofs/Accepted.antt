@@ -120,7 +120,8 @@ module _ (f : Translation) where
   whole-over h =
       rw (or-third (languageExceeds (f .source)) (languageExceeds (f .target)) (ltb translationLimit (length (encodeTranslation f))) (any (codeIsDeep f) (f .body)) (lt-ltb 4096 (length (encodeTranslation f)) h))
 
-  body-in : length (encodeFields (map itemField (f .body))) ≤ length (encodeTranslation f)
+  -- Its body is no longer than it.
+  pub body-in : length (encodeFields (map itemField (f .body))) ≤ length (encodeTranslation f)
   unfolding assembled
   body-in =
       let s = encodeLanguage (f .source) in

@@ -5,6 +5,9 @@ use mathlib.Core.Bool.{true}
 use mathlib.Core.List.{List, [], _∷_, _++_, map}
 use lib.ListN.{length, getD}
 use Rattle.fields.specs.Outcome.{value}
+use Rattle.fields.specs.declared.outcome.Outcome.{Outcome}
+use Rattle.fields.specs.declared.outcome.Outcome.the-variants.{Accepted, Refused}
+use Rattle.fields.specs.declared.outcome.Reason.the-variants.{Limit}
 use Rattle.fields.specs.Fields.{encodeField, encodeFields, byteAt}
 use Rattle.fields.specs.Inner.Places.{placesFrom, places}
 use Rattle.reader.specs.Syntax.{write, code}
@@ -15,6 +18,7 @@ use Rattle.translation.specs.Running.{run, clausesOf}
 use Rattle.translation.specs.Inner.Items.{itemAt}
 use Rattle.translation.specs.Inner.ItemIndex.{IndexedItems, mappedAt, Prepared}
 use Rattle.operators.specs.Algebra.{joinFits, joinItem, joined}
+use Rattle.values.specs.Inner.Spelt.{Spelt}
 
 -- A file can hold the translation.
 abbrev pub Held : Translation → Type 0
@@ -38,6 +42,12 @@ pub record Reached (s : List ℕ) (p : ℕ) : Type 0 where
   pub before : List ℕ
   pub walk : places s ≡ before ++ placesFrom s p
 
+-- The parts of two translations that fit: all of the first's, and the source and the body of the second.
+pub record Fitted (s t b s′ b′ : List ℕ) (f g : Translation) : Type 0 where
+  pub first : Spelt s t b f
+  pub second : (t′ : List ℕ) × Spelt s′ t′ b′ g
+  pub fits : joinFits f g ≡ true
+
 -- The first five bytes of a field 22 or 23: the tag, the length, and two bytes.
 abbrev pub head : ℕ → ℕ → ℕ → ℕ → List ℕ
 head tag size first second = tag ∷ size / 256 ∷ size % 256 ∷ first ∷ second ∷ []
@@ -53,3 +63,8 @@ joinedField f g b p = encodeField (itemField (joinItem f g (itemAt b p)))
 -- The body of the join in bytes.
 abbrev pub joinedBody : Translation → Translation → List ℕ
 joinedBody f g = encodeFields (map itemField (joined f g .body))
+
+-- The answer for a value by what the check of it answers: its length, or 11 where the check refuses it.
+abbrev pub measured : List ℕ → Outcome → Outcome
+measured v (Accepted n) = Accepted (length v)
+measured v (Refused r) = Refused Limit
