@@ -1,31 +1,29 @@
 -- What the join gives: the check of the joined value refuses it exactly if it exceeds a limit.
-use Prim.Native.Nat.{ℕ, _+_, _≤_, _<_}
+use Prim.Native.Nat.{ℕ, _≤_, _<_}
 use mathlib.Core.Path.{_≡_, refl, sym, ap, subst, _∙_}
-use mathlib.Core.Bool.{Bool, true, false, not, _&&_, _||_}
+use mathlib.Core.Bool.{Bool, true, false, not}
 use mathlib.Core.Option.{some}
-use mathlib.Core.List.{List, [], _∷_, map}
+use mathlib.Core.List.{List}
 use native.Mathlib.Omega.{arith}
 use lib.ListN.{length, getD, take}
 use lib.Seq.{length-take-le}
 use lib.Dec.{ltb}
-use borrow.Author.Tests.{ltb-true, ltb-false, lt-ltb, le-ltb}
+use borrow.Author.Tests.{ltb-true, ltb-false}
 use Rattle.fields.specs.Lists.{any}
-use Rattle.fields.specs.Fields.{encodeFields}
-use Rattle.fields.specs.Outcome.{Result, value, refused, refuseIf, checked, written}
+use Rattle.fields.specs.Outcome.{value, refused, refuseIf, checked, written}
 use Rattle.fields.specs.declared.outcome.Outcome.{Outcome}
 use Rattle.fields.specs.declared.outcome.Outcome.the-variants.{Accepted, Refused}
 use Rattle.fields.specs.declared.outcome.Reason.{Reason}
 use Rattle.fields.specs.declared.outcome.Reason.the-variants.{Limit, JoinUnfit}
-use Rattle.fields.proofs.Truth.{Mem, by-test, both-and, or-false, mem-all, any-false}
+use Rattle.fields.proofs.Truth.{by-test, both-and, or-false, mem-all, any-false}
 use Rattle.fields.proofs.Keyed.{rising-is}
-use Rattle.language.specs.Language.{entryKey, sameEntry}
+use Rattle.language.specs.Language.{entryKey}
 use Rattle.language.specs.LanguageFile.{entriesOf, encodeLanguage}
 use Rattle.language.proofs.Codec.{entryWhole, language-encode}
 use Rattle.language.proofs.Lookup.{none-clashes}
 use Rattle.reader.specs.Inner.Index.{Indexed}
-use Rattle.translation.specs.Translation.{Translation, Item, itemKey}
-use Rattle.translation.specs.TranslationFile.{itemField, encodeTranslation, translationLimit, translationOf, bodyOf, allRising}
-use Rattle.translation.specs.WellFormed.{wellFormed}
+use Rattle.translation.specs.Translation.{Translation, itemKey}
+use Rattle.translation.specs.TranslationFile.{encodeTranslation, translationLimit, bodyOf, allRising}
 use Rattle.translation.specs.Operations.{checkTranslation}
 use Rattle.translation.specs.Inner.ItemIndex.{IndexedItems, mappedAt}
 use Rattle.translation.proofs.Codec.{itemWhole, rising-grouped, body-encode, WholeTranslation, translation-back}
@@ -33,8 +31,8 @@ use Rattle.translation.proofs.Chain.{accepts}
 use Rattle.operators.specs.Algebra.{joinFits, joined, translationJoin}
 use Rattle.operators.specs.Limits.{codeIsDeep, languageExceeds, translationExceeds}
 use Rattle.operators.specs.declared.copy.Stored.{Stored}
-use Rattle.operators.specs.declared.copy.Stored.the-variants.{To, Full}
-use Rattle.operators.specs.Inner.Parts.{Stores, Sorted, liesWithin}
+use Rattle.operators.specs.declared.copy.Stored.the-variants.{Full}
+use Rattle.operators.specs.Inner.Parts.{Stores, liesWithin}
 use Rattle.operators.specs.Inner.Values.{Gives, translationBytes}
 use Rattle.operators.proofs.Proper.{Sound, GoodTranslation, formed-sound, good-back}
 use Rattle.operators.proofs.JoinSound.{body-rises, join-whole, sound-join}
@@ -42,7 +40,7 @@ use Rattle.operators.proofs.Encoded.{language-within}
 use Rattle.values.specs.Inner.Spelt.{Spelt}
 use Rattle.values.specs.Inner.Assembled.{assembled}
 use Rattle.values.proofs.Accepted.{accepted-good, whole-over, body-in, body-over, assembled-given}
-use Rattle.values.proofs.Given.{assembled-is, gives-refused, stored-first}
+use Rattle.values.proofs.Given.{assembled-is, gives-refused}
 use Rattle.values.proofs.TranslationLaws.{spelt-good}
 use Rattle.joiner.specs.Inner.Joining.{Held, Joining, Fitted, joinedBody, measured}
 

@@ -1,15 +1,12 @@
 -- Writing a field: its first bytes, and what follows them.
-use Prim.Native.Nat.{ℕ, zero, suc, _+_, _-_, _/_, _%_, _<_, _≤_}
-use mathlib.Core.Path.{_≡_, refl, sym, ap, _∙_}
+use Prim.Native.Nat.{ℕ, suc, _+_, _-_, _<_, _≤_}
+use mathlib.Core.Path.{_≡_, sym, ap, _∙_}
 use mathlib.Core.List.{List, [], _∷_, _++_, append-assoc}
-use native.Mathlib.Nat.{add-assoc}
 use native.Mathlib.Omega.{arith}
-use lib.ListN.{length, take, drop, set, length-set, length-append}
-use lib.Seq.{sets-eq, take-append-le, take-take, take-at, drop-at, length-take-le}
-use Rattle.operators.specs.declared.copy.Stored.{Stored}
+use lib.ListN.{length, take, drop, set, length-append}
+use lib.Seq.{sets-eq, take-append-le, take-take, drop-at, length-take-le}
 use Rattle.operators.specs.declared.copy.Stored.the-variants.{To, Full}
-use Rattle.operators.specs.Inner.Parts.{spliced, Written, Stores}
-use Rattle.joiner.specs.Inner.Joining.{head}
+use Rattle.operators.specs.Inner.Parts.{spliced, Stores}
 
 -- put_head
 module _ (o : List ℕ) (n : ℕ) (fits : n + 5 ≤ length o) where

@@ -1,34 +1,29 @@
 -- What the join is told of two translations: both are sound, and the writer is told what it asks for.
-use Prim.Native.Nat.{ℕ, _+_, _-_, _<_, _≤_}
-use mathlib.Core.Path.{_≡_, refl, sym, ap, subst, _∙_}
+use Prim.Native.Nat.{ℕ, _+_, _-_, _<_}
+use mathlib.Core.Path.{_≡_, refl, ap, subst, _∙_}
 use mathlib.Core.Logic.{inl, inr}
-use mathlib.Core.Bool.{true}
-use mathlib.Core.Option.{some}
-use mathlib.Core.List.{List, [], _∷_, _++_, map}
+use mathlib.Core.List.{List, [], _∷_}
 use native.Mathlib.Omega.{arith}
-use lib.ListN.{length, getD, take, drop}
+use lib.ListN.{length, getD}
 use lib.Seq.{slice}
-use Rattle.fields.specs.Outcome.{value}
 use Rattle.fields.specs.Inner.Places.{fieldEnd, placesFrom, places, keyAt}
 use Rattle.fields.proofs.Truth.{Mem, mem-map, mem-append}
 use Rattle.fields.proofs.Places.{places-next}
 use Rattle.reader.specs.Code.{Code}
 use Rattle.reader.specs.Syntax as Meant
 use Rattle.reader.specs.declared.node.Syntax.the-variants as Syntaxes
-use Rattle.reader.specs.Inner.Index.{Indexed}
 use Rattle.reader.proofs.Larger.{read-keeps, keeps}
-use Rattle.translation.specs.Translation.{Translation, clause, mapped, itemKey}
-use Rattle.translation.specs.TranslationFile.{translationOf}
+use Rattle.translation.specs.Translation.{Translation, clause, mapped}
 use Rattle.translation.specs.Running.{mappedArguments, readClause, clausesOf, transform}
 use Rattle.translation.specs.Inner.Items.{itemAt, IsClause}
-use Rattle.translation.specs.Inner.ItemIndex.{IndexedItems, mappedAt}
+use Rattle.translation.specs.Inner.ItemIndex.{mappedAt}
 use Rattle.translation.specs.Inner.Tests.{mappedBefore}
 use Rattle.translation.proofs.Items.{clause-is, holds-items}
 use Rattle.translation.proofs.IndexedItems.{clause-key, mapped-is}
 use Rattle.translation.proofs.Coded.{arguments-map, code-cut}
 use Rattle.translation.proofs.Found.{cut, cut-is}
 use Rattle.translation.proofs.Fitting.{clause-code}
-use Rattle.writer.specs.Inner.Runs.{Tables, tables, Sized}
+use Rattle.writer.specs.Inner.Runs.{tables, Sized}
 use Rattle.writer.specs.Inner.Prepared as Writer
 use Rattle.writer.specs.declared.output.Ran.{Ran}
 use Rattle.writer.specs.declared.output.Ran.the-variants as Rans

@@ -1,5 +1,5 @@
 -- The items of the second's body, joined one after the other: a law for each return and turn.
-use Prim.Native.Nat.{ℕ, zero, suc, _+_, _-_, _<_, _≤_}
+use Prim.Native.Nat.{ℕ, suc, _+_, _-_, _<_, _≤_}
 use mathlib.Core.Path.{_≡_, refl, sym, ap, _∙_}
 use mathlib.Core.Logic.{⊎-elim}
 use mathlib.Core.Bool.{true}
@@ -125,9 +125,6 @@ module _ (s is t it b ib m s′ is′ b′ ib′ : List ℕ) (f g : Translation)
           let e : joinedBody f g ≡ v ++ (joinedField f g b′ p ++ u) = body-rest ∙ ap (λ (r : List ℕ). v ++ concatMap (joinedField f g b′) r) (places-next b′ p here) in
           stored-full _ o₀ o′ 0
           (omega (arith, ap length e, length-append v (joinedField f g b′ p ++ u), length-append (joinedField f g b′ p) u, y .full h, inv .end, l))
-
-      pub items-in : (q : ℕ) → x ≡ To q → q ≤ length o
-      items-in q h = y .done q h .fits
 
       pub items-next : (q : ℕ) → x ≡ To q → Written (concatMap (joinedField f g b′) (w .before ++ (p ∷ []))) o₀ o′ 0 q
       unfolding concatMap

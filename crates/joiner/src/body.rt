@@ -1,8 +1,7 @@
 // The body of a join: each item of the second's body, chained or run through the first.
 ghost use mathlib.Core.Path.{_≡_};
 ghost use mathlib.Core.Bool.{true};
-ghost use mathlib.Core.List.{List, [], _∷_};
-ghost use Prim.Native.Nat.{ℕ, _+_, _<_, _≤_};
+ghost use Prim.Native.Nat.{_+_, _<_, _≤_};
 ghost use lib.ListN.{length, getD};
 ghost use Rattle.fields.specs.Inner.Places.{EndsAt, fieldEnd};
 ghost use Rattle.translation.specs.Translation.{Translation};

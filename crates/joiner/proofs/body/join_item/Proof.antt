@@ -1,4 +1,3 @@
-use mathlib.Core.Path.{_∙_}
 use Rattle.translation.proofs.Coded.{other-clause}
 use Rattle.joiner.proofs.Turns.{item-mapping, item-stored}
 use borrow.Author.Needs.{needs}

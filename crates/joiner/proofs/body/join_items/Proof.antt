@@ -1,7 +1,7 @@
 use borrow.Author.Needs.{needs}
 use native.Mathlib.Omega.{arith}
-use Prim.Native.Nat.{_-_, _≤_}
-use mathlib.Core.Path.{_≡_, refl, _∙_}
+use Prim.Native.Nat.{_-_}
+use mathlib.Core.Path.{_≡_, refl}
 use mathlib.Core.Bool.{true}
 use lib.ListN.{length}
 use Rattle.fields.specs.Lists.{all, concatMap}
@@ -11,7 +11,7 @@ use Rattle.translation.specs.Inner.Items.{itemWhole}
 use Rattle.translation.proofs.Coded.{item-here, items-on}
 use Rattle.operators.specs.Inner.Parts.{Written}
 use Rattle.joiner.specs.Inner.Joining.{Joining, Reached, joinedField}
-use Rattle.joiner.proofs.Turns.{items-whole, items-start, items-done, items-full, items-in, items-next, reached-start, reached-next}
+use Rattle.joiner.proofs.Turns.{items-whole, items-start, items-done, items-full, items-next, reached-start, reached-next}
 use Rattle.joiner.proofs.body.join_items.Statement.{statement}
 use Rattle.joiner.proofs.body.join_items.Tie as tie
 use Rattle.joiner.proofs.body.join_items.Reads as reads

@@ -1,4 +1,3 @@
-use native.Mathlib.Omega.{arith}
 use mathlib.Core.Path.{refl}
 use Rattle.values.proofs.Given.{stored-room, stored-length, stored-first}
 use Rattle.joiner.proofs.Joined.{spelt-held, source-within, target-within, fitting-full}
