@@ -38,7 +38,8 @@ fn join_mapping(mapped: &[u8], second_body: &[u8], p: usize, out: &mut [u8], n: 
     if out.len() - n < 5 {
         return Stored::Full;
     }
-    let kind = byte_at(mapped, wide(byte_at(second_body, p + 4)));
+    let middle = byte_at(second_body, p + 4);
+    let kind = byte_at(mapped, wide(middle));
     put_head(0x22, 2, byte_at(second_body, p + 3), kind, out, n);
     Stored::To(n + 5)
 }
@@ -98,7 +99,8 @@ fn join_code(
     }
 }
 
-// The clause at p of the second's body, which ends at e, joined: its code is put in first, and then what stands before it.
+// The clause at p of the second's body, which ends at e, joined: its code is put in first, and then what stands before
+// it.
 fn join_clause(
     source: &[u8],
     index: &[u16],
