@@ -197,7 +197,7 @@ module _ (s t b : List ℕ) (f : Translation) (w : Spelt s t b f) where
   pub target-within : length t ≤ 1024
   target-within = omega (arith, ap length (w .target), good .target-short)
 
-  pub body-within : length b ≤ 4096
+  pub body-within : length b ≤ 32768
   body-within = omega (arith, ap length (w .body), body-in f, good .short)
 
 -- `join_body`: the tables of the parts

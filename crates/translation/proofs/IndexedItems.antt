@@ -43,7 +43,7 @@ groups s = record {
 }
 
 -- The index that was built.
-module _ (s index : List ℕ) (bytes : (i : ℕ) → getD s i 0 < 256) (short : length s ≤ 4096) (long : length index ≡ 8224)
+module _ (s index : List ℕ) (bytes : (i : ℕ) → getD s i 0 < 256) (short : length s ≤ 32768) (long : length index ≡ 8224)
     (zeros : (j : ℕ) → getD index j 0 ≡ 0) (b : Body) (e : bodyOf s ≡ some b) where
   abbrev built : List ℕ
   built = putAll 0x22 s index (places s)

@@ -12,7 +12,7 @@ use reader::node::place_at;
 
 // Builds the index of a body in an index that is all zero.
 pub fn build_items(body: &[u8], index: &mut [u16])
-    requires { ⌜ (length (now body) ≤ 4096) × (length (now index) ≡ 8224) × ((j : ℕ) → getD (now index) j 0 ≡ 0) ⌝ }
+    requires { ⌜ (length (now body) ≤ 32768) × (length (now index) ≡ 8224) × ((j : ℕ) → getD (now index) j 0 ≡ 0) ⌝ }
     ensures { λ r. ⌜ ((b : Body) → bodyOf (now (body .entry)) ≡ some b → IndexedItems (now (index .exit)) (now (body .entry)) b) ⌝ }
 {
     put_all(body, 0x22, index);

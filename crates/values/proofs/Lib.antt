@@ -2,3 +2,4 @@ pub mod Given
 pub mod Accepted
 pub mod LanguageLaws
 pub mod TranslationLaws
+pub mod Keeping

@@ -16,7 +16,7 @@ use Rattle.fields.specs.Keyed.{agree}
 use Rattle.fields.proofs.Truth.{mem-all}
 use Rattle.fields.proofs.Keyed.{rising-is}
 use Rattle.language.specs.Language.{Language, entryKey}
-use Rattle.language.specs.LanguageFile.{encodeLanguage}
+use Rattle.language.specs.LanguageFile.{encodeLanguage, languageOf}
 use Rattle.language.proofs.Codec.{entryWhole}
 use Rattle.translation.specs.Translation.{Translation, itemKey, sameItem}
 use Rattle.translation.specs.TranslationFile.{itemField, encodeTranslation, translationOf}
@@ -24,16 +24,17 @@ use Rattle.translation.specs.Inner.Parts.{Parted}
 use Rattle.translation.proofs.Found.{cut, cut-is, rest-is}
 use Rattle.operators.specs.declared.copy.Stored.{Stored}
 use Rattle.operators.specs.declared.copy.Stored.the-variants.{To, Full}
-use Rattle.operators.specs.Algebra.{languagesFit, languageUnion, translationsFit, translationUnion, translationSum}
-use Rattle.operators.specs.Inner.Parts.{Sorted, Stores, united, agrees, fitTogether}
+use Rattle.operators.specs.Algebra.{languagesFit, languageWithout, translationsFit, translationUnion, translationSum, translationWithout}
+use Rattle.operators.specs.Inner.Parts.{Sorted, Stores, united, removed, agrees, fitTogether}
 use Rattle.operators.specs.Inner.Values.{translationBytes, Gives}
 use Rattle.operators.proofs.Proper.{Sound, GoodTranslation}
-use Rattle.operators.proofs.Encoded.{bodyBytes, sorted-language, united-languages, languages-fit, sorted-body, united-bodies, bodies-agree}
+use Rattle.operators.proofs.Encoded.{bodyBytes, sorted-language, united-languages, removed-language, languages-fit, sorted-body, united-bodies, bodies-agree}
 use Rattle.operators.proofs.SumSound.{fit-translations, sound-union}
 use Rattle.values.specs.Inner.Assembled.{assembled}
 use Rattle.values.specs.Inner.Spelt.{Spelt}
-use Rattle.values.proofs.Given.{gives-refused, stored-first}
-use Rattle.values.proofs.Accepted.{accepted-good, translation-written, source-written, target-written, body-written, assembled-given, source-over, target-over, body-over}
+use Rattle.values.specs.Inner.Kept.{Left}
+use Rattle.values.proofs.Given.{gives-refused, stored-first, stored-short}
+use Rattle.values.proofs.Accepted.{accepted-good, language-written, translation-written, source-written, target-written, body-written, assembled-given, source-over, target-over, body-over}
 
 -- The parts of an accepted translation in its file.
 pub parted-spelt : (s : List ℕ) (a b : ℕ) (f : Translation) → Parted s a b f → ((i : ℕ) → byteAt s i < 256) → translationOf s ≡ value f
@@ -151,3 +152,24 @@ module _ (f g : Translation) (x : Bool) (e : x ≡ translationsFit f g) where
       → Gives (translationBytes (translationSum f g)) o o′ r
   unfolding translationSum
   fit-given h o o′ r w = let z : translationsFit f g ≡ true = sym e ∙ h in rw z (w z)
+
+-- "Without"
+module _ (s t x b : List ℕ) (f : Translation) (m : Language) (p : Spelt s t x f) (e : languageOf b ≡ value m) (h : (i : ℕ) → byteAt b i < 256) where
+  left-is : removed 0x11 s b ≡ encodeLanguage (languageWithout (f .source) m)
+  left-is =
+      ap (λ (a : List ℕ). removed 0x11 a b) (p .source)
+      ∙ (ap (removed 0x11 (encodeLanguage (f .source))) (language-written b m e h) ∙ removed-language (f .source) m)
+
+  module _ (d d′ : List ℕ) (r : Stored) (n : length d ≡ 1024) (w : Stores (removed 0x11 s b) d d′ 0 r) where
+    pub left-too-long : (o : List ℕ) → r ≡ Full → Gives (translationBytes (value (translationWithout f m))) o o (Refused Limit)
+    unfolding translationWithout
+    left-too-long o full = gives-refused _ o o Limit (source-over (translationWithout f m) (omega (arith, w .full full, ap length left-is))) refl
+
+    pub left-spelt : (i : ℕ) → r ≡ To i → length d′ ≡ length d → Left (take i d′) t x f m
+    left-spelt i q l = record {
+      source = stored-first _ d d′ i r w q ∙ left-is;
+      target = p .target;
+      body = p .body;
+      accepted = p .accepted;
+      short = omega (arith, stored-short _ d d′ i r w q l);
+    }

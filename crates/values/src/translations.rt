@@ -1,20 +1,24 @@
-// The sum of two translations.
+// The operators on translations: the sum, and "without" a language.
 ghost use mathlib.Core.Path.{_≡_};
 ghost use mathlib.Core.Bool.{true};
 ghost use Prim.Native.Nat.{_≤_};
 ghost use lib.ListN.{length};
 ghost use Rattle.fields.specs.Outcome.{value};
+ghost use Rattle.language.specs.Language.{Language};
+ghost use Rattle.language.specs.LanguageFile.{languageOf};
 ghost use Rattle.translation.specs.Translation.{Translation};
 ghost use Rattle.translation.specs.TranslationFile.{translationOf};
-ghost use Rattle.operators.specs.Algebra.{translationsFit, translationUnion, translationSum};
+ghost use Rattle.operators.specs.Algebra.{translationsFit, translationUnion, translationSum, translationWithout};
 ghost use Rattle.operators.specs.Inner.Values.{Gives, translationBytes};
 ghost use Rattle.values.specs.Inner.Spelt.{Spelt};
 use super::assemble::assemble;
+use super::keep::keep_parts;
 use fields::outcome::Outcome;
 use fields::outcome::Reason;
 use operators::copy::Stored;
 use operators::fit::languages_fit;
 use operators::merge::merge;
+use operators::merge::remove;
 use operators::within::agree;
 use translation::parts::accepted_parts;
 
@@ -87,4 +91,29 @@ pub fn sum(a: &[u8], b: &[u8], out: &mut [u8]) -> Outcome
         &b[q..],
         out,
     )
+}
+
+// The parts of a translation, its source without a language.
+fn without_parts(s: &[u8], t: &[u8], x: &[u8], b: &[u8], out: &mut [u8]) -> Outcome
+    requires { ⌜ ((f : Translation) × Spelt (now s) (now t) (now x) f) × ((m : Language) × (languageOf (now b) ≡ value m)) × (4096 ≤ length (now out)) ⌝ }
+    ensures { λ r. ⌜ ((f : Translation) (m : Language) → Spelt (now (s .entry)) (now (t .entry)) (now (x .entry)) f → languageOf (now (b .entry)) ≡ value m
+        → Gives (translationBytes (value (translationWithout f m))) (now (out .entry)) (now (out .exit)) r) ⌝ }
+{
+    let mut source = [0u8; 1024];
+    let Stored::To(i) = remove(s, b, 0x11, &mut source) else {
+        return Outcome::Refused(Reason::Limit);
+    };
+    keep_parts(&source[..i], t, x, out)
+}
+
+// A translation without the entries of a language in its source; clauses and mappings no longer in it go.
+pub fn without(a: &[u8], b: &[u8], out: &mut [u8]) -> Outcome
+    requires { ⌜ ((f : Translation) × (translationOf (now a) ≡ value f)) × ((m : Language) × (languageOf (now b) ≡ value m)) × (4096 ≤ length (now out)) ⌝ }
+    ensures { λ r. ⌜ ((f : Translation) (m : Language) → translationOf (now (a .entry)) ≡ value f → languageOf (now (b .entry)) ≡ value m
+        → Gives (translationBytes (value (translationWithout f m))) (now (out .entry)) (now (out .exit)) r) ⌝ }
+{
+    let parts = accepted_parts(a);
+    let c = parts.source_end;
+    let d = parts.target_end;
+    without_parts(&a[3..c], &a[c + 3..d], &a[d..], b, out)
 }
