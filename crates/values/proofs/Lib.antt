@@ -1,0 +1,5 @@
+pub mod Given
+pub mod Accepted
+pub mod LanguageLaws
+pub mod TranslationLaws
+pub mod Keeping
