@@ -82,10 +82,10 @@ kinding-end l k h = let z : 32 - k ≡ 0 = omega arith in ap (λ (j : ℕ). conc
 
 -- put_clause: the clause of a production, in bytes
 abbrev pub sameItem : ℕ → ℕ → ℕ → List ℕ
-sameItem x r q = 0x23 ∷ 0 ∷ (x + 4) ∷ r ∷ q ∷ 1 ∷ q ∷ 3 ∷ 1 ∷ 3 ∷ 2 ∷ 3 ∷ 3 ∷ 3 ∷ 4 ∷ 3 ∷ 5 ∷ 3 ∷ 6 ∷ 3 ∷ 7 ∷ 3 ∷ 8 ∷ []
+sameItem x r q = (0x23 ∷ 0 ∷ (x + 4) ∷ r ∷ q ∷ 1 ∷ q ∷ []) ++ slice 0 x (3 ∷ 1 ∷ 3 ∷ 2 ∷ 3 ∷ 3 ∷ 3 ∷ 4 ∷ 3 ∷ 5 ∷ 3 ∷ 6 ∷ 3 ∷ 7 ∷ 3 ∷ 8 ∷ [])
 
 same-item : (r q x : ℕ) (ks : List ℕ) → length ks ≤ 8 → x ≡ 2 * length ks
-    → slice 0 (x + 7) (sameItem x r q) ≡ encodeFields (map itemField (identityClause (production r q ks)))
+    → sameItem x r q ≡ encodeFields (map itemField (identityClause (production r q ks)))
 unfolding encodeFields encodeField concatMap itemField identityClause argumentsFrom write
 same-item r q x [] h e = rw e refl
 same-item r q x (a ∷ []) h e = rw e refl
@@ -120,7 +120,7 @@ module _ (s : List ℕ) (p tag : ℕ) (et : tag ≡ byteAt s p) where
         (omega arith, omega arith, omega arith)
 
     pub production-stored : (e : ℕ) → e ≡ fieldEnd s p → (x r q : ℕ) → x ≡ 2 * (e - p - 5) → r ≡ byteAt s (p + 3) → q ≡ byteAt s (p + 4)
-        → (o o′ : List ℕ) (n : ℕ) (y : Stored) → Stores (slice 0 (x + 7) (sameItem x r q)) o o′ n y → Stores (clauseItem s p) o o′ n y
+        → (o o′ : List ℕ) (n : ℕ) (y : Stored) → Stores (sameItem x r q) o o′ n y → Stores (clauseItem s p) o o′ n y
     unfolding clauseItem
     production-stored e ee x r q ex er eq o o′ n y k =
         let b = production-size e ee in

@@ -21,6 +21,7 @@ use fields::outcome::Reason;
 use fields::walk::field_end;
 use operators::copy::Stored;
 use operators::copy::put;
+use operators::copy::put_both;
 use operators::copy::put_if;
 use reader::kinds::is_in;
 
@@ -61,32 +62,9 @@ fn put_clause(a: &[u8], p: usize, e: usize, out: &mut [u8], n: usize) -> Stored
     let result = byte_at(a, p + 3);
     let name = byte_at(a, p + 4);
     let size = 2 * (e - p - 5);
-    let item = [
-        0x23,
-        0,
-        (size + 4) as u8,
-        result,
-        name,
-        1,
-        name,
-        3,
-        1,
-        3,
-        2,
-        3,
-        3,
-        3,
-        4,
-        3,
-        5,
-        3,
-        6,
-        3,
-        7,
-        3,
-        8,
-    ];
-    put(&item, 0, size + 7, out, n)
+    let head = [0x23, 0, (size + 4) as u8, result, name, 1, name];
+    let arguments = b"\x03\x01\x03\x02\x03\x03\x03\x04\x03\x05\x03\x06\x03\x07\x03\x08";
+    put_both(&head, 0, 7, arguments, 0, size, out, n)
 }
 
 // The clauses of all productions, into the output from its start.
