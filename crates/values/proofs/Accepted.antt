@@ -19,7 +19,7 @@ use Rattle.fields.proofs.Keyed.{is-rising}
 use Rattle.fields.proofs.Codec.{Bytes, bytes-from, each-front}
 use Rattle.language.specs.Language.{Language, entryKey}
 use Rattle.language.specs.LanguageFile.{entriesOf, encodeLanguage, languageOf}
-use Rattle.language.proofs.Codec.{entryWhole, language-sound, language-bytes}
+use Rattle.language.proofs.Codec.{entryWhole, GoodLanguage, language-good, language-length, language-sound, language-bytes}
 use Rattle.language.proofs.Lookup.{clashes-none}
 use Rattle.translation.specs.Translation.{Item, mapping, clause, Translation, itemKey}
 use Rattle.translation.specs.TranslationFile.{itemField, encodeTranslation, translationLimit, translationOf}
@@ -38,8 +38,14 @@ use Rattle.values.proofs.Given.{assembled-is, stored-gives, slice-whole
 pub slice-bytes : (s : List ℕ) → ((i : ℕ) → byteAt s i < 256) → Bytes s
 slice-bytes s h = bytes-from s (λ i k. h i)
 
--- An accepted language is written in its file, and does not exceed.
+-- An accepted language is written in its file, which is within the limit.
 module _ (s : List ℕ) (l : Language) (e : languageOf s ≡ value l) where
+  pub language-entries : entriesOf s ≡ some l
+  language-entries = language-good s l e .0
+
+  pub language-short : length s ≤ 1024
+  language-short = let g = language-good s l e in omega (arith, language-length s l (g .0), g .1 .short)
+
   pub language-written : ((i : ℕ) → byteAt s i < 256) → s ≡ encodeLanguage l
   language-written h = language-bytes s l (slice-bytes s h) e
 

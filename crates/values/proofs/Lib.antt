@@ -3,3 +3,5 @@ pub mod Accepted
 pub mod LanguageLaws
 pub mod TranslationLaws
 pub mod Keeping
+pub mod SameItem
+pub mod Making
