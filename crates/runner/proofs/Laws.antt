@@ -4,16 +4,16 @@ use mathlib.Core.Path.{_≡_, refl, sym, ap, _∙_}
 use mathlib.Core.Bool.{Bool, true, false, _||_}
 use mathlib.Core.List.{List, [], _++_}
 use native.Mathlib.Omega.{arith}
-use lib.ListN.{length, getD, drop, drop-of-length-le}
+use lib.ListN.{length, getD, drop, length-drop, drop-of-length-le}
 use lib.Dec.{ltb}
-use borrow.Author.Tests.{le-ltb, lt-ltb}
+use borrow.Author.Tests.{ltb-false, le-ltb, lt-ltb}
 use Rattle.fields.specs.Fields.{hasOver}
 use Rattle.fields.specs.Outcome.{Result, value, refused, _>>=_, checked, written, outputAfter}
 use Rattle.fields.specs.declared.outcome.Outcome.{Outcome}
 use Rattle.fields.specs.declared.outcome.Outcome.the-variants.{Accepted, Refused}
 use Rattle.fields.specs.declared.outcome.Reason.{Reason}
 use Rattle.fields.specs.declared.outcome.Reason.the-variants as Why
-use Rattle.fields.proofs.Truth.{by-test}
+use Rattle.fields.proofs.Truth.{by-test, or-false}
 use Rattle.fields.proofs.Split.{front}
 use Rattle.fields.proofs.Keyed.{Rising}
 use Rattle.language.specs.Language.{isIn, productionKey}
@@ -37,7 +37,7 @@ use Rattle.translation.specs.Inner.ItemIndex as Items
 use Rattle.translation.proofs.Codec.{WholeTranslation, translation-whole, translation-parts}
 use Rattle.translation.proofs.Fitting.{Fitting, formed-fits, refuse-value}
 use Rattle.translation.proofs.IndexedItems.{mapped-is}
-use Rattle.translation.proofs.Found.{cut}
+use Rattle.translation.proofs.Found.{cut, rest-is}
 use Rattle.translation.proofs.Chain.{pieces}
 use Rattle.measure.specs.declared.measure.Measured.{Measured}
 use Rattle.measure.specs.declared.measure.Measured.the-variants.{End, Deep, Broken}
@@ -80,7 +80,7 @@ module _ {s t b : List ℕ} {f : Translation} (z : Checked s t b f) where
   module _ {index places items mapped : List ℕ} (tree : List ℕ) (i : Indexed index s (f .source)) (j : Indexed places t (f .target))
       (k : IndexedItems items b (f .body)) (m : Kinds mapped b items) where
     pub sized : Sized (tables Tree s index t places b items mapped [] tree)
-    sized = record { source = i .sound; target = j .sound; clauses = k .sound .long; mapped = m .long; kinds = m .below }
+    sized = record { source = i .sound; target = j .sound; clauses = k .sound .long; mapped = m .2; kinds = m .1 }
 
     pub prepared : Prepared (tables Tree s index t places b items mapped [] tree) f
     prepared = record {
@@ -91,7 +91,7 @@ module _ {s t b : List ℕ} {f : Translation} (z : Checked s t b f) where
       clauses = λ a p h l. k .clause a p h l ∙ code-before b (getD items (productionKey a p) 0);
       codes = λ a p ks c e y. fit-codes f body-rises fits a p ks e c y;
       each = λ a p ks e. fit-each f body-rises fits a p ks e;
-      mapped = λ a h. m .at a h ∙ mapped-is b items (f .body) k a h;
+      mapped = λ a h. m .0 a h ∙ mapped-is b items (f .body) k a h;
     }
 
 -- write_tree
@@ -175,11 +175,15 @@ module _ (s : List ℕ) (f : Translation) (e : translationOf s ≡ value f) wher
   -- The parts that are lent.
   pub parts-checked : (a b : ℕ) → Parted s a b f → Checked (cut s 3 a) (cut s (a + 3) b) (cut s b (length s)) f
   unfolding translationOf
-  parts-checked a b w = record {
-    pieces = pieces s _ refl (refuse-value (ltb translationLimit (length s) || hasOver isLanguageTag languageLimit s) Why.TooLong _ e .0) a b f w (translation-parts s f e);
-    file = s;
-    accepted = e;
-  }
+  parts-checked a b w =
+      let r = refuse-value (ltb translationLimit (length s) || hasOver isLanguageTag languageLimit s) Why.TooLong _ e .0 in
+      let l = ltb-false translationLimit (length s) (or-false (ltb translationLimit (length s)) (hasOver isLanguageTag languageLimit s) r .0) in
+      record {
+        pieces = pieces s _ refl r a b f w (translation-parts s f e);
+        short = rw (rest-is s b) (simp length-drop (omega arith));
+        file = s;
+        accepted = e;
+      }
 
 -- The outcome and the output are those of the operation.
 abbrev pub AsRun : List ℕ → ℕ → List ℕ → List ℕ → List ℕ → Outcome → Type 0

@@ -1,3 +1,2 @@
 // The operation run: a tree through a translation, into an output.
-pub mod kinds;
 pub mod run;

@@ -1,5 +1,4 @@
 // The operation run. It measures the result first and writes it only where it fits.
-use crate::kinds::map_kinds;
 use fields::outcome::Answer;
 use fields::outcome::Outcome;
 use fields::outcome::Reason;
@@ -13,6 +12,7 @@ use reader::kinds::is_in;
 use reader::node::Syntax;
 use translation::check::check_translation;
 use translation::index::build_items;
+use translation::index::map_kinds;
 use translation::parts::accepted_parts;
 use writer::output::Ran;
 ghost use mathlib.Core.Path.{_≡_};

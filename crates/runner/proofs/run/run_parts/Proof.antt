@@ -18,7 +18,7 @@ returns : tie.Need-returns
 returns c = λ f z. kind-out f _ _ _ _ (c .before .before .is-in .ensures (f .source) (z .pieces .source)) (not-true _ (c .before .if1 .taken)) (c .refuse .ensures)
 
 prepare-requires : tie.Need-prepare-requires
-prepare-requires c κs = (c .before .before .before .before .before .before .before .before .before .pre .1 .1 .pieces .source-short, c .before .before .before .before .before .before .before .before .before .pre .1 .1 .pieces .body-short, refl, zeros 8224, refl, zeros 1024, (c .before .before .before .before .before .before .before .before .before .pre .1 .0, c .before .before .before .before .before .before .before .before .before .pre .1 .1 .pieces .source, c .before .before .before .before .before .before .before .before .before .pre .1 .1 .pieces .body))
+prepare-requires c κs = (c .before .before .before .before .before .before .before .before .before .pre .1 .1 .pieces .source-short, c .before .before .before .before .before .before .before .before .before .pre .1 .1 .short, refl, zeros 8224, refl, zeros 1024, (c .before .before .before .before .before .before .before .before .before .pre .1 .0, c .before .before .before .before .before .before .before .before .before .pre .1 .1 .pieces .source, c .before .before .before .before .before .before .before .before .before .pre .1 .1 .pieces .body))
 
 measure-requires : tie.Need-measure-requires
 measure-requires c κs = (c .before .before .before .before .prepare .ensures (c .before .before .before .before .before .before .before .before .before .before .before .before .before .before .pre .1 .0) (c .before .before .before .before .before .before .before .before .before .before .before .before .before .before .pre .1 .1 .pieces .source) (c .before .before .before .before .before .before .before .before .before .before .before .before .before .before .pre .1 .1 .pieces .body) (rises (c .before .before .before .before .before .before .before .before .before .before .before .before .before .before .pre .1 .1)) (formed (c .before .before .before .before .before .before .before .before .before .before .before .before .before .before .pre .1 .1)) .0 .sound, c .before .before .before .before .before .before .before .before .before .before .before .before .before .before .pre .0, omega arith)

@@ -11,7 +11,7 @@ use Rattle.runner.proofs.run.write_tree.Lts as lts
 use Rattle.fields.proofs.outcome.accept.Reads as accept-reads
 use Rattle.fields.proofs.outcome.refuse.Reads as refuse-reads
 use Rattle.reader.proofs.index.build.Reads as build-reads
-use Rattle.runner.proofs.kinds.map_kinds.Reads as map-kinds-reads
+use Rattle.translation.proofs.index.map_kinds.Reads as map-kinds-reads
 use Rattle.translation.proofs.index.build_items.Reads as build-items-reads
 use Rattle.writer.proofs.run.run.Reads as run-reads
 
