@@ -122,7 +122,7 @@ unfolding bytesOf encodeFields concatMap
 bytes-map first [] = refl
 bytes-map first (f ∷ fs) = ap (λ (r : List ℕ). encodeField f ++ r) (bytes-map first fs)
 
-map-map : {A B C : Type 0} (f : B → C) (g : A → B) (l : List A) → map f (map g l) ≡ map (λ a. f (g a)) l
+pub map-map : {A B C : Type 0} (f : B → C) (g : A → B) (l : List A) → map f (map g l) ≡ map (λ a. f (g a)) l
 map-map f g [] = refl
 map-map f g (a ∷ l) = ap (λ r. f (g a) ∷ r) (map-map f g l)
 

@@ -1,6 +1,6 @@
 -- What is known of the languages and translations that accepted files hold, and of what is made of them.
 use Prim.Native.Nat.{ℕ, _+_, _≤_, _<_}
-use mathlib.Core.Path.{_≡_, refl, sym, ap, subst, _∙_}
+use mathlib.Core.Path.{_≡_, refl, ap, subst, _∙_}
 use mathlib.Core.Bool.{Bool, true, false, _||_}
 use mathlib.Core.List.{List, _++_, map}
 use native.Mathlib.Omega.{arith}
@@ -19,11 +19,10 @@ use Rattle.fields.proofs.Keyed.{is-rising}
 use Rattle.fields.proofs.Codec.{Bytes, bytes-from, each-front}
 use Rattle.language.specs.Language.{Language, entryKey}
 use Rattle.language.specs.LanguageFile.{entriesOf, encodeLanguage, languageOf}
-use Rattle.language.proofs.Codec.{entryWhole, GoodLanguage, language-good, language-length, language-sound, language-bytes}
+use Rattle.language.proofs.Codec.{entryWhole, language-good, language-length, language-sound, language-bytes}
 use Rattle.language.proofs.Lookup.{clashes-none}
 use Rattle.translation.specs.Translation.{Item, mapping, clause, Translation, itemKey}
 use Rattle.translation.specs.TranslationFile.{itemField, encodeTranslation, translationLimit, translationOf}
-use Rattle.translation.specs.Running.{readClause}
 use Rattle.translation.specs.Inner.Parts.{Parted}
 use Rattle.translation.proofs.Codec.{itemWhole, body-sound, rises-parts, translation-whole, translation-bytes}
 use Rattle.operators.specs.Limits.{isDeep, codeIsDeep, languageExceeds, translationExceeds}

@@ -1,10 +1,9 @@
 -- What an operator gives once its value is written, or where there is none.
 use Prim.Native.Nat.{ℕ, _+_, _/_, _%_, _≤_, _<_}
 use mathlib.Core.Path.{_≡_, refl, sym, ap, _∙_}
-use mathlib.Core.Bool.{Bool, true, false, cond}
 use mathlib.Core.List.{List, [], _∷_, _++_, map}
 use native.Mathlib.Omega.{arith}
-use lib.ListN.{length, take, drop, length-append}
+use lib.ListN.{length, take, drop}
 use lib.Seq.{slice, take-append-seam, take-length, length-take-le}
 use lib.Dec.{ltb}
 use borrow.Author.Tests.{ltb-true, ltb-false, lt-ltb, le-ltb}
@@ -13,7 +12,7 @@ use Rattle.fields.specs.declared.outcome.Outcome.{Outcome}
 use Rattle.fields.specs.declared.outcome.Outcome.the-variants.{Accepted, Refused}
 use Rattle.fields.specs.declared.outcome.Reason.{Reason}
 use Rattle.fields.specs.declared.outcome.Reason.the-variants.{Limit}
-use Rattle.fields.specs.Fields.{Field, field, encodeField, encodeFields}
+use Rattle.fields.specs.Fields.{field, encodeField, encodeFields}
 use Rattle.fields.specs.Lists.{concatMap}
 use Rattle.fields.proofs.Truth.{by-test}
 use Rattle.fields.proofs.Codec.{refused-value}

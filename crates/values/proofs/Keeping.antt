@@ -1,28 +1,28 @@
 -- What stays of a translation without a language: a law for each return and turn.
 use Prim.Native.Nat.{ℕ, _+_, _≤_, _<_}
-use mathlib.Core.Path.{_≡_, refl, sym, ap, subst, _∙_}
+use mathlib.Core.Path.{_≡_, refl, sym, ap, _∙_}
 use mathlib.Core.Logic.{⊎-elim}
-use mathlib.Core.Bool.{Bool, true, false, cond, not}
+use mathlib.Core.Bool.{Bool, true, false, cond}
 use mathlib.Core.List.{List, [], _∷_, _++_, map}
 use mathlib.Core.Option.{some}
 use native.Mathlib.Omega.{arith}
-use lib.ListN.{length, take, drop, getD}
+use lib.ListN.{length, take, getD}
 use lib.Seq.{slice}
-use lib.Dec.{ltb, eqb}
+use lib.Dec.{ltb}
 use borrow.Author.Tests.{eq-eqb, leb-true}
-use Rattle.fields.specs.Outcome.{Result, value, refuseIf}
+use Rattle.fields.specs.Outcome.{value, refuseIf}
 use Rattle.fields.specs.declared.outcome.Outcome.{Outcome}
 use Rattle.fields.specs.declared.outcome.Outcome.the-variants.{Refused}
 use Rattle.fields.specs.declared.outcome.Reason.the-variants.{Limit}
 use Rattle.fields.specs.Lists.{all, keep, concatMap}
-use Rattle.fields.specs.Fields.{Field, field, byteAt, encodeField, encodeFields}
+use Rattle.fields.specs.Fields.{field, byteAt, encodeField, encodeFields}
 use Rattle.fields.specs.Inner.Places.{fieldEnd, isWhole, placesFrom, places}
-use Rattle.fields.proofs.Truth.{and-both, by-test, mem-all}
+use Rattle.fields.proofs.Truth.{and-both, mem-all}
 use Rattle.fields.proofs.Codec.{Each, contentsOf}
 use Rattle.fields.proofs.Keyed.{rising-is}
 use Rattle.fields.proofs.Places.{end-past, places-done, places-next, every-here}
-use Rattle.language.specs.Language.{Language, isIn, argumentsOf, productionKey}
-use Rattle.language.specs.LanguageFile.{entriesOf, encodeLanguage, languageOf}
+use Rattle.language.specs.Language.{Language, isIn, productionKey}
+use Rattle.language.specs.LanguageFile.{entriesOf, encodeLanguage}
 use Rattle.language.proofs.Codec.{entryWhole, language-encode}
 use Rattle.reader.specs.Inner.Index.{argumentsBefore, Indexed}
 use Rattle.translation.specs.Translation.{Item, mapping, clause, Body, Translation, itemKey}
@@ -40,7 +40,7 @@ use Rattle.operators.specs.Inner.Parts.{Part, pieceAt, partAt, partsFrom, Insid
 use Rattle.operators.specs.Inner.Values.{translationBytes, Gives}
 use Rattle.operators.proofs.Proper.{GoodTranslation}
 use Rattle.operators.proofs.SumSound.{proper-without, sound-without}
-use Rattle.operators.proofs.Encoded.{parts-encode}
+use Rattle.operators.proofs.Encoded.{parts-encode, map-map}
 use Rattle.operators.proofs.Turns.{Progress, progress-start}
 use Rattle.values.specs.Inner.Assembled.{assembled}
 use Rattle.values.specs.Inner.Kept.{writtenFrom, stayingAt, Left}
@@ -134,10 +134,6 @@ unfolding itemField
 all-long [] = tt
 all-long (mapping s t ∷ b) = (omega arith, all-long b)
 all-long (clause r p c ∷ b) = (omega arith, all-long b)
-
-map-map : {A B C : Type 0} (f : B → C) (g : A → B) (l : List A) → map f (map g l) ≡ map (λ a. f (g a)) l
-map-map f g [] = refl
-map-map f g (a ∷ l) = ap (λ r. f (g a) ∷ r) (map-map f g l)
 
 pieces-are : (b : Body) → map (pieceAt (encodeFields (map itemField b))) (places (encodeFields (map itemField b))) ≡ map (λ a. encodeField (itemField a)) b
 unfolding partsFrom partAt

@@ -1,17 +1,17 @@
 -- The operators on languages that stand in accepted files: a law for each return.
 use Prim.Native.Nat.{ℕ, _≤_, _<_}
 use mathlib.Core.Path.{_≡_, refl, sym, ap, subst, _∙_}
-use mathlib.Core.Bool.{Bool, true, false, not}
+use mathlib.Core.Bool.{Bool, true, false}
 use mathlib.Core.List.{List}
 use lib.ListN.{length}
-use Rattle.fields.specs.Outcome.{Result, value, refused, refuseIf, _>>=_}
+use Rattle.fields.specs.Outcome.{value}
 use Rattle.fields.specs.declared.outcome.Outcome.{Outcome}
 use Rattle.fields.specs.declared.outcome.Outcome.the-variants.{Refused}
 use Rattle.fields.specs.declared.outcome.Reason.the-variants.{SumUnfit}
 use Rattle.fields.specs.Fields.{byteAt}
 use Rattle.language.specs.Language.{Language}
 use Rattle.language.specs.LanguageFile.{encodeLanguage, languageOf}
-use Rattle.language.proofs.Codec.{GoodLanguage, language-good}
+use Rattle.language.proofs.Codec.{language-good}
 use Rattle.operators.specs.declared.copy.Stored.{Stored}
 use Rattle.operators.specs.Algebra.{languagesFit, languageUnion, languageSum, languageWithout}
 use Rattle.operators.specs.Inner.Parts.{Sorted, Stores, united, removed, fitTogether}

@@ -1,7 +1,7 @@
 -- A translation made of a source, a target and a body: a law for each return.
 use Prim.Native.Nat.{ℕ, _≤_, _<_}
-use mathlib.Core.Path.{_≡_, refl, sym, ap, subst, _∙_}
-use mathlib.Core.Bool.{Bool, true, false}
+use mathlib.Core.Path.{_≡_, refl, sym, ap, _∙_}
+use mathlib.Core.Bool.{true}
 use mathlib.Core.List.{List}
 use mathlib.Core.Option.{some}
 use native.Mathlib.Omega.{arith}
@@ -18,14 +18,14 @@ use Rattle.fields.proofs.Truth.{all-mem}
 use Rattle.fields.proofs.Keyed.{is-rising}
 use Rattle.language.specs.Language.{Language}
 use Rattle.language.specs.LanguageFile.{languageOf}
-use Rattle.language.proofs.Codec.{GoodLanguage, language-good}
+use Rattle.language.proofs.Codec.{language-good}
 use Rattle.translation.specs.Translation.{Body, Translation, itemKey}
 use Rattle.translation.specs.TranslationFile.{bodyOf}
 use Rattle.translation.specs.WellFormed.{wellFormed}
 use Rattle.translation.specs.Inner.Pieces.{Pieces}
 use Rattle.translation.proofs.Codec.{itemWhole, body-whole, body-sound}
 use Rattle.operators.specs.Inner.Values.{translationBytes, Gives}
-use Rattle.operators.proofs.Proper.{good-proper, Sound, formed-sound}
+use Rattle.operators.proofs.Proper.{good-proper, formed-sound}
 use Rattle.values.specs.Inner.Assembled.{assembled}
 use Rattle.values.proofs.Given.{gives-refused}
 use Rattle.values.proofs.Accepted.{slice-bytes, language-entries, language-short, language-written, assembled-given}

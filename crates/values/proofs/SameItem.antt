@@ -1,52 +1,49 @@
 -- The items of an identity in bytes: a law for each return and turn.
-use Prim.Native.Nat.{ℕ, zero, suc, _+_, _-_, _*_, _≤_, _<_}
+use Prim.Native.Nat.{ℕ, suc, _+_, _-_, _*_, _≤_, _<_}
 use mathlib.Core.Path.{_≡_, refl, sym, ap, subst, _∙_}
 use mathlib.Core.Logic.{⊎-elim}
 use mathlib.Core.Bool.{Bool, true, false, cond}
-use mathlib.Core.List.{List, [], _∷_, _++_, map, append-nil}
+use mathlib.Core.List.{List, [], _∷_, _++_, map}
 use mathlib.Core.Option.{some}
 use native.Mathlib.Omega.{arith}
-use lib.ListN.{length, take, drop, getD, length-append}
+use lib.ListN.{length, take, length-append}
 use lib.Seq.{slice, length-slice}
-use lib.Dec.{ltb, eqb}
-use borrow.Author.Tests.{eq-eqb, leb-true}
-use Rattle.fields.specs.Outcome.{Result, value, refuseIf}
+use lib.Dec.{ltb}
+use borrow.Author.Tests.{eq-eqb}
+use Rattle.fields.specs.Outcome.{value, refuseIf}
 use Rattle.fields.specs.declared.outcome.Outcome.{Outcome}
 use Rattle.fields.specs.declared.outcome.Outcome.the-variants.{Refused}
 use Rattle.fields.specs.declared.outcome.Reason.the-variants.{Limit}
 use Rattle.fields.specs.Lists.{all, keep, concatMap, countUp}
-use Rattle.fields.specs.Fields.{Field, field, byteAt, encodeField, encodeFields}
+use Rattle.fields.specs.Fields.{byteAt, pairAt, encodeField, encodeFields}
 use Rattle.fields.specs.Inner.Places.{fieldEnd, placesFrom, places}
-use Rattle.fields.proofs.Truth.{by-test}
 use Rattle.fields.proofs.Codec.{concat-append}
 use Rattle.fields.proofs.Places.{every-here}
 use Rattle.language.specs.Language.{Entry, class, production, Language, isIn}
-use Rattle.language.specs.LanguageFile.{entriesOf, encodeLanguage, languageOf}
-use Rattle.language.specs.Inner.Entries.{sizeAt, entryWhole, entryAt, IsProduction}
-use Rattle.language.proofs.Facts.{entry-facts, class-is, production-is}
+use Rattle.language.specs.LanguageFile.{entriesOf, languageOf}
+use Rattle.language.specs.Inner.Entries.{entryWhole, entryAt, IsProduction}
+use Rattle.language.proofs.Facts.{entry-facts, production-is}
 use Rattle.language.proofs.Holds.{holds-entries}
-use Rattle.language.proofs.Codec.{GoodLanguage, language-good}
-use Rattle.reader.specs.Code.{Code, node, token, argument, Codes, nil, cons}
-use Rattle.reader.specs.Syntax.{write, code}
+use Rattle.language.proofs.Codec.{language-good}
+use Rattle.reader.specs.Syntax.{write}
 use Rattle.reader.proofs.Members.{entries-whole}
-use Rattle.translation.specs.Translation.{Item, mapping, clause, Body, Translation}
-use Rattle.translation.specs.TranslationFile.{itemField, encodeTranslation}
+use Rattle.translation.specs.Translation.{mapping, clause, Body}
+use Rattle.translation.specs.TranslationFile.{itemField}
 use Rattle.translation.specs.WellFormed.{kinds}
 use Rattle.operators.specs.declared.copy.Stored.{Stored}
 use Rattle.operators.specs.declared.copy.Stored.the-variants.{To, Full}
 use Rattle.operators.specs.Algebra.{argumentsFrom, identityClause, identityOf}
-use Rattle.operators.specs.Inner.Parts.{Inside, Stores}
+use Rattle.operators.specs.Inner.Parts.{Stores}
 use Rattle.operators.specs.Inner.Values.{translationBytes, Gives}
 use Rattle.operators.proofs.Proper.{good-proper}
 use Rattle.operators.proofs.IdentitySound.{sound-identity}
-use Rattle.operators.proofs.Splices.{put-unwanted, both-full, both-then}
+use Rattle.operators.proofs.Splices.{put-unwanted, both-then}
 use Rattle.operators.proofs.Turns.{Progress, progress-start}
 use Rattle.values.specs.Inner.Assembled.{assembled}
 use Rattle.values.specs.Inner.Kept.{writtenFrom}
 use Rattle.values.specs.Inner.SameItems.{kindItem, kindItems, clauseItem}
 use Rattle.values.proofs.Given.{gives-refused, stored-first}
 use Rattle.values.proofs.Accepted.{language-entries, language-written, assembled-given, body-over}
-use Rattle.values.proofs.Keeping.{walk-next}
 
 -- put_kind
 pub kind-stored : (l : Language) (k : ℕ) (there : Bool) → there ≡ isIn l k → (o o′ : List ℕ) (n : ℕ) (x : Stored)
@@ -102,7 +99,7 @@ module _ (s : List ℕ) (p tag : ℕ) (et : tag ≡ byteAt s p) where
   pub class-stored : tag ≡ 0x11 → (o : List ℕ) (n : ℕ) → n ≤ length o → Stores (clauseItem s p) o o n (To n)
   unfolding clauseItem entryAt identityClause encodeFields concatMap
   class-stored h o n room =
-      let z : entryAt s p ≡ class (byteAt s (p + 3)) (Rattle.fields.specs.Fields.pairAt s (p + 4)) (Rattle.fields.specs.Fields.pairAt s (p + 6)) = cc (eq-eqb tag 0x11 h) in
+      let z : entryAt s p ≡ class (byteAt s (p + 3)) (pairAt s (p + 4)) (pairAt s (p + 6)) = cc (eq-eqb tag 0x11 h) in
       let y : [] ≡ clauseItem s p = sym (ap (λ (a : Entry). encodeFields (map itemField (identityClause a))) z) in
       subst (λ (v : List ℕ). Stores v o o n (To n)) y (put-unwanted false [] o n refl room)
 

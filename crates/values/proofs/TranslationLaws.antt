@@ -4,10 +4,9 @@ use mathlib.Core.Path.{_≡_, refl, sym, ap, subst, _∙_}
 use mathlib.Core.Bool.{Bool, true, false, not, _&&_}
 use mathlib.Core.List.{List, map}
 use native.Mathlib.Omega.{arith}
-use lib.ListN.{length, take, drop}
-use lib.Seq.{slice}
+use lib.ListN.{length, take}
 use lib.Dec.{ltb}
-use Rattle.fields.specs.Outcome.{Result, value, refused, refuseIf, _>>=_}
+use Rattle.fields.specs.Outcome.{value, refuseIf}
 use Rattle.fields.specs.declared.outcome.Outcome.{Outcome}
 use Rattle.fields.specs.declared.outcome.Outcome.the-variants.{Refused}
 use Rattle.fields.specs.declared.outcome.Reason.the-variants.{SumUnfit, Limit}
@@ -27,7 +26,7 @@ use Rattle.operators.specs.declared.copy.Stored.the-variants.{To, Full}
 use Rattle.operators.specs.Algebra.{languagesFit, languageWithout, translationsFit, translationUnion, translationSum, translationWithout}
 use Rattle.operators.specs.Inner.Parts.{Sorted, Stores, united, removed, agrees, fitTogether}
 use Rattle.operators.specs.Inner.Values.{translationBytes, Gives}
-use Rattle.operators.proofs.Proper.{Sound, GoodTranslation}
+use Rattle.operators.proofs.Proper.{GoodTranslation}
 use Rattle.operators.proofs.Encoded.{bodyBytes, sorted-language, united-languages, removed-language, languages-fit, sorted-body, united-bodies, bodies-agree}
 use Rattle.operators.proofs.SumSound.{fit-translations, sound-union}
 use Rattle.values.specs.Inner.Assembled.{assembled}

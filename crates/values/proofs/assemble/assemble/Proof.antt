@@ -4,11 +4,6 @@ use Rattle.values.proofs.Given.{stored-gives, source-full, source-put, 
 use borrow.Author.Needs.{needs}
 use Rattle.values.proofs.assemble.assemble.Statement.{statement}
 use Rattle.values.proofs.assemble.assemble.Tie as tie
-use Rattle.values.proofs.assemble.assemble.Reads as reads
-use Rattle.values.proofs.assemble.assemble.Lts as lts
-use Rattle.operators.proofs.copy.put.Reads as put-reads
-use Rattle.values.proofs.assemble.put_field.Reads as put-field-reads
-use Rattle.values.proofs.limit.limited.Reads as limited-reads
 
 returns : tie.Need-returns
 returns c = stored-gives 4096 _ _ _ (c .before .before .before .before .before .before .before .before .before .before .pre .2) (c .before .before .before .before .put-field .kept .1 .1 .0) _ _ (source-full (c .before .before .before .before .before .before .before .before .before .before .args .source .now) (c .before .before .before .before .before .before .before .before .before .before .args .target .now) (c .before .before .before .before .before .before .before .before .before .before .args .body .now) (c .before .before .before .before .before .before .before .before .before .before .args .out .now) _ _ (c .before .before .before .before .put-field .ensures) (c .enum-told .given .1)) refl

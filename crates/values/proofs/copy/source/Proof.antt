@@ -3,11 +3,6 @@ use Rattle.values.proofs.Accepted.{source-written, language-copied}
 use borrow.Author.Needs.{needs}
 use Rattle.values.proofs.copy.source.Statement.{statement}
 use Rattle.values.proofs.copy.source.Tie as tie
-use Rattle.values.proofs.copy.source.Reads as reads
-use Rattle.values.proofs.copy.source.Lts as lts
-use Rattle.operators.proofs.copy.put.Reads as put-reads
-use Rattle.translation.proofs.parts.accepted_parts.Reads as accepted-parts-reads
-use Rattle.values.proofs.limit.limited.Reads as limited-reads
 
 put-requires : tie.Need-put-requires
 put-requires c κs = let w = c .before .accepted-parts .ensures (c .before .before .before .before .pre .0 .0) (c .before .before .before .before .pre .0 .1) in (record { rise = w .source-past; fits = omega (arith, w .target-past, w .inside) }, omega arith)

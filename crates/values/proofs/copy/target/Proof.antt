@@ -3,11 +3,6 @@ use Rattle.values.proofs.Accepted.{target-written, language-copied}
 use borrow.Author.Needs.{needs}
 use Rattle.values.proofs.copy.target.Statement.{statement}
 use Rattle.values.proofs.copy.target.Tie as tie
-use Rattle.values.proofs.copy.target.Reads as reads
-use Rattle.values.proofs.copy.target.Lts as lts
-use Rattle.operators.proofs.copy.put.Reads as put-reads
-use Rattle.translation.proofs.parts.accepted_parts.Reads as accepted-parts-reads
-use Rattle.values.proofs.limit.limited.Reads as limited-reads
 
 add-put : tie.Need-add-put
 add-put c = let w = c .before .accepted-parts .ensures (c .before .before .before .before .pre .0 .0) (c .before .before .before .before .pre .0 .1) in omega (arith, w .target-past, w .inside)

@@ -6,12 +6,6 @@ use Rattle.values.proofs.SameItem.{kinds-over, clauses-over, same-store
 use borrow.Author.Needs.{needs}
 use Rattle.values.proofs.identity.identity.Statement.{statement}
 use Rattle.values.proofs.identity.identity.Tie as tie
-use Rattle.values.proofs.identity.identity.Reads as reads
-use Rattle.values.proofs.identity.identity.Lts as lts
-use Rattle.operators.proofs.copy.put.Reads as put-reads
-use Rattle.values.proofs.assemble.assemble.Reads as assemble-reads
-use Rattle.values.proofs.identity.put_clauses.Reads as put-clauses-reads
-use Rattle.values.proofs.identity.put_kinds.Reads as put-kinds-reads
 
 put-kinds-requires : tie.Need-put-kinds-requires
 put-kinds-requires c κs = (c .before .before .before .pre .0 .0, language-entries _ (c .before .before .before .pre .0 .0) (c .before .before .before .pre .0 .1))

@@ -4,10 +4,6 @@ use Rattle.values.proofs.SameItem.{class-stored, production-size, produ
 use borrow.Author.Needs.{needs}
 use Rattle.values.proofs.identity.put_clause.Statement.{statement}
 use Rattle.values.proofs.identity.put_clause.Tie as tie
-use Rattle.values.proofs.identity.put_clause.Reads as reads
-use Rattle.values.proofs.identity.put_clause.Lts as lts
-use Rattle.fields.proofs.bytes.byte_at.Reads as byte-at-reads
-use Rattle.operators.proofs.copy.put_both.Reads as put-both-reads
 
 returns : tie.Need-returns
 returns c = class-stored (c .before .before .before .before .args .a .now) _ _ (c .before .byte-at .ensures) (c .if1 .taken) _ _ (c .before .before .before .before .pre .3)

@@ -7,10 +7,6 @@ use Rattle.values.proofs.Keeping.{walk-next, walk-done}
 use Rattle.values.proofs.SameItem.{Claused, claused-start, entry-here, entries-next}
 use Rattle.values.proofs.identity.put_clauses.Statement.{statement}
 use Rattle.values.proofs.identity.put_clauses.Tie as tie
-use Rattle.values.proofs.identity.put_clauses.Reads as reads
-use Rattle.values.proofs.identity.put_clauses.Lts as lts
-use Rattle.fields.proofs.walk.field_end.Reads as field-end-reads
-use Rattle.values.proofs.identity.put_clause.Reads as put-clause-reads
 
 abbrev Inv-loop : tie.InvT-loop
 Inv-loop a out₀ p₀ n₀ out p n = Claused a out₀ out p n

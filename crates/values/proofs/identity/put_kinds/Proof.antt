@@ -1,14 +1,10 @@
 use native.Mathlib.Omega.{arith}
 use borrow.Author.Needs.{needs}
 use Prim.Native.Nat.{_-_}
-use lib.ListN.{length}
 use Rattle.operators.proofs.Turns.{progress-on, progress-full, progress-done}
 use Rattle.values.proofs.SameItem.{Kinding, kinding-start, kinding-turn, kinding-end}
 use Rattle.values.proofs.identity.put_kinds.Statement.{statement}
 use Rattle.values.proofs.identity.put_kinds.Tie as tie
-use Rattle.values.proofs.identity.put_kinds.Reads as reads
-use Rattle.values.proofs.identity.put_kinds.Lts as lts
-use Rattle.values.proofs.identity.put_kind.Reads as put-kind-reads
 
 abbrev Inv-loop : tie.InvT-loop
 Inv-loop a out₀ n₀ k₀ out n k = Kinding a out₀ out n k

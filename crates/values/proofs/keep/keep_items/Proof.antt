@@ -6,11 +6,6 @@ use Rattle.operators.proofs.Turns.{progress-on, progress-full, progress-done}
 use Rattle.values.proofs.Keeping.{Keeping, keeping-start, item-here, item-inside, items-next, keeping-turn, walk-done}
 use Rattle.values.proofs.keep.keep_items.Statement.{statement}
 use Rattle.values.proofs.keep.keep_items.Tie as tie
-use Rattle.values.proofs.keep.keep_items.Reads as reads
-use Rattle.values.proofs.keep.keep_items.Lts as lts
-use Rattle.fields.proofs.walk.field_end.Reads as field-end-reads
-use Rattle.operators.proofs.copy.put_if.Reads as put-if-reads
-use Rattle.values.proofs.keep.stays.Reads as stays-reads
 
 abbrev Inv-loop : tie.InvT-loop
 Inv-loop body source index out₀ p₀ n₀ out p n = Keeping body source index out₀ out p n

@@ -5,11 +5,6 @@ use Rattle.values.proofs.Keeping.{left-entries, left-body, left-target,
 use borrow.Author.Needs.{needs}
 use Rattle.values.proofs.keep.keep_parts.Statement.{statement}
 use Rattle.values.proofs.keep.keep_parts.Tie as tie
-use Rattle.values.proofs.keep.keep_parts.Reads as reads
-use Rattle.values.proofs.keep.keep_parts.Lts as lts
-use Rattle.reader.proofs.index.build.Reads as build-reads
-use Rattle.values.proofs.assemble.assemble.Reads as assemble-reads
-use Rattle.values.proofs.keep.keep_items.Reads as keep-items-reads
 
 build-requires : tie.Need-build-requires
 build-requires c κs = (c .before .before .before .before .before .pre .0 .2 .short, refl, zeros 8224)

@@ -4,11 +4,6 @@ use Rattle.values.proofs.LanguageLaws.{language-sorted, sum-unfit, sum-
 use borrow.Author.Needs.{needs}
 use Rattle.values.proofs.languages.sum.Statement.{statement}
 use Rattle.values.proofs.languages.sum.Tie as tie
-use Rattle.values.proofs.languages.sum.Reads as reads
-use Rattle.values.proofs.languages.sum.Lts as lts
-use Rattle.operators.proofs.fit.languages_fit.Reads as languages-fit-reads
-use Rattle.operators.proofs.merge.merge.Reads as merge-reads
-use Rattle.values.proofs.limit.limited.Reads as limited-reads
 
 languages-fit-requires : tie.Need-languages-fit-requires
 languages-fit-requires c κs = (language-sorted _ (c .before .before .before .pre .0 .0) (c .before .before .before .pre .0 .1) (λ i. omega (arith, c .before .before .shared-slice-known .given i)), language-sorted _ (c .before .before .before .pre .1 .0) (c .before .before .before .pre .1 .1) (λ i. omega (arith, c .before .shared-slice-known2 .given i)))

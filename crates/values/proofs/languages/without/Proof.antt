@@ -3,10 +3,6 @@ use Rattle.values.proofs.LanguageLaws.{language-sorted, without-given}
 use borrow.Author.Needs.{needs}
 use Rattle.values.proofs.languages.without.Statement.{statement}
 use Rattle.values.proofs.languages.without.Tie as tie
-use Rattle.values.proofs.languages.without.Reads as reads
-use Rattle.values.proofs.languages.without.Lts as lts
-use Rattle.operators.proofs.merge.remove.Reads as remove-reads
-use Rattle.values.proofs.limit.limited.Reads as limited-reads
 
 remove-requires : tie.Need-remove-requires
 remove-requires c κs = (language-sorted _ (c .before .before .before .before .pre .0 .0) (c .before .before .before .before .pre .0 .1) (λ i. omega (arith, c .before .before .before .shared-slice-known .given i)), language-sorted _ (c .before .before .before .before .pre .1 .0) (c .before .before .before .before .pre .1 .1) (λ i. omega (arith, c .before .before .shared-slice-known2 .given i)))

@@ -2,8 +2,6 @@ use Rattle.values.proofs.Given.{limited-over, limited-to, limited-full}
 use borrow.Author.Needs.{needs}
 use Rattle.values.proofs.limit.limited.Statement.{statement}
 use Rattle.values.proofs.limit.limited.Tie as tie
-use Rattle.values.proofs.limit.limited.Reads as reads
-use Rattle.values.proofs.limit.limited.Lts as lts
 
 returns : tie.Need-returns
 returns c = limited-over _ _ _ (c .before .before .stored .given .1) (c .if1 .taken)

@@ -4,10 +4,6 @@ use Rattle.values.proofs.Making.{made-pieces, make-refused, make-given}
 use borrow.Author.Needs.{needs}
 use Rattle.values.proofs.make.make.Statement.{statement}
 use Rattle.values.proofs.make.make.Tie as tie
-use Rattle.values.proofs.make.make.Reads as reads
-use Rattle.values.proofs.make.make.Lts as lts
-use Rattle.translation.proofs.check.check_formed.Reads as check-formed-reads
-use Rattle.values.proofs.assemble.assemble.Reads as assemble-reads
 
 check-formed-requires : tie.Need-check-formed-requires
 check-formed-requires c κs = (_, made-pieces _ _ _ _ _ _ (c .before .before .before .before .pre .0 .1) (c .before .before .before .before .pre .1 .1) (c .before .before .before .before .pre .2 .1) (c .before .before .before .before .pre .3))

@@ -2,10 +2,6 @@ use borrow.Author.Tests.{not-true, not-false}
 use Rattle.values.proofs.TranslationLaws.{source-sorted, target-sorted, body-sorted, sources-unfit, targets-unfit, all-fit}
 use Rattle.values.proofs.translations.parts_fit.Statement.{statement}
 use Rattle.values.proofs.translations.parts_fit.Tie as tie
-use Rattle.values.proofs.translations.parts_fit.Reads as reads
-use Rattle.values.proofs.translations.parts_fit.Lts as lts
-use Rattle.operators.proofs.fit.languages_fit.Reads as languages-fit-reads
-use Rattle.operators.proofs.within.agree.Reads as agree-reads
 
 languages-fit-requires : tie.Need-languages-fit-requires
 languages-fit-requires c κs = (source-sorted _ _ _ _ (c .before .before .before .before .before .before .pre .0 .1), source-sorted _ _ _ _ (c .before .before .before .before .before .before .pre .1 .1))

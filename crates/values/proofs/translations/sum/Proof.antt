@@ -3,10 +3,6 @@ use Rattle.values.proofs.TranslationLaws.{parted-spelt}
 use borrow.Author.Needs.{needs}
 use Rattle.values.proofs.translations.sum.Statement.{statement}
 use Rattle.values.proofs.translations.sum.Tie as tie
-use Rattle.values.proofs.translations.sum.Reads as reads
-use Rattle.values.proofs.translations.sum.Lts as lts
-use Rattle.translation.proofs.parts.accepted_parts.Reads as accepted-parts-reads
-use Rattle.values.proofs.translations.sum_parts.Reads as sum-parts-reads
 
 sub-sum-parts : tie.Need-sub-sum-parts
 sub-sum-parts c = let w = c .before .accepted-parts .ensures (c .before .before .before .before .before .pre .0 .0) (c .before .before .before .before .before .pre .0 .1) in omega (arith, w .source-past, w .target-past, w .inside)

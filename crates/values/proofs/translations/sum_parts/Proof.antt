@@ -3,10 +3,6 @@ use Rattle.values.proofs.TranslationLaws.{unfit-given, fit-given}
 use borrow.Author.Needs.{needs}
 use Rattle.values.proofs.translations.sum_parts.Statement.{statement}
 use Rattle.values.proofs.translations.sum_parts.Tie as tie
-use Rattle.values.proofs.translations.sum_parts.Reads as reads
-use Rattle.values.proofs.translations.sum_parts.Lts as lts
-use Rattle.values.proofs.translations.parts_fit.Reads as parts-fit-reads
-use Rattle.values.proofs.translations.unite.Reads as unite-reads
 
 returns : tie.Need-returns
 returns c = λ f g p q. unfit-given f g _ (c .before .parts-fit .ensures f g p q) (not-true _ (c .if1 .taken)) _

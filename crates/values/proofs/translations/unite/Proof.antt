@@ -1,14 +1,9 @@
 use Rattle.values.proofs.Given.{stored-room, stored-length, stored-short}
-use native.Mathlib.Omega.{arith}
 use mathlib.Core.Path.{refl}
 use Rattle.values.proofs.TranslationLaws.{source-sorted, target-sorted, body-sorted, source-too-long, target-too-long, body-too-long, united-given}
 use borrow.Author.Needs.{needs}
 use Rattle.values.proofs.translations.unite.Statement.{statement}
 use Rattle.values.proofs.translations.unite.Tie as tie
-use Rattle.values.proofs.translations.unite.Reads as reads
-use Rattle.values.proofs.translations.unite.Lts as lts
-use Rattle.operators.proofs.merge.merge.Reads as merge-reads
-use Rattle.values.proofs.assemble.assemble.Reads as assemble-reads
 
 merge-requires : tie.Need-merge-requires
 merge-requires c κs = (source-sorted _ _ _ _ (c .before .before .before .before .before .before .before .before .pre .0 .1), source-sorted _ _ _ _ (c .before .before .before .before .before .before .before .before .pre .1 .1))

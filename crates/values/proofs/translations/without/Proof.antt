@@ -3,10 +3,6 @@ use Rattle.values.proofs.TranslationLaws.{parted-spelt}
 use borrow.Author.Needs.{needs}
 use Rattle.values.proofs.translations.without.Statement.{statement}
 use Rattle.values.proofs.translations.without.Tie as tie
-use Rattle.values.proofs.translations.without.Reads as reads
-use Rattle.values.proofs.translations.without.Lts as lts
-use Rattle.translation.proofs.parts.accepted_parts.Reads as accepted-parts-reads
-use Rattle.values.proofs.translations.without_parts.Reads as without-parts-reads
 
 sub-without-parts : tie.Need-sub-without-parts
 sub-without-parts c = let w = c .accepted-parts .ensures (c .before .before .before .before .pre .0 .0) (c .before .before .before .before .pre .0 .1) in omega (arith, w .source-past, w .target-past, w .inside)

@@ -6,10 +6,6 @@ use Rattle.values.proofs.TranslationLaws.{source-sorted, left-too-long,
 use borrow.Author.Needs.{needs}
 use Rattle.values.proofs.translations.without_parts.Statement.{statement}
 use Rattle.values.proofs.translations.without_parts.Tie as tie
-use Rattle.values.proofs.translations.without_parts.Reads as reads
-use Rattle.values.proofs.translations.without_parts.Lts as lts
-use Rattle.operators.proofs.merge.remove.Reads as remove-reads
-use Rattle.values.proofs.keep.keep_parts.Reads as keep-parts-reads
 
 remove-requires : tie.Need-remove-requires
 remove-requires c κs = (source-sorted _ _ _ _ (c .before .before .before .before .before .before .pre .0 .1), language-sorted _ (c .before .before .before .before .before .before .pre .1 .0) (c .before .before .before .before .before .before .pre .1 .1) (λ i. omega (arith, c .before .before .shared-slice-known4 .given i)))
