@@ -203,7 +203,7 @@ unfolding classPlace
 place-code index k h = cc
 
 -- A token of a tree, read by the place of its class.
-in-tree : (x : Syntax) (index : List ℕ) (k : ℕ) → (classPlace x index k ≡ 0 → ⊥) → (x ≡ Tree) × (classPlace x index k ≡ getD index k 0)
+pub in-tree : (x : Syntax) (index : List ℕ) (k : ℕ) → (classPlace x index k ≡ 0 → ⊥) → (x ≡ Tree) × (classPlace x index k ≡ getD index k 0)
 unfolding classPlace
 in-tree Tree index k h = (refl, refl)
 in-tree Code index k h = absurd (h refl)

@@ -19,7 +19,7 @@ ghost use Rattle.reader.specs.Inner.Positions.{classPlace, operandsFrom,
 ghost use Rattle.reader.specs.Inner.Index.{Sound, Ready, Indexed};
 
 // The place of the class that a token of the kind is read by: 0 in a code, where a sign stands before it.
-fn class_place(syntax: Syntax, index: &[u16], kind: u8) -> usize
+pub fn class_place(syntax: Syntax, index: &[u16], kind: u8) -> usize
     requires { ⌜ kind < length (now index) ⌝ }
     ensures { λ r. ⌜ r ≡ classPlace syntax (now (index .entry)) kind ⌝ }
 {

@@ -7,14 +7,14 @@ use native.Mathlib.Omega.{arith}
 use lib.ListN.{length, getD, set, length-set, List·getD-eq-default}
 use lib.Seq.{getD-set-same, getD-set-other}
 use lib.Dec.{ltb, eqb}
-use borrow.Author.Tests.{eqb-true, eqb-false, ltb-true, ltb-false}
+use borrow.Author.Tests.{eqb-true, eqb-false, ltb-true, ltb-false, lt-ltb, le-ltb, eq-eqb, ne-eqb}
 use Rattle.fields.proofs.Truth.{by-test}
 use Rattle.reader.specs.declared.node.Syntax.{Syntax}
 use Rattle.reader.specs.declared.node.Read.{Read}
 use Rattle.reader.specs.declared.node.Read.the-variants.{End, Deep, Broken}
 use Rattle.reader.specs.Inner.Positions.{operandsFrom, readAt, EndsBy}
 use Rattle.writer.specs.declared.starts.Frame.{Frame}
-use Rattle.writer.specs.Inner.Starts.{reach, Known}
+use Rattle.writer.specs.Inner.Starts.{reach, argumentReach, Known}
 
 end-not-deep : {A : Type 0} {e : ℕ} → End e ≡ Deep → A
 end-not-deep y = let z : _≡_ {A = ℕ} 0 1 = cc in absurd (omega arith)
@@ -89,6 +89,14 @@ module _ (x : Syntax) (source index arguments input : List ℕ) (a : Frame) (end
           (λ d. rw (getD-set-same ends j e 0 (ltb-true _ _ d)) (inr (r, h)))
           (λ d. inl (List·getD-eq-default {A = ℕ} (set ends j e) 0 {n = j} (rw (length-set ends j e) (ltb-false _ _ d))))
 
+  -- operand_start
+  pub start-known : (upto : ℕ) {e : ℕ} → a .from < upto → e ≡ getD ends (upto - a .from - 1) 0 → (e ≡ 0 → ⊥)
+      → (End e ≡ reach x source index arguments input a (upto - a .from)) × (e ≤ length input)
+  start-known upto {e} h y n =
+      let d : upto - a .from - 1 + 1 ≡ upto - a .from = omega arith in
+      ⊎-elim (λ z. absurd (n (y ∙ z)))
+      (λ z. (ap End y ∙ (sym (z .0) ∙ ap (reach x source index arguments input a) d), rw y (z .1))) (w .at (upto - a .from - 1))
+
   -- end_of
   module _ (q p : ℕ) (order : a .from ≤ q) where
     pub end-known : {e : ℕ} → e ≡ getD ends (q - a .from) 0 → (e ≡ 0 → ⊥)
@@ -127,3 +135,35 @@ pub start-done : (x : Syntax) (source index arguments input : List ℕ) (a : Fra
     → reach x source index arguments input a (q - a .from) ≡ End p → End p ≡ reach x source index arguments input a (upto - a .from)
 start-done x source index arguments input a q upto h i y =
     let z : q - a .from ≡ upto - a .from = omega arith in sym y ∙ ap (reach x source index arguments input a) z
+
+-- argument_start
+module _ (x : Syntax) (source index arguments input : List ℕ) (a : Frame) (i : ℕ) where
+  pub argument-zero : i ≡ 0 → Broken ≡ argumentReach x source index arguments input a i
+  unfolding argumentReach
+  argument-zero h = rw (eq-eqb i 0 h)
+
+  module _ (pos : i ≡ 0 → ⊥) where
+    pub argument-past : a .stop - a .from < i → Broken ≡ argumentReach x source index arguments input a i
+    unfolding argumentReach
+    argument-past h = rw (ne-eqb i 0 pos, lt-ltb _ _ h)
+
+    pub argument-none : a .stop ≤ a .from → Broken ≡ argumentReach x source index arguments input a i
+    argument-none h = argument-past (omega arith)
+
+    pub argument-there : {upto : ℕ} {r : Read} → i ≤ a .stop - a .from → upto ≡ a .from + (i - 1)
+        → r ≡ reach x source index arguments input a (upto - a .from) → r ≡ argumentReach x source index arguments input a i
+    unfolding argumentReach
+    argument-there {upto} fits eu er =
+        let z : upto - a .from ≡ i - 1 = omega arith in er ∙ rw (ne-eqb i 0 pos, le-ltb _ _ fits, z)
+
+  -- Where it starts, as many operands stand before it.
+  pub argument-reached : {r : Read} {at : ℕ} → r ≡ argumentReach x source index arguments input a i → r ≡ End at
+      → (i ≡ 0 → ⊥) × (i ≤ a .stop - a .from) × (reach x source index arguments input a (i - 1) ≡ End at)
+  unfolding argumentReach
+  argument-reached {r} {at} er y =
+      let z : argumentReach x source index arguments input a i ≡ End at = sym er ∙ y in
+      by-test (eqb i 0)
+      (λ t. end-not-broken (sym (rw t at z)))
+      (λ t. by-test (ltb (a .stop - a .from) i)
+      (λ u. end-not-broken (sym (rw (t, u) at z)))
+      (λ u. (eqb-false _ _ t, ltb-false _ _ u, rw (t, u) at z)))

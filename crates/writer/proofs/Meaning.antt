@@ -46,7 +46,7 @@ use Rattle.writer.specs.Inner.Starts.{reach}
 use Rattle.writer.specs.Inner.Runs.{Tables, Sized, signLength, operandsStep, stepAt, rowAt, codeNext, codeAt, argumentOf, clauseNext, termNext, termAt}
 use Rattle.writer.specs.Inner.Prepared.{codeBefore, Prepared, Written}
 use Rattle.writer.proofs.Steps.{step-argument, step-token}
-use Rattle.writer.proofs.Ends.{end-inj, end-not-broken}
+use Rattle.writer.proofs.Ends.{end-inj, end-not-broken, argument-there}
 use Rattle.writer.proofs.Turns.{made-both, row-done, row-next, argument-at, node-code}
 
 empty-cons : {A : Type 0} {y : ℕ} {s : List ℕ} → [] ≡ y ∷ s → A
@@ -459,9 +459,10 @@ module _ (w : Tables) (f : Translation) (z : Prepared w f) (sized : Sized w) (by
       let fits : suc i ≤ e - q = omega (arith, a .4) in
       let here : q + i ≡ q + (suc i - 1) = omega arith in (
         a .1,
-        argument-at w (termAt w n) (record { from = q; stop = e; start = to; levels = n }) (suc i) pos fits {r = End (a .0)} {upto = q + i} here
-            (sym (ap (λ (v : ℕ). operandsFrom (R n) (w .source) v q to) back ∙ a .2)) refl
-            ∙ (ap (λ (v : ℕ). termAt w n v (a .0)) (a .3) ∙ a .5),
+        argument-at w (termAt w n) (record { from = q; stop = e; start = to; levels = n }) (suc i) {r = End (a .0)}
+            (argument-there (w .syntax) (w .source) (w .index) (w .arguments) (w .input) (record { from = q; stop = e; start = to; levels = n }) (suc i) pos
+            {upto = q + i} {r = End (a .0)} fits here (sym (ap (λ (v : ℕ). operandsFrom (R n) (w .source) v q to) back ∙ a .2))) refl
+            ∙ (ap (λ (v : ℕ). termAt w n (getD (w .source) v 0) (a .0)) (sym here) ∙ (ap (λ (v : ℕ). termAt w n v (a .0)) (a .3) ∙ a .5)),
       )
 
   -- A node becomes its clause's code, each argument replaced.

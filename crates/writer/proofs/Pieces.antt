@@ -217,27 +217,22 @@ held-done a o mid pos p e n rest h y i = record {
   );
 }
 
--- What is left of it is put in, or does not fit.
-module _ (a : Piece) (o mid after : List ℕ) (pos p n : ℕ) (rest : Piece) (h : Held a o mid pos p rest) where
-  last-says : (x : Ran) → Says rest n mid after p x → Puts a n o after pos x
-  last-says (To e q) w =
-      held-done a o after pos q e n (made e [])
-      (held-more a o mid pos p rest h after (w .0 .bytes) q (w .0 .to) (w .0 .room) (w .0 .output) (made e [])
-      (w .0 .piece ∙ ap (made e) (sym (append-nil (w .0 .bytes))))) refl (w .1)
-  last-says Full w = held-long a o mid pos p rest h n after (w .0) (w .1)
+-- Pieces one behind the other.
+then-behind : (v : List ℕ) (a : Piece) (g : ℕ → Piece) → then (behind v a) g ≡ behind v (then a g)
+then-behind v (made e u) g = sym (behind-behind v u (g e))
+then-behind v none g = refl
 
-  pub held-last : {x : Ran} → Puts rest n mid after p x → Puts a n o after pos x
-  held-last {x} w = last-says x (w .says)
+pub then-then : (a : Piece) (g h : ℕ → Piece) → then (then a g) h ≡ then a (λ e. then (g e) h)
+then-then (made e v) g h = then-behind v (g e) h
+then-then none g h = refl
 
--- One piece, and another behind it.
-pub then-puts : (b : Piece) (g : ℕ → Piece) (o mid after : List ℕ) (pos m n e p : ℕ) {r x : Ran} → pos ≤ length o
-    → Puts b m o mid pos r → r ≡ To e p → Puts (g e) n mid after p x → Puts (then b g) n o after pos x
-then-puts b g o mid after pos m n e p h w y v =
-    held-last (then b g) o mid after pos p n (g e) (held-next (then b g) o o mid pos pos m b g (held-start (then b g) o pos h) w y) v
+-- Nothing behind a piece, and nothing before it.
+pub then-last : (a : Piece) (g : ℕ → Piece) → ((e : ℕ) → g e ≡ made e []) → then a g ≡ a
+then-last (made e v) g y = ap (behind v) (y e) ∙ ap (made e) (append-nil v)
+then-last none g y = refl
 
-pub then-full : (b : Piece) (g : ℕ → Piece) (o after : List ℕ) (pos m n : ℕ) {r : Ran} → pos ≤ length o
-    → Puts b m o after pos r → r ≡ Full → Puts (then b g) n o after pos Full
-then-full b g o after pos m n h w y = held-full (then b g) o o after pos pos m b g (held-start (then b g) o pos h) w n y
+pub then-nothing : (a : Piece) (e : ℕ) (g : ℕ → Piece) → a ≡ made e [] → then a g ≡ g e
+then-nothing a e g y = ap (λ (z : Piece). then z g) y ∙ sym (behind-nothing (g e))
 
 -- The same bytes with another end.
 module _ (b : Piece) (n : ℕ) (o after : List ℕ) (pos : ℕ) {r : Ran} (w : Puts b n o after pos r) where

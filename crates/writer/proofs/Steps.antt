@@ -1,6 +1,7 @@
 -- The steps through the code of a clause: a law for each return.
 use Prim.Native.Nat.{ℕ, _+_, _-_, _*_, _<_, _≤_}
 use mathlib.Core.Path.{_≡_, refl}
+use mathlib.Core.Bool.{Bool, true, false}
 use mathlib.Core.List.{List}
 use native.Mathlib.Omega.{arith}
 use lib.ListN.{length, getD}
@@ -11,7 +12,7 @@ use Rattle.reader.specs.Inner.Index.{Sound}
 use Rattle.reader.proofs.Laws.{kinds-in, name-in}
 use Rattle.writer.specs.declared.step.Step.{Step}
 use Rattle.writer.specs.declared.step.Step.the-variants.{Token, Operands, Argument, Unknown}
-use Rattle.writer.specs.Inner.Runs.{operandsStep, stepAt, StepIn}
+use Rattle.writer.specs.Inner.Runs.{kindsOf, operandsStep, stepAt, StepIn}
 
 -- place_of
 pub place-is : (index : List ℕ) (j k m p : ℕ) → j ≡ k → m ≡ p → ((i : ℕ) → getD index i 0 ≤ 65535)
@@ -33,6 +34,24 @@ module _ (s index : List ℕ) (z : Sound index s) (k p : ℕ) (kind : k < 32) (b
       × ((n at : ℕ) → at + 2 ≤ n → StepIn s n at (Operands (place + 4) (place + 2 + m)))
   unfolding operandsStep
   operands-some {m} h y = (cc (ne-eqb place 0 h), λ n at i. (i, kinds-in index s z refl kind byte e h y))
+
+-- kind_at
+module _ {first : Bool} (l s : List ℕ) (q : ℕ) where
+  pub clause-in : first ≡ true → q < length (kindsOf first l s) → q < length l
+  clause-in h i = rw h at i
+
+  pub target-in : first ≡ false → q < length (kindsOf first l s) → q < length s
+  target-in h i = rw h at i
+
+  pub clause-kind : first ≡ true → getD l q 0 ≡ getD (kindsOf first l s) q 0
+  clause-kind h = rw h
+
+  pub target-kind : first ≡ false → getD s q 0 ≡ getD (kindsOf first l s) q 0
+  target-kind h = rw h
+
+pub kinds-short : (first : Bool) (l s : List ℕ) → length l ≡ 32 → length s ≤ 1024 → length (kindsOf first l s) ≤ 1024
+kinds-short true l s h i = omega arith
+kinds-short false l s h i = i
 
 -- code_step
 module _ (s places b : List ℕ) (k at : ℕ) where

@@ -1,27 +1,32 @@
 -- The run by position, one turn at a time, in the terms of the code: a law for each return.
 use Prim.Native.Nat.{ℕ, zero, suc, _+_, _-_, _<_, _≤_}
 use mathlib.Core.Path.{_≡_, refl, sym, ap, _∙_}
+use mathlib.Core.Bool.{Bool, cond}
 use mathlib.Core.List.{List, []}
 use native.Mathlib.Omega.{arith}
 use lib.ListN.{length, getD, set}
-use lib.Dec.{ltb, eqb}
-use borrow.Author.Tests.{lt-ltb, le-ltb, eq-eqb, ne-eqb}
+use lib.Dec.{ltb, leb, eqb}
+use borrow.Author.Tests.{lt-ltb, le-ltb, eq-eqb, ne-eqb, eqb-true}
 use Rattle.fields.proofs.Truth.{by-test}
+use Rattle.fields.specs.Fields.{pairAt}
 use Rattle.language.specs.Language.{productionKey}
+use Rattle.reader.specs.declared.node.Syntax.{Syntax}
+use Rattle.reader.specs.declared.node.Syntax.the-variants.{Tree, Code}
 use Rattle.reader.specs.declared.node.Read.{Read}
 use Rattle.reader.specs.declared.node.Read.the-variants.{End, Deep, Broken}
 use Rattle.reader.specs.declared.node.Node.{Node}
 use Rattle.reader.specs.declared.node.Node.the-variants.{Leaf, Operands}
-use Rattle.reader.specs.Inner.Positions.{KindsIn, nodeAt, readAt}
+use Rattle.reader.specs.Inner.Positions.{KindsIn, tokenAt, operandsAt, nameAt, argumentAt, treeNode, signNode, codeNode, nodeAt, readAt, classPlace, productionPlace, nameLength}
+use Rattle.reader.proofs.Laws.{in-tree, node-tree, tree-token, named-node}
 use Rattle.writer.specs.declared.output.Ran.{Ran}
 use Rattle.writer.specs.declared.output.Ran.the-variants.{To, Full}
 use Rattle.writer.specs.declared.step.Step.{Step}
 use Rattle.writer.specs.declared.step.Step.the-variants as Steps
 use Rattle.writer.specs.declared.starts.Frame.{Frame}
-use Rattle.writer.specs.Inner.Pieces.{Piece, made, none, then, endingBy, copied, leafOf, Says, Puts}
-use Rattle.writer.specs.Inner.Starts.{reach}
+use Rattle.writer.specs.Inner.Pieces.{Piece, made, none, then, endingBy, copied, leafOf, leafAt, Says, Puts}
+use Rattle.writer.specs.Inner.Starts.{reach, argumentReach}
 use Rattle.writer.specs.Inner.Runs.{Tables, signLength, stepAt, StepIn, rowAt, codeNext, codeAt, reached, startingBy, argumentOf, clauseNext, termNext, termAt, KnownOf}
-use Rattle.writer.proofs.Pieces.{Held, then-puts, then-full, ending-full}
+use Rattle.writer.proofs.Pieces.{Held, puts-none, held-next, held-full, then-then, then-last, then-nothing, ending-full}
 use Rattle.writer.proofs.Ends.{known-more, next-operand}
 
 -- A piece under another name.
@@ -34,13 +39,14 @@ puts-of e y h = rw (e, sym y) h
 pub held-as : {a : Piece} {o after : List ℕ} {pos p : ℕ} {b d : Piece} → b ≡ d → Held a o after pos p b → Held a o after pos p d
 held-as e h = rw (sym e) h
 
--- run_code
+-- The code at a position.
 module _ (w : Tables) (argument : ℕ → Piece) (n k at : ℕ) where
   pub code-none : n ≡ 0 → codeAt w argument n k at ≡ none
   unfolding codeAt
   code-none h = rw h
 
-  module _ {l : ℕ} {d : Step} (pos : n ≡ 0 → ⊥) (el : l ≡ signLength (w .syntax)) (ed : d ≡ stepAt (w .target) (w .places) (w .body) k at) where
+  module _ {l j : ℕ} {d : Step} (pos : n ≡ 0 → ⊥) (el : l ≡ signLength (w .syntax)) (ek : j ≡ k)
+      (ed : d ≡ stepAt (w .target) (w .places) (w .body) j at) where
     one-less : n ≡ suc (n - 1)
     one-less = omega arith
 
@@ -48,7 +54,8 @@ module _ (w : Tables) (argument : ℕ → Piece) (n k at : ℕ) where
     unfolding codeAt
     by-step =
         ap (λ (m : ℕ). codeAt w argument m k at) one-less
-        ∙ ap (codeNext w (codeAt w argument (n - 1)) argument at) (sym ed)
+        ∙ ap (codeNext w (codeAt w argument (n - 1)) argument at)
+        (sym (ed ∙ ap (λ (i : ℕ). stepAt (w .target) (w .places) (w .body) i at) ek))
 
     pub code-token : d ≡ Steps.Token → codeAt w argument n k at ≡ copied (w .body) (at + 1 - l) (at + 3)
     unfolding codeNext
@@ -78,7 +85,7 @@ module _ (s : List ℕ) (n at : ℕ) {d : Step} (h : StepIn s n at d) where
   pub argument-in : {i : ℕ} → d ≡ Steps.Argument i → (at + 2 ≤ n) × (i < 256)
   argument-in y = rw y at h
 
--- run_operands
+-- run_row
 module _ (f : ℕ → ℕ → Piece) (s : List ℕ) (stop q at : ℕ) where
   pub row-done : stop ≤ q → rowAt f s (stop - q) q at ≡ made at []
   unfolding rowAt
@@ -88,15 +95,66 @@ module _ (f : ℕ → ℕ → Piece) (s : List ℕ) (stop q at : ℕ) where
   unfolding rowAt
   row-next h = let z : stop - q ≡ suc (stop - (q + 1)) = omega arith in rw z
 
--- A copy, and a row behind it.
-module _ (f : ℕ → ℕ → Piece) (s : List ℕ) (stop q : ℕ) (b o mid : List ℕ) (pos from to m n : ℕ) {r : Ran} (room : pos ≤ length o)
-    (h : Puts (copied b from to) m o mid pos r) where
-  pub row-puts : {e p : ℕ} (after : List ℕ) {x : Ran} → r ≡ To e p → Puts (rowAt f s (stop - q) q e) n mid after p x
-      → Puts (then (copied b from to) (rowAt f s (stop - q) q)) n o after pos x
-  row-puts {e} {p} after y v = then-puts (copied b from to) (rowAt f s (stop - q) q) o mid after pos m n e p room h y v
+-- A row of one.
+pub row-one : (f : ℕ → ℕ → Piece) (s : List ℕ) (q at : ℕ) → f (getD s q 0) at ≡ rowAt f s (q + 1 - q) q at
+row-one f s q at =
+    sym (row-next f s (q + 1) q at (omega arith)
+    ∙ then-last (f (getD s q 0) at) (rowAt f s (q + 1 - (q + 1)) (q + 1)) (λ e. row-done f s (q + 1) (q + 1) e (omega arith)))
 
-  pub row-full : r ≡ Full → Puts (then (copied b from to) (rowAt f s (stop - q) q)) n o mid pos Full
-  row-full y = then-full (copied b from to) (rowAt f s (stop - q) q) o mid pos m n room h y
+-- One code more of a row that is partly put in.
+module _ (f : ℕ → ℕ → Piece) (s : List ℕ) (stop q at : ℕ) (a : Piece) (o mid : List ℕ) (pos p : ℕ) (more : q < stop)
+    (h : Held a o mid pos p (rowAt f s (stop - q) q at)) where
+  opened-row : Held a o mid pos p (then (f (getD s q 0) at) (rowAt f s (stop - (q + 1)) (q + 1)))
+  opened-row = held-as (row-next f s stop q at more) h
+
+  pub turn-next : (after : List ℕ) (m : ℕ) {r : Ran} {e d : ℕ} → Puts (f (getD s q 0) at) m mid after p r → r ≡ To e d
+      → Held a o after pos d (rowAt f s (stop - (q + 1)) (q + 1) e)
+  turn-next after m v y = held-next a o mid after pos p m (f (getD s q 0) at) (rowAt f s (stop - (q + 1)) (q + 1)) opened-row v y
+
+  pub turn-full : (after : List ℕ) (m n : ℕ) {r : Ran} → Puts (f (getD s q 0) at) m mid after p r → r ≡ Full → Puts a n o after pos Full
+  turn-full after m n v y = held-full a o mid after pos p m (f (getD s q 0) at) (rowAt f s (stop - (q + 1)) (q + 1)) opened-row v n y
+
+  -- A name, and its operands behind it.
+  module _ (b : List ℕ) (from to : ℕ) (g : ℕ → ℕ → Piece) (t : List ℕ) (last first : ℕ)
+      (is : f (getD s q 0) at ≡ then (copied b from to) (rowAt g t (last - first) first)) where
+    named-row : Held a o mid pos p (then (copied b from to) (λ e. then (rowAt g t (last - first) first e) (rowAt f s (stop - (q + 1)) (q + 1))))
+    named-row =
+        held-as (ap (λ (z : Piece). then z (rowAt f s (stop - (q + 1)) (q + 1))) is
+        ∙ then-then (copied b from to) (rowAt g t (last - first) first) (rowAt f s (stop - (q + 1)) (q + 1))) opened-row
+
+    module _ (after : List ℕ) (m : ℕ) {r : Ran} (v : Puts (copied b from to) m mid after p r) where
+      pub name-full : (n : ℕ) → r ≡ Full → Puts a n o after pos Full
+      name-full n y =
+          held-full a o mid after pos p m (copied b from to) (λ e. then (rowAt g t (last - first) first e) (rowAt f s (stop - (q + 1)) (q + 1)))
+          named-row v n y
+
+      module _ {e d : ℕ} (y : r ≡ To e d) where
+        name-next : Held a o after pos d (then (rowAt g t (last - first) first e) (rowAt f s (stop - (q + 1)) (q + 1)))
+        name-next =
+            held-next a o mid after pos p m (copied b from to) (λ e. then (rowAt g t (last - first) first e) (rowAt f s (stop - (q + 1)) (q + 1)))
+            named-row v y
+
+        pub name-last : q + 1 ≡ stop → Held a o after pos d (rowAt g t (last - first) first e)
+        name-last z =
+            held-as (then-last (rowAt g t (last - first) first e) (rowAt f s (stop - (q + 1)) (q + 1))
+            (λ x. row-done f s stop (q + 1) x (omega arith))) name-next
+
+        pub name-leaf : last ≤ first → Held a o after pos d (rowAt f s (stop - (q + 1)) (q + 1) e)
+        name-leaf z =
+            held-as (then-nothing (rowAt g t (last - first) first e) e (rowAt f s (stop - (q + 1)) (q + 1)) (row-done g t last first e z)) name-next
+
+        -- The operands are run.
+        module _ (end : List ℕ) (n : ℕ) {x : Ran} (u : Puts (rowAt g t (last - first) first e) n after end d x) where
+          pub name-row : {c i : ℕ} → x ≡ To c i → Held a o end pos i (rowAt f s (stop - (q + 1)) (q + 1) c)
+          name-row k = held-next a o after end pos d n (rowAt g t (last - first) first e) (rowAt f s (stop - (q + 1)) (q + 1)) name-next u k
+
+          pub name-stop : (l : ℕ) → x ≡ Full → Puts a l o end pos Full
+          name-stop l k = held-full a o after end pos d n (rowAt g t (last - first) first e) (rowAt f s (stop - (q + 1)) (q + 1)) name-next u l k
+
+pub turn-none : (f : ℕ → ℕ → Piece) (s : List ℕ) (stop q at : ℕ) (a : Piece) (o mid : List ℕ) (pos p n : ℕ) → q < stop
+    → Held a o mid pos p (rowAt f s (stop - q) q at) → f (getD s q 0) at ≡ none → Puts a n o mid pos Full
+turn-none f s stop q at a o mid pos p n more h y =
+    turn-full f s stop q at a o mid pos p more h mid n n {r = Full} (puts-none (f (getD s q 0) at) n mid p y) refl
 
 -- Where what was put in ends.
 pub put-to : {a : Piece} {n : ℕ} {o after : List ℕ} {pos : ℕ} {r : Ran} {e p : ℕ} → Puts a n o after pos r → r ≡ To e p → (e ≤ n) × (p ≤ length o) × (pos ≤ p)
@@ -105,37 +163,33 @@ put-to {a} {n} {o} {after} {pos} {r} {e} {p} h y =
     let t = x .0 .to in
     (x .1, x .0 .room, omega arith)
 
--- run_argument
+-- The argument of a number.
 module _ (w : Tables) (f : ℕ → ℕ → Piece) (a : Frame) (i : ℕ) where
-  pub argument-zero : i ≡ 0 → argumentOf w f a i ≡ none
-  unfolding argumentOf
-  argument-zero h = rw (eq-eqb i 0 h)
+  argument-by : argumentOf w f a i ≡ startingBy f (getD (w .source) (a .from + (i - 1)) 0) (argumentReach (w .syntax) (w .source) (w .index) (w .arguments) (w .input) a i)
+  unfolding argumentOf argumentReach
+  argument-by =
+      by-test (eqb i 0)
+      (λ t. rw t)
+      (λ t. by-test (ltb (a .stop - a .from) i)
+      (λ u. rw (t, u))
+      (λ u. rw (t, u)))
 
-  module _ (pos : i ≡ 0 → ⊥) where
-    pub argument-past : a .stop - a .from < i → argumentOf w f a i ≡ none
-    unfolding argumentOf
-    argument-past h = rw (ne-eqb i 0 pos, lt-ltb _ _ h)
+  module _ {r : Read} (er : r ≡ argumentReach (w .syntax) (w .source) (w .index) (w .arguments) (w .input) a i) where
+    pub argument-at : {at : ℕ} → r ≡ End at → argumentOf w f a i ≡ f (getD (w .source) (a .from + (i - 1)) 0) at
+    argument-at y = argument-by ∙ ap (startingBy f (getD (w .source) (a .from + (i - 1)) 0)) (sym er ∙ y)
 
-    pub argument-none : a .stop ≤ a .from → argumentOf w f a i ≡ none
-    argument-none h = argument-past (omega arith)
+    pub argument-deep : r ≡ Deep → argumentOf w f a i ≡ none
+    argument-deep y = argument-by ∙ ap (startingBy f (getD (w .source) (a .from + (i - 1)) 0)) (sym er ∙ y)
 
-    module _ (fits : i ≤ a .stop - a .from) {r : Read} {upto : ℕ} (eu : upto ≡ a .from + (i - 1)) (er : r ≡ reached w a (upto - a .from)) where
-      argument-by : argumentOf w f a i ≡ startingBy f (getD (w .source) upto 0) r
-      unfolding argumentOf
-      argument-by =
-          let z : upto - a .from ≡ i - 1 = omega arith in
-          rw (ne-eqb i 0 pos, le-ltb _ _ fits, er, z, eu)
+    pub argument-broken : r ≡ Broken → argumentOf w f a i ≡ none
+    argument-broken y = argument-by ∙ ap (startingBy f (getD (w .source) (a .from + (i - 1)) 0)) (sym er ∙ y)
 
-      pub argument-at : {at : ℕ} → r ≡ End at → argumentOf w f a i ≡ f (getD (w .source) upto 0) at
-      argument-at y = argument-by ∙ rw y
+-- Its kind.
+pub argument-kind : (s : List ℕ) (from stop i : ℕ) → KindsIn s from stop → (i ≡ 0 → ⊥) → i ≤ stop - from
+    → (from + (i - 1) < length s) × (getD s (from + (i - 1)) 0 < 32)
+argument-kind s from stop i h pos fits = h (from + (i - 1)) (omega arith) (omega arith)
 
-      pub argument-deep : r ≡ Deep → argumentOf w f a i ≡ none
-      argument-deep y = argument-by ∙ rw y
-
-      pub argument-broken : r ≡ Broken → argumentOf w f a i ≡ none
-      argument-broken y = argument-by ∙ rw y
-
--- run_node
+-- The clause of a node.
 module _ (w : Tables) (f : ℕ → ℕ → Piece) (a : Frame) (k : ℕ) {place p : ℕ} (e : place ≡ p) where
   pub node-none : place ≡ 0 → clauseNext w f a k p ≡ none
   unfolding clauseNext
@@ -228,15 +282,76 @@ term-end w zero k at e v y = no-piece y
 term-end w (suc n) k at e v y = node-end w n k at e v _ refl y
 
 -- What was learnt from a run.
-pub argument-learnt : (w : Tables) (a : Frame) (i upto at e p : ℕ) (ends after o o′ : List ℕ) (pos : ℕ) {s : Read} {r : Ran}
-    → (i ≡ 0 → ⊥) → upto ≡ a .from + (i - 1) → s ≡ reached w a (upto - a .from) → s ≡ End at → KnownOf w a ends
-    → Puts (termAt w (a .levels) (getD (w .source) upto 0) at) (length (w .input)) o o′ pos r → r ≡ To e p
+pub argument-learnt : (w : Tables) (a : Frame) (i at e p : ℕ) (ends after o o′ : List ℕ) (pos : ℕ) {r : Ran}
+    → (i ≡ 0 → ⊥) → reached w a (i - 1) ≡ End at → KnownOf w a ends
+    → Puts (termAt w (a .levels) (getD (w .source) (a .from + (i - 1)) 0) at) (length (w .input)) o o′ pos r → r ≡ To e p
     → after ≡ set ends (i - 1) e → KnownOf w a after
 unfolding reach
-argument-learnt w a i upto at e p ends after o o′ pos {s} {r} nz eu es y known h z q =
-    let x : Says (termAt w (a .levels) (getD (w .source) upto 0) at) (length (w .input)) o o′ pos (To e p) = rw z at (h .says) in
-    let t = term-end w (a .levels) (getD (w .source) upto 0) at e (x .0 .bytes) (x .0 .piece) in
-    let j : i - 1 + 1 ≡ upto + 1 - a .from = omega arith in
+argument-learnt w a i at e p ends after o o′ pos {r} nz y known h z q =
+    let x : Says (termAt w (a .levels) (getD (w .source) (a .from + (i - 1)) 0) at) (length (w .input)) o o′ pos (To e p) = rw z at (h .says) in
+    let t = term-end w (a .levels) (getD (w .source) (a .from + (i - 1)) 0) at e (x .0 .bytes) (x .0 .piece) in
+    let j : i - 1 + 1 ≡ a .from + (i - 1) + 1 - a .from = omega arith in
+    let u : i - 1 ≡ a .from + (i - 1) - a .from = omega arith in
+    let v : a .from ≤ a .from + (i - 1) = omega arith in
     known-more (w .syntax) (w .source) (w .index) (w .arguments) (w .input) a ends known (i - 1) e after q
     (ap (reach (w .syntax) (w .source) (w .index) (w .arguments) (w .input) a) j
-    ∙ (next-operand _ (w .source) (a .from) upto (a .start) at _ (omega arith) refl (sym es ∙ y) ∙ t)) (x .1)
+    ∙ (next-operand _ (w .source) (a .from) (a .from + (i - 1)) (a .start) at (i - 1) v u y ∙ t)) (x .1)
+
+-- put_leaf
+module _ (x : Syntax) (s index arguments : List ℕ) (k : ℕ) (b : List ℕ) (at : ℕ) where
+  pub leaf-token : {class : ℕ} {r : Read} → class ≡ classPlace x index k → (class ≡ 0 → ⊥) → r ≡ tokenAt s class b at
+      → leafAt b at (nodeAt x s index arguments k b at) ≡ leafOf b at r
+  leaf-token e h t =
+      let w = in-tree x index k (λ z. h (e ∙ z)) in
+      sym (ap (leafAt b at) (node-tree s index arguments k b at (w .0) (tree-token s index k b at refl (e ∙ w .1) h t)))
+
+  module _ {d : Node} (ed : d ≡ nodeAt x s index arguments k b at) where
+    pub leaf-read : {r : Read} → d ≡ Leaf r → leafAt b at (nodeAt x s index arguments k b at) ≡ leafOf b at r
+    leaf-read y = ap (leafAt b at) (sym ed ∙ y)
+
+    pub leaf-other : {q e to : ℕ} → d ≡ Operands q e to → leafAt b at (nodeAt x s index arguments k b at) ≡ none
+    leaf-other y = ap (leafAt b at) (sym ed ∙ y)
+
+-- Where no production was found, there is a leaf.
+name-leaf-at : (s index : List ℕ) (k : ℕ) (b : List ℕ) (at : ℕ) → cond (leb (length b) at) 0 (getD index (productionKey k (getD b at 0)) 0) ≡ 0
+    → nameAt s index k b at ≡ Leaf Broken
+unfolding nameAt operandsAt
+name-leaf-at s index k b at y =
+    by-test (leb (length b) at)
+    (λ t. rw t)
+    (λ t. let z : getD index (productionKey k (getD b at 0)) 0 ≡ 0 = rw t at y in rw (t, eq-eqb _ 0 z))
+
+leaf-by : (x : Syntax) (s index arguments : List ℕ) (k : ℕ) (b : List ℕ) (at : ℕ)
+    → cond (eqb (classPlace x index k) 0) (productionPlace x index k b at) 0 ≡ 0
+    → (r : Read) × (nodeAt x s index arguments k b at ≡ Leaf r)
+unfolding classPlace productionPlace nodeAt treeNode codeNode signNode
+leaf-by Tree s index arguments k b at y =
+    by-test (eqb (getD index k 0) 0)
+    (λ t. (Broken, rw t (name-leaf-at s index k b at (rw t at y))))
+    (λ t. (tokenAt s (getD index k 0) b at, rw t))
+leaf-by Code s index arguments k b at y =
+    by-test (leb (length b) at)
+    (λ t. (Broken, rw t))
+    (λ t. by-test (eqb (getD b at 0) 1)
+    (λ u. (Broken, rw (t, u) (name-leaf-at s index k b (at + 1) (rw u at y))))
+    (λ u. by-test (eqb (getD b at 0) 2)
+    (λ v. (tokenAt s (getD index k 0) b (at + 1), rw (t, u, v)))
+    (λ v. by-test (eqb (getD b at 0) 3)
+    (λ q. (argumentAt arguments k b (at + 1), rw (t, u, v, q)))
+    (λ q. (Broken, rw (t, u, v, q))))))
+
+module _ (w : Tables) (n k at : ℕ) {class place : ℕ} (pos : n ≡ 0 → ⊥) (ec : class ≡ classPlace (w .syntax) (w .index) k)
+    (ep : place ≡ cond (eqb class 0) (productionPlace (w .syntax) (w .index) k (w .input) at) 0) where
+  pub term-at-leaf : place ≡ 0 → termAt w n k at ≡ leafAt (w .input) at (nodeAt (w .syntax) (w .source) (w .index) (w .arguments) k (w .input) at)
+  term-at-leaf h =
+      let x = leaf-by (w .syntax) (w .source) (w .index) (w .arguments) k (w .input) at
+      (ap (λ (c : ℕ). cond (eqb c 0) (productionPlace (w .syntax) (w .index) k (w .input) at) 0) (sym ec) ∙ (sym ep ∙ h)) in
+      term-leaf w n k at pos refl (x .1) ∙ sym (ap (leafAt (w .input) at) (x .1))
+
+  pub term-named : {l p m j : ℕ} → (place ≡ 0 → ⊥) → l ≡ signLength (w .syntax) → p ≡ getD (w .input) (at + l) 0
+      → m ≡ pairAt (w .source) place → j ≡ nameLength (w .syntax)
+      → termAt w n k at
+      ≡ clauseNext w (termAt w (n - 1)) (record { from = place + 4; stop = place + 2 + m; start = at + j; levels = n - 1 })
+      (getD (w .mapped) k 0) (getD (w .clauses) (productionKey k p) 0)
+  term-named h el eb em ej =
+      term-node w n k at pos refl (sym (named-node (w .syntax) (w .source) (w .index) (w .arguments) k (w .input) at ec ep h em ej)) el eb

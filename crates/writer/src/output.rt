@@ -1,9 +1,15 @@
 // Bytes that are put into the output.
+use reader::node::Node;
 use reader::node::Read;
+use reader::node::Syntax;
+use reader::node::node_at;
+use reader::node::token;
+ghost use mathlib.Core.Path.{_≡_};
 ghost use Prim.Native.Nat.{_+_, _-_, _≤_};
 ghost use lib.ListN.{length};
-ghost use Rattle.reader.specs.Inner.Positions.{EndsBy};
-ghost use Rattle.writer.specs.Inner.Pieces.{copied, leafOf, Puts};
+ghost use Rattle.reader.specs.Inner.Index.{Ready};
+ghost use Rattle.reader.specs.Inner.Positions.{EndsBy, classPlace, nodeAt};
+ghost use Rattle.writer.specs.Inner.Pieces.{copied, leafOf, leafAt, Puts};
 
 // Where what was run ends, and where its bytes end in the output; or the output is full.
 pub enum Ran {
@@ -42,5 +48,31 @@ pub fn leaf(read: Read, bytes: &[u8], at: usize, output: &mut [u8], pos: usize) 
         }
         Read::Deep => Ran::Full,
         Read::Broken => Ran::Full,
+    }
+}
+
+// Copies the leaf that stands at a position: a token of the class whose field stands before the place, or what the sign
+// says where there is no such class.
+pub fn put_leaf(
+    syntax: Syntax,
+    source: &[u8],
+    index: &[u16],
+    arguments: &[u8],
+    class: usize,
+    kind: u8,
+    input: &[u8],
+    at: usize,
+    output: &mut [u8],
+    pos: usize,
+) -> Ran
+    requires { ⌜ Ready (now index) (now source) kind (now input) at × (class ≡ classPlace syntax (now index) kind) × (pos ≤ length (now output)) ⌝ }
+    ensures { λ r. ⌜ Puts (leafAt (now (input .entry)) at (nodeAt syntax (now (source .entry)) (now (index .entry)) (now (arguments .entry)) kind (now (input .entry)) at)) (length (now (input .entry))) (now (output .entry)) (now (output .exit)) pos r ⌝ }
+{
+    if class != 0 {
+        return leaf(token(source, class, input, at), input, at, output, pos);
+    }
+    match node_at(syntax, source, index, arguments, kind, input, at) {
+        Node::Leaf(read) => leaf(read, input, at, output, pos),
+        Node::Operands(_, _, _) => Ran::Full,
     }
 }

@@ -1,22 +1,26 @@
 // The run: it calls itself on the arguments of a node and on the inner codes of its clause, with fewer levels left.
 use crate::output::Ran;
 use crate::output::copy;
-use crate::output::leaf;
+use crate::output::put_leaf;
 use crate::starts::Frame;
+use crate::starts::argument_start;
 use crate::starts::learn;
-use crate::starts::start_of;
+use crate::starts::operand_start;
 use crate::step::Step;
 use crate::step::code_step;
+use crate::step::kind_at;
 use crate::step::place_of;
 use crate::step::sign_length;
 use fields::bytes::byte_at;
-use reader::node::Node;
 use reader::node::Read;
 use reader::node::Syntax;
-use reader::node::node_at;
+use reader::node::name_length;
+use reader::node::pair_in;
+use reader::node::production_place;
+use reader::read::class_place;
 ghost use mathlib.Core.Path.{_≡_};
 ghost use mathlib.Core.List.{List};
-ghost use Prim.Native.Nat.{ℕ, _<_};
+ghost use Prim.Native.Nat.{ℕ};
 ghost use lib.ListN.{drop};
 ghost use Rattle.reader.specs.Code.{Code};
 ghost use Rattle.reader.specs.Syntax.{read, done, write};
@@ -24,10 +28,12 @@ ghost use Rattle.translation.specs.Translation.{Translation};
 ghost use Rattle.translation.specs.Running.{transform};
 ghost use Rattle.reader.specs.Inner.Positions.{syntaxOf};
 ghost use Rattle.writer.specs.Inner.Prepared.{Prepared, Written};
-ghost use Rattle.writer.specs.Inner.Runs.{Tables, tables, NodeAsks, NodeGives, OperandsAsk, OperandsGive, CodeAsks, CodeGives, ArgumentAsks, ArgumentGives, TermAsks, TermGives};
+ghost use Rattle.writer.specs.Inner.Runs.{Tables, tables, RowAsks, RowGives, TermAsks, TermGives};
 
-// A production name and the codes behind it, whose kinds stand in the target from `first` up to `stop`.
-fn run_operands(
+// Codes in a row from a position in the body on, each argument replaced by its run: that of a clause, or operands, whose
+// kinds stand in the target from `first` up to `stop`. Behind the last one nothing is left to do, so its operands are
+// run here.
+fn run_row(
     syntax: Syntax,
     source: &[u8],
     index: &[u16],
@@ -40,270 +46,131 @@ fn run_operands(
     input: &[u8],
     frame: Frame,
     ends: &mut [usize],
+    clause: bool,
     first: usize,
     stop: usize,
-    from: usize,
     at: usize,
     levels: usize,
     output: &mut [u8],
     pos: usize,
 ) -> Ran
-    requires { ⌜ OperandsAsk (tables syntax (now source) (now index) (now target) (now places) (now body) (now clauses) (now mapped) (now arguments) (now input))
-        frame (now ends) first stop from at (now output) pos ⌝ }
-    ensures { λ r. ⌜ OperandsGive (tables syntax (now (source .entry)) (now (index .entry)) (now (target .entry)) (now (places .entry)) (now (body .entry))
+    requires { ⌜ RowAsks (tables syntax (now source) (now index) (now target) (now places) (now body) (now clauses) (now mapped) (now arguments) (now input))
+        frame (now ends) clause first stop at (now output) pos ⌝ }
+    ensures { λ r. ⌜ RowGives (tables syntax (now (source .entry)) (now (index .entry)) (now (target .entry)) (now (places .entry)) (now (body .entry))
         (now (clauses .entry)) (now (mapped .entry)) (now (arguments .entry)) (now (input .entry)))
-        frame (now (ends .exit)) first stop from at levels (now (output .entry)) (now (output .exit)) pos r ⌝ }
+        frame (now (ends .exit)) clause first stop at levels (now (output .entry)) (now (output .exit)) pos r ⌝ }
 {
-    match copy(body, from, at + 2, output, pos) {
-        Ran::Full => Ran::Full,
-        Ran::To(start, end) => {
-            let mut q = first;
-            let mut c = start;
-            let mut p = end;
-            while q < stop {
-                match run_code(
-                    syntax,
-                    source,
-                    index,
-                    target,
-                    places,
-                    body,
-                    clauses,
-                    mapped,
-                    arguments,
-                    input,
-                    frame,
-                    ends,
-                    target[q],
-                    c,
-                    levels,
-                    output,
-                    p,
-                ) {
-                    Ran::To(e, d) => {
-                        c = e;
-                        p = d;
+    let mut root = clause;
+    let mut q = first;
+    let mut end = stop;
+    let mut c = at;
+    let mut p = pos;
+    let mut left = levels;
+    while q < end {
+        if left == 0 {
+            return Ran::Full;
+        }
+        let from = c + 1 - sign_length(syntax);
+        match code_step(target, places, body, kind_at(mapped, target, root, q), c) {
+            Step::Token => match copy(body, from, c + 3, output, p) {
+                Ran::To(e, d) => {
+                    c = e;
+                    p = d;
+                    q += 1;
+                }
+                Ran::Full => {
+                    return Ran::Full;
+                }
+            },
+            Step::Operands(f, s) => match copy(body, from, c + 2, output, p) {
+                Ran::To(e, d) => {
+                    c = e;
+                    p = d;
+                    q += 1;
+                    if q == end {
+                        root = false;
+                        q = f;
+                        end = s;
+                        left -= 1;
+                    } else if f < s {
+                        match run_row(
+                            syntax,
+                            source,
+                            index,
+                            target,
+                            places,
+                            body,
+                            clauses,
+                            mapped,
+                            arguments,
+                            input,
+                            frame,
+                            ends,
+                            false,
+                            f,
+                            s,
+                            c,
+                            left - 1,
+                            output,
+                            p,
+                        ) {
+                            Ran::To(g, h) => {
+                                c = g;
+                                p = h;
+                            }
+                            Ran::Full => {
+                                return Ran::Full;
+                            }
+                        }
                     }
-                    Ran::Full => {
+                }
+                Ran::Full => {
+                    return Ran::Full;
+                }
+            },
+            Step::Argument(i) => {
+                match argument_start(syntax, source, index, arguments, input, frame, i, ends) {
+                    Read::End(start) => match run_term(
+                        syntax,
+                        source,
+                        index,
+                        target,
+                        places,
+                        body,
+                        clauses,
+                        mapped,
+                        arguments,
+                        input,
+                        source[frame.from + (i - 1)],
+                        start,
+                        frame.levels,
+                        output,
+                        p,
+                    ) {
+                        Ran::To(e, d) => {
+                            learn(ends, i - 1, e);
+                            c += 2;
+                            p = d;
+                            q += 1;
+                        }
+                        Ran::Full => {
+                            return Ran::Full;
+                        }
+                    },
+                    Read::Deep => {
+                        return Ran::Full;
+                    }
+                    Read::Broken => {
                         return Ran::Full;
                     }
                 }
-                q += 1;
             }
-            Ran::To(c, p)
-        }
-    }
-}
-
-// The code of a kind at a position in the body, each argument replaced by its run.
-fn run_code(
-    syntax: Syntax,
-    source: &[u8],
-    index: &[u16],
-    target: &[u8],
-    places: &[u16],
-    body: &[u8],
-    clauses: &[u16],
-    mapped: &[u8],
-    arguments: &[u8],
-    input: &[u8],
-    frame: Frame,
-    ends: &mut [usize],
-    kind: u8,
-    at: usize,
-    levels: usize,
-    output: &mut [u8],
-    pos: usize,
-) -> Ran
-    requires { ⌜ CodeAsks (tables syntax (now source) (now index) (now target) (now places) (now body) (now clauses) (now mapped) (now arguments) (now input))
-        frame (now ends) kind at (now output) pos ⌝ }
-    ensures { λ r. ⌜ CodeGives (tables syntax (now (source .entry)) (now (index .entry)) (now (target .entry)) (now (places .entry)) (now (body .entry))
-        (now (clauses .entry)) (now (mapped .entry)) (now (arguments .entry)) (now (input .entry)))
-        frame (now (ends .exit)) levels kind at (now (output .entry)) (now (output .exit)) pos r ⌝ }
-{
-    if levels == 0 {
-        return Ran::Full;
-    }
-    let from = at + 1 - sign_length(syntax);
-    match code_step(target, places, body, kind, at) {
-        Step::Token => copy(body, from, at + 3, output, pos),
-        Step::Operands(first, stop) => run_operands(
-            syntax,
-            source,
-            index,
-            target,
-            places,
-            body,
-            clauses,
-            mapped,
-            arguments,
-            input,
-            frame,
-            ends,
-            first,
-            stop,
-            from,
-            at,
-            levels - 1,
-            output,
-            pos,
-        ),
-        Step::Argument(i) => match run_argument(
-            syntax,
-            source,
-            index,
-            target,
-            places,
-            body,
-            clauses,
-            mapped,
-            arguments,
-            input,
-            frame,
-            ends,
-            i,
-            output,
-            pos,
-        ) {
-            Ran::To(_, p) => Ran::To(at + 2, p),
-            Ran::Full => Ran::Full,
-        },
-        Step::Unknown => Ran::Full,
-    }
-}
-
-// The run of an argument of a node, by its number from 1.
-fn run_argument(
-    syntax: Syntax,
-    source: &[u8],
-    index: &[u16],
-    target: &[u8],
-    places: &[u16],
-    body: &[u8],
-    clauses: &[u16],
-    mapped: &[u8],
-    arguments: &[u8],
-    input: &[u8],
-    frame: Frame,
-    ends: &mut [usize],
-    number: usize,
-    output: &mut [u8],
-    pos: usize,
-) -> Ran
-    requires { ⌜ ArgumentAsks (tables syntax (now source) (now index) (now target) (now places) (now body) (now clauses) (now mapped) (now arguments) (now input))
-        frame (now ends) (now output) pos ⌝ }
-    ensures { λ r. ⌜ ArgumentGives (tables syntax (now (source .entry)) (now (index .entry)) (now (target .entry)) (now (places .entry)) (now (body .entry))
-        (now (clauses .entry)) (now (mapped .entry)) (now (arguments .entry)) (now (input .entry)))
-        frame (now (ends .exit)) number (now (output .entry)) (now (output .exit)) pos r ⌝ }
-{
-    if number == 0 {
-        return Ran::Full;
-    }
-    if frame.stop <= frame.from {
-        return Ran::Full;
-    }
-    if frame.stop - frame.from < number {
-        return Ran::Full;
-    }
-    let upto = frame.from + (number - 1);
-    match start_of(syntax, source, index, arguments, input, frame, upto, ends) {
-        Read::End(at) => match run_term(
-            syntax,
-            source,
-            index,
-            target,
-            places,
-            body,
-            clauses,
-            mapped,
-            arguments,
-            input,
-            source[upto],
-            at,
-            frame.levels,
-            output,
-            pos,
-        ) {
-            Ran::To(e, p) => {
-                learn(ends, number - 1, e);
-                Ran::To(e, p)
-            }
-            Ran::Full => Ran::Full,
-        },
-        Read::Deep => Ran::Full,
-        Read::Broken => Ran::Full,
-    }
-}
-
-// The run of a node: its clause's code with each argument replaced.
-fn run_node(
-    syntax: Syntax,
-    source: &[u8],
-    index: &[u16],
-    target: &[u8],
-    places: &[u16],
-    body: &[u8],
-    clauses: &[u16],
-    mapped: &[u8],
-    arguments: &[u8],
-    input: &[u8],
-    frame: Frame,
-    kind: u8,
-    name: u8,
-    output: &mut [u8],
-    pos: usize,
-) -> Ran
-    requires { ⌜ NodeAsks (tables syntax (now source) (now index) (now target) (now places) (now body) (now clauses) (now mapped) (now arguments) (now input))
-        frame (now output) pos × (kind < 32) ⌝ }
-    ensures { λ r. ⌜ NodeGives (tables syntax (now (source .entry)) (now (index .entry)) (now (target .entry)) (now (places .entry)) (now (body .entry))
-        (now (clauses .entry)) (now (mapped .entry)) (now (arguments .entry)) (now (input .entry)))
-        frame kind name (now (output .entry)) (now (output .exit)) pos r ⌝ }
-{
-    let place = place_of(clauses, kind, name);
-    if place == 0 {
-        return Ran::Full;
-    }
-    if body.len() < place + 4 {
-        return Ran::Full;
-    }
-    let mut ends = [0usize; 8];
-    match run_code(
-        syntax,
-        source,
-        index,
-        target,
-        places,
-        body,
-        clauses,
-        mapped,
-        arguments,
-        input,
-        frame,
-        &mut ends,
-        mapped[kind as usize],
-        place + 4,
-        16,
-        output,
-        pos,
-    ) {
-        Ran::To(_, p) => {
-            match start_of(
-                syntax,
-                source,
-                index,
-                arguments,
-                input,
-                frame,
-                frame.stop,
-                &mut ends,
-            ) {
-                Read::End(e) => Ran::To(e, p),
-                Read::Deep => Ran::Full,
-                Read::Broken => Ran::Full,
+            Step::Unknown => {
+                return Ran::Full;
             }
         }
-        Ran::Full => Ran::Full,
     }
+    Ran::To(c, p)
 }
 
 // The run of the term of a kind at a position in the input.
@@ -333,34 +200,75 @@ pub fn run_term(
     if levels == 0 {
         return Ran::Full;
     }
-    match node_at(syntax, source, index, arguments, kind, input, at) {
-        Node::Leaf(read) => leaf(read, input, at, output, pos),
-        Node::Operands(from, stop, start) => {
-            let frame = Frame {
-                from,
-                stop,
-                start,
-                levels: levels - 1,
-            };
-            let name = byte_at(input, at + sign_length(syntax));
-            run_node(
+    let class = class_place(syntax, index, kind);
+    let place = production_place(syntax, index, class, kind, input, at);
+    if place == 0 {
+        return put_leaf(
+            syntax,
+            source,
+            index,
+            arguments,
+            class,
+            kind,
+            input,
+            at,
+            output,
+            pos,
+        );
+    }
+    let clause = place_of(clauses, kind, byte_at(input, at + sign_length(syntax)));
+    if clause == 0 {
+        return Ran::Full;
+    }
+    if body.len() < clause + 4 {
+        return Ran::Full;
+    }
+    let frame = Frame {
+        from: place + 4,
+        stop: place + 2 + pair_in(source, place),
+        start: at + name_length(syntax),
+        levels: levels - 1,
+    };
+    let mut ends = [0usize; 8];
+    let k = kind as usize;
+    match run_row(
+        syntax,
+        source,
+        index,
+        target,
+        places,
+        body,
+        clauses,
+        mapped,
+        arguments,
+        input,
+        frame,
+        &mut ends,
+        true,
+        k,
+        k + 1,
+        clause + 4,
+        16,
+        output,
+        pos,
+    ) {
+        Ran::To(_, p) => {
+            match operand_start(
                 syntax,
                 source,
                 index,
-                target,
-                places,
-                body,
-                clauses,
-                mapped,
                 arguments,
                 input,
                 frame,
-                kind,
-                name,
-                output,
-                pos,
-            )
+                frame.stop,
+                &mut ends,
+            ) {
+                Read::End(e) => Ran::To(e, p),
+                Read::Deep => Ran::Full,
+                Read::Broken => Ran::Full,
+            }
         }
+        Ran::Full => Ran::Full,
     }
 }
 

@@ -7,7 +7,7 @@ ghost use Prim.Native.Nat.{_+_, _-_, _<_, _≤_};
 ghost use lib.ListN.{length, getD, set};
 ghost use Rattle.reader.specs.Inner.Index.{Sound};
 ghost use Rattle.reader.specs.Inner.Positions.{KindsIn, EndsBy};
-ghost use Rattle.writer.specs.Inner.Starts.{reach, Known};
+ghost use Rattle.writer.specs.Inner.Starts.{reach, argumentReach, Known};
 
 // The node that is run: the kinds of its operands stand in the source from `from` up to `stop`, the operands start at
 // `start`, and have so many levels.
@@ -75,7 +75,7 @@ fn end_of(
 }
 
 // Where the operand starts whose kind stands in the source at `upto`.
-pub fn start_of(
+fn start_of(
     syntax: Syntax,
     source: &[u8],
     index: &[u16],
@@ -105,4 +105,55 @@ pub fn start_of(
         q += 1;
     }
     Read::End(p)
+}
+
+// The same, where the end of the operand before it is often known.
+pub fn operand_start(
+    syntax: Syntax,
+    source: &[u8],
+    index: &[u16],
+    arguments: &[u8],
+    input: &[u8],
+    frame: Frame,
+    upto: usize,
+    ends: &mut [usize],
+) -> Read
+    requires { ⌜ Sound (now index) (now source) × KindsIn (now source) (frame .from) upto × (frame .start ≤ length (now input)) × Known syntax (now source) (now index) (now arguments) (now input) frame (now ends) ⌝ }
+    ensures { λ r. ⌜ (r ≡ reach syntax (now (source .entry)) (now (index .entry)) (now (arguments .entry)) (now (input .entry)) frame (upto - frame .from)) × EndsBy (length (now (input .entry))) r × Known syntax (now (source .entry)) (now (index .entry)) (now (arguments .entry)) (now (input .entry)) frame (now (ends .exit)) ⌝ }
+{
+    if upto <= frame.from {
+        return Read::End(frame.start);
+    }
+    let end = known(ends, upto - frame.from - 1);
+    if end != 0 {
+        return Read::End(end);
+    }
+    start_of(syntax, source, index, arguments, input, frame, upto, ends)
+}
+
+// Where the argument of a number starts, counted from 1.
+pub fn argument_start(
+    syntax: Syntax,
+    source: &[u8],
+    index: &[u16],
+    arguments: &[u8],
+    input: &[u8],
+    frame: Frame,
+    number: usize,
+    ends: &mut [usize],
+) -> Read
+    requires { ⌜ Sound (now index) (now source) × KindsIn (now source) (frame .from) (frame .stop) × (frame .start ≤ length (now input)) × Known syntax (now source) (now index) (now arguments) (now input) frame (now ends) ⌝ }
+    ensures { λ r. ⌜ (r ≡ argumentReach syntax (now (source .entry)) (now (index .entry)) (now (arguments .entry)) (now (input .entry)) frame number) × EndsBy (length (now (input .entry))) r × Known syntax (now (source .entry)) (now (index .entry)) (now (arguments .entry)) (now (input .entry)) frame (now (ends .exit)) ⌝ }
+{
+    if number == 0 {
+        return Read::Broken;
+    }
+    if frame.stop <= frame.from {
+        return Read::Broken;
+    }
+    if frame.stop - frame.from < number {
+        return Read::Broken;
+    }
+    let upto = frame.from + (number - 1);
+    operand_start(syntax, source, index, arguments, input, frame, upto, ends)
 }

@@ -7,7 +7,7 @@ ghost use Prim.Native.Nat.{ℕ, _+_, _-_, _<_, _≤_};
 ghost use lib.ListN.{length, getD};
 ghost use Rattle.language.specs.Language.{productionKey};
 ghost use Rattle.reader.specs.Inner.Index.{Sound};
-ghost use Rattle.writer.specs.Inner.Runs.{signLength, operandsStep, stepAt, StepIn};
+ghost use Rattle.writer.specs.Inner.Runs.{signLength, kindsOf, operandsStep, stepAt, StepIn};
 
 // A token; a production, the kinds of whose operands stand in the target from the first number up to the second; an
 // argument by its number; or no code.
@@ -46,6 +46,14 @@ fn operands(target: &[u8], places: &[u16], kind: u8, name: u8) -> Step
         return Step::Unknown;
     }
     Step::Operands(place + 4, place + 2 + pair_at(target, place))
+}
+
+// The kind of the code at q in a row: of a clause it is the one that its kind maps to, of operands it stands in the target.
+pub fn kind_at(mapped: &[u8], target: &[u8], clause: bool, q: usize) -> u8
+    requires { ⌜ q < length (kindsOf clause (now mapped) (now target)) ⌝ }
+    ensures { λ r. ⌜ r ≡ getD (kindsOf clause (now (mapped .entry)) (now (target .entry))) q 0 ⌝ }
+{
+    if clause { mapped[q] } else { target[q] }
 }
 
 // What stands at a position in the code of a clause.

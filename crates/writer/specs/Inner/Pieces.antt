@@ -7,6 +7,8 @@ use lib.ListN.{length, take, drop}
 use lib.Dec.{ltb}
 use Rattle.reader.specs.declared.node.Read.{Read}
 use Rattle.reader.specs.declared.node.Read.the-variants.{End, Deep, Broken}
+use Rattle.reader.specs.declared.node.Node.{Node}
+use Rattle.reader.specs.declared.node.Node.the-variants.{Leaf, Operands}
 use Rattle.writer.specs.declared.output.Ran.{Ran}
 use Rattle.writer.specs.declared.output.Ran.the-variants.{To, Full}
 
@@ -45,6 +47,11 @@ unfoldable pub leafOf : List ℕ → ℕ → Read → Piece
 leafOf b at (End e) = cond (ltb e at) none (copied b at e)
 leafOf b at Deep = none
 leafOf b at Broken = none
+
+-- The same, of a leaf that stands at `at`.
+abbrev pub leafAt : List ℕ → ℕ → Node → Piece
+leafAt b at (Leaf r) = leafOf b at r
+leafAt b at (Operands q e to) = none
 
 -- The output o with v put in at pos.
 unfoldable pub spliced : List ℕ → ℕ → List ℕ → List ℕ

@@ -1,7 +1,7 @@
 -- The run by position: what stands where in the input and in the codes of the clauses.
 use Prim.Native.Nat.{ℕ, zero, suc, _+_, _-_, _<_, _≤_}
 use mathlib.Core.Path.{_≡_}
-use mathlib.Core.Bool.{cond}
+use mathlib.Core.Bool.{Bool, cond}
 use mathlib.Core.List.{List, []}
 use lib.ListN.{length, getD}
 use lib.Dec.{ltb, eqb}
@@ -63,6 +63,10 @@ pub record Sized (w : Tables) : Type 0 where
 abbrev pub signLength : Syntax → ℕ
 signLength Tree = 0
 signLength Code = 1
+
+-- Where the kinds of codes in a row stand: the clause's kind among those that kinds map to, others in the target.
+abbrev pub kindsOf : Bool → List ℕ → List ℕ → List ℕ
+kindsOf clause mapped target = cond clause mapped target
 
 -- The operands of the production whose field stands before `place`.
 unfoldable pub operandsStep : List ℕ → ℕ → Step
@@ -157,36 +161,17 @@ KnownOf w a ends = Known (w .syntax) (w .source) (w .index) (w .arguments) (w .i
 abbrev pub argumentsOf : Tables → Frame → ℕ → Piece
 argumentsOf w a = argumentOf w (termAt w (a .levels)) a
 
--- What the functions of the run ask for, and what they give: of a node whose operands are known so far, the output
--- with its position; then of a name and the codes behind it, a code, an argument, a node and a term.
-abbrev pub NodeAsks : Tables → Frame → List ℕ → ℕ → Type 0
-NodeAsks w a o pos = Sized w × Framed w a × (pos ≤ length o)
+-- What the functions of the run ask for, and what they give: of codes in a row, for a node whose operands are known so
+-- far, and of a term.
+abbrev pub RowAsks : Tables → Frame → List ℕ → Bool → ℕ → ℕ → ℕ → List ℕ → ℕ → Type 0
+RowAsks w a ends clause first stop at o pos =
+    Sized w × Framed w a × (pos ≤ length o) × KnownOf w a ends × KindsIn (kindsOf clause (w .mapped) (w .target)) first stop
+    × (at ≤ length (w .body))
 
-abbrev pub OperandsAsk : Tables → Frame → List ℕ → ℕ → ℕ → ℕ → ℕ → List ℕ → ℕ → Type 0
-OperandsAsk w a ends first stop from at o pos =
-    NodeAsks w a o pos × KnownOf w a ends × KindsIn (w .target) first stop × (from ≤ at + 2) × (at + 2 ≤ length (w .body))
-
-abbrev pub OperandsGive : Tables → Frame → List ℕ → ℕ → ℕ → ℕ → ℕ → ℕ → List ℕ → List ℕ → ℕ → Ran → Type 0
-OperandsGive w a ends first stop from at n o after pos r =
-    Puts (then (copied (w .body) from (at + 2)) (rowAt (codeAt w (argumentsOf w a) n) (w .target) (stop - first) first)) (length (w .body)) o after pos r
+abbrev pub RowGives : Tables → Frame → List ℕ → Bool → ℕ → ℕ → ℕ → ℕ → List ℕ → List ℕ → ℕ → Ran → Type 0
+RowGives w a ends clause first stop at n o after pos r =
+    Puts (rowAt (codeAt w (argumentsOf w a) n) (kindsOf clause (w .mapped) (w .target)) (stop - first) first at) (length (w .body)) o after pos r
     × KnownOf w a ends
-
-abbrev pub CodeAsks : Tables → Frame → List ℕ → ℕ → ℕ → List ℕ → ℕ → Type 0
-CodeAsks w a ends k at o pos = NodeAsks w a o pos × KnownOf w a ends × (k < 32) × (at ≤ length (w .body))
-
-abbrev pub CodeGives : Tables → Frame → List ℕ → ℕ → ℕ → ℕ → List ℕ → List ℕ → ℕ → Ran → Type 0
-CodeGives w a ends n k at o after pos r =
-    Puts (codeAt w (argumentsOf w a) n k at) (length (w .body)) o after pos r × KnownOf w a ends
-
-abbrev pub ArgumentAsks : Tables → Frame → List ℕ → List ℕ → ℕ → Type 0
-ArgumentAsks w a ends o pos = NodeAsks w a o pos × KnownOf w a ends
-
-abbrev pub ArgumentGives : Tables → Frame → List ℕ → ℕ → List ℕ → List ℕ → ℕ → Ran → Type 0
-ArgumentGives w a ends i o after pos r = Puts (argumentsOf w a i) (length (w .input)) o after pos r × KnownOf w a ends
-
-abbrev pub NodeGives : Tables → Frame → ℕ → ℕ → List ℕ → List ℕ → ℕ → Ran → Type 0
-NodeGives w a k p o after pos r =
-    Puts (clauseNext w (termAt w (a .levels)) a (getD (w .mapped) k 0) (getD (w .clauses) (productionKey k p) 0)) (length (w .input)) o after pos r
 
 abbrev pub TermAsks : Tables → ℕ → ℕ → List ℕ → ℕ → Type 0
 TermAsks w k at o pos = Sized w × (k < 32) × (at ≤ length (w .input)) × (pos ≤ length o)
