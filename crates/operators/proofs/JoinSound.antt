@@ -65,7 +65,8 @@ module _ (f g : Translation) (sf : Sound f) (sg : Sound g) (h : joinFits f g ≡
   pub target-larger : Larger (g .target) (f .source)
   target-larger = larger (g .target) (f .source) (sf .source .rises) lies
 
-  body-rises : Rising itemKey (joined f g .body)
+  -- Its items rise.
+  pub body-rises : Rising itemKey (joined f g .body)
   unfolding joined
   body-rises = map-from itemKey (joinItem f g) (join-key f g) 0 (g .body) (sg .rises)
 
@@ -122,6 +123,20 @@ module _ (f g : Translation) (sf : Sound f) (sg : Sound g) (h : joinFits f g ≡
       let q = map-map-alike (mapped (f .body)) (mapped (g .body)) (mapped (joined f g .body)) ks (λ j z. join-mapped j (argument-in (g .source) r p ks m j z)) in
       rw (join-mapped r (result-in (g .source) r p ks m), mapped-arguments (joined f g) r p ks e, q) (typed-run (fit-carries f (sf .rises) (sf .fits)) t)
 
+  item-whole : (a : Item) → Mem a (g .body) → itemWhole (joinItem f g a) ≡ true
+  unfolding itemWhole joinItem
+  item-whole (clause r p c) m = sg .whole (clause r p c) m
+  item-whole (mapping s t) m =
+      let x = sg .fits .mapsOnly s t m in
+      let y = onward t (x .1) in
+      both-and (isKind s) (isKind (mapped (f .body) t)) (and-both (isKind s) (isKind t) (sg .whole (mapping s t) m) .0)
+      (rw (y .2) (and-both (isKind t) (isKind (y .0)) (sf .whole (mapping t (y .0)) (y .1)) .1))
+
+  -- A file can hold its items.
+  pub join-whole : (a : Item) → Mem a (joined f g .body) → itemWhole a ≡ true
+  unfolding joined
+  join-whole a m = let x = map-cases (joinItem f g) a (g .body) m in rw (x .2) (item-whole (x .0) (x .1))
+
   module _ (shallows : (a : Item) → Mem a (joined f g .body) → codeIsDeep (joined f g) a ≡ false) where
     join-read : (r p : ℕ) (c : List ℕ) → Mem (clause r p c) (joined f g .body) → readClause (joined f g) r p c ≡ done (run (clausesOf f) (clausesOf g r p)) []
     unfolding readClause codeIsDeep joined
@@ -151,19 +166,6 @@ module _ (f g : Translation) (sf : Sound f) (sg : Sound g) (h : joinFits f g ≡
       clausesOnly = λ r p c m. let d = from-clause r p c m in sg .fits .clausesOnly r p (d .0) (d .1);
       codes = λ r p c m. (run (clausesOf f) (clausesOf g r p), join-read r p c m);
     }
-
-    item-whole : (a : Item) → Mem a (g .body) → itemWhole (joinItem f g a) ≡ true
-    unfolding itemWhole joinItem
-    item-whole (clause r p c) m = sg .whole (clause r p c) m
-    item-whole (mapping s t) m =
-        let x = sg .fits .mapsOnly s t m in
-        let y = onward t (x .1) in
-        both-and (isKind s) (isKind (mapped (f .body) t)) (and-both (isKind s) (isKind t) (sg .whole (mapping s t) m) .0)
-        (rw (y .2) (and-both (isKind t) (isKind (y .0)) (sf .whole (mapping t (y .0)) (y .1)) .1))
-
-    join-whole : (a : Item) → Mem a (joined f g .body) → itemWhole a ≡ true
-    unfolding joined
-    join-whole a m = let x = map-cases (joinItem f g) a (g .body) m in rw (x .2) (item-whole (x .0) (x .1))
 
     -- C.16.
     pub sound-join : Sound (joined f g)

@@ -25,7 +25,7 @@ fn put(index: &mut [u16], key: usize, value: u16)
 
 // Puts every entry of a file into the index. Its first entries have the tag `first`.
 pub fn put_all(s: &[u8], first: u8, index: &mut [u16])
-    requires { ⌜ length (now s) ≤ 4096 ⌝ }
+    requires { ⌜ length (now s) ≤ 32768 ⌝ }
     ensures { λ r. ⌜ now (index .exit) ≡ putAll first (now (s .entry)) (now (index .entry)) (places (now (s .entry))) ⌝ }
 {
     let mut p = 0;

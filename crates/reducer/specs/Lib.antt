@@ -1,2 +1,3 @@
 pub mod Evaluation
 pub mod Operations
+pub mod Inner

@@ -102,7 +102,7 @@ module _ (s : List ℕ) (over : Bool) (eo : over ≡ (ltb translationLimit (leng
           let k = w .inside in
           let fits : a ≤ length s = omega arith in
           let long = limits .0 in
-          let last : length (drop b s) ≤ 4096 = simp length-drop (omega arith) in
+          let last : length (drop b s) ≤ 32768 = simp length-drop (omega arith) in
           rw (cut-is s 3 a i fits, cut-is s (a + 3) b j k, rest-is s b) (record {
             source = w .source;
             target = w .target;

@@ -174,15 +174,17 @@ maps-alike b ib m z (k ∷ l) h =
     let w = all-true isKind k l h in
     λ i. mapped-is b ib m z k (ltb-true _ _ (w .0)) i ∷ maps-alike b ib m z l (w .1) i
 
-module _ (s is t it b ib : List ℕ) (f : Translation) (z : Prepared s is t it b ib f) where
-  arguments-map : (k n : ℕ) → k < 32 → n < 256 → mappedBefore s (getD is (productionKey k n) 0) b ib ≡ mappedArguments f k n
-  unfolding mappedBefore mappedArguments
-  arguments-map k n h j = rw (← z .source .arguments k n h j) (go (argumentsOf (f .source) k n) refl)
-    where
-      go : (o : Option (List ℕ)) → argumentsOf (f .source) k n ≡ o → map (mappedAt b ib) (Option·getD o []) ≡ map (mapped (f .body)) (Option·getD o [])
-      go none e = refl
-      go (some ks) e = maps-alike b ib (f .body) (z .body) ks (arguments-whole s (f .source) (z .source .entries) k n ks e .1)
+-- What is looked up for the arguments of a production is what they map to.
+pub arguments-map : (s is b ib : List ℕ) (f : Translation) → Indexed is s (f .source) → IndexedItems ib b (f .body)
+    → (k n : ℕ) → k < 32 → n < 256 → mappedBefore s (getD is (productionKey k n) 0) b ib ≡ mappedArguments f k n
+unfolding mappedBefore mappedArguments
+arguments-map s is b ib f x y k n h j = rw (← x .arguments k n h j) (go (argumentsOf (f .source) k n) refl)
+  where
+    go : (o : Option (List ℕ)) → argumentsOf (f .source) k n ≡ o → map (mappedAt b ib) (Option·getD o []) ≡ map (mapped (f .body)) (Option·getD o [])
+    go none e = refl
+    go (some ks) e = maps-alike b ib (f .body) y ks (arguments-whole s (f .source) (x .entries) k n ks e .1)
 
+module _ (s is t it b ib : List ℕ) (f : Translation) (z : Prepared s is t it b ib f) where
   -- code_fits
   module _ (bytes : (i : ℕ) → getD b i 0 < 256) (p e : ℕ) (c : IsClause b p) (ee : e ≡ fieldEnd b p) where
     module _ (kinds : List ℕ) (ek : kinds ≡ mappedBefore s (getD is (keyAt 0x22 b p) 0) b ib) (kind : ℕ) (em : kind ≡ mappedAt b ib (getD b (p + 3) 0)) where
@@ -191,7 +193,7 @@ module _ (s is t it b ib : List ℕ) (f : Translation) (z : Prepared s is t it b
       clause-read =
           let k : kinds ≡ mappedArguments f (getD b (p + 3) 0) (getD b (p + 4) 0) =
           ek ∙ (ap (λ (j : ℕ). mappedBefore s (getD is j 0) b ib) (clause-key b p c)
-          ∙ arguments-map (getD b (p + 3) 0) (getD b (p + 4) 0) (c .result) (bytes (p + 4))) in
+          ∙ arguments-map s is b ib f (z .source) (z .body) (getD b (p + 3) 0) (getD b (p + 4) 0) (c .result) (bytes (p + 4))) in
           let m : kind ≡ mapped (f .body) (getD b (p + 3) 0) = em ∙ mapped-is b ib (f .body) (z .body) (getD b (p + 3) 0) (c .result) in
           let u : cut b (p + 5) e ≡ slice (p + 5) (fieldEnd b p) b = cut-is b (p + 5) e (code-cut b p e c ee .0) (code-cut b p e c ee .1) ∙ ap (λ (j : ℕ). slice (p + 5) j b) ee in
           rw (clause-is b p c, k, m, u)

@@ -6,10 +6,10 @@ use mathlib.Core.Bool.{true}
 use mathlib.Core.Option.{some, Option·getD}
 use native.Mathlib.Omega.{arith}
 use native.Mathlib.Numerals.{add-one}
-use lib.ListN.{length, getD}
-use lib.Seq.{slice}
-use lib.Dec.{eqb}
-use borrow.Author.Tests.{eq-eqb, ne-eqb, eqb-false}
+use lib.ListN.{List·getD-eq-default, set, length, getD}
+use lib.Seq.{slice, getD-set-same, getD-set-other}
+use lib.Dec.{ltb, eqb}
+use borrow.Author.Tests.{eq-eqb, ne-eqb, eqb-true, eqb-false, ltb-true, ltb-false}
 use Rattle.fields.specs.Fields.{pairAt}
 use Rattle.fields.specs.Lists.{first}
 use Rattle.fields.specs.Inner.Places.{fieldEnd, places, keyAt}
@@ -43,7 +43,7 @@ groups s = record {
 }
 
 -- The index that was built.
-module _ (s index : List ℕ) (bytes : (i : ℕ) → getD s i 0 < 256) (short : length s ≤ 4096) (long : length index ≡ 8224)
+module _ (s index : List ℕ) (bytes : (i : ℕ) → getD s i 0 < 256) (short : length s ≤ 32768) (long : length index ≡ 8224)
     (zeros : (j : ℕ) → getD index j 0 ≡ 0) (b : Body) (e : bodyOf s ≡ some b) where
   abbrev built : List ℕ
   built = putAll 0x22 s index (places s)
@@ -141,3 +141,25 @@ mapped-kind s index z k h =
     let n : getD index k 0 ≡ 0 → ⊥ = eqb-false _ _ e in
     let i : 0 < getD index k 0 = omega arith in
     rw e (z .target k h i .1))
+
+-- map_kinds: the table holds what the kinds below n map to.
+abbrev pub Mapped : List ℕ → List ℕ → List ℕ → ℕ → Type 0
+Mapped s index table n = (k : ℕ) → k < n → getD table k 0 ≡ mappedAt s index k
+
+pub mapped-more : (s index table : List ℕ) (n i v : ℕ) → i ≡ n → n < 32 → length table ≡ 32 → v ≡ mappedAt s index n → Mapped s index table n
+    → Mapped s index (set table i v) (n + 1)
+mapped-more s index table n i v ei h l e m k j =
+    by-test (eqb k n)
+    (λ d.
+    let o : k ≡ i = eqb-true k n d ∙ sym ei in
+    let r : i < length table = omega (arith, ei, h, l) in
+    ap (λ (x : ℕ). getD (set table i v) x 0) o ∙ (getD-set-same table i v 0 r ∙ (e ∙ ap (mappedAt s index) (sym (eqb-true k n d)))))
+    (λ d.
+    let o : k ≡ n → ⊥ = eqb-false k n d in
+    getD-set-other table i k v 0 (λ x. o (x ∙ ei)) ∙ m k (omega arith))
+
+pub mapped-below : (s index table : List ℕ) → SoundItems index s → length table ≡ 32 → Mapped s index table 32 → (k : ℕ) → getD table k 0 < 32
+mapped-below s index table z l m k =
+    by-test (ltb k 32)
+    (λ d. let h : k < 32 = ltb-true k 32 d in rw (m k h) (mapped-kind s index z k h))
+    (λ d. let h : length table ≤ k = omega (arith, ltb-false k 32 d) in rw (List·getD-eq-default table 0 h) (omega arith))

@@ -38,7 +38,7 @@ module _ (first : ℕ) (s index : List ℕ) (p tag : ℕ) (et : tag ≡ getD s p
     known-out h = sym (rw (List·getD-eq-default {A = ℕ} index 0 {n = key} h)) ∙ known-in
 
 -- A place is there if it is not 0.
-there : {A : Type 0} (before : ℕ → Option A) → before 0 ≡ none → ((p : ℕ) → isSome (before (suc p)) ≡ true)
+pub there : {A : Type 0} (before : ℕ → Option A) → before 0 ≡ none → ((p : ℕ) → isSome (before (suc p)) ≡ true)
     → (place : ℕ) → not (eqb place 0) ≡ isSome (before place)
 there before empty full zero = rw empty
 there before empty full (suc p) = rw (ne-eqb (suc p) 0 (λ h. omega arith)) (sym (full p))

@@ -47,7 +47,7 @@ fn check_prepared(
 }
 
 // The three parts are well formed: 5 to 7, through an index of each.
-fn check_formed(source: &[u8], target: &[u8], body: &[u8]) -> Answer
+pub fn check_formed(source: &[u8], target: &[u8], body: &[u8]) -> Answer
     requires { ⌜ ((f : Translation) × Pieces (now source) (now target) (now body) f) ⌝ }
     ensures { λ r. ⌜ ((f : Translation) → Pieces (now (source .entry)) (now (target .entry)) (now (body .entry)) f
         → r .outcome ≡ checked (wellFormed f)) ⌝ }

@@ -14,7 +14,7 @@ use fields::walk::field_end;
 use fields::walk::key_at;
 
 // The entry at p is of the first tag, or its key stands in the index.
-fn known_at(s: &[u8], p: usize, first: u8, index: &[u16]) -> bool
+pub fn known_at(s: &[u8], p: usize, first: u8, index: &[u16]) -> bool
     requires { ⌜ p ≤ length (now s) ⌝ }
     ensures { λ r. ⌜ r ≡ knownAt first (now (s .entry)) (now (index .entry)) p ⌝ }
 {

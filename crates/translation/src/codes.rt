@@ -48,7 +48,7 @@ fn map_part(
 
 // Puts what the arguments of the production of the clause at p map to in front of the table, and says how many they
 // are.
-fn map_arguments(
+pub fn map_arguments(
     source: &[u8],
     sources: &[u16],
     body: &[u8],

@@ -12,7 +12,7 @@ use reader::node::place_at;
 
 // Builds the index of a body in an index that is all zero.
 pub fn build_items(body: &[u8], index: &mut [u16])
-    requires { ⌜ (length (now body) ≤ 4096) × (length (now index) ≡ 8224) × ((j : ℕ) → getD (now index) j 0 ≡ 0) ⌝ }
+    requires { ⌜ (length (now body) ≤ 32768) × (length (now index) ≡ 8224) × ((j : ℕ) → getD (now index) j 0 ≡ 0) ⌝ }
     ensures { λ r. ⌜ ((b : Body) → bodyOf (now (body .entry)) ≡ some b → IndexedItems (now (index .exit)) (now (body .entry)) b) ⌝ }
 {
     put_all(body, 0x22, index);
@@ -28,4 +28,16 @@ pub fn map_kind(body: &[u8], index: &[u16], kind: u8) -> u8
         return 0;
     }
     body[place + 3]
+}
+
+// Puts the kind that each kind maps to into a table of 32; 0 where a kind is not mapped.
+pub fn map_kinds(body: &[u8], index: &[u16], mapped: &mut [u8])
+    requires { ⌜ SoundItems (now index) (now body) × (length (now mapped) ≡ 32) ⌝ }
+    ensures { λ r. ⌜ ((k : ℕ) → k < 32 → getD (now (mapped .exit)) k 0 ≡ mappedAt (now (body .entry)) (now (index .entry)) k) × ((k : ℕ) → getD (now (mapped .exit)) k 0 < 32) × (length (now (mapped .exit)) ≡ 32) ⌝ }
+{
+    let mut kind = 0u8;
+    while kind < 32 {
+        mapped[wide(kind)] = map_kind(body, index, kind);
+        kind += 1;
+    }
 }

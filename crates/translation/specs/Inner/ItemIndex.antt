@@ -29,7 +29,7 @@ codeBefore s (suc p) = some (slice (p + 5) (fieldEnd s p) s)
 -- What a lookup may rely on: each place is that of a whole field.
 pub record SoundItems (index s : List ℕ) : Type 0 where
   pub long : length index ≡ 8224
-  pub short : length s ≤ 4096
+  pub short : length s ≤ 32768
   pub target : (k : ℕ) → k < 32 → 0 < getD index (kindKey k) 0
       → (getD index (kindKey k) 0 + 3 < length s) × (byteAt s (getD index (kindKey k) 0 + 3) < 32)
   pub code : (k p : ℕ) → k < 32 → p < 256 → 0 < getD index (productionKey k p) 0

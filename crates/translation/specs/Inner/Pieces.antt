@@ -27,7 +27,7 @@ pub record Pieces (s t b : List ℕ) (f : Translation) : Type 0 where
   pub body : bodyOf b ≡ some (f .body)
   pub source-short : length s ≤ 1024
   pub target-short : length t ≤ 1024
-  pub body-short : length b ≤ 4096
+  pub body-short : length b ≤ 32768
 
 -- What is asked of a translation that is whole: 3 to 7, the last links of the chain of `translationOf`.
 abbrev pub inOrder : Translation → Result Translation

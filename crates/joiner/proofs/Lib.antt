@@ -1,0 +1,4 @@
+pub mod Splices
+pub mod Told
+pub mod Turns
+pub mod Joined

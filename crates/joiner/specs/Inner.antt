@@ -1,0 +1,2 @@
+-- What the join on bytes is told of two translations, and what it puts out.
+pub mod Joining

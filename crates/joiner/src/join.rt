@@ -1,0 +1,133 @@
+// The join of two translations.
+ghost use mathlib.Core.Path.{_≡_};
+ghost use mathlib.Core.Bool.{true};
+ghost use Prim.Native.Nat.{_≤_};
+ghost use lib.ListN.{length};
+ghost use Rattle.fields.specs.Outcome.{value};
+ghost use Rattle.language.specs.LanguageFile.{encodeLanguage};
+ghost use Rattle.translation.specs.Translation.{Translation};
+ghost use Rattle.translation.specs.TranslationFile.{translationOf};
+ghost use Rattle.translation.specs.Operations.{checkTranslation};
+ghost use Rattle.operators.specs.Algebra.{joinFits, joined, translationJoin};
+ghost use Rattle.operators.specs.Inner.Parts.{Stores};
+ghost use Rattle.operators.specs.Inner.Values.{Gives, translationBytes};
+ghost use Rattle.values.specs.Inner.Spelt.{Spelt};
+ghost use Rattle.joiner.specs.Inner.Joining.{Held, Fitted, joinedBody, measured};
+use super::body::join_items;
+use fields::outcome::Outcome;
+use fields::outcome::Reason;
+use operators::copy::Stored;
+use operators::within::lies_within;
+use reader::index::build;
+use translation::check::check_translation;
+use translation::index::build_items;
+use translation::index::map_kinds;
+use translation::parts::accepted_parts;
+use values::assemble::assemble;
+
+// The body of the join of two translations that fit, by the source, target and body of the first and the source and
+// body of the second: through an index of each.
+fn join_body(s: &[u8], t: &[u8], x: &[u8], u: &[u8], y: &[u8], out: &mut [u8]) -> Stored
+    requires { ⌜ (length (now out) ≤ 4096) × ((f g : Translation) × Fitted (now s) (now t) (now x) (now u) (now y) f g) ⌝ }
+    ensures { λ r. ⌜ ((f g : Translation) → Fitted (now (s .entry)) (now (t .entry)) (now (x .entry)) (now (u .entry)) (now (y .entry)) f g
+        → Stores (joinedBody f g) (now (out .entry)) (now (out .exit)) 0 r) ⌝ }
+{
+    let mut index = [0u16; 8224];
+    build(s, &mut index);
+    let mut places = [0u16; 8224];
+    build(t, &mut places);
+    let mut clauses = [0u16; 8224];
+    build_items(x, &mut clauses);
+    let mut mapped = [0u8; 32];
+    map_kinds(x, &clauses, &mut mapped);
+    let mut sources = [0u16; 8224];
+    build(u, &mut sources);
+    let mut items = [0u16; 8224];
+    build_items(y, &mut items);
+    join_items(
+        s,
+        &index,
+        t,
+        &places,
+        x,
+        &clauses,
+        &mapped,
+        u,
+        &sources,
+        y,
+        &items,
+        out,
+    )
+}
+
+// The length of a joined value, or 11 where the check refuses it: a code of it goes too deep.
+fn measure(value: &[u8]) -> Outcome
+    ensures { λ r. ⌜ r ≡ measured (now (value .entry)) (checkTranslation (now (value .entry))) ⌝ }
+{
+    let answer = check_translation(value);
+    let outcome = answer.outcome;
+    match outcome {
+        Outcome::Accepted(_) => Outcome::Accepted(value.len()),
+        Outcome::Refused(_) => Outcome::Refused(Reason::Limit),
+    }
+}
+
+// The joined value put together: 11 where it exceeds a limit.
+fn finish(source: &[u8], target: &[u8], body: &[u8], out: &mut [u8]) -> Outcome
+    requires { ⌜ (length (now source) ≤ 1024) × (length (now target) ≤ 1024) × (4096 ≤ length (now out)) ⌝ }
+    ensures { λ r. ⌜ ((f g : Translation) → Held f → Held g → joinFits f g ≡ true → now (source .entry) ≡ encodeLanguage (g .source) → now (target .entry) ≡ encodeLanguage (f .target)
+        → now (body .entry) ≡ joinedBody f g → Gives (translationBytes (value (joined f g))) (now (out .entry)) (now (out .exit)) r) ⌝ }
+{
+    match assemble(source, target, body, out) {
+        Outcome::Accepted(n) => measure(&out[..n]),
+        Outcome::Refused(reason) => Outcome::Refused(reason),
+    }
+}
+
+// The join of two translations that fit: 11 where it exceeds a limit.
+fn join_fitting(s: &[u8], t: &[u8], x: &[u8], u: &[u8], y: &[u8], out: &mut [u8]) -> Outcome
+    requires { ⌜ (4096 ≤ length (now out)) × ((f g : Translation) × Fitted (now s) (now t) (now x) (now u) (now y) f g) ⌝ }
+    ensures { λ r. ⌜ ((f g : Translation) → Fitted (now (s .entry)) (now (t .entry)) (now (x .entry)) (now (u .entry)) (now (y .entry)) f g
+        → Gives (translationBytes (value (joined f g))) (now (out .entry)) (now (out .exit)) r) ⌝ }
+{
+    let mut body = [0u8; 4096];
+    let Stored::To(n) = join_body(s, t, x, u, y, &mut body) else {
+        return Outcome::Refused(Reason::Limit);
+    };
+    finish(u, t, &body[..n], out)
+}
+
+// The join of the parts of two translations: 13 where the second's target does not lie within the first's source.
+fn join_parts(s: &[u8], t: &[u8], x: &[u8], u: &[u8], v: &[u8], y: &[u8], out: &mut [u8]) -> Outcome
+    requires { ⌜ ((f : Translation) × Spelt (now s) (now t) (now x) f) × ((g : Translation) × Spelt (now u) (now v) (now y) g) × (4096 ≤ length (now out)) ⌝ }
+    ensures { λ r. ⌜ ((f g : Translation) → Spelt (now (s .entry)) (now (t .entry)) (now (x .entry)) f → Spelt (now (u .entry)) (now (v .entry)) (now (y .entry)) g
+        → Gives (translationBytes (translationJoin f g)) (now (out .entry)) (now (out .exit)) r) ⌝ }
+{
+    if !lies_within(v, s, 0x11) {
+        return Outcome::Refused(Reason::JoinUnfit);
+    }
+    join_fitting(s, t, x, u, y, out)
+}
+
+// The join of a after b: b runs first. 13 where it does not fit, 11 where its value exceeds a limit.
+pub fn join(a: &[u8], b: &[u8], out: &mut [u8]) -> Outcome
+    requires { ⌜ ((f : Translation) × (translationOf (now a) ≡ value f)) × ((g : Translation) × (translationOf (now b) ≡ value g)) × (4096 ≤ length (now out)) ⌝ }
+    ensures { λ r. ⌜ ((f g : Translation) → translationOf (now (a .entry)) ≡ value f → translationOf (now (b .entry)) ≡ value g
+        → Gives (translationBytes (translationJoin f g)) (now (out .entry)) (now (out .exit)) r) ⌝ }
+{
+    let first = accepted_parts(a);
+    let c = first.source_end;
+    let d = first.target_end;
+    let second = accepted_parts(b);
+    let p = second.source_end;
+    let q = second.target_end;
+    join_parts(
+        &a[3..c],
+        &a[c + 3..d],
+        &a[d..],
+        &b[3..p],
+        &b[p + 3..q],
+        &b[q..],
+        out,
+    )
+}

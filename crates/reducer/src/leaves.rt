@@ -1,0 +1,89 @@
+// The terms without operands, and what is kept in the store.
+use crate::places::Places;
+use crate::places::end_of;
+use crate::places::slot;
+use crate::places::start_of;
+use crate::signs::Sort;
+use crate::worked::Worked;
+use crate::worked::finish;
+use fields::bytes::byte_at;
+use fields::bytes::wide;
+use fields::outcome::Outcome;
+use fields::outcome::Reason;
+use operators::copy::put;
+use pack::parts::language_at;
+ghost use mathlib.Core.Path.{_≡_};
+ghost use mathlib.Core.List.{_++_};
+ghost use mathlib.Core.Option.{some};
+ghost use Prim.Native.Nat.{_+_, _<_, _≤_};
+ghost use lib.ListN.{length, take, getD, getElem?};
+ghost use lib.Seq.{slice};
+ghost use Rattle.fields.specs.Outcome.{value};
+ghost use Rattle.fields.specs.declared.outcome.Reason.the-variants.{Unbound};
+ghost use Rattle.language.specs.Language.{Language};
+ghost use Rattle.pack.specs.Terms.{languages};
+ghost use Rattle.pack.specs.Pack.{Pack, packOf};
+ghost use Rattle.operators.specs.Inner.Values as Values;
+ghost use Rattle.reducer.specs.Evaluation.{Value, Environment, there};
+ghost use Rattle.reducer.specs.Inner.Sorts.{sortOf, valueIn, bytesOf};
+ghost use Rattle.reducer.specs.Inner.Reducing.{Held, Wrote};
+
+// Copies the value in the first n bytes into the store, from top on.
+pub fn save(value: &[u8], n: usize, store: &mut [u8], top: usize)
+    requires { ⌜ (n ≤ length (now value)) × (top + n ≤ length (now store)) ⌝ }
+    ensures { λ _. ⌜ (take (top + n) (now (store .exit)) ≡ take top (now (store .entry)) ++ take n (now (value .entry)))
+        × (length (now (store .exit)) ≡ length (now (store .entry))) ⌝ }
+{
+    put(value, 0, n, store, top);
+}
+
+// Copies the value of a sort that stands from start up to end.
+pub fn copied(sort: Sort, bytes: &[u8], start: usize, end: usize, out: &mut [u8]) -> Outcome
+    requires { ⌜ ((v : Value (sortOf sort)) × (valueIn (sortOf sort) (slice start end (now bytes)) ≡ value v))
+        × (start ≤ end) × (end ≤ length (now bytes)) × (4096 ≤ length (now out)) ⌝ }
+    ensures { λ r. ⌜ ((v : Value (sortOf sort)) → valueIn (sortOf sort) (slice start end (now (bytes .entry))) ≡ value v
+        → Values.Gives (bytesOf (sortOf sort) (value v)) (now (out .entry)) (now (out .exit)) r) ⌝ }
+{
+    match sort {
+        Sort::Language => values::copy::language(&bytes[start..end], out),
+        Sort::Translation => values::copy::translation(&bytes[start..end], out),
+    }
+}
+
+// A constant: the language of the pack that the byte behind the sign numbers.
+pub fn constant(pack: &[u8], term: &[u8], at: usize, out: &mut [u8]) -> Worked
+    requires { ⌜ ((p : Pack) × (packOf (now pack) ≡ value p) × ((l : Language) × (getElem? (p .languages) (getD (now term) (at + 1) 0) ≡ some l)))
+        × (at + 2 ≤ length (now term)) × (4096 ≤ length (now out)) ⌝ }
+    ensures { λ r. ⌜ ((p : Pack) (l : Language) → packOf (now (pack .entry)) ≡ value p → getElem? (p .languages) (getD (now (term .entry)) (at + 1) 0) ≡ some l
+        → Wrote languages (value l) (now (out .entry)) (now (out .exit)) (at + 2) r) ⌝ }
+{
+    let place = language_at(pack, wide(byte_at(term, at + 1)));
+    finish(
+        copied(Sort::Language, pack, place.start, place.end, out),
+        at + 2,
+    )
+}
+
+// A variable: the value that is bound to the number behind the sign.
+pub fn variable(
+    sort: Sort,
+    term: &[u8],
+    at: usize,
+    places: Places,
+    store: &[u8],
+    top: usize,
+    out: &mut [u8],
+) -> Worked
+    requires { ⌜ ((e : Environment) × Held e places (take top (now store))) × (getD (now term) (at + 1) 0 < 16)
+        × (at + 2 ≤ length (now term)) × (4096 ≤ length (now out)) ⌝ }
+    ensures { λ r. ⌜ ((e : Environment) → Held e places (take top (now (store .entry)))
+        → Wrote (sortOf sort) (there Unbound (e (sortOf sort) (getD (now (term .entry)) (at + 1) 0))) (now (out .entry)) (now (out .exit)) (at + 2) r) ⌝ }
+{
+    let number = slot(sort, wide(byte_at(term, at + 1)));
+    let start = start_of(places, number);
+    if start == 0 {
+        return Worked::Refused(Reason::Unbound);
+    }
+    let end = end_of(places, number);
+    finish(copied(sort, store, start - 1, end, out), at + 2)
+}

@@ -1,0 +1,106 @@
+// The operation reduce (paper 01, "Operations and their refusals").
+use crate::places::nothing;
+use crate::terms::translation_term;
+use crate::worked::Worked;
+use fields::outcome::Answer;
+use fields::outcome::Outcome;
+use fields::outcome::Reason;
+use fields::outcome::accept;
+use fields::outcome::refuse;
+use operators::copy::put;
+use pack::check::check_pack;
+use pack::parts::term_start;
+use pack::term::check_term;
+ghost use mathlib.Core.Path.{_≡_};
+ghost use mathlib.Core.List.{List, []};
+ghost use Prim.Native.Nat.{ℕ, _≤_};
+ghost use lib.ListN.{length, replicate};
+ghost use Rattle.fields.specs.Outcome.{Result, value, checked, written, outputAfter};
+ghost use Rattle.translation.specs.Translation.{Translation};
+ghost use Rattle.pack.specs.Terms.{translations};
+ghost use Rattle.pack.specs.Pack.{packOf, termOf};
+ghost use Rattle.reducer.specs.Evaluation.{constantsOf, evaluate, nothingBound};
+ghost use Rattle.reducer.specs.Operations as Operations;
+ghost use Rattle.reducer.specs.Operations.{Ready};
+ghost use Rattle.reducer.specs.Inner.Reducing.{Says, fileOf};
+
+// 1 to 4, 8 and 9: the pack, its term, and the lent room.
+fn ready(pack: &[u8], workspace: usize, output: usize) -> Answer
+    ensures { λ r. ⌜ r .outcome ≡ checked (Operations.ready (now (pack .entry)) workspace output) ⌝ }
+{
+    let opened = check_pack(pack);
+    let outcome = opened.outcome;
+    let Outcome::Accepted(_) = outcome else {
+        return opened;
+    };
+    let read = check_term(pack);
+    let outcome = read.outcome;
+    let Outcome::Accepted(_) = outcome else {
+        return read;
+    };
+    if workspace < 65536 {
+        return refuse(Reason::Lent);
+    }
+    if output < 4096 {
+        return refuse(Reason::Lent);
+    }
+    accept(0)
+}
+
+// The term of a pack, worked out over the workspace into the buffer.
+fn work(pack: &[u8], workspace: &mut [u8], buffer: &mut [u8]) -> Worked
+    requires { ⌜ ((d : Ready) × (packOf (now pack) ≡ value (d .pack)) × (termOf (d .pack) ≡ value (d .term)))
+        × (65536 ≤ length (now workspace)) × (4096 ≤ length (now buffer)) ⌝ }
+    ensures { λ r. ⌜ ((d : Ready) → packOf (now (pack .entry)) ≡ value (d .pack) → termOf (d .pack) ≡ value (d .term)
+        → Says translations (evaluate (constantsOf (d .pack)) nothingBound (d .term)) (d .pack .term) [] (now (buffer .exit)) r)
+        × (length (now (workspace .exit)) ≡ length (now (workspace .entry))) ⌝ }
+{
+    let start = term_start(pack);
+    translation_term(pack, &pack[start..], 0, 12, nothing(), workspace, 0, buffer)
+}
+
+// What was worked out, written to the output, which changes only where it is accepted.
+fn deliver(worked: Worked, buffer: &[u8], output: &mut [u8]) -> Answer
+    requires { ⌜ ((o : Result Translation) × ((term : List ℕ) × ((rest : List ℕ) × Says translations o term rest (now buffer) worked))) × (4096 ≤ length (now output)) ⌝ }
+    ensures { λ r. ⌜ ((o : Result Translation) (term rest : List ℕ) → Says translations o term rest (now (buffer .entry)) worked
+        → (r .outcome ≡ written (fileOf o)) × (now (output .exit) ≡ outputAfter (now (output .entry)) (fileOf o))) ⌝ }
+{
+    match worked {
+        Worked::Refused(reason) => refuse(reason),
+        Worked::To(n, _) => {
+            put(buffer, 0, n, output, 0);
+            accept(n)
+        }
+    }
+}
+
+// Every byte is set to zero.
+fn clear(workspace: &mut [u8])
+    ensures { λ _. ⌜ now (workspace .exit) ≡ replicate (length (now (workspace .entry))) 0 ⌝ }
+{
+    let mut i = 0;
+    while i < workspace.len() {
+        workspace[i] = 0;
+        i += 1;
+    }
+}
+
+// Reduce: the translation that the pack's term comes to, or the refusal.
+pub fn reduce(pack: &[u8], workspace: &mut [u8], output: &mut [u8]) -> Answer
+    ensures { λ r. ⌜ (r .outcome ≡ Operations.reduce (now (pack .entry)) (now (workspace .entry)) (now (output .entry)) .outcome)
+        × (now (output .exit) ≡ Operations.reduce (now (pack .entry)) (now (workspace .entry)) (now (output .entry)) .output)
+        × (now (workspace .exit) ≡ Operations.reduce (now (pack .entry)) (now (workspace .entry)) (now (output .entry)) .workspace) ⌝ }
+{
+    let readied = ready(pack, workspace.len(), output.len());
+    let outcome = readied.outcome;
+    match outcome {
+        Outcome::Refused(_) => readied,
+        Outcome::Accepted(_) => {
+            let mut buffer = [0u8; 4096];
+            let worked = work(pack, workspace, &mut buffer);
+            let answer = deliver(worked, &buffer, output);
+            clear(workspace);
+            answer
+        }
+    }
+}

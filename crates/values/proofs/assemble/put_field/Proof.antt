@@ -1,0 +1,15 @@
+use Rattle.values.proofs.Given.{field-stored}
+use borrow.Author.Needs.{needs}
+use Rattle.values.proofs.assemble.put_field.Statement.{statement}
+use Rattle.values.proofs.assemble.put_field.Tie as tie
+use Rattle.values.proofs.assemble.put_field.Reads as reads
+use Rattle.values.proofs.assemble.put_field.Lts as lts
+use Rattle.operators.proofs.copy.put_both.Reads as put-both-reads
+
+returns : tie.Need-returns
+returns c = field-stored _ (c .before .before .before .before .before .before .before .args .s .now) _ _ _ _ (c .before .before .put-both .ensures)
+
+pub put-field-spec : {M : Type 1} → statement M
+put-field-spec =
+    tie.close
+    (tie.spec (λ c. search needs) (λ c. search needs) (λ c. search needs) (λ c κs. search needs) (λ c. search needs) returns)

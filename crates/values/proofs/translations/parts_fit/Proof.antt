@@ -1,0 +1,37 @@
+use borrow.Author.Tests.{not-true, not-false}
+use Rattle.values.proofs.TranslationLaws.{source-sorted, target-sorted, body-sorted, sources-unfit, targets-unfit, all-fit}
+use Rattle.values.proofs.translations.parts_fit.Statement.{statement}
+use Rattle.values.proofs.translations.parts_fit.Tie as tie
+use Rattle.values.proofs.translations.parts_fit.Reads as reads
+use Rattle.values.proofs.translations.parts_fit.Lts as lts
+use Rattle.operators.proofs.fit.languages_fit.Reads as languages-fit-reads
+use Rattle.operators.proofs.within.agree.Reads as agree-reads
+
+languages-fit-requires : tie.Need-languages-fit-requires
+languages-fit-requires c κs = (source-sorted _ _ _ _ (c .before .before .before .before .before .before .pre .0 .1), source-sorted _ _ _ _ (c .before .before .before .before .before .before .pre .1 .1))
+
+returns : tie.Need-returns
+returns c = λ f g p q. sources-unfit _ _ _ _ _ _ f g p q _ (c .before .languages-fit .ensures) (not-true _ (c .if1 .taken))
+
+languages-fit-requires-2 : tie.Need-languages-fit-requires-2
+languages-fit-requires-2 c κs = (target-sorted _ _ _ _ (c .before .before .before .before .before .before .before .before .pre .0 .1), target-sorted _ _ _ _ (c .before .before .before .before .before .before .before .before .pre .1 .1))
+
+returns-2 : tie.Need-returns-2
+returns-2 c = λ f g p q. targets-unfit _ _ _ _ _ _ f g p q _ (c .before .before .before .languages-fit .ensures) (not-false _ (c .before .before .if1 .left)) _ (c .before .languages-fit2 .ensures) (not-true _ (c .if2 .taken))
+
+agree-requires : tie.Need-agree-requires
+agree-requires c κs = (body-sorted _ _ _ _ (c .before .before .before .before .before .before .before .before .before .before .pre .0 .1), body-sorted _ _ _ _ (c .before .before .before .before .before .before .before .before .before .before .pre .1 .1))
+
+returns-3 : tie.Need-returns-3
+returns-3 c = λ f g p q. all-fit _ _ _ _ _ _ f g p q _ (c .before .before .before .before .languages-fit .ensures) (not-false _ (c .before .before .before .if1 .left)) _ (c .before .before .languages-fit2 .ensures) (not-false _ (c .before .if2 .left)) _ (c .agree .ensures)
+
+pub parts-fit-spec : {M : Type 1} → statement M
+parts-fit-spec =
+    tie.close
+    (tie.spec
+    languages-fit-requires
+    returns
+    languages-fit-requires-2
+    returns-2
+    agree-requires
+    returns-3)

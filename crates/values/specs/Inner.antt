@@ -1,0 +1,4 @@
+pub mod Assembled
+pub mod Spelt
+pub mod Kept
+pub mod SameItems
