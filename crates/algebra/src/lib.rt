@@ -1,60 +1,15 @@
 // The C interface: each operation answers with its number. A slice is a pointer and a length.
 ghost use mathlib.Core.Path.{_≡_};
-ghost use Rattle.fields.specs.Outcome.{numberOf, lengthOf, reasonNumber};
+ghost use Rattle.fields.specs.Outcome.{numberOf, lengthOf};
 ghost use Rattle.language.specs.Operations.{checkLanguage};
 ghost use Rattle.reader.specs.Operations.{checkTree};
 ghost use Rattle.translation.specs.Operations.{checkTranslation, runTree};
-use fields::outcome::Outcome;
-use fields::outcome::Reason;
+use fields::outcome::length_of;
+use fields::outcome::number;
 use language::check::check_language;
 use reader::tree::check_tree;
 use runner::run::run;
 use translation::check::check_translation;
-
-// The number of a refusal.
-fn reason_number(reason: Reason) -> u32
-    ensures { λ r. ⌜ r ≡ reasonNumber reason ⌝ }
-{
-    match reason {
-        Reason::TooLong => 1,
-        Reason::Broken => 2,
-        Reason::Order => 3,
-        Reason::Clash => 4,
-        Reason::Mapping => 5,
-        Reason::Clauses => 6,
-        Reason::Code => 7,
-        Reason::Term => 8,
-        Reason::Lent => 9,
-        Reason::Unbound => 10,
-        Reason::Limit => 11,
-        Reason::SumUnfit => 12,
-        Reason::JoinUnfit => 13,
-        Reason::Root => 14,
-        Reason::Tree => 15,
-        Reason::Levels => 16,
-        Reason::Output => 17,
-    }
-}
-
-// The number of an outcome: 0 where it is accepted.
-fn number(outcome: Outcome) -> u32
-    ensures { λ r. ⌜ r ≡ numberOf outcome ⌝ }
-{
-    match outcome {
-        Outcome::Accepted(length) => 0,
-        Outcome::Refused(reason) => reason_number(reason),
-    }
-}
-
-// The length of an outcome: 0 where it is refused.
-fn length_of(outcome: Outcome) -> u64
-    ensures { λ r. ⌜ r ≡ lengthOf outcome ⌝ }
-{
-    match outcome {
-        Outcome::Accepted(length) => length as u64,
-        Outcome::Refused(reason) => 0,
-    }
-}
 
 // Check a language.
 #[no_mangle]

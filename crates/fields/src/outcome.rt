@@ -1,5 +1,6 @@
 // What an operation answers. `specs/Outcome.antt` gives each case its number and its length.
 ghost use mathlib.Core.Path.{_≡_};
+ghost use Rattle.fields.specs.Outcome.{numberOf, lengthOf, reasonNumber};
 
 // Why an operation refuses: 1 to 17, in this order.
 pub enum Reason {
@@ -48,5 +49,50 @@ pub fn accept(length: usize) -> Answer
 {
     Answer {
         outcome: Outcome::Accepted(length),
+    }
+}
+
+// The number of a refusal.
+fn reason_number(reason: Reason) -> u32
+    ensures { λ r. ⌜ r ≡ reasonNumber reason ⌝ }
+{
+    match reason {
+        Reason::TooLong => 1,
+        Reason::Broken => 2,
+        Reason::Order => 3,
+        Reason::Clash => 4,
+        Reason::Mapping => 5,
+        Reason::Clauses => 6,
+        Reason::Code => 7,
+        Reason::Term => 8,
+        Reason::Lent => 9,
+        Reason::Unbound => 10,
+        Reason::Limit => 11,
+        Reason::SumUnfit => 12,
+        Reason::JoinUnfit => 13,
+        Reason::Root => 14,
+        Reason::Tree => 15,
+        Reason::Levels => 16,
+        Reason::Output => 17,
+    }
+}
+
+// The number of an outcome: 0 where it is accepted.
+pub fn number(outcome: Outcome) -> u32
+    ensures { λ r. ⌜ r ≡ numberOf outcome ⌝ }
+{
+    match outcome {
+        Outcome::Accepted(length) => 0,
+        Outcome::Refused(reason) => reason_number(reason),
+    }
+}
+
+// The length of an outcome: 0 where it is refused.
+pub fn length_of(outcome: Outcome) -> u64
+    ensures { λ r. ⌜ r ≡ lengthOf outcome ⌝ }
+{
+    match outcome {
+        Outcome::Accepted(length) => length as u64,
+        Outcome::Refused(reason) => 0,
     }
 }

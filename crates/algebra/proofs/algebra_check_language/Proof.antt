@@ -5,7 +5,7 @@ use Rattle.algebra.proofs.algebra_check_language.Statement.{statement}
 use Rattle.algebra.proofs.algebra_check_language.Tie as tie
 use Rattle.algebra.proofs.algebra_check_language.Reads as reads
 use Rattle.algebra.proofs.algebra_check_language.Lts as lts
-use Rattle.algebra.proofs.number.Reads as number-reads
+use Rattle.fields.proofs.outcome.number.Reads as number-reads
 use Rattle.language.proofs.check.check_language.Reads as check-language-reads
 
 returns : tie.Need-returns

@@ -5,7 +5,7 @@ use Rattle.algebra.proofs.algebra_check_translation.Statement.{statemen
 use Rattle.algebra.proofs.algebra_check_translation.Tie as tie
 use Rattle.algebra.proofs.algebra_check_translation.Reads as reads
 use Rattle.algebra.proofs.algebra_check_translation.Lts as lts
-use Rattle.algebra.proofs.number.Reads as number-reads
+use Rattle.fields.proofs.outcome.number.Reads as number-reads
 use Rattle.translation.proofs.check.check_translation.Reads as check-translation-reads
 
 returns : tie.Need-returns

@@ -5,8 +5,8 @@ use Rattle.algebra.proofs.algebra_run.Statement.{statement}
 use Rattle.algebra.proofs.algebra_run.Tie as tie
 use Rattle.algebra.proofs.algebra_run.Reads as reads
 use Rattle.algebra.proofs.algebra_run.Lts as lts
-use Rattle.algebra.proofs.length_of.Reads as length-of-reads
-use Rattle.algebra.proofs.number.Reads as number-reads
+use Rattle.fields.proofs.outcome.length_of.Reads as length-of-reads
+use Rattle.fields.proofs.outcome.number.Reads as number-reads
 use Rattle.runner.proofs.run.run.Reads as run-reads
 
 returns : tie.Need-returns

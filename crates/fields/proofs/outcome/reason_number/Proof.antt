@@ -1,10 +1,10 @@
 use mathlib.Core.Path.{ap, sym}
 use Rattle.fields.specs.Outcome.{reasonNumber}
 use borrow.Author.Needs.{needs}
-use Rattle.algebra.proofs.reason_number.Statement.{statement}
-use Rattle.algebra.proofs.reason_number.Tie as tie
-use Rattle.algebra.proofs.reason_number.Reads as reads
-use Rattle.algebra.proofs.reason_number.Lts as lts
+use Rattle.fields.proofs.outcome.reason_number.Statement.{statement}
+use Rattle.fields.proofs.outcome.reason_number.Tie as tie
+use Rattle.fields.proofs.outcome.reason_number.Reads as reads
+use Rattle.fields.proofs.outcome.reason_number.Lts as lts
 
 returns : tie.Need-returns
 returns c = ap reasonNumber (sym (c .enum-told .given .1))
