@@ -1,9 +1,9 @@
 -- What an accepted reduction was made of, and how one is made.
 use Prim.Native.Nat.{ℕ, zero, suc, _+_, _≤_, _<_}
-use mathlib.Core.Path.{_≡_, refl, ap, sym, subst, _∙_}
-use mathlib.Core.Bool.{Bool, true, false, not, _||_}
-use mathlib.Core.Option.{Option, none, some}
-use mathlib.Core.List.{List, [], _∷_, _++_, append-nil}
+use mathlib.Core.Path.{_≡_, refl, ap, sym, _∙_}
+use mathlib.Core.Bool.{Bool, true, false, _||_}
+use mathlib.Core.Option.{Option, some}
+use mathlib.Core.List.{List, [], _++_, append-nil}
 use native.Mathlib.Omega.{arith}
 use lib.ListN.{length, take, drop}
 use lib.Seq.{take-append-seam}
@@ -13,18 +13,17 @@ use Rattle.fields.specs.Fields.{Field}
 use Rattle.fields.specs.declared.outcome.Reason.{Reason}
 use Rattle.fields.specs.declared.outcome.Reason.the-variants.{TooLong, Broken, Order, Clash, Mapping, Clauses, Code, Term as TermRefused, Lent, Unbound, Limit, SumUnfit, JoinUnfit, Root, Tree, Levels, Output}
 use Rattle.fields.specs.declared.outcome.Outcome.the-variants.{Accepted, Refused}
-use Rattle.fields.proofs.Truth.{true-not, none-some}
-use Rattle.fields.proofs.Codec.{refused-value}
+use Rattle.fields.proofs.Truth.{none-some}
 use Rattle.translation.specs.Translation.{Translation}
 use Rattle.translation.specs.TranslationFile.{encodeTranslation}
-use Rattle.translation.proofs.Fitting.{refuse-value}
-use Rattle.pack.specs.Terms.{Sort, translations, Term, writeTerm, termLevels, Parse, readTerm, scoped}
-use Rattle.pack.specs.Pack.{Pack, packOf, packLimit, termLimit, wholeTerm, termOf}
+use Rattle.pack.specs.Terms.{Sort, translations, Term, writeTerm, termLevels, readTerm, scoped}
+use Rattle.pack.specs.Pack.{Pack, packOf, packLimit, termLimit, termOf}
 use Rattle.reducer.specs.Evaluation.{Constants, constantsOf, nothingBound, evaluate}
-use Rattle.reducer.specs.Operations.{Ready, ready, work, reduceBytes, Reduced, reduce}
+use Rattle.reducer.specs.Operations.{ready, work, reduceBytes, Reduced, reduce}
 use Rattle.pack.proofs.TermCodec.{read-write, read-sound}
 use Rattle.pack.proofs.PackCodec.{withTerm, newTerm, pack-term, pack-short, pack-good}
 use Rattle.reducer.proofs.Evaluated.{step-value, value-inj, GoodConstants}
+use Rattle.reducer.proofs.Readied.{whole-term, ready-value}
 use Rattle.laws.specs.Packed.{packed, putOut}
 
 -- No refusal has the number 0.
@@ -73,14 +72,6 @@ term-unique n t u r e =
     pair-first : {A : Type 0} {x y : A} {p q : List ℕ} → _≡_ {A = A × List ℕ} (x, p) (y, q) → x ≡ y
     pair-first q = ap (λ (z : _ × List ℕ). z .0) q
 
-whole-term : (l b : ℕ) (o : Parse (Term translations)) (t : Term translations) → wholeTerm l b o ≡ value t → (o ≡ some (t, [])) × (scoped l b t ≡ true)
-whole-term l b none t e = refused-value e
-whole-term l b (some (u, x ∷ s)) t e = refused-value e
-whole-term l b (some (u, [])) t e =
-    let r = refuse-value (not (scoped l b u)) TermRefused (value u) e in
-    let q : u ≡ t = value-inj (r .1) in
-    (ap (λ (v : Term translations). some (v, [])) q, rw (← q) (true-not (scoped l b u) (r .0)))
-
 -- What an accepted reduction of a pack with this term was made of.
 pub record Reduction (fields : List Field) (term : Term translations) (bytes : List ℕ) : Type 0 where
   pub pack : Pack
@@ -95,17 +86,6 @@ unfolding termOf
 term-value p t u e d =
     let r = whole-term (length (p .languages)) (length (p .bodies)) (readTerm termLimit translations (p .term)) u d in
     (term-unique termLimit t u [] (ap (readTerm termLimit translations) (sym e) ∙ r .0), r .1)
-
--- The pack, the term and the lent room are accepted.
-pub ready-value : (bytes : List ℕ) (w o : ℕ) (r : Ready) → ready bytes w o ≡ value r
-    → (packOf bytes ≡ value (r .pack)) × (termOf (r .pack) ≡ value (r .term)) × ((ltb w 65536 || ltb o 4096) ≡ false)
-unfolding ready
-ready-value bytes w o r e =
-    let a = step-value (packOf bytes) _ e in
-    let b = step-value (termOf (a .0)) _ (a .2) in
-    let c = refuse-value (ltb w 65536 || ltb o 4096) Lent _ (b .2) in
-    let q : record { pack = a .0; term = b .0 } ≡ r = value-inj (c .1) in
-    subst (λ (x : Ready). (packOf bytes ≡ value (x .pack)) × (termOf (x .pack) ≡ value (x .term)) × ((ltb w 65536 || ltb o 4096) ≡ false)) q (a .1, b .1, c .0)
 
 pub reduction : (fields : List Field) (t : Term translations) (w o : ℕ) (bytes : List ℕ) → reduceBytes (packed fields t) w o ≡ value bytes
     → Reduction fields t bytes × ((ltb w 65536 || ltb o 4096) ≡ false)

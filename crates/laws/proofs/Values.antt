@@ -11,7 +11,7 @@ use Rattle.reducer.specs.Evaluation.{constantsOf, nothingBound, evaluate}
 use Rattle.reducer.specs.Operations.{ready, work, reduceBytes}
 use Rattle.pack.proofs.PackCodec.{pack-good}
 use Rattle.reducer.proofs.Evaluated.{step-value, value-inj, GoodConstants, nothing-good, evaluate-good}
-use Rattle.laws.proofs.Reductions.{ready-value}
+use Rattle.reducer.proofs.Readied.{ready-value}
 
 pub reduced-checked : (pack : List ℕ) (workspace output : ℕ) (bytes : List ℕ) → reduceBytes pack workspace output ≡ value bytes
     → checkTranslation bytes ≡ Accepted 0

@@ -4,13 +4,6 @@ use Rattle.reducer.proofs.Copying.{combine-asks, combine-as}
 use borrow.Author.Needs.{needs}
 use Rattle.reducer.proofs.combine.combine.Statement.{statement}
 use Rattle.reducer.proofs.combine.combine.Tie as tie
-use Rattle.reducer.proofs.combine.combine.Reads as reads
-use Rattle.reducer.proofs.combine.combine.Lts as lts
-use Rattle.joiner.proofs.join.join.Reads as join-reads
-use Rattle.values.proofs.languages.sum.Reads as languages-sum-reads
-use Rattle.values.proofs.languages.without.Reads as languages-without-reads
-use Rattle.values.proofs.translations.sum.Reads as translations-sum-reads
-use Rattle.values.proofs.translations.without.Reads as translations-without-reads
 
 without-requires : tie.Need-without-requires
 without-requires c κs = let k = combine-asks (c .before .before .before .before .before .before .before .before .args .operator) Binarys.LanguageWithout (c .before .before .before .before .before .before .before .before .args .a .now) (c .before .before .before .before .before .before .before .before .args .b .now) (c .before .before .before .before .before .before .before .before .args .n) (c .before .before .before .before .before .before .before .before .args .m) (c .before .before .before .enum-told .given .1) (c .before .before .before .before .before .before .before .before .pre .0) (c .before .before .before .before .before .before .before .before .pre .1) in (k .0, k .1, omega (arith, c .before .before .before .before .before .before .before .before .pre .4))

@@ -8,10 +8,6 @@ use Rattle.reducer.proofs.Copying.{value-as, front, body-part, body-sho
 use borrow.Author.Needs.{needs}
 use Rattle.reducer.proofs.combine.made.Statement.{statement}
 use Rattle.reducer.proofs.combine.made.Tie as tie
-use Rattle.reducer.proofs.combine.made.Reads as reads
-use Rattle.reducer.proofs.combine.made.Lts as lts
-use Rattle.pack.proofs.parts.body_at.Reads as body-at-reads
-use Rattle.values.proofs.make.make.Reads as make-reads
 
 make-requires : tie.Need-make-requires
 make-requires c κs = (value-as languages languages _ _ refl (front (c .before .before .before .before .before .before .before .before .before .args .a .now) (c .before .before .before .before .before .before .before .before .before .args .n)) (c .before .before .before .before .before .before .before .before .before .pre .1), value-as languages languages _ _ refl (front (c .before .before .before .before .before .before .before .before .before .args .b .now) (c .before .before .before .before .before .before .before .before .before .args .m)) (c .before .before .before .before .before .before .before .before .before .pre .2), body-part (c .before .before .before .before .before .before .before .before .before .args .pack .now) (c .before .before .before .before .body-at .result .start) (c .before .before .before .before .body-at .result .end) (c .before .before .before .before .body-at .ensures .0) (c .before .before .before .before .body-at .ensures .1) (c .before .before .before .before .before .before .before .before .before .pre .0 .2 .0) (c .before .before .before .before .body-at .ensures .2 (c .before .before .before .before .before .before .before .before .before .pre .0 .0) (c .before .before .before .before .before .before .before .before .before .pre .0 .2 .0) (c .before .before .before .before .before .before .before .before .before .pre .0 .1) (c .before .before .before .before .before .before .before .before .before .pre .0 .2 .1)), body-short (c .before .before .before .before .before .before .before .before .before .args .pack .now) (c .before .before .before .before .before .before .before .before .before .pre .0 .0) (c .before .before .before .before .body-at .result .start) (c .before .before .before .before .body-at .result .end) (c .before .before .before .before .before .before .before .before .before .pre .0 .1) (c .before .before .before .before .body-at .ensures .0) (c .before .before .before .before .body-at .ensures .1), omega (arith, c .before .before .before .before .before .before .before .before .before .pre .5))
