@@ -167,3 +167,17 @@ module _ (x : Syntax) (source index arguments input : List ℕ) (a : Frame) (i :
       (λ t. by-test (ltb (a .stop - a .from) i)
       (λ u. end-not-broken (sym (rw (t, u) at z)))
       (λ u. (eqb-false _ _ t, ltb-false _ _ u, rw (t, u) at z)))
+
+one-before : (f i : ℕ) → i - 2 ≡ f + (i - 1) - f - 1
+one-before f i = omega arith
+
+behind-first : (f i : ℕ) → (i ≡ 0 → ⊥) → (i ≡ 1 → ⊥) → f < f + (i - 1)
+behind-first f i pos more = omega arith
+
+pub argument-known : (x : Syntax) (source index arguments input : List ℕ) (a : Frame) (ends : List ℕ) → Known x source index arguments input a ends
+    → (i : ℕ) {e : ℕ} → (i ≡ 0 → ⊥) → i ≤ a .stop - a .from → (i ≡ 1 → ⊥) → e ≡ getD ends (i - 2) 0 → (e ≡ 0 → ⊥)
+    → (End e ≡ argumentReach x source index arguments input a i) × (e ≤ length input)
+argument-known x source index arguments input a ends w i {e} pos fits more y n =
+    let b = start-known x source index arguments input a ends w (a .from + (i - 1)) {e = e} (behind-first (a .from) i pos more)
+    (y ∙ ap (λ (j : ℕ). getD ends j 0) (one-before (a .from) i)) n in
+    (argument-there x source index arguments input a i pos {upto = a .from + (i - 1)} {r = End e} fits refl (b .0), b .1)

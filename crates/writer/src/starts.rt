@@ -107,7 +107,7 @@ fn start_of(
     Read::End(p)
 }
 
-// The same, where the end of the operand before it is often known.
+// The same for the end of a node, where the end of its last operand is often known.
 pub fn operand_start(
     syntax: Syntax,
     source: &[u8],
@@ -131,7 +131,8 @@ pub fn operand_start(
     start_of(syntax, source, index, arguments, input, frame, upto, ends)
 }
 
-// Where the argument of a number starts, counted from 1.
+// Where the argument of a number starts, counted from 1. The first starts with the operands, the end of the one before
+// another is often known.
 pub fn argument_start(
     syntax: Syntax,
     source: &[u8],
@@ -154,6 +155,13 @@ pub fn argument_start(
     if frame.stop - frame.from < number {
         return Read::Broken;
     }
+    if number == 1 {
+        return Read::End(frame.start);
+    }
+    let end = known(ends, number - 2);
+    if end != 0 {
+        return Read::End(end);
+    }
     let upto = frame.from + (number - 1);
-    operand_start(syntax, source, index, arguments, input, frame, upto, ends)
+    start_of(syntax, source, index, arguments, input, frame, upto, ends)
 }
