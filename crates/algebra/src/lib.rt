@@ -4,10 +4,12 @@ ghost use Rattle.fields.specs.Outcome.{numberOf, lengthOf};
 ghost use Rattle.language.specs.Operations.{checkLanguage};
 ghost use Rattle.reader.specs.Operations.{checkTree};
 ghost use Rattle.translation.specs.Operations.{checkTranslation, runTree};
+ghost use Rattle.reducer.specs.Operations as Reducing;
 use fields::outcome::length_of;
 use fields::outcome::number;
 use language::check::check_language;
 use reader::tree::check_tree;
+use reducer::reduce::reduce;
 use runner::run::run;
 use translation::check::check_translation;
 
@@ -55,6 +57,25 @@ pub extern "C" fn algebra_run(
         × (now (output .exit) ≡ runTree (now (translation .entry)) root (now (tree .entry)) (now (output .entry)) .output) ⌝ }
 {
     let answer = run(translation, root, tree, output);
+    let outcome = answer.outcome;
+    *length = length_of(outcome);
+    number(outcome)
+}
+
+// Reduce a pack to one translation; the length of its bytes is put into `length`.
+#[no_mangle]
+pub extern "C" fn algebra_reduce(
+    pack: &[u8],
+    workspace: &mut [u8],
+    output: &mut [u8],
+    length: &mut u64,
+) -> u32
+    ensures { λ r. ⌜ (r ≡ numberOf (Reducing.reduce (now (pack .entry)) (now (workspace .entry)) (now (output .entry)) .outcome))
+        × (now (length .exit) ≡ lengthOf (Reducing.reduce (now (pack .entry)) (now (workspace .entry)) (now (output .entry)) .outcome))
+        × (now (output .exit) ≡ Reducing.reduce (now (pack .entry)) (now (workspace .entry)) (now (output .entry)) .output)
+        × (now (workspace .exit) ≡ Reducing.reduce (now (pack .entry)) (now (workspace .entry)) (now (output .entry)) .workspace) ⌝ }
+{
+    let answer = reduce(pack, workspace, output);
     let outcome = answer.outcome;
     *length = length_of(outcome);
     number(outcome)

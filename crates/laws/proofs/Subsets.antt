@@ -22,6 +22,7 @@ use Rattle.translation.specs.Translation.{Item, mapping, clause, Translation, i
 use Rattle.translation.specs.TranslationFile.{itemField, translationFields, encodeTranslation, translationLimit}
 use Rattle.operators.specs.Algebra.{languageUnion, translationUnion}
 use Rattle.operators.specs.Limits.{codeIsDeep, languageExceeds, translationExceeds}
+use Rattle.values.proofs.Accepted.{code-shallow}
 use Rattle.operators.proofs.Proper.{Proper, Sound, GoodTranslation}
 use Rattle.operators.proofs.SumSound.{LanguagesFit, TranslationsFit, union-covers}
 
@@ -110,11 +111,6 @@ translation-shorter x v p q h =
 short-language : (l : Language) → length (encodeLanguage l) ≤ languageLimit → languageExceeds l ≡ false
 unfolding languageExceeds
 short-language l h = le-ltb languageLimit (length (encodeLanguage l)) h
-
-code-shallow : (x : Translation) → Sound x → (a : Item) → Mem a (x .body) → codeIsDeep x a ≡ false
-unfolding codeIsDeep
-code-shallow x s (mapping k t) m = refl
-code-shallow x s (clause r p c) m = rw (s .fits .codes r p c m .1)
 
 pub lies-within : (x v : Translation) → Sound x → GoodTranslation v → Lies x v → translationExceeds x ≡ false
 unfolding translationExceeds

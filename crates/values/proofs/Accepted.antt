@@ -78,7 +78,7 @@ unfolding languageExceeds
 language-given l v o o′ r e g = rw e at g
 
 -- No code of a sound translation goes too deep.
-code-shallow : (f : Translation) → Sound f → (a : Item) → Mem a (f .body) → codeIsDeep f a ≡ false
+pub code-shallow : (f : Translation) → Sound f → (a : Item) → Mem a (f .body) → codeIsDeep f a ≡ false
 unfolding codeIsDeep
 code-shallow f s (mapping k t) m = refl
 code-shallow f s (clause r p c) m = ap isDeep (s .fits .codes r p c m .1)

@@ -1,0 +1,17 @@
+use mathlib.Core.Path.{ap, _∙_}
+use Rattle.fields.specs.Outcome.{numberOf, lengthOf}
+use borrow.Author.Needs.{needs}
+use Rattle.algebra.proofs.algebra_reduce.Statement.{statement}
+use Rattle.algebra.proofs.algebra_reduce.Tie as tie
+use Rattle.algebra.proofs.algebra_reduce.Reads as reads
+use Rattle.algebra.proofs.algebra_reduce.Lts as lts
+use Rattle.fields.proofs.outcome.length_of.Reads as length-of-reads
+use Rattle.fields.proofs.outcome.number.Reads as number-reads
+use Rattle.reducer.proofs.reduce.reduce.Reads as reduce-reads
+
+returns : tie.Need-returns
+returns c = (@number .ensures ∙ ap numberOf (@reduce .ensures .0), @length-of .ensures ∙ ap lengthOf (@reduce .ensures .0), @reduce .ensures .1, @reduce .ensures .2)
+
+pub algebra-reduce-spec : {M : Type 1} → statement M
+algebra-reduce-spec =
+    tie.close (tie.spec (λ c κs. search needs) (λ c κs. search needs) (λ c κs. search needs) (λ c. search needs) (λ c. search needs) returns)
