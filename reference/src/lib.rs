@@ -19,6 +19,7 @@ mod translation;
 mod tree;
 
 pub mod generate;
+pub mod laws;
 #[cfg(feature = "library")]
 pub mod library;
 

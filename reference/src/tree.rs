@@ -100,6 +100,13 @@ pub fn read_tree<T: Tally>(
     Ok(reader.tally)
 }
 
+/// Whether the bytes are a legal tree of a kind, at any depth: no tree has more levels than bytes.
+pub fn is_legal_tree(language: &Language, kind: u8, tree: &[u8]) -> bool {
+    let grammar = Grammar::new(language);
+    let mut reader = Reader { grammar: &grammar, rest: tree, tally: Nothing };
+    reader.read(kind, tree.len(), ()).is_ok() && reader.rest.is_empty()
+}
+
 /// The root as a kind of the language, or the refusal of a root that is not in it.
 pub fn root_kind(language: &Language, root: u32) -> Result<u8, Refusal> {
     require((root as usize) < KINDS, Refusal::Root)?;

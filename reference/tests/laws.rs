@@ -3,135 +3,109 @@
 mod build;
 
 use build::reduce_answer;
-use reference::generate::{law_pack, pack_with_term, LawPack, Random};
-use reference::{check_tree, run};
+use reference::generate::{law_pack, Random};
+use reference::laws::{law_of_runs, law_of_sums, Answer, Broken, Operations, Said, SAID};
+use reference::run;
 
-/// A sum over the terms: each used once or more, in some order and grouping.
-fn sum_over(random: &mut Random, terms: &[Vec<u8>]) -> Vec<u8> {
-    let mut parts: Vec<Vec<u8>> = terms.to_vec();
-    for _ in 0..random.below(3) {
-        parts.push(terms[random.below(terms.len())].clone());
+/// Reduces a pack.
+fn reduce_pack(pack: &[u8]) -> Answer {
+    let (number, bytes) = reduce_answer(pack);
+    Answer::new(number, bytes.len() as u64, bytes)
+}
+
+/// Runs a translation with an output of so many bytes.
+fn run_tree(translation: &[u8], root: u32, tree: &[u8], output: usize) -> Answer {
+    let mut output = vec![0; output];
+    let outcome = run(translation, root, tree, &mut output);
+    Answer::new(outcome.number(), outcome.length(), output)
+}
+
+/// The operations of the reference.
+const REFERENCE: Operations = Operations { reduce: &reduce_pack, run: &run_tree };
+
+/// How often each thing was said of so many random packs, by the order of `Said`.
+fn count(
+    packs: usize,
+    seed: u64,
+    mut law: impl FnMut(&mut Random) -> Result<Vec<Said>, Broken>,
+) -> Result<[usize; SAID.len()], Broken> {
+    let mut random = Random::new(seed);
+    let mut counts = [0; SAID.len()];
+    for _ in 0..packs {
+        for said in law(&mut random)? {
+            counts[said as usize] += 1;
+        }
     }
-    while parts.len() > 1 {
-        let left = parts.swap_remove(random.below(parts.len()));
-        let right = parts.swap_remove(random.below(parts.len()));
-        parts.push([vec![0x53], left, right].concat());
-    }
-    parts.remove(0)
+    Ok(counts)
+}
+
+/// Counts what the law of sums says.
+fn count_sums(operations: &Operations, packs: usize) -> Result<[usize; SAID.len()], Broken> {
+    count(packs, 11, |random| {
+        let pack = law_pack(random);
+        Ok(vec![law_of_sums(operations, random, &pack)?])
+    })
+}
+
+/// Counts what the law of runs says.
+fn count_runs(operations: &Operations, packs: usize) -> Result<[usize; SAID.len()], Broken> {
+    count(packs, 12, |random| {
+        let pack = law_pack(random);
+        law_of_runs(operations, random, &pack)
+    })
 }
 
 #[test]
 fn sums_over_one_set_are_alike() {
-    let mut random = Random::new(11);
-    let (mut accepted, mut refused) = (0, 0);
-    for _ in 0..10_000 {
-        let pack = law_pack(&mut random);
-        let one = reduce_answer(&pack_with_term(&pack, &sum_over(&mut random, &pack.terms)));
-        let other = reduce_answer(&pack_with_term(&pack, &sum_over(&mut random, &pack.terms)));
-        assert_eq!(one.0 == 0, other.0 == 0);
-        assert_eq!(one.1, other.1);
-        if one.0 == 0 {
-            accepted += 1;
-        } else {
-            refused += 1;
-        }
+    let counts = count_sums(&REFERENCE, 10_000).expect("the law holds");
+    for said in [Said::SumsAccepted, Said::SumsRefused] {
+        assert!(counts[said as usize] > 1000, "{counts:?}");
     }
-    assert!(accepted > 1000 && refused > 1000, "{accepted} accepted, {refused} refused");
-}
-
-/// A translation taken apart: source and target language, and the mapping of kinds.
-struct Parts {
-    source: Vec<u8>,
-    target: Vec<u8>,
-    mapping: Vec<(u8, u8)>,
-}
-
-/// Takes an accepted translation apart.
-fn parts(translation: &[u8]) -> Parts {
-    let mut fields = Vec::new();
-    let mut rest = translation;
-    while let [tag, high, low, behind @ ..] = rest {
-        let length = usize::from(u16::from_be_bytes([*high, *low]));
-        fields.push((*tag, behind[..length].to_vec()));
-        rest = &behind[length..];
-    }
-    let mappings = fields.iter().filter(|(tag, _)| *tag == 0x22);
-    let mapping = mappings.map(|(_, contents)| (contents[0], contents[1])).collect();
-    Parts { source: fields[0].1.clone(), target: fields[1].1.clone(), mapping }
-}
-
-/// The kind that a kind is mapped to.
-fn mapped(parts: &Parts, kind: u8) -> u8 {
-    parts.mapping.iter().find(|(source, _)| *source == kind).expect("a mapped kind").1
-}
-
-/// The three translations of a join that is accepted.
-struct Join {
-    join: Vec<u8>,
-    outer: Vec<u8>,
-    inner: Vec<u8>,
-}
-
-/// Reduces a join and its operands, each alone; `None` if one is refused.
-fn reduced_join(pack: &LawPack, outer: &[u8], inner: &[u8]) -> Option<Join> {
-    let reduced = |term: &[u8]| {
-        let (number, bytes) = reduce_answer(&pack_with_term(pack, term));
-        (number == 0).then_some(bytes)
-    };
-    let join = reduced(&[&[0x54], outer, inner].concat())?;
-    Some(Join { join, outer: reduced(outer)?, inner: reduced(inner)? })
-}
-
-/// Runs with an output of that many bytes; gives number and result.
-fn ran(translation: &[u8], root: u8, tree: &[u8], output: usize) -> (u32, Vec<u8>) {
-    let mut output = vec![0; output];
-    let outcome = run(translation, u32::from(root), tree, &mut output);
-    (outcome.number(), output[..outcome.length() as usize].to_vec())
-}
-
-/// Compares the run of the join with the two runs, where both answer; says if they did.
-fn compare_runs(join: &Join, root: u8, tree: &[u8], output: usize) -> bool {
-    let inner = parts(&join.inner);
-    let first = ran(&join.inner, root, tree, 100_000);
-    if first.0 != 0 {
-        return false;
-    }
-    let second = ran(&join.outer, mapped(&inner, root), &first.1, output);
-    let joined = ran(&join.join, root, tree, output);
-    if second.0 == 16 {
-        return false;
-    }
-    assert_eq!(second, joined);
-    if second.0 == 0 {
-        let whole = parts(&join.join);
-        assert_eq!(whole.source, inner.source);
-        let kind = u32::from(mapped(&whole, root));
-        let number = check_tree(&whole.target, kind, &joined.1).number();
-        assert!(number == 0 || number == 16);
-    }
-    second.0 == 0
 }
 
 #[test]
 fn a_join_runs_as_its_operands_one_after_the_other() {
-    let mut random = Random::new(12);
-    let (mut joins, mut runs) = (0, 0);
-    for _ in 0..10_000 {
-        let pack = law_pack(&mut random);
-        let outer = &pack.terms[random.below(pack.terms.len())];
-        let inner = &pack.terms[random.below(pack.terms.len())];
-        let Some(join) = reduced_join(&pack, outer, inner) else {
-            continue;
-        };
-        joins += 1;
-        for _ in 0..3 {
-            let source = parts(&join.inner).source;
-            let Some((root, tree)) = reference::generate::legal_tree(&mut random, &source) else {
-                continue;
-            };
-            let output = if random.percent(20) { random.below(30) } else { 100_000 };
-            runs += usize::from(compare_runs(&join, root, &tree, output));
-        }
+    let counts = count_runs(&REFERENCE, 10_000).expect("the law holds");
+    for said in [Said::Join, Said::Runs, Said::LongRuns] {
+        assert!(counts[said as usize] > 1000, "{counts:?}");
     }
-    assert!(joins > 1000 && runs > 1000, "{joins} joins, {runs} runs");
+}
+
+#[test]
+fn sums_that_depend_on_the_term_are_found() {
+    let refuse_some = |pack: &[u8]| {
+        if pack.len() % 2 == 0 {
+            reduce_pack(pack)
+        } else {
+            Answer::new(12, 0, vec![])
+        }
+    };
+    let broken = count_sums(&Operations { reduce: &refuse_some, ..REFERENCE }, 1000);
+    assert!(broken.is_err_and(|broken| broken.what.contains("law of sums")));
+    let change_last = |pack: &[u8]| {
+        let (number, mut bytes) = reduce_answer(pack);
+        bytes.iter_mut().last().into_iter().for_each(|byte| *byte ^= pack.len() as u8 & 1);
+        Answer::new(number, bytes.len() as u64, bytes)
+    };
+    let broken = count_sums(&Operations { reduce: &change_last, ..REFERENCE }, 1000);
+    assert!(broken.is_err_and(|broken| broken.what.contains("law of sums")));
+}
+
+#[test]
+fn runs_that_depend_on_the_tree_are_found() {
+    let too_long = |translation: &[u8], root: u32, tree: &[u8], output: usize| {
+        let room = if tree.len() % 2 == 0 { output } else { output / 2 };
+        run_tree(translation, root, tree, room)
+    };
+    let broken = count_runs(&Operations { run: &too_long, ..REFERENCE }, 1000);
+    assert!(broken.is_err_and(|broken| broken.what.contains("the answers differ")));
+    let copy = |translation: &[u8], root: u32, tree: &[u8], output: usize| {
+        let answer = run_tree(translation, root, tree, output);
+        match answer.number {
+            0 => Answer::new(0, tree.len() as u64, tree.to_vec()),
+            _ => answer,
+        }
+    };
+    let broken = count_runs(&Operations { run: &copy, ..REFERENCE }, 1000);
+    assert!(broken.is_err_and(|broken| broken.what.contains("law of runs")));
 }

@@ -1,4 +1,5 @@
-//! Compares the library with the reference on seeded random cases.
+//! Compares the library with the reference on seeded random cases, and tests the laws of
+//! runs and of sums on the library alone.
 //!
 //! Usage: differential OPERATION... [--cases N] [--seed N] [--first N] [--trace]
 
@@ -10,7 +11,7 @@ use std::fmt::Write as _;
 use std::process::ExitCode;
 use std::time::Instant;
 
-/// Answers are counted by number.
+/// Answers are counted by number, and so is what the laws say.
 const NUMBERS: usize = 18;
 
 /// What one side answered: number, length and the buffers at the end.
@@ -35,12 +36,20 @@ enum Input {
     Number(u64),
 }
 
+/// What one case showed: the numbers that it counts for, and the lines of a difference.
+struct Finding {
+    reached: Vec<usize>,
+    difference: Option<Vec<String>>,
+}
+
 /// An operation that can be compared.
 struct Operation {
     name: &'static str,
-    /// The answers that are possible, all of which must be reached.
+    /// The numbers that are possible, all of which must be reached.
     possible: &'static [usize],
-    compare: fn(&mut Random) -> Comparison,
+    /// What a number stands for.
+    label: fn(usize) -> String,
+    find: fn(&mut Random) -> Finding,
 }
 
 /// The operations that this build can compare.
@@ -48,32 +57,49 @@ const OPERATIONS: &[Operation] = &[
     Operation {
         name: "check_language",
         possible: &[0, 1, 2, 3, 4],
-        compare: compare_check_language,
+        label: answer_label,
+        find: |random| compare_check_language(random).finding(),
     },
     Operation {
         name: "check_tree",
         possible: &[0, 1, 2, 3, 4, 14, 15, 16],
-        compare: compare_check_tree,
+        label: answer_label,
+        find: |random| compare_check_tree(random).finding(),
     },
     #[cfg(feature = "translation")]
     Operation {
         name: "check_translation",
         possible: &[0, 1, 2, 3, 4, 5, 6, 7],
-        compare: translation::compare,
+        label: answer_label,
+        find: |random| translation::compare(random).finding(),
     },
     #[cfg(feature = "run")]
     Operation {
         name: "run",
         possible: &[0, 1, 2, 3, 4, 5, 6, 7, 14, 15, 16, 17],
-        compare: run::compare,
+        label: answer_label,
+        find: |random| run::compare(random).finding(),
     },
     #[cfg(feature = "reduce")]
     Operation {
         name: "reduce",
         possible: &[0, 1, 2, 3, 4, 5, 6, 7, 8, 9, 10, 11, 12, 13],
-        compare: reduce::compare,
+        label: answer_label,
+        find: |random| reduce::compare(random).finding(),
+    },
+    #[cfg(all(feature = "run", feature = "reduce"))]
+    Operation {
+        name: "laws",
+        possible: &[0, 1, 2, 3, 4],
+        label: |number| reference::laws::SAID[number].to_string(),
+        find: laws::find,
     },
 ];
+
+/// What the number of an answer stands for.
+fn answer_label(number: usize) -> String {
+    format!("answer {number:2}")
+}
 
 impl Answer {
     /// The answer of a check, which has no buffers.
@@ -202,6 +228,54 @@ mod reduce {
     }
 }
 
+#[cfg(all(feature = "run", feature = "reduce"))]
+mod laws {
+    use super::*;
+    use reference::generate::law_pack;
+    use reference::laws::{law_of_runs, law_of_sums, Answer, Broken, Operations, Said};
+
+    /// The operations of the library, with the least room to reduce.
+    const LIBRARY: Operations = Operations { reduce: &reduce, run: &run };
+
+    /// Reduces a pack.
+    fn reduce(pack: &[u8]) -> Answer {
+        let (mut workspace, mut output) = (vec![0xAA; 65_536], vec![0xBB; 4096]);
+        let answer = library::reduce(pack, &mut workspace, &mut output);
+        Answer::new(answer.number, answer.length, output)
+    }
+
+    /// Runs a translation.
+    fn run(translation: &[u8], root: u32, tree: &[u8], output: usize) -> Answer {
+        let mut output = vec![0xCC; output];
+        let answer = library::run(translation, root, tree, &mut output);
+        Answer::new(answer.number, answer.length, output)
+    }
+
+    /// What both laws say of one pack.
+    fn said(random: &mut Random) -> Result<Vec<Said>, Broken> {
+        let pack = law_pack(random);
+        let mut said = law_of_runs(&LIBRARY, random, &pack)?;
+        said.push(law_of_sums(&LIBRARY, random, &pack)?);
+        Ok(said)
+    }
+
+    /// Tests both laws on one pack.
+    pub fn find(random: &mut Random) -> Finding {
+        match said(random) {
+            Ok(said) => Finding {
+                reached: said.into_iter().map(|said| said as usize).collect(),
+                difference: None,
+            },
+            Err(broken) => {
+                let inputs = broken.inputs.into_iter();
+                let inputs = inputs.map(|(name, bytes)| Input::Bytes(bytes).line(name));
+                let lines = [format!("  {}", broken.what)].into_iter().chain(inputs);
+                Finding { reached: vec![], difference: Some(lines.collect()) }
+            }
+        }
+    }
+}
+
 /// What the arguments ask for.
 struct Request {
     operations: Vec<&'static Operation>,
@@ -268,28 +342,49 @@ fn first_difference(left: &[u8], right: &[u8]) -> Option<usize> {
     (0..left.len()).find(|&place| left[place] != right[place])
 }
 
-/// Prints a difference with everything that is needed to repeat it.
-fn report(operation: &Operation, seed: u64, case: u64, comparison: &Comparison) {
-    let (library, reference) = (&comparison.library, &comparison.reference);
-    println!("DIFFERENCE in {}, seed {seed}, case {case}", operation.name);
-    println!("  library:   number {} length {}", library.number, library.length);
-    println!("  reference: number {} length {}", reference.number, reference.length);
-    if let Some(place) = first_difference(&library.output, &reference.output) {
-        println!("  outputs differ first at byte {place}");
-        println!("  library output:   {}", hexadecimal(&library.output));
-        println!("  reference output: {}", hexadecimal(&reference.output));
-    }
-    if let Some(place) = first_difference(&library.workspace, &reference.workspace) {
-        println!("  workspaces differ first at byte {place}");
-    }
-    for (name, input) in &comparison.inputs {
-        match input {
+impl Input {
+    /// The line that shows the input.
+    fn line(&self, name: &str) -> String {
+        match self {
             Input::Bytes(bytes) => {
-                println!("  {name} ({} bytes): {}", bytes.len(), hexadecimal(bytes));
+                format!("  {name} ({} bytes): {}", bytes.len(), hexadecimal(bytes))
             }
-            Input::Number(number) => println!("  {name}: {number}"),
+            Input::Number(number) => format!("  {name}: {number}"),
         }
     }
+}
+
+impl Comparison {
+    /// The answer that was reached, and the difference if there is one.
+    fn finding(&self) -> Finding {
+        let difference = (self.library != self.reference).then(|| self.lines());
+        Finding { reached: vec![self.reference.number as usize], difference }
+    }
+
+    /// The lines of a difference, with everything that is needed to repeat it.
+    fn lines(&self) -> Vec<String> {
+        let (library, reference) = (&self.library, &self.reference);
+        let mut lines = vec![
+            format!("  library:   number {} length {}", library.number, library.length),
+            format!("  reference: number {} length {}", reference.number, reference.length),
+        ];
+        if let Some(place) = first_difference(&library.output, &reference.output) {
+            lines.push(format!("  outputs differ first at byte {place}"));
+            lines.push(format!("  library output:   {}", hexadecimal(&library.output)));
+            lines.push(format!("  reference output: {}", hexadecimal(&reference.output)));
+        }
+        if let Some(place) = first_difference(&library.workspace, &reference.workspace) {
+            lines.push(format!("  workspaces differ first at byte {place}"));
+        }
+        lines.extend(self.inputs.iter().map(|(name, input)| input.line(name)));
+        lines
+    }
+}
+
+/// Prints a difference.
+fn report(operation: &Operation, seed: u64, case: u64, lines: &[String]) {
+    println!("DIFFERENCE in {}, seed {seed}, case {case}", operation.name);
+    lines.iter().for_each(|line| println!("{line}"));
 }
 
 /// Differences are printed in full up to this number for each operation.
@@ -305,12 +400,12 @@ fn compare_all(operation: &Operation, cases: u64, request: &Request) -> (u64, u6
             eprintln!("{}, seed {seed}, case {case}", operation.name);
         }
         let mut random = Random::new(case_seed(seed, operation, case));
-        let comparison = (operation.compare)(&mut random);
-        reached[comparison.reference.number as usize] += 1;
-        if comparison.library != comparison.reference {
+        let finding = (operation.find)(&mut random);
+        finding.reached.iter().for_each(|&number| reached[number] += 1);
+        if let Some(lines) = finding.difference {
             differences += 1;
             if differences <= SHOWN {
-                report(operation, seed, case, &comparison);
+                report(operation, seed, case, &lines);
             }
         }
     }
@@ -319,13 +414,14 @@ fn compare_all(operation: &Operation, cases: u64, request: &Request) -> (u64, u6
     (differences, print_reached(operation, &reached))
 }
 
-/// Prints how often each answer was reached; gives the number of those never reached.
+/// Prints how often each number was reached; gives the number of those never reached.
 fn print_reached(operation: &Operation, reached: &[u64; NUMBERS]) -> u64 {
     let mut missing = 0;
     for &number in operation.possible {
-        println!("  answer {number:2}: {:8}", reached[number]);
+        let label = (operation.label)(number);
+        println!("  {label}: {:8}", reached[number]);
         if reached[number] == 0 {
-            println!("MISSING: {} never answered {number}", operation.name);
+            println!("MISSING: {} never reached {label}", operation.name);
             missing += 1;
         }
     }

@@ -14,4 +14,5 @@ pub use languages::language_file;
 pub use packs::{law_pack, pack_with_term, reduce_case, LawPack, ReduceCase};
 pub use random::Random;
 pub use translations::{run_case, translation_file, RunCase};
-pub use trees::{legal_tree, tree_case, TreeCase};
+pub(crate) use trees::legal_tree;
+pub use trees::{tree_case, TreeCase};

@@ -4,7 +4,7 @@ use super::damage::damage_bytes;
 use super::heights::Heights;
 use super::languages::{encoded, full_language, language, language_file};
 use super::random::Random;
-use crate::language::{bit, read_language, Class, Language, Production, KINDS, LANGUAGE_LIMIT};
+use crate::language::{bit, Class, Language, Production, KINDS, LANGUAGE_LIMIT};
 use crate::tree::TREE_LEVELS;
 
 /// The input of a check of a tree.
@@ -212,9 +212,8 @@ pub fn tree_case(random: &mut Random) -> TreeCase {
 }
 
 /// A root kind and a tree of a well-formed language, legal but for its height, if there is one.
-pub fn legal_tree(random: &mut Random, language: &[u8]) -> Option<(u8, Vec<u8>)> {
-    let language = read_language(language).ok()?;
-    let mut grower = Grower::new(&language);
+pub fn legal_tree(random: &mut Random, language: &Language) -> Option<(u8, Vec<u8>)> {
+    let mut grower = Grower::new(language);
     let grown = grower.grown_kinds();
     if grown.is_empty() {
         return None;

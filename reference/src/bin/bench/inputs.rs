@@ -178,6 +178,40 @@ pub mod runs {
 #[cfg(feature = "reduce")]
 pub mod packs {
     use super::{field, full_language, production};
+    use reference::generate::{reduce_case, Random};
+
+    /// So many packs of the generator are looked through.
+    const PACKS: usize = 20_000;
+
+    /// The largest accepted pack that the generator finds whose term starts with the sign.
+    pub fn largest(sign: u8) -> Vec<u8> {
+        let mut random = Random::new(1);
+        let mut largest = Vec::new();
+        for _ in 0..PACKS {
+            let pack = reduce_case(&mut random).pack;
+            if pack.len() > largest.len() && first_sign(&pack) == Some(sign) && accepts(&pack) {
+                largest = pack;
+            }
+        }
+        largest
+    }
+
+    /// The first sign of a pack's term, if the fields before it are whole.
+    fn first_sign(pack: &[u8]) -> Option<u8> {
+        let mut rest = pack;
+        while let [tag, high, low, behind @ ..] = rest {
+            if *tag == 0x32 {
+                return behind.first().copied();
+            }
+            rest = behind.get(usize::from(u16::from_be_bytes([*high, *low]))..)?;
+        }
+        None
+    }
+
+    /// Whether the reference accepts a pack.
+    fn accepts(pack: &[u8]) -> bool {
+        reference::reduce(pack, &mut [0; 65_536], &mut [0; 4096]).number() == 0
+    }
 
     /// A pack from its parts.
     fn pack(languages: &[Vec<u8>], bodies: &[Vec<u8>], term: &[u8]) -> Vec<u8> {

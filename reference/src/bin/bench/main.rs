@@ -164,13 +164,16 @@ mod reduce {
         print_line(&format!("reduce, {name} (gives {})", expected.length()), pack.len(), timing);
     }
 
-    /// Measures the example, and large sums, joins, identities and nested sums.
+    /// Measures the example, built and generated sums, joins and identities, and nested sums.
     pub fn bench() {
         bench_one("example", &packs::example());
         bench_one("sum", &packs::sum());
         bench_one("join", &packs::join());
         bench_one("identity", &packs::identity());
         bench_one("nested sums", &packs::nested_sums());
+        bench_one("largest sum found", &packs::largest(0x53));
+        bench_one("largest join found", &packs::largest(0x54));
+        bench_one("largest identity found", &packs::largest(0x55));
     }
 }
 
