@@ -1,0 +1,93 @@
+-- The whole text: a law for each return of the code, and that it is the text of the pack.
+use Prim.Native.Nat.{ℕ, _+_, _*_, _<_, _≤_}
+use mathlib.Core.Path.{_≡_, refl, sym, ap, _∙_, subst}
+use mathlib.Core.List.{List, _++_}
+use native.Mathlib.Omega.{arith}
+use lib.ListN.{length, take, drop, length-append}
+use lib.Seq.{take-append-seam, length-take-le}
+use Rattle.io.specs.Counts.{Counts}
+use Rattle.fields.specs.Outcome.{Result, value, refused, reasonNumber, numberOf, written, outputAfter}
+use Rattle.fields.specs.declared.outcome.Reason.{Reason}
+use Rattle.fields.specs.declared.outcome.Reason.the-variants.{TooLong, Broken, Order, Clash, Mapping, Clauses, Code, Term, Lent, Unbound, Limit, SumUnfit, JoinUnfit, Root, Tree, Levels, Output}
+use Rattle.fields.specs.declared.outcome.Outcome.{Outcome}
+use Rattle.fields.specs.declared.outcome.Outcome.the-variants.{Accepted, Refused}
+use Rattle.reducer.specs.Operations.{reduce, reduceBytes}
+use Rattle.listing.specs.Text.{acceptedWord, refusedWord, marked, firstLine, clauseLines, told}
+use Rattle.listing.specs.Listing.{textOf, listing}
+use Rattle.listing.specs.Inner.Putting.{Puts}
+use Rattle.listing.proofs.Putting.{puts-then}
+
+-- A reason's number is small.
+small : (r : Reason) → reasonNumber r < 18
+small TooLong = omega arith
+small Broken = omega arith
+small Order = omega arith
+small Clash = omega arith
+small Mapping = omega arith
+small Clauses = omega arith
+small Code = omega arith
+small Term = omega arith
+small Lent = omega arith
+small Unbound = omega arith
+small Limit = omega arith
+small SumUnfit = omega arith
+small JoinUnfit = omega arith
+small Root = omega arith
+small Tree = omega arith
+small Levels = omega arith
+small Output = omega arith
+
+pub number-small : (o : Outcome) → numberOf o < 18
+number-small (Accepted n) = omega arith
+number-small (Refused r) = small r
+
+-- `put_first`
+pub puts-first : (word : List ℕ) (n : ℕ) (o o′ o″ : List ℕ) (p q r : ℕ) → Puts word o o′ p q → Puts (marked n 10) o′ o″ q r → Puts (firstLine word n) o o″ p r
+unfolding firstLine
+puts-first word n o o′ o″ p q r x y = puts-then word (marked n 10) o o′ o″ p q r x y
+
+-- The clauses fit behind the first line.
+pub clauses-fit : (n at : ℕ) (output line o o′ : List ℕ) → n ≤ length output → length output ≤ 4096 → at ≤ 14 → Puts line o o′ 0 at
+    → 12320 ≤ length o → at + 3 * length (take n output) ≤ length o′
+clauses-fit n at output line o o′ h k a x t = omega (arith, length-take-le n output h, x .long)
+
+-- `put_outcome`: accepted, and refused
+module _ (outcome : Outcome) (output o : List ℕ) where
+  pub told-accepted : (n : ℕ) → outcome ≡ Accepted n → (o′ o″ : List ℕ) (p q r : ℕ)
+      → Puts (firstLine acceptedWord n) o o′ p q → Puts (clauseLines (take n output)) o′ o″ q r → Puts (told outcome output) o o″ p r
+  told-accepted n e o′ o″ p q r x y = subst (λ (t : Outcome). Puts (told t output) o o″ p r) (sym e) (puts-then _ _ _ _ _ _ _ _ x y)
+
+  pub told-refused : (reason : Reason) → outcome ≡ Refused reason → (n : ℕ) → n ≡ numberOf outcome → (o′ : List ℕ) (p r : ℕ)
+      → Puts (firstLine refusedWord n) o o′ p r → Puts (told outcome output) o o′ p r
+  told-refused reason e n k o′ p r x =
+      let m : n ≡ reasonNumber reason = k ∙ ap numberOf e in
+      let y : Puts (firstLine refusedWord (reasonNumber reason)) o o′ p r = subst (λ (j : ℕ). Puts (firstLine refusedWord j) o o′ p r) m x in
+      subst (λ (t : Outcome). Puts (told t output) o o′ p r) (sym e) y
+
+-- The length of what is accepted lies within the output, and the text is that of the result.
+within : (output : List ℕ) (n : ℕ) (result : Result (List ℕ)) → written result ≡ Accepted n → n ≤ length (outputAfter output result)
+within output n (value bytes) e = let k : length bytes ≡ n = cc in omega (arith, length-append bytes (drop (length bytes) output))
+within output n (refused r) e = let z : _≡_ {A = ℕ} 0 1 = cc in absurd (omega arith)
+
+same-text : (output : List ℕ) (result : Result (List ℕ)) → told (written result) (outputAfter output result) ≡ textOf result
+unfolding textOf
+same-text output (value bytes) = ap (λ (l : List ℕ). firstLine acceptedWord (length bytes) ++ clauseLines l) (take-append-seam bytes (drop (length bytes) output))
+same-text output (refused r) = refl
+
+-- `list`
+module _ (pack workspace output : List ℕ) (outcome : Outcome) (after : List ℕ)
+    (eo : outcome ≡ reduce pack workspace output .outcome) (ea : after ≡ reduce pack workspace output .output) where
+  pub length-within : (n : ℕ) → outcome ≡ Accepted n → n ≤ length after
+  unfolding reduce
+  length-within n e =
+      let result = reduceBytes pack (length workspace) (length output) in
+      let h : n ≤ length (outputAfter output result) = within output n result (sym eo ∙ e) in
+      subst (λ (l : List ℕ). n ≤ length l) (sym ea) h
+
+  pub text-is : 65536 ≡ length workspace → 4096 ≡ length output → told outcome after ≡ listing pack
+  unfolding reduce listing
+  text-is w o = rw (eo, ea, w, o) (same-text output (reduceBytes pack (length workspace) (length output)))
+
+-- What is put from the start on stands at the start.
+pub counts : (v u o o′ : List ℕ) (r : ℕ) → Puts v o o′ 0 r → v ≡ u → (Counts r o′) × (take r o′ ≡ u)
+counts v u o o′ r x e = ((x .fits, sym (length-take-le r o′ (x .fits))), x .bytes ∙ e)
