@@ -10,7 +10,7 @@ use Rattle.fields.proofs.outcome.number.Reads as number-reads
 use Rattle.reducer.proofs.reduce.reduce.Reads as reduce-reads
 
 returns : tie.Need-returns
-returns c = (@number .ensures ∙ ap numberOf (@reduce .ensures .0), @length-of .ensures ∙ ap lengthOf (@reduce .ensures .0), @reduce .ensures .1, @reduce .ensures .2)
+returns c = (c .number .ensures ∙ ap numberOf (c .before .before .before .before .before .before .reduce .ensures .0), c .before .length-of .ensures ∙ ap lengthOf (c .before .before .before .before .before .before .reduce .ensures .0), c .before .before .before .before .before .before .reduce .ensures .1, c .before .before .before .before .before .before .reduce .ensures .2)
 
 pub algebra-reduce-spec : {M : Type 1} → statement M
 algebra-reduce-spec =
