@@ -74,7 +74,7 @@ fn a_join_runs_as_its_operands_one_after_the_other() {
 #[test]
 fn sums_that_depend_on_the_term_are_found() {
     let refuse_some = |pack: &[u8]| {
-        if pack.len() % 2 == 0 {
+        if pack.len().is_multiple_of(2) {
             reduce_pack(pack)
         } else {
             Answer::new(12, 0, vec![])
@@ -94,7 +94,7 @@ fn sums_that_depend_on_the_term_are_found() {
 #[test]
 fn runs_that_depend_on_the_tree_are_found() {
     let too_long = |translation: &[u8], root: u32, tree: &[u8], output: usize| {
-        let room = if tree.len() % 2 == 0 { output } else { output / 2 };
+        let room = if tree.len().is_multiple_of(2) { output } else { output / 2 };
         run_tree(translation, root, tree, room)
     };
     let broken = count_runs(&Operations { run: &too_long, ..REFERENCE }, 1000);

@@ -126,12 +126,16 @@ fn refusals_of_constants_in_a_pack() {
     assert_eq!(reduce_number(&pack(&[clash.clone(), order.clone()], &[], &term)), 3);
     assert_eq!(reduce_number(&pack(&[order, vec![1]], &[], &term)), 2);
     assert_eq!(
-        reduce_number(&pack(&[clash.clone()], &[[mapping(1, 1), mapping(1, 1)].concat()], &term)),
+        reduce_number(&pack(
+            std::slice::from_ref(&clash),
+            &[[mapping(1, 1), mapping(1, 1)].concat()],
+            &term
+        )),
         3
     );
     let swapped = [clause(1, 1, &[]), mapping(1, 1)].concat();
-    assert_eq!(reduce_number(&pack(&[clash.clone()], &[swapped], &term)), 2);
-    assert_eq!(reduce_number(&pack(&[good.clone()], &[clause(1, 1, &[])], &term)), 0);
+    assert_eq!(reduce_number(&pack(std::slice::from_ref(&clash), &[swapped], &term)), 2);
+    assert_eq!(reduce_number(&pack(std::slice::from_ref(&good), &[clause(1, 1, &[])], &term)), 0);
     assert_eq!(reduce_number(&pack(&[clash], &[], &[9])), 4);
 }
 
