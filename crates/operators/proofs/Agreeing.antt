@@ -1,24 +1,22 @@
 -- Whether two files agree, by their places: a law for each return and turn of `agree` and `languages_fit`.
-use Prim.Native.Nat.{ℕ, _<_, _≤_}
-use mathlib.Core.Path.{_≡_, refl, sym, ap}
+use Prim.Native.Nat.{ℕ, suc, _<_, _≤_}
+use mathlib.Core.Path.{_≡_, refl, sym, ap, _∙_}
 use mathlib.Core.Bool.{Bool, true, false, not, _&&_, _||_}
-use mathlib.Core.List.{List}
+use mathlib.Core.List.{List, [], _∷_}
+use native.Mathlib.Omega.{arith}
 use lib.ListN.{length}
 use lib.Dec.{eqb}
+use borrow.Author.Tests.{ne-eqb}
 use Rattle.fields.specs.Lists.{all, sameNumbers}
 use Rattle.fields.specs.Keyed.{agree}
-use Rattle.fields.specs.Inner.Places.{fieldEnd, placesFrom, places}
-use Rattle.fields.proofs.Places.{every-done, every-stop, every-next}
+use Rattle.fields.specs.Inner.Places.{fieldEnd, keyAt}
+use Rattle.fields.proofs.Truth.{mem-all}
+use Rattle.fields.proofs.Keyed.{From, from-mem}
 use Rattle.language.specs.Inner.Entries.{resultsMeet}
-use Rattle.operators.specs.Inner.Parts.{Part, samePart, partAt, partsFrom, partsClash, agrees, fitTogether}
-use Rattle.operators.proofs.Mapped.{all-mapped}
-
--- The fields at p and q do not clash, and the field at p clashes with none of b.
-abbrev pub fitAt : ℕ → List ℕ → List ℕ → ℕ → ℕ → Bool
-fitAt first a b p q = not (partsClash (partAt first a p) (partAt first b q))
-
-abbrev pub fitsAll : ℕ → List ℕ → List ℕ → ℕ → Bool
-fitsAll first a b p = all (fitAt first a b p) (places b)
+use Rattle.operators.specs.Inner.Parts.{Part, partKey, samePart, partAt, partsFrom, Sorted, partsClash, agrees, fitTogether}
+use Rattle.operators.proofs.Walks.{parts-done, parts-next}
+use Rattle.operators.proofs.Linear.{all-alike}
+use Rattle.operators.proofs.Turns.{Rest, rest-start, rest-next, here-rises}
 
 -- No clash: other keys, or the same field.
 no-clash : (k s : Bool) → not k || (k && s) ≡ not (k && not s)
@@ -30,31 +28,105 @@ fit-is : (x y : Part) → not (eqb (x .key) (y .key)) || samePart x y ≡ not (p
 unfolding samePart partsClash
 fit-is x y = no-clash (eqb (x .key) (y .key)) (sameNumbers (x .bytes) (y .bytes))
 
-pub agrees-places : (first : ℕ) (a b : List ℕ) → all (fitsAll first a b) (places a) ≡ agrees first a b
-unfolding agrees agree partsFrom
-agrees-places first a b =
-    sym (all-mapped (partAt first a) _ (fitsAll first a b) (λ p.
-    all-mapped (partAt first b) _ (fitAt first a b p) (λ q. fit-is (partAt first a p) (partAt first b q)) (places b)) (places a))
+-- Fields of other keys do not clash.
+apart : (x y : Part) → (x .key ≡ y .key → ⊥) → not (eqb (x .key) (y .key)) || samePart x y ≡ true
+apart x y h = rw (ne-eqb (x .key) (y .key) h)
 
-module _ (first : ℕ) (a b : List ℕ) (p q : ℕ) (inv : all (fitAt first a b p) (placesFrom b q) ≡ fitsAll first a b p) where
-  -- the inner loop: at the end of b, at a clash, and past a field that does not clash
-  none-clashes : length b ≤ q → true ≡ fitsAll first a b p
-  none-clashes h = every-done (fitAt first a b p) b q _ inv h
+-- Agreement of two rising lists, a turn at a time, where x is the first of the one and y of the other.
+agree-none : (m : List Part) → agree partKey samePart [] m ≡ true
+unfolding agree all
+agree-none m = refl
 
-  module _ (r : Bool) (er : r ≡ partsClash (partAt first a p) (partAt first b q)) (here : q < length b) where
-    one-clashes : r ≡ true → false ≡ fitsAll first a b p
-    one-clashes h = every-stop (fitAt first a b p) b q _ inv (not r) (ap not er) _ refl here (ap not h)
+agree-drop : (x : Part) (l m : List Part) → From partKey (suc (x .key)) m → agree partKey samePart (x ∷ l) m ≡ agree partKey samePart l m
+unfolding agree all
+agree-drop x l m g =
+    let none : all (λ (b : Part). not (eqb (x .key) (b .key)) || samePart x b) m ≡ true =
+    mem-all _ m (λ b q. apart x b (λ e. omega (arith, from-mem partKey m g q))) in
+    rw none
 
-    pub inner-on : r ≡ false → (e : ℕ) → e ≡ fieldEnd b q → all (fitAt first a b p) (placesFrom b e) ≡ fitsAll first a b p
-    inner-on h e ee = every-next (fitAt first a b p) b q _ inv (not r) (ap not er) e ee here (ap not h)
+module _ (x y : Part) (l m : List Part) where
+  agree-meet : partsClash x y ≡ true → agree partKey samePart (x ∷ l) (y ∷ m) ≡ false
+  unfolding agree all
+  agree-meet h = rw (fit-is x y, h)
 
-  -- the outer loop: at a clash, and past a field that clashes with none
-  module _ (x : Bool) (outer : all (fitsAll first a b) (placesFrom a p) ≡ x) (there : p < length a) where
-    pub agree-clash : (r : Bool) → r ≡ partsClash (partAt first a p) (partAt first b q) → q < length b → r ≡ true → false ≡ x
-    agree-clash r er here h = every-stop (fitsAll first a b) a p x outer false (one-clashes r er here h) _ refl there refl
+  agree-pass : From partKey (suc (x .key)) l → y .key ≤ x .key → partsClash x y ≡ false
+      → agree partKey samePart (x ∷ l) (y ∷ m) ≡ agree partKey samePart (x ∷ l) m
+  unfolding agree all
+  agree-pass f k h =
+      let more : all (λ (a : Part). (not (eqb (a .key) (y .key)) || samePart a y) && all (λ (b : Part). not (eqb (a .key) (b .key)) || samePart a b) m) l
+      ≡ all (λ (a : Part). all (λ (b : Part). not (eqb (a .key) (b .key)) || samePart a b) m) l =
+      all-alike _ _ l (λ a q.
+      ap (λ (t : Bool). t && all (λ (b : Part). not (eqb (a .key) (b .key)) || samePart a b) m)
+      (apart a y (λ e. omega (arith, from-mem partKey l f q)))) in
+      rw (fit-is x y, h, more)
 
-    pub agree-on : length b ≤ q → (e : ℕ) → e ≡ fieldEnd a p → all (fitsAll first a b) (placesFrom a e) ≡ x
-    agree-on h e ee = every-next (fitsAll first a b) a p x outer true (none-clashes h) e ee there refl
+-- `agree`: what is left of a and b agrees exactly if all of them does.
+pub record Agreeing (first : ℕ) (a b : List ℕ) (p q : ℕ) : Type 0 where
+  pub left : Rest first a p
+  pub right : Rest first b q
+  pub answer : agree partKey samePart (partsFrom first a p) (partsFrom first b q) ≡ agrees first a b
+
+pub agree-start : (first : ℕ) (a b : List ℕ) → Sorted first a × Sorted first b → Agreeing first a b 0 0
+unfolding agrees
+agree-start first a b h = record { left = rest-start first a (h .0); right = rest-start first b (h .1); answer = refl }
+
+module _ (first : ℕ) (a b : List ℕ) (p q : ℕ) (h : Agreeing first a b p q) where
+  -- at the end of a
+  pub agree-end : length a ≤ p → true ≡ agrees first a b
+  agree-end d =
+      sym (ap (λ (l : List Part). agree partKey samePart l (partsFrom first b q)) (parts-done first a p d) ∙ agree-none (partsFrom first b q))
+      ∙ h .answer
+
+  module _ (there : p < length a) where
+    -- past a field of a, where all fields that are left of b are above it
+    drop-left : From partKey (suc (keyAt first a p)) (partsFrom first b q) → (e : ℕ) → e ≡ fieldEnd a p → Agreeing first a b e q
+    unfolding partAt
+    drop-left g e ee = record {
+      left = rest-next first a p (h .left) there e ee;
+      right = h .right;
+      answer =
+          ap (λ (n : ℕ). agree partKey samePart (partsFrom first a n) (partsFrom first b q)) ee
+          ∙ (sym (ap (λ (l : List Part). agree partKey samePart l (partsFrom first b q)) (parts-next first a p there)
+          ∙ agree-drop (partAt first a p) (partsFrom first a (fieldEnd a p)) (partsFrom first b q) g)
+          ∙ h .answer);
+    }
+
+    -- nothing is left of b
+    pub agree-out : length b ≤ q → (e : ℕ) → e ≡ fieldEnd a p → Agreeing first a b e q
+    agree-out d = drop-left (rw (parts-done first b q d) tt)
+
+    module _ (here : q < length b) where
+      heads : agree partKey samePart (partAt first a p ∷ partsFrom first a (fieldEnd a p)) (partAt first b q ∷ partsFrom first b (fieldEnd b q)) ≡ agrees first a b
+      heads = rw (← parts-next first a p there, ← parts-next first b q here) (h .answer)
+
+      -- a clash
+      pub agree-clash : (r : Bool) → r ≡ partsClash (partAt first a p) (partAt first b q) → r ≡ true → false ≡ agrees first a b
+      agree-clash r er d = sym (agree-meet (partAt first a p) (partAt first b q) _ _ (sym er ∙ d)) ∙ heads
+
+      module _ (j k : ℕ) (ej : j ≡ keyAt first a p) (ek : k ≡ keyAt first b q) where
+        -- the field of a is below those that are left of b
+        pub agree-below : j < k → (e : ℕ) → e ≡ fieldEnd a p → Agreeing first a b e q
+        unfolding partAt
+        agree-below d =
+            let g : suc (keyAt first a p) ≤ keyAt first b q = omega arith in
+            drop-left (rw (parts-next first b q here) (g, here-rises first b q (h .right) here))
+
+        -- past a field of b, that is below those that are left of a or the same as the first of them
+        pub agree-on : k ≤ j → (r : Bool) → r ≡ partsClash (partAt first a p) (partAt first b q) → r ≡ false → (e : ℕ) → e ≡ fieldEnd b q
+            → Agreeing first a b p e
+        unfolding partAt
+        agree-on d r er c e ee =
+            let g : keyAt first b q ≤ keyAt first a p = omega arith in
+            let x = partAt first a p in
+            let l = partsFrom first a (fieldEnd a p) in
+            record {
+              left = h .left;
+              right = rest-next first b q (h .right) here e ee;
+              answer =
+                  ap (λ (n : ℕ). agree partKey samePart (partsFrom first a p) (partsFrom first b n)) ee
+                  ∙ (ap (λ (n : List Part). agree partKey samePart n (partsFrom first b (fieldEnd b q))) (parts-next first a p there)
+                  ∙ (sym (agree-pass x (partAt first b q) l (partsFrom first b (fieldEnd b q)) (here-rises first a p (h .left) there) g (sym er ∙ c)) ∙ heads));
+            }
 
 -- `languages_fit`: x and y say whether a class of one is a result of the other
 module _ (a b : List ℕ) (x : Bool) (ex : x ≡ resultsMeet a b) where

@@ -149,7 +149,7 @@ unfolding keep
 keep-alike f g [] h = refl
 keep-alike f g (a ∷ l) h = rw (h a (inl refl), keep-alike f g l (λ b q. h b (inr q)))
 
-all-alike : {A : Type 0} (f g : A → Bool) (l : List A) → ((a : A) → Mem a l → f a ≡ g a) → all f l ≡ all g l
+pub all-alike : {A : Type 0} (f g : A → Bool) (l : List A) → ((a : A) → Mem a l → f a ≡ g a) → all f l ≡ all g l
 unfolding all
 all-alike f g [] h = refl
 all-alike f g (a ∷ l) h = rw (h a (inl refl), all-alike f g l (λ b q. h b (inr q)))

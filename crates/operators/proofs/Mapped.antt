@@ -8,7 +8,7 @@ use Rattle.fields.specs.Keyed.{Order, below, same, above, order, place, insert,
 
 module _ {A B : Type 0} (g : A → B) where
   -- Tests on a mapped list, where they are alike on each element.
-  pub all-mapped : (f : B → Bool) (h : A → Bool) → ((a : A) → f (g a) ≡ h a) → (l : List A) → all f (map g l) ≡ all h l
+  all-mapped : (f : B → Bool) (h : A → Bool) → ((a : A) → f (g a) ≡ h a) → (l : List A) → all f (map g l) ≡ all h l
   unfolding all
   all-mapped f h e [] = refl
   all-mapped f h e (a ∷ l) = rw (e a, all-mapped f h e l)

@@ -96,7 +96,7 @@ rest-sought first s p k r h w = record {
 
 -- The field at p, and what comes after it.
 module _ (first : ℕ) (s : List ℕ) (p : ℕ) (h : Rest first s p) (here : p < length s) where
-  here-rises : From partKey (suc (keyAt first s p)) (partsFrom first s (fieldEnd s p))
+  pub here-rises : From partKey (suc (keyAt first s p)) (partsFrom first s (fieldEnd s p))
   unfolding partAt
   here-rises = let r : From partKey (h .least) (partAt first s p ∷ partsFrom first s (fieldEnd s p)) = rw (parts-next first s p here) at (h .rises) in r .1
 

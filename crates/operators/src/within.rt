@@ -24,16 +24,20 @@ pub fn lies_within(a: &[u8], b: &[u8], first: u8) -> bool
     true
 }
 
-// Fields of one key are the same in a and in b.
+// Fields of one key are the same in a and in b. Keys rise in both, so b is gone through once.
 pub fn agree(a: &[u8], b: &[u8], first: u8) -> bool
     requires { ⌜ Sorted first (now a) × Sorted first (now b) ⌝ }
     ensures { λ r. ⌜ r ≡ agrees first (now (a .entry)) (now (b .entry)) ⌝ }
 {
     let mut same = true;
     let mut p = 0;
+    let mut q = 0;
     'clash: while p < a.len() {
-        let mut q = 0;
+        let key = key_at(a, p, first);
         while q < b.len() {
+            if key < key_at(b, q, first) {
+                break;
+            }
             if clash_at(a, p, b, q, first) {
                 same = false;
                 break 'clash;
