@@ -6,8 +6,8 @@ use native.Mathlib.Nat.{add-assoc, add-zero}
 use native.Mathlib.Numerals.{add-one}
 use native.Mathlib.Omega.{arith}
 use borrow.Author.Tests.{lt-ltb, le-ltb}
-use lib.ListN.{length, take, drop, set, getD, length-append, length-drop, take-append-drop}
-use lib.Seq.{take-at, drop-append-add, drop-drop, length-take-le, take-take, paste, paste-suc, getD-drop}
+use lib.ListN.{length, take, drop, set, getD, length-set, length-append, length-drop, take-append-drop}
+use lib.Seq.{take-at, drop-append-add, drop-drop, length-take-le, take-take, paste, paste-zero, paste-suc, getD-drop}
 use Rattle.reader.specs.declared.node.Read.{Read}
 use Rattle.reader.specs.declared.node.Read.the-variants.{End, Deep, Broken}
 use Rattle.writer.specs.declared.output.Ran.{Ran}
@@ -57,6 +57,45 @@ copy-more o b pos from i h k =
     let l : i < length (drop from b) = simp length-drop (omega arith) in
     rw (← getD-drop from b i 0, add-one i) (paste-suc o pos (drop from b) i 0 h l)
 
+-- copy_short: one, two and three turns of it.
+module _ (o b : List ℕ) (pos from : ℕ) {n : ℕ} (fits : pos + n ≤ length o) (inside : from + n ≤ length b) where
+  short-next : (i p f : ℕ) → p ≡ pos + i → f ≡ from + i → i < n
+      → set (paste o pos (drop from b) i) p (getD b f 0) ≡ paste o pos (drop from b) (i + 1)
+  short-next i p f ep ef h = rw (ep, ef) (copy-more o b pos from i (omega arith) (omega arith))
+
+  pub short-none : n ≡ 0 → o ≡ paste o pos (drop from b) n
+  short-none e = paste-zero o pos (drop from b) ∙ ap (paste o pos (drop from b)) (sym e)
+
+  one : 0 < n → set o pos (getD b from 0) ≡ paste o pos (drop from b) 1
+  one h =
+      ap (λ (l : List ℕ). set l pos (getD b from 0)) (paste-zero o pos (drop from b))
+      ∙ short-next 0 pos from (omega arith) (omega arith) h
+
+  two : 1 < n → set (set o pos (getD b from 0)) (pos + 1) (getD b (from + 1) 0) ≡ paste o pos (drop from b) 2
+  two h =
+      ap (λ (l : List ℕ). set l (pos + 1) (getD b (from + 1) 0)) (one (omega arith))
+      ∙ short-next 1 (pos + 1) (from + 1) refl refl h
+
+  three : 2 < n → set (set (set o pos (getD b from 0)) (pos + 1) (getD b (from + 1) 0)) (pos + 2) (getD b (from + 2) 0)
+      ≡ paste o pos (drop from b) 3
+  three h =
+      ap (λ (l : List ℕ). set l (pos + 2) (getD b (from + 2) 0)) (two (omega arith))
+      ∙ short-next 2 (pos + 2) (from + 2) refl refl h
+
+  pub short-one : n ≡ 1 → set o pos (getD b from 0) ≡ paste o pos (drop from b) n
+  short-one e = one (omega arith) ∙ ap (paste o pos (drop from b)) (sym e)
+
+  pub short-two : n ≡ 2 → set (set o pos (getD b from 0)) (pos + 1) (getD b (from + 1) 0) ≡ paste o pos (drop from b) n
+  short-two e = two (omega arith) ∙ ap (paste o pos (drop from b)) (sym e)
+
+  pub short-three : n ≡ 3
+      → set (set (set o pos (getD b from 0)) (pos + 1) (getD b (from + 1) 0)) (pos + 2) (getD b (from + 2) 0)
+      ≡ paste o pos (drop from b) n
+  short-three e = three (omega arith) ∙ ap (paste o pos (drop from b)) (sym e)
+
+pub in-set : (l : List ℕ) (i a j : ℕ) → j < length l → j < length (set l i a)
+in-set l i a j h = omega (arith, length-set l i a)
+
 module _ (b o : List ℕ) (from to pos : ℕ) (order : from ≤ to) (inside : to ≤ length b) where
   part-length : length (take (to - from) (drop from b)) ≡ to - from
   part-length = let l : to - from ≤ length (drop from b) = simp length-drop (omega arith) in length-take-le (to - from) (drop from b) l
@@ -81,6 +120,10 @@ module _ (b o : List ℕ) (from to pos : ℕ) (order : from ≤ to) (inside : to
           inside,
         );
       }
+
+  pub copy-short-done : {n : ℕ} {after : List ℕ} → pos ≤ length o → n ≡ to - from → n ≤ length o - pos → after ≡ paste o pos (drop from b) n
+      → Puts (copied b from to) (length b) o after pos (To to (pos + n))
+  copy-short-done {n} {after} h en fits e = copy-done {n = n} {i = n} {after = after} h en fits (omega arith) (omega arith) e
 
 -- leaf
 module _ (b : List ℕ) (n at : ℕ) (o : List ℕ) (pos : ℕ) {r : Read} where

@@ -6,7 +6,8 @@ use reader::node::node_at;
 use reader::node::token;
 ghost use mathlib.Core.Path.{_≡_};
 ghost use Prim.Native.Nat.{_+_, _-_, _≤_};
-ghost use lib.ListN.{length};
+ghost use lib.ListN.{length, drop};
+ghost use lib.Seq.{paste};
 ghost use Rattle.reader.specs.Inner.Index.{Ready};
 ghost use Rattle.reader.specs.Inner.Positions.{EndsBy, classPlace, nodeAt};
 ghost use Rattle.writer.specs.Inner.Pieces.{copied, leafOf, leafAt, Puts};
@@ -17,6 +18,25 @@ pub enum Ran {
     Full,
 }
 
+// Copies up to three bytes from `from` on into the output at pos.
+fn copy_short(bytes: &[u8], from: usize, n: usize, output: &mut [u8], pos: usize)
+    requires { ⌜ (n ≤ 3) × (from + n ≤ length (now bytes)) × (pos + n ≤ length (now output)) ⌝ }
+    ensures { λ r. ⌜ now (output .exit) ≡ paste (now (output .entry)) pos (drop from (now (bytes .entry))) n ⌝ }
+{
+    if n == 0 {
+        return;
+    }
+    output[pos] = bytes[from];
+    if n == 1 {
+        return;
+    }
+    output[pos + 1] = bytes[from + 1];
+    if n == 2 {
+        return;
+    }
+    output[pos + 2] = bytes[from + 2];
+}
+
 // Copies the bytes from `from` up to `to` into the output at pos.
 pub fn copy(bytes: &[u8], from: usize, to: usize, output: &mut [u8], pos: usize) -> Ran
     requires { ⌜ (from ≤ to) × (to ≤ length (now bytes)) × (pos ≤ length (now output)) ⌝ }
@@ -25,6 +45,10 @@ pub fn copy(bytes: &[u8], from: usize, to: usize, output: &mut [u8], pos: usize)
     let n = to - from;
     if output.len() - pos < n {
         return Ran::Full;
+    }
+    if n <= 3 {
+        copy_short(bytes, from, n, output, pos);
+        return Ran::To(to, pos + n);
     }
     let mut i = 0;
     while i < n {
