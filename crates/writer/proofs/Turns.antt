@@ -312,6 +312,18 @@ module _ (x : Syntax) (s index arguments : List ℕ) (k : ℕ) (b : List ℕ) (a
     pub leaf-other : {q e to : ℕ} → d ≡ Operands q e to → leafAt b at (nodeAt x s index arguments k b at) ≡ none
     leaf-other y = ap (leafAt b at) (sym ed ∙ y)
 
+-- A kind has a place in the index.
+pub in-index : {n k : ℕ} → n ≡ 8224 → k < 32 → k < n
+in-index e h = omega arith
+
+-- A token of a class stays itself.
+pub term-token : (w : Tables) (n k at : ℕ) {class : ℕ} {r : Read} → (n ≡ 0 → ⊥) → class ≡ classPlace (w .syntax) (w .index) k → (class ≡ 0 → ⊥)
+    → r ≡ tokenAt (w .source) class (w .input) at → termAt w n k at ≡ leafOf (w .input) at r
+term-token w n k at pos e h t =
+    let i = in-tree (w .syntax) (w .index) k (λ z. h (e ∙ z)) in
+    term-leaf w n k at pos
+    (node-tree (w .source) (w .index) (w .arguments) k (w .input) at (i .0) (tree-token (w .source) (w .index) k (w .input) at refl (e ∙ i .1) h t)) refl
+
 -- Where no production was found, there is a leaf.
 name-leaf-at : (s index : List ℕ) (k : ℕ) (b : List ℕ) (at : ℕ) → cond (leb (length b) at) 0 (getD index (productionKey k (getD b at 0)) 0) ≡ 0
     → nameAt s index k b at ≡ Leaf Broken

@@ -1,6 +1,7 @@
 // The run: it calls itself on the arguments of a node and on the inner codes of its clause, with fewer levels left.
 use crate::output::Ran;
 use crate::output::copy;
+use crate::output::leaf;
 use crate::output::put_leaf;
 use crate::starts::Frame;
 use crate::starts::argument_start;
@@ -17,6 +18,7 @@ use reader::node::Syntax;
 use reader::node::name_length;
 use reader::node::pair_in;
 use reader::node::production_place;
+use reader::node::token;
 use reader::read::class_place;
 ghost use mathlib.Core.Path.{_≡_};
 ghost use mathlib.Core.List.{List};
@@ -32,7 +34,7 @@ ghost use Rattle.writer.specs.Inner.Runs.{Tables, tables, RowAsks, RowGi
 
 // Codes in a row from a position in the body on, each argument replaced by its run: that of a clause, or operands, whose
 // kinds stand in the target from `first` up to `stop`. Behind the last one nothing is left to do, so its operands are
-// run here.
+// run here; so is an argument that is a token of a class.
 fn run_row(
     syntax: Syntax,
     source: &[u8],
@@ -130,33 +132,60 @@ fn run_row(
             },
             Step::Argument(i) => {
                 match argument_start(syntax, source, index, arguments, input, frame, i, ends) {
-                    Read::End(start) => match run_term(
-                        syntax,
-                        source,
-                        index,
-                        target,
-                        places,
-                        body,
-                        clauses,
-                        mapped,
-                        arguments,
-                        input,
-                        source[frame.from + (i - 1)],
-                        start,
-                        frame.levels,
-                        output,
-                        p,
-                    ) {
-                        Ran::To(e, d) => {
-                            learn(ends, i - 1, e);
-                            c += 2;
-                            p = d;
-                            q += 1;
+                    Read::End(start) => {
+                        let kind = source[frame.from + (i - 1)];
+                        let class = class_place(syntax, index, kind);
+                        if class != 0 {
+                            if frame.levels == 0 {
+                                return Ran::Full;
+                            }
+                            match leaf(
+                                token(source, class, input, start),
+                                input,
+                                start,
+                                output,
+                                p,
+                            ) {
+                                Ran::To(e, d) => {
+                                    learn(ends, i - 1, e);
+                                    c += 2;
+                                    p = d;
+                                    q += 1;
+                                }
+                                Ran::Full => {
+                                    return Ran::Full;
+                                }
+                            }
+                        } else {
+                            match run_term(
+                                syntax,
+                                source,
+                                index,
+                                target,
+                                places,
+                                body,
+                                clauses,
+                                mapped,
+                                arguments,
+                                input,
+                                kind,
+                                start,
+                                frame.levels,
+                                output,
+                                p,
+                            ) {
+                                Ran::To(e, d) => {
+                                    learn(ends, i - 1, e);
+                                    c += 2;
+                                    p = d;
+                                    q += 1;
+                                }
+                                Ran::Full => {
+                                    return Ran::Full;
+                                }
+                            }
                         }
-                        Ran::Full => {
-                            return Ran::Full;
-                        }
-                    },
+                    }
                     Read::Deep => {
                         return Ran::Full;
                     }

@@ -3,7 +3,7 @@ use mathlib.Core.Path.{_≡_, refl, ap, _∙_}
 use native.Mathlib.Omega.{arith}
 use lib.ListN.{length}
 use borrow.Author.Needs.{needs}
-use Rattle.reader.proofs.Laws.{end-in, row-short, named-in, named-kinds, named-end}
+use Rattle.reader.proofs.Laws.{end-in, class-at, row-short, named-in, named-kinds, named-end}
 use Rattle.reader.proofs.Check.{zeros}
 use Rattle.reader.specs.Inner.Positions.{KindsIn}
 use Rattle.reader.specs.declared.node.Read.the-variants.{End}
@@ -12,7 +12,7 @@ use Rattle.writer.specs.Inner.Runs.{tables, kindsOf, KnownOf, argumentsO
 use Rattle.writer.proofs.Pieces.{Held, puts-none, held-start, held-done, ending-to, ending-full, ending-none}
 use Rattle.writer.proofs.Steps.{kinds-short}
 use Rattle.writer.proofs.Ends.{known-none, argument-reached}
-use Rattle.writer.proofs.Turns.{puts-as, code-none, code-token, code-operands, code-argument, code-unknown, token-in, operands-in, argument-in, row-done, row-one, turn-next, turn-full, turn-none, name-full, name-last, name-leaf, name-row, name-stop, put-to, argument-kind, argument-at, argument-deep, argument-broken, node-none, node-cut, node-code, node-full, node-stopped, term-none, term-at-leaf, term-named, argument-learnt}
+use Rattle.writer.proofs.Turns.{puts-as, code-none, code-token, code-operands, code-argument, code-unknown, token-in, operands-in, argument-in, row-done, row-one, turn-next, turn-full, turn-none, name-full, name-last, name-leaf, name-row, name-stop, put-to, argument-kind, argument-at, argument-deep, argument-broken, node-none, node-cut, node-code, node-full, node-stopped, term-none, in-index, term-token, term-at-leaf, term-named, argument-learnt}
 use borrow.Fn.Kinds.{In}
 use borrow.Fn.PlainCycle.{Measures, is, falls, and}
 use Rattle.writer.proofs.run.run_row.Reads as run-row
@@ -25,8 +25,10 @@ use Rattle.fields.proofs.bytes.byte_at.Reads as byte-at-reads
 use Rattle.reader.proofs.node.name_length.Reads as name-length-reads
 use Rattle.reader.proofs.node.pair_in.Reads as pair-in-reads
 use Rattle.reader.proofs.node.production_place.Reads as production-place-reads
+use Rattle.reader.proofs.node.token.Reads as token-reads
 use Rattle.reader.proofs.read.class_place.Reads as class-place-reads
 use Rattle.writer.proofs.output.copy.Reads as copy-reads
+use Rattle.writer.proofs.output.leaf.Reads as leaf-reads
 use Rattle.writer.proofs.output.put_leaf.Reads as put-leaf-reads
 use Rattle.writer.proofs.starts.argument_start.Reads as argument-start-reads
 use Rattle.writer.proofs.starts.learn.Reads as learn-reads
@@ -64,7 +66,7 @@ abbrev run-row-μ-loop : run-row-lts.MeasureT-loop
 run-row-μ-loop syntax source index target places body clauses mapped arguments input frame ends₀ clause first stop at levels output₀ pos root₀ q₀ end₀ c₀ p₀ left₀ ends output root q end c p left = 1025 * left + (end - q)
 
 abbrev run-row-calls : ℕ → run-row-lts.Claims
-run-row-calls t = (sign-length-reads.Asked, sign-length-reads.Learnt, kind-at-reads.Asked, kind-at-reads.Learnt, code-step-reads.Asked, code-step-reads.Learnt, copy-reads.Asked, copy-reads.Learnt, run-row-below t, run-row.Post, argument-start-reads.Asked, argument-start-reads.Learnt, run-term-below t, run-term.Post, learn-reads.Asked, learn-reads.Learnt)
+run-row-calls t = (sign-length-reads.Asked, sign-length-reads.Learnt, kind-at-reads.Asked, kind-at-reads.Learnt, code-step-reads.Asked, code-step-reads.Learnt, copy-reads.Asked, copy-reads.Learnt, run-row-below t, run-row.Post, argument-start-reads.Asked, argument-start-reads.Learnt, class-place-reads.Asked, class-place-reads.Learnt, token-reads.Asked, token-reads.Learnt, leaf-reads.Asked, leaf-reads.Learnt, learn-reads.Asked, learn-reads.Learnt, run-term-below t, run-term.Post)
 
 abbrev run-term-calls : ℕ → run-term-lts.Claims
 run-term-calls t = (class-place-reads.Asked, class-place-reads.Learnt, production-place-reads.Asked, production-place-reads.Learnt, put-leaf-reads.Asked, put-leaf-reads.Learnt, sign-length-reads.Asked, sign-length-reads.Learnt, byte-at-reads.Asked, byte-at-reads.Learnt, place-of-reads.Asked, place-of-reads.Learnt, pair-in-reads.Asked, pair-in-reads.Learnt, name-length-reads.Asked, name-length-reads.Learnt, run-row-below t, run-row.Post, operand-start-reads.Asked, operand-start-reads.Learnt)
@@ -144,53 +146,95 @@ run-row-returns-4 t c = (name-full _ _ _ _ _ _ _ _ _ _ (c .before .before .befor
 run-row-argument-start-requires : (t : ℕ) → run-row-lts.Need-argument-start-requires (run-row-calls t) (run-row-at t) run-row.Post run-row-Inv-loop run-row-μ-loop
 run-row-argument-start-requires t c κs = (c .before .before .before .before .before .before .before .before .before .before .before .before .before .before .before .before .before .before .before .before .before .pre .1 .0 .source, c .before .before .before .before .before .before .before .before .before .before .before .before .before .before .before .before .before .before .before .before .before .pre .1 .1 .kinds, c .before .before .before .before .before .before .before .before .before .before .before .before .before .before .before .before .before .before .before .before .before .pre .1 .1 .start, c .before .before .before .before .before .before .before .before .before .loop .inv .1)
 
-run-row-sub-run-term : (t : ℕ) → run-row-lts.Need-sub-run-term (run-row-calls t) (run-row-at t) run-row.Post run-row-Inv-loop run-row-μ-loop
-run-row-sub-run-term t c = let b = argument-reached _ _ _ _ _ _ _ (c .before .before .before .before .before .argument-start .ensures .0) (c .before .start .given .1) in omega (arith, b .0)
+run-row-sub-kind : (t : ℕ) → run-row-lts.Need-sub-kind (run-row-calls t) (run-row-at t) run-row.Post run-row-Inv-loop run-row-μ-loop
+run-row-sub-kind t c = let b = argument-reached _ _ _ _ _ _ _ (c .before .before .before .before .before .argument-start .ensures .0) (c .before .start .given .1) in omega (arith, b .0)
 
-run-row-add-run-term : (t : ℕ) → run-row-lts.Need-add-run-term (run-row-calls t) (run-row-at t) run-row.Post run-row-Inv-loop run-row-μ-loop
-run-row-add-run-term t c = let b = argument-reached _ _ _ _ _ _ _ (c .before .before .before .before .before .before .argument-start .ensures .0) (c .before .before .start .given .1) in let k = argument-kind (c .before .before .before .before .before .before .before .before .before .before .before .before .before .before .before .before .before .before .before .before .before .before .before .before .before .before .before .before .args .source .now) _ _ _ (c .before .before .before .before .before .before .before .before .before .before .before .before .before .before .before .before .before .before .before .before .before .before .before .before .before .before .before .before .pre .1 .1 .kinds) (b .0) (b .1) in omega (arith, k .0, c .before .before .before .before .before .before .before .before .before .before .before .before .before .before .before .before .before .before .before .before .before .before .before .before .before .before .before .before .good .1 .0 .1)
+run-row-add-kind : (t : ℕ) → run-row-lts.Need-add-kind (run-row-calls t) (run-row-at t) run-row.Post run-row-Inv-loop run-row-μ-loop
+run-row-add-kind t c = let b = argument-reached _ _ _ _ _ _ _ (c .before .before .before .before .before .before .argument-start .ensures .0) (c .before .before .start .given .1) in let k = argument-kind (c .before .before .before .before .before .before .before .before .before .before .before .before .before .before .before .before .before .before .before .before .before .before .before .before .before .before .before .before .args .source .now) _ _ _ (c .before .before .before .before .before .before .before .before .before .before .before .before .before .before .before .before .before .before .before .before .before .before .before .before .before .before .before .before .pre .1 .1 .kinds) (b .0) (b .1) in omega (arith, k .0, c .before .before .before .before .before .before .before .before .before .before .before .before .before .before .before .before .before .before .before .before .before .before .before .before .before .before .before .before .good .1 .0 .1)
 
-run-row-shared-slice-read-run-term : (t : ℕ) → run-row-lts.Need-shared-slice-read-run-term (run-row-calls t) (run-row-at t) run-row.Post run-row-Inv-loop run-row-μ-loop
-run-row-shared-slice-read-run-term t c = let b = argument-reached _ _ _ _ _ _ _ (c .before .before .before .before .before .before .before .argument-start .ensures .0) (c .before .before .before .start .given .1) in let k = argument-kind (c .before .before .before .before .before .before .before .before .before .before .before .before .before .before .before .before .before .before .before .before .before .before .before .before .before .before .before .before .before .args .source .now) _ _ _ (c .before .before .before .before .before .before .before .before .before .before .before .before .before .before .before .before .before .before .before .before .before .before .before .before .before .before .before .before .before .pre .1 .1 .kinds) (b .0) (b .1) in k .0
+run-row-shared-slice-read-kind : (t : ℕ) → run-row-lts.Need-shared-slice-read-kind (run-row-calls t) (run-row-at t) run-row.Post run-row-Inv-loop run-row-μ-loop
+run-row-shared-slice-read-kind t c = let b = argument-reached _ _ _ _ _ _ _ (c .before .before .before .before .before .before .before .argument-start .ensures .0) (c .before .before .before .start .given .1) in let k = argument-kind (c .before .before .before .before .before .before .before .before .before .before .before .before .before .before .before .before .before .before .before .before .before .before .before .before .before .before .before .before .before .args .source .now) _ _ _ (c .before .before .before .before .before .before .before .before .before .before .before .before .before .before .before .before .before .before .before .before .before .before .before .before .before .before .before .before .before .pre .1 .1 .kinds) (b .0) (b .1) in k .0
 
-run-row-run-term-requires : (t : ℕ) → run-row-lts.Need-run-term-requires (run-row-calls t) (run-row-at t) run-row.Post run-row-Inv-loop run-row-μ-loop
-run-row-run-term-requires t c κs = let b = argument-reached _ _ _ _ _ _ _ (c .before .before .before .before .before .before .before .before .argument-start .ensures .0) (c .before .before .before .before .start .given .1) in let k = argument-kind (c .before .before .before .before .before .before .before .before .before .before .before .before .before .before .before .before .before .before .before .before .before .before .before .before .before .before .before .before .before .before .args .source .now) _ _ _ (c .before .before .before .before .before .before .before .before .before .before .before .before .before .before .before .before .before .before .before .before .before .before .before .before .before .before .before .before .before .before .pre .1 .1 .kinds) (b .0) (b .1) in (omega (arith, c .before .before .before .before .before .before .before .before .before .before .before .before .before .before .before .before .before .before .before .before .before .before .before .before .before .before .before .before .before .before .pre .0), (c .before .before .before .before .before .before .before .before .before .before .before .before .before .before .before .before .before .before .before .before .before .before .before .before .before .before .before .before .before .before .pre .1 .0, k .1, end-in _ (c .before .before .before .before .start .given .1) (c .before .before .before .before .before .before .before .before .argument-start .ensures .1), omega (arith, c .before .before .before .before .before .before .before .before .before .before .before .before .before .before .before .before .before .before .loop .inv .0 .room, c .before .before .before .before .before .before .before .before .before .before .before .before .before .before .before .before .before .before .loop .inv .5)))
-
-run-row-sub-learn : (t : ℕ) → run-row-lts.Need-sub-learn (run-row-calls t) (run-row-at t) run-row.Post run-row-Inv-loop run-row-μ-loop
-run-row-sub-learn t c = let b = argument-reached _ _ _ _ _ _ _ (c .before .before .before .before .before .before .before .before .before .before .before .before .before .before .before .argument-start .ensures .0) (c .before .before .before .before .before .before .before .before .before .before .before .start .given .1) in omega (arith, b .0)
-
-run-row-add-c : (t : ℕ) → run-row-lts.Need-add-c (run-row-calls t) (run-row-at t) run-row.Post run-row-Inv-loop run-row-μ-loop
-run-row-add-c t c = let b = argument-in _ _ _ (c .before .before .before .before .before .before .before .before .before .before .before .before .before .before .before .before .before .before .before .before .before .before .before .code-step .ensures .1) (c .before .before .before .before .before .before .before .before .before .before .before .before .before .before .before .before .before .before .before .before .before .i .given .1) in omega (arith, b .0, c .before .before .before .before .before .before .before .before .before .before .before .before .before .before .before .before .before .before .before .before .before .before .before .before .before .before .before .before .before .before .before .before .before .before .before .before .before .before .before .before .good .1 .1 .1 .1 .1 .0 .1)
-
-run-row-add-q-3 : (t : ℕ) → run-row-lts.Need-add-q-3 (run-row-calls t) (run-row-at t) run-row.Post run-row-Inv-loop run-row-μ-loop
-run-row-add-q-3 t c = let b = c .before .before .before .before .before .before .before .before .before .before .before .before .before .before .before .before .before .before .before .before .before .before .before .before .before .before .before .before .loop .inv .3 _ (omega arith) (c .before .before .before .before .before .before .before .before .before .before .before .before .before .before .before .before .before .before .before .before .before .before .before .before .before .before .before .loop-test .taken) in omega (arith, b .0, kinds-short (c .before .before .before .before .before .before .before .before .before .before .before .before .before .before .before .before .before .before .before .before .before .before .before .before .before .before .before .before .loop .root) (c .before .before .before .before .before .before .before .before .before .before .before .before .before .before .before .before .before .before .before .before .before .before .before .before .before .before .before .before .before .before .before .before .before .before .before .before .before .before .before .before .args .mapped .now) (c .before .before .before .before .before .before .before .before .before .before .before .before .before .before .before .before .before .before .before .before .before .before .before .before .before .before .before .before .before .before .before .before .before .before .before .before .before .before .before .before .args .target .now) (c .before .before .before .before .before .before .before .before .before .before .before .before .before .before .before .before .before .before .before .before .before .before .before .before .before .before .before .before .before .before .before .before .before .before .before .before .before .before .before .before .pre .1 .0 .mapped) (c .before .before .before .before .before .before .before .before .before .before .before .before .before .before .before .before .before .before .before .before .before .before .before .before .before .before .before .before .before .before .before .before .before .before .before .before .before .before .before .before .pre .1 .0 .target .short))
-
-run-row-loop-less-5 : (t : ℕ) → run-row-lts.Need-loop-less-5 (run-row-calls t) (run-row-at t) run-row.Post run-row-Inv-loop run-row-μ-loop
-run-row-loop-less-5 t c = omega (arith, c .before .before .before .before .before .before .before .before .before .before .before .before .before .before .before .before .before .before .before .before .before .before .before .before .before .before .before .loop-test .taken)
-
-run-row-loop-again-5 : (t : ℕ) → run-row-lts.Need-loop-again-5 (run-row-calls t) (run-row-at t) run-row.Post run-row-Inv-loop run-row-μ-loop
-run-row-loop-again-5 t c = let b = argument-reached _ _ _ _ _ _ _ (c .before .before .before .before .before .before .before .before .before .before .before .before .before .before .before .before .before .before .argument-start .ensures .0) (c .before .before .before .before .before .before .before .before .before .before .before .before .before .before .start .given .1) in let d = argument-in _ _ _ (c .before .before .before .before .before .before .before .before .before .before .before .before .before .before .before .before .before .before .before .before .before .before .before .code-step .ensures .1) (c .before .before .before .before .before .before .before .before .before .before .before .before .before .before .before .before .before .before .before .before .before .i .given .1) in (turn-next _ _ _ _ _ _ _ _ _ _ (c .before .before .before .before .before .before .before .before .before .before .before .before .before .before .before .before .before .before .before .before .before .before .before .before .before .before .before .loop-test .taken) (c .before .before .before .before .before .before .before .before .before .before .before .before .before .before .before .before .before .before .before .before .before .before .before .before .before .before .before .before .loop .inv .0) _ _ (puts-as (code-argument _ _ _ _ _ (c .before .before .before .before .before .before .before .before .before .before .before .before .before .before .before .before .before .before .before .before .before .before .before .before .before .before .if1 .left) (c .before .before .before .before .before .before .before .before .before .before .before .before .before .before .before .before .before .before .before .before .before .before .before .before .before .sign-length .ensures .0) (c .before .before .before .before .before .before .before .before .before .before .before .before .before .before .before .before .before .before .before .before .before .before .before .before .kind-at .ensures) (c .before .before .before .before .before .before .before .before .before .before .before .before .before .before .before .before .before .before .before .before .before .before .before .code-step .ensures .0) (c .before .before .before .before .before .before .before .before .before .before .before .before .before .before .before .before .before .before .before .before .before .i .given .1) ∙ ap (endingBy (End (c .before .before .before .before .before .before .before .before .before .before .before .before .before .before .before .before .before .before .before .before .before .before .before .before .before .before .before .before .loop .c + 2))) (argument-at _ _ _ _ (c .before .before .before .before .before .before .before .before .before .before .before .before .before .before .before .before .before .before .argument-start .ensures .0) (c .before .before .before .before .before .before .before .before .before .before .before .before .before .before .start .given .1))) (ending-to _ _ _ _ _ (c .before .before .before .before .before .before .before .before .before .run-term .ensures) (c .before .before .before .before .before .e3 .given .1) _ _ _ refl (d .0))) refl, argument-learnt _ _ _ _ _ _ _ _ _ _ _ (b .0) (b .2) (c .before .before .before .before .before .before .before .before .before .before .before .before .before .before .before .before .before .before .argument-start .ensures .2) (c .before .before .before .before .before .before .before .before .before .run-term .ensures) (c .before .before .before .before .before .e3 .given .1) (c .before .before .learn .ensures), d .0, (λ x i j. c .before .before .before .before .before .before .before .before .before .before .before .before .before .before .before .before .before .before .before .before .before .before .before .before .before .before .before .before .loop .inv .3 x (omega arith) j), c .before .before .before .before .before .before .before .before .before .before .before .before .before .before .before .before .before .before .before .before .before .before .before .before .before .before .before .before .loop .inv .4, c .before .before .before .before .before .before .before .before .output4 .given ∙ c .before .before .before .before .before .before .before .before .before .before .before .before .before .before .before .before .before .before .before .before .before .before .before .before .before .before .before .before .loop .inv .5, c .before .ends3 .given ∙ (c .before .before .before .before .before .before .before .before .before .before .before .before .before .before .before .before .before .ends2 .given ∙ c .before .before .before .before .before .before .before .before .before .before .before .before .before .before .before .before .before .before .before .before .before .before .before .before .before .before .before .before .loop .inv .6))
+run-row-class-place-requires : (t : ℕ) → run-row-lts.Need-class-place-requires (run-row-calls t) (run-row-at t) run-row.Post run-row-Inv-loop run-row-μ-loop
+run-row-class-place-requires t c κs = let b = argument-reached _ _ _ _ _ _ _ (c .before .before .before .before .before .before .before .argument-start .ensures .0) (c .before .before .before .start .given .1) in let k = argument-kind (c .before .before .before .before .before .before .before .before .before .before .before .before .before .before .before .before .before .before .before .before .before .before .before .before .before .before .before .before .before .args .source .now) _ _ _ (c .before .before .before .before .before .before .before .before .before .before .before .before .before .before .before .before .before .before .before .before .before .before .before .before .before .before .before .before .before .pre .1 .1 .kinds) (b .0) (b .1) in in-index (c .before .before .before .before .before .before .before .before .before .before .before .before .before .before .before .before .before .before .before .before .before .before .before .before .before .before .before .before .before .pre .1 .0 .source .long) (k .1)
 
 run-row-same-length-9 : (t : ℕ) → run-row-lts.Need-same-length-9 (run-row-calls t) (run-row-at t) run-row.Post run-row-Inv-loop run-row-μ-loop
-run-row-same-length-9 t c = c .before .before .before .before .before .before .before .before .before .before .before .before .ends2 .given ∙ c .before .before .before .before .before .before .before .before .before .before .before .before .before .before .before .before .before .before .before .before .before .before .before .loop .inv .6
+run-row-same-length-9 t c = c .before .before .before .before .before .before .before .before .before .before .ends2 .given ∙ c .before .before .before .before .before .before .before .before .before .before .before .before .before .before .before .before .before .before .before .before .before .loop .inv .6
 
 run-row-same-length-10 : (t : ℕ) → run-row-lts.Need-same-length-10 (run-row-calls t) (run-row-at t) run-row.Post run-row-Inv-loop run-row-μ-loop
-run-row-same-length-10 t c = c .before .before .before .output4 .given ∙ c .before .before .before .before .before .before .before .before .before .before .before .before .before .before .before .before .before .before .before .before .before .before .before .loop .inv .5
+run-row-same-length-10 t c = c .before .before .before .before .before .before .before .before .before .before .before .before .before .before .before .before .before .before .before .before .before .loop .inv .5
 
 run-row-returns-5 : (t : ℕ) → run-row-lts.Need-returns-5 (run-row-calls t) (run-row-at t) run-row.Post run-row-Inv-loop run-row-μ-loop
-run-row-returns-5 t c = (turn-full _ _ _ _ _ _ _ _ _ _ (c .before .before .before .before .before .before .before .before .before .before .before .before .before .before .before .before .before .before .before .before .before .before .loop-test .taken) (c .before .before .before .before .before .before .before .before .before .before .before .before .before .before .before .before .before .before .before .before .before .before .before .loop .inv .0) _ _ _ (puts-as (code-argument _ _ _ _ _ (c .before .before .before .before .before .before .before .before .before .before .before .before .before .before .before .before .before .before .before .before .before .if1 .left) (c .before .before .before .before .before .before .before .before .before .before .before .before .before .before .before .before .before .before .before .before .sign-length .ensures .0) (c .before .before .before .before .before .before .before .before .before .before .before .before .before .before .before .before .before .before .before .kind-at .ensures) (c .before .before .before .before .before .before .before .before .before .before .before .before .before .before .before .before .before .before .code-step .ensures .0) (c .before .before .before .before .before .before .before .before .before .before .before .before .before .before .before .before .i .given .1) ∙ ap (endingBy (End (c .before .before .before .before .before .before .before .before .before .before .before .before .before .before .before .before .before .before .before .before .before .before .before .loop .c + 2))) (argument-at _ _ _ _ (c .before .before .before .before .before .before .before .before .before .before .before .before .before .argument-start .ensures .0) (c .before .before .before .before .before .before .before .before .before .start .given .1))) (ending-full _ _ _ _ _ (c .before .before .before .before .run-term .ensures) (c .enum-told5 .given .1) (End (c .before .before .before .before .before .before .before .before .before .before .before .before .before .before .before .before .before .before .before .before .before .before .before .loop .c + 2)) (length (c .before .before .before .before .before .before .before .before .before .before .before .before .before .before .before .before .before .before .before .before .before .before .before .before .before .before .before .before .before .before .before .before .before .before .before .args .body .now)))) refl, c .before .before .before .before .before .before .before .before .before .before .before .before .before .argument-start .ensures .2)
+run-row-returns-5 t c = (turn-none _ _ _ _ _ _ _ _ _ _ _ (c .before .before .before .before .before .before .before .before .before .before .before .before .before .before .before .before .before .before .before .before .loop-test .taken) (c .before .before .before .before .before .before .before .before .before .before .before .before .before .before .before .before .before .before .before .before .before .loop .inv .0) (code-argument _ _ _ _ _ (c .before .before .before .before .before .before .before .before .before .before .before .before .before .before .before .before .before .before .before .if1 .left) (c .before .before .before .before .before .before .before .before .before .before .before .before .before .before .before .before .before .before .sign-length .ensures .0) (c .before .before .before .before .before .before .before .before .before .before .before .before .before .before .before .before .before .kind-at .ensures) (c .before .before .before .before .before .before .before .before .before .before .before .before .before .before .before .before .code-step .ensures .0) (c .before .before .before .before .before .before .before .before .before .before .before .before .before .before .i .given .1) ∙ ap (endingBy (End (c .before .before .before .before .before .before .before .before .before .before .before .before .before .before .before .before .before .before .before .before .before .loop .c + 2))) (argument-at _ _ _ _ (c .before .before .before .before .before .before .before .before .before .before .before .argument-start .ensures .0) (c .before .before .before .before .before .before .before .start .given .1) ∙ term-none _ _ _ _ (c .if5 .taken))), c .before .before .before .before .before .before .before .before .before .before .before .argument-start .ensures .2)
+
+run-row-token-requires : (t : ℕ) → run-row-lts.Need-token-requires (run-row-calls t) (run-row-at t) run-row.Post run-row-Inv-loop run-row-μ-loop
+run-row-token-requires t c κs = let b = argument-reached _ _ _ _ _ _ _ (c .before .before .before .before .before .before .before .before .before .before .before .argument-start .ensures .0) (c .before .before .before .before .before .before .before .start .given .1) in let k = argument-kind (c .before .before .before .before .before .before .before .before .before .before .before .before .before .before .before .before .before .before .before .before .before .before .before .before .before .before .before .before .before .before .before .before .before .args .source .now) _ _ _ (c .before .before .before .before .before .before .before .before .before .before .before .before .before .before .before .before .before .before .before .before .before .before .before .before .before .before .before .before .before .before .before .before .before .pre .1 .1 .kinds) (b .0) (b .1) in (end-in _ (c .before .before .before .before .before .before .before .start .given .1) (c .before .before .before .before .before .before .before .before .before .before .before .argument-start .ensures .1), λ z. class-at _ _ _ (c .before .before .before .before .before .before .before .before .before .before .before .before .before .before .before .before .before .before .before .before .before .before .before .before .before .before .before .before .before .before .before .before .before .pre .1 .0 .source) (k .1) (c .before .before .before .class-place .ensures) (c .before .before .if4 .taken))
+
+run-row-leaf-requires : (t : ℕ) → run-row-lts.Need-leaf-requires (run-row-calls t) (run-row-at t) run-row.Post run-row-Inv-loop run-row-μ-loop
+run-row-leaf-requires t c κs = (c .before .token .ensures .1, omega (arith, c .before .before .before .before .before .before .before .before .before .before .before .before .before .before .before .before .before .before .before .before .before .before .before .loop .inv .0 .room, c .before .before .before .before .before .before .before .before .before .before .before .before .before .before .before .before .before .before .before .before .before .before .before .loop .inv .5))
+
+run-row-sub-learn : (t : ℕ) → run-row-lts.Need-sub-learn (run-row-calls t) (run-row-at t) run-row.Post run-row-Inv-loop run-row-μ-loop
+run-row-sub-learn t c = let b = argument-reached _ _ _ _ _ _ _ (c .before .before .before .before .before .before .before .before .before .before .before .before .before .before .before .before .before .before .before .before .argument-start .ensures .0) (c .before .before .before .before .before .before .before .before .before .before .before .before .before .before .before .before .start .given .1) in omega (arith, b .0)
+
+run-row-add-c : (t : ℕ) → run-row-lts.Need-add-c (run-row-calls t) (run-row-at t) run-row.Post run-row-Inv-loop run-row-μ-loop
+run-row-add-c t c = let b = argument-in _ _ _ (c .before .before .before .before .before .before .before .before .before .before .before .before .before .before .before .before .before .before .before .before .before .before .before .before .before .before .before .before .code-step .ensures .1) (c .before .before .before .before .before .before .before .before .before .before .before .before .before .before .before .before .before .before .before .before .before .before .before .before .before .before .i .given .1) in omega (arith, b .0, c .before .before .before .before .before .before .before .before .before .before .before .before .before .before .before .before .before .before .before .before .before .before .before .before .before .before .before .before .before .before .before .before .before .before .before .before .before .before .before .before .before .before .before .before .before .good .1 .1 .1 .1 .1 .0 .1)
+
+run-row-add-q-3 : (t : ℕ) → run-row-lts.Need-add-q-3 (run-row-calls t) (run-row-at t) run-row.Post run-row-Inv-loop run-row-μ-loop
+run-row-add-q-3 t c = let b = c .before .before .before .before .before .before .before .before .before .before .before .before .before .before .before .before .before .before .before .before .before .before .before .before .before .before .before .before .before .before .before .before .before .loop .inv .3 _ (omega arith) (c .before .before .before .before .before .before .before .before .before .before .before .before .before .before .before .before .before .before .before .before .before .before .before .before .before .before .before .before .before .before .before .before .loop-test .taken) in omega (arith, b .0, kinds-short (c .before .before .before .before .before .before .before .before .before .before .before .before .before .before .before .before .before .before .before .before .before .before .before .before .before .before .before .before .before .before .before .before .before .loop .root) (c .before .before .before .before .before .before .before .before .before .before .before .before .before .before .before .before .before .before .before .before .before .before .before .before .before .before .before .before .before .before .before .before .before .before .before .before .before .before .before .before .before .before .before .before .before .args .mapped .now) (c .before .before .before .before .before .before .before .before .before .before .before .before .before .before .before .before .before .before .before .before .before .before .before .before .before .before .before .before .before .before .before .before .before .before .before .before .before .before .before .before .before .before .before .before .before .args .target .now) (c .before .before .before .before .before .before .before .before .before .before .before .before .before .before .before .before .before .before .before .before .before .before .before .before .before .before .before .before .before .before .before .before .before .before .before .before .before .before .before .before .before .before .before .before .before .pre .1 .0 .mapped) (c .before .before .before .before .before .before .before .before .before .before .before .before .before .before .before .before .before .before .before .before .before .before .before .before .before .before .before .before .before .before .before .before .before .before .before .before .before .before .before .before .before .before .before .before .before .pre .1 .0 .target .short))
+
+run-row-loop-less-5 : (t : ℕ) → run-row-lts.Need-loop-less-5 (run-row-calls t) (run-row-at t) run-row.Post run-row-Inv-loop run-row-μ-loop
+run-row-loop-less-5 t c = omega (arith, c .before .before .before .before .before .before .before .before .before .before .before .before .before .before .before .before .before .before .before .before .before .before .before .before .before .before .before .before .before .before .before .before .loop-test .taken)
+
+run-row-loop-again-5 : (t : ℕ) → run-row-lts.Need-loop-again-5 (run-row-calls t) (run-row-at t) run-row.Post run-row-Inv-loop run-row-μ-loop
+run-row-loop-again-5 t c = let v = puts-as (term-token (tables (c .before .before .before .before .before .before .before .before .before .before .before .before .before .before .before .before .before .before .before .before .before .before .before .before .before .before .before .before .before .before .before .before .before .before .before .before .before .before .before .before .before .before .before .before .before .args .syntax) (c .before .before .before .before .before .before .before .before .before .before .before .before .before .before .before .before .before .before .before .before .before .before .before .before .before .before .before .before .before .before .before .before .before .before .before .before .before .before .before .before .before .before .before .before .before .args .source .now) (c .before .before .before .before .before .before .before .before .before .before .before .before .before .before .before .before .before .before .before .before .before .before .before .before .before .before .before .before .before .before .before .before .before .before .before .before .before .before .before .before .before .before .before .before .before .args .index .now) (c .before .before .before .before .before .before .before .before .before .before .before .before .before .before .before .before .before .before .before .before .before .before .before .before .before .before .before .before .before .before .before .before .before .before .before .before .before .before .before .before .before .before .before .before .before .args .target .now) (c .before .before .before .before .before .before .before .before .before .before .before .before .before .before .before .before .before .before .before .before .before .before .before .before .before .before .before .before .before .before .before .before .before .before .before .before .before .before .before .before .before .before .before .before .before .args .places .now) (c .before .before .before .before .before .before .before .before .before .before .before .before .before .before .before .before .before .before .before .before .before .before .before .before .before .before .before .before .before .before .before .before .before .before .before .before .before .before .before .before .before .before .before .before .before .args .body .now) (c .before .before .before .before .before .before .before .before .before .before .before .before .before .before .before .before .before .before .before .before .before .before .before .before .before .before .before .before .before .before .before .before .before .before .before .before .before .before .before .before .before .before .before .before .before .args .clauses .now) (c .before .before .before .before .before .before .before .before .before .before .before .before .before .before .before .before .before .before .before .before .before .before .before .before .before .before .before .before .before .before .before .before .before .before .before .before .before .before .before .before .before .before .before .before .before .args .mapped .now) (c .before .before .before .before .before .before .before .before .before .before .before .before .before .before .before .before .before .before .before .before .before .before .before .before .before .before .before .before .before .before .before .before .before .before .before .before .before .before .before .before .before .before .before .before .before .args .arguments .now) (c .before .before .before .before .before .before .before .before .before .before .before .before .before .before .before .before .before .before .before .before .before .before .before .before .before .before .before .before .before .before .before .before .before .before .before .before .before .before .before .before .before .before .before .before .before .args .input .now)) _ _ _ (c .before .before .before .before .before .before .before .before .before .before .before .before .if5 .left) (c .before .before .before .before .before .before .before .before .before .before .before .before .before .before .before .class-place .ensures) (c .before .before .before .before .before .before .before .before .before .before .before .before .before .before .if4 .taken) (c .before .before .before .before .before .before .before .before .before .before .before .token .ensures .0)) (c .before .before .before .before .before .before .before .before .before .leaf .ensures) in let b = argument-reached _ _ _ _ _ _ _ (c .before .before .before .before .before .before .before .before .before .before .before .before .before .before .before .before .before .before .before .before .before .before .before .argument-start .ensures .0) (c .before .before .before .before .before .before .before .before .before .before .before .before .before .before .before .before .before .before .before .start .given .1) in let d = argument-in _ _ _ (c .before .before .before .before .before .before .before .before .before .before .before .before .before .before .before .before .before .before .before .before .before .before .before .before .before .before .before .before .code-step .ensures .1) (c .before .before .before .before .before .before .before .before .before .before .before .before .before .before .before .before .before .before .before .before .before .before .before .before .before .before .i .given .1) in (turn-next _ _ _ _ _ _ _ _ _ _ (c .before .before .before .before .before .before .before .before .before .before .before .before .before .before .before .before .before .before .before .before .before .before .before .before .before .before .before .before .before .before .before .before .loop-test .taken) (c .before .before .before .before .before .before .before .before .before .before .before .before .before .before .before .before .before .before .before .before .before .before .before .before .before .before .before .before .before .before .before .before .before .loop .inv .0) _ _ (puts-as (code-argument _ _ _ _ _ (c .before .before .before .before .before .before .before .before .before .before .before .before .before .before .before .before .before .before .before .before .before .before .before .before .before .before .before .before .before .before .before .if1 .left) (c .before .before .before .before .before .before .before .before .before .before .before .before .before .before .before .before .before .before .before .before .before .before .before .before .before .before .before .before .before .before .sign-length .ensures .0) (c .before .before .before .before .before .before .before .before .before .before .before .before .before .before .before .before .before .before .before .before .before .before .before .before .before .before .before .before .before .kind-at .ensures) (c .before .before .before .before .before .before .before .before .before .before .before .before .before .before .before .before .before .before .before .before .before .before .before .before .before .before .before .before .code-step .ensures .0) (c .before .before .before .before .before .before .before .before .before .before .before .before .before .before .before .before .before .before .before .before .before .before .before .before .before .before .i .given .1) ∙ ap (endingBy (End (c .before .before .before .before .before .before .before .before .before .before .before .before .before .before .before .before .before .before .before .before .before .before .before .before .before .before .before .before .before .before .before .before .before .loop .c + 2))) (argument-at _ _ _ _ (c .before .before .before .before .before .before .before .before .before .before .before .before .before .before .before .before .before .before .before .before .before .before .before .argument-start .ensures .0) (c .before .before .before .before .before .before .before .before .before .before .before .before .before .before .before .before .before .before .before .start .given .1))) (ending-to _ _ _ _ _ v (c .before .before .before .before .before .e3 .given .1) _ _ _ refl (d .0))) refl, argument-learnt _ _ _ _ _ _ _ _ _ _ _ (b .0) (b .2) (c .before .before .before .before .before .before .before .before .before .before .before .before .before .before .before .before .before .before .before .before .before .before .before .argument-start .ensures .2) v (c .before .before .before .before .before .e3 .given .1) (c .before .before .learn .ensures), d .0, (λ x i j. c .before .before .before .before .before .before .before .before .before .before .before .before .before .before .before .before .before .before .before .before .before .before .before .before .before .before .before .before .before .before .before .before .before .loop .inv .3 x (omega arith) j), c .before .before .before .before .before .before .before .before .before .before .before .before .before .before .before .before .before .before .before .before .before .before .before .before .before .before .before .before .before .before .before .before .before .loop .inv .4, c .before .before .before .before .before .before .before .before .output4 .given ∙ c .before .before .before .before .before .before .before .before .before .before .before .before .before .before .before .before .before .before .before .before .before .before .before .before .before .before .before .before .before .before .before .before .before .loop .inv .5, c .before .ends3 .given ∙ (c .before .before .before .before .before .before .before .before .before .before .before .before .before .before .before .before .before .before .before .before .before .before .ends2 .given ∙ c .before .before .before .before .before .before .before .before .before .before .before .before .before .before .before .before .before .before .before .before .before .before .before .before .before .before .before .before .before .before .before .before .before .loop .inv .6))
+
+run-row-same-length-11 : (t : ℕ) → run-row-lts.Need-same-length-11 (run-row-calls t) (run-row-at t) run-row.Post run-row-Inv-loop run-row-μ-loop
+run-row-same-length-11 t c = c .before .before .before .before .before .before .before .before .before .before .before .before .before .before .before .before .before .ends2 .given ∙ c .before .before .before .before .before .before .before .before .before .before .before .before .before .before .before .before .before .before .before .before .before .before .before .before .before .before .before .before .loop .inv .6
+
+run-row-same-length-12 : (t : ℕ) → run-row-lts.Need-same-length-12 (run-row-calls t) (run-row-at t) run-row.Post run-row-Inv-loop run-row-μ-loop
+run-row-same-length-12 t c = c .before .before .before .output4 .given ∙ c .before .before .before .before .before .before .before .before .before .before .before .before .before .before .before .before .before .before .before .before .before .before .before .before .before .before .before .before .loop .inv .5
 
 run-row-returns-6 : (t : ℕ) → run-row-lts.Need-returns-6 (run-row-calls t) (run-row-at t) run-row.Post run-row-Inv-loop run-row-μ-loop
-run-row-returns-6 t c = (turn-none _ _ _ _ _ _ _ _ _ _ _ (c .before .before .before .before .before .before .before .before .before .before .before .before .before .loop-test .taken) (c .before .before .before .before .before .before .before .before .before .before .before .before .before .before .loop .inv .0) (code-argument _ _ _ _ _ (c .before .before .before .before .before .before .before .before .before .before .before .before .if1 .left) (c .before .before .before .before .before .before .before .before .before .before .before .sign-length .ensures .0) (c .before .before .before .before .before .before .before .before .before .before .kind-at .ensures) (c .before .before .before .before .before .before .before .before .before .code-step .ensures .0) (c .before .before .before .before .before .before .before .i .given .1) ∙ ap (endingBy (End (c .before .before .before .before .before .before .before .before .before .before .before .before .before .before .loop .c + 2))) (argument-deep _ _ _ _ (c .before .before .before .before .argument-start .ensures .0) (c .enum-told6 .given .1))), c .before .before .before .before .argument-start .ensures .2)
+run-row-returns-6 t c = let v = puts-as (term-token (tables (c .before .before .before .before .before .before .before .before .before .before .before .before .before .before .before .before .before .before .before .before .before .before .before .before .before .before .before .before .before .before .before .before .before .before .before .before .before .before .before .before .args .syntax) (c .before .before .before .before .before .before .before .before .before .before .before .before .before .before .before .before .before .before .before .before .before .before .before .before .before .before .before .before .before .before .before .before .before .before .before .before .before .before .before .before .args .source .now) (c .before .before .before .before .before .before .before .before .before .before .before .before .before .before .before .before .before .before .before .before .before .before .before .before .before .before .before .before .before .before .before .before .before .before .before .before .before .before .before .before .args .index .now) (c .before .before .before .before .before .before .before .before .before .before .before .before .before .before .before .before .before .before .before .before .before .before .before .before .before .before .before .before .before .before .before .before .before .before .before .before .before .before .before .before .args .target .now) (c .before .before .before .before .before .before .before .before .before .before .before .before .before .before .before .before .before .before .before .before .before .before .before .before .before .before .before .before .before .before .before .before .before .before .before .before .before .before .before .before .args .places .now) (c .before .before .before .before .before .before .before .before .before .before .before .before .before .before .before .before .before .before .before .before .before .before .before .before .before .before .before .before .before .before .before .before .before .before .before .before .before .before .before .before .args .body .now) (c .before .before .before .before .before .before .before .before .before .before .before .before .before .before .before .before .before .before .before .before .before .before .before .before .before .before .before .before .before .before .before .before .before .before .before .before .before .before .before .before .args .clauses .now) (c .before .before .before .before .before .before .before .before .before .before .before .before .before .before .before .before .before .before .before .before .before .before .before .before .before .before .before .before .before .before .before .before .before .before .before .before .before .before .before .before .args .mapped .now) (c .before .before .before .before .before .before .before .before .before .before .before .before .before .before .before .before .before .before .before .before .before .before .before .before .before .before .before .before .before .before .before .before .before .before .before .before .before .before .before .before .args .arguments .now) (c .before .before .before .before .before .before .before .before .before .before .before .before .before .before .before .before .before .before .before .before .before .before .before .before .before .before .before .before .before .before .before .before .before .before .before .before .before .before .before .before .args .input .now)) _ _ _ (c .before .before .before .before .before .before .before .if5 .left) (c .before .before .before .before .before .before .before .before .before .before .class-place .ensures) (c .before .before .before .before .before .before .before .before .before .if4 .taken) (c .before .before .before .before .before .before .token .ensures .0)) (c .before .before .before .before .leaf .ensures) in (turn-full _ _ _ _ _ _ _ _ _ _ (c .before .before .before .before .before .before .before .before .before .before .before .before .before .before .before .before .before .before .before .before .before .before .before .before .before .before .before .loop-test .taken) (c .before .before .before .before .before .before .before .before .before .before .before .before .before .before .before .before .before .before .before .before .before .before .before .before .before .before .before .before .loop .inv .0) _ _ _ (puts-as (code-argument _ _ _ _ _ (c .before .before .before .before .before .before .before .before .before .before .before .before .before .before .before .before .before .before .before .before .before .before .before .before .before .before .if1 .left) (c .before .before .before .before .before .before .before .before .before .before .before .before .before .before .before .before .before .before .before .before .before .before .before .before .before .sign-length .ensures .0) (c .before .before .before .before .before .before .before .before .before .before .before .before .before .before .before .before .before .before .before .before .before .before .before .before .kind-at .ensures) (c .before .before .before .before .before .before .before .before .before .before .before .before .before .before .before .before .before .before .before .before .before .before .before .code-step .ensures .0) (c .before .before .before .before .before .before .before .before .before .before .before .before .before .before .before .before .before .before .before .before .before .i .given .1) ∙ ap (endingBy (End (c .before .before .before .before .before .before .before .before .before .before .before .before .before .before .before .before .before .before .before .before .before .before .before .before .before .before .before .before .loop .c + 2))) (argument-at _ _ _ _ (c .before .before .before .before .before .before .before .before .before .before .before .before .before .before .before .before .before .before .argument-start .ensures .0) (c .before .before .before .before .before .before .before .before .before .before .before .before .before .before .start .given .1))) (ending-full _ _ _ _ _ v (c .enum-told5 .given .1) (End (c .before .before .before .before .before .before .before .before .before .before .before .before .before .before .before .before .before .before .before .before .before .before .before .before .before .before .before .before .loop .c + 2)) (length (c .before .before .before .before .before .before .before .before .before .before .before .before .before .before .before .before .before .before .before .before .before .before .before .before .before .before .before .before .before .before .before .before .before .before .before .before .before .before .before .before .args .body .now)))) refl, c .before .before .before .before .before .before .before .before .before .before .before .before .before .before .before .before .before .before .argument-start .ensures .2)
+
+run-row-run-term-requires : (t : ℕ) → run-row-lts.Need-run-term-requires (run-row-calls t) (run-row-at t) run-row.Post run-row-Inv-loop run-row-μ-loop
+run-row-run-term-requires t c κs = let b = argument-reached _ _ _ _ _ _ _ (c .before .before .before .before .before .before .before .before .before .before .argument-start .ensures .0) (c .before .before .before .before .before .before .start .given .1) in let k = argument-kind (c .before .before .before .before .before .before .before .before .before .before .before .before .before .before .before .before .before .before .before .before .before .before .before .before .before .before .before .before .before .before .before .before .args .source .now) _ _ _ (c .before .before .before .before .before .before .before .before .before .before .before .before .before .before .before .before .before .before .before .before .before .before .before .before .before .before .before .before .before .before .before .before .pre .1 .1 .kinds) (b .0) (b .1) in (omega (arith, c .before .before .before .before .before .before .before .before .before .before .before .before .before .before .before .before .before .before .before .before .before .before .before .before .before .before .before .before .before .before .before .before .pre .0), (c .before .before .before .before .before .before .before .before .before .before .before .before .before .before .before .before .before .before .before .before .before .before .before .before .before .before .before .before .before .before .before .before .pre .1 .0, k .1, end-in _ (c .before .before .before .before .before .before .start .given .1) (c .before .before .before .before .before .before .before .before .before .before .argument-start .ensures .1), omega (arith, c .before .before .before .before .before .before .before .before .before .before .before .before .before .before .before .before .before .before .before .before .loop .inv .0 .room, c .before .before .before .before .before .before .before .before .before .before .before .before .before .before .before .before .before .before .before .before .loop .inv .5)))
+
+run-row-sub-learn-2 : (t : ℕ) → run-row-lts.Need-sub-learn-2 (run-row-calls t) (run-row-at t) run-row.Post run-row-Inv-loop run-row-μ-loop
+run-row-sub-learn-2 t c = let b = argument-reached _ _ _ _ _ _ _ (c .before .before .before .before .before .before .before .before .before .before .before .before .before .before .before .before .before .argument-start .ensures .0) (c .before .before .before .before .before .before .before .before .before .before .before .before .before .start .given .1) in omega (arith, b .0)
+
+run-row-add-c-2 : (t : ℕ) → run-row-lts.Need-add-c-2 (run-row-calls t) (run-row-at t) run-row.Post run-row-Inv-loop run-row-μ-loop
+run-row-add-c-2 t c = let b = argument-in _ _ _ (c .before .before .before .before .before .before .before .before .before .before .before .before .before .before .before .before .before .before .before .before .before .before .before .before .before .code-step .ensures .1) (c .before .before .before .before .before .before .before .before .before .before .before .before .before .before .before .before .before .before .before .before .before .before .before .i .given .1) in omega (arith, b .0, c .before .before .before .before .before .before .before .before .before .before .before .before .before .before .before .before .before .before .before .before .before .before .before .before .before .before .before .before .before .before .before .before .before .before .before .before .before .before .before .before .before .before .good .1 .1 .1 .1 .1 .0 .1)
+
+run-row-add-q-4 : (t : ℕ) → run-row-lts.Need-add-q-4 (run-row-calls t) (run-row-at t) run-row.Post run-row-Inv-loop run-row-μ-loop
+run-row-add-q-4 t c = let b = c .before .before .before .before .before .before .before .before .before .before .before .before .before .before .before .before .before .before .before .before .before .before .before .before .before .before .before .before .before .before .loop .inv .3 _ (omega arith) (c .before .before .before .before .before .before .before .before .before .before .before .before .before .before .before .before .before .before .before .before .before .before .before .before .before .before .before .before .before .loop-test .taken) in omega (arith, b .0, kinds-short (c .before .before .before .before .before .before .before .before .before .before .before .before .before .before .before .before .before .before .before .before .before .before .before .before .before .before .before .before .before .before .loop .root) (c .before .before .before .before .before .before .before .before .before .before .before .before .before .before .before .before .before .before .before .before .before .before .before .before .before .before .before .before .before .before .before .before .before .before .before .before .before .before .before .before .before .before .args .mapped .now) (c .before .before .before .before .before .before .before .before .before .before .before .before .before .before .before .before .before .before .before .before .before .before .before .before .before .before .before .before .before .before .before .before .before .before .before .before .before .before .before .before .before .before .args .target .now) (c .before .before .before .before .before .before .before .before .before .before .before .before .before .before .before .before .before .before .before .before .before .before .before .before .before .before .before .before .before .before .before .before .before .before .before .before .before .before .before .before .before .before .pre .1 .0 .mapped) (c .before .before .before .before .before .before .before .before .before .before .before .before .before .before .before .before .before .before .before .before .before .before .before .before .before .before .before .before .before .before .before .before .before .before .before .before .before .before .before .before .before .before .pre .1 .0 .target .short))
+
+run-row-loop-less-6 : (t : ℕ) → run-row-lts.Need-loop-less-6 (run-row-calls t) (run-row-at t) run-row.Post run-row-Inv-loop run-row-μ-loop
+run-row-loop-less-6 t c = omega (arith, c .before .before .before .before .before .before .before .before .before .before .before .before .before .before .before .before .before .before .before .before .before .before .before .before .before .before .before .before .before .loop-test .taken)
+
+run-row-loop-again-6 : (t : ℕ) → run-row-lts.Need-loop-again-6 (run-row-calls t) (run-row-at t) run-row.Post run-row-Inv-loop run-row-μ-loop
+run-row-loop-again-6 t c = let b = argument-reached _ _ _ _ _ _ _ (c .before .before .before .before .before .before .before .before .before .before .before .before .before .before .before .before .before .before .before .before .argument-start .ensures .0) (c .before .before .before .before .before .before .before .before .before .before .before .before .before .before .before .before .start .given .1) in let d = argument-in _ _ _ (c .before .before .before .before .before .before .before .before .before .before .before .before .before .before .before .before .before .before .before .before .before .before .before .before .before .code-step .ensures .1) (c .before .before .before .before .before .before .before .before .before .before .before .before .before .before .before .before .before .before .before .before .before .before .before .i .given .1) in (turn-next _ _ _ _ _ _ _ _ _ _ (c .before .before .before .before .before .before .before .before .before .before .before .before .before .before .before .before .before .before .before .before .before .before .before .before .before .before .before .before .before .loop-test .taken) (c .before .before .before .before .before .before .before .before .before .before .before .before .before .before .before .before .before .before .before .before .before .before .before .before .before .before .before .before .before .before .loop .inv .0) _ _ (puts-as (code-argument _ _ _ _ _ (c .before .before .before .before .before .before .before .before .before .before .before .before .before .before .before .before .before .before .before .before .before .before .before .before .before .before .before .before .if1 .left) (c .before .before .before .before .before .before .before .before .before .before .before .before .before .before .before .before .before .before .before .before .before .before .before .before .before .before .before .sign-length .ensures .0) (c .before .before .before .before .before .before .before .before .before .before .before .before .before .before .before .before .before .before .before .before .before .before .before .before .before .before .kind-at .ensures) (c .before .before .before .before .before .before .before .before .before .before .before .before .before .before .before .before .before .before .before .before .before .before .before .before .before .code-step .ensures .0) (c .before .before .before .before .before .before .before .before .before .before .before .before .before .before .before .before .before .before .before .before .before .before .before .i .given .1) ∙ ap (endingBy (End (c .before .before .before .before .before .before .before .before .before .before .before .before .before .before .before .before .before .before .before .before .before .before .before .before .before .before .before .before .before .before .loop .c + 2))) (argument-at _ _ _ _ (c .before .before .before .before .before .before .before .before .before .before .before .before .before .before .before .before .before .before .before .before .argument-start .ensures .0) (c .before .before .before .before .before .before .before .before .before .before .before .before .before .before .before .before .start .given .1))) (ending-to _ _ _ _ _ (c .before .before .before .before .before .before .before .before .before .run-term .ensures) (c .before .before .before .before .before .e4 .given .1) _ _ _ refl (d .0))) refl, argument-learnt _ _ _ _ _ _ _ _ _ _ _ (b .0) (b .2) (c .before .before .before .before .before .before .before .before .before .before .before .before .before .before .before .before .before .before .before .before .argument-start .ensures .2) (c .before .before .before .before .before .before .before .before .before .run-term .ensures) (c .before .before .before .before .before .e4 .given .1) (c .before .before .learn2 .ensures), d .0, (λ x i j. c .before .before .before .before .before .before .before .before .before .before .before .before .before .before .before .before .before .before .before .before .before .before .before .before .before .before .before .before .before .before .loop .inv .3 x (omega arith) j), c .before .before .before .before .before .before .before .before .before .before .before .before .before .before .before .before .before .before .before .before .before .before .before .before .before .before .before .before .before .before .loop .inv .4, c .before .before .before .before .before .before .before .before .output5 .given ∙ c .before .before .before .before .before .before .before .before .before .before .before .before .before .before .before .before .before .before .before .before .before .before .before .before .before .before .before .before .before .before .loop .inv .5, c .before .ends4 .given ∙ (c .before .before .before .before .before .before .before .before .before .before .before .before .before .before .before .before .before .before .before .ends2 .given ∙ c .before .before .before .before .before .before .before .before .before .before .before .before .before .before .before .before .before .before .before .before .before .before .before .before .before .before .before .before .before .before .loop .inv .6))
+
+run-row-same-length-13 : (t : ℕ) → run-row-lts.Need-same-length-13 (run-row-calls t) (run-row-at t) run-row.Post run-row-Inv-loop run-row-μ-loop
+run-row-same-length-13 t c = c .before .before .before .before .before .before .before .before .before .before .before .before .before .before .ends2 .given ∙ c .before .before .before .before .before .before .before .before .before .before .before .before .before .before .before .before .before .before .before .before .before .before .before .before .before .loop .inv .6
+
+run-row-same-length-14 : (t : ℕ) → run-row-lts.Need-same-length-14 (run-row-calls t) (run-row-at t) run-row.Post run-row-Inv-loop run-row-μ-loop
+run-row-same-length-14 t c = c .before .before .before .output5 .given ∙ c .before .before .before .before .before .before .before .before .before .before .before .before .before .before .before .before .before .before .before .before .before .before .before .before .before .loop .inv .5
 
 run-row-returns-7 : (t : ℕ) → run-row-lts.Need-returns-7 (run-row-calls t) (run-row-at t) run-row.Post run-row-Inv-loop run-row-μ-loop
-run-row-returns-7 t c = (turn-none _ _ _ _ _ _ _ _ _ _ _ (c .before .before .before .before .before .before .before .before .before .before .before .before .before .loop-test .taken) (c .before .before .before .before .before .before .before .before .before .before .before .before .before .before .loop .inv .0) (code-argument _ _ _ _ _ (c .before .before .before .before .before .before .before .before .before .before .before .before .if1 .left) (c .before .before .before .before .before .before .before .before .before .before .before .sign-length .ensures .0) (c .before .before .before .before .before .before .before .before .before .before .kind-at .ensures) (c .before .before .before .before .before .before .before .before .before .code-step .ensures .0) (c .before .before .before .before .before .before .before .i .given .1) ∙ ap (endingBy (End (c .before .before .before .before .before .before .before .before .before .before .before .before .before .before .loop .c + 2))) (argument-broken _ _ _ _ (c .before .before .before .before .argument-start .ensures .0) (c .enum-told7 .given .1))), c .before .before .before .before .argument-start .ensures .2)
+run-row-returns-7 t c = (turn-full _ _ _ _ _ _ _ _ _ _ (c .before .before .before .before .before .before .before .before .before .before .before .before .before .before .before .before .before .before .before .before .before .before .before .before .loop-test .taken) (c .before .before .before .before .before .before .before .before .before .before .before .before .before .before .before .before .before .before .before .before .before .before .before .before .before .loop .inv .0) _ _ _ (puts-as (code-argument _ _ _ _ _ (c .before .before .before .before .before .before .before .before .before .before .before .before .before .before .before .before .before .before .before .before .before .before .before .if1 .left) (c .before .before .before .before .before .before .before .before .before .before .before .before .before .before .before .before .before .before .before .before .before .before .sign-length .ensures .0) (c .before .before .before .before .before .before .before .before .before .before .before .before .before .before .before .before .before .before .before .before .before .kind-at .ensures) (c .before .before .before .before .before .before .before .before .before .before .before .before .before .before .before .before .before .before .before .before .code-step .ensures .0) (c .before .before .before .before .before .before .before .before .before .before .before .before .before .before .before .before .before .before .i .given .1) ∙ ap (endingBy (End (c .before .before .before .before .before .before .before .before .before .before .before .before .before .before .before .before .before .before .before .before .before .before .before .before .before .loop .c + 2))) (argument-at _ _ _ _ (c .before .before .before .before .before .before .before .before .before .before .before .before .before .before .before .argument-start .ensures .0) (c .before .before .before .before .before .before .before .before .before .before .before .start .given .1))) (ending-full _ _ _ _ _ (c .before .before .before .before .run-term .ensures) (c .enum-told6 .given .1) (End (c .before .before .before .before .before .before .before .before .before .before .before .before .before .before .before .before .before .before .before .before .before .before .before .before .before .loop .c + 2)) (length (c .before .before .before .before .before .before .before .before .before .before .before .before .before .before .before .before .before .before .before .before .before .before .before .before .before .before .before .before .before .before .before .before .before .before .before .before .before .args .body .now)))) refl, c .before .before .before .before .before .before .before .before .before .before .before .before .before .before .before .argument-start .ensures .2)
 
 run-row-returns-8 : (t : ℕ) → run-row-lts.Need-returns-8 (run-row-calls t) (run-row-at t) run-row.Post run-row-Inv-loop run-row-μ-loop
-run-row-returns-8 t c = (turn-none _ _ _ _ _ _ _ _ _ _ _ (c .before .before .before .before .before .before .loop-test .taken) (c .before .before .before .before .before .before .before .loop .inv .0) (code-unknown _ _ _ _ _ (c .before .before .before .before .before .if1 .left) (c .before .before .before .before .sign-length .ensures .0) (c .before .before .before .kind-at .ensures) (c .before .before .code-step .ensures .0) (c .enum-told8 .given .1)), c .before .before .before .before .before .before .before .loop .inv .1)
+run-row-returns-8 t c = (turn-none _ _ _ _ _ _ _ _ _ _ _ (c .before .before .before .before .before .before .before .before .before .before .before .before .before .loop-test .taken) (c .before .before .before .before .before .before .before .before .before .before .before .before .before .before .loop .inv .0) (code-argument _ _ _ _ _ (c .before .before .before .before .before .before .before .before .before .before .before .before .if1 .left) (c .before .before .before .before .before .before .before .before .before .before .before .sign-length .ensures .0) (c .before .before .before .before .before .before .before .before .before .before .kind-at .ensures) (c .before .before .before .before .before .before .before .before .before .code-step .ensures .0) (c .before .before .before .before .before .before .before .i .given .1) ∙ ap (endingBy (End (c .before .before .before .before .before .before .before .before .before .before .before .before .before .before .loop .c + 2))) (argument-deep _ _ _ _ (c .before .before .before .before .argument-start .ensures .0) (c .enum-told7 .given .1))), c .before .before .before .before .argument-start .ensures .2)
 
 run-row-returns-9 : (t : ℕ) → run-row-lts.Need-returns-9 (run-row-calls t) (run-row-at t) run-row.Post run-row-Inv-loop run-row-μ-loop
-run-row-returns-9 t c = (held-done _ _ _ _ _ _ _ _ (c .before .loop .inv .0) (row-done _ _ _ _ _ (c .loop-test .left)) (c .before .loop .inv .2), c .before .loop .inv .1)
+run-row-returns-9 t c = (turn-none _ _ _ _ _ _ _ _ _ _ _ (c .before .before .before .before .before .before .before .before .before .before .before .before .before .loop-test .taken) (c .before .before .before .before .before .before .before .before .before .before .before .before .before .before .loop .inv .0) (code-argument _ _ _ _ _ (c .before .before .before .before .before .before .before .before .before .before .before .before .if1 .left) (c .before .before .before .before .before .before .before .before .before .before .before .sign-length .ensures .0) (c .before .before .before .before .before .before .before .before .before .before .kind-at .ensures) (c .before .before .before .before .before .before .before .before .before .code-step .ensures .0) (c .before .before .before .before .before .before .before .i .given .1) ∙ ap (endingBy (End (c .before .before .before .before .before .before .before .before .before .before .before .before .before .before .loop .c + 2))) (argument-broken _ _ _ _ (c .before .before .before .before .argument-start .ensures .0) (c .enum-told8 .given .1))), c .before .before .before .before .argument-start .ensures .2)
+
+run-row-returns-10 : (t : ℕ) → run-row-lts.Need-returns-10 (run-row-calls t) (run-row-at t) run-row.Post run-row-Inv-loop run-row-μ-loop
+run-row-returns-10 t c = (turn-none _ _ _ _ _ _ _ _ _ _ _ (c .before .before .before .before .before .before .loop-test .taken) (c .before .before .before .before .before .before .before .loop .inv .0) (code-unknown _ _ _ _ _ (c .before .before .before .before .before .if1 .left) (c .before .before .before .before .sign-length .ensures .0) (c .before .before .before .kind-at .ensures) (c .before .before .code-step .ensures .0) (c .enum-told9 .given .1)), c .before .before .before .before .before .before .before .loop .inv .1)
+
+run-row-returns-11 : (t : ℕ) → run-row-lts.Need-returns-11 (run-row-calls t) (run-row-at t) run-row.Post run-row-Inv-loop run-row-μ-loop
+run-row-returns-11 t c = (held-done _ _ _ _ _ _ _ _ (c .before .loop .inv .0) (row-done _ _ _ _ _ (c .loop-test .left)) (c .before .loop .inv .2), c .before .loop .inv .1)
 
 run-term-returns : (t : ℕ) → run-term-lts.Need-returns (run-term-calls t) (run-term-at t) run-term.Post
 run-term-returns t c = puts-none _ _ _ _ (term-none _ _ _ _ (c .if1 .taken))
@@ -310,10 +354,15 @@ pub +run-row+run-term-spec : {M : Type 1} → statement M
     (λ c. search needs)
     (run-row-argument-start-requires t)
     (λ c. search needs)
-    (run-row-sub-run-term t)
-    (run-row-add-run-term t)
-    (run-row-shared-slice-read-run-term t)
-    (run-row-run-term-requires t)
+    (run-row-sub-kind t)
+    (run-row-add-kind t)
+    (run-row-shared-slice-read-kind t)
+    (run-row-class-place-requires t)
+    (run-row-same-length-9 t)
+    (run-row-same-length-10 t)
+    (run-row-returns-5 t)
+    (run-row-token-requires t)
+    (run-row-leaf-requires t)
     (λ c. search needs)
     (run-row-sub-learn t)
     (λ c κs. search needs)
@@ -322,16 +371,20 @@ pub +run-row+run-term-spec : {M : Type 1} → statement M
     (run-row-loop-less-5 t)
     (run-row-loop-again-5 t)
     (λ c. search needs)
-    (run-row-same-length-9 t)
-    (run-row-same-length-10 t)
-    (run-row-returns-5 t)
-    (λ c. search needs)
-    (λ c. search needs)
-    (λ c. search needs)
+    (run-row-same-length-11 t)
+    (run-row-same-length-12 t)
     (run-row-returns-6 t)
+    (run-row-run-term-requires t)
     (λ c. search needs)
+    (run-row-sub-learn-2 t)
+    (λ c κs. search needs)
+    (run-row-add-c-2 t)
+    (run-row-add-q-4 t)
+    (run-row-loop-less-6 t)
+    (run-row-loop-again-6 t)
     (λ c. search needs)
-    (λ c. search needs)
+    (run-row-same-length-13 t)
+    (run-row-same-length-14 t)
     (run-row-returns-7 t)
     (λ c. search needs)
     (λ c. search needs)
@@ -339,7 +392,15 @@ pub +run-row+run-term-spec : {M : Type 1} → statement M
     (run-row-returns-8 t)
     (λ c. search needs)
     (λ c. search needs)
-    (run-row-returns-9 t))
+    (λ c. search needs)
+    (run-row-returns-9 t)
+    (λ c. search needs)
+    (λ c. search needs)
+    (λ c. search needs)
+    (run-row-returns-10 t)
+    (λ c. search needs)
+    (λ c. search needs)
+    (run-row-returns-11 t))
     λ t. run-term-lts.spec (run-term-calls t)
     (run-term-at t)
     run-term.Post
