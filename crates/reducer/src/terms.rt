@@ -222,7 +222,7 @@ fn let_term(
         top,
         out,
     ) {
-        Worked::Refused(reason) => Worked::Refused(reason),
+        Worked::Refused(refusal) => Worked::Refused(refusal),
         Worked::To(n, next) => {
             save(out, n, store, top);
             let number = slot(first, wide(byte_at(term, at + 1)));
