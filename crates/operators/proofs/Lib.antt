@@ -8,4 +8,5 @@ pub mod Linear
 pub mod Turns
 pub mod Mapped
 pub mod Agreeing
+pub mod Prefixes
 pub mod Encoded

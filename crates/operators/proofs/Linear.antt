@@ -77,7 +77,7 @@ seek-from k n (a ∷ l) f =
     (λ e. rw (seek-skip k a l (ltb-true _ _ e)) (seek-from k (suc (a .key)) l (f .1)))
     (λ e. rw (seek-stop k a l (ltb-false _ _ e)) (ltb-false _ _ e, f .1))
 
-seek-all : (k : ℕ) (l : List Part) → From partKey k l → seek k l ≡ l
+pub seek-all : (k : ℕ) (l : List Part) → From partKey k l → seek k l ≡ l
 seek-all k [] f = seek-none k
 seek-all k (a ∷ l) f = seek-stop k a l (f .0)
 
@@ -111,6 +111,44 @@ union-turn x l f n (y ∷ m) g = go (union-turn x l f (suc (y .key)) m (g .1)) (
     go more (is-above h) =
         rw (lower-stop (x .key) y m (omega arith), seek-stop (suc (x .key)) y m h, union-cons partKey x l (y ∷ m))
         (insert-front partKey x (union partKey l (y ∷ m)) (union-from partKey (suc (x .key)) l (y ∷ m) f (h, g .1)))
+
+-- The union where nothing is below x in the second list: its first field y is above x, or has the key of x.
+module _ (x y : Part) (l m : List Part) (n : ℕ) (f : From partKey (suc (x .key)) l) (g : From partKey n (y ∷ m)) where
+  pub union-low : x .key < y .key → union partKey (x ∷ l) (y ∷ m) ≡ x ∷ union partKey l (y ∷ m)
+  union-low h =
+      let turn = union-turn x l f n (y ∷ m) g in
+      rw (lower-stop (x .key) y m (omega arith), seek-stop (suc (x .key)) y m h) at turn
+
+  pub union-same : y .key ≡ x .key → union partKey (x ∷ l) (y ∷ m) ≡ x ∷ union partKey l m
+  union-same h =
+      let turn = union-turn x l f n (y ∷ m) g in
+      let d : From partKey (suc (x .key)) m = rw h at (g .1) in
+      rw (lower-stop (x .key) y m (omega arith), seek-skip (suc (x .key)) y m (omega arith), seek-all (suc (x .key)) m d) at turn
+
+-- The union with nothing.
+pub union-nothing : (n : ℕ) (l : List Part) → From partKey n l → union partKey l [] ≡ l
+union-nothing n [] f = union-none partKey []
+union-nothing n (x ∷ l) f =
+    let turn = union-turn x l (f .1) 0 [] tt in
+    let here : union partKey (x ∷ l) [] ≡ x ∷ union partKey l [] = rw (lower-none (x .key), seek-none (suc (x .key))) at turn in
+    here ∙ ap (λ (r : List Part). x ∷ r) (union-nothing (suc (x .key)) l (f .1))
+
+lower-seek : (k : ℕ) (m : List Part) → lower k (seek k m) ≡ []
+lower-seek k [] = ap (lower k) (seek-none k) ∙ lower-none k
+lower-seek k (a ∷ l) =
+    by-test (ltb (a .key) k)
+    (λ e. ap (lower k) (seek-skip k a l (ltb-true _ _ e)) ∙ lower-seek k l)
+    (λ e. ap (lower k) (seek-stop k a l (ltb-false _ _ e)) ∙ lower-stop k a l (ltb-false _ _ e))
+
+-- What is below x in the second list comes first in the union.
+pub union-high : (x : Part) (l : List Part) → From partKey (suc (x .key)) l → (n : ℕ) (m : List Part) → From partKey n m
+    → union partKey (x ∷ l) m ≡ lower (x .key) m ++ union partKey (x ∷ l) (seek (x .key) m)
+union-high x l f n m g =
+    let k = x .key in
+    let turn = union-turn x l f k (seek k m) (seek-from k n m g) in
+    let rest : union partKey (x ∷ l) (seek k m) ≡ x ∷ union partKey l (seek (suc k) m) =
+    rw (lower-seek k m, seek-further k (suc k) (omega arith) m) at turn in
+    union-turn x l f n m g ∙ ap (λ (r : List Part). lower k m ++ r) (sym rest)
 
 -- Fields of different keys are not the same.
 differ : (x y : Part) → (x .key ≡ y .key → ⊥) → samePart x y ≡ false

@@ -32,6 +32,9 @@ module _ (s : List ℕ) (p : ℕ) (w : WholeFrom s p) (here : p < length s) wher
   unfolding isWhole
   whole-here = record { inside = here; fits = leb-true _ _ (every-here (isWhole s) s p (w .whole) here .0) }
 
+  pub head-here : p + 3 ≤ length s
+  head-here = omega (arith, end-past s p, whole-here .fits)
+
   pub whole-next : (e : ℕ) → e ≡ fieldEnd s p → WholeFrom s e
   whole-next e q = rw q (record { inside = whole-here .fits; whole = every-here (isWhole s) s p (w .whole) here .1 })
 
@@ -139,7 +142,7 @@ module _ (a b : List ℕ) (p e q d : ℕ) (fa : e ≤ length a) (fb : d ≤ leng
           let n : q + i + 1 ≡ q + (i + 1) = omega arith in
           rw (← m, ← n) (rw (eq-eqb _ _ h) at heads)
 
--- `stands_at` and `clash_at`: j and k are the keys of the fields at p and q
+-- `stands_at` and `agree`: j and k are the keys of the fields at p and q
 module _ (first : ℕ) (a : List ℕ) (p : ℕ) (b : List ℕ) (q : ℕ) where
   pub stands-end : length b ≤ q → false ≡ leads (partAt first a p) (partsFrom first b q)
   stands-end h = rw (parts-done first b q h)

@@ -3,4 +3,5 @@ pub mod copy;
 pub mod fit;
 pub mod meet;
 pub mod merge;
+pub mod prefix;
 pub mod within;

@@ -1,12 +1,12 @@
 // Two files of rising fields, side by side.
 ghost use mathlib.Core.Path.{_≡_};
 ghost use Rattle.fields.specs.Lists.{sameNumbers};
-ghost use Rattle.operators.specs.Inner.Parts.{WholeAt, WholeFrom, SoughtAt, pieceAt, partAt, partsFrom, leads, partsClash};
+ghost use Rattle.operators.specs.Inner.Parts.{WholeAt, WholeFrom, SoughtAt, pieceAt, partAt, partsFrom, leads};
 use fields::walk::field_end;
 use fields::walk::key_at;
 
 // The field of a at p and the field of b at q are the same, byte for byte.
-fn same_field(a: &[u8], p: usize, b: &[u8], q: usize) -> bool
+pub fn same_field(a: &[u8], p: usize, b: &[u8], q: usize) -> bool
     requires { ⌜ WholeAt (now a) p × WholeAt (now b) q ⌝ }
     ensures { λ r. ⌜ r ≡ sameNumbers (pieceAt (now (a .entry)) p) (pieceAt (now (b .entry)) q) ⌝ }
 {
@@ -51,15 +51,4 @@ pub fn stands_at(a: &[u8], p: usize, b: &[u8], q: usize, first: u8) -> bool
         return false;
     }
     same_field(a, p, b, q)
-}
-
-// The fields of a at p and of b at q have the same key, and are not the same.
-pub fn clash_at(a: &[u8], p: usize, b: &[u8], q: usize, first: u8) -> bool
-    requires { ⌜ WholeAt (now a) p × WholeAt (now b) q ⌝ }
-    ensures { λ r. ⌜ r ≡ partsClash (partAt first (now (a .entry)) p) (partAt first (now (b .entry)) q) ⌝ }
-{
-    if key_at(a, p, first) != key_at(b, q, first) {
-        return false;
-    }
-    !same_field(a, p, b, q)
 }

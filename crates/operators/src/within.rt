@@ -1,9 +1,12 @@
 // Whether one file of rising fields lies within another, and whether two agree.
 ghost use mathlib.Core.Path.{_≡_};
 ghost use Rattle.operators.specs.Inner.Parts.{Sorted, liesWithin, agrees};
-use super::meet::clash_at;
+use super::meet::same_field;
 use super::meet::seek;
 use super::meet::stands_at;
+use super::prefix::end_of;
+use super::prefix::key_of;
+use super::prefix::shared;
 use fields::walk::field_end;
 use fields::walk::key_at;
 
@@ -24,27 +27,33 @@ pub fn lies_within(a: &[u8], b: &[u8], first: u8) -> bool
     true
 }
 
-// Fields of one key are the same in a and in b. Keys rise in both, so b is gone through once.
+// Fields of one key are the same in a and in b. Keys rise in both, so both are gone through once.
 pub fn agree(a: &[u8], b: &[u8], first: u8) -> bool
     requires { ⌜ Sorted first (now a) × Sorted first (now b) ⌝ }
     ensures { λ r. ⌜ r ≡ agrees first (now (a .entry)) (now (b .entry)) ⌝ }
 {
-    let mut same = true;
-    let mut p = 0;
-    let mut q = 0;
-    'clash: while p < a.len() {
-        let key = key_at(a, p, first);
-        while q < b.len() {
-            if key < key_at(b, q, first) {
-                break;
-            }
-            if clash_at(a, p, b, q, first) {
-                same = false;
-                break 'clash;
-            }
-            q = field_end(b, q);
+    let start = shared(a, b);
+    let mut p = start;
+    let mut q = start;
+    while p < a.len() {
+        if b.len() <= q {
+            return true;
         }
-        p = field_end(a, p);
+        let j = key_of(a, p, first);
+        let k = key_of(b, q, first);
+        if j < k {
+            p = end_of(a, p);
+            continue;
+        }
+        if k < j {
+            q = end_of(b, q);
+            continue;
+        }
+        if !same_field(a, p, b, q) {
+            return false;
+        }
+        p = end_of(a, p);
+        q = end_of(b, q);
     }
-    same
+    true
 }

@@ -1,46 +1,80 @@
 use borrow.Author.Needs.{needs}
-use Prim.Native.Nat.{_-_}
-use mathlib.Core.Path.{_≡_, refl, _∙_}
-use mathlib.Core.Logic.{⊎-elim}
-use mathlib.Core.Bool.{true}
+use Prim.Native.Nat.{_+_, _-_}
+use native.Mathlib.Omega.{arith}
 use lib.ListN.{length}
-use Rattle.operators.proofs.Walks.{whole-here}
-use Rattle.operators.proofs.Agreeing.{Agreeing, agree-start, agree-end, agree-out, agree-clash, agree-below, agree-on}
+use borrow.Author.Tests.{not-true, not-false}
+use Rattle.operators.proofs.Walks.{whole-here, head-here}
+use Rattle.operators.proofs.Turns.{rest-start}
+use Rattle.operators.proofs.Prefixes.{shared-agree}
+use Rattle.operators.proofs.Agreeing.{Agreeing, agree-end, agree-gone, agree-below, agree-above, agree-clash, agree-same}
 use Rattle.operators.proofs.within.agree.Statement.{statement}
 use Rattle.operators.proofs.within.agree.Tie as tie
+use Rattle.operators.proofs.within.agree.Reads as reads
+use Rattle.operators.proofs.within.agree.Lts as lts
+use Rattle.operators.proofs.meet.same_field.Reads as same-field-reads
+use Rattle.operators.proofs.prefix.end_of.Reads as end-of-reads
+use Rattle.operators.proofs.prefix.key_of.Reads as key-of-reads
+use Rattle.operators.proofs.prefix.shared.Reads as shared-reads
 
 abbrev Inv-loop : tie.InvT-loop
-Inv-loop a b first same₀ p q₀ key same q = (same ≡ true) × Agreeing first a b p q
+Inv-loop a b first start p₀ q₀ p q = Agreeing first a b p q
 
 abbrev μ-loop : tie.MeasureT-loop
-μ-loop a b first same₀ p q₀ key same q = length b - q
+μ-loop a b first start p₀ q₀ p q = (length a - p) + (length b - q)
 
-abbrev Inv-clash : tie.InvT-clash
-Inv-clash a b first same₀ p₀ q₀ same p q = (same ≡ true) × Agreeing first a b p q
+shared-requires : tie.Need-shared-requires Inv-loop μ-loop
+shared-requires c κs = (rest-start _ _ (c .before .before .pre .0) .from, rest-start _ _ (c .before .before .pre .1) .from)
 
-abbrev μ-clash : tie.MeasureT-clash
-μ-clash a b first same₀ p₀ q₀ same p q = length a - p
+loop-holds : tie.Need-loop-holds Inv-loop μ-loop
+loop-holds c = shared-agree _ _ _ _ (c .before .before .before .pre) (c .shared .ensures _)
 
-clash-holds : tie.Need-clash-holds Inv-loop μ-loop Inv-clash μ-clash
-clash-holds c = (refl, agree-start _ _ _ (c .before .before .pre))
+returns : tie.Need-returns Inv-loop μ-loop
+returns c = agree-gone _ _ _ _ _ (c .before .before .loop .inv) (c .if1 .taken)
 
-loop-holds : tie.Need-loop-holds Inv-loop μ-loop Inv-clash μ-clash
-loop-holds c = c .before .before .clash .inv
+key-of-requires : tie.Need-key-of-requires Inv-loop μ-loop
+key-of-requires c κs = head-here _ _ (c .before .before .loop .inv .left .from) (c .before .loop-test .taken)
 
-clash-at-requires : tie.Need-clash-at-requires Inv-loop μ-loop Inv-clash μ-clash
-clash-at-requires c κs = (whole-here _ _ (c .before .before .before .loop .inv .1 .left .from) (c .before .before .before .before .before .clash-test .taken), whole-here _ _ (c .before .before .before .loop .inv .1 .right .from) (c .before .before .loop-test .taken))
+key-of-requires-2 : tie.Need-key-of-requires-2 Inv-loop μ-loop
+key-of-requires-2 c κs = head-here _ _ (c .before .before .before .loop .inv .right .from) (c .before .if1 .left)
 
-loop-again : tie.Need-loop-again Inv-loop μ-loop Inv-clash μ-clash
-loop-again c = (c .before .before .before .before .before .before .loop .inv .0, agree-on _ _ _ _ _ (c .before .before .before .before .before .before .loop .inv .1) (c .before .before .before .before .before .before .before .before .clash-test .taken) (c .before .before .before .before .before .loop-test .taken) _ _ (c .before .before .before .before .before .before .before .key-at .ensures .0) (c .before .before .before .before .key-at2 .ensures .0) (c .before .before .before .if1 .left) _ (c .before .before .clash-at .ensures) (c .before .if2 .left) _ (c .field-end .ensures .is))
+end-of-requires : tie.Need-end-of-requires Inv-loop μ-loop
+end-of-requires c κs = head-here _ _ (c .before .before .before .before .before .loop .inv .left .from) (c .before .before .before .before .loop-test .taken)
 
-clash-again : tie.Need-clash-again Inv-loop μ-loop Inv-clash μ-clash
-clash-again c = (c .before .before .loop .inv .0, ⊎-elim (λ w. agree-out _ _ _ _ _ (c .before .before .loop .inv .1) (c .before .before .before .before .clash-test .taken) (w .left) _ (c .field-end2 .ensures .is)) (λ w. agree-below _ _ _ _ _ (c .before .before .loop .inv .1) (c .before .before .before .before .clash-test .taken) (w .0 .taken) _ _ (c .before .before .before .key-at .ensures .0) (w .1 .ensures .0) (w .2 .taken) _ (c .field-end2 .ensures .is)) (c .before .loop-test .came))
+loop-less : tie.Need-loop-less Inv-loop μ-loop
+loop-less c = omega (arith, c .end-of .ensures .past)
 
-returns : tie.Need-returns Inv-loop μ-loop Inv-clash μ-clash
-returns c = c .before .clash .inv .0 ∙ agree-end _ _ _ _ _ (c .before .clash .inv .1) (c .clash-test .left)
+loop-again : tie.Need-loop-again Inv-loop μ-loop
+loop-again c = agree-below _ _ _ _ _ (c .before .before .before .before .before .before .loop .inv) (c .before .before .before .before .before .loop-test .taken) (c .before .before .before .before .if1 .left) _ _ (c .before .before .before .key-of .ensures) (c .before .before .key-of2 .ensures) (c .before .if2 .taken) _ (c .end-of .ensures .is)
 
-returns-2 : tie.Need-returns-2 Inv-loop μ-loop Inv-clash μ-clash
-returns-2 c = agree-clash _ _ _ _ _ (c .before .before .before .before .before .loop .inv .1) (c .before .before .before .before .before .before .before .clash-test .taken) (c .before .before .before .before .loop-test .taken) _ (c .before .clash-at .ensures) (c .if2 .taken)
+end-of-requires-2 : tie.Need-end-of-requires-2 Inv-loop μ-loop
+end-of-requires-2 c κs = head-here _ _ (c .before .before .before .before .before .before .loop .inv .right .from) (c .before .before .before .before .if1 .left)
+
+loop-less-2 : tie.Need-loop-less-2 Inv-loop μ-loop
+loop-less-2 c = omega (arith, c .end-of2 .ensures .past)
+
+loop-again-2 : tie.Need-loop-again-2 Inv-loop μ-loop
+loop-again-2 c = agree-above _ _ _ _ _ (c .before .before .before .before .before .before .before .loop .inv) (c .before .before .before .before .before .before .loop-test .taken) (c .before .before .before .before .before .if1 .left) _ _ (c .before .before .before .before .key-of .ensures) (c .before .before .before .key-of2 .ensures) (c .before .if3 .taken) _ (c .end-of2 .ensures .is)
+
+same-field-requires : tie.Need-same-field-requires Inv-loop μ-loop
+same-field-requires c κs = (whole-here _ _ (c .before .before .before .before .before .before .loop .inv .left .from) (c .before .before .before .before .before .loop-test .taken), whole-here _ _ (c .before .before .before .before .before .before .loop .inv .right .from) (c .before .before .before .before .if1 .left))
+
+returns-2 : tie.Need-returns-2 Inv-loop μ-loop
+returns-2 c = agree-clash _ _ _ _ _ (c .before .before .before .before .before .before .before .before .loop .inv) (c .before .before .before .before .before .before .before .loop-test .taken) (c .before .before .before .before .before .before .if1 .left) _ _ (c .before .before .before .before .before .key-of .ensures) (c .before .before .before .before .key-of2 .ensures) (c .before .before .if3 .left) (c .before .before .before .if2 .left) _ (c .before .same-field .ensures) (not-true _ (c .if4 .taken))
+
+end-of-requires-3 : tie.Need-end-of-requires-3 Inv-loop μ-loop
+end-of-requires-3 c κs = head-here _ _ (c .before .before .before .before .before .before .before .before .loop .inv .left .from) (c .before .before .before .before .before .before .before .loop-test .taken)
+
+end-of-requires-4 : tie.Need-end-of-requires-4 Inv-loop μ-loop
+end-of-requires-4 c κs = head-here _ _ (c .before .before .before .before .before .before .before .before .before .loop .inv .right .from) (c .before .before .before .before .before .before .before .if1 .left)
+
+loop-less-3 : tie.Need-loop-less-3 Inv-loop μ-loop
+loop-less-3 c = omega (arith, c .before .end-of3 .ensures .past, c .end-of4 .ensures .past)
+
+loop-again-3 : tie.Need-loop-again-3 Inv-loop μ-loop
+loop-again-3 c = agree-same _ _ _ _ _ (c .before .before .before .before .before .before .before .before .before .before .loop .inv) (c .before .before .before .before .before .before .before .before .before .loop-test .taken) (c .before .before .before .before .before .before .before .before .if1 .left) _ _ (c .before .before .before .before .before .before .before .key-of .ensures) (c .before .before .before .before .before .before .key-of2 .ensures) (c .before .before .before .before .if3 .left) (c .before .before .before .before .before .if2 .left) _ (c .before .before .before .same-field .ensures) (not-false _ (c .before .before .if4 .left)) _ (c .before .end-of3 .ensures .is) _ (c .end-of4 .ensures .is)
+
+returns-3 : tie.Need-returns-3 Inv-loop μ-loop
+returns-3 c = agree-end _ _ _ _ _ (c .before .loop .inv) (c .loop-test .left)
 
 pub agree-spec : {M : Type 1} → statement M
 agree-spec =
@@ -48,18 +82,21 @@ agree-spec =
     (tie.spec
     Inv-loop
     μ-loop
-    Inv-clash
-    μ-clash
-    clash-holds
-    (λ c κs. search needs)
+    shared-requires
     loop-holds
-    (λ c κs. search needs)
-    clash-at-requires
-    (λ c κs. search needs)
-    (λ c. search needs)
-    loop-again
-    (λ c κs. search needs)
-    (λ c. search needs)
-    clash-again
     returns
-    returns-2)
+    key-of-requires
+    key-of-requires-2
+    end-of-requires
+    loop-less
+    loop-again
+    end-of-requires-2
+    loop-less-2
+    loop-again-2
+    same-field-requires
+    returns-2
+    end-of-requires-3
+    end-of-requires-4
+    loop-less-3
+    loop-again-3
+    returns-3)
