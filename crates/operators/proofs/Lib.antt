@@ -9,4 +9,5 @@ pub mod Turns
 pub mod Mapped
 pub mod Agreeing
 pub mod Prefixes
+pub mod Classless
 pub mod Encoded

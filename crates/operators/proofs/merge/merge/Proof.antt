@@ -8,13 +8,6 @@ use Rattle.operators.proofs.Turns.{Merging, rest-start, merging-room, m
 use Rattle.operators.proofs.Prefixes.{shared-merge}
 use Rattle.operators.proofs.merge.merge.Statement.{statement}
 use Rattle.operators.proofs.merge.merge.Tie as tie
-use Rattle.operators.proofs.merge.merge.Reads as reads
-use Rattle.operators.proofs.merge.merge.Lts as lts
-use Rattle.operators.proofs.copy.put_both.Reads as put-both-reads
-use Rattle.operators.proofs.meet.seek.Reads as seek-reads
-use Rattle.operators.proofs.prefix.end_of.Reads as end-of-reads
-use Rattle.operators.proofs.prefix.key_of.Reads as key-of-reads
-use Rattle.operators.proofs.prefix.shared.Reads as shared-reads
 
 abbrev Inv-loop : tie.InvT-loop
 Inv-loop a b first out₀ start from₀ p₀ q₀ n₀ out from p q n = Merging first a b out₀ out from p q n

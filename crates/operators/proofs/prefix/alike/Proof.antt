@@ -5,9 +5,6 @@ use Rattle.operators.specs.Inner.Parts.{Alike}
 use Rattle.operators.proofs.Prefixes.{alike-next}
 use Rattle.operators.proofs.prefix.alike.Statement.{statement}
 use Rattle.operators.proofs.prefix.alike.Tie as tie
-use Rattle.operators.proofs.prefix.alike.Reads as reads
-use Rattle.operators.proofs.prefix.alike.Lts as lts
-use Rattle.operators.proofs.prefix.alike_by_sixteen.Reads as alike-by-sixteen-reads
 
 abbrev Inv-loop : tie.InvT-loop
 Inv-loop a b n₀ n = Alike a b n

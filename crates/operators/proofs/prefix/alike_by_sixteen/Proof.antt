@@ -1,4 +1,3 @@
-use borrow.Author.Needs.{needs}
 use Prim.Native.Nat.{_-_}
 use native.Mathlib.Omega.{arith}
 use lib.ListN.{length}
@@ -6,9 +5,6 @@ use Rattle.operators.specs.Inner.Parts.{Alike}
 use Rattle.operators.proofs.Prefixes.{alike-start}
 use Rattle.operators.proofs.prefix.alike_by_sixteen.Statement.{statement}
 use Rattle.operators.proofs.prefix.alike_by_sixteen.Tie as tie
-use Rattle.operators.proofs.prefix.alike_by_sixteen.Reads as reads
-use Rattle.operators.proofs.prefix.alike_by_sixteen.Lts as lts
-use Rattle.operators.proofs.prefix.alike_on.Reads as alike-on-reads
 
 abbrev Inv-loop : tie.InvT-loop
 Inv-loop a b n₀ n = Alike a b n

@@ -8,8 +8,6 @@ use Rattle.operators.specs.Inner.Parts.{Alike}
 use Rattle.operators.proofs.Prefixes.{sixteen-start, sixteen-next, sixteen-done}
 use Rattle.operators.proofs.prefix.alike_on.Statement.{statement}
 use Rattle.operators.proofs.prefix.alike_on.Tie as tie
-use Rattle.operators.proofs.prefix.alike_on.Reads as reads
-use Rattle.operators.proofs.prefix.alike_on.Lts as lts
 
 abbrev Inv-loop : tie.InvT-loop
 Inv-loop a b n same₀ i₀ same i = (i ≤ 16) × (same ≡ true → Alike a b (n + i))

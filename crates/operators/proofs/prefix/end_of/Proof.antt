@@ -2,9 +2,6 @@ use Rattle.operators.proofs.Prefixes.{end-is}
 use borrow.Author.Needs.{needs}
 use Rattle.operators.proofs.prefix.end_of.Statement.{statement}
 use Rattle.operators.proofs.prefix.end_of.Tie as tie
-use Rattle.operators.proofs.prefix.end_of.Reads as reads
-use Rattle.operators.proofs.prefix.end_of.Lts as lts
-use Rattle.fields.proofs.bytes.wide.Reads as wide-reads
 
 returns : tie.Need-returns
 returns c = end-is _ _ _ _ (c .before .before .wide .ensures .0) (c .wide2 .ensures .0) (c .before .before .wide .ensures .1) (c .wide2 .ensures .1)

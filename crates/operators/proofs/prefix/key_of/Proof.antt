@@ -3,10 +3,6 @@ use Rattle.operators.proofs.Prefixes.{key-first, key-other}
 use borrow.Author.Needs.{needs}
 use Rattle.operators.proofs.prefix.key_of.Statement.{statement}
 use Rattle.operators.proofs.prefix.key_of.Tie as tie
-use Rattle.operators.proofs.prefix.key_of.Reads as reads
-use Rattle.operators.proofs.prefix.key_of.Lts as lts
-use Rattle.fields.proofs.bytes.wide.Reads as wide-reads
-use Rattle.fields.proofs.walk.key_at.Reads as key-at-reads
 
 returns-2 : tie.Need-returns-2
 returns-2 c = key-first _ _ _ _ _ refl (c .before .before .if2 .taken) (c .wide .ensures .0)

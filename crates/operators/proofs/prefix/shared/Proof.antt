@@ -5,10 +5,6 @@ use Rattle.operators.specs.Inner.Parts.{Shared}
 use Rattle.operators.proofs.Prefixes.{shared-start, shared-step}
 use Rattle.operators.proofs.prefix.shared.Statement.{statement}
 use Rattle.operators.proofs.prefix.shared.Tie as tie
-use Rattle.operators.proofs.prefix.shared.Reads as reads
-use Rattle.operators.proofs.prefix.shared.Lts as lts
-use Rattle.operators.proofs.prefix.alike.Reads as alike-reads
-use Rattle.operators.proofs.prefix.end_of.Reads as end-of-reads
 
 abbrev Inv-loop : tie.InvT-loop
 Inv-loop a b n p₀ p = (p ≤ n) × ((first : ℕ) → Shared first a b p)

@@ -1,4 +1,3 @@
-use borrow.Author.Needs.{needs}
 use Prim.Native.Nat.{_+_, _-_}
 use native.Mathlib.Omega.{arith}
 use lib.ListN.{length}
@@ -9,12 +8,6 @@ use Rattle.operators.proofs.Prefixes.{shared-agree}
 use Rattle.operators.proofs.Agreeing.{Agreeing, agree-end, agree-gone, agree-below, agree-above, agree-clash, agree-same}
 use Rattle.operators.proofs.within.agree.Statement.{statement}
 use Rattle.operators.proofs.within.agree.Tie as tie
-use Rattle.operators.proofs.within.agree.Reads as reads
-use Rattle.operators.proofs.within.agree.Lts as lts
-use Rattle.operators.proofs.meet.same_field.Reads as same-field-reads
-use Rattle.operators.proofs.prefix.end_of.Reads as end-of-reads
-use Rattle.operators.proofs.prefix.key_of.Reads as key-of-reads
-use Rattle.operators.proofs.prefix.shared.Reads as shared-reads
 
 abbrev Inv-loop : tie.InvT-loop
 Inv-loop a b first start p₀ q₀ p q = Agreeing first a b p q
