@@ -8,20 +8,21 @@ use native.Mathlib.Nat.{add-zero}
 use native.Mathlib.Numerals.{add-one}
 use native.Mathlib.Omega.{arith}
 use lib.ListN.{length, take, drop, getD}
-use lib.Seq.{slice, slice-empty, take-suc, take-take, getD-take}
+use lib.Seq.{slice, slice-empty, take-all, take-suc, take-take, getD-take}
 use lib.Dec.{eqb}
 use borrow.Author.Tests.{eq-eqb, ne-eqb, eqb-true}
+use Rattle.fields.specs.Lists.{all}
 use Rattle.fields.specs.Keyed.{agree, union}
 use Rattle.fields.specs.Fields.{pairAt}
 use Rattle.fields.specs.Inner.Places.{fieldEnd, keyAt, EndsAt}
 use Rattle.fields.proofs.Truth.{and-both, equal-numbers}
 use Rattle.fields.proofs.Keyed.{From, is-rising}
-use Rattle.fields.proofs.Places.{end-past}
+use Rattle.fields.proofs.Places.{end-past, places-done}
 use Rattle.operators.specs.Inner.Parts.{Part, partKey, samePart, bytesOf, pieceAt, partAt, partsFrom, parts, WholeFrom, Sorted, Alike, Shared, partsClash, agrees, united}
 use Rattle.operators.proofs.Splices.{slice-join}
-use Rattle.operators.proofs.Walks.{parts-next, whole-next}
+use Rattle.operators.proofs.Walks.{parts-done, parts-next, whole-next}
 use Rattle.operators.proofs.Linear.{union-same}
-use Rattle.operators.proofs.Turns.{Rest, Merging, progress-start, bytes-append, bytes-cons, bytes-none}
+use Rattle.operators.proofs.Turns.{Rest, Merging, progress-start, bytes-append, bytes-cons, bytes-none, all-bytes}
 use Rattle.operators.proofs.Agreeing.{Agreeing, agree-pass, agree-drop}
 
 -- The first bytes, one after the other.
@@ -140,6 +141,23 @@ module _ (first : ℕ) (a b : List ℕ) (p n : ℕ) (h : Shared first a b p) (w 
 
 pub shared-step : (first : ℕ) (a b : List ℕ) (p n : ℕ) → Shared first a b p → Alike a b n → p + 5 ≤ n → (e : ℕ) → e ≡ fieldEnd a p → e ≤ n → Shared first a b e
 shared-step first a b p n h w k e q g = shared-on first a b p n h w k (rw q at g) e q
+
+-- the files are the same
+whole-end : (s : List ℕ) → WholeFrom s (length s)
+unfolding all
+whole-end s = record { inside = omega arith; whole = rw (places-done s (length s) (omega arith)) }
+
+pub shared-all : (first : ℕ) (a b : List ℕ) (n : ℕ) → WholeFrom a 0 → Alike a b n → length a ≡ n → length b ≡ n → Shared first a b n
+shared-all first a b n u w la lb =
+    let same : a ≡ b = sym (take-all n a (omega arith)) ∙ (w .same ∙ take-all n b (omega arith)) in
+    record {
+      fields = parts first a;
+      left = sym (append-nil (parts first a)) ∙ ap (λ (l : List Part). parts first a ++ l) (sym (parts-done first a n (omega arith)));
+      right = ap (parts first) (sym same) ∙ (sym (append-nil (parts first a)) ∙ ap (λ (l : List Part). parts first a ++ l) (sym (parts-done first b n (omega arith))));
+      bytes = rw (← la) (sym (all-bytes (suc (length a)) first a 0 (omega arith) u));
+      leftFrom = rw (← la) (whole-end a);
+      rightFrom = rw (← lb) (whole-end b);
+    }
 
 -- A list that rises has parts that rise.
 from-rest : (l m : List Part) (n : ℕ) → From partKey n (l ++ m) → (k : ℕ) × From partKey k m

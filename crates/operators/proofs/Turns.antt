@@ -134,7 +134,7 @@ piece-join : (first : ℕ) (s : List ℕ) (p : ℕ) → WholeAt s p → partAt f
 unfolding partAt
 piece-join first s p f = slice-join s p (fieldEnd s p) (length s) (omega (arith, end-past s p)) (f .fits) (omega arith)
 
-all-bytes : (fuel first : ℕ) (s : List ℕ) (p : ℕ) → length s - p < fuel → WholeFrom s p → bytesOf (partsFrom first s p) ≡ slice p (length s) s
+pub all-bytes : (fuel first : ℕ) (s : List ℕ) (p : ℕ) → length s - p < fuel → WholeFrom s p → bytesOf (partsFrom first s p) ≡ slice p (length s) s
 all-bytes zero first s p h w = absurd (omega arith)
 all-bytes (suc fuel) first s p h w =
     by-test (leb (length s) p)

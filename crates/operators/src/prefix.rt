@@ -78,13 +78,18 @@ pub fn end_of(s: &[u8], p: usize) -> usize
     p + 3 + (wide(s[p + 1]) * 256 + wide(s[p + 2]))
 }
 
-// Where the fields end that both files begin with: the keys and the bytes of all of them are among the bytes that are
-// the same.
+// Where the fields end that both files begin with: all of them where the files are the same, and else those whose keys
+// and bytes are among the first bytes that are.
 pub fn shared(a: &[u8], b: &[u8]) -> usize
     requires { ⌜ WholeFrom (now a) 0 × WholeFrom (now b) 0 ⌝ }
     ensures { λ r. ⌜ ((first : ℕ) → Shared first (now (a .entry)) (now (b .entry)) r) ⌝ }
 {
     let n = alike(a, b);
+    if a.len() == n {
+        if b.len() == n {
+            return n;
+        }
+    }
     let mut p = 0;
     while p + 5 <= n {
         let e = end_of(a, p);
