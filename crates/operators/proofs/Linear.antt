@@ -7,10 +7,10 @@ use mathlib.Core.Bool.{Bool, true, false, cond, not, _&&_, _||_}
 use mathlib.Core.List.{List, [], _∷_, _++_}
 use native.Mathlib.Omega.{arith}
 use lib.Dec.{ltb}
-use borrow.Author.Tests.{ltb-true, ltb-false, ne-eqb}
+use borrow.Author.Tests.{ltb-true, ltb-false, eq-eqb, ne-eqb}
 use Rattle.fields.specs.Lists.{all, any, keep}
 use Rattle.fields.specs.Keyed.{Order, place, insert, union, holds, within, without}
-use Rattle.fields.proofs.Truth.{Mem, by-test, false-any}
+use Rattle.fields.proofs.Truth.{Mem, by-test, false-any, equal-numbers}
 use Rattle.fields.proofs.Keyed.{Compared, is-below, is-same, is-above, compared, From, from-weaken, from-mem, union-from}
 use Rattle.operators.specs.Inner.Parts.{Part, partKey, samePart, lower, seek, leads}
 use Rattle.operators.proofs.Walks.{seek-skip, lower-skip, seek-stop, lower-stop}
@@ -207,3 +207,26 @@ module _ (x : Part) (l : List Part) (f : From partKey (suc (x .key)) l) (n : ℕ
   pub within-turn : within samePart (x ∷ l) m ≡ leads x (seek (x .key) m) && within samePart l (seek (x .key) m)
   unfolding within all
   within-turn = rw (found x n m g, all-alike (holds samePart m) (holds samePart (seek (x .key) m)) l further)
+
+-- Where both lists begin with x, it stands in the second, and of the others as many stand in what is left of it.
+self : (x : Part) → samePart x x ≡ true
+unfolding samePart
+self x = rw (eq-eqb (x .key) (x .key) refl, equal-numbers (x .bytes))
+
+module _ (x : Part) (l : List Part) (f : From partKey (suc (x .key)) l) (m : List Part) where
+  past-first : (a : Part) → Mem a l → holds samePart (x ∷ m) a ≡ holds samePart m a
+  unfolding holds any
+  past-first a q = rw (differ a x (λ e. omega (arith, from-mem partKey l f q)))
+
+  first-holds : holds samePart (x ∷ m) x ≡ true
+  unfolding holds any
+  first-holds = rw (self x)
+
+  pub within-same : within samePart (x ∷ l) (x ∷ m) ≡ within samePart l m
+  unfolding within all
+  within-same = rw (first-holds, all-alike (holds samePart (x ∷ m)) (holds samePart m) l past-first)
+
+  pub without-same : without samePart (x ∷ l) (x ∷ m) ≡ without samePart l m
+  unfolding without keep
+  without-same =
+      rw (first-holds, keep-alike (λ a. not (holds samePart (x ∷ m) a)) (λ a. not (holds samePart m a)) l (λ a q. ap not (past-first a q)))

@@ -12,17 +12,17 @@ use lib.Seq.{slice, slice-empty, take-all, take-suc, take-take, getD-take}
 use lib.Dec.{eqb}
 use borrow.Author.Tests.{eq-eqb, ne-eqb, eqb-true}
 use Rattle.fields.specs.Lists.{all}
-use Rattle.fields.specs.Keyed.{agree, union}
+use Rattle.fields.specs.Keyed.{agree, union, within, without}
 use Rattle.fields.specs.Fields.{pairAt}
 use Rattle.fields.specs.Inner.Places.{fieldEnd, keyAt, EndsAt}
 use Rattle.fields.proofs.Truth.{and-both, equal-numbers}
 use Rattle.fields.proofs.Keyed.{From, is-rising}
 use Rattle.fields.proofs.Places.{end-past, places-done}
-use Rattle.operators.specs.Inner.Parts.{Part, partKey, samePart, bytesOf, pieceAt, partAt, partsFrom, parts, WholeFrom, Sorted, Alike, Shared, partsClash, agrees, united}
+use Rattle.operators.specs.Inner.Parts.{Part, partKey, samePart, bytesOf, pieceAt, partAt, partsFrom, parts, WholeFrom, Sorted, Alike, Shared, partsClash, agrees, liesWithin, united, removed}
 use Rattle.operators.proofs.Splices.{slice-join}
 use Rattle.operators.proofs.Walks.{parts-done, parts-next, whole-next}
-use Rattle.operators.proofs.Linear.{union-same}
-use Rattle.operators.proofs.Turns.{Rest, Merging, progress-start, bytes-append, bytes-cons, bytes-none, all-bytes}
+use Rattle.operators.proofs.Linear.{union-same, within-same, without-same}
+use Rattle.operators.proofs.Turns.{Rest, Going, Merging, progress-start, bytes-append, bytes-cons, bytes-none, all-bytes}
 use Rattle.operators.proofs.Agreeing.{Agreeing, agree-pass, agree-drop}
 
 -- The first bytes, one after the other.
@@ -184,7 +184,15 @@ union-alike (x ∷ l) u v m n f g =
     union-same x x (l ++ u) (l ++ v) n (f .1) g refl
     ∙ ap (λ (t : List Part). x ∷ t) (union-alike l u v (suc (x .key)) (suc (x .key)) (f .1) (g .1))
 
--- `agree` and `merge` go on where the fields end that are the same.
+within-alike : (l u v : List Part) (m : ℕ) → From partKey m (l ++ u) → within samePart (l ++ u) (l ++ v) ≡ within samePart u v
+within-alike [] u v m f = refl
+within-alike (x ∷ l) u v m f = within-same x (l ++ u) (f .1) (l ++ v) ∙ within-alike l u v (suc (x .key)) (f .1)
+
+without-alike : (l u v : List Part) (m : ℕ) → From partKey m (l ++ u) → without samePart (l ++ u) (l ++ v) ≡ without samePart u v
+without-alike [] u v m f = refl
+without-alike (x ∷ l) u v m f = without-same x (l ++ u) (f .1) (l ++ v) ∙ without-alike l u v (suc (x .key)) (f .1)
+
+-- `agree`, `merge` and the others go on where the fields end that are the same.
 module _ (first : ℕ) (a b : List ℕ) (r : ℕ) (h : Sorted first a × Sorted first b) (s : Shared first a b r) where
   left-rises : From partKey 0 (s .fields ++ partsFrom first a r)
   left-rises = rw (s .left) at (is-rising partKey (parts first a) (h .0 .rises))
@@ -222,6 +230,29 @@ module _ (first : ℕ) (a b : List ℕ) (r : ℕ) (h : Sorted first a × Sorted 
   shared-merge o = record {
     progress = rw (← united-is) (progress-start (united first a b) o);
     rise = omega arith;
+    left = rest-left;
+    right = rest-right;
+  }
+
+  pub shared-within : (within samePart (partsFrom first a r) (partsFrom first b r) ≡ liesWithin first a b) × (Rest first a r × Rest first b r)
+  unfolding liesWithin
+  shared-within = (
+    sym (within-alike (s .fields) (partsFrom first a r) (partsFrom first b r) 0 left-rises)
+        ∙ (ap (λ (l : List Part). within samePart l (s .fields ++ partsFrom first b r)) (sym (s .left))
+        ∙ ap (λ (l : List Part). within samePart (parts first a) l) (sym (s .right))),
+    (rest-left, rest-right),
+  )
+
+  removed-is : removed first a b ≡ bytesOf (without samePart (partsFrom first a r) (partsFrom first b r))
+  unfolding removed
+  removed-is =
+      ap (λ (l : List Part). bytesOf (without samePart l (parts first b))) (s .left)
+      ∙ (ap (λ (l : List Part). bytesOf (without samePart (s .fields ++ partsFrom first a r) l)) (s .right)
+      ∙ ap bytesOf (without-alike (s .fields) (partsFrom first a r) (partsFrom first b r) 0 left-rises))
+
+  pub shared-remove : (o : List ℕ) → Going (without samePart) (removed first a b) first a b o o r r 0
+  shared-remove o = record {
+    progress = rw (← removed-is) (progress-start (removed first a b) o);
     left = rest-left;
     right = rest-right;
   }

@@ -17,7 +17,7 @@ use Rattle.fields.proofs.Keyed.{From, is-rising}
 use Rattle.fields.proofs.Places.{end-past}
 use Rattle.operators.specs.declared.copy.Stored.{Stored}
 use Rattle.operators.specs.declared.copy.Stored.the-variants.{To, Full}
-use Rattle.operators.specs.Inner.Parts.{Part, partKey, samePart, bytesOf, pieceAt, partAt, partsFrom, parts, WholeAt, WholeFrom, Sorted, lower, seek, SoughtAt, leads, united, removed, Inside, Written, Stores}
+use Rattle.operators.specs.Inner.Parts.{Part, partKey, samePart, bytesOf, pieceAt, partAt, partsFrom, parts, WholeAt, WholeFrom, Sorted, lower, seek, SoughtAt, leads, united, Inside, Written, Stores}
 use Rattle.operators.proofs.Splices.{slice-join, nothing-spliced, written-then}
 use Rattle.operators.proofs.Walks.{parts-done, parts-next, whole-here, whole-next}
 use Rattle.operators.proofs.Linear.{union-none, union-low, union-same, union-nothing, union-high, without-turn, within-turn, seek-from}
@@ -214,14 +214,6 @@ pub record Going (op : List Part → List Part → List Part) (result : List ℕ
   pub progress : Progress result (bytesOf (op (partsFrom first a p) (partsFrom first b q))) o out n
   pub left : Rest first a p
   pub right : Rest first b q
-
-pub remove-start : (first : ℕ) (a b o : List ℕ) → Sorted first a × Sorted first b → Going (without samePart) (removed first a b) first a b o o 0 0 0
-unfolding removed
-remove-start first a b o h = record {
-  progress = progress-start (bytesOf (without samePart (parts first a) (parts first b))) o;
-  left = rest-start first a (h .0);
-  right = rest-start first b (h .1);
-}
 
 -- There is room for what is written so far.
 pub going-room : (op : List Part → List Part → List Part) (result : List ℕ) (first : ℕ) (a b o out : List ℕ) (p q n : ℕ)

@@ -3,13 +3,11 @@ ghost use Rattle.operators.specs.Inner.Parts.{Sorted, Stores, united, re
 use super::copy::Stored;
 use super::copy::put_both;
 use super::copy::put_if;
+use super::head::end_of;
+use super::head::key_of;
 use super::meet::seek;
 use super::meet::stands_at;
-use super::prefix::end_of;
-use super::prefix::key_of;
 use super::prefix::shared;
-use fields::walk::field_end;
-use fields::walk::key_at;
 
 // The union by key, into the output from its start: of two fields of one key the one of a is taken. The bytes of a from
 // `from` up to p are still to be written.
@@ -53,13 +51,14 @@ pub fn remove(a: &[u8], b: &[u8], first: u8, out: &mut [u8]) -> Stored
     requires { ⌜ Sorted first (now a) × Sorted first (now b) ⌝ }
     ensures { λ r. ⌜ Stores (removed first (now (a .entry)) (now (b .entry))) (now (out .entry)) (now (out .exit)) 0 r ⌝ }
 {
-    let mut p = 0;
-    let mut q = 0;
+    let start = shared(a, b);
+    let mut p = start;
+    let mut q = start;
     let mut n = 0;
     while p < a.len() {
-        q = seek(b, q, key_at(a, p, first), first);
+        q = seek(b, q, key_of(a, p, first), first);
         let stands = stands_at(a, p, b, q, first);
-        let e = field_end(a, p);
+        let e = end_of(a, p);
         let Stored::To(m) = put_if(!stands, a, p, e, out, n) else {
             return Stored::Full;
         };

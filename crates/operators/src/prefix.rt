@@ -1,12 +1,9 @@
 // The fields that two files begin with alike.
 ghost use mathlib.Core.Path.{_≡_};
 ghost use mathlib.Core.Bool.{true};
-ghost use Prim.Native.Nat.{ℕ, _+_, _≤_};
-ghost use lib.ListN.{length};
-ghost use Rattle.fields.specs.Inner.Places.{EndsAt, keyAt};
+ghost use Prim.Native.Nat.{ℕ, _+_};
 ghost use Rattle.operators.specs.Inner.Parts.{Alike, Shared, WholeFrom};
-use fields::bytes::wide;
-use fields::walk::key_at;
+use super::head::end_of;
 
 // Sixteen more bytes from n on are the same in both.
 fn alike_on(a: &[u8], b: &[u8], n: usize) -> bool
@@ -54,28 +51,6 @@ fn alike(a: &[u8], b: &[u8]) -> usize
         n += 1;
     }
     n
-}
-
-// The key of the field at p, of which the first three bytes are there.
-pub fn key_of(s: &[u8], p: usize, first: u8) -> usize
-    requires { ⌜ p + 3 ≤ length (now s) ⌝ }
-    ensures { λ r. ⌜ r ≡ keyAt first (now (s .entry)) p ⌝ }
-{
-    if s.len() - p < 5 {
-        return key_at(s, p, first);
-    }
-    if s[p] == first {
-        return wide(s[p + 3]);
-    }
-    32 + (wide(s[p + 3]) * 256 + wide(s[p + 4]))
-}
-
-// Where the field at p ends, of which the first three bytes are there.
-pub fn end_of(s: &[u8], p: usize) -> usize
-    requires { ⌜ p + 3 ≤ length (now s) ⌝ }
-    ensures { λ r. ⌜ EndsAt (now (s .entry)) p r ⌝ }
-{
-    p + 3 + (wide(s[p + 1]) * 256 + wide(s[p + 2]))
 }
 
 // Where the fields end that both files begin with: all of them where the files are the same, and else those whose keys

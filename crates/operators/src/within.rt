@@ -1,28 +1,27 @@
 // Whether one file of rising fields lies within another, and whether two agree.
 ghost use mathlib.Core.Path.{_≡_};
 ghost use Rattle.operators.specs.Inner.Parts.{Sorted, liesWithin, agrees};
+use super::head::end_of;
+use super::head::key_of;
 use super::meet::same_field;
 use super::meet::seek;
 use super::meet::stands_at;
-use super::prefix::end_of;
-use super::prefix::key_of;
 use super::prefix::shared;
-use fields::walk::field_end;
-use fields::walk::key_at;
 
 // Every field of a stands in b.
 pub fn lies_within(a: &[u8], b: &[u8], first: u8) -> bool
     requires { ⌜ Sorted first (now a) × Sorted first (now b) ⌝ }
     ensures { λ r. ⌜ r ≡ liesWithin first (now (a .entry)) (now (b .entry)) ⌝ }
 {
-    let mut p = 0;
-    let mut q = 0;
+    let start = shared(a, b);
+    let mut p = start;
+    let mut q = start;
     while p < a.len() {
-        q = seek(b, q, key_at(a, p, first), first);
+        q = seek(b, q, key_of(a, p, first), first);
         if !stands_at(a, p, b, q, first) {
             return false;
         }
-        p = field_end(a, p);
+        p = end_of(a, p);
     }
     true
 }

@@ -1,8 +1,8 @@
 use mathlib.Core.Path.{refl}
 use Rattle.operators.proofs.Prefixes.{key-first, key-other}
 use borrow.Author.Needs.{needs}
-use Rattle.operators.proofs.prefix.key_of.Statement.{statement}
-use Rattle.operators.proofs.prefix.key_of.Tie as tie
+use Rattle.operators.proofs.head.key_of.Statement.{statement}
+use Rattle.operators.proofs.head.key_of.Tie as tie
 
 returns-2 : tie.Need-returns-2
 returns-2 c = key-first _ _ _ _ _ refl (c .before .before .if2 .taken) (c .wide .ensures .0)

@@ -1,7 +1,7 @@
 use Rattle.operators.proofs.Prefixes.{end-is}
 use borrow.Author.Needs.{needs}
-use Rattle.operators.proofs.prefix.end_of.Statement.{statement}
-use Rattle.operators.proofs.prefix.end_of.Tie as tie
+use Rattle.operators.proofs.head.end_of.Statement.{statement}
+use Rattle.operators.proofs.head.end_of.Tie as tie
 
 returns : tie.Need-returns
 returns c = end-is _ _ _ _ (c .before .before .wide .ensures .0) (c .wide2 .ensures .0) (c .before .before .wide .ensures .1) (c .wide2 .ensures .1)
