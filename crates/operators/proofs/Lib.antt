@@ -4,6 +4,7 @@ pub mod JoinSound
 pub mod IdentitySound
 pub mod Splices
 pub mod Walks
+pub mod Heads
 pub mod Linear
 pub mod Turns
 pub mod Mapped

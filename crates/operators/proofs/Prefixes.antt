@@ -1,6 +1,6 @@
--- The fields that two files begin with alike: a law for each return and turn of the functions of `prefix`, and what
--- agreement and the union make of such fields.
-use Prim.Native.Nat.{ℕ, suc, _+_, _*_, _<_, _≤_}
+-- The fields that two files begin with alike: a law for each return and turn of the functions of `prefix`, and what the
+-- operators make of such fields.
+use Prim.Native.Nat.{ℕ, suc, _+_, _<_, _≤_}
 use mathlib.Core.Path.{_≡_, refl, sym, ap, _∙_}
 use mathlib.Core.Bool.{Bool, true, false, _&&_}
 use mathlib.Core.List.{List, [], _∷_, _++_, append-assoc, append-nil}
@@ -10,11 +10,11 @@ use native.Mathlib.Omega.{arith}
 use lib.ListN.{length, take, drop, getD}
 use lib.Seq.{slice, slice-empty, take-all, take-suc, take-take, getD-take}
 use lib.Dec.{eqb}
-use borrow.Author.Tests.{eq-eqb, ne-eqb, eqb-true}
+use borrow.Author.Tests.{eq-eqb, eqb-true}
 use Rattle.fields.specs.Lists.{all}
 use Rattle.fields.specs.Keyed.{agree, union, within, without}
 use Rattle.fields.specs.Fields.{pairAt}
-use Rattle.fields.specs.Inner.Places.{fieldEnd, keyAt, EndsAt}
+use Rattle.fields.specs.Inner.Places.{fieldEnd, keyAt}
 use Rattle.fields.proofs.Truth.{and-both, equal-numbers}
 use Rattle.fields.proofs.Keyed.{From, is-rising}
 use Rattle.fields.proofs.Places.{end-past, places-done}
@@ -37,10 +37,11 @@ module _ (a b : List ℕ) (n : ℕ) (h : Alike a b n) (u : n < length a) (v : n 
     same = rw (add-one n, take-suc a n 0 u, take-suc b n 0 v, h .same, e);
   }
 
+-- `alike_on`: none of the sixteen bytes is passed
 pub sixteen-start : (a b : List ℕ) (n : ℕ) → Alike a b n → Alike a b (n + 0)
 sixteen-start a b n h = rw (add-zero n) h
 
--- `alike_on`: i of the sixteen bytes are passed, and if all were the same so far, so are the first n + i
+-- i of the sixteen bytes are passed, and if all were the same so far, so are the first n + i
 module _ (a b : List ℕ) (n i : ℕ) (same : Bool) (h : same ≡ true → Alike a b (n + i)) where
   pub sixteen-next : n + i < length a → n + i < length b → same && eqb (getD a (n + i) 0) (getD b (n + i) 0) ≡ true → Alike a b (n + (i + 1))
   sixteen-next u v t =
@@ -75,26 +76,7 @@ module _ (a b : List ℕ) (n : ℕ) (h : Alike a b n) where
         let d : pieceAt a p ≡ pieceAt b p = slice-same p (fieldEnd a p) f ∙ ap (λ (e : ℕ). slice p e b) end-same in
         cc (key-same first)
 
--- `key_of`
-module _ (first : ℕ) (s : List ℕ) (p : ℕ) where
-  pub key-first : (t k : ℕ) → t ≡ getD s p 0 → t ≡ first → k ≡ getD s (p + 3) 0 → k ≡ keyAt first s p
-  unfolding keyAt
-  key-first t k et e ek = cc (eq-eqb t first e)
-
-  pub key-other : (t h l : ℕ) → t ≡ getD s p 0 → (t ≡ first → ⊥) → h ≡ getD s (p + 3) 0 → l ≡ getD s (p + 4) 0 → 32 + (h * 256 + l) ≡ keyAt first s p
-  unfolding keyAt pairAt
-  key-other t h l et e eh el =
-      let d : p + 3 + 1 ≡ p + 4 = omega arith in
-      cc (ne-eqb t first e)
-
--- `end_of`: h and l are the bytes of the length
-pub end-is : (s : List ℕ) (p h l : ℕ) → h ≡ getD s (p + 1) 0 → l ≡ getD s (p + 2) 0 → h < 256 → l < 256 → EndsAt s p (p + 3 + (h * 256 + l))
-unfolding fieldEnd pairAt
-end-is s p h l eh el u v =
-    let d : p + 1 + 1 ≡ p + 2 = omega arith in
-    record { is = rw (d, eh, el); past = omega arith; near = omega arith }
-
--- `shared`
+-- `shared`: no field is passed
 pub shared-start : (first : ℕ) (a b : List ℕ) → WholeFrom a 0 → WholeFrom b 0 → Shared first a b 0
 shared-start first a b u v = record {
   fields = [];
@@ -105,6 +87,7 @@ shared-start first a b u v = record {
   rightFrom = v;
 }
 
+-- past the field at p
 module _ (first : ℕ) (a b : List ℕ) (p n : ℕ) (h : Shared first a b p) (w : Alike a b n) (k : p + 5 ≤ n) (f : fieldEnd a p ≤ n) where
   hereLeft : p < length a
   hereLeft = omega (arith, w .left)
@@ -169,7 +152,7 @@ no-self : (x : Part) → partsClash x x ≡ false
 unfolding partsClash
 no-self x = rw (eq-eqb (x .key) (x .key) refl, equal-numbers (x .bytes))
 
--- Agreement and union of two rising lists that begin with the same fields.
+-- What the operators make of two rising lists that begin with the same fields.
 agree-alike : (l u v : List Part) (m n : ℕ) → From partKey m (l ++ u) → From partKey n (l ++ v)
     → agree partKey samePart (l ++ u) (l ++ v) ≡ agree partKey samePart u v
 agree-alike [] u v m n f g = refl

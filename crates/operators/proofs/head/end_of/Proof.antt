@@ -1,4 +1,4 @@
-use Rattle.operators.proofs.Prefixes.{end-is}
+use Rattle.operators.proofs.Heads.{end-is}
 use borrow.Author.Needs.{needs}
 use Rattle.operators.proofs.head.end_of.Statement.{statement}
 use Rattle.operators.proofs.head.end_of.Tie as tie

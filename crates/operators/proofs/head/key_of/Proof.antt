@@ -1,5 +1,5 @@
 use mathlib.Core.Path.{refl}
-use Rattle.operators.proofs.Prefixes.{key-first, key-other}
+use Rattle.operators.proofs.Heads.{key-first, key-other}
 use borrow.Author.Needs.{needs}
 use Rattle.operators.proofs.head.key_of.Statement.{statement}
 use Rattle.operators.proofs.head.key_of.Tie as tie
