@@ -37,10 +37,6 @@ agree-none : (m : List Part) → agree partKey samePart [] m ≡ true
 unfolding agree all
 agree-none m = refl
 
-none-agree : (l : List Part) → agree partKey samePart l [] ≡ true
-unfolding agree all
-none-agree l = mem-all _ l (λ a q. refl)
-
 pub agree-drop : (x : Part) (l m : List Part) → From partKey (suc (x .key)) m → agree partKey samePart (x ∷ l) m ≡ agree partKey samePart l m
 unfolding agree all
 agree-drop x l m g =
@@ -77,12 +73,6 @@ module _ (first : ℕ) (a b : List ℕ) (p q : ℕ) (h : Agreeing first a b p q)
       sym (ap (λ (l : List Part). agree partKey samePart l (partsFrom first b q)) (parts-done first a p d) ∙ agree-none (partsFrom first b q))
       ∙ h .answer
 
-  -- at the end of b
-  pub agree-gone : length b ≤ q → true ≡ agrees first a b
-  agree-gone d =
-      sym (ap (λ (l : List Part). agree partKey samePart (partsFrom first a p) l) (parts-done first b q d) ∙ none-agree (partsFrom first a p))
-      ∙ h .answer
-
   module _ (there : p < length a) where
     -- past a field of a, where all fields that are left of b are above it
     drop-left : From partKey (suc (keyAt first a p)) (partsFrom first b q) → (e : ℕ) → e ≡ fieldEnd a p → Agreeing first a b e q
@@ -96,6 +86,10 @@ module _ (first : ℕ) (a b : List ℕ) (p q : ℕ) (h : Agreeing first a b p q)
           ∙ agree-drop (partAt first a p) (partsFrom first a (fieldEnd a p)) (partsFrom first b q) g)
           ∙ h .answer);
     }
+
+    -- nothing is left of b
+    pub agree-out : length b ≤ q → (e : ℕ) → e ≡ fieldEnd a p → Agreeing first a b e q
+    agree-out d = drop-left (rw (parts-done first b q d) tt)
 
     module _ (here : q < length b) where
       heads : agree partKey samePart (partAt first a p ∷ partsFrom first a (fieldEnd a p)) (partAt first b q ∷ partsFrom first b (fieldEnd b q)) ≡ agrees first a b
@@ -126,29 +120,19 @@ module _ (first : ℕ) (a b : List ℕ) (p q : ℕ) (h : Agreeing first a b p q)
             }
 
         -- the field of b is below those that are left of a
-        pub agree-above : k < j → (e : ℕ) → e ≡ fieldEnd b q → Agreeing first a b p e
-        agree-above d = pass (omega arith) (sym (clash-other first a p b q j k ej ek (λ e. omega arith)))
+        pub agree-above : k ≤ j → (j ≡ k → ⊥) → (e : ℕ) → e ≡ fieldEnd b q → Agreeing first a b p e
+        agree-above d n = pass d (sym (clash-other first a p b q j k ej ek n))
 
         -- the fields have one key, and x says whether they are the same
-        module _ (u : j ≤ k) (v : k ≤ j) (x : Bool) (ex : x ≡ sameNumbers (pieceAt a p) (pieceAt b q)) where
-          one : j ≡ k
-          one = omega arith
+        module _ (one : j ≡ k) (x : Bool) (ex : x ≡ sameNumbers (pieceAt a p) (pieceAt b q)) where
+          clash-is : not x ≡ partsClash (partAt first a p) (partAt first b q)
+          clash-is = clash-same first a p b q j k ej ek one x ex
 
           pub agree-clash : x ≡ false → false ≡ agrees first a b
-          agree-clash d =
-              sym (agree-meet (partAt first a p) (partAt first b q) _ _ (sym (clash-same first a p b q j k ej ek one x ex) ∙ ap not d)) ∙ heads
+          agree-clash d = sym (agree-meet (partAt first a p) (partAt first b q) _ _ (sym clash-is ∙ ap not d)) ∙ heads
 
-          past-right : x ≡ true → Agreeing first a b p (fieldEnd b q)
-          past-right d = pass v (sym (clash-same first a p b q j k ej ek one x ex) ∙ ap not d) (fieldEnd b q) refl
-
--- past both of two fields that are the same
-module _ (first : ℕ) (a b : List ℕ) (p q : ℕ) (h : Agreeing first a b p q) (there : p < length a) (here : q < length b) (j k : ℕ) (ej : j ≡ keyAt first a p) (ek : k ≡ keyAt first b q) where
-  pub agree-same : j ≤ k → k ≤ j → (x : Bool) → x ≡ sameNumbers (pieceAt a p) (pieceAt b q) → x ≡ true → (e : ℕ) → e ≡ fieldEnd a p → (d : ℕ) → d ≡ fieldEnd b q
-      → Agreeing first a b e d
-  agree-same u v x ex t e ee d ed =
-      let f : keyAt first b q ≡ keyAt first a p = omega arith in
-      let g : From partKey (suc (keyAt first a p)) (partsFrom first b (fieldEnd b q)) = rw f at (here-rises first b q (h .right) here) in
-      rw ed (drop-left first a b p (fieldEnd b q) (past-right first a b p q h there here j k ej ek u v x ex t) there g e ee)
+          pub agree-same : x ≡ true → (e : ℕ) → e ≡ fieldEnd b q → Agreeing first a b p e
+          agree-same d = pass (omega arith) (sym clash-is ∙ ap not d)
 
 -- `languages_fit`: x and y say whether a class of one is a result of the other
 module _ (a b : List ℕ) (x : Bool) (ex : x ≡ resultsMeet a b) where

@@ -32,27 +32,25 @@ pub fn agree(a: &[u8], b: &[u8], first: u8) -> bool
     ensures { λ r. ⌜ r ≡ agrees first (now (a .entry)) (now (b .entry)) ⌝ }
 {
     let start = shared(a, b);
+    let mut same = true;
     let mut p = start;
     let mut q = start;
-    while p < a.len() {
-        if b.len() <= q {
-            return true;
-        }
-        let j = key_of(a, p, first);
-        let k = key_of(b, q, first);
-        if j < k {
-            p = end_of(a, p);
-            continue;
-        }
-        if k < j {
+    'clash: while p < a.len() {
+        let key = key_of(a, p, first);
+        while q < b.len() {
+            let other = key_of(b, q, first);
+            if key < other {
+                break;
+            }
+            if key == other {
+                if !same_field(a, p, b, q) {
+                    same = false;
+                    break 'clash;
+                }
+            }
             q = end_of(b, q);
-            continue;
-        }
-        if !same_field(a, p, b, q) {
-            return false;
         }
         p = end_of(a, p);
-        q = end_of(b, q);
     }
-    true
+    same
 }
