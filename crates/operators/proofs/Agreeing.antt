@@ -13,10 +13,10 @@ use Rattle.fields.specs.Inner.Places.{fieldEnd, keyAt}
 use Rattle.fields.proofs.Truth.{mem-all}
 use Rattle.fields.proofs.Keyed.{From, from-mem}
 use Rattle.language.specs.Inner.Entries.{resultsMeet}
-use Rattle.operators.specs.Inner.Parts.{Part, partKey, samePart, partAt, partsFrom, Sorted, partsClash, agrees, fitTogether}
-use Rattle.operators.proofs.Walks.{parts-done, parts-next}
+use Rattle.operators.specs.Inner.Parts.{Part, partKey, samePart, pieceAt, partAt, partsFrom, partsClash, agrees, fitTogether}
+use Rattle.operators.proofs.Walks.{parts-done, parts-next, clash-other, clash-same}
 use Rattle.operators.proofs.Linear.{all-alike}
-use Rattle.operators.proofs.Turns.{Rest, rest-start, rest-next, here-rises}
+use Rattle.operators.proofs.Turns.{Rest, rest-next, here-rises}
 
 -- No clash: other keys, or the same field.
 no-clash : (k s : Bool) → not k || (k && s) ≡ not (k && not s)
@@ -37,7 +37,7 @@ agree-none : (m : List Part) → agree partKey samePart [] m ≡ true
 unfolding agree all
 agree-none m = refl
 
-agree-drop : (x : Part) (l m : List Part) → From partKey (suc (x .key)) m → agree partKey samePart (x ∷ l) m ≡ agree partKey samePart l m
+pub agree-drop : (x : Part) (l m : List Part) → From partKey (suc (x .key)) m → agree partKey samePart (x ∷ l) m ≡ agree partKey samePart l m
 unfolding agree all
 agree-drop x l m g =
     let none : all (λ (b : Part). not (eqb (x .key) (b .key)) || samePart x b) m ≡ true =
@@ -49,7 +49,7 @@ module _ (x y : Part) (l m : List Part) where
   unfolding agree all
   agree-meet h = rw (fit-is x y, h)
 
-  agree-pass : From partKey (suc (x .key)) l → y .key ≤ x .key → partsClash x y ≡ false
+  pub agree-pass : From partKey (suc (x .key)) l → y .key ≤ x .key → partsClash x y ≡ false
       → agree partKey samePart (x ∷ l) (y ∷ m) ≡ agree partKey samePart (x ∷ l) m
   unfolding agree all
   agree-pass f k h =
@@ -65,10 +65,6 @@ pub record Agreeing (first : ℕ) (a b : List ℕ) (p q : ℕ) : Type 0 where
   pub left : Rest first a p
   pub right : Rest first b q
   pub answer : agree partKey samePart (partsFrom first a p) (partsFrom first b q) ≡ agrees first a b
-
-pub agree-start : (first : ℕ) (a b : List ℕ) → Sorted first a × Sorted first b → Agreeing first a b 0 0
-unfolding agrees
-agree-start first a b h = record { left = rest-start first a (h .0); right = rest-start first b (h .1); answer = refl }
 
 module _ (first : ℕ) (a b : List ℕ) (p q : ℕ) (h : Agreeing first a b p q) where
   -- at the end of a
@@ -99,10 +95,6 @@ module _ (first : ℕ) (a b : List ℕ) (p q : ℕ) (h : Agreeing first a b p q)
       heads : agree partKey samePart (partAt first a p ∷ partsFrom first a (fieldEnd a p)) (partAt first b q ∷ partsFrom first b (fieldEnd b q)) ≡ agrees first a b
       heads = rw (← parts-next first a p there, ← parts-next first b q here) (h .answer)
 
-      -- a clash
-      pub agree-clash : (r : Bool) → r ≡ partsClash (partAt first a p) (partAt first b q) → r ≡ true → false ≡ agrees first a b
-      agree-clash r er d = sym (agree-meet (partAt first a p) (partAt first b q) _ _ (sym er ∙ d)) ∙ heads
-
       module _ (j k : ℕ) (ej : j ≡ keyAt first a p) (ek : k ≡ keyAt first b q) where
         -- the field of a is below those that are left of b
         pub agree-below : j < k → (e : ℕ) → e ≡ fieldEnd a p → Agreeing first a b e q
@@ -112,10 +104,9 @@ module _ (first : ℕ) (a b : List ℕ) (p q : ℕ) (h : Agreeing first a b p q)
             drop-left (rw (parts-next first b q here) (g, here-rises first b q (h .right) here))
 
         -- past a field of b, that is below those that are left of a or the same as the first of them
-        pub agree-on : k ≤ j → (r : Bool) → r ≡ partsClash (partAt first a p) (partAt first b q) → r ≡ false → (e : ℕ) → e ≡ fieldEnd b q
-            → Agreeing first a b p e
+        pass : k ≤ j → partsClash (partAt first a p) (partAt first b q) ≡ false → (e : ℕ) → e ≡ fieldEnd b q → Agreeing first a b p e
         unfolding partAt
-        agree-on d r er c e ee =
+        pass d c e ee =
             let g : keyAt first b q ≤ keyAt first a p = omega arith in
             let x = partAt first a p in
             let l = partsFrom first a (fieldEnd a p) in
@@ -125,8 +116,23 @@ module _ (first : ℕ) (a b : List ℕ) (p q : ℕ) (h : Agreeing first a b p q)
               answer =
                   ap (λ (n : ℕ). agree partKey samePart (partsFrom first a p) (partsFrom first b n)) ee
                   ∙ (ap (λ (n : List Part). agree partKey samePart n (partsFrom first b (fieldEnd b q))) (parts-next first a p there)
-                  ∙ (sym (agree-pass x (partAt first b q) l (partsFrom first b (fieldEnd b q)) (here-rises first a p (h .left) there) g (sym er ∙ c)) ∙ heads));
+                  ∙ (sym (agree-pass x (partAt first b q) l (partsFrom first b (fieldEnd b q)) (here-rises first a p (h .left) there) g c) ∙ heads));
             }
+
+        -- the field of b is below those that are left of a
+        pub agree-above : k ≤ j → (j ≡ k → ⊥) → (e : ℕ) → e ≡ fieldEnd b q → Agreeing first a b p e
+        agree-above d n = pass d (sym (clash-other first a p b q j k ej ek n))
+
+        -- the fields have one key, and x says whether they are the same
+        module _ (one : j ≡ k) (x : Bool) (ex : x ≡ sameNumbers (pieceAt a p) (pieceAt b q)) where
+          clash-is : not x ≡ partsClash (partAt first a p) (partAt first b q)
+          clash-is = clash-same first a p b q j k ej ek one x ex
+
+          pub agree-clash : x ≡ false → false ≡ agrees first a b
+          agree-clash d = sym (agree-meet (partAt first a p) (partAt first b q) _ _ (sym clash-is ∙ ap not d)) ∙ heads
+
+          pub agree-same : x ≡ true → (e : ℕ) → e ≡ fieldEnd b q → Agreeing first a b p e
+          agree-same d = pass (omega arith) (sym clash-is ∙ ap not d)
 
 -- `languages_fit`: x and y say whether a class of one is a result of the other
 module _ (a b : List ℕ) (x : Bool) (ex : x ≡ resultsMeet a b) where

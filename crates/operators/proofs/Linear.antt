@@ -7,10 +7,10 @@ use mathlib.Core.Bool.{Bool, true, false, cond, not, _&&_, _||_}
 use mathlib.Core.List.{List, [], _∷_, _++_}
 use native.Mathlib.Omega.{arith}
 use lib.Dec.{ltb}
-use borrow.Author.Tests.{ltb-true, ltb-false, ne-eqb}
+use borrow.Author.Tests.{ltb-true, ltb-false, eq-eqb, ne-eqb}
 use Rattle.fields.specs.Lists.{all, any, keep}
 use Rattle.fields.specs.Keyed.{Order, place, insert, union, holds, within, without}
-use Rattle.fields.proofs.Truth.{Mem, by-test, false-any}
+use Rattle.fields.proofs.Truth.{Mem, by-test, false-any, equal-numbers}
 use Rattle.fields.proofs.Keyed.{Compared, is-below, is-same, is-above, compared, From, from-weaken, from-mem, union-from}
 use Rattle.operators.specs.Inner.Parts.{Part, partKey, samePart, lower, seek, leads}
 use Rattle.operators.proofs.Walks.{seek-skip, lower-skip, seek-stop, lower-stop}
@@ -77,7 +77,7 @@ seek-from k n (a ∷ l) f =
     (λ e. rw (seek-skip k a l (ltb-true _ _ e)) (seek-from k (suc (a .key)) l (f .1)))
     (λ e. rw (seek-stop k a l (ltb-false _ _ e)) (ltb-false _ _ e, f .1))
 
-seek-all : (k : ℕ) (l : List Part) → From partKey k l → seek k l ≡ l
+pub seek-all : (k : ℕ) (l : List Part) → From partKey k l → seek k l ≡ l
 seek-all k [] f = seek-none k
 seek-all k (a ∷ l) f = seek-stop k a l (f .0)
 
@@ -111,6 +111,44 @@ union-turn x l f n (y ∷ m) g = go (union-turn x l f (suc (y .key)) m (g .1)) (
     go more (is-above h) =
         rw (lower-stop (x .key) y m (omega arith), seek-stop (suc (x .key)) y m h, union-cons partKey x l (y ∷ m))
         (insert-front partKey x (union partKey l (y ∷ m)) (union-from partKey (suc (x .key)) l (y ∷ m) f (h, g .1)))
+
+-- The union where nothing is below x in the second list: its first field y is above x, or has the key of x.
+module _ (x y : Part) (l m : List Part) (n : ℕ) (f : From partKey (suc (x .key)) l) (g : From partKey n (y ∷ m)) where
+  pub union-low : x .key < y .key → union partKey (x ∷ l) (y ∷ m) ≡ x ∷ union partKey l (y ∷ m)
+  union-low h =
+      let turn = union-turn x l f n (y ∷ m) g in
+      rw (lower-stop (x .key) y m (omega arith), seek-stop (suc (x .key)) y m h) at turn
+
+  pub union-same : y .key ≡ x .key → union partKey (x ∷ l) (y ∷ m) ≡ x ∷ union partKey l m
+  union-same h =
+      let turn = union-turn x l f n (y ∷ m) g in
+      let d : From partKey (suc (x .key)) m = rw h at (g .1) in
+      rw (lower-stop (x .key) y m (omega arith), seek-skip (suc (x .key)) y m (omega arith), seek-all (suc (x .key)) m d) at turn
+
+-- The union with nothing.
+pub union-nothing : (n : ℕ) (l : List Part) → From partKey n l → union partKey l [] ≡ l
+union-nothing n [] f = union-none partKey []
+union-nothing n (x ∷ l) f =
+    let turn = union-turn x l (f .1) 0 [] tt in
+    let here : union partKey (x ∷ l) [] ≡ x ∷ union partKey l [] = rw (lower-none (x .key), seek-none (suc (x .key))) at turn in
+    here ∙ ap (λ (r : List Part). x ∷ r) (union-nothing (suc (x .key)) l (f .1))
+
+lower-seek : (k : ℕ) (m : List Part) → lower k (seek k m) ≡ []
+lower-seek k [] = ap (lower k) (seek-none k) ∙ lower-none k
+lower-seek k (a ∷ l) =
+    by-test (ltb (a .key) k)
+    (λ e. ap (lower k) (seek-skip k a l (ltb-true _ _ e)) ∙ lower-seek k l)
+    (λ e. ap (lower k) (seek-stop k a l (ltb-false _ _ e)) ∙ lower-stop k a l (ltb-false _ _ e))
+
+-- What is below x in the second list comes first in the union.
+pub union-high : (x : Part) (l : List Part) → From partKey (suc (x .key)) l → (n : ℕ) (m : List Part) → From partKey n m
+    → union partKey (x ∷ l) m ≡ lower (x .key) m ++ union partKey (x ∷ l) (seek (x .key) m)
+union-high x l f n m g =
+    let k = x .key in
+    let turn = union-turn x l f k (seek k m) (seek-from k n m g) in
+    let rest : union partKey (x ∷ l) (seek k m) ≡ x ∷ union partKey l (seek (suc k) m) =
+    rw (lower-seek k m, seek-further k (suc k) (omega arith) m) at turn in
+    union-turn x l f n m g ∙ ap (λ (r : List Part). lower k m ++ r) (sym rest)
 
 -- Fields of different keys are not the same.
 differ : (x y : Part) → (x .key ≡ y .key → ⊥) → samePart x y ≡ false
@@ -169,3 +207,26 @@ module _ (x : Part) (l : List Part) (f : From partKey (suc (x .key)) l) (n : ℕ
   pub within-turn : within samePart (x ∷ l) m ≡ leads x (seek (x .key) m) && within samePart l (seek (x .key) m)
   unfolding within all
   within-turn = rw (found x n m g, all-alike (holds samePart m) (holds samePart (seek (x .key) m)) l further)
+
+-- Where both lists begin with x, it stands in the second, and of the others as many stand in what is left of it.
+self : (x : Part) → samePart x x ≡ true
+unfolding samePart
+self x = rw (eq-eqb (x .key) (x .key) refl, equal-numbers (x .bytes))
+
+module _ (x : Part) (l : List Part) (f : From partKey (suc (x .key)) l) (m : List Part) where
+  past-first : (a : Part) → Mem a l → holds samePart (x ∷ m) a ≡ holds samePart m a
+  unfolding holds any
+  past-first a q = rw (differ a x (λ e. omega (arith, from-mem partKey l f q)))
+
+  first-holds : holds samePart (x ∷ m) x ≡ true
+  unfolding holds any
+  first-holds = rw (self x)
+
+  pub within-same : within samePart (x ∷ l) (x ∷ m) ≡ within samePart l m
+  unfolding within all
+  within-same = rw (first-holds, all-alike (holds samePart (x ∷ m)) (holds samePart m) l past-first)
+
+  pub without-same : without samePart (x ∷ l) (x ∷ m) ≡ without samePart l m
+  unfolding without keep
+  without-same =
+      rw (first-holds, keep-alike (λ a. not (holds samePart (x ∷ m) a)) (λ a. not (holds samePart m a)) l (λ a q. ap not (past-first a q)))

@@ -1,14 +1,13 @@
 -- The operators on bytes, a turn of their loops at a time: a law for each return and turn of `merge` and `within`.
-use Prim.Native.Nat.{ℕ, zero, suc, _+_, _-_, _<_, _≤_}
+use Prim.Native.Nat.{ℕ, zero, suc, _-_, _<_, _≤_}
 use mathlib.Core.Path.{_≡_, refl, sym, ap, _∙_}
 use mathlib.Core.Bool.{Bool, true, false, cond, not, _&&_}
 use mathlib.Core.List.{List, [], _∷_, _++_, append-assoc, append-nil}
-use native.Mathlib.Numerals.{add-one}
 use native.Mathlib.Omega.{arith}
 use lib.ListN.{length, length-append}
 use lib.Seq.{slice, slice-empty}
-use lib.Dec.{leb}
-use borrow.Author.Tests.{leb-true, leb-false}
+use lib.Dec.{ltb, leb}
+use borrow.Author.Tests.{ltb-true, ltb-false, leb-true, leb-false}
 use Rattle.fields.specs.Lists.{all, keep, concatMap}
 use Rattle.fields.specs.Keyed.{union, within, without}
 use Rattle.fields.specs.Inner.Places.{fieldEnd, keyAt}
@@ -18,10 +17,10 @@ use Rattle.fields.proofs.Keyed.{From, is-rising}
 use Rattle.fields.proofs.Places.{end-past}
 use Rattle.operators.specs.declared.copy.Stored.{Stored}
 use Rattle.operators.specs.declared.copy.Stored.the-variants.{To, Full}
-use Rattle.operators.specs.Inner.Parts.{Part, partKey, samePart, bytesOf, pieceAt, partAt, partsFrom, parts, WholeAt, WholeFrom, Sorted, lower, seek, SoughtAt, leads, united, removed, Inside, Written, Stores}
+use Rattle.operators.specs.Inner.Parts.{Part, partKey, samePart, bytesOf, pieceAt, partAt, partsFrom, parts, WholeAt, WholeFrom, Sorted, lower, seek, SoughtAt, leads, united, Inside, Written, Stores}
 use Rattle.operators.proofs.Splices.{slice-join, nothing-spliced, written-then}
 use Rattle.operators.proofs.Walks.{parts-done, parts-next, whole-here, whole-next}
-use Rattle.operators.proofs.Linear.{union-none, union-turn, without-turn, within-turn, seek-from, seek-further}
+use Rattle.operators.proofs.Linear.{union-none, union-low, union-same, union-nothing, union-high, without-turn, within-turn, seek-from}
 
 -- What is written of a result, and what is left of it.
 pub record Progress (result left o out : List ℕ) (n : ℕ) : Type 0 where
@@ -87,11 +86,14 @@ rest-start first s h = record {
   rises = is-rising partKey (parts first s) (h .rises);
 }
 
+rest-rises : (first : ℕ) (s : List ℕ) (p k r : ℕ) → Rest first s p → SoughtAt first s p k r → From partKey k (partsFrom first s r)
+rest-rises first s p k r h w = rw (w .rest) (seek-from k (h .least) (partsFrom first s p) (h .rises))
+
 pub rest-sought : (first : ℕ) (s : List ℕ) (p k r : ℕ) → Rest first s p → SoughtAt first s p k r → Rest first s r
 rest-sought first s p k r h w = record {
   from = w .from;
   least = k;
-  rises = rw (w .rest) (seek-from k (h .least) (partsFrom first s p) (h .rises));
+  rises = rest-rises first s p k r h w;
 }
 
 -- The field at p, and what comes after it.
@@ -111,15 +113,15 @@ module _ (first : ℕ) (s : List ℕ) (p : ℕ) (h : Rest first s p) (here : p <
   field-inside e q = rw q (record { rise = omega (arith, end-past s p); fits = whole-here s p (h .from) here .fits })
 
 -- The bytes of fields in front of others.
-bytes-append : (l m : List Part) → bytesOf (l ++ m) ≡ bytesOf l ++ bytesOf m
+pub bytes-append : (l m : List Part) → bytesOf (l ++ m) ≡ bytesOf l ++ bytesOf m
 unfolding bytesOf
 bytes-append l m = concat-append (λ a. a .bytes) l m
 
-bytes-cons : (x : Part) (l : List Part) → bytesOf (x ∷ l) ≡ x .bytes ++ bytesOf l
+pub bytes-cons : (x : Part) (l : List Part) → bytesOf (x ∷ l) ≡ x .bytes ++ bytesOf l
 unfolding bytesOf concatMap
 bytes-cons x l = refl
 
-bytes-none : bytesOf [] ≡ []
+pub bytes-none : bytesOf [] ≡ []
 unfolding bytesOf concatMap
 bytes-none = refl
 
@@ -132,7 +134,7 @@ piece-join : (first : ℕ) (s : List ℕ) (p : ℕ) → WholeAt s p → partAt f
 unfolding partAt
 piece-join first s p f = slice-join s p (fieldEnd s p) (length s) (omega (arith, end-past s p)) (f .fits) (omega arith)
 
-all-bytes : (fuel first : ℕ) (s : List ℕ) (p : ℕ) → length s - p < fuel → WholeFrom s p → bytesOf (partsFrom first s p) ≡ slice p (length s) s
+pub all-bytes : (fuel first : ℕ) (s : List ℕ) (p : ℕ) → length s - p < fuel → WholeFrom s p → bytesOf (partsFrom first s p) ≡ slice p (length s) s
 all-bytes zero first s p h w = absurd (omega arith)
 all-bytes (suc fuel) first s p h w =
     by-test (leb (length s) p)
@@ -153,29 +155,6 @@ all-bytes (suc fuel) first s p h w =
 module _ (first : ℕ) (a b : List ℕ) (p q : ℕ) (ra : Rest first a p) (rb : Rest first b q) (here : p < length a) (key : ℕ) (ek : key ≡ keyAt first a p) where
   next : partsFrom first a p ≡ partAt first a p ∷ partsFrom first a (fieldEnd a p)
   next = parts-next first a p here
-
-  -- `merge`
-  module _ (low : ℕ) (w : SoughtAt first b q key low) (e : ℕ) (ee : e ≡ fieldEnd a p) where
-    pub merge-turn : bytesOf (union partKey (partsFrom first a p) (partsFrom first b q))
-        ≡ (slice q low b ++ slice p e a) ++ bytesOf (union partKey (partsFrom first a e) (seek (suc key) (partsFrom first b q)))
-    unfolding partAt
-    merge-turn =
-        let l = partsFrom first a (fieldEnd a p) in
-        let m = partsFrom first b q in
-        rw (ee, ek)
-        (ap bytesOf (ap (λ (r : List Part). union partKey r m) next ∙ union-turn (partAt first a p) l (here-rises first a p ra here) (rb .least) m (rb .rises))
-        ∙ (bytes-append (lower (keyAt first a p) m) (partAt first a p ∷ union partKey l (seek (suc (keyAt first a p)) m))
-        ∙ (ap (λ (r : List ℕ). r ++ bytesOf (partAt first a p ∷ union partKey l (seek (suc (keyAt first a p)) m))) (sym (rw ek at (w .skipped)))
-        ∙ (ap (λ (r : List ℕ). slice q low b ++ r) (bytes-cons (partAt first a p) (union partKey l (seek (suc (keyAt first a p)) m)))
-        ∙ sym (append-assoc (slice q low b) (pieceAt a p) (bytesOf (union partKey l (seek (suc (keyAt first a p)) m))))))))
-
-    pub merge-on : (r : ℕ) → SoughtAt first b low (key + 1) r
-        → bytesOf (union partKey (partsFrom first a p) (partsFrom first b q))
-        ≡ (slice q low b ++ slice p e a) ++ bytesOf (union partKey (partsFrom first a e) (partsFrom first b r))
-    merge-on r x =
-        let d : partsFrom first b r ≡ seek (suc key) (partsFrom first b q) =
-        x .rest ∙ (ap (λ (k : ℕ). seek k (partsFrom first b low)) (add-one key) ∙ (ap (seek (suc key)) (w .rest) ∙ seek-further key (suc key) (omega arith) (partsFrom first b q))) in
-        rw d merge-turn
 
   -- `remove` and `lies_within`: the field at p stands at r, or not
   module _ (r : ℕ) (w : SoughtAt first b q key r) (e : ℕ) (ee : e ≡ fieldEnd a p) (stands : Bool) (es : stands ≡ leads (partAt first a p) (partsFrom first b r)) where
@@ -230,29 +209,140 @@ module _ (first : ℕ) (a b : List ℕ) (p q : ℕ) (end : length a ≤ p) where
   unfolding within all
   within-end x inv = sym (ap (λ (r : List Part). within samePart r (partsFrom first b q)) (parts-done first a p end)) ∙ inv
 
--- Where `merge` and `remove` are: the result so far, by what the operator makes of the fields that are left.
+-- Where `remove` is: the result so far, by what the operator makes of the fields that are left.
 pub record Going (op : List Part → List Part → List Part) (result : List ℕ) (first : ℕ) (a b o out : List ℕ) (p q n : ℕ) : Type 0 where
   pub progress : Progress result (bytesOf (op (partsFrom first a p) (partsFrom first b q))) o out n
   pub left : Rest first a p
   pub right : Rest first b q
 
-pub merge-start : (first : ℕ) (a b o : List ℕ) → Sorted first a × Sorted first b → Going (union partKey) (united first a b) first a b o o 0 0 0
-unfolding united
-merge-start first a b o h = record {
-  progress = progress-start (bytesOf (union partKey (parts first a) (parts first b))) o;
-  left = rest-start first a (h .0);
-  right = rest-start first b (h .1);
-}
-
-pub remove-start : (first : ℕ) (a b o : List ℕ) → Sorted first a × Sorted first b → Going (without samePart) (removed first a b) first a b o o 0 0 0
-unfolding removed
-remove-start first a b o h = record {
-  progress = progress-start (bytesOf (without samePart (parts first a) (parts first b))) o;
-  left = rest-start first a (h .0);
-  right = rest-start first b (h .1);
-}
-
 -- There is room for what is written so far.
 pub going-room : (op : List Part → List Part → List Part) (result : List ℕ) (first : ℕ) (a b o out : List ℕ) (p q n : ℕ)
     → Going op result first a b o out p q n → n ≤ length out
 going-room op result first a b o out p q n h = omega (arith, h .progress .long, h .progress .written .fits)
+
+-- Where `merge` is: the bytes of a from `from` up to p come next, and then the union of what is left.
+pub record Merging (first : ℕ) (a b o out : List ℕ) (from p q n : ℕ) : Type 0 where
+  pub progress : Progress (united first a b) (slice from p a ++ bytesOf (union partKey (partsFrom first a p) (partsFrom first b q))) o out n
+  pub rise : from ≤ p
+  pub left : Rest first a p
+  pub right : Rest first b q
+
+module _ (first : ℕ) (a b o out : List ℕ) (from p q n : ℕ) (h : Merging first a b o out from p q n) where
+  pub merging-room : n ≤ length out
+  merging-room = omega (arith, h .progress .long, h .progress .written .fits)
+
+  pub merging-inside : Inside a from p
+  merging-inside = record { rise = h .rise; fits = h .left .from .inside }
+
+  -- nothing is left of one of them
+  pub merging-done : length a ≤ p → (out′ : List ℕ) (x : Stored) → Stores (slice from (length a) a ++ slice q (length b) b) out out′ n x
+      → Stores (united first a b) o out′ 0 x
+  merging-done d out′ x w =
+      let e : p ≡ length a = omega (arith, h .left .from .inside) in
+      progress-last _ _ _ _ _ (h .progress) _ out′ x
+      (ap (λ (i : ℕ). slice from i a ++ bytesOf (union partKey (partsFrom first a p) (partsFrom first b q))) e
+      ∙ ap (λ (r : List ℕ). slice from (length a) a ++ r) (merge-end first a b p q d (h .right .from)))
+      w
+
+  pub merging-out : length b ≤ q → (out′ : List ℕ) (x : Stored) → Stores (slice from (length a) a ++ slice q (length b) b) out out′ n x
+      → Stores (united first a b) o out′ 0 x
+  merging-out d out′ x w =
+      let e : q ≡ length b = omega (arith, h .right .from .inside) in
+      let none : slice q (length b) b ≡ [] = ap (λ (i : ℕ). slice i (length b) b) e ∙ slice-empty (length b) b in
+      let rest : bytesOf (union partKey (partsFrom first a p) (partsFrom first b q)) ≡ slice p (length a) a =
+      ap (λ (r : List Part). bytesOf (union partKey (partsFrom first a p) r)) (parts-done first b q d)
+      ∙ (ap bytesOf (union-nothing (h .left .least) (partsFrom first a p) (h .left .rises)) ∙ all-bytes (suc (length a)) first a p (omega arith) (h .left .from)) in
+      progress-last _ _ _ _ _ (h .progress) _ out′ x
+      (ap (λ (r : List ℕ). slice from p a ++ r) rest
+      ∙ (slice-join a from p (length a) (h .rise) (h .left .from .inside) (omega arith)
+      ∙ (sym (append-nil (slice from (length a) a)) ∙ ap (λ (r : List ℕ). slice from (length a) a ++ r) (sym none))))
+      w
+
+  module _ (there : p < length a) where
+    abbrev x : Part
+    x = partAt first a p
+
+    abbrev l : List Part
+    l = partsFrom first a (fieldEnd a p)
+
+    -- past a field of a, which comes next
+    past : (m : List Part) → union partKey (x ∷ l) (partsFrom first b q) ≡ x ∷ union partKey l m
+        → slice from p a ++ bytesOf (union partKey (partsFrom first a p) (partsFrom first b q)) ≡ slice from (fieldEnd a p) a ++ bytesOf (union partKey l m)
+    unfolding partAt
+    past m u =
+        ap (λ (r : List Part). slice from p a ++ bytesOf (union partKey r (partsFrom first b q))) (parts-next first a p there)
+        ∙ (ap (λ (r : List Part). slice from p a ++ bytesOf r) u
+        ∙ (ap (λ (r : List ℕ). slice from p a ++ r) (bytes-cons x (union partKey l m))
+        ∙ (sym (append-assoc (slice from p a) (pieceAt a p) (bytesOf (union partKey l m)))
+        ∙ ap (λ (r : List ℕ). r ++ bytesOf (union partKey l m))
+        (slice-join a from p (fieldEnd a p) (h .rise) (omega (arith, end-past a p)) (whole-here a p (h .left .from) there .fits)))))
+
+    module _ (here : q < length b) (j k : ℕ) (ej : j ≡ keyAt first a p) (ek : k ≡ keyAt first b q) where
+      next-right : partsFrom first b q ≡ partAt first b q ∷ partsFrom first b (fieldEnd b q)
+      next-right = parts-next first b q here
+
+      right-rises : From partKey (h .right .least) (partAt first b q ∷ partsFrom first b (fieldEnd b q))
+      right-rises = rw next-right at (h .right .rises)
+
+      pub merging-low : j ≤ k → (j ≡ k → ⊥) → (e : ℕ) → e ≡ fieldEnd a p → Merging first a b o out from e q n
+      unfolding partAt
+      merging-low u v e ee =
+          let d : keyAt first a p < keyAt first b q =
+          by-test (ltb j k) (λ t. let z : j < k = ltb-true _ _ t in omega arith) (λ t. absurd (v (omega (arith, ltb-false j k t)))) in
+          let w : union partKey (x ∷ l) (partsFrom first b q) ≡ x ∷ union partKey l (partsFrom first b q) =
+          rw next-right (union-low x (partAt first b q) l (partsFrom first b (fieldEnd b q)) (h .right .least) (here-rises first a p (h .left) there) right-rises d) in
+          rw ee (record {
+            progress = rw (← past (partsFrom first b q) w) (h .progress);
+            rise = omega (arith, h .rise, end-past a p);
+            left = rest-next first a p (h .left) there (fieldEnd a p) refl;
+            right = h .right;
+          })
+
+      pub merging-both : j ≡ k → (e : ℕ) → e ≡ fieldEnd a p → (d : ℕ) → d ≡ fieldEnd b q → Merging first a b o out from e d n
+      unfolding partAt
+      merging-both v e ee d ed =
+          let f : keyAt first b q ≡ keyAt first a p = omega arith in
+          let w : union partKey (x ∷ l) (partsFrom first b q) ≡ x ∷ union partKey l (partsFrom first b (fieldEnd b q)) =
+          rw next-right (union-same x (partAt first b q) l (partsFrom first b (fieldEnd b q)) (h .right .least) (here-rises first a p (h .left) there) right-rises f) in
+          rw (ee, ed) (record {
+            progress = rw (← past (partsFrom first b (fieldEnd b q)) w) (h .progress);
+            rise = omega (arith, h .rise, end-past a p);
+            left = rest-next first a p (h .left) there (fieldEnd a p) refl;
+            right = rest-next first b q (h .right) here (fieldEnd b q) refl;
+          })
+
+      -- b is sought through for the key of the field of a
+      module _ (low : k < j) (d : ℕ) (s : SoughtAt first b q j d) where
+        pub merging-moves : q < d
+        unfolding partAt
+        merging-moves =
+            by-test (ltb q d) (λ t. ltb-true _ _ t)
+            (λ t.
+            let e : d ≡ q = omega (arith, ltb-false q d t, s .past) in
+            let r : From partKey j (partsFrom first b d) = rest-rises first b q j d (h .right) s in
+            let r′ : From partKey j (partAt first b q ∷ partsFrom first b (fieldEnd b q)) = rw (e, next-right) at r in
+            absurd (omega (arith, r′ .0)))
+
+        split : slice from p a ++ bytesOf (union partKey (partsFrom first a p) (partsFrom first b q))
+            ≡ (slice from p a ++ slice q d b) ++ bytesOf (union partKey (partsFrom first a p) (partsFrom first b d))
+        unfolding partAt
+        split =
+            let m = partsFrom first b q in
+            let t : union partKey (partsFrom first a p) m ≡ lower j m ++ union partKey (partsFrom first a p) (partsFrom first b d) =
+            rw (s .rest, ej, parts-next first a p there) (union-high x l (here-rises first a p (h .left) there) (h .right .least) m (h .right .rises)) in
+            ap (λ (r : List Part). slice from p a ++ bytesOf r) t
+            ∙ (ap (λ (r : List ℕ). slice from p a ++ r) (bytes-append (lower j m) (union partKey (partsFrom first a p) (partsFrom first b d)))
+            ∙ (ap (λ (r : List ℕ). slice from p a ++ (r ++ bytesOf (union partKey (partsFrom first a p) (partsFrom first b d)))) (sym (s .skipped))
+            ∙ sym (append-assoc (slice from p a) (slice q d b) (bytesOf (union partKey (partsFrom first a p) (partsFrom first b d))))))
+
+        module _ (out′ : List ℕ) (y : Stored) (w : Stores (slice from p a ++ slice q d b) out out′ n y) where
+          pub merging-full : y ≡ Full → Stores (united first a b) o out′ 0 Full
+          merging-full e = progress-full _ _ _ _ _ (h .progress) _ _ split out′ y w e
+
+          pub merging-high : (m : ℕ) → y ≡ To m → length out′ ≡ length out → Merging first a b o out′ p p d m
+          merging-high m e i = record {
+            progress = rw (slice-empty p a) (progress-on _ _ _ _ _ (h .progress) _ _ split out′ y w m e i);
+            rise = omega arith;
+            left = h .left;
+            right = rest-sought first b q j d (h .right) s;
+          }

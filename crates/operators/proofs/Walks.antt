@@ -8,7 +8,7 @@ use native.Mathlib.Omega.{arith}
 use lib.ListN.{length, getD}
 use lib.Seq.{slice, slice-empty, length-slice}
 use borrow.Author.Tests.{lt-ltb, le-ltb, eq-eqb, ne-eqb, leb-true}
-use Rattle.fields.specs.Lists.{all, concatMap, sameNumbers}
+use Rattle.fields.specs.Lists.{concatMap, sameNumbers}
 use Rattle.fields.specs.Inner.Places.{fieldEnd, isWhole, keyAt}
 use Rattle.fields.proofs.Truth.{numbers-equal, refuted}
 use Rattle.fields.proofs.Lists.{part-done, part-next}
@@ -26,11 +26,18 @@ module _ (first : ℕ) (s : List ℕ) (p : ℕ) where
   unfolding partsFrom
   parts-next h = rw (places-next s p h)
 
+-- The first three bytes of a whole field are there.
+pub head-whole : (s : List ℕ) (p : ℕ) → WholeAt s p → p + 3 ≤ length s
+head-whole s p w = omega (arith, end-past s p, w .fits)
+
 -- Where all fields from p on are whole, the one at p is, and all further ones.
 module _ (s : List ℕ) (p : ℕ) (w : WholeFrom s p) (here : p < length s) where
   pub whole-here : WholeAt s p
   unfolding isWhole
   whole-here = record { inside = here; fits = leb-true _ _ (every-here (isWhole s) s p (w .whole) here .0) }
+
+  pub head-here : p + 3 ≤ length s
+  head-here = head-whole s p whole-here
 
   pub whole-next : (e : ℕ) → e ≡ fieldEnd s p → WholeFrom s e
   whole-next e q = rw q (record { inside = whole-here .fits; whole = every-here (isWhole s) s p (w .whole) here .1 })
@@ -139,7 +146,7 @@ module _ (a b : List ℕ) (p e q d : ℕ) (fa : e ≤ length a) (fb : d ≤ leng
           let n : q + i + 1 ≡ q + (i + 1) = omega arith in
           rw (← m, ← n) (rw (eq-eqb _ _ h) at heads)
 
--- `stands_at` and `clash_at`: j and k are the keys of the fields at p and q
+-- `stands_at` and `agree`: j and k are the keys of the fields at p and q
 module _ (first : ℕ) (a : List ℕ) (p : ℕ) (b : List ℕ) (q : ℕ) where
   pub stands-end : length b ≤ q → false ≡ leads (partAt first a p) (partsFrom first b q)
   stands-end h = rw (parts-done first b q h)

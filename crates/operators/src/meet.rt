@@ -1,17 +1,17 @@
 // Two files of rising fields, side by side.
 ghost use mathlib.Core.Path.{_≡_};
 ghost use Rattle.fields.specs.Lists.{sameNumbers};
-ghost use Rattle.operators.specs.Inner.Parts.{WholeAt, WholeFrom, SoughtAt, pieceAt, partAt, partsFrom, leads, partsClash};
-use fields::walk::field_end;
-use fields::walk::key_at;
+ghost use Rattle.operators.specs.Inner.Parts.{WholeAt, WholeFrom, SoughtAt, pieceAt, partAt, partsFrom, leads};
+use super::head::end_of;
+use super::head::key_of;
 
 // The field of a at p and the field of b at q are the same, byte for byte.
-fn same_field(a: &[u8], p: usize, b: &[u8], q: usize) -> bool
+pub fn same_field(a: &[u8], p: usize, b: &[u8], q: usize) -> bool
     requires { ⌜ WholeAt (now a) p × WholeAt (now b) q ⌝ }
     ensures { λ r. ⌜ r ≡ sameNumbers (pieceAt (now (a .entry)) p) (pieceAt (now (b .entry)) q) ⌝ }
 {
-    let n = field_end(a, p) - p;
-    if field_end(b, q) - q != n {
+    let n = end_of(a, p) - p;
+    if end_of(b, q) - q != n {
         return false;
     }
     let mut i = 0;
@@ -31,10 +31,10 @@ pub fn seek(s: &[u8], p: usize, key: usize, first: u8) -> usize
 {
     let mut q = p;
     while q < s.len() {
-        if key <= key_at(s, q, first) {
+        if key <= key_of(s, q, first) {
             return q;
         }
-        q = field_end(s, q);
+        q = end_of(s, q);
     }
     q
 }
@@ -47,19 +47,8 @@ pub fn stands_at(a: &[u8], p: usize, b: &[u8], q: usize, first: u8) -> bool
     if b.len() <= q {
         return false;
     }
-    if key_at(a, p, first) != key_at(b, q, first) {
+    if key_of(a, p, first) != key_of(b, q, first) {
         return false;
     }
     same_field(a, p, b, q)
-}
-
-// The fields of a at p and of b at q have the same key, and are not the same.
-pub fn clash_at(a: &[u8], p: usize, b: &[u8], q: usize, first: u8) -> bool
-    requires { ⌜ WholeAt (now a) p × WholeAt (now b) q ⌝ }
-    ensures { λ r. ⌜ r ≡ partsClash (partAt first (now (a .entry)) p) (partAt first (now (b .entry)) q) ⌝ }
-{
-    if key_at(a, p, first) != key_at(b, q, first) {
-        return false;
-    }
-    !same_field(a, p, b, q)
 }

@@ -76,6 +76,21 @@ pub record SoughtAt (first : ℕ) (s : List ℕ) (p k r : ℕ) : Type 0 where
   pub past : p ≤ r
   pub from : WholeFrom s r
 
+-- The first n bytes are the same in both files.
+pub record Alike (a b : List ℕ) (n : ℕ) : Type 0 where
+  pub left : n ≤ length a
+  pub right : n ≤ length b
+  pub same : take n a ≡ take n b
+
+-- Both files begin with the same fields, and the last of them ends at r.
+pub record Shared (first : ℕ) (a b : List ℕ) (r : ℕ) : Type 0 where
+  pub fields : List Part
+  pub left : parts first a ≡ fields ++ partsFrom first a r
+  pub right : parts first b ≡ fields ++ partsFrom first b r
+  pub bytes : slice 0 r a ≡ bytesOf fields
+  pub leftFrom : WholeFrom a r
+  pub rightFrom : WholeFrom b r
+
 -- The list begins with the field.
 abbrev pub leads : Part → List Part → Bool
 leads a [] = false

@@ -1,42 +1,73 @@
 use borrow.Author.Needs.{needs}
-use Prim.Native.Nat.{_-_}
+use Prim.Native.Nat.{_+_, _-_}
+use mathlib.Core.Logic.{⊎-elim}
 use native.Mathlib.Omega.{arith}
 use lib.ListN.{length}
-use Rattle.fields.specs.Keyed.{union}
-use Rattle.operators.specs.Inner.Parts.{partKey, united}
-use Rattle.operators.proofs.Turns.{Going, merge-start, merge-turn, merge-on, merge-end, progress-on, progress-full, progress-last, rest-next, rest-sought, field-inside, going-room}
+use Rattle.operators.proofs.Walks.{head-here}
+use Rattle.operators.proofs.Turns.{Merging, rest-start, merging-room, merging-inside, merging-done, merging-out, merging-low, merging-both, merging-moves, merging-full, merging-high}
+use Rattle.operators.proofs.Prefixes.{shared-merge}
 use Rattle.operators.proofs.merge.merge.Statement.{statement}
 use Rattle.operators.proofs.merge.merge.Tie as tie
 
 abbrev Inv-loop : tie.InvT-loop
-Inv-loop a b first out₀ p₀ q₀ n₀ out p q n = Going (union partKey) (united first a b) first a b out₀ out p q n
+Inv-loop a b first out₀ start from₀ p₀ q₀ n₀ out from p q n = Merging first a b out₀ out from p q n
 
 abbrev μ-loop : tie.MeasureT-loop
-μ-loop a b first out₀ p₀ q₀ n₀ out p q n = length a - p
+μ-loop a b first out₀ start from₀ p₀ q₀ n₀ out from p q n = (length a - p) + (length b - q)
+
+shared-requires : tie.Need-shared-requires Inv-loop μ-loop
+shared-requires c κs = (rest-start _ _ (c .before .before .before .pre .0) .from, rest-start _ _ (c .before .before .before .pre .1) .from)
 
 loop-holds : tie.Need-loop-holds Inv-loop μ-loop
-loop-holds c = merge-start _ _ _ _ (c .before .before .before .pre)
+loop-holds c = shared-merge _ _ _ _ (c .before .before .before .before .pre) (c .shared .ensures _) _
+
+key-of-requires : tie.Need-key-of-requires Inv-loop μ-loop
+key-of-requires c κs = head-here _ _ (c .before .before .loop .inv .left .from) (c .before .loop-test .taken)
+
+key-of-requires-2 : tie.Need-key-of-requires-2 Inv-loop μ-loop
+key-of-requires-2 c κs = head-here _ _ (c .before .before .before .loop .inv .right .from) (c .before .if1 .left)
 
 seek-requires : tie.Need-seek-requires Inv-loop μ-loop
-seek-requires c κs = c .before .before .loop .inv .right .from
+seek-requires c κs = c .before .before .before .before .before .loop .inv .right .from
 
 put-both-requires : tie.Need-put-both-requires Inv-loop μ-loop
-put-both-requires c κs = (record { rise = c .before .before .seek .ensures .past; fits = c .before .before .seek .ensures .from .inside }, (field-inside _ _ _ (c .before .before .before .before .before .loop .inv .left) (c .before .before .before .before .loop-test .taken) _ (c .before .field-end .ensures .is), going-room _ _ _ _ _ _ _ _ _ _ (c .before .before .before .before .before .loop .inv)))
+put-both-requires c κs = (merging-inside _ _ _ _ _ _ _ _ _ (c .before .before .before .before .before .before .before .loop .inv), (record { rise = c .before .seek .ensures .past; fits = c .before .seek .ensures .from .inside }, merging-room _ _ _ _ _ _ _ _ _ (c .before .before .before .before .before .before .before .loop .inv)))
 
 returns : tie.Need-returns Inv-loop μ-loop
-returns c = progress-full _ _ _ _ _ (c .before .before .before .before .before .before .before .before .before .before .loop .inv .progress) _ _ (merge-turn (c .before .before .before .before .before .before .before .before .before .before .before .before .before .before .args .first) (c .before .before .before .before .before .before .before .before .before .before .before .before .before .before .args .a .now) (c .before .before .before .before .before .before .before .before .before .before .before .before .before .before .args .b .now) (c .before .before .before .before .before .before .before .before .before .before .loop .p) (c .before .before .before .before .before .before .before .before .before .before .loop .q) (c .before .before .before .before .before .before .before .before .before .before .loop .inv .left) (c .before .before .before .before .before .before .before .before .before .before .loop .inv .right) (c .before .before .before .before .before .before .before .before .before .loop-test .taken) _ (c .before .before .before .before .before .before .before .before .key-at .ensures .0) _ (c .before .before .before .before .before .before .before .seek .ensures) _ (c .before .before .before .before .before .before .field-end .ensures .is)) _ _ (c .before .before .before .before .put-both .ensures) (c .enum-told .given .1)
+returns c = merging-full _ _ _ _ _ _ _ _ _ (c .before .before .before .before .before .before .before .before .before .before .before .before .loop .inv) (c .before .before .before .before .before .before .before .before .before .before .before .loop-test .taken) (c .before .before .before .before .before .before .before .before .before .before .if1 .left) _ _ (c .before .before .before .before .before .before .before .before .before .key-of .ensures) (c .before .before .before .before .before .before .before .before .key-of2 .ensures) (c .before .before .before .before .before .before .before .if2 .taken) _ (c .before .before .before .before .before .before .seek .ensures) _ _ (c .before .before .before .before .put-both .ensures) (c .enum-told .given .1)
 
-seek-requires-2 : tie.Need-seek-requires-2 Inv-loop μ-loop
-seek-requires-2 c κs = c .before .before .before .before .before .before .before .before .seek .ensures .from
+loop-less : tie.Need-loop-less Inv-loop μ-loop
+loop-less c = omega (arith, merging-moves _ _ _ _ _ _ _ _ _ (c .before .before .before .before .before .before .before .before .before .before .before .before .before .loop .inv) (c .before .before .before .before .before .before .before .before .before .before .before .before .loop-test .taken) (c .before .before .before .before .before .before .before .before .before .before .before .if1 .left) _ _ (c .before .before .before .before .before .before .before .before .before .before .key-of .ensures) (c .before .before .before .before .before .before .before .before .before .key-of2 .ensures) (c .before .before .before .before .before .before .before .before .if2 .taken) _ (c .before .before .before .before .before .before .before .seek .ensures), c .before .before .before .before .before .before .before .seek .ensures .from .inside)
 
 loop-again : tie.Need-loop-again Inv-loop μ-loop
-loop-again c = record { progress = progress-on _ _ _ _ _ (c .before .before .before .before .before .before .before .before .before .before .before .before .loop .inv .progress) _ _ (merge-on (c .before .before .before .before .before .before .before .before .before .before .before .before .before .before .before .before .args .first) (c .before .before .before .before .before .before .before .before .before .before .before .before .before .before .before .before .args .a .now) (c .before .before .before .before .before .before .before .before .before .before .before .before .before .before .before .before .args .b .now) (c .before .before .before .before .before .before .before .before .before .before .before .before .loop .p) (c .before .before .before .before .before .before .before .before .before .before .before .before .loop .q) (c .before .before .before .before .before .before .before .before .before .before .before .before .loop .inv .left) (c .before .before .before .before .before .before .before .before .before .before .before .before .loop .inv .right) (c .before .before .before .before .before .before .before .before .before .before .before .loop-test .taken) _ (c .before .before .before .before .before .before .before .before .before .before .key-at .ensures .0) _ (c .before .before .before .before .before .before .before .before .before .seek .ensures) _ (c .before .before .before .before .before .before .before .before .field-end .ensures .is) _ (c .seek2 .ensures)) _ _ (c .before .before .before .before .before .before .put-both .ensures) _ (c .before .before .m .given .1) (c .before .before .before .before .before .before .put-both .kept .1 .1 .1 .1 .1 .1 .0); left = rest-next _ _ _ (c .before .before .before .before .before .before .before .before .before .before .before .before .loop .inv .left) (c .before .before .before .before .before .before .before .before .before .before .before .loop-test .taken) _ (c .before .before .before .before .before .before .before .before .field-end .ensures .is); right = rest-sought _ _ _ _ _ (rest-sought _ _ _ _ _ (c .before .before .before .before .before .before .before .before .before .before .before .before .loop .inv .right) (c .before .before .before .before .before .before .before .before .before .seek .ensures)) (c .seek2 .ensures) }
+loop-again c = merging-high _ _ _ _ _ _ _ _ _ (c .before .before .before .before .before .before .before .before .before .before .before .before .before .loop .inv) (c .before .before .before .before .before .before .before .before .before .before .before .before .loop-test .taken) (c .before .before .before .before .before .before .before .before .before .before .before .if1 .left) _ _ (c .before .before .before .before .before .before .before .before .before .before .key-of .ensures) (c .before .before .before .before .before .before .before .before .before .key-of2 .ensures) (c .before .before .before .before .before .before .before .before .if2 .taken) _ (c .before .before .before .before .before .before .before .seek .ensures) _ _ (c .before .before .before .before .before .put-both .ensures) _ (c .before .m .given .1) (c .before .before .before .before .before .put-both .kept .1 .1 .1 .1 .1 .1 .0)
 
-put-requires : tie.Need-put-requires Inv-loop μ-loop
-put-requires c κs = (record { rise = c .before .before .loop .inv .right .from .inside; fits = omega arith }, going-room _ _ _ _ _ _ _ _ _ _ (c .before .before .loop .inv))
+end-of-requires : tie.Need-end-of-requires Inv-loop μ-loop
+end-of-requires c κs = head-here _ _ (c .before .before .before .before .before .before .loop .inv .left .from) (c .before .before .before .before .before .loop-test .taken)
+
+end-of-requires-2 : tie.Need-end-of-requires-2 Inv-loop μ-loop
+end-of-requires-2 c κs = head-here _ _ (c .before .before .before .before .before .before .before .loop .inv .right .from) (c .before .before .before .before .before .if1 .left)
+
+loop-less-2 : tie.Need-loop-less-2 Inv-loop μ-loop
+loop-less-2 c = omega (arith, c .before .end-of .ensures .past, c .end-of2 .ensures .past)
+
+loop-again-2 : tie.Need-loop-again-2 Inv-loop μ-loop
+loop-again-2 c = merging-both _ _ _ _ _ _ _ _ _ (c .before .before .before .before .before .before .before .before .loop .inv) (c .before .before .before .before .before .before .before .loop-test .taken) (c .before .before .before .before .before .before .if1 .left) _ _ (c .before .before .before .before .before .key-of .ensures) (c .before .before .before .before .key-of2 .ensures) (c .before .before .if3 .taken) _ (c .before .end-of .ensures .is) _ (c .end-of2 .ensures .is)
+
+end-of-requires-3 : tie.Need-end-of-requires-3 Inv-loop μ-loop
+end-of-requires-3 c κs = head-here _ _ (c .before .before .before .before .before .before .loop .inv .left .from) (c .before .before .before .before .before .loop-test .taken)
+
+loop-less-3 : tie.Need-loop-less-3 Inv-loop μ-loop
+loop-less-3 c = omega (arith, c .end-of3 .ensures .past)
+
+loop-again-3 : tie.Need-loop-again-3 Inv-loop μ-loop
+loop-again-3 c = merging-low _ _ _ _ _ _ _ _ _ (c .before .before .before .before .before .before .before .loop .inv) (c .before .before .before .before .before .before .loop-test .taken) (c .before .before .before .before .before .if1 .left) _ _ (c .before .before .before .before .key-of .ensures) (c .before .before .before .key-of2 .ensures) (c .before .before .if2 .left) (c .before .if3 .left) _ (c .end-of3 .ensures .is)
+
+put-both-requires-2 : tie.Need-put-both-requires-2 Inv-loop μ-loop
+put-both-requires-2 c κs = (record { rise = omega (arith, c .before .before .loop .inv .rise, c .before .before .loop .inv .left .from .inside); fits = omega arith }, (record { rise = c .before .before .loop .inv .right .from .inside; fits = omega arith }, merging-room _ _ _ _ _ _ _ _ _ (c .before .before .loop .inv)))
 
 returns-2 : tie.Need-returns-2 Inv-loop μ-loop
-returns-2 c = progress-last _ _ _ _ _ (c .before .before .before .before .before .loop .inv .progress) _ _ _ (merge-end (c .before .before .before .before .before .before .before .before .before .args .first) (c .before .before .before .before .before .before .before .before .before .args .a .now) (c .before .before .before .before .before .before .before .before .before .args .b .now) (c .before .before .before .before .before .loop .p) (c .before .before .before .before .before .loop .q) (c .before .before .before .before .loop-test .left) (c .before .before .before .before .before .loop .inv .right .from)) (c .before .before .put .ensures)
+returns-2 c = ⊎-elim (λ w. merging-done _ _ _ _ _ _ _ _ _ (c .before .before .before .before .before .loop .inv) (w .left) _ _ (c .before .before .put-both2 .ensures)) (λ w. merging-out _ _ _ _ _ _ _ _ _ (c .before .before .before .before .before .loop .inv) (w .1 .taken) _ _ (c .before .before .put-both2 .ensures)) (c .before .before .before .before .loop-test .came)
 
 pub merge-spec : {M : Type 1} → statement M
 merge-spec =
@@ -44,19 +75,25 @@ merge-spec =
     (tie.spec
     Inv-loop
     μ-loop
+    shared-requires
     loop-holds
-    (λ c κs. search needs)
+    key-of-requires
+    key-of-requires-2
     seek-requires
-    (λ c κs. search needs)
     put-both-requires
     (λ c. search needs)
     (λ c. search needs)
     (λ c. search needs)
     returns
-    (λ c. search needs)
-    seek-requires-2
-    (λ c. search needs)
+    loop-less
     loop-again
-    put-requires
+    end-of-requires
+    end-of-requires-2
+    loop-less-2
+    loop-again-2
+    end-of-requires-3
+    loop-less-3
+    loop-again-3
+    put-both-requires-2
     (λ c. search needs)
     returns-2)

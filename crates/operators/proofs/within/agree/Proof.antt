@@ -1,46 +1,70 @@
-use borrow.Author.Needs.{needs}
 use Prim.Native.Nat.{_-_}
 use mathlib.Core.Path.{_≡_, refl, _∙_}
 use mathlib.Core.Logic.{⊎-elim}
 use mathlib.Core.Bool.{true}
+use native.Mathlib.Omega.{arith}
 use lib.ListN.{length}
-use Rattle.operators.proofs.Walks.{whole-here}
-use Rattle.operators.proofs.Agreeing.{Agreeing, agree-start, agree-end, agree-out, agree-clash, agree-below, agree-on}
+use borrow.Author.Tests.{not-true, not-false}
+use Rattle.operators.proofs.Walks.{whole-here, head-here}
+use Rattle.operators.proofs.Turns.{rest-start}
+use Rattle.operators.proofs.Prefixes.{shared-agree}
+use Rattle.operators.proofs.Agreeing.{Agreeing, agree-end, agree-out, agree-below, agree-above, agree-clash, agree-same}
 use Rattle.operators.proofs.within.agree.Statement.{statement}
 use Rattle.operators.proofs.within.agree.Tie as tie
 
 abbrev Inv-loop : tie.InvT-loop
-Inv-loop a b first same₀ p q₀ key same q = (same ≡ true) × Agreeing first a b p q
+Inv-loop a b first start same₀ p q₀ key same q = (same ≡ true) × Agreeing first a b p q
 
 abbrev μ-loop : tie.MeasureT-loop
-μ-loop a b first same₀ p q₀ key same q = length b - q
+μ-loop a b first start same₀ p q₀ key same q = length b - q
 
 abbrev Inv-clash : tie.InvT-clash
-Inv-clash a b first same₀ p₀ q₀ same p q = (same ≡ true) × Agreeing first a b p q
+Inv-clash a b first start same₀ p₀ q₀ same p q = (same ≡ true) × Agreeing first a b p q
 
 abbrev μ-clash : tie.MeasureT-clash
-μ-clash a b first same₀ p₀ q₀ same p q = length a - p
+μ-clash a b first start same₀ p₀ q₀ same p q = length a - p
+
+shared-requires : tie.Need-shared-requires Inv-loop μ-loop Inv-clash μ-clash
+shared-requires c κs = (rest-start _ _ (c .before .before .pre .0) .from, rest-start _ _ (c .before .before .pre .1) .from)
 
 clash-holds : tie.Need-clash-holds Inv-loop μ-loop Inv-clash μ-clash
-clash-holds c = (refl, agree-start _ _ _ (c .before .before .pre))
+clash-holds c = (refl, shared-agree _ _ _ _ (c .before .before .before .pre) (c .shared .ensures _))
+
+key-of-requires : tie.Need-key-of-requires Inv-loop μ-loop Inv-clash μ-clash
+key-of-requires c κs = head-here _ _ (c .before .clash .inv .1 .left .from) (c .clash-test .taken)
 
 loop-holds : tie.Need-loop-holds Inv-loop μ-loop Inv-clash μ-clash
 loop-holds c = c .before .before .clash .inv
 
-clash-at-requires : tie.Need-clash-at-requires Inv-loop μ-loop Inv-clash μ-clash
-clash-at-requires c κs = (whole-here _ _ (c .before .before .before .loop .inv .1 .left .from) (c .before .before .before .before .before .clash-test .taken), whole-here _ _ (c .before .before .before .loop .inv .1 .right .from) (c .before .before .loop-test .taken))
+key-of-requires-2 : tie.Need-key-of-requires-2 Inv-loop μ-loop Inv-clash μ-clash
+key-of-requires-2 c κs = head-here _ _ (c .before .loop .inv .1 .right .from) (c .loop-test .taken)
+
+same-field-requires : tie.Need-same-field-requires Inv-loop μ-loop Inv-clash μ-clash
+same-field-requires c κs = (whole-here _ _ (c .before .before .before .before .loop .inv .1 .left .from) (c .before .before .before .before .before .before .clash-test .taken), whole-here _ _ (c .before .before .before .before .loop .inv .1 .right .from) (c .before .before .before .loop-test .taken))
+
+end-of-requires : tie.Need-end-of-requires Inv-loop μ-loop Inv-clash μ-clash
+end-of-requires c κs = head-here _ _ (c .before .before .before .before .loop .inv .1 .right .from) (c .before .before .before .loop-test .taken)
+
+loop-less : tie.Need-loop-less Inv-loop μ-loop Inv-clash μ-clash
+loop-less c = omega (arith, c .end-of .ensures .past, c .before .before .before .before .loop-test .taken)
 
 loop-again : tie.Need-loop-again Inv-loop μ-loop Inv-clash μ-clash
-loop-again c = (c .before .before .before .before .before .before .loop .inv .0, agree-on _ _ _ _ _ (c .before .before .before .before .before .before .loop .inv .1) (c .before .before .before .before .before .before .before .before .clash-test .taken) (c .before .before .before .before .before .loop-test .taken) _ _ (c .before .before .before .before .before .before .before .key-at .ensures .0) (c .before .before .before .before .key-at2 .ensures .0) (c .before .before .before .if1 .left) _ (c .before .before .clash-at .ensures) (c .before .if2 .left) _ (c .field-end .ensures .is))
+loop-again c = (c .before .before .before .before .before .loop .inv .0, ⊎-elim (λ w. agree-same _ _ _ _ _ (c .before .before .before .before .before .loop .inv .1) (c .before .before .before .before .before .before .before .clash-test .taken) (c .before .before .before .before .loop-test .taken) _ _ (c .before .before .before .before .before .before .key-of .ensures) (c .before .before .before .key-of2 .ensures) (w .0 .taken) _ (w .1 .ensures) (not-false _ (w .2 .left)) _ (c .end-of .ensures .is)) (λ w. agree-above _ _ _ _ _ (c .before .before .before .before .before .loop .inv .1) (c .before .before .before .before .before .before .before .clash-test .taken) (c .before .before .before .before .loop-test .taken) _ _ (c .before .before .before .before .before .before .key-of .ensures) (c .before .before .before .key-of2 .ensures) (c .before .before .if1 .left) (w .left) _ (c .end-of .ensures .is)) (c .before .if2 .came))
+
+end-of-requires-2 : tie.Need-end-of-requires-2 Inv-loop μ-loop Inv-clash μ-clash
+end-of-requires-2 c κs = head-here _ _ (c .before .loop .inv .1 .left .from) (c .before .before .before .clash-test .taken)
+
+clash-less : tie.Need-clash-less Inv-loop μ-loop Inv-clash μ-clash
+clash-less c = omega (arith, c .end-of2 .ensures .past, c .before .before .before .before .clash-test .taken)
 
 clash-again : tie.Need-clash-again Inv-loop μ-loop Inv-clash μ-clash
-clash-again c = (c .before .before .loop .inv .0, ⊎-elim (λ w. agree-out _ _ _ _ _ (c .before .before .loop .inv .1) (c .before .before .before .before .clash-test .taken) (w .left) _ (c .field-end2 .ensures .is)) (λ w. agree-below _ _ _ _ _ (c .before .before .loop .inv .1) (c .before .before .before .before .clash-test .taken) (w .0 .taken) _ _ (c .before .before .before .key-at .ensures .0) (w .1 .ensures .0) (w .2 .taken) _ (c .field-end2 .ensures .is)) (c .before .loop-test .came))
+clash-again c = (c .before .before .loop .inv .0, ⊎-elim (λ w. agree-out _ _ _ _ _ (c .before .before .loop .inv .1) (c .before .before .before .before .clash-test .taken) (w .left) _ (c .end-of2 .ensures .is)) (λ w. agree-below _ _ _ _ _ (c .before .before .loop .inv .1) (c .before .before .before .before .clash-test .taken) (w .0 .taken) _ _ (c .before .before .before .key-of .ensures) (w .1 .ensures) (w .2 .taken) _ (c .end-of2 .ensures .is)) (c .before .loop-test .came))
 
 returns : tie.Need-returns Inv-loop μ-loop Inv-clash μ-clash
 returns c = c .before .clash .inv .0 ∙ agree-end _ _ _ _ _ (c .before .clash .inv .1) (c .clash-test .left)
 
 returns-2 : tie.Need-returns-2 Inv-loop μ-loop Inv-clash μ-clash
-returns-2 c = agree-clash _ _ _ _ _ (c .before .before .before .before .before .loop .inv .1) (c .before .before .before .before .before .before .before .clash-test .taken) (c .before .before .before .before .loop-test .taken) _ (c .before .clash-at .ensures) (c .if2 .taken)
+returns-2 c = agree-clash _ _ _ _ _ (c .before .before .before .before .before .before .loop .inv .1) (c .before .before .before .before .before .before .before .before .clash-test .taken) (c .before .before .before .before .before .loop-test .taken) _ _ (c .before .before .before .before .before .before .before .key-of .ensures) (c .before .before .before .before .key-of2 .ensures) (c .before .before .if2 .taken) _ (c .before .same-field .ensures) (not-true _ (c .if3 .taken))
 
 pub agree-spec : {M : Type 1} → statement M
 agree-spec =
@@ -50,16 +74,17 @@ agree-spec =
     μ-loop
     Inv-clash
     μ-clash
+    shared-requires
     clash-holds
-    (λ c κs. search needs)
+    key-of-requires
     loop-holds
-    (λ c κs. search needs)
-    clash-at-requires
-    (λ c κs. search needs)
-    (λ c. search needs)
+    key-of-requires-2
+    same-field-requires
+    end-of-requires
+    loop-less
     loop-again
-    (λ c κs. search needs)
-    (λ c. search needs)
+    end-of-requires-2
+    clash-less
     clash-again
     returns
     returns-2)

@@ -5,20 +5,29 @@ use lib.ListN.{length}
 use borrow.Author.Tests.{not-true, not-false}
 use Rattle.fields.specs.Keyed.{within}
 use Rattle.operators.specs.Inner.Parts.{samePart, partsFrom, liesWithin}
-use Rattle.operators.proofs.Walks.{whole-here}
+use Rattle.operators.proofs.Walks.{whole-here, head-here}
 use Rattle.operators.proofs.Turns.{Rest, rest-start, rest-next, rest-sought, within-stop, within-on, within-end}
+use Rattle.operators.proofs.Prefixes.{shared-within}
 use Rattle.operators.proofs.within.lies_within.Statement.{statement}
 use Rattle.operators.proofs.within.lies_within.Tie as tie
 
 abbrev Inv-loop : tie.InvT-loop
-Inv-loop a b first p₀ q₀ p q = (within samePart (partsFrom first a p) (partsFrom first b q) ≡ liesWithin first a b) × (Rest first a p × Rest first b q)
+Inv-loop a b first start p₀ q₀ p q = (within samePart (partsFrom first a p) (partsFrom first b q) ≡ liesWithin first a b) × (Rest first a p × Rest first b q)
 
 abbrev μ-loop : tie.MeasureT-loop
-μ-loop a b first p₀ q₀ p q = length a - p
+μ-loop a b first start p₀ q₀ p q = length a - p
+
+shared-requires : tie.Need-shared-requires Inv-loop μ-loop
+shared-requires c κs = (rest-start _ _ (c .before .before .pre .0) .from, rest-start _ _ (c .before .before .pre .1) .from)
 
 loop-holds : tie.Need-loop-holds Inv-loop μ-loop
-unfolding liesWithin
-loop-holds c = (refl, (rest-start _ _ (c .before .before .pre .0), rest-start _ _ (c .before .before .pre .1)))
+loop-holds c = shared-within _ _ _ _ (c .before .before .before .pre) (c .shared .ensures _)
+
+key-of-requires : tie.Need-key-of-requires Inv-loop μ-loop
+key-of-requires c κs = head-here _ _ (c .before .loop .inv .1 .0 .from) (c .loop-test .taken)
+
+end-of-requires : tie.Need-end-of-requires Inv-loop μ-loop
+end-of-requires c κs = head-here _ _ (c .before .before .before .before .before .loop .inv .1 .0 .from) (c .before .before .before .before .loop-test .taken)
 
 seek-requires : tie.Need-seek-requires Inv-loop μ-loop
 seek-requires c κs = c .before .before .loop .inv .1 .1 .from
@@ -27,13 +36,13 @@ stands-at-requires : tie.Need-stands-at-requires Inv-loop μ-loop
 stands-at-requires c κs = (whole-here _ _ (c .before .before .before .loop .inv .1 .0 .from) (c .before .before .loop-test .taken), c .seek .ensures .from)
 
 returns : tie.Need-returns Inv-loop μ-loop
-returns c = within-stop (c .before .before .before .before .before .before .before .before .args .first) (c .before .before .before .before .before .before .before .before .args .a .now) (c .before .before .before .before .before .before .before .before .args .b .now) (c .before .before .before .before .before .loop .p) (c .before .before .before .before .before .loop .q) (c .before .before .before .before .before .loop .inv .1 .0) (c .before .before .before .before .before .loop .inv .1 .1) (c .before .before .before .before .loop-test .taken) _ (c .before .before .before .key-at .ensures .0) _ (c .before .before .seek .ensures) _ refl _ (c .before .stands-at .ensures) _ (c .before .before .before .before .before .loop .inv .0) (not-true _ (c .if1 .taken))
+returns c = within-stop (c .before .before .before .before .before .before .before .before .before .args .first) (c .before .before .before .before .before .before .before .before .before .args .a .now) (c .before .before .before .before .before .before .before .before .before .args .b .now) (c .before .before .before .before .before .loop .p) (c .before .before .before .before .before .loop .q) (c .before .before .before .before .before .loop .inv .1 .0) (c .before .before .before .before .before .loop .inv .1 .1) (c .before .before .before .before .loop-test .taken) _ (c .before .before .before .key-of .ensures) _ (c .before .before .seek .ensures) _ refl _ (c .before .stands-at .ensures) _ (c .before .before .before .before .before .loop .inv .0) (not-true _ (c .if1 .taken))
 
 loop-again : tie.Need-loop-again Inv-loop μ-loop
-loop-again c = (within-on (c .before .before .before .before .before .before .before .before .before .args .first) (c .before .before .before .before .before .before .before .before .before .args .a .now) (c .before .before .before .before .before .before .before .before .before .args .b .now) (c .before .before .before .before .before .before .loop .p) (c .before .before .before .before .before .before .loop .q) (c .before .before .before .before .before .before .loop .inv .1 .0) (c .before .before .before .before .before .before .loop .inv .1 .1) (c .before .before .before .before .before .loop-test .taken) _ (c .before .before .before .before .key-at .ensures .0) _ (c .before .before .before .seek .ensures) _ (c .field-end .ensures .is) _ (c .before .before .stands-at .ensures) _ (c .before .before .before .before .before .before .loop .inv .0) (not-false _ (c .before .if1 .left)), (rest-next _ _ _ (c .before .before .before .before .before .before .loop .inv .1 .0) (c .before .before .before .before .before .loop-test .taken) _ (c .field-end .ensures .is), rest-sought _ _ _ _ _ (c .before .before .before .before .before .before .loop .inv .1 .1) (c .before .before .before .seek .ensures)))
+loop-again c = (within-on (c .before .before .before .before .before .before .before .before .before .before .args .first) (c .before .before .before .before .before .before .before .before .before .before .args .a .now) (c .before .before .before .before .before .before .before .before .before .before .args .b .now) (c .before .before .before .before .before .before .loop .p) (c .before .before .before .before .before .before .loop .q) (c .before .before .before .before .before .before .loop .inv .1 .0) (c .before .before .before .before .before .before .loop .inv .1 .1) (c .before .before .before .before .before .loop-test .taken) _ (c .before .before .before .before .key-of .ensures) _ (c .before .before .before .seek .ensures) _ (c .end-of .ensures .is) _ (c .before .before .stands-at .ensures) _ (c .before .before .before .before .before .before .loop .inv .0) (not-false _ (c .before .if1 .left)), (rest-next _ _ _ (c .before .before .before .before .before .before .loop .inv .1 .0) (c .before .before .before .before .before .loop-test .taken) _ (c .end-of .ensures .is), rest-sought _ _ _ _ _ (c .before .before .before .before .before .before .loop .inv .1 .1) (c .before .before .before .seek .ensures)))
 
 returns-2 : tie.Need-returns-2 Inv-loop μ-loop
-returns-2 c = within-end (c .before .before .before .before .args .first) (c .before .before .before .before .args .a .now) (c .before .before .before .before .args .b .now) (c .before .loop .p) (c .before .loop .q) (c .loop-test .left) _ (c .before .loop .inv .0)
+returns-2 c = within-end (c .before .before .before .before .before .args .first) (c .before .before .before .before .before .args .a .now) (c .before .before .before .before .before .args .b .now) (c .before .loop .p) (c .before .loop .q) (c .loop-test .left) _ (c .before .loop .inv .0)
 
 pub lies-within-spec : {M : Type 1} → statement M
 lies-within-spec =
@@ -41,12 +50,13 @@ lies-within-spec =
     (tie.spec
     Inv-loop
     μ-loop
+    shared-requires
     loop-holds
-    (λ c κs. search needs)
+    key-of-requires
     seek-requires
     stands-at-requires
     returns
-    (λ c κs. search needs)
+    end-of-requires
     (λ c. search needs)
     loop-again
     returns-2)
