@@ -12,9 +12,10 @@ ghost use Rattle.reader.specs.Inner.Positions.{KindsIn};
 ghost use Rattle.translation.specs.Translation.{Translation};
 ghost use Rattle.translation.specs.WellFormed.{codeFits, codesFit};
 ghost use Rattle.translation.specs.Inner.Items.{itemWhole, itemAt, IsClause};
-ghost use Rattle.translation.specs.Inner.ItemIndex.{SoundItems, mappedAt, Prepared};
+ghost use Rattle.translation.specs.Inner.ItemIndex.{SoundKinds, SoundItems, mappedAt, Prepared};
 ghost use Rattle.translation.specs.Inner.Tests.{mappedBefore, endsAt};
 use super::index::map_kind;
+use super::index::target_kind;
 use fields::bytes::byte_at;
 use fields::bytes::pair_at;
 use fields::walk::field_end;
@@ -33,13 +34,13 @@ fn map_part(
     items: &[u16],
     kinds: &mut [u8],
 ) -> usize
-    requires { ⌜ KindsIn (now source) p e × SoundItems (now items) (now body) × (e ≤ p + length (now kinds)) ⌝ }
+    requires { ⌜ KindsIn (now source) p e × SoundKinds (now items) (now body) × (e ≤ p + length (now kinds)) ⌝ }
     ensures { λ r. ⌜ (take r (now (kinds .exit)) ≡ map (mappedAt (now (body .entry)) (now (items .entry))) (slice p e (now (source .entry)))) × (r ≤ length (now (kinds .entry))) ⌝ }
 {
     let mut i = 0;
     let mut q = p;
     while q < e {
-        kinds[i] = map_kind(body, items, source[q]);
+        kinds[i] = target_kind(body, items, source[q]);
         i += 1;
         q += 1;
     }

@@ -5,7 +5,7 @@ ghost use Prim.Native.Nat.{ℕ, _<_, _≤_};
 ghost use lib.ListN.{length, getD};
 ghost use Rattle.translation.specs.Translation.{Body};
 ghost use Rattle.translation.specs.TranslationFile.{bodyOf};
-ghost use Rattle.translation.specs.Inner.ItemIndex.{SoundItems, IndexedItems, mappedAt};
+ghost use Rattle.translation.specs.Inner.ItemIndex.{SoundKinds, SoundItems, IndexedItems, mappedAt};
 use fields::bytes::wide;
 use reader::index::put_all;
 use reader::node::place_at;
@@ -18,9 +18,9 @@ pub fn build_items(body: &[u8], index: &mut [u16])
     put_all(body, 0x22, index);
 }
 
-// The kind that a kind maps to; 0 where it is not mapped.
-pub fn map_kind(body: &[u8], index: &[u16], kind: u8) -> u8
-    requires { ⌜ SoundItems (now index) (now body) × (kind < 32) ⌝ }
+// The kind that a kind maps to, by an index of the mappings; 0 where it is not mapped.
+pub fn target_kind(body: &[u8], index: &[u16], kind: u8) -> u8
+    requires { ⌜ SoundKinds (now index) (now body) × (kind < 32) ⌝ }
     ensures { λ r. ⌜ (r ≡ mappedAt (now (body .entry)) (now (index .entry)) kind) × (r < 32) ⌝ }
 {
     let place = place_at(index, wide(kind));
@@ -28,6 +28,14 @@ pub fn map_kind(body: &[u8], index: &[u16], kind: u8) -> u8
         return 0;
     }
     body[place + 3]
+}
+
+// The kind that a kind maps to; 0 where it is not mapped.
+pub fn map_kind(body: &[u8], index: &[u16], kind: u8) -> u8
+    requires { ⌜ SoundItems (now index) (now body) × (kind < 32) ⌝ }
+    ensures { λ r. ⌜ (r ≡ mappedAt (now (body .entry)) (now (index .entry)) kind) × (r < 32) ⌝ }
+{
+    target_kind(body, index, kind)
 }
 
 // Puts the kind that each kind maps to into a table of 32; 0 where a kind is not mapped.

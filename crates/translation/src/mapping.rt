@@ -9,9 +9,9 @@ ghost use Rattle.language.specs.Inner.Entries.{entryWhole};
 ghost use Rattle.reader.specs.Inner.Index.{Sound};
 ghost use Rattle.translation.specs.Translation.{Translation};
 ghost use Rattle.translation.specs.WellFormed.{mappingFits};
-ghost use Rattle.translation.specs.Inner.ItemIndex.{SoundItems, Ready};
+ghost use Rattle.translation.specs.Inner.ItemIndex.{SoundKinds, Ready};
 ghost use Rattle.translation.specs.Inner.Tests.{mappedIf, reachesAt, sameRange, keptAt};
-use super::index::map_kind;
+use super::index::target_kind;
 use super::kinds::mark_entries;
 use fields::bytes::byte_at;
 use fields::bytes::pair_at;
@@ -32,7 +32,7 @@ fn mapped_if(index: &[u16], kinds: &[bool], k: usize) -> bool
 
 // Exactly the kinds that are marked are mapped.
 fn kinds_mapped(index: &[u16], kinds: &[bool]) -> bool
-    requires { ⌜ (length (now index) ≡ 8224) × (length (now kinds) ≡ 32) ⌝ }
+    requires { ⌜ (32 ≤ length (now index)) × (length (now kinds) ≡ 32) ⌝ }
     ensures { λ r. ⌜ r ≡ all (mappedIf (now (index .entry)) (now (kinds .entry))) (countUp 32 0) ⌝ }
 {
     let mut k = 0;
@@ -97,19 +97,19 @@ fn kept_at(
     body: &[u8],
     items: &[u16],
 ) -> bool
-    requires { ⌜ (p ≤ length (now source)) × (entryWhole (now source) p ≡ true) × Sound (now targets) (now target) × SoundItems (now items) (now body) ⌝ }
+    requires { ⌜ (p ≤ length (now source)) × (entryWhole (now source) p ≡ true) × Sound (now targets) (now target) × SoundKinds (now items) (now body) ⌝ }
     ensures { λ r. ⌜ r ≡ keptAt (now (source .entry)) (now (target .entry)) (now (targets .entry)) (now (body .entry)) (now (items .entry)) p ⌝ }
 {
     if byte_at(source, p) != 0x11 {
         return true;
     }
-    let kind = map_kind(body, items, byte_at(source, p + 3));
+    let kind = target_kind(body, items, byte_at(source, p + 3));
     same_range(source, p, target, place_at(targets, wide(kind)))
 }
 
 // Each source class maps to a target class of equal range.
 fn classes_kept(source: &[u8], target: &[u8], targets: &[u16], body: &[u8], items: &[u16]) -> bool
-    requires { ⌜ (all (entryWhole (now source)) (places (now source)) ≡ true) × Sound (now targets) (now target) × SoundItems (now items) (now body) ⌝ }
+    requires { ⌜ (all (entryWhole (now source)) (places (now source)) ≡ true) × Sound (now targets) (now target) × SoundKinds (now items) (now body) ⌝ }
     ensures { λ r. ⌜ r ≡ all (keptAt (now (source .entry)) (now (target .entry)) (now (targets .entry)) (now (body .entry)) (now (items .entry))) (places (now (source .entry))) ⌝ }
 {
     let mut p = 0;
