@@ -12,3 +12,4 @@ pub mod Mappings
 pub mod Known
 pub mod Coded
 pub mod Chain
+pub mod Beside

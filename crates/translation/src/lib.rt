@@ -7,4 +7,5 @@ pub mod index;
 pub mod kinds;
 pub mod mapping;
 pub mod order;
+pub mod pairs;
 pub mod parts;
