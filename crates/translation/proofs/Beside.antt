@@ -154,25 +154,6 @@ same-name s b x y q p w c e =
     let i = sym (clause-key b p c) ∙ (e ∙ production-key s q w) in
     (omega (arith, i, x (q + 4), y (p + 4)), omega (arith, i, x (q + 4), y (p + 4)))
 
--- The kinds of a production's arguments.
-part-kinds : (m : ℕ) (s : List ℕ) (q e : ℕ) → e - q ≡ m → e ≤ length s → all isKind (slice q e s) ≡ true → KindsIn s q e
-part-kinds zero s q e y h a x i j = absurd (omega arith)
-part-kinds (suc m) s q e y h a x i j =
-    let w = all-true isKind (getD s q 0) (slice (q + 1) e s) (part-next (all isKind) s q e true a (omega arith) h) in
-    by-test (eqb x q)
-    (λ d. let z : x ≡ q = eqb-true _ _ d in (omega arith, rw z (ltb-true _ _ (w .0))))
-    (λ d. let z : x ≡ q → ⊥ = eqb-false _ _ d in part-kinds m s (q + 1) e (omega arith) h (w .1) x (omega arith) j)
-
--- code_beside
-module _ (s : List ℕ) (q e : ℕ) (w : IsProduction s q) (ee : e ≡ fieldEnd s q) where
-  pub arguments-in : KindsIn s (q + 5) e × (e ≤ q + 5 + 8) × (q + 5 ≤ e) × (e ≤ length s)
-  unfolding fieldEnd
-  arguments-in =
-      let a = w .two in
-      let b = w .ten in
-      let c = w .fits in
-      (rw ee (part-kinds _ s (q + 5) (fieldEnd s q) refl (w .fits) (w .arguments)), omega arith, omega arith, omega arith)
-
 -- Where a lookup finds a member, it finds something.
 mem-there : {A B : Type 0} (f : A → Option B) (l : List A) (a : A) (b : B) → Mem a l → f a ≡ some b → isSome (first f l) ≡ true
 unfolding first

@@ -25,7 +25,7 @@ use Rattle.translation.proofs.Items.{item-facts, mapping-is, clause-is,
 
 -- Keys of whole items.
 module _ (s : List ℕ) (p : ℕ) where
-  mapping-key : IsMapping s p → keyAt 0x22 s p ≡ getD s (p + 3) 0
+  pub mapping-key : IsMapping s p → keyAt 0x22 s p ≡ getD s (p + 3) 0
   unfolding keyAt
   mapping-key w = cc (eq-eqb _ _ (w .tag))
 

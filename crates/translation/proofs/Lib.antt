@@ -13,3 +13,4 @@ pub mod Known
 pub mod Coded
 pub mod Chain
 pub mod Beside
+pub mod Front

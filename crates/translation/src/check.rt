@@ -11,6 +11,7 @@ ghost use Rattle.translation.specs.Inner.Pieces.{Pieces, inOrder};
 use super::clauses::clauses_fit;
 use super::codes::codes_fit;
 use super::index::build_items;
+use super::index::put_mappings;
 use super::mapping::mapping_fits;
 use super::order::in_order;
 use super::order::languages_clash;
@@ -25,7 +26,6 @@ use fields::outcome::Reason;
 use fields::outcome::accept;
 use fields::outcome::refuse;
 use reader::index::build;
-use reader::index::put_all;
 
 // Clauses and codes, by an index of each part, where the mapping fits: 6 and 7.
 fn check_prepared(
@@ -91,7 +91,7 @@ pub fn check_formed(source: &[u8], target: &[u8], body: &[u8]) -> Answer
     let mut targets = [0u16; 8224];
     build(target, &mut targets);
     let mut mapped = [0u16; 32];
-    put_all(body, 0x22, &mut mapped);
+    put_mappings(body, &mut mapped);
     check_ready(source, target, &targets, body, &mapped)
 }
 

@@ -3,9 +3,11 @@ ghost use mathlib.Core.Path.{_≡_};
 ghost use mathlib.Core.Option.{some};
 ghost use Prim.Native.Nat.{ℕ, _<_, _≤_};
 ghost use lib.ListN.{length, getD};
+ghost use Rattle.reader.specs.Inner.Index.{putAt};
 ghost use Rattle.translation.specs.Translation.{Body};
 ghost use Rattle.translation.specs.TranslationFile.{bodyOf};
-ghost use Rattle.translation.specs.Inner.ItemIndex.{SoundKinds, SoundItems, IndexedItems, mappedAt};
+ghost use Rattle.translation.specs.Inner.ItemIndex.{SoundKinds, SoundItems, IndexedItems, IndexedKinds, mappedAt};
+use super::walk::whole_end;
 use fields::bytes::wide;
 use reader::index::put_all;
 use reader::node::place_at;
@@ -16,6 +18,32 @@ pub fn build_items(body: &[u8], index: &mut [u16])
     ensures { λ r. ⌜ ((b : Body) → bodyOf (now (body .entry)) ≡ some b → IndexedItems (now (index .exit)) (now (body .entry)) b) ⌝ }
 {
     put_all(body, 0x22, index);
+}
+
+// Puts a value at a key that has none yet.
+fn put(index: &mut [u16], key: usize, value: u16)
+    requires { ⌜ key < length (now index) ⌝ }
+    ensures { λ r. ⌜ now (index .exit) ≡ putAt (now (index .entry)) key value ⌝ }
+{
+    if index[key] != 0 {
+        return;
+    }
+    index[key] = value;
+}
+
+// Builds the index of the mappings of a body, which stand in front, in a table that is all zero.
+pub fn put_mappings(body: &[u8], index: &mut [u16])
+    requires { ⌜ (length (now body) ≤ 32768) × (length (now index) ≡ 32) × ((j : ℕ) → getD (now index) j 0 ≡ 0) × ((b : Body) × (bodyOf (now body) ≡ some b)) ⌝ }
+    ensures { λ r. ⌜ ((b : Body) → bodyOf (now (body .entry)) ≡ some b → IndexedKinds (now (index .exit)) (now (body .entry)) b) ⌝ }
+{
+    let mut p = 0;
+    while p < body.len() {
+        if body[p] != 0x22 {
+            return;
+        }
+        put(index, wide(body[p + 3]), (p + 1) as u16);
+        p = whole_end(body, p);
+    }
 }
 
 // The kind that a kind maps to, by an index of the mappings; 0 where it is not mapped.

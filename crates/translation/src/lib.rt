@@ -9,3 +9,4 @@ pub mod mapping;
 pub mod order;
 pub mod pairs;
 pub mod parts;
+pub mod walk;

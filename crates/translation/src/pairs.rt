@@ -9,6 +9,7 @@ ghost use Rattle.translation.specs.Inner.Pairs.{Skipped, besides, Beside
 use super::codes::code_reads;
 use super::codes::map_part;
 use super::index::target_kind;
+use super::walk::whole_end;
 use fields::bytes::byte_at;
 use fields::walk::field_end;
 use fields::walk::key_at;
@@ -68,7 +69,7 @@ fn code_beside(
         → r ≡ codeFits f (itemAt (now (body .entry)) p)) ⌝ }
 {
     let mut kinds = [0u8; 8];
-    let end = field_end(source, q);
+    let end = whole_end(source, q);
     let count = map_part(source, q + 5, end, body, mapped, &mut kinds);
     let kind = target_kind(body, mapped, byte_at(body, p + 3));
     code_reads(target, targets, &kinds[..count], kind, body, p, e)
@@ -91,11 +92,11 @@ pub fn codes_beside(
     let mut from = q;
     let mut to = p;
     while to < body.len() {
-        let e = field_end(body, to);
+        let e = whole_end(body, to);
         if !code_beside(source, from, target, targets, body, to, e, mapped) {
             return false;
         }
-        from = field_end(source, from);
+        from = whole_end(source, from);
         to = e;
     }
     true
