@@ -61,6 +61,23 @@ skip-next tag s p z h t e ee = record {
   tags = all-append (tagIs tag s) (z .before) (p ∷ []) (z .tags) ∙ both-and (tagIs tag s p) true (eq-eqb _ _ t) refl;
 }
 
+-- What holds of all places holds of those that are left.
+all-rest : {A : Type 0} (f : A → Bool) (l m : List A) → all f (l ++ m) ≡ true → all f m ≡ true
+unfolding all
+all-rest f [] m h = h
+all-rest f (a ∷ l) m h = all-rest f l m (all-true f a (l ++ m) h .1)
+
+pub skip-rest : (tag : ℕ) (s : List ℕ) (p : ℕ) → Skipped tag s p → (f : ℕ → Bool) → all f (places s) ≡ true → all f (placesFrom s p) ≡ true
+skip-rest tag s p z f h = all-rest f (z .before) (placesFrom s p) (rw (z .are) at h)
+
+-- A whole item has its first five bytes.
+pub item-long : (b : List ℕ) (p : ℕ) → itemWhole b p ≡ true → p + 4 < length b
+item-long b p w =
+    ⊎-elim
+    (λ m. let f = m .fits in omega arith)
+    (λ c. let f = c .past in let g = c .ends in omega arith)
+    (item-facts b p w)
+
 -- keys_beside
 module _ (s b : List ℕ) (n q p : ℕ) {G : Type 0} (inv : besides s b n (placesFrom s q) (placesFrom b p) ≡ true → G) where
   pub beside-done : length b ≤ p → leb (length s) q ≡ true → G

@@ -2,17 +2,18 @@
 ghost use mathlib.Core.Path.{_≡_};
 ghost use mathlib.Core.Bool.{true};
 ghost use Rattle.fields.specs.Inner.Places.{placesFrom, fieldEnd};
+ghost use Rattle.fields.specs.Lists.{all};
+ghost use Rattle.language.specs.Inner.Entries.{entryWhole};
 ghost use Rattle.translation.specs.Translation.{Translation};
 ghost use Rattle.translation.specs.WellFormed.{codeFits, codesFit};
-ghost use Rattle.translation.specs.Inner.Items.{itemAt};
+ghost use Rattle.translation.specs.Inner.Items.{itemWhole, itemAt};
 ghost use Rattle.translation.specs.Inner.Pairs.{Skipped, besides, Beside, Paired};
 use super::codes::code_reads;
 use super::codes::map_part;
 use super::index::target_kind;
 use super::walk::whole_end;
-use fields::bytes::byte_at;
+use super::walk::whole_key;
 use fields::walk::field_end;
-use fields::walk::key_at;
 
 // The place of the first field that is not of the tag.
 pub fn skip(s: &[u8], tag: u8) -> usize
@@ -30,6 +31,7 @@ pub fn skip(s: &[u8], tag: u8) -> usize
 
 // From q and from p on there are only productions and clauses, of the same keys one for one, and the keys rise.
 pub fn keys_beside(source: &[u8], q: usize, body: &[u8], p: usize) -> bool
+    requires { ⌜ (all (entryWhole (now source)) (placesFrom (now source) q) ≡ true) × (all (itemWhole (now body)) (placesFrom (now body) p) ≡ true) ⌝ }
     ensures { λ r. ⌜ (r ≡ true → besides (now (source .entry)) (now (body .entry)) 32 (placesFrom (now (source .entry)) q) (placesFrom (now (body .entry)) p) ≡ true) ⌝ }
 {
     let mut least = 32;
@@ -39,16 +41,16 @@ pub fn keys_beside(source: &[u8], q: usize, body: &[u8], p: usize) -> bool
         if source.len() <= from {
             return false;
         }
-        let key = key_at(source, from, 0x11);
+        let key = whole_key(source, from, 0x11);
         if key < least {
             return false;
         }
-        if key_at(body, to, 0x22) != key {
+        if whole_key(body, to, 0x22) != key {
             return false;
         }
         least = key + 1;
-        from = field_end(source, from);
-        to = field_end(body, to);
+        from = whole_end(source, from);
+        to = whole_end(body, to);
     }
     source.len() <= from
 }
@@ -71,7 +73,7 @@ fn code_beside(
     let mut kinds = [0u8; 8];
     let end = whole_end(source, q);
     let count = map_part(source, q + 5, end, body, mapped, &mut kinds);
-    let kind = target_kind(body, mapped, byte_at(body, p + 3));
+    let kind = target_kind(body, mapped, body[p + 3]);
     code_reads(target, targets, &kinds[..count], kind, body, p, e)
 }
 

@@ -1,8 +1,21 @@
 // The walk over fields that are known to be whole.
+ghost use mathlib.Core.Path.{_≡_};
 ghost use Prim.Native.Nat.{_+_, _<_};
 ghost use lib.ListN.{length};
-ghost use Rattle.fields.specs.Inner.Places.{EndsAt};
+ghost use Rattle.fields.specs.Inner.Places.{EndsAt, keyAt};
+use fields::bytes::wide;
 use reader::node::pair_in;
+
+// The key of the entry at p, whose first five bytes are there, in a file whose first entries have the tag `first`.
+pub fn whole_key(s: &[u8], p: usize, first: u8) -> usize
+    requires { ⌜ p + 4 < length (now s) ⌝ }
+    ensures { λ r. ⌜ (r ≡ keyAt first (now (s .entry)) p) × (r < 65568) ⌝ }
+{
+    if s[p] == first {
+        return wide(s[p + 3]);
+    }
+    32 + pair_in(s, p + 3)
+}
 
 // Where the field at p ends, whose length bytes are there.
 pub fn whole_end(s: &[u8], p: usize) -> usize

@@ -2,8 +2,10 @@ use native.Mathlib.Omega.{arith}
 use mathlib.Core.Path.{refl, sym, _∙_}
 use mathlib.Core.Bool.{true}
 use borrow.Author.Tests.{not-true, not-false}
+use Rattle.language.proofs.Holds.{holds-entries}
+use Rattle.translation.proofs.Items.{holds-items}
 use Rattle.translation.proofs.Chain.{formed-mapping, formed-codes, formed-all}
-use Rattle.translation.proofs.Beside.{paired-fits}
+use Rattle.translation.proofs.Beside.{skip-rest, paired-fits}
 use borrow.Author.Needs.{needs}
 use Rattle.translation.proofs.check.check_ready.Statement.{statement}
 use Rattle.translation.proofs.check.check_ready.Tie as tie
@@ -22,6 +24,9 @@ mapping-fits-requires c κs = (_, c .before .before .before .before .before .pre
 
 returns : tie.Need-returns
 returns c = λ f w z. formed-mapping f _ (c .before .before .mapping-fits .ensures f z) (not-true _ (c .before .if1 .taken)) (c .refuse .ensures)
+
+keys-beside-requires : tie.Need-keys-beside-requires
+keys-beside-requires c κs = (skip-rest _ _ _ (c .before .skip .ensures) _ (holds-entries _ _ (c .before .before .before .before .before .before .before .before .before .pre .2 .source) .whole), skip-rest _ _ _ (c .skip2 .ensures) _ (holds-items _ _ (c .before .before .before .before .before .before .before .before .before .pre .2 .body .items) .whole))
 
 check-apart-requires : tie.Need-check-apart-requires
 check-apart-requires c κs = (c .before .before .before .before .before .before .before .before .before .before .before .pre .0, c .before .before .before .before .before .before .before .before .before .before .before .pre .1, c .before .before .before .before .before .before .before .before .before .before .before .pre .2 .target)
@@ -47,7 +52,7 @@ check-ready-spec =
     returns
     (λ c κs. search needs)
     (λ c κs. search needs)
-    (λ c κs. search needs)
+    keys-beside-requires
     check-apart-requires
     returns-2
     codes-beside-requires
