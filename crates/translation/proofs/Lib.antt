@@ -14,3 +14,4 @@ pub mod Coded
 pub mod Chain
 pub mod Beside
 pub mod Front
+pub mod Classes

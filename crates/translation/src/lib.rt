@@ -1,6 +1,7 @@
 // Translations: their parts in bytes, and the check of a translation.
 pub mod body;
 pub mod check;
+pub mod clash;
 pub mod clauses;
 pub mod codes;
 pub mod index;

@@ -6,11 +6,11 @@ use mathlib.Core.List.{List, [], _∷_, _++_}
 use mathlib.Core.Option.{some}
 use lib.Seq.{slice}
 use lib.Dec.{leb, eqb}
-use Rattle.fields.specs.Lists.{all}
+use Rattle.fields.specs.Lists.{all, any}
 use Rattle.fields.specs.Fields.{byteAt}
 use Rattle.fields.specs.Inner.Places.{fieldEnd, placesFrom, places, keyAt}
 use Rattle.language.specs.Language.{argumentsOf}
-use Rattle.language.specs.Inner.Entries.{IsProduction}
+use Rattle.language.specs.Inner.Entries.{entryWhole, IsProduction, markClasses, resultMarked}
 use Rattle.translation.specs.Translation.{Translation}
 use Rattle.translation.specs.Inner.Items.{IsClause}
 use Rattle.translation.specs.Inner.ItemIndex.{Ready}
@@ -46,3 +46,10 @@ pub record Paired (s t it b ib : List ℕ) (f : Translation) (q p : ℕ) : Type 
   pub classes : Skipped 0x11 s q
   pub mappings : Skipped 0x22 b p
   pub beside : besides s b 32 (placesFrom s q) (placesFrom b p) ≡ true
+
+-- The classes of s stand before p, and are marked.
+pub record Classed (s : List ℕ) (kinds marked : List Bool) (p : ℕ) : Type 0 where
+  pub marks : marked ≡ markClasses s kinds (places s)
+  pub results : (table : List Bool) → any (resultMarked s table) (placesFrom s p) ≡ any (resultMarked s table) (places s)
+  pub whole : all (entryWhole s) (placesFrom s p) ≡ true
+  pub productions : all (tagIs 0x12 s) (placesFrom s p) ≡ true
