@@ -29,10 +29,11 @@ use Rattle.translation.specs.Inner.Pieces.{Pieces, inOrder}
 use Rattle.translation.specs.Inner.ItemIndex.{Ready, Prepared}
 use Rattle.translation.proofs.Codec.{parts-in, both-short, translation-whole, translation-parts, translation-length}
 use Rattle.translation.proofs.Found.{cut, cut-is, rest-is}
+use Rattle.translation.proofs.IndexedItems.{kinds-of}
 
 -- check_prepared
 pub ready : {s is t it b ib : List ℕ} {f : Translation} → Prepared s is t it b ib f → Ready s t it b ib f
-ready z = record { source = z .source .entries; target = z .target; body = z .body }
+ready z = record { source = z .source .entries; target = z .target; body = kinds-of (z .body) }
 
 module _ (f : Translation) {o : Outcome} (x : Bool) (ex : x ≡ mappingFits f) where
   pub formed-mapping : x ≡ false → o ≡ Refused Why.Mapping → o ≡ checked (wellFormed f)

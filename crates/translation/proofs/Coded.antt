@@ -33,10 +33,10 @@ use Rattle.translation.specs.Translation.{Body, Translation, mapped}
 use Rattle.translation.specs.Running.{mappedArguments, readClause, wholeCode}
 use Rattle.translation.specs.WellFormed.{codeFits, codesFit}
 use Rattle.translation.specs.Inner.Items.{itemWhole, itemAt, IsClause}
-use Rattle.translation.specs.Inner.ItemIndex.{IndexedItems, mappedAt, Prepared}
+use Rattle.translation.specs.Inner.ItemIndex.{IndexedItems, IndexedKinds, mappedAt, Prepared}
 use Rattle.translation.specs.Inner.Tests.{mappedBefore, endsAt}
 use Rattle.translation.proofs.Items.{item-facts, mapping-is, clause-is}
-use Rattle.translation.proofs.IndexedItems.{clause-key, mapped-is}
+use Rattle.translation.proofs.IndexedItems.{clause-key, kinds-of, mapped-in, mapped-is}
 use Rattle.translation.proofs.Found.{cut, cut-is}
 use Rattle.translation.proofs.Mappings.{items-alike}
 
@@ -168,11 +168,11 @@ pub code-cut : (b : List ℕ) (p e : ℕ) → IsClause b p → e ≡ fieldEnd b 
 code-cut b p e c ee = (rw ee (c .past), rw ee (c .ends))
 
 -- What the arguments map to.
-maps-alike : (b ib : List ℕ) (m : Body) → IndexedItems ib b m → (l : List ℕ) → all isKind l ≡ true → map (mappedAt b ib) l ≡ map (mapped m) l
+pub maps-alike : (b ib : List ℕ) (m : Body) → IndexedKinds ib b m → (l : List ℕ) → all isKind l ≡ true → map (mappedAt b ib) l ≡ map (mapped m) l
 maps-alike b ib m z [] h = refl
 maps-alike b ib m z (k ∷ l) h =
     let w = all-true isKind k l h in
-    λ i. mapped-is b ib m z k (ltb-true _ _ (w .0)) i ∷ maps-alike b ib m z l (w .1) i
+    λ i. mapped-in b ib m z k (ltb-true _ _ (w .0)) i ∷ maps-alike b ib m z l (w .1) i
 
 -- What is looked up for the arguments of a production is what they map to.
 pub arguments-map : (s is b ib : List ℕ) (f : Translation) → Indexed is s (f .source) → IndexedItems ib b (f .body)
@@ -182,45 +182,54 @@ arguments-map s is b ib f x y k n h j = rw (← x .arguments k n h j) (go (argum
   where
     go : (o : Option (List ℕ)) → argumentsOf (f .source) k n ≡ o → map (mappedAt b ib) (Option·getD o []) ≡ map (mapped (f .body)) (Option·getD o [])
     go none e = refl
-    go (some ks) e = maps-alike b ib (f .body) y ks (arguments-whole s (f .source) (x .entries) k n ks e .1)
+    go (some ks) e = maps-alike b ib (f .body) (kinds-of y) ks (arguments-whole s (f .source) (x .entries) k n ks e .1)
+
+-- code_reads
+module _ (b : List ℕ) (p e : ℕ) (past : p + 5 ≤ e) (ends : e ≤ length b) (l : Language) (kinds : List ℕ) (kind : ℕ) where
+  pub code-read : (r : Read) → restAt (cut b (p + 5) e) r ≡ restOf (Meant.read Meant.code l kinds 16 kind (cut b (p + 5) e))
+      → EndsBy (length (cut b (p + 5) e)) r → (x : Bool) → x ≡ endsAt r (e - p - 5)
+      → x ≡ isSome (wholeCode (Meant.read Meant.code l kinds 16 kind (slice (p + 5) e b)))
+  code-read r h w x ex =
+      let n : length (cut b (p + 5) e) ≡ e - p - 5 = simp (length-take, length-drop) (omega (arith, past, ends)) in
+      ex ∙ (ap (endsAt r) (sym n) ∙ (ends-is (cut b (p + 5) e) (Meant.read Meant.code l kinds 16 kind (cut b (p + 5) e)) r h w
+      ∙ ap (λ (u : List ℕ). isSome (wholeCode (Meant.read Meant.code l kinds 16 kind u))) (cut-is b (p + 5) e past ends)))
+    where
+      ends-end : (u : List ℕ) (g : Meant.Read C.Code) (j : ℕ) → restAt u (End j) ≡ restOf g → j ≤ length u → eqb j (length u) ≡ isSome (wholeCode g)
+      ends-end u g j y i =
+          let d = done-of g (drop j u) (sym y) in
+          by-test (eqb j (length u))
+          (λ k.
+          let a : length u ≤ j = omega (arith, eqb-true j (length u) k) in
+          let o : g ≡ Meant.done (d .0) [] = d .1 ∙ ap (Meant.done (d .0)) (drop-of-length-le u {i = j} a) in
+          rw o k)
+          (λ k.
+          let a : j < length u = omega (arith, eqb-false j (length u) k) in
+          let o : g ≡ Meant.done (d .0) (getD u j 0 ∷ drop (j + 1) u) = d .1 ∙ ap (Meant.done (d .0)) (front u j a) in
+          rw o k)
+
+      ends-is : (u : List ℕ) (g : Meant.Read C.Code) (r : Read) → restAt u r ≡ restOf g → EndsBy (length u) r → endsAt r (length u) ≡ isSome (wholeCode g)
+      ends-is u g (End j) y i = ends-end u g j y i
+      ends-is u g Deep y i = rw (deep-of g (sym y))
+      ends-is u g Broken y i = rw (broken-of g (sym y))
+
+-- What is read for a clause says whether it fits.
+pub clause-fits : (b : List ℕ) (p e : ℕ) → IsClause b p → e ≡ fieldEnd b p → (f : Translation) (kinds : List ℕ) (kind : ℕ)
+    → kinds ≡ mappedArguments f (getD b (p + 3) 0) (getD b (p + 4) 0) → kind ≡ mapped (f .body) (getD b (p + 3) 0)
+    → (x : Bool) → x ≡ isSome (wholeCode (Meant.read Meant.code (f .target) kinds 16 kind (slice (p + 5) e b))) → x ≡ codeFits f (itemAt b p)
+unfolding codeFits readClause
+clause-fits b p e c ee f kinds kind k m x ex = rw (clause-is b p c, ← k, ← m, ← ee) ex
 
 module _ (s is t it b ib : List ℕ) (f : Translation) (z : Prepared s is t it b ib f) where
   -- code_fits
-  module _ (bytes : (i : ℕ) → getD b i 0 < 256) (p e : ℕ) (c : IsClause b p) (ee : e ≡ fieldEnd b p) where
-    module _ (kinds : List ℕ) (ek : kinds ≡ mappedBefore s (getD is (keyAt 0x22 b p) 0) b ib) (kind : ℕ) (em : kind ≡ mappedAt b ib (getD b (p + 3) 0)) where
-      clause-read : isSome (wholeCode (Meant.read Meant.code (f .target) kinds 16 kind (cut b (p + 5) e))) ≡ codeFits f (itemAt b p)
-      unfolding codeFits readClause
-      clause-read =
-          let k : kinds ≡ mappedArguments f (getD b (p + 3) 0) (getD b (p + 4) 0) =
-          ek ∙ (ap (λ (j : ℕ). mappedBefore s (getD is j 0) b ib) (clause-key b p c)
-          ∙ arguments-map s is b ib f (z .source) (z .body) (getD b (p + 3) 0) (getD b (p + 4) 0) (c .result) (bytes (p + 4))) in
-          let m : kind ≡ mapped (f .body) (getD b (p + 3) 0) = em ∙ mapped-is b ib (f .body) (z .body) (getD b (p + 3) 0) (c .result) in
-          let u : cut b (p + 5) e ≡ slice (p + 5) (fieldEnd b p) b = cut-is b (p + 5) e (code-cut b p e c ee .0) (code-cut b p e c ee .1) ∙ ap (λ (j : ℕ). slice (p + 5) j b) ee in
-          rw (clause-is b p c, k, m, u)
-
-      pub code-read : (r : Read) → restAt (cut b (p + 5) e) r ≡ restOf (Meant.read Meant.code (f .target) kinds 16 kind (cut b (p + 5) e))
-          → EndsBy (length (cut b (p + 5) e)) r → (x : Bool) → x ≡ endsAt r (e - p - 5) → x ≡ codeFits f (itemAt b p)
-      code-read r h w x ex =
-          let l : length (cut b (p + 5) e) ≡ e - p - 5 = simp (length-take, length-drop) (omega (arith, code-cut b p e c ee .0, code-cut b p e c ee .1)) in
-          ex ∙ (ap (endsAt r) (sym l) ∙ (ends-is (cut b (p + 5) e) (Meant.read Meant.code (f .target) kinds 16 kind (cut b (p + 5) e)) r h w ∙ clause-read))
-        where
-          ends-end : (u : List ℕ) (g : Meant.Read C.Code) (j : ℕ) → restAt u (End j) ≡ restOf g → j ≤ length u → eqb j (length u) ≡ isSome (wholeCode g)
-          ends-end u g j y i =
-              let d = done-of g (drop j u) (sym y) in
-              by-test (eqb j (length u))
-              (λ k.
-              let a : length u ≤ j = omega (arith, eqb-true j (length u) k) in
-              let o : g ≡ Meant.done (d .0) [] = d .1 ∙ ap (Meant.done (d .0)) (drop-of-length-le u {i = j} a) in
-              rw o k)
-              (λ k.
-              let a : j < length u = omega (arith, eqb-false j (length u) k) in
-              let o : g ≡ Meant.done (d .0) (getD u j 0 ∷ drop (j + 1) u) = d .1 ∙ ap (Meant.done (d .0)) (front u j a) in
-              rw o k)
-
-          ends-is : (u : List ℕ) (g : Meant.Read C.Code) (r : Read) → restAt u r ≡ restOf g → EndsBy (length u) r → endsAt r (length u) ≡ isSome (wholeCode g)
-          ends-is u g (End j) y i = ends-end u g j y i
-          ends-is u g Deep y i = rw (deep-of g (sym y))
-          ends-is u g Broken y i = rw (broken-of g (sym y))
+  pub code-fits : ((i : ℕ) → getD b i 0 < 256) → (p e : ℕ) (c : IsClause b p) → e ≡ fieldEnd b p
+      → (kinds : List ℕ) → kinds ≡ mappedBefore s (getD is (keyAt 0x22 b p) 0) b ib → (kind : ℕ) → kind ≡ mappedAt b ib (getD b (p + 3) 0)
+      → (x : Bool) → x ≡ isSome (wholeCode (Meant.read Meant.code (f .target) kinds 16 kind (slice (p + 5) e b))) → x ≡ codeFits f (itemAt b p)
+  code-fits bytes p e c ee kinds ek kind em x ex =
+      let k : kinds ≡ mappedArguments f (getD b (p + 3) 0) (getD b (p + 4) 0) =
+      ek ∙ (ap (λ (j : ℕ). mappedBefore s (getD is j 0) b ib) (clause-key b p c)
+      ∙ arguments-map s is b ib f (z .source) (z .body) (getD b (p + 3) 0) (getD b (p + 4) 0) (c .result) (bytes (p + 4))) in
+      let m : kind ≡ mapped (f .body) (getD b (p + 3) 0) = em ∙ mapped-is b ib (f .body) (z .body) (getD b (p + 3) 0) (c .result) in
+      clause-fits b p e c ee f kinds kind k m x ex
 
   -- item_fits
   module _ (p tag : ℕ) (et : tag ≡ getD b p 0) (w : itemWhole b p ≡ true) where

@@ -20,12 +20,12 @@ use Rattle.reader.proofs.Placed.{placeOf, puts-length, puts-place, found, Group
 use Rattle.translation.specs.Translation.{Body, targetAt, mappingOf, codeAt, clauseOf, mapped}
 use Rattle.translation.specs.TranslationFile.{bodyOf}
 use Rattle.translation.specs.Inner.Items.{itemWhole, itemAt, IsMapping, IsClause, HoldsItems}
-use Rattle.translation.specs.Inner.ItemIndex.{targetBefore, codeBefore, SoundItems, IndexedItems, mappedAt}
+use Rattle.translation.specs.Inner.ItemIndex.{targetBefore, codeBefore, SoundKinds, SoundItems, IndexedItems, IndexedKinds, mappedAt}
 use Rattle.translation.proofs.Items.{item-facts, mapping-is, clause-is, holds-items}
 
 -- Keys of whole items.
 module _ (s : List ℕ) (p : ℕ) where
-  mapping-key : IsMapping s p → keyAt 0x22 s p ≡ getD s (p + 3) 0
+  pub mapping-key : IsMapping s p → keyAt 0x22 s p ≡ getD s (p + 3) 0
   unfolding keyAt
   mapping-key w = cc (eq-eqb _ _ (w .tag))
 
@@ -42,8 +42,8 @@ groups s = record {
   name-key = clause-key s;
 }
 
--- The index that was built.
-module _ (s index : List ℕ) (bytes : (i : ℕ) → getD s i 0 < 256) (short : length s ≤ 32768) (long : length index ≡ 8224)
+-- The index that was built: of the mappings, where it has room for them, and of the clauses, where it has for those.
+module _ (s index : List ℕ) (bytes : (i : ℕ) → getD s i 0 < 256) (short : length s ≤ 32768)
     (zeros : (j : ℕ) → getD index j 0 ≡ 0) (b : Body) (e : bodyOf s ≡ some b) where
   abbrev built : List ℕ
   built = putAll 0x22 s index (places s)
@@ -51,63 +51,91 @@ module _ (s index : List ℕ) (bytes : (i : ℕ) → getD s i 0 < 256) (short : 
   held : HoldsItems s b
   held = holds-items s b e
 
-  at-key : (j : ℕ) → j < 8224 → getD built j 0 ≡ placeOf 0x22 s j (places s)
-  at-key j h = puts-place 0x22 s (places s) index j (omega arith) (zeros j)
+  at-key : (j : ℕ) → j < length index → getD built j 0 ≡ placeOf 0x22 s j (places s)
+  at-key j h = puts-place 0x22 s (places s) index j h (zeros j)
 
   -- A place in the index is that of a whole item of the key.
-  found-at : (j : ℕ) → j < 8224 → 0 < getD built j 0 → (p : ℕ) × (getD built j 0 ≡ p + 1) × (keyAt 0x22 s p ≡ j) × (itemWhole s p ≡ true)
+  found-at : (j : ℕ) → j < length index → 0 < getD built j 0 → (p : ℕ) × (getD built j 0 ≡ p + 1) × (keyAt 0x22 s p ≡ j) × (itemWhole s p ≡ true)
   found-at j h z =
       let k = at-key j h in
       let f = found 0x22 (itemWhole s) s j (places s) (held .whole) (rw k at z) in
       (f .0, k ∙ f .1, f .2, f .3)
 
-  target-in : (k place : ℕ) → place ≡ getD built (kindKey k) 0 → k < 32 → 0 < place → (place + 3 < length s) × (getD s (place + 3) 0 < 32)
-  target-in k place i h z =
-      let f = found-at k (omega arith) (rw i at z) in
-      let c = of-first 0x22 s (itemWhole s) (IsMapping s) (IsClause s) (groups s) (f .0) (f .3) (rw (f .2) h) in
-      let d : place + 3 ≡ f .0 + 4 = omega (arith, i, f .1) in
-      let g = c .fits in
-      (omega arith, rw d (c .target))
+  module _ (room : 32 ≤ length index) where
+    target-in : (k place : ℕ) → place ≡ getD built (kindKey k) 0 → k < 32 → 0 < place → (place + 3 < length s) × (getD s (place + 3) 0 < 32)
+    target-in k place i h z =
+        let f = found-at k (omega arith) (rw i at z) in
+        let c = of-first 0x22 s (itemWhole s) (IsMapping s) (IsClause s) (groups s) (f .0) (f .3) (rw (f .2) h) in
+        let d : place + 3 ≡ f .0 + 4 = omega (arith, i, f .1) in
+        let g = c .fits in
+        (omega arith, rw d (c .target))
 
-  code-in : (k p place : ℕ) → place ≡ getD built (productionKey k p) 0 → k < 32 → p < 256 → 0 < place → (2 ≤ pairAt s place) × (place + 2 + pairAt s place ≤ length s)
-  unfolding fieldEnd
-  code-in k p place i h j z =
-      let f = found-at (productionKey k p) (omega arith) (rw i at z) in
-      let c = of-second 0x22 s (itemWhole s) (IsMapping s) (IsClause s) (groups s) (f .0) (f .3) (rw (f .2) (omega arith)) in
-      let d : place ≡ f .0 + 1 = i ∙ f .1 in
-      let g = c .past in
-      let l = c .ends in
-      rw d (omega arith, omega arith)
+    kinds-built : IndexedKinds built s b
+    unfolding mappingOf targetAt
+    kinds-built = record {
+      sound = record {
+        long = rw (puts-length 0x22 s (places s) index) room;
+        short = short;
+        target = λ k h z. target-in k _ refl h z;
+      };
+      items = e;
+      mapping = λ k h.
+          ap (first (targetAt k)) (sym (held .items))
+          ∙ (looked-kind 0x22 s (itemWhole s) (IsMapping s) (IsClause s) (groups s) (itemAt s) (targetAt k) (targetBefore s) refl
+          (λ p. getD s (p + 4) 0) (λ p. rw add-one refl) k h
+          (λ p c. ap (targetAt k) (mapping-is s p c)) (λ p c. ap (targetAt k) (clause-is s p c)) (places s) (held .whole)
+          ∙ ap (targetBefore s) (sym (at-key k (omega arith))));
+    }
 
-  index-built : IndexedItems built s b
-  unfolding mappingOf clauseOf targetAt codeAt
-  index-built = record {
-    sound = record {
-      long = puts-length 0x22 s (places s) index ∙ long;
-      short = short;
-      target = λ k h z. target-in k _ refl h z;
-      code = λ k p h j z. code-in k p _ refl h j z;
-    };
-    items = e;
-    mapping = λ k h.
-        ap (first (targetAt k)) (sym (held .items))
-        ∙ (looked-kind 0x22 s (itemWhole s) (IsMapping s) (IsClause s) (groups s) (itemAt s) (targetAt k) (targetBefore s) refl
-        (λ p. getD s (p + 4) 0) (λ p. rw add-one refl) k h
-        (λ p c. ap (targetAt k) (mapping-is s p c)) (λ p c. ap (targetAt k) (clause-is s p c)) (places s) (held .whole)
-        ∙ ap (targetBefore s) (sym (at-key k (omega arith))));
-    clause = λ k p h j.
-        ap (first (codeAt k p)) (sym (held .items))
-        ∙ (looked-name 0x22 s (itemWhole s) (IsMapping s) (IsClause s) (groups s) (itemAt s) (codeAt k p) (codeBefore s) refl
-        (λ q. slice (q + 5) (fieldEnd s q) s) (λ q. rw add-one refl) k h p j bytes
-        (λ q c. ap (codeAt k p) (mapping-is s q c)) (λ q c. ap (codeAt k p) (clause-is s q c)) (places s) (held .whole)
-        ∙ ap (codeBefore s) (sym (at-key (productionKey k p) (omega arith))));
-  }
+    -- What `put_all` makes of a small table.
+    pub kinds-are : {after : List ℕ} → after ≡ built → IndexedKinds after s b
+    kinds-are h = rw h kinds-built
 
-  -- What `build_items` returns.
-  pub build-is : {after : List ℕ} → after ≡ built → IndexedItems after s b
-  build-is h = rw h index-built
+  module _ (long : length index ≡ 8224) where
+    code-in : (k p place : ℕ) → place ≡ getD built (productionKey k p) 0 → k < 32 → p < 256 → 0 < place → (2 ≤ pairAt s place) × (place + 2 + pairAt s place ≤ length s)
+    unfolding fieldEnd
+    code-in k p place i h j z =
+        let f = found-at (productionKey k p) (omega arith) (rw i at z) in
+        let c = of-second 0x22 s (itemWhole s) (IsMapping s) (IsClause s) (groups s) (f .0) (f .3) (rw (f .2) (omega arith)) in
+        let d : place ≡ f .0 + 1 = i ∙ f .1 in
+        let g = c .past in
+        let l = c .ends in
+        rw d (omega arith, omega arith)
 
--- map_kind
+    index-built : IndexedItems built s b
+    unfolding clauseOf codeAt
+    index-built =
+        let room : 32 ≤ length index = omega arith in
+        let k = kinds-built room in
+        record {
+          sound = record {
+            long = puts-length 0x22 s (places s) index ∙ long;
+            short = short;
+            target = k .sound .target;
+            code = λ k p h j z. code-in k p _ refl h j z;
+          };
+          items = e;
+          mapping = k .mapping;
+          clause = λ k p h j.
+              ap (first (codeAt k p)) (sym (held .items))
+              ∙ (looked-name 0x22 s (itemWhole s) (IsMapping s) (IsClause s) (groups s) (itemAt s) (codeAt k p) (codeBefore s) refl
+              (λ q. slice (q + 5) (fieldEnd s q) s) (λ q. rw add-one refl) k h p j bytes
+              (λ q c. ap (codeAt k p) (mapping-is s q c)) (λ q c. ap (codeAt k p) (clause-is s q c)) (places s) (held .whole)
+              ∙ ap (codeBefore s) (sym (at-key (productionKey k p) (omega arith))));
+        }
+
+    -- What `build_items` returns.
+    pub build-is : {after : List ℕ} → after ≡ built → IndexedItems after s b
+    build-is h = rw h index-built
+
+-- The index of a body holds its mappings.
+pub kinds-sound : {index s : List ℕ} → SoundItems index s → SoundKinds index s
+kinds-sound z = record { long = omega (arith, z .long); short = z .short; target = z .target }
+
+pub kinds-of : {index s : List ℕ} {b : Body} → IndexedItems index s b → IndexedKinds index s b
+kinds-of z = record { sound = kinds-sound (z .sound); items = z .items; mapping = z .mapping }
+
+-- target_kind
 module _ (s index : List ℕ) (k place : ℕ) (ep : place ≡ getD index k 0) where
   pub kind-none : place ≡ 0 → 0 ≡ mappedAt s index k
   unfolding mappedAt
@@ -117,13 +145,13 @@ module _ (s index : List ℕ) (k place : ℕ) (ep : place ≡ getD index k 0) wh
   unfolding mappedAt
   kind-there h = cc (ne-eqb place 0 h)
 
-  pub kind-in : SoundItems index s → k < 32 → (place ≡ 0 → ⊥) → (place + 3 < length s) × (getD s (place + 3) 0 < 32)
+  pub kind-in : SoundKinds index s → k < 32 → (place ≡ 0 → ⊥) → (place + 3 < length s) × (getD s (place + 3) 0 < 32)
   kind-in z h n = rw ep (z .target k h (rw (← ep) (omega arith)))
 
 -- What is looked up is what a kind maps to.
-pub mapped-is : (s index : List ℕ) (b : Body) → IndexedItems index s b → (k : ℕ) → k < 32 → mappedAt s index k ≡ mapped b k
+pub mapped-in : (s index : List ℕ) (b : Body) → IndexedKinds index s b → (k : ℕ) → k < 32 → mappedAt s index k ≡ mapped b k
 unfolding mapped
-mapped-is s index b z k h = go (getD index k 0) refl (z .mapping k h)
+mapped-in s index b z k h = go (getD index k 0) refl (z .mapping k h)
   where
     go : (place : ℕ) → getD index k 0 ≡ place → mappingOf b k ≡ targetBefore s place → mappedAt s index k ≡ Option·getD (mappingOf b k) 0
     go zero d e = sym (kind-none s index k 0 (sym d) refl) ∙ rw e
@@ -131,8 +159,11 @@ mapped-is s index b z k h = go (getD index k 0) refl (z .mapping k h)
         let i : suc p + 3 ≡ p + 4 = omega arith in
         sym (kind-there s index k (suc p) (sym d) (λ y. omega arith)) ∙ rw (e, i)
 
+pub mapped-is : (s index : List ℕ) (b : Body) → IndexedItems index s b → (k : ℕ) → k < 32 → mappedAt s index k ≡ mapped b k
+mapped-is s index b z = mapped-in s index b (kinds-of z)
+
 -- What a kind maps to is a kind.
-pub mapped-kind : (s index : List ℕ) → SoundItems index s → (k : ℕ) → k < 32 → mappedAt s index k < 32
+pub mapped-kind : (s index : List ℕ) → SoundKinds index s → (k : ℕ) → k < 32 → mappedAt s index k < 32
 unfolding mappedAt
 mapped-kind s index z k h =
     by-test (eqb (getD index k 0) 0)
@@ -161,5 +192,5 @@ mapped-more s index table n i v ei h l e m k j =
 pub mapped-below : (s index table : List ℕ) → SoundItems index s → length table ≡ 32 → Mapped s index table 32 → (k : ℕ) → getD table k 0 < 32
 mapped-below s index table z l m k =
     by-test (ltb k 32)
-    (λ d. let h : k < 32 = ltb-true k 32 d in rw (m k h) (mapped-kind s index z k h))
+    (λ d. let h : k < 32 = ltb-true k 32 d in rw (m k h) (mapped-kind s index (kinds-sound z) k h))
     (λ d. let h : length table ≤ k = omega (arith, ltb-false k 32 d) in rw (List·getD-eq-default table 0 h) (omega arith))

@@ -12,3 +12,6 @@ pub mod Mappings
 pub mod Known
 pub mod Coded
 pub mod Chain
+pub mod Beside
+pub mod Front
+pub mod Classes

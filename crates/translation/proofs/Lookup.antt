@@ -46,7 +46,7 @@ at-target : (k t : ℕ) → targetAt k (mapping k t) ≡ some t
 unfolding targetAt
 at-target k t = rw (eq-eqb k k refl)
 
-at-code : (k p : ℕ) (c : List ℕ) → codeAt k p (clause k p c) ≡ some c
+pub at-code : (k p : ℕ) (c : List ℕ) → codeAt k p (clause k p c) ≡ some c
 unfolding codeAt
 at-code k p c = rw (eq-eqb k k refl, eq-eqb p p refl)
 

@@ -27,7 +27,7 @@ use Rattle.translation.specs.Inner.Items.{itemWhole, itemAt}
 use Rattle.translation.specs.Inner.ItemIndex.{targetBefore, mappedAt, Ready}
 use Rattle.translation.specs.Inner.Tests.{mappedIf, reachesAt, sameRange, keptAt}
 use Rattle.translation.proofs.Items.{item-facts, mapping-is, clause-is, holds-items}
-use Rattle.translation.proofs.IndexedItems.{mapped-is, mapped-kind}
+use Rattle.translation.proofs.IndexedItems.{mapped-in, mapped-kind}
 
 -- mapped_if
 module _ (index : List ℕ) (table : List Bool) (k : ℕ) where
@@ -188,7 +188,7 @@ module _ (s t it b ib : List ℕ) (f : Translation) (z : Ready s t it b ib f) wh
       (λ c.
       let j : ℕ = getD s (p + 3) 0 in
       let k : ℕ = mapped (f .body) j in
-      let e : mappedAt b ib j ≡ k = mapped-is b ib (f .body) (z .body) j (c .kind) in
+      let e : mappedAt b ib j ≡ k = mapped-in b ib (f .body) (z .body) j (c .kind) in
       let i : k < 32 = rw (← e) (mapped-kind b ib (z .body .sound) j (c .kind)) in
       rw (class-is s p c, c .tag, e) (range-same p (getD it k 0) k (z .target .range k i)))
       (λ c. rw (production-is s p c, c .tag))

@@ -1,10 +1,11 @@
 -- A law for each return of the functions on the order of keys and on clashes.
-use mathlib.Core.Path.{_≡_}
+use mathlib.Core.Path.{_≡_, _∙_}
 use mathlib.Core.Bool.{Bool, true, false, _&&_, _||_}
 use mathlib.Core.List.{List}
 use Prim.Native.Nat.{ℕ}
 use Rattle.fields.specs.Keyed.{rising}
 use Rattle.fields.specs.Inner.Places.{places, keyAt}
+use Rattle.fields.proofs.Truth.{and-both}
 use Rattle.language.specs.Language.{clashes}
 use Rattle.language.specs.Inner.Entries.{resultIsClass}
 use Rattle.language.proofs.Holds.{holds-entries}
@@ -25,6 +26,12 @@ module _ (s t b : List ℕ) (f : Translation) (w : Pieces s t b f) where
         rising-is t (f .target) (holds-entries t (f .target) (w .target)),
         items-rise b (f .body) (holds-items b (f .body) (w .body)),
       )
+
+  pub both-rise : allRising f ≡ true → (rising (keyAt 0x11 s) (places s) ≡ true) × (rising (keyAt 0x11 t) (places t) ≡ true)
+  both-rise h =
+      let u = and-both (rising (keyAt 0x11 s) (places s)) (rising (keyAt 0x11 t) (places t) && rising (keyAt 0x22 b) (places b)) (rising-three ∙ h) in
+      let v = and-both (rising (keyAt 0x11 t) (places t)) (rising (keyAt 0x22 b) (places b)) (u .1) in
+      (u .0, v .0)
 
   -- in_order
   module _ (x : Bool) (ex : x ≡ rising (keyAt 0x11 s) (places s)) where

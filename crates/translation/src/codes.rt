@@ -2,19 +2,23 @@
 ghost use mathlib.Core.Path.{_≡_};
 ghost use mathlib.Core.Bool.{true};
 ghost use mathlib.Core.List.{map};
-ghost use Prim.Native.Nat.{ℕ, _+_, _≤_};
+ghost use Prim.Native.Nat.{ℕ, _+_, _<_, _≤_};
 ghost use lib.ListN.{length, getD, take};
 ghost use lib.Seq.{slice};
 ghost use Rattle.fields.specs.Inner.Places.{EndsAt, fieldEnd, keyAt};
 ghost use Rattle.language.specs.Language.{Language};
-ghost use Rattle.reader.specs.Inner.Index.{Indexed};
+ghost use Rattle.fields.specs.Lists.{isSome};
+ghost use Rattle.reader.specs.Syntax.{read as readCode, code};
+ghost use Rattle.reader.specs.Inner.Index.{Sound, Indexed};
 ghost use Rattle.reader.specs.Inner.Positions.{KindsIn};
 ghost use Rattle.translation.specs.Translation.{Translation};
+ghost use Rattle.translation.specs.Running.{wholeCode, codeLevels};
 ghost use Rattle.translation.specs.WellFormed.{codeFits, codesFit};
 ghost use Rattle.translation.specs.Inner.Items.{itemWhole, itemAt, IsClause};
-ghost use Rattle.translation.specs.Inner.ItemIndex.{SoundItems, mappedAt, Prepared};
+ghost use Rattle.translation.specs.Inner.ItemIndex.{SoundKinds, SoundItems, mappedAt, Prepared};
 ghost use Rattle.translation.specs.Inner.Tests.{mappedBefore, endsAt};
 use super::index::map_kind;
+use super::index::target_kind;
 use fields::bytes::byte_at;
 use fields::bytes::pair_at;
 use fields::walk::field_end;
@@ -25,7 +29,7 @@ use reader::node::place_at;
 use reader::read::read;
 
 // Puts what the kinds of the source from p up to e map to in front of the table, and says how many they are.
-fn map_part(
+pub fn map_part(
     source: &[u8],
     p: usize,
     e: usize,
@@ -33,13 +37,13 @@ fn map_part(
     items: &[u16],
     kinds: &mut [u8],
 ) -> usize
-    requires { ⌜ KindsIn (now source) p e × SoundItems (now items) (now body) × (e ≤ p + length (now kinds)) ⌝ }
+    requires { ⌜ KindsIn (now source) p e × SoundKinds (now items) (now body) × (e ≤ p + length (now kinds)) ⌝ }
     ensures { λ r. ⌜ (take r (now (kinds .exit)) ≡ map (mappedAt (now (body .entry)) (now (items .entry))) (slice p e (now (source .entry)))) × (r ≤ length (now (kinds .entry))) ⌝ }
 {
     let mut i = 0;
     let mut q = p;
     while q < e {
-        kinds[i] = map_kind(body, items, source[q]);
+        kinds[i] = target_kind(body, items, source[q]);
         i += 1;
         q += 1;
     }
@@ -78,6 +82,33 @@ fn ends_at(read: Read, n: usize) -> bool
     }
 }
 
+// The code of the clause from p up to e, with nothing after it, is of the kind; its arguments are of these kinds.
+pub fn code_reads(
+    target: &[u8],
+    targets: &[u16],
+    kinds: &[u8],
+    kind: u8,
+    body: &[u8],
+    p: usize,
+    e: usize,
+) -> bool
+    requires { ⌜ (p + 5 ≤ e) × (e ≤ length (now body)) × (kind < 32) × Sound (now targets) (now target) ⌝ }
+    ensures { λ r. ⌜ ((l : Language) → Indexed (now (targets .entry)) (now (target .entry)) l
+        → r ≡ isSome (wholeCode (readCode code l (now (kinds .entry)) codeLevels kind (slice (p + 5) e (now (body .entry)))))) ⌝ }
+{
+    let end = read(
+        Syntax::Code,
+        target,
+        targets,
+        kinds,
+        kind,
+        &body[p + 5..e],
+        0,
+        16,
+    );
+    ends_at(end, e - p - 5)
+}
+
 // The code of the clause at p, which ends at e, is of the kind that its result maps to.
 fn code_fits(
     source: &[u8],
@@ -96,17 +127,7 @@ fn code_fits(
     let mut kinds = [0u8; 8];
     let count = map_arguments(source, sources, body, items, p, &mut kinds);
     let kind = map_kind(body, items, byte_at(body, p + 3));
-    let end = read(
-        Syntax::Code,
-        target,
-        targets,
-        &kinds[..count],
-        kind,
-        &body[p + 5..e],
-        0,
-        16,
-    );
-    ends_at(end, e - p - 5)
+    code_reads(target, targets, &kinds[..count], kind, body, p, e)
 }
 
 // The item at p, which ends at e, is a mapping or a clause whose code fits.

@@ -3,9 +3,11 @@ ghost use mathlib.Core.Path.{_≡_};
 ghost use mathlib.Core.Option.{some};
 ghost use Prim.Native.Nat.{ℕ, _<_, _≤_};
 ghost use lib.ListN.{length, getD};
+ghost use Rattle.reader.specs.Inner.Index.{putAt};
 ghost use Rattle.translation.specs.Translation.{Body};
 ghost use Rattle.translation.specs.TranslationFile.{bodyOf};
-ghost use Rattle.translation.specs.Inner.ItemIndex.{SoundItems, IndexedItems, mappedAt};
+ghost use Rattle.translation.specs.Inner.ItemIndex.{SoundKinds, SoundItems, IndexedItems, IndexedKinds, mappedAt};
+use super::walk::whole_end;
 use fields::bytes::wide;
 use reader::index::put_all;
 use reader::node::place_at;
@@ -18,9 +20,35 @@ pub fn build_items(body: &[u8], index: &mut [u16])
     put_all(body, 0x22, index);
 }
 
-// The kind that a kind maps to; 0 where it is not mapped.
-pub fn map_kind(body: &[u8], index: &[u16], kind: u8) -> u8
-    requires { ⌜ SoundItems (now index) (now body) × (kind < 32) ⌝ }
+// Puts a value at a key that has none yet.
+fn put(index: &mut [u16], key: usize, value: u16)
+    requires { ⌜ key < length (now index) ⌝ }
+    ensures { λ r. ⌜ now (index .exit) ≡ putAt (now (index .entry)) key value ⌝ }
+{
+    if index[key] != 0 {
+        return;
+    }
+    index[key] = value;
+}
+
+// Builds the index of the mappings of a body, which stand in front, in a table that is all zero.
+pub fn put_mappings(body: &[u8], index: &mut [u16])
+    requires { ⌜ (length (now body) ≤ 32768) × (length (now index) ≡ 32) × ((j : ℕ) → getD (now index) j 0 ≡ 0) × ((b : Body) × (bodyOf (now body) ≡ some b)) ⌝ }
+    ensures { λ r. ⌜ ((b : Body) → bodyOf (now (body .entry)) ≡ some b → IndexedKinds (now (index .exit)) (now (body .entry)) b) ⌝ }
+{
+    let mut p = 0;
+    while p < body.len() {
+        if body[p] != 0x22 {
+            return;
+        }
+        put(index, wide(body[p + 3]), (p + 1) as u16);
+        p = whole_end(body, p);
+    }
+}
+
+// The kind that a kind maps to, by an index of the mappings; 0 where it is not mapped.
+pub fn target_kind(body: &[u8], index: &[u16], kind: u8) -> u8
+    requires { ⌜ SoundKinds (now index) (now body) × (kind < 32) ⌝ }
     ensures { λ r. ⌜ (r ≡ mappedAt (now (body .entry)) (now (index .entry)) kind) × (r < 32) ⌝ }
 {
     let place = place_at(index, wide(kind));
@@ -28,6 +56,14 @@ pub fn map_kind(body: &[u8], index: &[u16], kind: u8) -> u8
         return 0;
     }
     body[place + 3]
+}
+
+// The kind that a kind maps to; 0 where it is not mapped.
+pub fn map_kind(body: &[u8], index: &[u16], kind: u8) -> u8
+    requires { ⌜ SoundItems (now index) (now body) × (kind < 32) ⌝ }
+    ensures { λ r. ⌜ (r ≡ mappedAt (now (body .entry)) (now (index .entry)) kind) × (r < 32) ⌝ }
+{
+    target_kind(body, index, kind)
 }
 
 // Puts the kind that each kind maps to into a table of 32; 0 where a kind is not mapped.

@@ -7,24 +7,22 @@ ghost use lib.Seq.{slice};
 ghost use Rattle.fields.specs.Lists.{all};
 ghost use Rattle.fields.specs.Inner.Places.{places, fieldEnd};
 ghost use Rattle.language.specs.Inner.Entries.{entryWhole};
+ghost use Rattle.reader.specs.Inner.Positions.{KindsIn};
 ghost use Rattle.translation.specs.Inner.Tests.{markAll, mentionedAt, markEntries};
+use super::walk::whole_end;
 use fields::bytes::wide;
-use fields::walk::field_end;
 
-// Marks a kind in the table. A kind past the table is left out.
+// Marks a kind in the table.
 fn mark(kinds: &mut [bool], kind: u8)
+    requires { ⌜ kind < length (now kinds) ⌝ }
     ensures { λ r. ⌜ now (kinds .exit) ≡ set (now (kinds .entry)) kind true ⌝ }
 {
-    let k = wide(kind);
-    if kinds.len() <= k {
-        return;
-    }
-    kinds[k] = true;
+    kinds[wide(kind)] = true;
 }
 
 // Marks the kinds that stand from p up to e.
 fn mark_part(s: &[u8], p: usize, e: usize, kinds: &mut [bool])
-    requires { ⌜ e ≤ length (now s) ⌝ }
+    requires { ⌜ KindsIn (now s) p e × (e ≤ length (now s)) × (length (now kinds) ≡ 32) ⌝ }
     ensures { λ r. ⌜ now (kinds .exit) ≡ markAll (now (kinds .entry)) (slice p e (now (s .entry))) ⌝ }
 {
     let mut q = p;
@@ -36,7 +34,7 @@ fn mark_part(s: &[u8], p: usize, e: usize, kinds: &mut [bool])
 
 // Marks the kinds that the entry at p, which ends at e, mentions.
 fn mark_entry(s: &[u8], p: usize, e: usize, kinds: &mut [bool])
-    requires { ⌜ (p + 3 < length (now s)) × (e ≡ fieldEnd (now s) p) × (e ≤ length (now s)) ⌝ }
+    requires { ⌜ (entryWhole (now s) p ≡ true) × (e ≡ fieldEnd (now s) p) × (length (now kinds) ≡ 32) ⌝ }
     ensures { λ r. ⌜ now (kinds .exit) ≡ markAll (now (kinds .entry)) (mentionedAt (now (s .entry)) p) ⌝ }
 {
     mark(kinds, s[p + 3]);
@@ -48,12 +46,12 @@ fn mark_entry(s: &[u8], p: usize, e: usize, kinds: &mut [bool])
 
 // Marks every kind that is in the language.
 pub fn mark_entries(s: &[u8], kinds: &mut [bool])
-    requires { ⌜ all (entryWhole (now s)) (places (now s)) ≡ true ⌝ }
+    requires { ⌜ (all (entryWhole (now s)) (places (now s)) ≡ true) × (length (now kinds) ≡ 32) ⌝ }
     ensures { λ r. ⌜ now (kinds .exit) ≡ markEntries (now (s .entry)) (now (kinds .entry)) (places (now (s .entry))) ⌝ }
 {
     let mut p = 0;
     while p < s.len() {
-        let e = field_end(s, p);
+        let e = whole_end(s, p);
         mark_entry(s, p, e, kinds);
         p = e;
     }

@@ -1,10 +1,13 @@
 // Translations: their parts in bytes, and the check of a translation.
 pub mod body;
 pub mod check;
+pub mod clash;
 pub mod clauses;
 pub mod codes;
 pub mod index;
 pub mod kinds;
 pub mod mapping;
 pub mod order;
+pub mod pairs;
 pub mod parts;
+pub mod walk;

@@ -1,22 +1,24 @@
 // The mapping: exactly the kinds in the source are mapped, each to a kind in the target, and classes keep their ranges.
 ghost use mathlib.Core.Path.{_≡_};
 ghost use mathlib.Core.Bool.{true};
+ghost use mathlib.Core.Option.{some};
 ghost use Prim.Native.Nat.{ℕ, _+_, _<_, _≤_};
 ghost use lib.ListN.{length, getD};
 ghost use Rattle.fields.specs.Lists.{all, countUp};
 ghost use Rattle.fields.specs.Inner.Places.{places};
 ghost use Rattle.language.specs.Inner.Entries.{entryWhole};
 ghost use Rattle.reader.specs.Inner.Index.{Sound};
-ghost use Rattle.translation.specs.Translation.{Translation};
+ghost use Rattle.translation.specs.Translation.{Body, Translation};
+ghost use Rattle.translation.specs.TranslationFile.{bodyOf};
 ghost use Rattle.translation.specs.WellFormed.{mappingFits};
-ghost use Rattle.translation.specs.Inner.ItemIndex.{SoundItems, Ready};
+ghost use Rattle.translation.specs.Inner.ItemIndex.{SoundKinds, Ready};
 ghost use Rattle.translation.specs.Inner.Tests.{mappedIf, reachesAt, sameRange, keptAt};
-use super::index::map_kind;
+use super::index::target_kind;
 use super::kinds::mark_entries;
+use super::walk::whole_end;
 use fields::bytes::byte_at;
 use fields::bytes::pair_at;
 use fields::bytes::wide;
-use fields::walk::field_end;
 use reader::node::place_at;
 
 // A kind is mapped if it is marked, and only then.
@@ -32,7 +34,7 @@ fn mapped_if(index: &[u16], kinds: &[bool], k: usize) -> bool
 
 // Exactly the kinds that are marked are mapped.
 fn kinds_mapped(index: &[u16], kinds: &[bool]) -> bool
-    requires { ⌜ (length (now index) ≡ 8224) × (length (now kinds) ≡ 32) ⌝ }
+    requires { ⌜ (32 ≤ length (now index)) × (length (now kinds) ≡ 32) ⌝ }
     ensures { λ r. ⌜ r ≡ all (mappedIf (now (index .entry)) (now (kinds .entry))) (countUp 32 0) ⌝ }
 {
     let mut k = 0;
@@ -60,16 +62,20 @@ fn reaches_at(s: &[u8], p: usize, kinds: &[bool]) -> bool
     kinds[target]
 }
 
-// Each mapping is to a kind that is marked.
+// Each mapping is to a kind that is marked. They stand in front.
 fn targets_marked(s: &[u8], kinds: &[bool]) -> bool
+    requires { ⌜ ((b : Body) × (bodyOf (now s) ≡ some b)) ⌝ }
     ensures { λ r. ⌜ r ≡ all (reachesAt (now (s .entry)) (now (kinds .entry))) (places (now (s .entry))) ⌝ }
 {
     let mut p = 0;
     while p < s.len() {
+        if s[p] != 0x22 {
+            return true;
+        }
         if !reaches_at(s, p, kinds) {
             return false;
         }
-        p = field_end(s, p);
+        p = whole_end(s, p);
     }
     true
 }
@@ -97,19 +103,19 @@ fn kept_at(
     body: &[u8],
     items: &[u16],
 ) -> bool
-    requires { ⌜ (p ≤ length (now source)) × (entryWhole (now source) p ≡ true) × Sound (now targets) (now target) × SoundItems (now items) (now body) ⌝ }
+    requires { ⌜ (p ≤ length (now source)) × (entryWhole (now source) p ≡ true) × Sound (now targets) (now target) × SoundKinds (now items) (now body) ⌝ }
     ensures { λ r. ⌜ r ≡ keptAt (now (source .entry)) (now (target .entry)) (now (targets .entry)) (now (body .entry)) (now (items .entry)) p ⌝ }
 {
     if byte_at(source, p) != 0x11 {
         return true;
     }
-    let kind = map_kind(body, items, byte_at(source, p + 3));
+    let kind = target_kind(body, items, byte_at(source, p + 3));
     same_range(source, p, target, place_at(targets, wide(kind)))
 }
 
 // Each source class maps to a target class of equal range.
 fn classes_kept(source: &[u8], target: &[u8], targets: &[u16], body: &[u8], items: &[u16]) -> bool
-    requires { ⌜ (all (entryWhole (now source)) (places (now source)) ≡ true) × Sound (now targets) (now target) × SoundItems (now items) (now body) ⌝ }
+    requires { ⌜ (all (entryWhole (now source)) (places (now source)) ≡ true) × Sound (now targets) (now target) × SoundKinds (now items) (now body) ⌝ }
     ensures { λ r. ⌜ r ≡ all (keptAt (now (source .entry)) (now (target .entry)) (now (targets .entry)) (now (body .entry)) (now (items .entry))) (places (now (source .entry))) ⌝ }
 {
     let mut p = 0;
@@ -117,7 +123,7 @@ fn classes_kept(source: &[u8], target: &[u8], targets: &[u16], body: &[u8], item
         if !kept_at(source, p, target, targets, body, items) {
             return false;
         }
-        p = field_end(source, p);
+        p = whole_end(source, p);
     }
     true
 }

@@ -36,6 +36,13 @@ pub record SoundItems (index s : List ℕ) : Type 0 where
       → (2 ≤ pairAt s (getD index (productionKey k p) 0))
       × (getD index (productionKey k p) 0 + 2 + pairAt s (getD index (productionKey k p) 0) ≤ length s)
 
+-- What a lookup of kinds may rely on, in an index that holds at least the mappings.
+pub record SoundKinds (index s : List ℕ) : Type 0 where
+  pub long : 32 ≤ length index
+  pub short : length s ≤ 32768
+  pub target : (k : ℕ) → k < 32 → 0 < getD index (kindKey k) 0
+      → (getD index (kindKey k) 0 + 3 < length s) × (byteAt s (getD index (kindKey k) 0 + 3) < 32)
+
 -- The index of body b, whose bytes are s: what is looked up through it is what stands in b.
 pub record IndexedItems (index s : List ℕ) (b : Body) : Type 0 where
   pub sound : SoundItems index s
@@ -43,15 +50,21 @@ pub record IndexedItems (index s : List ℕ) (b : Body) : Type 0 where
   pub mapping : (k : ℕ) → k < 32 → mappingOf b k ≡ targetBefore s (getD index (kindKey k) 0)
   pub clause : (k p : ℕ) → k < 32 → p < 256 → clauseOf b k p ≡ codeBefore s (getD index (productionKey k p) 0)
 
+-- An index of the mappings of body b, whose bytes are s.
+pub record IndexedKinds (index s : List ℕ) (b : Body) : Type 0 where
+  pub sound : SoundKinds index s
+  pub items : bodyOf s ≡ some b
+  pub mapping : (k : ℕ) → k < 32 → mappingOf b k ≡ targetBefore s (getD index (kindKey k) 0)
+
 -- The kind that kind k maps to, looked up; 0 where it is not mapped.
 unfoldable pub mappedAt : List ℕ → List ℕ → ℕ → ℕ
 mappedAt s index k = cond (eqb (getD index k 0) 0) 0 (byteAt s (getD index k 0 + 3))
 
--- The three parts of f, the target and the body each with its index.
+-- The three parts of f, the target with its index, the body with that of its mappings.
 pub record Ready (s t it b ib : List ℕ) (f : Translation) : Type 0 where
   pub source : entriesOf s ≡ some (f .source)
   pub target : Indexed it t (f .target)
-  pub body : IndexedItems ib b (f .body)
+  pub body : IndexedKinds ib b (f .body)
 
 -- The three parts of f, each with its index.
 pub record Prepared (s is t it b ib : List ℕ) (f : Translation) : Type 0 where

@@ -6,7 +6,7 @@ use mathlib.Core.Bool.{Bool, true, false, cond, _&&_}
 use mathlib.Core.List.{List, [], _∷_, map}
 use lib.ListN.{length}
 use lib.Seq.{slice}
-use lib.Dec.{leb, eqb}
+use lib.Dec.{ltb, leb, eqb}
 use Rattle.fields.specs.Lists.{all}
 use Rattle.fields.specs.Fields.{byteAt}
 use Rattle.fields.specs.Inner.Places.{fieldEnd, isWhole, places}
@@ -31,6 +31,10 @@ itemGood s p =
 -- The field at p is whole, and an item.
 unfoldable pub itemWhole : List ℕ → ℕ → Bool
 itemWhole s p = isWhole s p && itemGood s p
+
+-- The first five bytes of the field at p are there.
+unfoldable pub longAt : List ℕ → ℕ → Bool
+longAt s p = ltb (p + 4) (length s)
 
 -- The item at p.
 unfoldable pub itemAt : List ℕ → ℕ → Item

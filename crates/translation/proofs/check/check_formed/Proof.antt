@@ -1,28 +1,25 @@
+use borrow.Author.Needs.{needs}
 use mathlib.Core.Path.{refl}
 use Rattle.reader.proofs.Check.{zeros}
-use borrow.Author.Needs.{needs}
 use Rattle.translation.proofs.check.check_formed.Statement.{statement}
 use Rattle.translation.proofs.check.check_formed.Tie as tie
 use Rattle.translation.proofs.check.check_formed.Reads as reads
 use Rattle.translation.proofs.check.check_formed.Lts as lts
 use Rattle.reader.proofs.index.build.Reads as build-reads
-use Rattle.translation.proofs.check.check_prepared.Reads as check-prepared-reads
-use Rattle.translation.proofs.index.build_items.Reads as build-items-reads
+use Rattle.translation.proofs.check.check_ready.Reads as check-ready-reads
+use Rattle.translation.proofs.index.put_mappings.Reads as put-mappings-reads
 
 build-requires : tie.Need-build-requires
-build-requires c κs = (c .before .before .before .before .pre .1 .source-short, refl, zeros 8224)
+build-requires c κs = (c .before .before .before .before .pre .1 .target-short, refl, zeros 8224)
 
-build-requires-2 : tie.Need-build-requires-2
-build-requires-2 c κs = (c .before .before .before .before .before .before .before .pre .1 .target-short, refl, zeros 8224)
+put-mappings-requires : tie.Need-put-mappings-requires
+put-mappings-requires c κs = (c .before .before .before .before .before .before .before .pre .1 .body-short, refl, zeros 32, (_, c .before .before .before .before .before .before .before .pre .1 .body))
 
-build-items-requires : tie.Need-build-items-requires
-build-items-requires c κs = (c .before .before .before .before .before .before .before .before .before .before .pre .1 .body-short, refl, zeros 8224)
-
-check-prepared-requires : tie.Need-check-prepared-requires
-check-prepared-requires c κs = (c .before .before .before .before .before .before .before .before .before .before .before .before .before .before .before .pre .0, record { source = c .before .before .before .before .before .before .before .before .before .before .build .ensures _ (c .before .before .before .before .before .before .before .before .before .before .before .before .before .before .before .pre .1 .source); target = c .before .before .before .before .before .before .before .build2 .ensures _ (c .before .before .before .before .before .before .before .before .before .before .before .before .before .before .before .pre .1 .target); body = c .before .before .before .before .build-items .ensures _ (c .before .before .before .before .before .before .before .before .before .before .before .before .before .before .before .pre .1 .body) })
+check-ready-requires : tie.Need-check-ready-requires
+check-ready-requires c κs = (c .before .before .before .before .before .before .before .before .before .before .before .pre .0, c .before .before .before .before .before .before .before .before .before .before .before .pre .1, (record { source = c .before .before .before .before .before .before .before .before .before .before .before .pre .1 .source; target = c .before .before .before .before .before .before .build .ensures _ (c .before .before .before .before .before .before .before .before .before .before .before .pre .1 .target); body = c .before .before .before .put-mappings .ensures _ (c .before .before .before .before .before .before .before .before .before .before .before .pre .1 .body) }))
 
 returns : tie.Need-returns
-returns c = λ f w. c .check-prepared .ensures f (record { source = c .before .before .before .before .before .before .before .before .before .before .before .build .ensures _ (w .source); target = c .before .before .before .before .before .before .before .before .build2 .ensures _ (w .target); body = c .before .before .before .before .before .build-items .ensures _ (w .body) })
+returns c = λ f w. c .check-ready .ensures f w (record { source = w .source; target = c .before .before .before .before .before .before .before .build .ensures _ (w .target); body = c .before .before .before .before .put-mappings .ensures _ (w .body) })
 
 pub check-formed-spec : {M : Type 1} → statement M
 check-formed-spec =
@@ -31,11 +28,8 @@ check-formed-spec =
     (λ c. search needs)
     build-requires
     (λ c. search needs)
-    build-requires-2
-    (λ c. search needs)
-    build-items-requires
+    put-mappings-requires
     (λ c. search needs)
     (λ c. search needs)
-    (λ c. search needs)
-    check-prepared-requires
+    check-ready-requires
     returns)

@@ -1,3 +1,4 @@
+use mathlib.Core.Path.{sym, _∙_}
 use borrow.Author.Tests.{not-true, not-false}
 use Rattle.translation.proofs.Chain.{order-refused, clash-refused, formed-next}
 use borrow.Author.Needs.{needs}
@@ -10,8 +11,14 @@ use Rattle.translation.proofs.check.check_formed.Reads as check-formed-
 use Rattle.translation.proofs.order.in_order.Reads as in-order-reads
 use Rattle.translation.proofs.order.languages_clash.Reads as languages-clash-reads
 
+in-order-requires : tie.Need-in-order-requires
+in-order-requires c κs = c .before .before .before .pre
+
 returns : tie.Need-returns
 returns c = λ f w. order-refused f _ (c .before .before .in-order .ensures f w) (not-true _ (c .before .if1 .taken)) (c .refuse .ensures)
+
+languages-clash-requires : tie.Need-languages-clash-requires
+languages-clash-requires c κs = (c .before .before .before .before .before .pre .0, c .before .before .before .before .before .pre .1, sym (c .before .in-order .ensures _ (c .before .before .before .before .before .pre .1)) ∙ not-false _ (c .if1 .left))
 
 returns-2 : tie.Need-returns-2
 returns-2 c = λ f w. clash-refused f _ (c .before .before .before .before .in-order .ensures f w) (not-false _ (c .before .before .before .if1 .left)) _ (c .before .before .languages-clash .ensures f w) (c .before .if2 .taken) (c .refuse2 .ensures)
@@ -26,10 +33,10 @@ pub check-pieces-spec : {M : Type 1} → statement M
 check-pieces-spec =
     tie.close
     (tie.spec
-    (λ c κs. search needs)
+    in-order-requires
     (λ c κs. search needs)
     returns
-    (λ c κs. search needs)
+    languages-clash-requires
     (λ c κs. search needs)
     returns-2
     check-formed-requires

@@ -1,5 +1,6 @@
 use native.Mathlib.Omega.{arith}
 use Rattle.translation.proofs.Coded.{key-in, mapped-none, mapped-some, place-fits, operands-in, operands-few, code-cut}
+use Rattle.translation.proofs.IndexedItems.{kinds-sound}
 use mathlib.Core.Path.{refl}
 use borrow.Author.Needs.{needs}
 use Rattle.translation.proofs.codes.map_arguments.Statement.{statement}
@@ -33,7 +34,7 @@ add-map-part : tie.Need-add-map-part
 add-map-part c = let k = place-fits (c .before .before .before .before .before .before .before .before .before .args .source .now) (c .before .before .before .before .before .before .before .before .before .args .sources .now) (c .before .before .before .before .before .before .before .before .before .args .body .now) (c .before .before .before .before .before .before .before .before .before .args .items .now) _ (c .before .before .before .before .before .before .before .before .before .pre .3 .1) (λ i. omega (arith, c .before .before .before .before .before .before .shared-slice-known3 .given i)) _ (c .before .before .before .before .before .before .before .before .before .pre .0) _ (c .before .before .before .key-at .ensures .0) _ (c .before .before .place-at .ensures) (c .before .if1 .left) in omega (arith, k .0, k .1)
 
 map-part-requires : tie.Need-map-part-requires
-map-part-requires c κs = (operands-in (c .before .before .before .before .before .before .before .before .before .before .args .source .now) (c .before .before .before .before .before .before .before .before .before .before .args .sources .now) (c .before .before .before .before .before .before .before .before .before .before .args .body .now) (c .before .before .before .before .before .before .before .before .before .before .args .items .now) _ (c .before .before .before .before .before .before .before .before .before .before .pre .3 .1) (λ i. omega (arith, c .before .before .before .before .before .before .before .shared-slice-known3 .given i)) _ (c .before .before .before .before .before .before .before .before .before .before .pre .0) _ (c .before .before .before .before .key-at .ensures .0) _ (c .before .before .before .place-at .ensures) (c .before .before .if1 .left) _ (c .before .pair-at .ensures .0), c .before .before .before .before .before .before .before .before .before .before .pre .2, omega (arith, operands-few (c .before .before .before .before .before .before .before .before .before .before .args .source .now) (c .before .before .before .before .before .before .before .before .before .before .args .sources .now) (c .before .before .before .before .before .before .before .before .before .before .args .body .now) (c .before .before .before .before .before .before .before .before .before .before .args .items .now) _ (c .before .before .before .before .before .before .before .before .before .before .pre .3 .1) (λ i. omega (arith, c .before .before .before .before .before .before .before .shared-slice-known3 .given i)) _ (c .before .before .before .before .before .before .before .before .before .before .pre .0) _ (c .before .before .before .before .key-at .ensures .0) _ (c .before .before .before .place-at .ensures) (c .before .before .if1 .left) _ (c .before .pair-at .ensures .0), c .before .before .before .before .before .before .before .before .before .before .pre .1))
+map-part-requires c κs = (operands-in (c .before .before .before .before .before .before .before .before .before .before .args .source .now) (c .before .before .before .before .before .before .before .before .before .before .args .sources .now) (c .before .before .before .before .before .before .before .before .before .before .args .body .now) (c .before .before .before .before .before .before .before .before .before .before .args .items .now) _ (c .before .before .before .before .before .before .before .before .before .before .pre .3 .1) (λ i. omega (arith, c .before .before .before .before .before .before .before .shared-slice-known3 .given i)) _ (c .before .before .before .before .before .before .before .before .before .before .pre .0) _ (c .before .before .before .before .key-at .ensures .0) _ (c .before .before .before .place-at .ensures) (c .before .before .if1 .left) _ (c .before .pair-at .ensures .0), kinds-sound (c .before .before .before .before .before .before .before .before .before .before .pre .2), omega (arith, operands-few (c .before .before .before .before .before .before .before .before .before .before .args .source .now) (c .before .before .before .before .before .before .before .before .before .before .args .sources .now) (c .before .before .before .before .before .before .before .before .before .before .args .body .now) (c .before .before .before .before .before .before .before .before .before .before .args .items .now) _ (c .before .before .before .before .before .before .before .before .before .before .pre .3 .1) (λ i. omega (arith, c .before .before .before .before .before .before .before .shared-slice-known3 .given i)) _ (c .before .before .before .before .before .before .before .before .before .before .pre .0) _ (c .before .before .before .before .key-at .ensures .0) _ (c .before .before .before .place-at .ensures) (c .before .before .if1 .left) _ (c .before .pair-at .ensures .0), c .before .before .before .before .before .before .before .before .before .before .pre .1))
 
 returns-2 : tie.Need-returns-2
 returns-2 c = (mapped-some (c .before .before .before .before .before .before .before .before .before .before .before .before .before .args .source .now) (c .before .before .before .before .before .before .before .before .before .before .before .before .before .args .sources .now) (c .before .before .before .before .before .before .before .before .before .before .before .before .before .args .body .now) (c .before .before .before .before .before .before .before .before .before .before .before .before .before .args .items .now) _ (c .before .before .before .before .before .before .before .before .before .before .before .before .before .pre .3 .1) (λ i. omega (arith, c .before .before .before .before .before .before .before .before .before .before .shared-slice-known3 .given i)) _ (c .before .before .before .before .before .before .before .before .before .before .before .before .before .pre .0) _ (c .before .before .before .before .before .before .before .key-at .ensures .0) _ (c .before .before .before .before .before .before .place-at .ensures) (c .before .before .before .before .before .if1 .left) _ (c .before .before .before .before .pair-at .ensures .0) _ (c .before .before .map-part .ensures .0), c .before .before .map-part .ensures .1)

@@ -8,7 +8,7 @@ use Rattle.translation.proofs.index.build_items.Lts as lts
 use Rattle.reader.proofs.index.put_all.Reads as put-all-reads
 
 returns : tie.Need-returns
-returns c = λ b e. build-is _ _ (λ i. omega (arith, c .before .before .before .before .before .shared-slice-known .given i)) (c .before .before .before .before .before .before .pre .0) (c .before .before .before .before .before .before .pre .1) (c .before .before .before .before .before .before .pre .2) b e (c .before .before .put-all .ensures)
+returns c = λ b e. build-is _ _ (λ i. omega (arith, c .before .before .before .before .before .shared-slice-known .given i)) (c .before .before .before .before .before .before .pre .0) (c .before .before .before .before .before .before .pre .2) b e (c .before .before .before .before .before .before .pre .1) (c .before .before .put-all .ensures)
 
 pub build-items-spec : {M : Type 1} → statement M
 build-items-spec = tie.close (tie.spec (λ c κs. search needs) (λ c. search needs) returns)

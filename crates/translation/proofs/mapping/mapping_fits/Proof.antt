@@ -1,5 +1,5 @@
-use borrow.Author.Tests.{not-true, not-false}
 use mathlib.Core.Path.{refl}
+use borrow.Author.Tests.{not-true, not-false}
 use Rattle.reader.proofs.Members.{entries-whole}
 use Rattle.translation.proofs.Marked.{table-is}
 use Rattle.translation.proofs.Mappings.{fits-kinds, fits-targets, fits-classes}
@@ -14,13 +14,16 @@ use Rattle.translation.proofs.mapping.kinds_mapped.Reads as kinds-mappe
 use Rattle.translation.proofs.mapping.targets_marked.Reads as targets-marked-reads
 
 mark-entries-requires : tie.Need-mark-entries-requires
-mark-entries-requires c κs = entries-whole _ (_, c .before .before .before .before .before .before .pre .1 .source)
+mark-entries-requires c κs = (entries-whole _ (_, c .before .before .before .before .before .before .pre .1 .source), refl)
 
 returns : tie.Need-returns
 returns c = λ f z. fits-kinds _ _ _ _ _ f z _ (table-is _ _ (z .source) (c .before .before .before .before .mark-entries .ensures)) _ (c .before .kinds-mapped .ensures) (not-true _ (c .if1 .taken))
 
 mark-entries-requires-2 : tie.Need-mark-entries-requires-2
-mark-entries-requires-2 c κs = entries-whole _ (_, c .before .before .before .before .before .before .before .before .before .before .before .before .pre .1 .target .entries)
+mark-entries-requires-2 c κs = (entries-whole _ (_, c .before .before .before .before .before .before .before .before .before .before .before .before .pre .1 .target .entries), refl)
+
+targets-marked-requires : tie.Need-targets-marked-requires
+targets-marked-requires c κs = (_, c .before .before .before .before .before .before .before .before .before .before .before .before .before .before .before .pre .1 .body .items)
 
 returns-2 : tie.Need-returns-2
 returns-2 c = λ f z. fits-targets _ _ _ _ _ f z _ (table-is _ _ (z .source) (c .before .before .before .before .before .before .before .before .before .before .mark-entries .ensures)) _ (c .before .before .before .before .before .before .before .kinds-mapped .ensures) (not-false _ (c .before .before .before .before .before .before .if1 .left)) _ (table-is _ _ (z .target .entries) (c .before .before .before .before .mark-entries2 .ensures)) _ (c .before .targets-marked .ensures) (not-true _ (c .if2 .taken))
@@ -43,7 +46,7 @@ mapping-fits-spec =
     (λ c. search needs)
     mark-entries-requires-2
     (λ c. search needs)
-    (λ c κs. search needs)
+    targets-marked-requires
     returns-2
     classes-kept-requires
     returns-3)

@@ -4,10 +4,10 @@ use lib.ListN.{getD}
 use Prim.Native.Nat.{ℕ}
 use Rattle.translation.proofs.IndexedItems.{kind-none, kind-there, kind-in}
 use borrow.Author.Needs.{needs}
-use Rattle.translation.proofs.index.map_kind.Statement.{statement}
-use Rattle.translation.proofs.index.map_kind.Tie as tie
-use Rattle.translation.proofs.index.map_kind.Reads as reads
-use Rattle.translation.proofs.index.map_kind.Lts as lts
+use Rattle.translation.proofs.index.target_kind.Statement.{statement}
+use Rattle.translation.proofs.index.target_kind.Tie as tie
+use Rattle.translation.proofs.index.target_kind.Reads as reads
+use Rattle.translation.proofs.index.target_kind.Lts as lts
 use Rattle.fields.proofs.bytes.wide.Reads as wide-reads
 use Rattle.reader.proofs.node.place_at.Reads as place-at-reads
 
@@ -23,8 +23,8 @@ shared-slice-read-result c = kind-in _ _ _ _ (c .before .before .place-at .ensur
 returns-2 : tie.Need-returns-2
 returns-2 c = (kind-there _ _ _ _ (c .before .before .place-at .ensures ∙ ap (λ (i : ℕ). getD (c .before .before .before .before .before .before .args .index .now) i 0) (c .before .before .before .wide .ensures .0)) (c .before .if1 .left), kind-in _ _ _ _ (c .before .before .place-at .ensures ∙ ap (λ (i : ℕ). getD (c .before .before .before .before .before .before .args .index .now) i 0) (c .before .before .before .wide .ensures .0)) (c .before .before .before .before .before .before .pre .0) (c .before .before .before .before .before .before .pre .1) (c .before .if1 .left) .1)
 
-pub map-kind-spec : {M : Type 1} → statement M
-map-kind-spec =
+pub target-kind-spec : {M : Type 1} → statement M
+target-kind-spec =
     tie.close
     (tie.spec
     (λ c κs. search needs)
