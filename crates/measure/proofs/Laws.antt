@@ -4,61 +4,55 @@ use mathlib.Core.Path.{_≡_, refl, sym, ap, _∙_}
 use mathlib.Core.List.{List, []}
 use mathlib.Core.Bool.{Bool, true, false, cond}
 use native.Mathlib.Omega.{arith}
-use native.Mathlib.Nat.{le-div-iff-mul-le, div-lt-iff-lt-mul}
-use lib.ListN.{length, getD}
-use lib.Dec.{leb, eqb}
+use native.Mathlib.Nat.{mul-le-mul, le-div-iff-mul-le, div-lt-iff-lt-mul}
+use lib.ListN.{length, getD, set}
+use lib.Seq.{getD-set-same, getD-set-other}
+use lib.Dec.{ltb, leb, eqb}
+use borrow.Author.Tests.{eqb-true, eqb-false}
+use Rattle.fields.specs.Fields.{pairAt}
 use Rattle.fields.proofs.Truth.{by-test}
-use Rattle.language.specs.Language.{productionKey}
 use Rattle.reader.specs.declared.node.Syntax.the-variants.{Tree}
 use Rattle.reader.specs.declared.node.Read.{Read}
 use Rattle.reader.specs.declared.node.Read.the-variants as Read
 use Rattle.reader.specs.declared.node.Node.{Node}
 use Rattle.reader.specs.declared.node.Node.the-variants.{Leaf, Operands}
-use Rattle.reader.specs.Inner.Positions.{productionPlace, tokenAt, operandsAt, nameAt, treeNode, nodeAt, EndsBy, NodeIn}
-use Rattle.reader.proofs.Laws.{leaf-in}
+use Rattle.reader.specs.Inner.Positions.{productionPlace, tokenAt, operandsAt, nameAt, treeNode, nodeAt, EndsBy, KindsIn}
 use Rattle.measure.specs.declared.measure.Measured.{Measured}
 use Rattle.measure.specs.declared.measure.Measured.the-variants.{End, Deep, Broken}
+use Rattle.measure.specs.declared.measure.Step.{Step}
+use Rattle.measure.specs.declared.measure.Step.the-variants as Step
 use Rattle.measure.specs.Inner.Sizes.{capped}
-use Rattle.measure.specs.Inner.Measuring.{leafAt, sharesFrom, measureAt, EndsIn}
+use Rattle.measure.specs.Inner.Measuring.{EndsIn}
+use Rattle.measure.specs.Inner.Descent.{leafDown, downFrom, weighDown, downAt, downRow, unwind, leafStep, goesOn, StepIn}
 
 -- add_share
-module _ (sum count length top : ℕ) (under : sum ≤ top) where
-  pub share-none : count ≡ 0 → sum ≡ capped top (sum + count * length)
+pub share-whole : (weight length : ℕ) → weight < 0x800000000000 → length < 65536 → weight * length < 0x8000000000000000
+share-whole weight length h k =
+    let m : weight ≤ 0x7fffffffffff = omega arith in
+    let n : length ≤ 65535 = omega arith in
+    let p : weight * length ≤ 0x7fffffffffff * 65535 = mul-le-mul m n in
+    omega arith
+
+module _ (sum weight length top : ℕ) (under : sum ≤ top) where
+  pub share-none : length ≡ 0 → sum ≡ capped top (sum + weight * length)
   share-none h = rw h (omega arith)
 
-  pub share-one : {r : ℕ} → count ≡ 1 → r ≡ capped top (sum + length) → r ≡ capped top (sum + count * length)
-  share-one h e = rw h (e ∙ omega arith)
-
-  module _ (some : count ≡ 0 → ⊥) where
-    positive : 0 < count
+  module _ (some : length ≡ 0 → ⊥) where
+    positive : 0 < length
     positive = omega arith
 
-    pub share-over : (top - sum) / count < length → top ≡ capped top (sum + count * length)
+    pub share-over : (top - sum) / length < weight → top ≡ capped top (sum + weight * length)
     share-over h = let k = div-lt-iff-lt-mul positive .0 h in omega arith
 
-    pub share-fits : length ≤ (top - sum) / count → (count * length ≤ top) × (sum + count * length ≤ top)
-    share-fits h = let k : length * count ≤ top - sum = le-div-iff-mul-le positive .0 h in omega arith
+    pub share-fits : weight ≤ (top - sum) / length → (weight * length ≤ top) × (sum + weight * length ≤ top)
+    share-fits h = let k : weight * length ≤ top - sum = le-div-iff-mul-le positive .0 h in omega arith
 
-    pub share-under : length ≤ (top - sum) / count → sum + count * length ≡ capped top (sum + count * length)
+    pub share-under : weight ≤ (top - sum) / length → sum + weight * length ≡ capped top (sum + weight * length)
     share-under h = let k = share-fits h in omega arith
 
 -- leaf
-pub leaf-end : (top : ℕ) {r : Read} {e n : ℕ} → r ≡ Read.End e → n ≡ capped top 2 → End e n ≡ leafAt top r
-leaf-end top y h = cc
-
-read-ends : (n top : ℕ) {m : Measured} (r : Read) → m ≡ leafAt top r → EndsBy n r → EndsIn n top m
-read-ends n top (Read.End e) y h = rw y (h, omega arith)
-read-ends n top Read.Deep y h = rw y tt
-read-ends n top Read.Broken y h = rw y tt
-
-pub token-ends : (n top : ℕ) {m : Measured} {r u : Read} → r ≡ u → m ≡ leafAt top r → EndsBy n r → EndsIn n top m
-token-ends n top {m} {r} e y h = read-ends n top r y h
-
-pub leaf-ends : (s b : List ℕ) (top : ℕ) {d : Node} {r : Read} {m : Measured} → d ≡ Leaf r → NodeIn s b d → m ≡ leafAt top r → EndsIn (length b) top m
-leaf-ends s b top {d} {r} y h em = read-ends (length b) top r em (leaf-in s b d r y h)
-
-pub end-ends : (n top : ℕ) {e m : ℕ} (r : Measured) → r ≡ End e m → EndsIn n top r → (e ≤ n) × (m ≤ top)
-end-ends n top r y h = rw y at h
+pub leaf-end : (top w sum : ℕ) {r : Read} {e n : ℕ} → r ≡ Read.End e → n ≡ capped top (sum + w * 2) → Step.Row 0 0 0 e n ≡ leafStep top w sum r
+leaf-end top w sum y h = cc
 
 -- Where there is no production, there is a token of a class, or nothing legal.
 pub token-node : (s index : List ℕ) (k : ℕ) (b : List ℕ) (at : ℕ) {class place : ℕ} → class ≡ getD index k 0
@@ -70,77 +64,192 @@ token-node s index k b at {class} {place} ec ep none =
     (λ d. by-test (leb (length b) at) (λ e. cc) (λ e. cc))
     (λ d. cc)
 
--- What is known of one of two results.
-pub carried : {r u v : Measured} (n top : ℕ) → r ≡ u → (u ≡ v) × EndsIn n top u → (r ≡ v) × EndsIn n top r
-carried n top e h = rw e h
+-- A token is two bytes, or it is not there.
+token-past : (s : List ℕ) (class : ℕ) (b : List ℕ) (at : ℕ) (P : Read → Type 0) → P Read.Broken → P (Read.End (at + 2)) → P (tokenAt s class b at)
+unfolding tokenAt
+token-past s class b at P h k = go (eqb class 0) (ltb (length b - at) 2) (ltb (pairAt b at) (pairAt s (class + 3))) (ltb (pairAt s (class + 5)) (pairAt b at))
+  where
+    go : (t u v w : Bool) → P (cond t Read.Broken (cond u Read.Broken (cond v Read.Broken (cond w Read.Broken (Read.End (at + 2))))))
+    go true u v w = h
+    go false true v w = h
+    go false false true w = h
+    go false false false true = h
+    go false false false false = k
 
--- The operands of a production stand past the start of the language.
-operands-not-leaf : {A : Type 0} {r : Read} {q e to : ℕ} → Leaf r ≡ Operands q e to → A
-operands-not-leaf w = let z : _≡_ {A = ℕ} 0 1 = cc in absurd (omega arith)
+no-levels : (s : List ℕ) (class : ℕ) (b : List ℕ) (at : ℕ) {r : Read} → r ≡ tokenAt s class b at → r ≡ Read.Deep → ⊥
+no-levels s class b at er e = token-past s class b at (λ (u : Read). u ≡ Read.Deep → ⊥) none-deep end-deep (sym er ∙ e)
+  where
+    none-deep : Read.Broken ≡ Read.Deep → ⊥
+    none-deep z = let y : _≡_ {A = ℕ} 0 1 = cc in omega arith
 
-module _ (s : List ℕ) (at q e to : ℕ) where
-  place-past : (place : ℕ) → operandsAt s place at ≡ Operands q e to → 0 < q
-  unfolding operandsAt
-  place-past place w =
-      by-test (eqb place 0)
-      (λ d. let z : Leaf Read.Broken ≡ Operands q e to = cc in operands-not-leaf z)
-      (λ d. let z : place + 4 ≡ q = cc in omega arith)
+    end-deep : {e : ℕ} → Read.End e ≡ Read.Deep → ⊥
+    end-deep z = let y : _≡_ {A = ℕ} 0 1 = cc in omega arith
 
-module _ (s index : List ℕ) (k : ℕ) (b : List ℕ) (at : ℕ) {q e to : ℕ} where
-  name-past : nameAt s index k b at ≡ Operands q e to → 0 < q
-  unfolding nameAt
-  name-past w =
-      by-test (leb (length b) at)
-      (λ d. let z : Leaf Read.Broken ≡ Operands q e to = cc in operands-not-leaf z)
-      (λ d. place-past s (at + 1) q e to (getD index (productionKey k (getD b at 0)) 0) (cc))
+-- A token goes on behind its two bytes.
+pub token-in : (s : List ℕ) (class : ℕ) (b : List ℕ) (top w at sum : ℕ) {r : Read} → r ≡ tokenAt s class b at → {x : Step} → x ≡ leafStep top w sum r
+    → EndsBy (length b) r → StepIn s (length b) top at x
+token-in s class b top w at sum er ex h =
+    rw (ex, er) (token-past s class b at (λ (u : Read). EndsBy (length b) u → StepIn s (length b) top at (leafStep top w sum u))
+    (λ z. tt) (λ z. (omega arith, z, omega arith, λ i j l. absurd (omega arith))) (rw er at h))
 
-  pub node-past : {d : Node} → d ≡ nodeAt Tree s index [] k b at → d ≡ Operands q e to → 0 < q
-  unfolding nodeAt treeNode
-  node-past y w =
-      by-test (eqb (getD index k 0) 0)
-      (λ d. name-past (cc))
-      (λ d. let z : Leaf (tokenAt s (getD index k 0) b at) ≡ Operands q e to = cc in operands-not-leaf z)
+-- step
+module _ (s index counts b : List ℕ) (top w k at sum : ℕ) where
+  abbrev pub Goes : Step → Type 0
+  Goes x = (n : ℕ) → goesOn s index counts b top n x ≡ downAt s index counts b top (suc n) w k at sum
 
--- The operands, a turn at a time: e - q are left.
-module _ (f : ℕ → ℕ → Measured) (s counts : List ℕ) (top e q at sum : ℕ) where
-  pub shares-done : e ≤ q → sharesFrom f s counts top (e - q) q at sum ≡ End at sum
-  unfolding sharesFrom
-  shares-done h = let z : e - q ≡ 0 = omega arith in rw z
+  goes-leaf : (r : Read) → (r ≡ Read.Deep → ⊥) → (n : ℕ) → goesOn s index counts b top n (leafStep top w sum r) ≡ leafDown top w sum r
+  unfolding downFrom
+  goes-leaf (Read.End e) h n = refl
+  goes-leaf Read.Deep h n = absurd (h refl)
+  goes-leaf Read.Broken h n = refl
 
-  module _ {r : Measured} (more : q < e) (er : r ≡ f (getD s q 0) at) where
-    left : e - q ≡ suc (e - (q + 1))
-    left = omega arith
+  -- A token: what it adds.
+  pub token-goes : (class : ℕ) {r : Read} → r ≡ tokenAt s class b at → {x : Step} → x ≡ leafStep top w sum r
+      → Leaf (tokenAt s class b at) ≡ nodeAt Tree s index [] k b at → Goes x
+  unfolding downAt
+  token-goes class {r} er ex h n = rw (ex, ← h, ← er) (goes-leaf r (no-levels s class b at er) n)
 
-    pub shares-next : {x n c next : ℕ} → r ≡ End x n → c ≡ getD counts q 0 → next ≡ capped top (sum + c * n)
-        → sharesFrom f s counts top (e - q) q at sum ≡ sharesFrom f s counts top (e - (q + 1)) (q + 1) x next
-    unfolding sharesFrom
-    shares-next y ec en = rw left (cc)
+  -- A production's name.
+  module _ (place n : ℕ) {c : ℕ} (h : Operands (place + 4) (place + 2 + n) (at + 1) ≡ nodeAt Tree s index [] k b at)
+      (ec : c ≡ getD counts (place + 3) 0) {o : ℕ} (eo : o ≡ capped top (sum + w * c)) where
+    pub name-goes : Goes (Step.Row (place + 4) (place + 2 + n) w (at + 1) o)
+    unfolding downAt
+    name-goes m =
+        let z : place + 4 - 1 ≡ place + 3 = omega arith in
+        rw (← h, z, ← ec, ← eo)
 
-    pub shares-deep : r ≡ Deep → sharesFrom f s counts top (e - q) q at sum ≡ Deep
-    unfolding sharesFrom
-    shares-deep y = rw left (cc)
+-- What is known of a step, once its case is known.
+pub step-row : (s : List ℕ) (n top at : ℕ) {q e w to sum : ℕ} (x : Step) → x ≡ Step.Row q e w to sum → StepIn s n top at x
+    → (at < to) × (to ≤ n) × (sum ≤ top) × KindsIn s q e
+step-row s n top at x y h = rw y at h
 
-    pub shares-broken : r ≡ Broken → sharesFrom f s counts top (e - q) q at sum ≡ Broken
-    unfolding sharesFrom
-    shares-broken y = rw left (cc)
+-- measure_rows
+abbrev after : Measured → (ℕ → ℕ → Measured) → Measured
+after (End e n) next = next e n
+after Deep next = Deep
+after Broken next = Broken
 
--- measure_at
-module _ (s index counts b : List ℕ) (top n k at : ℕ) where
-  pub measure-deep : n ≡ 0 → Deep ≡ measureAt s index counts b top n k at
-  unfolding measureAt
-  measure-deep h = rw h
+module _ (s index counts b : List ℕ) (top levels : ℕ) where
+  abbrev row : ℕ → ℕ → ℕ → ℕ → ℕ → ℕ → Measured
+  row d w q e to sum = downRow s index counts b top (levels - d) w q e to sum
 
-  module _ {d : Node} (pos : n ≡ 0 → ⊥) (ed : d ≡ nodeAt Tree s index [] k b at) where
-    one-less : n ≡ suc (n - 1)
-    one-less = omega arith
+  row-done : (n w q e to sum : ℕ) → e ≤ q → downRow s index counts b top n w q e to sum ≡ End to sum
+  unfolding downFrom
+  row-done n w q e to sum h = let z : e - q ≡ 0 = omega arith in rw z
 
-    pub measure-leaf : {r : Read} {m : Measured} → d ≡ Leaf r → m ≡ leafAt top r → m ≡ measureAt s index counts b top n k at
-    unfolding measureAt
-    measure-leaf y em = rw one-less (cc)
+  row-next : (n w q e to sum : ℕ) → q < e → downRow s index counts b top n w q e to sum
+      ≡ after (downAt s index counts b top n (capped top (w * getD counts q 0)) (getD s q 0) to sum) (λ t a. downRow s index counts b top n w (q + 1) e t a)
+  unfolding downFrom
+  row-next n w q e to sum h =
+      let z : e - q ≡ suc (e - (q + 1)) = omega arith in
+      rw z (go (downAt s index counts b top n (capped top (w * getD counts q 0)) (getD s q 0) to sum))
+    where
+      go : (r : Measured) → (elim r [
+        | End x a ↦ downFrom (downAt s index counts b top n) s counts top (e - (q + 1)) w (q + 1) x a
+        | Deep ↦ Deep
+        | Broken ↦ Broken
+      ]) ≡ after r (λ t a. downRow s index counts b top n w (q + 1) e t a)
+      go (End x a) = refl
+      go Deep = refl
+      go Broken = refl
 
-    pub measure-operands : {q e to sum : ℕ} → d ≡ Operands q e to → sum ≡ capped top (getD counts (q - 1) 0)
-        → sharesFrom (measureAt s index counts b top (n - 1)) s counts top (e - q) q to sum ≡ measureAt s index counts b top n k at
-    unfolding measureAt
-    measure-operands {q} {e} {to} {sum} y es =
-        (let z : sharesFrom (measureAt s index counts b top (n - 1)) s counts top (e - q) q to sum ≡ measureAt s index counts b top (suc (n - 1)) k at = cc in z)
-        ∙ ap (λ (m : ℕ). measureAt s index counts b top m k at) (sym one-less)
+  module _ (firsts lasts weights : List ℕ) where
+    abbrev rest : ℕ → Measured → Measured
+    rest d r = unwind s index counts b top levels firsts lasts weights d r
+
+    rest-deep : (d : ℕ) → rest d Deep ≡ Deep
+    unfolding unwind
+    rest-deep zero = refl
+    rest-deep (suc d) = refl
+
+    rest-broken : (d : ℕ) → rest d Broken ≡ Broken
+    unfolding unwind
+    rest-broken zero = refl
+    rest-broken (suc d) = refl
+
+    rest-none : (r : Measured) → rest 0 r ≡ r
+    unfolding unwind
+    rest-none r = refl
+
+    rest-one : (d to sum : ℕ) → rest (suc d) (End to sum) ≡ rest d (row d (getD weights d 0) (getD firsts d 0) (getD lasts d 0) to sum)
+    unfolding unwind
+    rest-one d to sum = refl
+
+  -- A row that is put behind the others waits; those before it stay.
+  module _ (firsts lasts weights : List ℕ) (d w q e : ℕ) where
+    abbrev rest-before : ℕ → Measured → Measured
+    rest-before j r = unwind s index counts b top levels firsts lasts weights j r
+
+    abbrev rest-then : ℕ → Measured → Measured
+    rest-then j r = unwind s index counts b top levels (set firsts d q) (set lasts d e) (set weights d w) j r
+
+    kept : (j : ℕ) (r : Measured) → j ≤ d → rest-then j r ≡ rest-before j r
+    unfolding unwind
+    kept zero r h = refl
+    kept (suc j) (End to sum) h =
+        let ne : j ≡ d → ⊥ = λ y. omega arith in
+        rw (getD-set-other firsts d j q 0 ne, getD-set-other lasts d j e 0 ne, getD-set-other weights d j w 0 ne)
+        (kept j (row j (getD weights j 0) (getD firsts j 0) (getD lasts j 0) to sum) (omega arith))
+    kept (suc j) Deep h = refl
+    kept (suc j) Broken h = refl
+
+    one-more : (r : Measured) → rest-then (suc d) r ≡ rest-then (d + 1) r
+    one-more r = let y : suc d ≡ d + 1 = omega arith in ap (λ (j : ℕ). rest-then j r) y
+
+    push : d < length firsts → d < length lasts → d < length weights → (r : Measured)
+        → rest-before d (after r (λ t a. row d w q e t a)) ≡ rest-then (d + 1) r
+    push hf hl hw (End to sum) =
+        let z : row d (getD (set weights d w) d 0) (getD (set firsts d q) d 0) (getD (set lasts d e) d 0) to sum ≡ row d w q e to sum =
+        rw (getD-set-same firsts d q 0 hf, getD-set-same lasts d e 0 hl, getD-set-same weights d w 0 hw) in
+        sym (kept d (row d w q e to sum) (omega arith))
+        ∙ (ap (rest-then d) (sym z) ∙ (sym (rest-one (set firsts d q) (set lasts d e) (set weights d w) d to sum) ∙ one-more (End to sum)))
+    push hf hl hw Deep = rest-deep firsts lasts weights d ∙ sym (rest-deep (set firsts d q) (set lasts d e) (set weights d w) (d + 1))
+    push hf hl hw Broken = rest-broken firsts lasts weights d ∙ sym (rest-broken (set firsts d q) (set lasts d e) (set weights d w) (d + 1))
+
+  module _ (firsts lasts weights : List ℕ) where
+    pub rows-start : (w q e to sum : ℕ) → rest firsts lasts weights 0 (row 0 w q e to sum) ≡ downRow s index counts b top levels w q e to sum
+    rows-start w q e to sum = rest-none firsts lasts weights _ ∙ (let z : levels - 0 ≡ levels = omega arith in rw z)
+
+    module _ (d w q e to sum : ℕ) where
+      pub rows-done : e ≤ q → d ≡ 0 → rest firsts lasts weights d (row d w q e to sum) ≡ End to sum
+      rows-done h y = ap (rest firsts lasts weights d) (row-done _ w q e to sum h) ∙ (rw y (rest-none firsts lasts weights (End to sum)))
+
+      pub rows-back : {c : ℕ} → e ≤ q → (d ≡ 0 → ⊥) → c ≡ d - 1
+          → rest firsts lasts weights d (row d w q e to sum) ≡ rest firsts lasts weights c (row c (getD weights c 0) (getD firsts c 0) (getD lasts c 0) to sum)
+      rows-back {c} h y ec =
+          ap (rest firsts lasts weights d) (row-done _ w q e to sum h)
+          ∙ ((let z : d ≡ suc c = omega arith in ap (λ (j : ℕ). rest firsts lasts weights j (End to sum)) z) ∙ rest-one firsts lasts weights c to sum)
+
+      module _ (more : q < e) where
+        pub rows-deep : d ≡ levels → rest firsts lasts weights d (row d w q e to sum) ≡ Deep
+        unfolding downAt
+        rows-deep y =
+            let z : levels - d ≡ 0 = omega arith in
+            ap (rest firsts lasts weights d) (row-next (levels - d) w q e to sum more ∙ rw z) ∙ rest-deep firsts lasts weights d
+
+        module _ {part : ℕ} (under : d < levels) (ep : part ≡ capped top (w * getD counts q 0)) (x : Step) {k : ℕ} (ek : k ≡ getD s q 0)
+            (goes : Goes s index counts b top part k to sum x) where
+          row-step : row d w q e to sum ≡ after (goesOn s index counts b top (levels - (d + 1)) x) (λ t a. row d w (q + 1) e t a)
+          row-step =
+              let z : levels - d ≡ suc (levels - (d + 1)) = omega arith in
+              let y : downAt s index counts b top (levels - d) (capped top (w * getD counts q 0)) (getD s q 0) to sum ≡ goesOn s index counts b top (levels - (d + 1)) x =
+              rw (← ep, ← ek, z) (sym (goes (levels - (d + 1)))) in
+              row-next (levels - d) w q e to sum more ∙ ap (λ (r : Measured). after r (λ t a. row d w (q + 1) e t a)) y
+
+          pub rows-broken : x ≡ Step.Broken → rest firsts lasts weights d (row d w q e to sum) ≡ Broken
+          rows-broken y = ap (rest firsts lasts weights d) (row-step ∙ rw y) ∙ rest-broken firsts lasts weights d
+
+          module _ {first last v t n : ℕ} (ex : x ≡ Step.Row first last v t n) where
+            row-row : row d w q e to sum ≡ after (row (d + 1) v first last t n) (λ t a. row d w (q + 1) e t a)
+            row-row = row-step ∙ rw ex
+
+            pub rows-on : last ≤ first → rest firsts lasts weights d (row d w q e to sum) ≡ rest firsts lasts weights d (row d w (q + 1) e t n)
+            rows-on h = ap (rest firsts lasts weights d) (row-row ∙ rw (row-done (levels - (d + 1)) v first last t n h))
+
+            pub rows-down : {c : ℕ} → c ≡ d + 1 → d < length firsts → d < length lasts → d < length weights
+                → rest firsts lasts weights d (row d w q e to sum)
+                ≡ unwind s index counts b top levels (set firsts d (q + 1)) (set lasts d e) (set weights d w) c (row c v first last t n)
+            rows-down {c} ec hf hl hw =
+                ap (rest firsts lasts weights d) row-row
+                ∙ (push firsts lasts weights d w (q + 1) e hf hl hw (row (d + 1) v first last t n)
+                ∙ ap (λ (j : ℕ). unwind s index counts b top levels (set firsts d (q + 1)) (set lasts d e) (set weights d w) j (row j v first last t n)) (sym ec))

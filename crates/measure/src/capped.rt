@@ -1,14 +1,7 @@
 // Lengths counted up to a top and never beyond it: no sum and no product can wrap.
 ghost use mathlib.Core.Path.{_≡_};
-ghost use Prim.Native.Nat.{_+_, _*_, _≤_};
+ghost use Prim.Native.Nat.{_+_, _*_, _<_, _≤_};
 ghost use Rattle.measure.specs.Inner.Sizes.{capped};
-
-// A length, or the top where it is longer.
-pub fn cap(length: usize, top: usize) -> usize
-    ensures { λ r. ⌜ r ≡ capped top length ⌝ }
-{
-    if length < top { length } else { top }
-}
 
 // A sum and one length more.
 fn add(sum: usize, length: usize, top: usize) -> usize
@@ -21,19 +14,19 @@ fn add(sum: usize, length: usize, top: usize) -> usize
     sum + length
 }
 
-// A sum and one length more, as often as it is used.
-pub fn add_share(sum: usize, count: usize, length: usize, top: usize) -> usize
-    requires { ⌜ sum ≤ top ⌝ }
-    ensures { λ r. ⌜ r ≡ capped top (sum + count * length) ⌝ }
+// A sum and one length more, as often as it counts. A product of a small weight is whole; only a big one is tested first.
+pub fn add_share(sum: usize, weight: usize, length: usize, top: usize) -> usize
+    requires { ⌜ (sum ≤ top) × (length < 65536) ⌝ }
+    ensures { λ r. ⌜ r ≡ capped top (sum + weight * length) ⌝ }
 {
-    if count == 0 {
+    if weight < 0x800000000000 {
+        return add(sum, weight * length, top);
+    }
+    if length == 0 {
         return sum;
     }
-    if count == 1 {
-        return add(sum, length, top);
-    }
-    if (top - sum) / count < length {
+    if (top - sum) / length < weight {
         return top;
     }
-    sum + count * length
+    sum + weight * length
 }

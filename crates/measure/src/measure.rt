@@ -1,26 +1,23 @@
 // One pass over a tree that checks it and measures the result of its run.
 use crate::capped::add_share;
-use crate::capped::cap;
-use crate::table::count_at;
+use crate::table::count_in;
 use fields::bytes::wide;
-use reader::node::Node;
 use reader::node::Read;
 use reader::node::Syntax;
-use reader::node::node_at;
 use reader::node::pair_in;
 use reader::node::place_at;
 use reader::node::production_place;
 use reader::node::token;
 ghost use mathlib.Core.Path.{_≡_};
 ghost use mathlib.Core.List.{[]};
-ghost use Prim.Native.Nat.{ℕ, _-_, _<_, _≤_};
-ghost use lib.ListN.{length, getD, drop};
+ghost use Prim.Native.Nat.{ℕ, suc, _<_, _≤_};
+ghost use lib.ListN.{length, drop};
 ghost use Rattle.reader.specs.Syntax.{read as readCode, tree as inTrees};
 ghost use Rattle.reader.specs.Inner.Index.{Sound, Indexed};
 ghost use Rattle.reader.specs.Inner.Positions.{KindsIn};
 ghost use Rattle.translation.specs.Translation.{Translation};
-ghost use Rattle.measure.specs.Inner.Sizes.{capped};
-ghost use Rattle.measure.specs.Inner.Measuring.{leafAt, sharesFrom, measureAt, EndsIn, sizedAt, sizedOf, Counted};
+ghost use Rattle.measure.specs.Inner.Measuring.{EndsIn, sizedAt, sizedOf, Counted};
+ghost use Rattle.measure.specs.Inner.Descent.{leafStep, downAt, downRow, goesOn, StepIn};
 
 // The position after a tree, and the length of its run up to a top; one level too many; or bytes that are no such tree.
 pub enum Measured {
@@ -29,118 +26,117 @@ pub enum Measured {
     Broken,
 }
 
-// The own bytes of the clause whose production has its argument kinds from `from` on.
-fn own_at(counts: &[u16], from: usize, top: usize) -> usize
-    requires { ⌜ 0 < from ⌝ }
-    ensures { λ r. ⌜ r ≡ capped top (getD (now (counts .entry)) (from - 1) 0) ⌝ }
-{
-    cap(count_at(counts, from - 1), top)
+// What stands where a tree begins: a row of operands, whose kinds stand in the source from the first number up to the
+// second, how often the row counts, where the operands begin, and the sum so far; or no such tree. A token's row is empty.
+pub enum Step {
+    Row(usize, usize, usize, usize, usize),
+    Broken,
 }
 
 // A leaf of a tree is a token, which a run keeps: two bytes.
-fn leaf(read: Read, top: usize) -> Measured
-    ensures { λ r. ⌜ r ≡ leafAt top read ⌝ }
+fn leaf(read: Read, weight: usize, sum: usize, top: usize) -> Step
+    requires { ⌜ sum ≤ top ⌝ }
+    ensures { λ r. ⌜ r ≡ leafStep top weight sum read ⌝ }
 {
     match read {
-        Read::End(e) => Measured::End(e, cap(2, top)),
-        Read::Deep => Measured::Deep,
-        Read::Broken => Measured::Broken,
+        Read::End(e) => Step::Row(0, 0, 0, e, add_share(sum, weight, 2, top)),
+        Read::Deep => Step::Broken,
+        Read::Broken => Step::Broken,
     }
 }
 
-// Trees of the kinds that stand in the source from `from` up to `stop`, one after the other, each counted as often as it
-// is used, on top of a sum. It calls itself on the operands of a tree, one level fewer.
-fn measure_row(
+// What stands where a tree of the kind begins, and its own bytes as often as it counts, on top of a sum.
+fn step_at(
     source: &[u8],
-    index: &[u16],
-    counts: &[u16],
+    index: &[u16; 8224],
+    counts: &[u16; 1024],
+    kind: u8,
+    weight: usize,
+    tree: &[u8],
+    at: usize,
+    sum: usize,
+    top: usize,
+) -> Step
+    requires { ⌜ Sound (now index) (now source) × (kind < 32) × (at ≤ length (now tree)) × (sum ≤ top) ⌝ }
+    ensures is { λ r. ⌜ ((n : ℕ) → goesOn (now (source .entry)) (now (index .entry)) (now (counts .entry)) (now (tree .entry)) top n r
+        ≡ downAt (now (source .entry)) (now (index .entry)) (now (counts .entry)) (now (tree .entry)) top (suc n) weight kind at sum) ⌝ }
+    ensures within { λ r. ⌜ StepIn (now (source .entry)) (length (now (tree .entry))) top at r ⌝ }
+{
+    let class = place_at(index, wide(kind));
+    let place = production_place(Syntax::Tree, index, class, kind, tree, at);
+    if place == 0 {
+        return leaf(token(source, class, tree, at), weight, sum, top);
+    }
+    Step::Row(
+        place + 4,
+        place + 2 + pair_in(source, place),
+        weight,
+        at + 1,
+        add_share(sum, weight, count_in(counts, place + 3), top),
+    )
+}
+
+// The operands of a row and all that stands below them. The rows above wait in three tables, the outermost first.
+fn measure_rows(
+    source: &[u8],
+    index: &[u16; 8224],
+    counts: &[u16; 1024],
     from: usize,
     stop: usize,
+    weight: usize,
     tree: &[u8],
     at: usize,
     levels: usize,
     own: usize,
     top: usize,
 ) -> Measured
-    requires { ⌜ Sound (now index) (now source) × KindsIn (now source) from stop × (at ≤ length (now tree)) × (own ≤ top) ⌝ }
-    ensures { λ r. ⌜ (r ≡ sharesFrom (measureAt (now (source .entry)) (now (index .entry)) (now (counts .entry)) (now (tree .entry)) top levels) (now (source .entry)) (now (counts .entry)) top (stop - from) from at own) × EndsIn (length (now (tree .entry))) top r ⌝ }
+    requires { ⌜ Sound (now index) (now source) × KindsIn (now source) from stop × (at ≤ length (now tree)) × (own ≤ top) × (levels < 64) ⌝ }
+    ensures { λ r. ⌜ (r ≡ downRow (now (source .entry)) (now (index .entry)) (now (counts .entry)) (now (tree .entry)) top levels weight from stop at own)
+        × EndsIn (length (now (tree .entry))) top r ⌝ }
 {
+    let mut firsts = [0u16; 64];
+    let mut lasts = [0u16; 64];
+    let mut weights = [0usize; 64];
+    let mut depth = 0;
     let mut q = from;
+    let mut end = stop;
+    let mut w = weight;
     let mut to = at;
     let mut sum = own;
-    while q < stop {
-        if levels == 0 {
+    loop {
+        if end <= q {
+            if depth == 0 {
+                return Measured::End(to, sum);
+            }
+            depth -= 1;
+            q = firsts[depth] as usize;
+            end = lasts[depth] as usize;
+            w = weights[depth];
+            continue;
+        }
+        if depth == levels {
             return Measured::Deep;
         }
-        let kind = source[q];
-        let class = place_at(index, wide(kind));
-        let place = production_place(Syntax::Tree, index, class, kind, tree, to);
-        let part = if place == 0 {
-            leaf(token(source, class, tree, to), top)
-        } else {
-            measure_row(
-                source,
-                index,
-                counts,
-                place + 4,
-                place + 2 + pair_in(source, place),
-                tree,
-                to + 1,
-                levels - 1,
-                own_at(counts, place + 4, top),
-                top,
-            )
-        };
-        match part {
-            Measured::End(e, n) => {
-                to = e;
-                sum = add_share(sum, count_at(counts, q), n, top);
-            }
-            Measured::Deep => {
-                return Measured::Deep;
-            }
-            Measured::Broken => {
+        let part = add_share(0, w, count_in(counts, q), top);
+        match step_at(source, index, counts, source[q], part, tree, to, sum, top) {
+            Step::Broken => {
                 return Measured::Broken;
             }
-        }
-        q += 1;
-    }
-    Measured::End(to, sum)
-}
-
-// The tree of the kind at a position, with so many levels left.
-fn measure_at(
-    source: &[u8],
-    index: &[u16],
-    counts: &[u16],
-    kind: u8,
-    tree: &[u8],
-    at: usize,
-    levels: usize,
-    top: usize,
-) -> Measured
-    requires { ⌜ Sound (now index) (now source) × (kind < 32) × (at ≤ length (now tree)) ⌝ }
-    ensures { λ r. ⌜ (r ≡ measureAt (now (source .entry)) (now (index .entry)) (now (counts .entry)) (now (tree .entry)) top levels kind at) × EndsIn (length (now (tree .entry))) top r ⌝ }
-{
-    if levels == 0 {
-        return Measured::Deep;
-    }
-    match node_at(Syntax::Tree, source, index, &[], kind, tree, at) {
-        Node::Leaf(r) => leaf(r, top),
-        Node::Operands(from, stop, start) => {
-            let own = own_at(counts, from, top);
-            measure_row(
-                source,
-                index,
-                counts,
-                from,
-                stop,
-                tree,
-                start,
-                levels - 1,
-                own,
-                top,
-            )
+            Step::Row(first, last, v, e, n) => {
+                to = e;
+                sum = n;
+                q += 1;
+                if last <= first {
+                    continue;
+                }
+                firsts[depth] = q as u16;
+                lasts[depth] = end as u16;
+                weights[depth] = w;
+                depth += 1;
+                q = first;
+                end = last;
+                w = v;
+            }
         }
     }
 }
@@ -148,18 +144,36 @@ fn measure_at(
 // The tree of the kind at a position, read as the source has it, and the length of its run up to a top.
 pub fn measure(
     source: &[u8],
-    index: &[u16],
-    counts: &[u16],
+    index: &[u16; 8224],
+    counts: &[u16; 1024],
     kind: u8,
     tree: &[u8],
     at: usize,
     levels: usize,
     top: usize,
 ) -> Measured
-    requires { ⌜ Sound (now index) (now source) × (kind < 32) × (at ≤ length (now tree)) ⌝ }
+    requires { ⌜ Sound (now index) (now source) × (kind < 32) × (at ≤ length (now tree)) × (levels ≤ 64) ⌝ }
     ensures is { λ r. ⌜ ((f : Translation) → Indexed (now (index .entry)) (now (source .entry)) (f .source) → Counted (now (counts .entry)) (now (index .entry)) f
         → sizedAt (now (tree .entry)) r ≡ sizedOf top f (readCode inTrees (f .source) [] levels kind (drop at (now (tree .entry))))) ⌝ }
     ensures within { λ r. ⌜ EndsIn (length (now (tree .entry))) top r ⌝ }
 {
-    measure_at(source, index, counts, kind, tree, at, levels, top)
+    if levels == 0 {
+        return Measured::Deep;
+    }
+    match step_at(source, index, counts, kind, 1, tree, at, 0, top) {
+        Step::Broken => Measured::Broken,
+        Step::Row(from, stop, weight, start, own) => measure_rows(
+            source,
+            index,
+            counts,
+            from,
+            stop,
+            weight,
+            tree,
+            start,
+            levels - 1,
+            own,
+            top,
+        ),
+    }
 }

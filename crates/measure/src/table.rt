@@ -15,6 +15,21 @@ pub fn count_at(counts: &[u16], i: usize) -> usize
     }
 }
 
+// A count as a length.
+fn number(x: u16) -> usize
+    ensures { λ r. ⌜ (r ≡ x) × (r < 65536) ⌝ }
+{
+    x as usize
+}
+
+// The count at i, which lies in the table.
+pub fn count_in(counts: &[u16; 1024], i: usize) -> usize
+    requires { ⌜ i < 1024 ⌝ }
+    ensures { λ r. ⌜ (r ≡ getD (now (counts .entry)) i 0) × (r < 65536) ⌝ }
+{
+    number(counts[i])
+}
+
 // Adds n to the count at i.
 pub fn add_at(counts: &mut [u16], i: usize, n: u16)
     requires { ⌜ getD (now counts) i 0 + n < 65536 ⌝ }

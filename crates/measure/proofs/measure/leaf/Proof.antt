@@ -1,13 +1,13 @@
-use borrow.Author.Needs.{needs}
 use Rattle.measure.proofs.Laws.{leaf-end}
+use borrow.Author.Needs.{needs}
 use Rattle.measure.proofs.measure.leaf.Statement.{statement}
 use Rattle.measure.proofs.measure.leaf.Tie as tie
 use Rattle.measure.proofs.measure.leaf.Reads as reads
 use Rattle.measure.proofs.measure.leaf.Lts as lts
-use Rattle.measure.proofs.capped.cap.Reads as cap-reads
+use Rattle.measure.proofs.capped.add_share.Reads as add-share-reads
 
 returns : tie.Need-returns
-returns c = leaf-end _ (c .before .before .read .given .1) (c .cap .ensures)
+returns c = leaf-end _ _ _ (c .before .before .read .given .1) (c .add-share .ensures)
 
 pub leaf-spec : {M : Type 1} → statement M
 leaf-spec =

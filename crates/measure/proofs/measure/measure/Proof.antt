@@ -1,20 +1,35 @@
 use native.Mathlib.Omega.{arith}
-use mathlib.Core.Path.{ap, _∙_}
-use Rattle.measure.specs.Inner.Measuring.{sizedAt}
-use Rattle.measure.specs.declared.measure.Measured.{Measured}
-use Rattle.measure.proofs.Meaning.{measure-same}
+use Rattle.measure.proofs.Laws.{step-row}
+use Rattle.measure.proofs.Descent.{down-deep, down-broken, down-rows, same-as}
 use borrow.Author.Needs.{needs}
 use Rattle.measure.proofs.measure.measure.Statement.{statement}
 use Rattle.measure.proofs.measure.measure.Tie as tie
 use Rattle.measure.proofs.measure.measure.Reads as reads
 use Rattle.measure.proofs.measure.measure.Lts as lts
-use Rattle.measure.proofs.measure.measure_at.Reads as measure-at-reads
+use Rattle.measure.proofs.measure.measure_rows.Reads as measure-rows-reads
+use Rattle.measure.proofs.measure.step_at.Reads as step-at-reads
 
 returns : tie.Need-returns
-returns c = (
-  (λ f z w. ap (λ (r : Measured). sizedAt (c .before .before .before .before .before .args .tree .now) r) (c .measure-at .ensures .0) ∙ measure-same _ _ _ _ f z w (λ i. omega (arith, c .before .shared-slice-known4 .given i)) _ _ _ _ (c .before .before .before .before .before .pre .1)),
-  c .measure-at .ensures .1,
-)
+returns c = (λ f z w. same-as _ _ _ (c .before .before .before .args .tree .now) f z w (λ i. omega (arith, c .before .shared-slice-known2 .given i)) (c .before .before .before .args .top) _ _ (c .before .before .before .args .at) (c .before .before .before .pre .1) (down-deep _ _ _ _ _ _ _ _ _ (c .if1 .taken)), tt)
+
+measure-rows-requires : tie.Need-measure-rows-requires
+measure-rows-requires c κs = let z = step-row _ _ _ _ _ (c .before .from .given .1) (c .before .before .before .step-at .ensures .1) in (c .before .before .before .before .before .before .before .pre .0, z .3, z .1, z .2, omega (arith, c .before .before .before .before .before .before .before .pre .3, c .before .before .before .before .if1 .left))
+
+returns-2 : tie.Need-returns-2
+returns-2 c = (λ f z w. same-as _ _ _ (c .before .before .before .before .before .before .args .tree .now) f z w (λ i. omega (arith, c .before .before .before .before .shared-slice-known2 .given i)) _ _ _ _ (c .before .before .before .before .before .before .pre .1) (down-broken _ _ _ _ _ _ _ _ _ (c .before .before .before .if1 .left) _ (c .before .before .step-at .ensures .0) (c .enum-told .given .1)), tt)
+
+returns-3 : tie.Need-returns-3
+returns-3 c = (λ f z w. same-as _ _ _ (c .before .before .before .before .before .before .before .before .args .tree .now) f z w (λ i. omega (arith, c .before .before .before .before .before .before .shared-slice-known2 .given i)) _ _ _ _ (c .before .before .before .before .before .before .before .before .pre .1) (down-rows _ _ _ _ _ _ _ _ _ (c .before .before .before .before .before .if1 .left) _ (c .before .before .before .before .step-at .ensures .0) (c .before .before .from .given .1) (c .measure-rows .ensures .0)), c .measure-rows .ensures .1)
 
 pub measure-spec : {M : Type 1} → statement M
-measure-spec = tie.close (tie.spec (λ c κs. search needs) returns)
+measure-spec =
+    tie.close
+    (tie.spec
+    returns
+    (λ c κs. search needs)
+    (λ c. search needs)
+    (λ c. search needs)
+    (λ c. search needs)
+    measure-rows-requires
+    returns-2
+    returns-3)
