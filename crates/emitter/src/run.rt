@@ -12,6 +12,7 @@ use crate::table::clause_at;
 use crate::table::index_at;
 use crate::table::source_at;
 use crate::table::span_at;
+use fields::bytes::wide;
 use reader::node::Syntax;
 use reader::node::name_length;
 ghost use mathlib.Core.Path.{_≡_};
@@ -51,7 +52,7 @@ fn run_argument(
         node[j] = at + n;
         return put_leaf(input, at, n, output, pos);
     }
-    let key = 32 + (kind * 256 + input[at + sign_length(syntax)] as usize);
+    let key = 32 + (kind * 256 + wide(input[at + sign_length(syntax)]));
     let place = index_at(table, key);
     let clause = clause_at(table, key);
     let stop = clause + 2 + (body_at(table, clause) * 256 + body_at(table, clause + 1));
@@ -110,6 +111,9 @@ fn run_row(
         if sign == 3 {
             let number = body_at(table, c + 1);
             p = run_argument(syntax, table, input, node, deep, number - 1, output, p);
+            if output.len() < p {
+                return p;
+            }
             c += 2;
         } else if sign == 1 {
             p = put_name(syntax, body_at(table, c + 1) as u8, output, p);
@@ -133,16 +137,19 @@ fn run_row(
                     output,
                     p,
                 );
+                if output.len() < p {
+                    return p;
+                }
                 c = end;
             }
         } else {
             let high = body_at(table, c + 1) as u8;
             let low = body_at(table, c + 2) as u8;
             p = put_token(syntax, high, low, output, p);
+            if output.len() < p {
+                return p;
+            }
             c += 3;
-        }
-        if output.len() < p {
-            return p;
         }
     }
     p
@@ -166,7 +173,7 @@ pub fn run(
     if is_leaf(syntax, table, k, input, 0) {
         return put_leaf(input, 0, leaf_length(syntax, input, 0), output, pos);
     }
-    let key = 32 + (k * 256 + input[sign_length(syntax)] as usize);
+    let key = 32 + (k * 256 + wide(input[sign_length(syntax)]));
     let clause = clause_at(table, key);
     let stop = clause + 2 + (body_at(table, clause) * 256 + body_at(table, clause + 1));
     let mut node = [0usize; 10];

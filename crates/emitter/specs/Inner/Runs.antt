@@ -18,7 +18,7 @@ use Rattle.reader.specs.Inner.Positions.{syntaxOf}
 use Rattle.translation.specs.Translation.{Translation}
 use Rattle.translation.specs.Running.{clausesOf, substituteAll, runAll}
 use Rattle.emitter.specs.Inner.Stands.{Stands, Wrote}
-use Rattle.emitter.specs.Inner.Table.{indexEntry, sourceByte, KindsAt, SpansAllAt, Ready}
+use Rattle.emitter.specs.Inner.Table.{indexEntry, sourceByte, bodyByte, KindsAt, SpansAllAt, Ready}
 
 -- The bytes of a code or of codes in the syntax of the input.
 abbrev pub bytesOf : Syntax → Terms.Code → List ℕ
@@ -62,6 +62,7 @@ pub record Row (t : List ℕ) (at stop : ℕ) (l : Language) (r : List ℕ) (cs 
   pub spans : SpansAllAt t at cs
   pub ends : stop ≡ at + length (writeAll code cs)
   pub inside : stop ≤ 4096
+  pub narrow : (i : ℕ) → at ≤ i → i < stop → bodyByte t i < 256
 
 -- The same node, but for what is known of it.
 pub record Same (before after : List ℕ) : Type 0 where

@@ -65,6 +65,7 @@ pub record Clause (t : List ℕ) (place : ℕ) (a : Code) : Type 0 where
   pub stands : Stands t (17472 + (place + 4)) (write code a)
   pub spans : SpansAt t (place + 4) a
   pub within : levels a ≤ 16
+  pub narrow : (i : ℕ) → place + 4 ≤ i → i < place + 4 + length (write code a) → bodyByte t i < 256
 
 -- The table is that of the translation f: what is looked up in it is what stands in f.
 pub record Ready (t : List ℕ) (f : Translation) : Type 0 where
