@@ -9,7 +9,7 @@ use Rattle.reader.specs.Syntax.{sign}
 use Rattle.reader.specs.Inner.Positions.{syntaxOf, nameLength}
 use Rattle.reader.specs.declared.node.Syntax.{Syntax}
 use Rattle.reader.specs.declared.node.Syntax.the-variants.{Tree, Code}
-use Rattle.emitter.specs.Inner.Stands.{spliced, Kept, Wrote}
+use Rattle.emitter.specs.Inner.Stands.{spliced, Wrote}
 
 -- Bytes stored one behind the other are put in.
 stored : (o : List ℕ) (pos : ℕ) (v : List ℕ) → pos + length v ≤ length o → sets o pos v ≡ spliced o pos v
