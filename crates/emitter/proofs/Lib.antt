@@ -1,3 +1,4 @@
 pub mod Ends
 pub mod Puts
 pub mod Standing
+pub mod Skips
