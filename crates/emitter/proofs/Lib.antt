@@ -1,2 +1,5 @@
 pub mod Rows
+pub mod Ends
+pub mod Puts
 pub mod Standing
+pub mod Skips

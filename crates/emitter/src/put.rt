@@ -1,16 +1,13 @@
 // Bytes that are put into the output. A position past its end says that they do not fit.
-use crate::table::body_at;
 use reader::node::Syntax;
 use reader::node::name_length;
-ghost use mathlib.Core.Path.{_≡_};
 ghost use mathlib.Core.List.{[], _∷_, _++_};
-ghost use Prim.Native.Nat.{_+_, _<_, _≤_};
+ghost use Prim.Native.Nat.{_+_, _≤_};
 ghost use lib.ListN.{length};
 ghost use lib.Seq.{slice};
 ghost use Rattle.reader.specs.Syntax.{sign};
 ghost use Rattle.reader.specs.Inner.Positions.{syntaxOf};
 ghost use Rattle.emitter.specs.Inner.Stands.{Wrote};
-ghost use Rattle.emitter.specs.Inner.Table.{bodyByte};
 
 // Puts a production's name, with its sign in a code.
 pub fn put_name(syntax: Syntax, name: u8, output: &mut [u8], pos: usize) -> usize
