@@ -123,14 +123,24 @@ module _ (t : List ℕ) (c stop : ℕ) (l : Language) (r : List ℕ) where
       let z = w .spans in
       let d = w .ends in
       let i = w .inside in
-      let la = length-append (writeAll code ts) (writeAll code us) in
-      (λ e. record {
-        kind = k; name = p; inner = ts; innerKinds = ks; rest = us; kinds = drop 1 js; is = refl; byte = s .1;
-        ends = omega (arith, z .0 .0);
-        room = omega (arith, z .0 .0);
-        row = record { typed = h; stands = b .0; spans = z .0 .1; ends = omega (arith, z .0 .0); inside = omega (arith, z .0 .0); narrow = λ m a b. w .narrow m (omega arith) (omega (arith, z .0 .0)) };
-        behind = rw (z .0 .0) (behind (node k p ts) us (length (write code (node k p ts))) refl hs (w .stands) (z .1) d i (w .narrow));
-      }, (λ e. absurd (omega (arith, s .0))), λ e g. absurd (e (s .0)))
+      let la = length-append (writeAll code ts) (writeAll code us) in (
+        λ e. record {
+          kind = k;
+          name = p;
+          inner = ts;
+          innerKinds = ks;
+          rest = us;
+          kinds = drop 1 js;
+          is = refl;
+          byte = s .1;
+          ends = omega (arith, z .0 .0);
+          room = omega (arith, z .0 .0);
+          row = record { typed = h; stands = b .0; spans = z .0 .1; ends = omega (arith, z .0 .0); inside = omega (arith, z .0 .0); narrow = λ m a b. w .narrow m (omega arith) (omega (arith, z .0 .0)) };
+          behind = rw (z .0 .0) (behind (node k p ts) us (length (write code (node k p ts))) refl hs (w .stands) (z .1) d i (w .narrow));
+        },
+        (λ e. absurd (omega (arith, s .0))),
+        λ e g. absurd (e (s .0)),
+      )
 
   next-token : (v : ℕ) (us : Codes) (js : List ℕ) → Row t c stop l r (cons (token v) us) js → TypedAll l r us (drop 1 js) → Next (cons (token v) us)
   unfolding write SpansAt
@@ -138,24 +148,40 @@ module _ (t : List ℕ) (c stop : ℕ) (l : Language) (r : List ℕ) where
       let s = signs 2 (v / 256) (v % 256 ∷ writeAll code us) (w .stands) in
       let b = stands-head t (17472 + (c + 2)) (v % 256) (writeAll code us) (s .2) in
       let z = w .spans in
-      let d = w .ends in
-      ((λ e. absurd (omega (arith, s .0))), (λ e. absurd (omega (arith, s .0))), λ e g. record {
-        value = v; rest = us; kinds = drop 1 js; is = refl; high = s .1; low = b .1;
-        room = omega arith;
-        row = behind (token v) us 3 refl hs (w .stands) (z .1) d (w .inside) (w .narrow);
-      })
+      let d = w .ends in (
+        (λ e. absurd (omega (arith, s .0))),
+        (λ e. absurd (omega (arith, s .0))),
+        λ e g. record {
+          value = v;
+          rest = us;
+          kinds = drop 1 js;
+          is = refl;
+          high = s .1;
+          low = b .1;
+          room = omega arith;
+          row = behind (token v) us 3 refl hs (w .stands) (z .1) d (w .inside) (w .narrow);
+        },
+      )
 
   next-argument : (i : ℕ) (us : Codes) (js : List ℕ) → i < length r → Row t c stop l r (cons (argument (suc i)) us) js → TypedAll l r us (drop 1 js) → Next (cons (argument (suc i)) us)
   unfolding write SpansAt
   next-argument i us js h w hs =
       let s = signs 3 (suc i) (writeAll code us) (w .stands) in
       let z = w .spans in
-      let d = w .ends in
-      ((λ e. absurd (omega (arith, s .0))), (λ e. record {
-        number = i; rest = us; kinds = drop 1 js; is = refl; byte = s .1; inside = h;
-        room = omega arith;
-        row = behind (argument (suc i)) us 2 refl hs (w .stands) (z .1) d (w .inside) (w .narrow);
-      }), λ e g. absurd (g (s .0)))
+      let d = w .ends in (
+        (λ e. absurd (omega (arith, s .0))),
+        (λ e. record {
+          number = i;
+          rest = us;
+          kinds = drop 1 js;
+          is = refl;
+          byte = s .1;
+          inside = h;
+          room = omega arith;
+          row = behind (argument (suc i)) us 2 refl hs (w .stands) (z .1) d (w .inside) (w .narrow);
+        }),
+        λ e g. absurd (g (s .0)),
+      )
 
   next-code : {a : Terms.Code} {k : ℕ} {us : Codes} {js : List ℕ} → Typed l r a k → TypedAll l r us js → Row t c stop l r (cons a us) (k ∷ js) → Next (cons a us)
   next-code {us = us} {js = js} (typed-node {k = k} {p = p} {t = ts} {ks = ks} e h) hs w = next-node k p ts us ks (k ∷ js) h w hs
@@ -270,7 +296,13 @@ module _ (x : Syntax) (t input before state : List ℕ) (deep c stop left : ℕ)
     onward : (state′ : List ℕ) (c′ : ℕ) (us : Codes) (js : List ℕ) → Node x t input state′ (f .source) given ts ks → Row t c′ stop (f .target) r us js
         → levelsAll us ≤ left → RowAsks x t input state′ deep c′ stop left f given ts ks r us js
     onward state′ c′ us js n w h = record {
-      table = g .asks .table; node = n; row = w; numbers = g .asks .numbers; levels = g .asks .levels; most = g .asks .most; within = h
+      table = g .asks .table;
+      node = n;
+      row = w;
+      numbers = g .asks .numbers;
+      levels = g .asks .levels;
+      most = g .asks .most;
+      within = h;
     }
 
     levels-behind : (a : Terms.Code) (us : Codes) → g .rest ≡ cons a us → (levels a ≤ left) × (levelsAll us ≤ left)
@@ -292,8 +324,11 @@ module _ (x : Syntax) (t input before state : List ℕ) (deep c stop left : ℕ)
 
       pub argument-asks : ArgumentAsks x t input state deep (number - 1) f given ts ks
       argument-asks = record {
-        table = g .asks .table; node = g .asks .node; levels = g .asks .levels; most = g .asks .most;
-        number = let i = numbered .inside in let n = g .asks .numbers in let z = from-zero in omega arith
+        table = g .asks .table;
+        node = g .asks .node;
+        levels = g .asks .levels;
+        most = g .asks .most;
+        number = let i = numbered .inside in let n = g .asks .numbers in let z = from-zero in omega arith;
       }
 
       bytes-number : rowBytes x f ts (g .rest) ≡ bytesOf x (nth (runAll (clausesOf f) ts) (number - 1)) ++ rowBytes x f ts (numbered .rest)
@@ -309,11 +344,12 @@ module _ (x : Syntax) (t input before state : List ℕ) (deep c stop left : ℕ)
 
         pub argument-turn : e ≤ length mid → Going x t input before after deep (c + 2) stop left f given ts ks r cs o end pos e
         argument-turn h = record {
-          rest = numbered .rest; kinds = numbered .kinds;
+          rest = numbered .rest;
+          kinds = numbered .kinds;
           asks = onward after (c + 2) (numbered .rest) (numbered .kinds) (given-argument .1) (numbered .row)
               (levels-behind _ (numbered .rest) (numbered .is) .1);
           same = same-then (g .same) (given-argument .2);
-          goes = goes-on _ (rowBytes x f ts (numbered .rest)) bytes-number end e (given-argument .0) h
+          goes = goes-on _ (rowBytes x f ts (numbered .rest)) bytes-number end e (given-argument .0) h;
         }
 
     -- The next code is a token.
@@ -337,10 +373,11 @@ module _ (x : Syntax) (t input before state : List ℕ) (deep c stop left : ℕ)
 
           pub token-turn : e ≤ length mid → Going x t input before state deep (c + 3) stop left f given ts ks r cs o end pos e
           token-turn h = record {
-            rest = valued .rest; kinds = valued .kinds;
+            rest = valued .rest;
+            kinds = valued .kinds;
             asks = onward state (c + 3) (valued .rest) (valued .kinds) (g .asks .node) (valued .row) (levels-behind _ (valued .rest) (valued .is) .1);
             same = g .same;
-            goes = goes-on _ (rowBytes x f ts (valued .rest)) bytes-token end e w h
+            goes = goes-on _ (rowBytes x f ts (valued .rest)) bytes-token end e w h;
           }
 
     -- The next code is a production.
@@ -361,8 +398,13 @@ module _ (x : Syntax) (t input before state : List ℕ) (deep c stop left : ℕ)
 
       pub named-asks : RowAsks x t input state deep (c + 2) (spanEntry t c) (left - 1) f given ts ks r (named .inner) (named .innerKinds)
       named-asks = record {
-        table = g .asks .table; node = g .asks .node; row = named .row; numbers = g .asks .numbers; levels = g .asks .levels; most = g .asks .most;
-        within = inner-levels
+        table = g .asks .table;
+        node = g .asks .node;
+        row = named .row;
+        numbers = g .asks .numbers;
+        levels = g .asks .levels;
+        most = g .asks .most;
+        within = inner-levels;
       }
 
       pub named-asks-at : (fin : ℕ) → fin ≡ spanEntry t c → RowAsks x t input state deep (c + 2) fin (left - 1) f given ts ks r (named .inner) (named .innerKinds)
@@ -389,8 +431,11 @@ module _ (x : Syntax) (t input before state : List ℕ) (deep c stop left : ℕ)
               let y : rest-bytes ≡ rowBytes x f ts (named .inner) =
               ap (λ (us : Codes). rowBytes x f ts (named .inner) ++ rowBytes x f ts us) z ∙ rw (row-nil x f ts) (append-nil (rowBytes x f ts (named .inner))) in
               record {
-                rest = named .inner; kinds = named .innerKinds; asks = rw q at named-asks; same = g .same;
-                goes = λ after d k. goes-on _ rest-bytes bytes-name end e w fits after d (rw y k)
+                rest = named .inner;
+                kinds = named .innerKinds;
+                asks = rw q at named-asks;
+                same = g .same;
+                goes = λ after d k. goes-on _ rest-bytes bytes-name end e w fits after d (rw y k);
               }
 
           -- Nothing is in it.
@@ -403,10 +448,11 @@ module _ (x : Syntax) (t input before state : List ℕ) (deep c stop left : ℕ)
               let i = named .ends in
               let j : spanEntry t c ≡ c + 2 = omega arith in
               record {
-                rest = named .rest; kinds = named .kinds;
+                rest = named .rest;
+                kinds = named .kinds;
                 asks = onward state (c + 2) (named .rest) (named .kinds) (g .asks .node) (rw j at (named .behind)) (levels-behind _ (named .rest) (named .is) .1);
                 same = g .same;
-                goes = λ after d k. goes-on _ rest-bytes bytes-name end e w fits after d (rw y k)
+                goes = λ after d k. goes-on _ rest-bytes bytes-name end e w fits after d (rw y k);
               }
 
           -- Its inner codes were put out.
@@ -416,17 +462,20 @@ module _ (x : Syntax) (t input before state : List ℕ) (deep c stop left : ℕ)
 
             pub inner-full : length end < d → Wrote (rowBytes x f ts cs) o last pos d × Node x t input after (f .source) given ts ks × Same before after
             unfolding rest-bytes
-            inner-full h =
-                (goes-on _ rest-bytes bytes-name end e w fits last d (wrote-full _ (rowBytes x f ts (named .rest)) end last e d (given-row .0) h),
-                given-row .1, same-then (g .same) (given-row .2))
+            inner-full h = (
+              goes-on _ rest-bytes bytes-name end e w fits last d (wrote-full _ (rowBytes x f ts (named .rest)) end last e d (given-row .0) h),
+              given-row .1,
+              same-then (g .same) (given-row .2),
+            )
 
             pub inner-turn : d ≤ length end → Going x t input before after deep fin stop left f given ts ks r cs o last pos d
             unfolding rest-bytes
             inner-turn h = rw ef record {
-              rest = named .rest; kinds = named .kinds;
+              rest = named .rest;
+              kinds = named .kinds;
               asks = onward after (spanEntry t c) (named .rest) (named .kinds) (given-row .1) (named .behind) (levels-behind _ (named .rest) (named .is) .1);
               same = same-then (g .same) (given-row .2);
-              goes = λ far m k. goes-on _ rest-bytes bytes-name end e w fits far m (wrote-then _ (rowBytes x f ts (named .rest)) end last far e d m (given-row .0) h k)
+              goes = λ far m k. goes-on _ rest-bytes bytes-name end e w fits far m (wrote-then _ (rowBytes x f ts (named .rest)) end last far e d m (given-row .0) h k);
             }
 
 -- A byte of what stands at a position.
@@ -507,7 +556,7 @@ module _ (x : Syntax) (t input state : List ℕ) (l : Language) (given : List �
     argument-term = record {
       typed = one-typed x l given j (h .typed) i .0;
       kind = h .kinds .below j i;
-      stands = one-stands x l given j input (getD state 9 0) (h .typed) i (h .stands)
+      stands = one-stands x l given j input (getD state 9 0) (h .typed) i (h .stands);
     }
 
     pub argument-levels : levels (nth ts j) ≤ levelsAll ts
@@ -526,16 +575,18 @@ module _ (x : Syntax) (t input state : List ℕ) (l : Language) (given : List �
     learnt e q =
         let f = h .few in
         let eight : getD (set state j e) 8 0 ≡ getD state 8 0 = getD-set-other state j 8 e 0 (λ z. omega arith) in
-        let nine : getD (set state j e) 9 0 ≡ getD state 9 0 = getD-set-other state j 9 e 0 (λ z. omega arith) in
-        (record {
-          long = length-set state j e ∙ h .long;
-          kinds = rw eight (h .kinds);
-          few = h .few;
-          typed = h .typed;
-          stands = rw nine (h .stands);
-          some = rw nine (h .some);
-          known = λ m k. rw nine (by m k)
-        }, record { from = eight; start = nine })
+        let nine : getD (set state j e) 9 0 ≡ getD state 9 0 = getD-set-other state j 9 e 0 (λ z. omega arith) in (
+          record {
+            long = length-set state j e ∙ h .long;
+            kinds = rw eight (h .kinds);
+            few = h .few;
+            typed = h .typed;
+            stands = rw nine (h .stands);
+            some = rw nine (h .some);
+            known = λ m k. rw nine (by m k);
+          },
+          record { from = eight; start = nine },
+        )
       where
         by : (m : ℕ) → m < 8 → (getD (set state j e) m 0 ≡ 0) ⊎ (getD (set state j e) m 0 ≡ startOf x state ts (m + 1))
         by m k = by-test (eqb m j)
@@ -583,11 +634,22 @@ module _ (t : List ℕ) (f : Translation) (given input : List ℕ) (at : ℕ) (r
   tree-node k p us ks e h i s =
       let z : eqb (indexEntry t k) 0 ≡ true = eq-eqb (indexEntry t k) 0 (ready .name k p ks i e) in
       let b = stands-head input at p (allBytes Tree us) s in
-      let n : at + 0 ≡ at = omega arith in
-      (b .0, (λ q. false-true (sym (ap not z) ∙ q)), λ q. record {
-        name = p; operands = us; kinds = ks; is = refl; there = e; typed = h;
-        byte = rw n (b .1); inside = omega (arith, b .0); stands = b .2; long = omega arith
-      })
+      let n : at + 0 ≡ at = omega arith in (
+        b .0,
+        (λ q. false-true (sym (ap not z) ∙ q)),
+        λ q. record {
+          name = p;
+          operands = us;
+          kinds = ks;
+          is = refl;
+          there = e;
+          typed = h;
+          byte = rw n (b .1);
+          inside = omega (arith, b .0);
+          stands = b .2;
+          long = omega arith;
+        },
+      )
 
   tree-token : (k v : ℕ) (c : Range) → rangeOf (f .source) k ≡ some c → k < 32 → Stands input at (bytesOf Tree (token v)) → Tells Tree (token v) k
   unfolding write leafAt leafLength run
@@ -606,11 +668,22 @@ module _ (t : List ℕ) (f : Translation) (given input : List ℕ) (at : ℕ) (r
   code-node k p us ks e h s =
       let a = stands-head input at 1 (p ∷ allBytes Code us) s in
       let b = stands-head input (at + 1) p (allBytes Code us) (a .2) in
-      let z : eqb (getD input at 0) 1 ≡ true = eq-eqb (getD input at 0) 1 (a .1) in
-      (a .0, (λ q. false-true (sym (ap not z) ∙ q)), λ q. record {
-        name = p; operands = us; kinds = ks; is = refl; there = e; typed = h;
-        byte = b .1; inside = b .0; stands = moved input (allBytes Code us) (omega arith) (b .2); long = omega arith
-      })
+      let z : eqb (getD input at 0) 1 ≡ true = eq-eqb (getD input at 0) 1 (a .1) in (
+        a .0,
+        (λ q. false-true (sym (ap not z) ∙ q)),
+        λ q. record {
+          name = p;
+          operands = us;
+          kinds = ks;
+          is = refl;
+          there = e;
+          typed = h;
+          byte = b .1;
+          inside = b .0;
+          stands = moved input (allBytes Code us) (omega arith) (b .2);
+          long = omega arith;
+        },
+      )
 
   code-token : (k v : ℕ) → Stands input at (bytesOf Code (token v)) → Tells Code (token v) k
   unfolding write leafAt leafLength run
@@ -710,7 +783,7 @@ module _ (x : Syntax) (t : List ℕ) (f : Translation) (given input : List ℕ) 
             spans = (at-clause .spans, tt);
             ends = rw z clause-size;
             inside = let i = at-clause .inside in let e = clause-size in omega arith;
-            narrow = λ m h k. let e = clause-size in at-clause .narrow m h (omega arith)
+            narrow = λ m h k. let e = clause-size in at-clause .narrow m h (omega arith);
           }
 
       numbers : length (mappedArguments f k name) ≡ length (n .kinds)
@@ -725,7 +798,7 @@ module _ (x : Syntax) (t : List ℕ) (f : Translation) (given input : List ℕ) 
           typed = n .typed;
           stands = rw (fresh .starts) (n .stands);
           some = rw (fresh .starts) (let i = name-some in omega arith);
-          known = λ j h. inl (fresh .none j h)
+          known = λ j h. inl (fresh .none j h);
         }
 
         module _ (deep : ℕ) (less : levels u ≤ deep) (most : deep ≤ 64) where
@@ -733,10 +806,13 @@ module _ (x : Syntax) (t : List ℕ) (f : Translation) (given input : List ℕ) 
               (mappedArguments f k name) (cons (clausesOf f k name) nil) (mapped (f .body) k ∷ [])
           unfolding levels
           clause-asks = record {
-            table = table; node = fresh-node; row = clause-row; numbers = numbers;
+            table = table;
+            node = fresh-node;
+            row = clause-row;
+            numbers = numbers;
             levels = node-levels deep less .1;
             most = omega arith;
-            within = let h = at-clause .within in omega arith
+            within = let h = at-clause .within in omega arith;
           }
 
           module _ (after o end : List ℕ) (pos e : ℕ) (gives : RowGives x t input state after (deep - 1) (from + 4) (from + 2 + (b * 256 + d)) 16 o end pos e) where
@@ -800,16 +876,18 @@ module _ (x : Syntax) (t input before : List ℕ) (deep j : ℕ) (f : Translatio
   found-known state at k e h es ea =
       let n = a .number in
       rw es record {
-        node = a .node; same = same-self before;
-        start = ea ∙ (e ∙ known-start x t input before (f .source) given ts ks (a .node) j (omega arith) (λ z. h (e ∙ z)))
+        node = a .node;
+        same = same-self before;
+        start = ea ∙ (e ∙ known-start x t input before (f .source) given ts ks (a .node) j (omega arith) (λ z. h (e ∙ z)));
       }
 
   pub found-find : (state after : List ℕ) (at k : ℕ) → FindGives x t input before after j k → state ≡ after → at ≡ k → Found x t input before state j at f given ts ks
   found-find state after at k gives es ea =
       let w = gives f given ts ks find-asks in
       rw es record {
-        node = w .1; same = w .2;
-        start = ea ∙ (w .0 ∙ ap (λ (n : ℕ). n + length (allBytes x (front j ts))) (sym (w .2 .start)))
+        node = w .1;
+        same = w .2;
+        start = ea ∙ (w .0 ∙ ap (λ (n : ℕ). n + length (allBytes x (front j ts))) (sym (w .2 .start)));
       }
 
   -- The term that starts there.
@@ -887,9 +965,14 @@ module _ (x : Syntax) (t input before : List ℕ) (deep j : ℕ) (f : Translatio
 
           module _ (b c : ℕ) (eb : b ≡ bodyByte t from) (ed : c ≡ bodyByte t (from + 1)) (inner : List ℕ) (fresh : Fresh inner (place + 4) (at + nameLength x)) where
             pub found-asks : (ts′ : Codes) × (ks′ r : List ℕ) × (cs : Codes) × (js : List ℕ) × RowAsks x t input inner (deep - 1) (from + 4) (from + 2 + (b * 256 + c)) 16 f given ts′ ks′ r cs js
-            found-asks =
-                (found-node .operands, found-node .kinds, mappedArguments f kind name, cons (clausesOf f kind name) nil, mapped (f .body) kind ∷ [],
-                clause-asks x t f given input at (nth ts j) kind (a .table) (found-term .kind) found-node name en small place from ep ec b c eb ed inner fresh deep found-levels (a .most))
+            found-asks = (
+              found-node .operands,
+              found-node .kinds,
+              mappedArguments f kind name,
+              cons (clausesOf f kind name) nil,
+              mapped (f .body) kind ∷ [],
+              clause-asks x t f given input at (nth ts j) kind (a .table) (found-term .kind) found-node name en small place from ep ec b c eb ed inner fresh deep found-levels (a .most),
+            )
 
             module _ (after o end : List ℕ) (pos e : ℕ) (gives : RowGives x t input inner after (deep - 1) (from + 4) (from + 2 + (b * 256 + c)) 16 o end pos e) where
               found-wrote : Wrote (bytesOf x (nth (runAll (clausesOf f) ts) j)) o end pos e
@@ -901,9 +984,11 @@ module _ (x : Syntax) (t input before : List ℕ) (deep j : ℕ) (f : Translatio
 
               module _ (m : ℕ) (em : m ≡ sourceByte t (place + 1)) where
                 pub last-asks : (ts′ : Codes) × (ks′ : List ℕ) × FindAsks x t input after (m - 2) f given ts′ ks′
-                last-asks =
-                    (found-node .operands, found-node .kinds,
-                    node-find x t f given input at (nth ts j) kind (a .table) (found-term .kind) found-node name en small place from ep ec b c eb ed inner fresh deep found-levels (a .most) after o end pos e gives m em)
+                last-asks = (
+                  found-node .operands,
+                  found-node .kinds,
+                  node-find x t f given input at (nth ts j) kind (a .table) (found-term .kind) found-node name en small place from ep ec b c eb ed inner fresh deep found-levels (a .most) after o end pos e gives m em,
+                )
 
                 last-end-is : startOf x after (found-node .operands) (m - 2) ≡ at + length (bytesOf x (nth ts j))
                 last-end-is = node-end x t f given input at (nth ts j) kind (a .table) (found-term .kind) found-node name en small place from ep ec b c eb ed inner fresh deep found-levels (a .most) after o end pos e gives m em
@@ -935,3 +1020,68 @@ fresh-at from start start′ e = subst (λ (n : ℕ). Fresh (set (set (replicate
 -- A byte behind a sign.
 pub behind-sign : (input : List ℕ) (at name n m : ℕ) → name ≡ getD input (at + n) 0 → n ≡ m → name ≡ getD input (at + m) 0
 behind-sign input at name n m e q = e ∙ ap (λ (i : ℕ). getD input (at + i) 0) q
+
+-- The run of a whole term.
+module _ (x : Syntax) (t input : List ℕ) (deep k : ℕ) (f : Translation) (given : List ℕ) (u : Terms.Code) (a : TermAsks x t input deep k f given u) where
+  term-tells : (0 < length input) × (leafAt x t k input 0 ≡ true → IsLeaf x f input 0 u) × (leafAt x t k input 0 ≡ false → IsNode x f given input 0 u k)
+  term-tells = tells x t f given input 0 u k (a .table) (a .term)
+
+  pub term-below : (k < 32) × (0 < length input)
+  term-below = (a .term .kind, term-tells .0)
+
+  transform-run : bytesOf x (transform f u) ≡ bytesOf x (run (clausesOf f) u)
+  unfolding transform
+  transform-run = refl
+
+  module _ (is : leafAt x t k input 0 ≡ true) (n : ℕ) (en : n ≡ leafLength x input 0) where
+    term-long : n ≡ length (bytesOf x u)
+    term-long = en ∙ term-tells .1 is .0
+
+    pub term-room : 0 + n ≤ length input
+    term-room = let i = a .term .stands .inside in let l = term-long in omega arith
+
+    pub term-leaf : (o end : List ℕ) (pos e : ℕ) → Wrote (slice 0 (0 + n) input) o end pos e → Wrote (bytesOf x (transform f u)) o end pos e
+    term-leaf o end pos e w =
+        let b : bytesOf x (transform f u) ≡ slice 0 (0 + n) input =
+        transform-run ∙ (ap (bytesOf x) (term-tells .1 is .1) ∙ sym (stands-slice input 0 n (bytesOf x u) term-long (a .term .stands))) in
+        rw b w
+
+  module _ (is : leafAt x t k input 0 ≡ false) where
+    term-node : IsNode x f given input 0 u k
+    term-node = term-tells .2 is
+
+    pub term-inside : (n : ℕ) → n ≡ signLength x → n < length input
+    term-inside n e = let i = term-node .inside in omega arith
+
+    module _ (n name : ℕ) (es : n ≡ signLength x) (en : name ≡ getD input n 0) (small : name < 256) where
+      term-name : name ≡ getD input (0 + signLength x) 0
+      term-name = let z : n ≡ 0 + signLength x = omega arith in en ∙ ap (λ (i : ℕ). getD input i 0) z
+
+      pub term-key : 32 + (k * 256 + name) < 8224
+      term-key = key-below x t f given input 0 u k (a .table) (a .term .kind) term-node name term-name small
+
+      pub term-deep : 0 < deep
+      term-deep = node-levels x t f given input 0 u k (a .table) (a .term .kind) term-node name term-name small deep (a .levels) .0
+
+      module _ (place from : ℕ) (ep : place ≡ indexEntry t (32 + (k * 256 + name))) (ec : from ≡ clauseEntry t (32 + (k * 256 + name))) where
+        pub term-clause : from + 4 ≤ 4096
+        term-clause = clause-room x t f given input 0 u k (a .table) (a .term .kind) term-node name term-name small place from ep ec
+
+        module _ (b c : ℕ) (eb : b ≡ bodyByte t from) (ed : c ≡ bodyByte t (from + 1)) (inner : List ℕ) (made : Fresh inner (place + 4) (0 + nameLength x)) where
+          pub term-asks : (ts : Codes) × (ks r : List ℕ) × (cs : Codes) × (js : List ℕ) × RowAsks x t input inner (deep - 1) (from + 4) (from + 2 + (b * 256 + c)) 16 f given ts ks r cs js
+          term-asks = (
+            term-node .operands,
+            term-node .kinds,
+            mappedArguments f k name,
+            cons (clausesOf f k name) nil,
+            mapped (f .body) k ∷ [],
+            clause-asks x t f given input 0 u k (a .table) (a .term .kind) term-node name term-name small place from ep ec b c eb ed inner made deep (a .levels) (a .most),
+          )
+
+          pub term-gives : (after o end : List ℕ) (pos e : ℕ) → RowGives x t input inner after (deep - 1) (from + 4) (from + 2 + (b * 256 + c)) 16 o end pos e
+              → Wrote (bytesOf x (transform f u)) o end pos e
+          term-gives after o end pos e gives =
+              rw transform-run (node-wrote x t f given input 0 u k (a .table) (a .term .kind) term-node name term-name small place from ep ec b c eb ed inner made deep (a .levels) (a .most) after o end pos e gives)
+
+pub fresh-first : (from n m : ℕ) → n ≡ m → Fresh (set (set (replicate 10 0) 8 from) 9 n) from (0 + m)
+fresh-first from n m e = let z : n ≡ 0 + m = omega arith in fresh-at from n (0 + m) z

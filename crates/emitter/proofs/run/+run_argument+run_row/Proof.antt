@@ -70,14 +70,8 @@ run-argument-found : (t : ℕ) (c : run-argument-lts.Joined1 (run-argument-calls
     → Found (c .before .before .before .before .before .args .syntax) (c .before .before .before .before .before .args .table .now) (c .before .before .before .before .before .args .input .now) (c .before .before .before .before .before .args .node .now) (c .if1 .node) (c .before .before .before .before .before .args .j) (c .if1 .at) f given ts ks
 run-argument-found t c f given ts ks a = ⊎-elim (λ w. found-find _ _ _ _ _ _ _ _ _ _ a _ _ _ _ (w .2 .ensures) (w .3) (w .4)) (λ w. found-known _ _ _ _ _ _ _ _ _ _ a _ _ _ (c .before .known .ensures) (w .0 .left) (w .1) (w .2)) (c .if1 .came)
 
-run-argument-known-requires : (t : ℕ) → run-argument-lts.Need-known-requires (run-argument-calls t) (run-argument-at t) run-argument.Post
-run-argument-known-requires t c κs = search needs
-
 run-argument-find-requires : (t : ℕ) → run-argument-lts.Need-find-requires (run-argument-calls t) (run-argument-at t) run-argument.Post
 run-argument-find-requires t c κs = (c .before .before .before .before .before .before .pre .1 .1 .0, c .before .before .before .before .before .before .pre .1 .1 .1, c .before .before .before .before .before .before .pre .1 .1 .2, c .before .before .before .before .before .before .pre .1 .1 .3, find-asks _ _ _ _ _ _ _ _ _ _ (c .before .before .before .before .before .before .pre .1 .1 .4))
-
-run-argument-element-copy-out-source-at : (t : ℕ) → run-argument-lts.Need-element-copy-out-source-at (run-argument-calls t) (run-argument-at t) run-argument.Post
-run-argument-element-copy-out-source-at t c = search needs
 
 run-argument-add-source-at : (t : ℕ) → run-argument-lts.Need-add-source-at (run-argument-calls t) (run-argument-at t) run-argument.Post
 run-argument-add-source-at t c = omega (arith, argument-place _ _ _ _ _ _ _ _ ((run-argument-found t (c .before) (c .before .before .before .before .before .before .pre .1 .1 .0) (c .before .before .before .before .before .before .pre .1 .1 .1) (c .before .before .before .before .before .before .pre .1 .1 .2) (c .before .before .before .before .before .before .pre .1 .1 .3) (c .before .before .before .before .before .before .pre .1 .1 .4)) .node) _ (c .before .before .before .before .before .before .pre .1 .1 .4 .number) .1)
@@ -94,26 +88,11 @@ run-argument-leaf-length-requires t c κs = found-below _ _ _ _ _ _ _ _ _ _ (c .
 run-argument-add-node : (t : ℕ) → run-argument-lts.Need-add-node (run-argument-calls t) (run-argument-at t) run-argument.Post
 run-argument-add-node t c = omega (arith, leaf-room _ _ _ _ _ _ _ _ _ _ (c .before .before .before .before .before .before .before .before .before .before .before .pre .1 .1 .4) _ _ (run-argument-found t (c .before .before .before .before .before .before) (c .before .before .before .before .before .before .before .before .before .before .before .pre .1 .1 .0) (c .before .before .before .before .before .before .before .before .before .before .before .pre .1 .1 .1) (c .before .before .before .before .before .before .before .before .before .before .before .pre .1 .1 .2) (c .before .before .before .before .before .before .before .before .before .before .before .pre .1 .1 .3) (c .before .before .before .before .before .before .before .before .before .before .before .pre .1 .1 .4)) _ (c .before .before .before .before .source-at .ensures .0) (sym (c .before .before .before .is-leaf .ensures) ∙ c .before .before .if2 .taken) _ (c .before .leaf-length .ensures .0), c .before .before .before .before .before .before .before .before .before .before .before .good .1 .1 .0 .1)
 
-run-argument-mul-node : (t : ℕ) → run-argument-lts.Need-mul-node (run-argument-calls t) (run-argument-at t) run-argument.Post
-run-argument-mul-node t c = search needs
-
-run-argument-element-write-node : (t : ℕ) → run-argument-lts.Need-element-write-node (run-argument-calls t) (run-argument-at t) run-argument.Post
-run-argument-element-write-node t c = search needs
-
 run-argument-put-leaf-requires : (t : ℕ) → run-argument-lts.Need-put-leaf-requires (run-argument-calls t) (run-argument-at t) run-argument.Post
 run-argument-put-leaf-requires t c κs = (c .before .before .leaf-length .ensures .1, c .before .before .leaf-length .ensures .2, leaf-room _ _ _ _ _ _ _ _ _ _ (c .before .before .before .before .before .before .before .before .before .before .before .before .pre .1 .1 .4) _ _ (run-argument-found t (c .before .before .before .before .before .before .before) (c .before .before .before .before .before .before .before .before .before .before .before .before .pre .1 .1 .0) (c .before .before .before .before .before .before .before .before .before .before .before .before .pre .1 .1 .1) (c .before .before .before .before .before .before .before .before .before .before .before .before .pre .1 .1 .2) (c .before .before .before .before .before .before .before .before .before .before .before .before .pre .1 .1 .3) (c .before .before .before .before .before .before .before .before .before .before .before .before .pre .1 .1 .4)) _ (c .before .before .before .before .before .source-at .ensures .0) (sym (c .before .before .before .before .is-leaf .ensures) ∙ c .before .before .before .if2 .taken) _ (c .before .before .leaf-length .ensures .0), c .before .before .before .before .before .before .before .before .before .before .before .before .pre .1 .0)
 
-run-argument-same-length : (t : ℕ) → run-argument-lts.Need-same-length (run-argument-calls t) (run-argument-at t) run-argument.Post
-run-argument-same-length t c = search needs
-
 run-argument-returns : (t : ℕ) → run-argument-lts.Need-returns (run-argument-calls t) (run-argument-at t) run-argument.Post
 run-argument-returns t c = λ f given ts ks a. leaf-gives _ _ _ _ _ _ _ _ _ _ a _ _ (run-argument-found t (c .before .before .before .before .before .before .before .before .before .before) f given ts ks a) _ (c .before .before .before .before .before .before .before .before .source-at .ensures .0) (sym (c .before .before .before .before .before .before .before .is-leaf .ensures) ∙ c .before .before .before .before .before .before .if2 .taken) _ (c .before .before .before .before .before .leaf-length .ensures .0) _ _ _ _ (c .before .before .put-leaf .ensures)
-
-run-argument-mul-key : (t : ℕ) → run-argument-lts.Need-mul-key (run-argument-calls t) (run-argument-at t) run-argument.Post
-run-argument-mul-key t c = search needs
-
-run-argument-sign-length-requires : (t : ℕ) → run-argument-lts.Need-sign-length-requires (run-argument-calls t) (run-argument-at t) run-argument.Post
-run-argument-sign-length-requires t c κs = search needs
 
 run-argument-add-wide : (t : ℕ) → run-argument-lts.Need-add-wide (run-argument-calls t) (run-argument-at t) run-argument.Post
 run-argument-add-wide t c = omega (arith, name-inside _ _ _ _ _ _ _ _ _ _ (c .before .before .before .before .before .before .before .before .before .before .before .pre .1 .1 .4) _ _ (run-argument-found t (c .before .before .before .before .before .before) (c .before .before .before .before .before .before .before .before .before .before .before .pre .1 .1 .0) (c .before .before .before .before .before .before .before .before .before .before .before .pre .1 .1 .1) (c .before .before .before .before .before .before .before .before .before .before .before .pre .1 .1 .2) (c .before .before .before .before .before .before .before .before .before .before .before .pre .1 .1 .3) (c .before .before .before .before .before .before .before .before .before .before .before .pre .1 .1 .4)) _ (c .before .before .before .before .source-at .ensures .0) (sym (c .before .before .before .is-leaf .ensures) ∙ c .before .before .if2 .left), c .before .sign-length .ensures .0, c .before .before .before .before .before .before .before .before .before .before .before .good .1 .1 .0 .1)
@@ -121,74 +100,29 @@ run-argument-add-wide t c = omega (arith, name-inside _ _ _ _ _ _ _ _ _ _ (c .be
 run-argument-shared-slice-read-wide : (t : ℕ) → run-argument-lts.Need-shared-slice-read-wide (run-argument-calls t) (run-argument-at t) run-argument.Post
 run-argument-shared-slice-read-wide t c = omega (arith, name-inside _ _ _ _ _ _ _ _ _ _ (c .before .before .before .before .before .before .before .before .before .before .before .before .pre .1 .1 .4) _ _ (run-argument-found t (c .before .before .before .before .before .before .before) (c .before .before .before .before .before .before .before .before .before .before .before .before .pre .1 .1 .0) (c .before .before .before .before .before .before .before .before .before .before .before .before .pre .1 .1 .1) (c .before .before .before .before .before .before .before .before .before .before .before .before .pre .1 .1 .2) (c .before .before .before .before .before .before .before .before .before .before .before .before .pre .1 .1 .3) (c .before .before .before .before .before .before .before .before .before .before .before .before .pre .1 .1 .4)) _ (c .before .before .before .before .before .source-at .ensures .0) (sym (c .before .before .before .before .is-leaf .ensures) ∙ c .before .before .before .if2 .left), c .before .before .sign-length .ensures .0)
 
-run-argument-wide-requires : (t : ℕ) → run-argument-lts.Need-wide-requires (run-argument-calls t) (run-argument-at t) run-argument.Post
-run-argument-wide-requires t c κs = search needs
-
-run-argument-add-key : (t : ℕ) → run-argument-lts.Need-add-key (run-argument-calls t) (run-argument-at t) run-argument.Post
-run-argument-add-key t c = search needs
-
-run-argument-add-key-2 : (t : ℕ) → run-argument-lts.Need-add-key-2 (run-argument-calls t) (run-argument-at t) run-argument.Post
-run-argument-add-key-2 t c = search needs
-
 run-argument-index-at-requires : (t : ℕ) → run-argument-lts.Need-index-at-requires (run-argument-calls t) (run-argument-at t) run-argument.Post
 run-argument-index-at-requires t c κs = found-key _ _ _ _ _ _ _ _ _ _ (c .before .before .before .before .before .before .before .before .before .before .before .before .before .pre .1 .1 .4) _ _ (run-argument-found t (c .before .before .before .before .before .before .before .before) (c .before .before .before .before .before .before .before .before .before .before .before .before .before .pre .1 .1 .0) (c .before .before .before .before .before .before .before .before .before .before .before .before .before .pre .1 .1 .1) (c .before .before .before .before .before .before .before .before .before .before .before .before .before .pre .1 .1 .2) (c .before .before .before .before .before .before .before .before .before .before .before .before .before .pre .1 .1 .3) (c .before .before .before .before .before .before .before .before .before .before .before .before .before .pre .1 .1 .4)) _ (c .before .before .before .before .before .before .source-at .ensures .0) (sym (c .before .before .before .before .before .is-leaf .ensures) ∙ c .before .before .before .before .if2 .left) _ (behind-sign (c .before .before .before .before .before .before .before .before .before .before .before .before .before .args .input .now) (c .before .before .before .before .before .before .before .before .if1 .at) _ _ _ (c .wide .ensures .0) (c .before .before .before .sign-length .ensures .0)) (c .wide .ensures .1)
 
 run-argument-clause-at-requires : (t : ℕ) → run-argument-lts.Need-clause-at-requires (run-argument-calls t) (run-argument-at t) run-argument.Post
 run-argument-clause-at-requires t c κs = found-key _ _ _ _ _ _ _ _ _ _ (c .before .before .before .before .before .before .before .before .before .before .before .before .before .before .pre .1 .1 .4) _ _ (run-argument-found t (c .before .before .before .before .before .before .before .before .before) (c .before .before .before .before .before .before .before .before .before .before .before .before .before .before .pre .1 .1 .0) (c .before .before .before .before .before .before .before .before .before .before .before .before .before .before .pre .1 .1 .1) (c .before .before .before .before .before .before .before .before .before .before .before .before .before .before .pre .1 .1 .2) (c .before .before .before .before .before .before .before .before .before .before .before .before .before .before .pre .1 .1 .3) (c .before .before .before .before .before .before .before .before .before .before .before .before .before .before .pre .1 .1 .4)) _ (c .before .before .before .before .before .before .before .source-at .ensures .0) (sym (c .before .before .before .before .before .before .is-leaf .ensures) ∙ c .before .before .before .before .before .if2 .left) _ (behind-sign (c .before .before .before .before .before .before .before .before .before .before .before .before .before .before .args .input .now) (c .before .before .before .before .before .before .before .before .before .if1 .at) _ _ _ (c .before .wide .ensures .0) (c .before .before .before .before .sign-length .ensures .0)) (c .before .wide .ensures .1)
 
-run-argument-add-stop : (t : ℕ) → run-argument-lts.Need-add-stop (run-argument-calls t) (run-argument-at t) run-argument.Post
-run-argument-add-stop t c = search needs
-
 run-argument-body-at-requires : (t : ℕ) → run-argument-lts.Need-body-at-requires (run-argument-calls t) (run-argument-at t) run-argument.Post
 run-argument-body-at-requires t c κs = omega (arith, found-clause _ _ _ _ _ _ _ _ _ _ (c .before .before .before .before .before .before .before .before .before .before .before .before .before .before .before .pre .1 .1 .4) _ _ (run-argument-found t (c .before .before .before .before .before .before .before .before .before .before) (c .before .before .before .before .before .before .before .before .before .before .before .before .before .before .before .pre .1 .1 .0) (c .before .before .before .before .before .before .before .before .before .before .before .before .before .before .before .pre .1 .1 .1) (c .before .before .before .before .before .before .before .before .before .before .before .before .before .before .before .pre .1 .1 .2) (c .before .before .before .before .before .before .before .before .before .before .before .before .before .before .before .pre .1 .1 .3) (c .before .before .before .before .before .before .before .before .before .before .before .before .before .before .before .pre .1 .1 .4)) _ (c .before .before .before .before .before .before .before .before .source-at .ensures .0) (sym (c .before .before .before .before .before .before .before .is-leaf .ensures) ∙ c .before .before .before .before .before .before .if2 .left) _ (behind-sign (c .before .before .before .before .before .before .before .before .before .before .before .before .before .before .before .args .input .now) (c .before .before .before .before .before .before .before .before .before .before .if1 .at) _ _ _ (c .before .before .wide .ensures .0) (c .before .before .before .before .before .sign-length .ensures .0)) (c .before .before .wide .ensures .1) _ _ (c .before .index-at .ensures .0) (c .clause-at .ensures .0))
-
-run-argument-mul-stop : (t : ℕ) → run-argument-lts.Need-mul-stop (run-argument-calls t) (run-argument-at t) run-argument.Post
-run-argument-mul-stop t c = search needs
-
-run-argument-add-body-at : (t : ℕ) → run-argument-lts.Need-add-body-at (run-argument-calls t) (run-argument-at t) run-argument.Post
-run-argument-add-body-at t c = search needs
 
 run-argument-body-at-requires-2 : (t : ℕ) → run-argument-lts.Need-body-at-requires-2 (run-argument-calls t) (run-argument-at t) run-argument.Post
 run-argument-body-at-requires-2 t c κs = omega (arith, found-clause _ _ _ _ _ _ _ _ _ _ (c .before .before .before .before .before .before .before .before .before .before .before .before .before .before .before .before .pre .1 .1 .4) _ _ (run-argument-found t (c .before .before .before .before .before .before .before .before .before .before .before) (c .before .before .before .before .before .before .before .before .before .before .before .before .before .before .before .before .pre .1 .1 .0) (c .before .before .before .before .before .before .before .before .before .before .before .before .before .before .before .before .pre .1 .1 .1) (c .before .before .before .before .before .before .before .before .before .before .before .before .before .before .before .before .pre .1 .1 .2) (c .before .before .before .before .before .before .before .before .before .before .before .before .before .before .before .before .pre .1 .1 .3) (c .before .before .before .before .before .before .before .before .before .before .before .before .before .before .before .before .pre .1 .1 .4)) _ (c .before .before .before .before .before .before .before .before .before .source-at .ensures .0) (sym (c .before .before .before .before .before .before .before .before .is-leaf .ensures) ∙ c .before .before .before .before .before .before .before .if2 .left) _ (behind-sign (c .before .before .before .before .before .before .before .before .before .before .before .before .before .before .before .before .args .input .now) (c .before .before .before .before .before .before .before .before .before .before .before .if1 .at) _ _ _ (c .before .before .before .wide .ensures .0) (c .before .before .before .before .before .before .sign-length .ensures .0)) (c .before .before .before .wide .ensures .1) _ _ (c .before .before .index-at .ensures .0) (c .before .clause-at .ensures .0))
 
-run-argument-add-stop-2 : (t : ℕ) → run-argument-lts.Need-add-stop-2 (run-argument-calls t) (run-argument-at t) run-argument.Post
-run-argument-add-stop-2 t c = search needs
-
-run-argument-add-stop-3 : (t : ℕ) → run-argument-lts.Need-add-stop-3 (run-argument-calls t) (run-argument-at t) run-argument.Post
-run-argument-add-stop-3 t c = search needs
-
-run-argument-add-inner : (t : ℕ) → run-argument-lts.Need-add-inner (run-argument-calls t) (run-argument-at t) run-argument.Post
-run-argument-add-inner t c = search needs
-
-run-argument-array-write-inner : (t : ℕ) → run-argument-lts.Need-array-write-inner (run-argument-calls t) (run-argument-at t) run-argument.Post
-run-argument-array-write-inner t c = search needs
-
-run-argument-name-length-requires : (t : ℕ) → run-argument-lts.Need-name-length-requires (run-argument-calls t) (run-argument-at t) run-argument.Post
-run-argument-name-length-requires t c κs = search needs
-
 run-argument-add-inner-2 : (t : ℕ) → run-argument-lts.Need-add-inner-2 (run-argument-calls t) (run-argument-at t) run-argument.Post
 run-argument-add-inner-2 t c = omega (arith, name-room _ _ _ _ _ _ _ _ _ _ (c .before .before .before .before .before .before .before .before .before .before .before .before .before .before .before .before .before .before .pre .1 .1 .4) _ _ (run-argument-found t (c .before .before .before .before .before .before .before .before .before .before .before .before .before) (c .before .before .before .before .before .before .before .before .before .before .before .before .before .before .before .before .before .before .pre .1 .1 .0) (c .before .before .before .before .before .before .before .before .before .before .before .before .before .before .before .before .before .before .pre .1 .1 .1) (c .before .before .before .before .before .before .before .before .before .before .before .before .before .before .before .before .before .before .pre .1 .1 .2) (c .before .before .before .before .before .before .before .before .before .before .before .before .before .before .before .before .before .before .pre .1 .1 .3) (c .before .before .before .before .before .before .before .before .before .before .before .before .before .before .before .before .before .before .pre .1 .1 .4)) _ (c .before .before .before .before .before .before .before .before .before .before .before .source-at .ensures .0) (sym (c .before .before .before .before .before .before .before .before .before .before .is-leaf .ensures) ∙ c .before .before .before .before .before .before .before .before .before .if2 .left), c .name-length .ensures .0, c .before .before .before .before .before .before .before .before .before .before .before .before .before .before .before .before .before .before .good .1 .1 .0 .1)
-
-run-argument-array-write-inner-2 : (t : ℕ) → run-argument-lts.Need-array-write-inner-2 (run-argument-calls t) (run-argument-at t) run-argument.Post
-run-argument-array-write-inner-2 t c = search needs
 
 run-argument-sub-run-row : (t : ℕ) → run-argument-lts.Need-sub-run-row (run-argument-calls t) (run-argument-at t) run-argument.Post
 run-argument-sub-run-row t c = omega (arith, found-deep _ _ _ _ _ _ _ _ _ _ (c .before .before .before .before .before .before .before .before .before .before .before .before .before .before .before .before .before .before .before .pre .1 .1 .4) _ _ (run-argument-found t (c .before .before .before .before .before .before .before .before .before .before .before .before .before .before) (c .before .before .before .before .before .before .before .before .before .before .before .before .before .before .before .before .before .before .before .pre .1 .1 .0) (c .before .before .before .before .before .before .before .before .before .before .before .before .before .before .before .before .before .before .before .pre .1 .1 .1) (c .before .before .before .before .before .before .before .before .before .before .before .before .before .before .before .before .before .before .before .pre .1 .1 .2) (c .before .before .before .before .before .before .before .before .before .before .before .before .before .before .before .before .before .before .before .pre .1 .1 .3) (c .before .before .before .before .before .before .before .before .before .before .before .before .before .before .before .before .before .before .before .pre .1 .1 .4)) _ (c .before .before .before .before .before .before .before .before .before .before .before .before .source-at .ensures .0) (sym (c .before .before .before .before .before .before .before .before .before .before .before .is-leaf .ensures) ∙ c .before .before .before .before .before .before .before .before .before .before .if2 .left) _ (behind-sign (c .before .before .before .before .before .before .before .before .before .before .before .before .before .before .before .before .before .before .before .args .input .now) (c .before .before .before .before .before .before .before .before .before .before .before .before .before .before .if1 .at) _ _ _ (c .before .before .before .before .before .before .wide .ensures .0) (c .before .before .before .before .before .before .before .before .before .sign-length .ensures .0)) (c .before .before .before .before .before .before .wide .ensures .1) _ _ (c .before .before .before .before .before .index-at .ensures .0) (c .before .before .before .before .clause-at .ensures .0))
 
-run-argument-add-run-row : (t : ℕ) → run-argument-lts.Need-add-run-row (run-argument-calls t) (run-argument-at t) run-argument.Post
-run-argument-add-run-row t c = search needs
-
 run-argument-run-row-requires : (t : ℕ) → run-argument-lts.Need-run-row-requires (run-argument-calls t) (run-argument-at t) run-argument.Post
 run-argument-run-row-requires t c κs = let w = found-asks _ _ _ _ _ _ _ _ _ _ (c .before .before .before .before .before .before .before .before .before .before .before .before .before .before .before .before .before .before .before .before .pre .1 .1 .4) _ _ (run-argument-found t (c .before .before .before .before .before .before .before .before .before .before .before .before .before .before .before) (c .before .before .before .before .before .before .before .before .before .before .before .before .before .before .before .before .before .before .before .before .pre .1 .1 .0) (c .before .before .before .before .before .before .before .before .before .before .before .before .before .before .before .before .before .before .before .before .pre .1 .1 .1) (c .before .before .before .before .before .before .before .before .before .before .before .before .before .before .before .before .before .before .before .before .pre .1 .1 .2) (c .before .before .before .before .before .before .before .before .before .before .before .before .before .before .before .before .before .before .before .before .pre .1 .1 .3) (c .before .before .before .before .before .before .before .before .before .before .before .before .before .before .before .before .before .before .before .before .pre .1 .1 .4)) _ (c .before .before .before .before .before .before .before .before .before .before .before .before .before .source-at .ensures .0) (sym (c .before .before .before .before .before .before .before .before .before .before .before .before .is-leaf .ensures) ∙ c .before .before .before .before .before .before .before .before .before .before .before .if2 .left) _ (behind-sign (c .before .before .before .before .before .before .before .before .before .before .before .before .before .before .before .before .before .before .before .before .args .input .now) (c .before .before .before .before .before .before .before .before .before .before .before .before .before .before .before .if1 .at) _ _ _ (c .before .before .before .before .before .before .before .wide .ensures .0) (c .before .before .before .before .before .before .before .before .before .before .sign-length .ensures .0)) (c .before .before .before .before .before .before .before .wide .ensures .1) _ _ (c .before .before .before .before .before .before .index-at .ensures .0) (c .before .before .before .before .before .clause-at .ensures .0) _ _ (c .before .before .before .before .body-at .ensures .0) (c .before .before .before .body-at2 .ensures .0) _ (fresh-at _ _ _ (ap (λ (n : ℕ). c .before .before .before .before .before .before .before .before .before .before .before .before .before .before .before .if1 .at + n) (c .before .before .name-length .ensures .0))) in (omega (arith, c .before .before .before .before .before .before .before .before .before .before .before .before .before .before .before .before .before .before .before .before .pre .0, found-deep _ _ _ _ _ _ _ _ _ _ (c .before .before .before .before .before .before .before .before .before .before .before .before .before .before .before .before .before .before .before .before .pre .1 .1 .4) _ _ (run-argument-found t (c .before .before .before .before .before .before .before .before .before .before .before .before .before .before .before) (c .before .before .before .before .before .before .before .before .before .before .before .before .before .before .before .before .before .before .before .before .pre .1 .1 .0) (c .before .before .before .before .before .before .before .before .before .before .before .before .before .before .before .before .before .before .before .before .pre .1 .1 .1) (c .before .before .before .before .before .before .before .before .before .before .before .before .before .before .before .before .before .before .before .before .pre .1 .1 .2) (c .before .before .before .before .before .before .before .before .before .before .before .before .before .before .before .before .before .before .before .before .pre .1 .1 .3) (c .before .before .before .before .before .before .before .before .before .before .before .before .before .before .before .before .before .before .before .before .pre .1 .1 .4)) _ (c .before .before .before .before .before .before .before .before .before .before .before .before .before .source-at .ensures .0) (sym (c .before .before .before .before .before .before .before .before .before .before .before .before .is-leaf .ensures) ∙ c .before .before .before .before .before .before .before .before .before .before .before .if2 .left) _ (behind-sign (c .before .before .before .before .before .before .before .before .before .before .before .before .before .before .before .before .before .before .before .before .args .input .now) (c .before .before .before .before .before .before .before .before .before .before .before .before .before .before .before .if1 .at) _ _ _ (c .before .before .before .before .before .before .before .wide .ensures .0) (c .before .before .before .before .before .before .before .before .before .before .sign-length .ensures .0)) (c .before .before .before .before .before .before .before .wide .ensures .1) _ _ (c .before .before .before .before .before .before .index-at .ensures .0) (c .before .before .before .before .before .clause-at .ensures .0)), (c .before .before .before .before .before .before .before .before .before .before .before .before .before .before .before .before .before .before .before .before .pre .1 .0, (c .before .before .before .before .before .before .before .before .before .before .before .before .before .before .before .before .before .before .before .before .pre .1 .1 .0, c .before .before .before .before .before .before .before .before .before .before .before .before .before .before .before .before .before .before .before .before .pre .1 .1 .1, w .0, w .1, w .2, w .3, w .4, w .5)))
 
-run-argument-same-length-2 : (t : ℕ) → run-argument-lts.Need-same-length-2 (run-argument-calls t) (run-argument-at t) run-argument.Post
-run-argument-same-length-2 t c = search needs
-
 run-argument-returns-2 : (t : ℕ) → run-argument-lts.Need-returns-2 (run-argument-calls t) (run-argument-at t) run-argument.Post
 run-argument-returns-2 t c = λ f given ts ks a. found-full _ _ _ _ _ _ _ _ _ _ a _ _ (run-argument-found t (c .before .before .before .before .before .before .before .before .before .before .before .before .before .before .before .before .before .before .before) f given ts ks a) _ (c .before .before .before .before .before .before .before .before .before .before .before .before .before .before .before .before .before .source-at .ensures .0) (sym (c .before .before .before .before .before .before .before .before .before .before .before .before .before .before .before .before .is-leaf .ensures) ∙ c .before .before .before .before .before .before .before .before .before .before .before .before .before .before .before .if2 .left) _ (behind-sign (c .before .before .before .before .before .before .before .before .before .before .before .before .before .before .before .before .before .before .before .before .before .before .before .before .args .input .now) (c .before .before .before .before .before .before .before .before .before .before .before .before .before .before .before .before .before .before .before .if1 .at) _ _ _ (c .before .before .before .before .before .before .before .before .before .before .before .wide .ensures .0) (c .before .before .before .before .before .before .before .before .before .before .before .before .before .before .sign-length .ensures .0)) (c .before .before .before .before .before .before .before .before .before .before .before .wide .ensures .1) _ _ (c .before .before .before .before .before .before .before .before .before .before .index-at .ensures .0) (c .before .before .before .before .before .before .before .before .before .clause-at .ensures .0) _ _ (c .before .before .before .before .before .before .before .before .body-at .ensures .0) (c .before .before .before .before .before .before .before .body-at2 .ensures .0) _ (fresh-at _ _ _ (ap (λ (n : ℕ). c .before .before .before .before .before .before .before .before .before .before .before .before .before .before .before .before .before .before .before .if1 .at + n) (c .before .before .before .before .before .before .name-length .ensures .0))) _ _ _ _ _ (c .before .before .before .run-row .ensures)
-
-run-argument-add-source-at-2 : (t : ℕ) → run-argument-lts.Need-add-source-at-2 (run-argument-calls t) (run-argument-at t) run-argument.Post
-run-argument-add-source-at-2 t c = search needs
 
 run-argument-source-at-requires-2 : (t : ℕ) → run-argument-lts.Need-source-at-requires-2 (run-argument-calls t) (run-argument-at t) run-argument.Post
 run-argument-source-at-requires-2 t c κs = omega (arith, found-place _ _ _ _ _ _ _ _ _ _ (c .before .before .before .before .before .before .before .before .before .before .before .before .before .before .before .before .before .before .before .before .before .before .before .before .pre .1 .1 .4) _ _ (run-argument-found t (c .before .before .before .before .before .before .before .before .before .before .before .before .before .before .before .before .before .before .before) (c .before .before .before .before .before .before .before .before .before .before .before .before .before .before .before .before .before .before .before .before .before .before .before .before .pre .1 .1 .0) (c .before .before .before .before .before .before .before .before .before .before .before .before .before .before .before .before .before .before .before .before .before .before .before .before .pre .1 .1 .1) (c .before .before .before .before .before .before .before .before .before .before .before .before .before .before .before .before .before .before .before .before .before .before .before .before .pre .1 .1 .2) (c .before .before .before .before .before .before .before .before .before .before .before .before .before .before .before .before .before .before .before .before .before .before .before .before .pre .1 .1 .3) (c .before .before .before .before .before .before .before .before .before .before .before .before .before .before .before .before .before .before .before .before .before .before .before .before .pre .1 .1 .4)) _ (c .before .before .before .before .before .before .before .before .before .before .before .before .before .before .before .before .before .source-at .ensures .0) (sym (c .before .before .before .before .before .before .before .before .before .before .before .before .before .before .before .before .is-leaf .ensures) ∙ c .before .before .before .before .before .before .before .before .before .before .before .before .before .before .before .if2 .left) _ (behind-sign (c .before .before .before .before .before .before .before .before .before .before .before .before .before .before .before .before .before .before .before .before .before .before .before .before .args .input .now) (c .before .before .before .before .before .before .before .before .before .before .before .before .before .before .before .before .before .before .before .if1 .at) _ _ _ (c .before .before .before .before .before .before .before .before .before .before .before .wide .ensures .0) (c .before .before .before .before .before .before .before .before .before .before .before .before .before .before .sign-length .ensures .0)) (c .before .before .before .before .before .before .before .before .before .before .before .wide .ensures .1) _ _ (c .before .before .before .before .before .before .before .before .before .before .index-at .ensures .0) (c .before .before .before .before .before .before .before .before .before .clause-at .ensures .0))
@@ -208,9 +142,6 @@ run-argument-mul-node-2 t c = omega (arith, argument-place _ _ _ _ _ _ _ _ ((run
 run-argument-element-write-node-2 : (t : ℕ) → run-argument-lts.Need-element-write-node-2 (run-argument-calls t) (run-argument-at t) run-argument.Post
 run-argument-element-write-node-2 t c = omega (arith, argument-place _ _ _ _ _ _ _ _ ((run-argument-found t (c .before .before .before .before .before .before .before .before .before .before .before .before .before .before .before .before .before .before .before .before .before .before .before) (c .before .before .before .before .before .before .before .before .before .before .before .before .before .before .before .before .before .before .before .before .before .before .before .before .before .before .before .before .pre .1 .1 .0) (c .before .before .before .before .before .before .before .before .before .before .before .before .before .before .before .before .before .before .before .before .before .before .before .before .before .before .before .before .pre .1 .1 .1) (c .before .before .before .before .before .before .before .before .before .before .before .before .before .before .before .before .before .before .before .before .before .before .before .before .before .before .before .before .pre .1 .1 .2) (c .before .before .before .before .before .before .before .before .before .before .before .before .before .before .before .before .before .before .before .before .before .before .before .before .before .before .before .before .pre .1 .1 .3) (c .before .before .before .before .before .before .before .before .before .before .before .before .before .before .before .before .before .before .before .before .before .before .before .before .before .before .before .before .pre .1 .1 .4)) .node) _ (c .before .before .before .before .before .before .before .before .before .before .before .before .before .before .before .before .before .before .before .before .before .before .before .before .before .before .before .before .pre .1 .1 .4 .number) .0)
 
-run-argument-same-length-3 : (t : ℕ) → run-argument-lts.Need-same-length-3 (run-argument-calls t) (run-argument-at t) run-argument.Post
-run-argument-same-length-3 t c = search needs
-
 run-argument-returns-3 : (t : ℕ) → run-argument-lts.Need-returns-3 (run-argument-calls t) (run-argument-at t) run-argument.Post
 run-argument-returns-3 t c = λ f given ts ks a. found-done _ _ _ _ _ _ _ _ _ _ a _ _ (run-argument-found t (c .before .before .before .before .before .before .before .before .before .before .before .before .before .before .before .before .before .before .before .before .before .before .before) f given ts ks a) _ (c .before .before .before .before .before .before .before .before .before .before .before .before .before .before .before .before .before .before .before .before .before .source-at .ensures .0) (sym (c .before .before .before .before .before .before .before .before .before .before .before .before .before .before .before .before .before .before .before .before .is-leaf .ensures) ∙ c .before .before .before .before .before .before .before .before .before .before .before .before .before .before .before .before .before .before .before .if2 .left) _ (behind-sign (c .before .before .before .before .before .before .before .before .before .before .before .before .before .before .before .before .before .before .before .before .before .before .before .before .before .before .before .before .args .input .now) (c .before .before .before .before .before .before .before .before .before .before .before .before .before .before .before .before .before .before .before .before .before .before .before .if1 .at) _ _ _ (c .before .before .before .before .before .before .before .before .before .before .before .before .before .before .before .wide .ensures .0) (c .before .before .before .before .before .before .before .before .before .before .before .before .before .before .before .before .before .before .sign-length .ensures .0)) (c .before .before .before .before .before .before .before .before .before .before .before .before .before .before .before .wide .ensures .1) _ _ (c .before .before .before .before .before .before .before .before .before .before .before .before .before .before .index-at .ensures .0) (c .before .before .before .before .before .before .before .before .before .before .before .before .before .clause-at .ensures .0) _ _ (c .before .before .before .before .before .before .before .before .before .before .before .before .body-at .ensures .0) (c .before .before .before .before .before .before .before .before .before .before .before .body-at2 .ensures .0) _ (fresh-at _ _ _ (ap (λ (n : ℕ). c .before .before .before .before .before .before .before .before .before .before .before .before .before .before .before .before .before .before .before .before .before .before .before .if1 .at + n) (c .before .before .before .before .before .before .before .before .before .before .name-length .ensures .0))) _ _ _ _ _ (c .before .before .before .before .before .before .before .run-row .ensures) _ (c .before .before .before .source-at2 .ensures .0) _ (⊎-elim (λ w. last-find _ _ _ _ _ _ _ _ _ _ a _ _ (run-argument-found t (c .before .before .before .before .before .before .before .before .before .before .before .before .before .before .before .before .before .before .before .before .before .before .before) f given ts ks a) _ (c .before .before .before .before .before .before .before .before .before .before .before .before .before .before .before .before .before .before .before .before .before .source-at .ensures .0) (sym (c .before .before .before .before .before .before .before .before .before .before .before .before .before .before .before .before .before .before .before .before .is-leaf .ensures) ∙ c .before .before .before .before .before .before .before .before .before .before .before .before .before .before .before .before .before .before .before .if2 .left) _ (behind-sign (c .before .before .before .before .before .before .before .before .before .before .before .before .before .before .before .before .before .before .before .before .before .before .before .before .before .before .before .before .args .input .now) (c .before .before .before .before .before .before .before .before .before .before .before .before .before .before .before .before .before .before .before .before .before .before .before .if1 .at) _ _ _ (c .before .before .before .before .before .before .before .before .before .before .before .before .before .before .before .wide .ensures .0) (c .before .before .before .before .before .before .before .before .before .before .before .before .before .before .before .before .before .before .sign-length .ensures .0)) (c .before .before .before .before .before .before .before .before .before .before .before .before .before .before .before .wide .ensures .1) _ _ (c .before .before .before .before .before .before .before .before .before .before .before .before .before .before .index-at .ensures .0) (c .before .before .before .before .before .before .before .before .before .before .before .before .before .clause-at .ensures .0) _ _ (c .before .before .before .before .before .before .before .before .before .before .before .before .body-at .ensures .0) (c .before .before .before .before .before .before .before .before .before .before .before .body-at2 .ensures .0) _ (fresh-at _ _ _ (ap (λ (n : ℕ). c .before .before .before .before .before .before .before .before .before .before .before .before .before .before .before .before .before .before .before .before .before .before .before .if1 .at + n) (c .before .before .before .before .before .before .before .before .before .before .name-length .ensures .0))) _ _ _ _ _ (c .before .before .before .before .before .before .before .run-row .ensures) _ (c .before .before .before .source-at2 .ensures .0) _ _ _ (w .2 .ensures) (w .3)) (λ w. last-known _ _ _ _ _ _ _ _ _ _ a _ _ (run-argument-found t (c .before .before .before .before .before .before .before .before .before .before .before .before .before .before .before .before .before .before .before .before .before .before .before) f given ts ks a) _ (c .before .before .before .before .before .before .before .before .before .before .before .before .before .before .before .before .before .before .before .before .before .source-at .ensures .0) (sym (c .before .before .before .before .before .before .before .before .before .before .before .before .before .before .before .before .before .before .before .before .is-leaf .ensures) ∙ c .before .before .before .before .before .before .before .before .before .before .before .before .before .before .before .before .before .before .before .if2 .left) _ (behind-sign (c .before .before .before .before .before .before .before .before .before .before .before .before .before .before .before .before .before .before .before .before .before .before .before .before .before .before .before .before .args .input .now) (c .before .before .before .before .before .before .before .before .before .before .before .before .before .before .before .before .before .before .before .before .before .before .before .if1 .at) _ _ _ (c .before .before .before .before .before .before .before .before .before .before .before .before .before .before .before .wide .ensures .0) (c .before .before .before .before .before .before .before .before .before .before .before .before .before .before .before .before .before .before .sign-length .ensures .0)) (c .before .before .before .before .before .before .before .before .before .before .before .before .before .before .before .wide .ensures .1) _ _ (c .before .before .before .before .before .before .before .before .before .before .before .before .before .before .index-at .ensures .0) (c .before .before .before .before .before .before .before .before .before .before .before .before .before .clause-at .ensures .0) _ _ (c .before .before .before .before .before .before .before .before .before .before .before .before .body-at .ensures .0) (c .before .before .before .before .before .before .before .before .before .before .before .body-at2 .ensures .0) _ (fresh-at _ _ _ (ap (λ (n : ℕ). c .before .before .before .before .before .before .before .before .before .before .before .before .before .before .before .before .before .before .before .before .before .before .before .if1 .at + n) (c .before .before .before .before .before .before .before .before .before .before .name-length .ensures .0))) _ _ _ _ _ (c .before .before .before .before .before .before .before .run-row .ensures) _ (c .before .before .before .source-at2 .ensures .0) _ _ (c .before .known2 .ensures) (w .0 .left) (w .1)) (c .if4 .came))
 
@@ -221,15 +152,6 @@ run-row-Inv-loop syntax table input node₀ deep at stop levels output₀ pos c�
 abbrev run-row-μ-loop : run-row-lts.MeasureT-loop
 run-row-μ-loop syntax table input node₀ deep at stop levels output₀ pos c₀ p₀ left₀ node output c p left = stop - c
 
-run-row-loop-holds : (t : ℕ) → run-row-lts.Need-loop-holds (run-row-calls t) (run-row-at t) run-row.Post run-row-Inv-loop run-row-μ-loop
-run-row-loop-holds t c = search needs
-
-run-row-body-at-requires : (t : ℕ) → run-row-lts.Need-body-at-requires (run-row-calls t) (run-row-at t) run-row.Post run-row-Inv-loop run-row-μ-loop
-run-row-body-at-requires t c κs = search needs
-
-run-row-add-body-at : (t : ℕ) → run-row-lts.Need-add-body-at (run-row-calls t) (run-row-at t) run-row.Post run-row-Inv-loop run-row-μ-loop
-run-row-add-body-at t c = search needs
-
 run-row-body-at-requires-2 : (t : ℕ) → run-row-lts.Need-body-at-requires-2 (run-row-calls t) (run-row-at t) run-row.Post run-row-Inv-loop run-row-μ-loop
 run-row-body-at-requires-2 t c κs = next-below _ _ _ _ _ _ _ _ _ _ _ _ _ _ _ _ _ _ _ (c .before .before .before .loop .inv .3 (c .before .before .before .before .before .before .pre .1 .1 .0) (c .before .before .before .before .before .before .pre .1 .1 .1) (c .before .before .before .before .before .before .pre .1 .1 .2) (c .before .before .before .before .before .before .pre .1 .1 .3) (c .before .before .before .before .before .before .pre .1 .1 .4) (c .before .before .before .before .before .before .pre .1 .1 .5) (c .before .before .before .before .before .before .pre .1 .1 .6) (c .before .before .before .before .before .before .pre .1 .1 .7)) (c .before .before .loop-test .taken)
 
@@ -239,23 +161,11 @@ run-row-sub-run-argument t c = omega (arith, argument-some _ _ _ _ _ _ _ _ _ _ _
 run-row-run-argument-requires : (t : ℕ) → run-row-lts.Need-run-argument-requires (run-row-calls t) (run-row-at t) run-row.Post run-row-Inv-loop run-row-μ-loop
 run-row-run-argument-requires t c κs = (omega (arith, c .before .before .before .before .before .before .before .before .before .pre .0), (c .before .before .before .before .before .before .loop .inv .0, (c .before .before .before .before .before .before .before .before .before .pre .1 .1 .0, c .before .before .before .before .before .before .before .before .before .pre .1 .1 .1, c .before .before .before .before .before .before .before .before .before .pre .1 .1 .2, c .before .before .before .before .before .before .before .before .before .pre .1 .1 .3, argument-asks _ _ _ _ _ _ _ _ _ _ _ _ _ _ _ _ _ _ _ (c .before .before .before .before .before .before .loop .inv .3 (c .before .before .before .before .before .before .before .before .before .pre .1 .1 .0) (c .before .before .before .before .before .before .before .before .before .pre .1 .1 .1) (c .before .before .before .before .before .before .before .before .before .pre .1 .1 .2) (c .before .before .before .before .before .before .before .before .before .pre .1 .1 .3) (c .before .before .before .before .before .before .before .before .before .pre .1 .1 .4) (c .before .before .before .before .before .before .before .before .before .pre .1 .1 .5) (c .before .before .before .before .before .before .before .before .before .pre .1 .1 .6) (c .before .before .before .before .before .before .before .before .before .pre .1 .1 .7)) (c .before .before .before .before .before .loop-test .taken) _ (c .before .before .body-at2 .ensures .0) (sym (c .before .before .before .before .body-at .ensures .0) ∙ c .before .before .before .if1 .taken))))
 
-run-row-same-length : (t : ℕ) → run-row-lts.Need-same-length (run-row-calls t) (run-row-at t) run-row.Post run-row-Inv-loop run-row-μ-loop
-run-row-same-length t c = search needs
-
 run-row-returns : (t : ℕ) → run-row-lts.Need-returns (run-row-calls t) (run-row-at t) run-row.Post run-row-Inv-loop run-row-μ-loop
 run-row-returns t c = λ f given ts ks r cs js a. argument-full _ _ _ _ _ _ _ _ _ _ _ _ _ _ _ _ _ _ _ (c .before .before .before .before .before .before .before .before .before .before .loop .inv .3 f given ts ks r cs js a) (c .before .before .before .before .before .before .before .before .before .loop-test .taken) _ (c .before .before .before .before .before .before .body-at2 .ensures .0) (sym (c .before .before .before .before .before .before .before .before .body-at .ensures .0) ∙ c .before .before .before .before .before .before .before .if1 .taken) _ _ _ (c .before .before .before .run-argument .ensures) (omega (arith, c .before .before .output .given, c .if2 .taken))
 
-run-row-add-c : (t : ℕ) → run-row-lts.Need-add-c (run-row-calls t) (run-row-at t) run-row.Post run-row-Inv-loop run-row-μ-loop
-run-row-add-c t c = search needs
-
-run-row-loop-less : (t : ℕ) → run-row-lts.Need-loop-less (run-row-calls t) (run-row-at t) run-row.Post run-row-Inv-loop run-row-μ-loop
-run-row-loop-less t c = search needs
-
 run-row-loop-again : (t : ℕ) → run-row-lts.Need-loop-again (run-row-calls t) (run-row-at t) run-row.Post run-row-Inv-loop run-row-μ-loop
 run-row-loop-again t c = (c .if2 .left, c .before .before .output .given ∙ c .before .before .before .before .before .before .before .before .before .before .loop .inv .1, c .before .before .before .before .before .before .before .before .before .before .loop .inv .2, λ f given ts ks r cs js a. argument-turn _ _ _ _ _ _ _ _ _ _ _ _ _ _ _ _ _ _ _ (c .before .before .before .before .before .before .before .before .before .before .loop .inv .3 f given ts ks r cs js a) (c .before .before .before .before .before .before .before .before .before .loop-test .taken) _ (c .before .before .before .before .before .before .body-at2 .ensures .0) (sym (c .before .before .before .before .before .before .before .before .body-at .ensures .0) ∙ c .before .before .before .before .before .before .before .if1 .taken) _ _ _ (c .before .before .before .run-argument .ensures) (omega (arith, c .before .before .output .given, c .if2 .left)))
-
-run-row-add-body-at-2 : (t : ℕ) → run-row-lts.Need-add-body-at-2 (run-row-calls t) (run-row-at t) run-row.Post run-row-Inv-loop run-row-μ-loop
-run-row-add-body-at-2 t c = search needs
 
 run-row-body-at-requires-3 : (t : ℕ) → run-row-lts.Need-body-at-requires-3 (run-row-calls t) (run-row-at t) run-row.Post run-row-Inv-loop run-row-μ-loop
 run-row-body-at-requires-3 t c κs = next-below _ _ _ _ _ _ _ _ _ _ _ _ _ _ _ _ _ _ _ (c .before .before .before .before .loop .inv .3 (c .before .before .before .before .before .before .before .pre .1 .1 .0) (c .before .before .before .before .before .before .before .pre .1 .1 .1) (c .before .before .before .before .before .before .before .pre .1 .1 .2) (c .before .before .before .before .before .before .before .pre .1 .1 .3) (c .before .before .before .before .before .before .before .pre .1 .1 .4) (c .before .before .before .before .before .before .before .pre .1 .1 .5) (c .before .before .before .before .before .before .before .pre .1 .1 .6) (c .before .before .before .before .before .before .before .pre .1 .1 .7)) (c .before .before .before .loop-test .taken)
@@ -263,26 +173,11 @@ run-row-body-at-requires-3 t c κs = next-below _ _ _ _ _ _ _ _ _ _ _ _ _ _ _ _ 
 run-row-cast-put-name : (t : ℕ) → run-row-lts.Need-cast-put-name (run-row-calls t) (run-row-at t) run-row.Post run-row-Inv-loop run-row-μ-loop
 run-row-cast-put-name t c = omega (arith, next-narrow _ _ _ _ _ _ _ _ _ _ _ _ _ _ _ _ _ _ _ (c .before .before .before .before .before .loop .inv .3 (c .before .before .before .before .before .before .before .before .pre .1 .1 .0) (c .before .before .before .before .before .before .before .before .pre .1 .1 .1) (c .before .before .before .before .before .before .before .before .pre .1 .1 .2) (c .before .before .before .before .before .before .before .before .pre .1 .1 .3) (c .before .before .before .before .before .before .before .before .pre .1 .1 .4) (c .before .before .before .before .before .before .before .before .pre .1 .1 .5) (c .before .before .before .before .before .before .before .before .pre .1 .1 .6) (c .before .before .before .before .before .before .before .before .pre .1 .1 .7)) (c .before .before .before .before .loop-test .taken) _ _ (c .body-at3 .ensures .0) (omega arith) (next-two _ _ _ _ _ _ _ _ _ _ _ _ _ _ _ _ _ _ _ (c .before .before .before .before .before .loop .inv .3 (c .before .before .before .before .before .before .before .before .pre .1 .1 .0) (c .before .before .before .before .before .before .before .before .pre .1 .1 .1) (c .before .before .before .before .before .before .before .before .pre .1 .1 .2) (c .before .before .before .before .before .before .before .before .pre .1 .1 .3) (c .before .before .before .before .before .before .before .before .pre .1 .1 .4) (c .before .before .before .before .before .before .before .before .pre .1 .1 .5) (c .before .before .before .before .before .before .before .before .pre .1 .1 .6) (c .before .before .before .before .before .before .before .before .pre .1 .1 .7)) (c .before .before .before .before .loop-test .taken)))
 
-run-row-put-name-requires : (t : ℕ) → run-row-lts.Need-put-name-requires (run-row-calls t) (run-row-at t) run-row.Post run-row-Inv-loop run-row-μ-loop
-run-row-put-name-requires t c κs = search needs
-
-run-row-same-length-2 : (t : ℕ) → run-row-lts.Need-same-length-2 (run-row-calls t) (run-row-at t) run-row.Post run-row-Inv-loop run-row-μ-loop
-run-row-same-length-2 t c = search needs
-
 run-row-returns-2 : (t : ℕ) → run-row-lts.Need-returns-2 (run-row-calls t) (run-row-at t) run-row.Post run-row-Inv-loop run-row-μ-loop
 run-row-returns-2 t c = λ f given ts ks r cs js a. named-full _ _ _ _ _ _ _ _ _ _ _ _ _ _ _ _ _ _ _ (c .before .before .before .before .before .before .before .before .before .before .loop .inv .3 f given ts ks r cs js a) (c .before .before .before .before .before .before .before .before .before .loop-test .taken) (sym (c .before .before .before .before .before .before .before .before .body-at .ensures .0) ∙ c .before .before .before .before .before .before .if3 .taken) _ (c .before .before .before .before .before .body-at3 .ensures .0) _ _ (c .before .before .before .put-name .ensures) (omega (arith, c .before .before .output2 .given, c .if4 .taken))
 
-run-row-span-at-requires : (t : ℕ) → run-row-lts.Need-span-at-requires (run-row-calls t) (run-row-at t) run-row.Post run-row-Inv-loop run-row-μ-loop
-run-row-span-at-requires t c κs = search needs
-
-run-row-add-c-2 : (t : ℕ) → run-row-lts.Need-add-c-2 (run-row-calls t) (run-row-at t) run-row.Post run-row-Inv-loop run-row-μ-loop
-run-row-add-c-2 t c = search needs
-
 run-row-sub-left : (t : ℕ) → run-row-lts.Need-sub-left (run-row-calls t) (run-row-at t) run-row.Post run-row-Inv-loop run-row-μ-loop
 run-row-sub-left t c = omega (arith, named-some _ _ _ _ _ _ _ _ _ _ _ _ _ _ _ _ _ _ _ (c .before .before .before .before .before .before .before .before .before .before .before .before .loop .inv .3 (c .before .before .before .before .before .before .before .before .before .before .before .before .before .before .before .pre .1 .1 .0) (c .before .before .before .before .before .before .before .before .before .before .before .before .before .before .before .pre .1 .1 .1) (c .before .before .before .before .before .before .before .before .before .before .before .before .before .before .before .pre .1 .1 .2) (c .before .before .before .before .before .before .before .before .before .before .before .before .before .before .before .pre .1 .1 .3) (c .before .before .before .before .before .before .before .before .before .before .before .before .before .before .before .pre .1 .1 .4) (c .before .before .before .before .before .before .before .before .before .before .before .before .before .before .before .pre .1 .1 .5) (c .before .before .before .before .before .before .before .before .before .before .before .before .before .before .before .pre .1 .1 .6) (c .before .before .before .before .before .before .before .before .before .before .before .before .before .before .before .pre .1 .1 .7)) (c .before .before .before .before .before .before .before .before .before .before .before .loop-test .taken) (sym (c .before .before .before .before .before .before .before .before .before .before .body-at .ensures .0) ∙ c .before .before .before .before .before .before .before .before .if3 .taken))
-
-run-row-loop-less-2 : (t : ℕ) → run-row-lts.Need-loop-less-2 (run-row-calls t) (run-row-at t) run-row.Post run-row-Inv-loop run-row-μ-loop
-run-row-loop-less-2 t c = search needs
 
 run-row-loop-again-2 : (t : ℕ) → run-row-lts.Need-loop-again-2 (run-row-calls t) (run-row-at t) run-row.Post run-row-Inv-loop run-row-μ-loop
 run-row-loop-again-2 t c = (c .before .before .if4 .left, c .before .before .before .before .output2 .given ∙ c .before .before .before .before .before .before .before .before .before .before .before .before .loop .inv .1, omega (arith, c .before .before .before .before .before .before .before .before .before .before .before .before .loop .inv .2), λ f given ts ks r cs js a. named-last _ _ _ _ _ _ _ _ _ _ _ _ _ _ _ _ _ _ _ (c .before .before .before .before .before .before .before .before .before .before .before .before .loop .inv .3 f given ts ks r cs js a) (c .before .before .before .before .before .before .before .before .before .before .before .loop-test .taken) (sym (c .before .before .before .before .before .before .before .before .before .before .body-at .ensures .0) ∙ c .before .before .before .before .before .before .before .before .if3 .taken) _ (c .before .before .before .before .before .before .before .body-at3 .ensures .0) _ _ (c .before .before .before .before .before .put-name .ensures) (omega (arith, c .before .before .before .before .output2 .given, c .before .before .if4 .left)) (sym (c .before .span-at .ensures .0) ∙ c .if5 .taken))
@@ -293,26 +188,14 @@ run-row-sub-run-row t c = omega (arith, named-some _ _ _ _ _ _ _ _ _ _ _ _ _ _ _
 run-row-run-row-requires : (t : ℕ) → run-row-lts.Need-run-row-requires (run-row-calls t) (run-row-at t) run-row.Post run-row-Inv-loop run-row-μ-loop
 run-row-run-row-requires t c κs = (omega (arith, c .before .before .before .before .before .before .before .before .before .before .before .before .before .before .before .before .before .before .pre .0, c .before .before .before .before .before .before .before .before .before .before .before .before .before .before .before .loop .inv .2, named-some _ _ _ _ _ _ _ _ _ _ _ _ _ _ _ _ _ _ _ (c .before .before .before .before .before .before .before .before .before .before .before .before .before .before .before .loop .inv .3 (c .before .before .before .before .before .before .before .before .before .before .before .before .before .before .before .before .before .before .pre .1 .1 .0) (c .before .before .before .before .before .before .before .before .before .before .before .before .before .before .before .before .before .before .pre .1 .1 .1) (c .before .before .before .before .before .before .before .before .before .before .before .before .before .before .before .before .before .before .pre .1 .1 .2) (c .before .before .before .before .before .before .before .before .before .before .before .before .before .before .before .before .before .before .pre .1 .1 .3) (c .before .before .before .before .before .before .before .before .before .before .before .before .before .before .before .before .before .before .pre .1 .1 .4) (c .before .before .before .before .before .before .before .before .before .before .before .before .before .before .before .before .before .before .pre .1 .1 .5) (c .before .before .before .before .before .before .before .before .before .before .before .before .before .before .before .before .before .before .pre .1 .1 .6) (c .before .before .before .before .before .before .before .before .before .before .before .before .before .before .before .before .before .before .pre .1 .1 .7)) (c .before .before .before .before .before .before .before .before .before .before .before .before .before .before .loop-test .taken) (sym (c .before .before .before .before .before .before .before .before .before .before .before .before .before .body-at .ensures .0) ∙ c .before .before .before .before .before .before .before .before .before .before .before .if3 .taken)), (c .before .before .before .before .before .if4 .left, (c .before .before .before .before .before .before .before .before .before .before .before .before .before .before .before .before .before .before .pre .1 .1 .0, c .before .before .before .before .before .before .before .before .before .before .before .before .before .before .before .before .before .before .pre .1 .1 .1, c .before .before .before .before .before .before .before .before .before .before .before .before .before .before .before .before .before .before .pre .1 .1 .2, c .before .before .before .before .before .before .before .before .before .before .before .before .before .before .before .before .before .before .pre .1 .1 .3, c .before .before .before .before .before .before .before .before .before .before .before .before .before .before .before .before .before .before .pre .1 .1 .4, named _ _ _ _ _ _ _ _ _ _ _ _ _ _ _ _ _ _ _ (c .before .before .before .before .before .before .before .before .before .before .before .before .before .before .before .loop .inv .3 (c .before .before .before .before .before .before .before .before .before .before .before .before .before .before .before .before .before .before .pre .1 .1 .0) (c .before .before .before .before .before .before .before .before .before .before .before .before .before .before .before .before .before .before .pre .1 .1 .1) (c .before .before .before .before .before .before .before .before .before .before .before .before .before .before .before .before .before .before .pre .1 .1 .2) (c .before .before .before .before .before .before .before .before .before .before .before .before .before .before .before .before .before .before .pre .1 .1 .3) (c .before .before .before .before .before .before .before .before .before .before .before .before .before .before .before .before .before .before .pre .1 .1 .4) (c .before .before .before .before .before .before .before .before .before .before .before .before .before .before .before .before .before .before .pre .1 .1 .5) (c .before .before .before .before .before .before .before .before .before .before .before .before .before .before .before .before .before .before .pre .1 .1 .6) (c .before .before .before .before .before .before .before .before .before .before .before .before .before .before .before .before .before .before .pre .1 .1 .7)) (c .before .before .before .before .before .before .before .before .before .before .before .before .before .before .loop-test .taken) (sym (c .before .before .before .before .before .before .before .before .before .before .before .before .before .body-at .ensures .0) ∙ c .before .before .before .before .before .before .before .before .before .before .before .if3 .taken) .inner, named _ _ _ _ _ _ _ _ _ _ _ _ _ _ _ _ _ _ _ (c .before .before .before .before .before .before .before .before .before .before .before .before .before .before .before .loop .inv .3 (c .before .before .before .before .before .before .before .before .before .before .before .before .before .before .before .before .before .before .pre .1 .1 .0) (c .before .before .before .before .before .before .before .before .before .before .before .before .before .before .before .before .before .before .pre .1 .1 .1) (c .before .before .before .before .before .before .before .before .before .before .before .before .before .before .before .before .before .before .pre .1 .1 .2) (c .before .before .before .before .before .before .before .before .before .before .before .before .before .before .before .before .before .before .pre .1 .1 .3) (c .before .before .before .before .before .before .before .before .before .before .before .before .before .before .before .before .before .before .pre .1 .1 .4) (c .before .before .before .before .before .before .before .before .before .before .before .before .before .before .before .before .before .before .pre .1 .1 .5) (c .before .before .before .before .before .before .before .before .before .before .before .before .before .before .before .before .before .before .pre .1 .1 .6) (c .before .before .before .before .before .before .before .before .before .before .before .before .before .before .before .before .before .before .pre .1 .1 .7)) (c .before .before .before .before .before .before .before .before .before .before .before .before .before .before .loop-test .taken) (sym (c .before .before .before .before .before .before .before .before .before .before .before .before .before .body-at .ensures .0) ∙ c .before .before .before .before .before .before .before .before .before .before .before .if3 .taken) .innerKinds, named-asks-at _ _ _ _ _ _ _ _ _ _ _ _ _ _ _ _ _ _ _ (c .before .before .before .before .before .before .before .before .before .before .before .before .before .before .before .loop .inv .3 (c .before .before .before .before .before .before .before .before .before .before .before .before .before .before .before .before .before .before .pre .1 .1 .0) (c .before .before .before .before .before .before .before .before .before .before .before .before .before .before .before .before .before .before .pre .1 .1 .1) (c .before .before .before .before .before .before .before .before .before .before .before .before .before .before .before .before .before .before .pre .1 .1 .2) (c .before .before .before .before .before .before .before .before .before .before .before .before .before .before .before .before .before .before .pre .1 .1 .3) (c .before .before .before .before .before .before .before .before .before .before .before .before .before .before .before .before .before .before .pre .1 .1 .4) (c .before .before .before .before .before .before .before .before .before .before .before .before .before .before .before .before .before .before .pre .1 .1 .5) (c .before .before .before .before .before .before .before .before .before .before .before .before .before .before .before .before .before .before .pre .1 .1 .6) (c .before .before .before .before .before .before .before .before .before .before .before .before .before .before .before .before .before .before .pre .1 .1 .7)) (c .before .before .before .before .before .before .before .before .before .before .before .before .before .before .loop-test .taken) (sym (c .before .before .before .before .before .before .before .before .before .before .before .before .before .body-at .ensures .0) ∙ c .before .before .before .before .before .before .before .before .before .before .before .if3 .taken) _ (c .before .before .before .before .span-at .ensures .0))))
 
-run-row-same-length-3 : (t : ℕ) → run-row-lts.Need-same-length-3 (run-row-calls t) (run-row-at t) run-row.Post run-row-Inv-loop run-row-μ-loop
-run-row-same-length-3 t c = search needs
-
 run-row-returns-3 : (t : ℕ) → run-row-lts.Need-returns-3 (run-row-calls t) (run-row-at t) run-row.Post run-row-Inv-loop run-row-μ-loop
 run-row-returns-3 t c = λ f given ts ks r cs js a. inner-full _ _ _ _ _ _ _ _ _ _ _ _ _ _ _ _ _ _ _ (c .before .before .before .before .before .before .before .before .before .before .before .before .before .before .before .before .before .before .before .loop .inv .3 f given ts ks r cs js a) (c .before .before .before .before .before .before .before .before .before .before .before .before .before .before .before .before .before .before .loop-test .taken) (sym (c .before .before .before .before .before .before .before .before .before .before .before .before .before .before .before .before .before .body-at .ensures .0) ∙ c .before .before .before .before .before .before .before .before .before .before .before .before .before .before .before .if3 .taken) _ (c .before .before .before .before .before .before .before .before .before .before .before .before .before .before .body-at3 .ensures .0) _ _ (c .before .before .before .before .before .before .before .before .before .before .before .before .put-name .ensures) (omega (arith, c .before .before .before .before .before .before .before .before .before .before .before .output2 .given, c .before .before .before .before .before .before .before .before .before .if4 .left)) _ (c .before .before .before .before .before .before .before .before .span-at .ensures .0) _ _ _ (c .before .before .before .run-row .ensures) (omega (arith, c .before .before .output3 .given, c .if7 .taken))
-
-run-row-loop-less-3 : (t : ℕ) → run-row-lts.Need-loop-less-3 (run-row-calls t) (run-row-at t) run-row.Post run-row-Inv-loop run-row-μ-loop
-run-row-loop-less-3 t c = search needs
 
 run-row-loop-again-3 : (t : ℕ) → run-row-lts.Need-loop-again-3 (run-row-calls t) (run-row-at t) run-row.Post run-row-Inv-loop run-row-μ-loop
 run-row-loop-again-3 t c = (c .if7 .left, c .before .before .output3 .given ∙ (c .before .before .before .before .before .before .before .before .before .before .before .output2 .given ∙ c .before .before .before .before .before .before .before .before .before .before .before .before .before .before .before .before .before .before .before .loop .inv .1), c .before .before .before .before .before .before .before .before .before .before .before .before .before .before .before .before .before .before .before .loop .inv .2, λ f given ts ks r cs js a. inner-turn _ _ _ _ _ _ _ _ _ _ _ _ _ _ _ _ _ _ _ (c .before .before .before .before .before .before .before .before .before .before .before .before .before .before .before .before .before .before .before .loop .inv .3 f given ts ks r cs js a) (c .before .before .before .before .before .before .before .before .before .before .before .before .before .before .before .before .before .before .loop-test .taken) (sym (c .before .before .before .before .before .before .before .before .before .before .before .before .before .before .before .before .before .body-at .ensures .0) ∙ c .before .before .before .before .before .before .before .before .before .before .before .before .before .before .before .if3 .taken) _ (c .before .before .before .before .before .before .before .before .before .before .before .before .before .before .body-at3 .ensures .0) _ _ (c .before .before .before .before .before .before .before .before .before .before .before .before .put-name .ensures) (omega (arith, c .before .before .before .before .before .before .before .before .before .before .before .output2 .given, c .before .before .before .before .before .before .before .before .before .if4 .left)) _ (c .before .before .before .before .before .before .before .before .span-at .ensures .0) _ _ _ (c .before .before .before .run-row .ensures) (omega (arith, c .before .before .output3 .given, c .if7 .left)))
 
-run-row-loop-less-4 : (t : ℕ) → run-row-lts.Need-loop-less-4 (run-row-calls t) (run-row-at t) run-row.Post run-row-Inv-loop run-row-μ-loop
-run-row-loop-less-4 t c = search needs
-
 run-row-loop-again-4 : (t : ℕ) → run-row-lts.Need-loop-again-4 (run-row-calls t) (run-row-at t) run-row.Post run-row-Inv-loop run-row-μ-loop
 run-row-loop-again-4 t c = (c .before .before .before .if4 .left, c .before .before .before .before .before .output2 .given ∙ c .before .before .before .before .before .before .before .before .before .before .before .before .before .loop .inv .1, c .before .before .before .before .before .before .before .before .before .before .before .before .before .loop .inv .2, λ f given ts ks r cs js a. named-empty _ _ _ _ _ _ _ _ _ _ _ _ _ _ _ _ _ _ _ (c .before .before .before .before .before .before .before .before .before .before .before .before .before .loop .inv .3 f given ts ks r cs js a) (c .before .before .before .before .before .before .before .before .before .before .before .before .loop-test .taken) (sym (c .before .before .before .before .before .before .before .before .before .before .before .body-at .ensures .0) ∙ c .before .before .before .before .before .before .before .before .before .if3 .taken) _ (c .before .before .before .before .before .before .before .before .body-at3 .ensures .0) _ _ (c .before .before .before .before .before .before .put-name .ensures) (omega (arith, c .before .before .before .before .before .output2 .given, c .before .before .before .if4 .left)) (omega (arith, c .if6 .left, c .before .before .span-at .ensures .0)))
-
-run-row-add-body-at-3 : (t : ℕ) → run-row-lts.Need-add-body-at-3 (run-row-calls t) (run-row-at t) run-row.Post run-row-Inv-loop run-row-μ-loop
-run-row-add-body-at-3 t c = search needs
 
 run-row-body-at-requires-4 : (t : ℕ) → run-row-lts.Need-body-at-requires-4 (run-row-calls t) (run-row-at t) run-row.Post run-row-Inv-loop run-row-μ-loop
 run-row-body-at-requires-4 t c κs = next-below _ _ _ _ _ _ _ _ _ _ _ _ _ _ _ _ _ _ _ (c .before .before .before .before .loop .inv .3 (c .before .before .before .before .before .before .before .pre .1 .1 .0) (c .before .before .before .before .before .before .before .pre .1 .1 .1) (c .before .before .before .before .before .before .before .pre .1 .1 .2) (c .before .before .before .before .before .before .before .pre .1 .1 .3) (c .before .before .before .before .before .before .before .pre .1 .1 .4) (c .before .before .before .before .before .before .before .pre .1 .1 .5) (c .before .before .before .before .before .before .before .pre .1 .1 .6) (c .before .before .before .before .before .before .before .pre .1 .1 .7)) (c .before .before .before .loop-test .taken)
@@ -320,35 +203,17 @@ run-row-body-at-requires-4 t c κs = next-below _ _ _ _ _ _ _ _ _ _ _ _ _ _ _ _ 
 run-row-cast-high : (t : ℕ) → run-row-lts.Need-cast-high (run-row-calls t) (run-row-at t) run-row.Post run-row-Inv-loop run-row-μ-loop
 run-row-cast-high t c = omega (arith, next-narrow _ _ _ _ _ _ _ _ _ _ _ _ _ _ _ _ _ _ _ (c .before .before .before .before .before .loop .inv .3 (c .before .before .before .before .before .before .before .before .pre .1 .1 .0) (c .before .before .before .before .before .before .before .before .pre .1 .1 .1) (c .before .before .before .before .before .before .before .before .pre .1 .1 .2) (c .before .before .before .before .before .before .before .before .pre .1 .1 .3) (c .before .before .before .before .before .before .before .before .pre .1 .1 .4) (c .before .before .before .before .before .before .before .before .pre .1 .1 .5) (c .before .before .before .before .before .before .before .before .pre .1 .1 .6) (c .before .before .before .before .before .before .before .before .pre .1 .1 .7)) (c .before .before .before .before .loop-test .taken) _ _ (c .body-at4 .ensures .0) (omega arith) (next-two _ _ _ _ _ _ _ _ _ _ _ _ _ _ _ _ _ _ _ (c .before .before .before .before .before .loop .inv .3 (c .before .before .before .before .before .before .before .before .pre .1 .1 .0) (c .before .before .before .before .before .before .before .before .pre .1 .1 .1) (c .before .before .before .before .before .before .before .before .pre .1 .1 .2) (c .before .before .before .before .before .before .before .before .pre .1 .1 .3) (c .before .before .before .before .before .before .before .before .pre .1 .1 .4) (c .before .before .before .before .before .before .before .before .pre .1 .1 .5) (c .before .before .before .before .before .before .before .before .pre .1 .1 .6) (c .before .before .before .before .before .before .before .before .pre .1 .1 .7)) (c .before .before .before .before .loop-test .taken)))
 
-run-row-add-body-at-4 : (t : ℕ) → run-row-lts.Need-add-body-at-4 (run-row-calls t) (run-row-at t) run-row.Post run-row-Inv-loop run-row-μ-loop
-run-row-add-body-at-4 t c = search needs
-
 run-row-body-at-requires-5 : (t : ℕ) → run-row-lts.Need-body-at-requires-5 (run-row-calls t) (run-row-at t) run-row.Post run-row-Inv-loop run-row-μ-loop
 run-row-body-at-requires-5 t c κs = token-room _ _ _ _ _ _ _ _ _ _ _ _ _ _ _ _ _ _ _ (c .before .before .before .before .before .loop .inv .3 (c .before .before .before .before .before .before .before .before .pre .1 .1 .0) (c .before .before .before .before .before .before .before .before .pre .1 .1 .1) (c .before .before .before .before .before .before .before .before .pre .1 .1 .2) (c .before .before .before .before .before .before .before .before .pre .1 .1 .3) (c .before .before .before .before .before .before .before .before .pre .1 .1 .4) (c .before .before .before .before .before .before .before .before .pre .1 .1 .5) (c .before .before .before .before .before .before .before .before .pre .1 .1 .6) (c .before .before .before .before .before .before .before .before .pre .1 .1 .7)) (c .before .before .before .before .loop-test .taken) (λ z. c .before .if3 .left (c .before .before .before .body-at .ensures .0 ∙ z)) (λ z. c .before .before .if1 .left (c .before .before .before .body-at .ensures .0 ∙ z))
 
 run-row-cast-low : (t : ℕ) → run-row-lts.Need-cast-low (run-row-calls t) (run-row-at t) run-row.Post run-row-Inv-loop run-row-μ-loop
 run-row-cast-low t c = omega (arith, next-narrow _ _ _ _ _ _ _ _ _ _ _ _ _ _ _ _ _ _ _ (c .before .before .before .before .before .before .loop .inv .3 (c .before .before .before .before .before .before .before .before .before .pre .1 .1 .0) (c .before .before .before .before .before .before .before .before .before .pre .1 .1 .1) (c .before .before .before .before .before .before .before .before .before .pre .1 .1 .2) (c .before .before .before .before .before .before .before .before .before .pre .1 .1 .3) (c .before .before .before .before .before .before .before .before .before .pre .1 .1 .4) (c .before .before .before .before .before .before .before .before .before .pre .1 .1 .5) (c .before .before .before .before .before .before .before .before .before .pre .1 .1 .6) (c .before .before .before .before .before .before .before .before .before .pre .1 .1 .7)) (c .before .before .before .before .before .loop-test .taken) _ _ (c .body-at5 .ensures .0) (omega arith) (token-three _ _ _ _ _ _ _ _ _ _ _ _ _ _ _ _ _ _ _ (c .before .before .before .before .before .before .loop .inv .3 (c .before .before .before .before .before .before .before .before .before .pre .1 .1 .0) (c .before .before .before .before .before .before .before .before .before .pre .1 .1 .1) (c .before .before .before .before .before .before .before .before .before .pre .1 .1 .2) (c .before .before .before .before .before .before .before .before .before .pre .1 .1 .3) (c .before .before .before .before .before .before .before .before .before .pre .1 .1 .4) (c .before .before .before .before .before .before .before .before .before .pre .1 .1 .5) (c .before .before .before .before .before .before .before .before .before .pre .1 .1 .6) (c .before .before .before .before .before .before .before .before .before .pre .1 .1 .7)) (c .before .before .before .before .before .loop-test .taken) (λ z. c .before .before .if3 .left (c .before .before .before .before .body-at .ensures .0 ∙ z)) (λ z. c .before .before .before .if1 .left (c .before .before .before .before .body-at .ensures .0 ∙ z))))
 
-run-row-put-token-requires : (t : ℕ) → run-row-lts.Need-put-token-requires (run-row-calls t) (run-row-at t) run-row.Post run-row-Inv-loop run-row-μ-loop
-run-row-put-token-requires t c κs = search needs
-
-run-row-same-length-4 : (t : ℕ) → run-row-lts.Need-same-length-4 (run-row-calls t) (run-row-at t) run-row.Post run-row-Inv-loop run-row-μ-loop
-run-row-same-length-4 t c = search needs
-
 run-row-returns-4 : (t : ℕ) → run-row-lts.Need-returns-4 (run-row-calls t) (run-row-at t) run-row.Post run-row-Inv-loop run-row-μ-loop
 run-row-returns-4 t c = λ f given ts ks r cs js a. token-full _ _ _ _ _ _ _ _ _ _ _ _ _ _ _ _ _ _ _ (c .before .before .before .before .before .before .before .before .before .before .before .loop .inv .3 f given ts ks r cs js a) (c .before .before .before .before .before .before .before .before .before .before .loop-test .taken) (λ z. c .before .before .before .before .before .before .before .if3 .left (c .before .before .before .before .before .before .before .before .before .body-at .ensures .0 ∙ z)) (λ z. c .before .before .before .before .before .before .before .before .if1 .left (c .before .before .before .before .before .before .before .before .before .body-at .ensures .0 ∙ z)) _ _ (c .before .before .before .before .before .before .body-at4 .ensures .0) (c .before .before .before .before .before .body-at5 .ensures .0) _ _ (c .before .before .before .put-token .ensures) (omega (arith, c .before .before .output4 .given, c .if8 .taken))
 
-run-row-add-c-3 : (t : ℕ) → run-row-lts.Need-add-c-3 (run-row-calls t) (run-row-at t) run-row.Post run-row-Inv-loop run-row-μ-loop
-run-row-add-c-3 t c = search needs
-
-run-row-loop-less-5 : (t : ℕ) → run-row-lts.Need-loop-less-5 (run-row-calls t) (run-row-at t) run-row.Post run-row-Inv-loop run-row-μ-loop
-run-row-loop-less-5 t c = search needs
-
 run-row-loop-again-5 : (t : ℕ) → run-row-lts.Need-loop-again-5 (run-row-calls t) (run-row-at t) run-row.Post run-row-Inv-loop run-row-μ-loop
 run-row-loop-again-5 t c = (c .if8 .left, c .before .before .output4 .given ∙ c .before .before .before .before .before .before .before .before .before .before .before .loop .inv .1, c .before .before .before .before .before .before .before .before .before .before .before .loop .inv .2, λ f given ts ks r cs js a. token-turn _ _ _ _ _ _ _ _ _ _ _ _ _ _ _ _ _ _ _ (c .before .before .before .before .before .before .before .before .before .before .before .loop .inv .3 f given ts ks r cs js a) (c .before .before .before .before .before .before .before .before .before .before .loop-test .taken) (λ z. c .before .before .before .before .before .before .before .if3 .left (c .before .before .before .before .before .before .before .before .before .body-at .ensures .0 ∙ z)) (λ z. c .before .before .before .before .before .before .before .before .if1 .left (c .before .before .before .before .before .before .before .before .before .body-at .ensures .0 ∙ z)) _ _ (c .before .before .before .before .before .before .body-at4 .ensures .0) (c .before .before .before .before .before .body-at5 .ensures .0) _ _ (c .before .before .before .put-token .ensures) (omega (arith, c .before .before .output4 .given, c .if8 .left)))
-
-run-row-same-length-5 : (t : ℕ) → run-row-lts.Need-same-length-5 (run-row-calls t) (run-row-at t) run-row.Post run-row-Inv-loop run-row-μ-loop
-run-row-same-length-5 t c = search needs
 
 run-row-returns-5 : (t : ℕ) → run-row-lts.Need-returns-5 (run-row-calls t) (run-row-at t) run-row.Post run-row-Inv-loop run-row-μ-loop
 run-row-returns-5 t c = λ f given ts ks r cs js a. going-end _ _ _ _ _ _ _ _ _ _ _ _ _ _ _ _ _ _ _ (c .before .loop .inv .3 f given ts ks r cs js a) (c .loop-test .left) (c .before .loop .inv .0)
@@ -357,100 +222,100 @@ pub +run-argument+run-row-spec : {M : Type 1} → statement M
 +run-argument+run-row-spec = close μ-run-argument μ-run-row (λ t. run-argument-lts.spec (run-argument-calls t)
     (run-argument-at t)
     run-argument.Post
-    (run-argument-known-requires t)
+    (λ c κs. search needs)
     (run-argument-find-requires t)
-    (run-argument-element-copy-out-source-at t)
+    (λ c. search needs)
     (run-argument-add-source-at t)
     (run-argument-source-at-requires t)
     (run-argument-is-leaf-requires t)
     (run-argument-leaf-length-requires t)
     (run-argument-add-node t)
-    (run-argument-mul-node t)
-    (run-argument-element-write-node t)
+    (λ c. search needs)
+    (λ c. search needs)
     (run-argument-put-leaf-requires t)
-    (run-argument-same-length t)
+    (λ c. search needs)
     (run-argument-returns t)
-    (run-argument-mul-key t)
-    (run-argument-sign-length-requires t)
+    (λ c. search needs)
+    (λ c κs. search needs)
     (run-argument-add-wide t)
     (run-argument-shared-slice-read-wide t)
-    (run-argument-wide-requires t)
-    (run-argument-add-key t)
-    (run-argument-add-key-2 t)
+    (λ c κs. search needs)
+    (λ c. search needs)
+    (λ c. search needs)
     (run-argument-index-at-requires t)
     (run-argument-clause-at-requires t)
-    (run-argument-add-stop t)
+    (λ c. search needs)
     (run-argument-body-at-requires t)
-    (run-argument-mul-stop t)
-    (run-argument-add-body-at t)
+    (λ c. search needs)
+    (λ c. search needs)
     (run-argument-body-at-requires-2 t)
-    (run-argument-add-stop-2 t)
-    (run-argument-add-stop-3 t)
-    (run-argument-add-inner t)
-    (run-argument-array-write-inner t)
-    (run-argument-name-length-requires t)
+    (λ c. search needs)
+    (λ c. search needs)
+    (λ c. search needs)
+    (λ c. search needs)
+    (λ c κs. search needs)
     (run-argument-add-inner-2 t)
-    (run-argument-array-write-inner-2 t)
+    (λ c. search needs)
     (run-argument-sub-run-row t)
-    (run-argument-add-run-row t)
+    (λ c. search needs)
     (run-argument-run-row-requires t)
-    (run-argument-same-length-2 t)
+    (λ c. search needs)
     (run-argument-returns-2 t)
-    (run-argument-add-source-at-2 t)
+    (λ c. search needs)
     (run-argument-source-at-requires-2 t)
     (run-argument-sub-n t)
     (run-argument-known-requires-2 t)
     (run-argument-find-requires-2 t)
     (run-argument-mul-node-2 t)
     (run-argument-element-write-node-2 t)
-    (run-argument-same-length-3 t)
+    (λ c. search needs)
     (run-argument-returns-3 t))
     λ t. run-row-lts.spec (run-row-calls t)
     (run-row-at t)
     run-row.Post
     run-row-Inv-loop
     run-row-μ-loop
-    (run-row-loop-holds t)
-    (run-row-body-at-requires t)
-    (run-row-add-body-at t)
+    (λ c. search needs)
+    (λ c κs. search needs)
+    (λ c. search needs)
     (run-row-body-at-requires-2 t)
     (run-row-sub-run-argument t)
     (run-row-run-argument-requires t)
-    (run-row-same-length t)
+    (λ c. search needs)
     (run-row-returns t)
-    (run-row-add-c t)
-    (run-row-loop-less t)
+    (λ c. search needs)
+    (λ c. search needs)
     (run-row-loop-again t)
-    (run-row-add-body-at-2 t)
+    (λ c. search needs)
     (run-row-body-at-requires-3 t)
     (run-row-cast-put-name t)
-    (run-row-put-name-requires t)
-    (run-row-same-length-2 t)
+    (λ c κs. search needs)
+    (λ c. search needs)
     (run-row-returns-2 t)
-    (run-row-span-at-requires t)
-    (run-row-add-c-2 t)
+    (λ c κs. search needs)
+    (λ c. search needs)
     (run-row-sub-left t)
-    (run-row-loop-less-2 t)
+    (λ c. search needs)
     (run-row-loop-again-2 t)
     (run-row-sub-run-row t)
     (run-row-run-row-requires t)
-    (run-row-same-length-3 t)
+    (λ c. search needs)
     (run-row-returns-3 t)
-    (run-row-loop-less-3 t)
+    (λ c. search needs)
     (run-row-loop-again-3 t)
-    (run-row-loop-less-4 t)
+    (λ c. search needs)
     (run-row-loop-again-4 t)
-    (run-row-add-body-at-3 t)
+    (λ c. search needs)
     (run-row-body-at-requires-4 t)
     (run-row-cast-high t)
-    (run-row-add-body-at-4 t)
+    (λ c. search needs)
     (run-row-body-at-requires-5 t)
     (run-row-cast-low t)
-    (run-row-put-token-requires t)
-    (run-row-same-length-4 t)
+    (λ c κs. search needs)
+    (λ c. search needs)
     (run-row-returns-4 t)
-    (run-row-add-c-3 t)
-    (run-row-loop-less-5 t)
+    (λ c. search needs)
+    (λ c. search needs)
     (run-row-loop-again-5 t)
-    (run-row-same-length-5 t)
+    (λ c. search needs)
     (run-row-returns-5 t)
