@@ -1,1 +1,4 @@
 pub mod Standing
+pub mod Spans
+pub mod Tables
+pub mod Clauses

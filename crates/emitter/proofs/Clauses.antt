@@ -1,0 +1,200 @@
+-- The clauses of a body that was accepted: where their codes stand, and the walk that puts their spans into the table.
+use Prim.Native.Nat.{ℕ, zero, suc, _+_, _-_, _/_, _%_, _≤_, _<_}
+use mathlib.Core.Path.{_≡_, refl, sym, ap, _∙_}
+use mathlib.Core.Logic.{_⊎_, inl, inr, ⊎-elim}
+use mathlib.Core.Bool.{true}
+use mathlib.Core.List.{List, [], _∷_, _++_, append-nil}
+use mathlib.Core.Option.{none, some}
+use native.Mathlib.Omega.{arith}
+use lib.ListN.{length, getD, take, drop, length-drop, take-append-drop}
+use lib.Seq.{slice, drop-append-le, length-slice}
+use lib.Dec.{eqb}
+use borrow.Author.Tests.{eq-eqb, eqb-true, eqb-false}
+use Rattle.fields.specs.Lists.{any}
+use Rattle.fields.specs.Outcome.{value}
+use Rattle.fields.specs.Inner.Places.{fieldEnd, placesFrom, places, keyAt}
+use Rattle.fields.proofs.Truth.{Mem, by-test, none-some, some-inj, and-both, all-mem, mem-all, any-mem, mem-any, mem-map}
+use Rattle.fields.proofs.Keyed.{Rising, is-rising}
+use Rattle.fields.proofs.Places.{places-done, places-next}
+use Rattle.fields.proofs.Codec.{Bytes, each-front, bytes-from}
+use Rattle.language.specs.Language.{argumentsOf, productionKey}
+use Rattle.language.specs.LanguageFile.{isKind}
+use Rattle.language.proofs.Lookup.{arguments-mem}
+use Rattle.reader.specs.Code.{Code, node, token, argument, levels}
+use Rattle.reader.specs.Typing.{Typed}
+use Rattle.reader.specs.Syntax.{write, writeAll, code, done}
+use Rattle.reader.specs.Inner.Index.{Indexed, putAll}
+use Rattle.reader.proofs.Placed.{puts-place, found}
+use Rattle.reader.proofs.Members.{in-below}
+use Rattle.reader.proofs.Sound.{read-done}
+use Rattle.translation.specs.Translation.{Translation, mapping, clause, itemKey, mapped, clauseOf}
+use Rattle.translation.specs.TranslationFile.{allRising}
+use Rattle.translation.specs.Running.{readClause, clausesOf, mappedArguments, codeLevels}
+use Rattle.translation.specs.WellFormed.{wellFormed}
+use Rattle.translation.specs.Inner.Items.{itemWhole, itemAt, IsMapping, IsClause, HoldsItems}
+use Rattle.translation.specs.Inner.ItemIndex.{IndexedItems, codeBefore, mappedAt}
+use Rattle.translation.proofs.Items.{holds-items, item-facts, clause-is}
+use Rattle.translation.proofs.Codec.{itemWhole as isItem, body-whole, rises-parts, WholeTranslation, translation-whole}
+use Rattle.translation.proofs.Lookup.{mem-clause}
+use Rattle.translation.proofs.Fitting.{Fitting, KindsBelow, formed-fits, clause-code}
+use Rattle.translation.proofs.IndexedItems.{clause-key, mapped-is, mapped-kind, build-is}
+use borrow.Author.Tests.{ltb-true}
+use Rattle.emitter.specs.Inner.Stands.{Stands}
+use Rattle.emitter.specs.Inner.Table.{clauseEntry, SpansAt, Checked}
+use Rattle.emitter.specs.Inner.Filling.{Built, mappedIn, Below, CodeAsks, AllSpanned}
+use Rattle.emitter.proofs.Standing.{drop-stands}
+use Rattle.emitter.proofs.Spans.{spans-kept, below-none, below-then}
+
+-- A part that is not empty, and what follows it.
+part-before : (b : List ℕ) (p e y : ℕ) (v : List ℕ) → slice p e b ≡ y ∷ v → drop p b ≡ (y ∷ v) ++ drop e b
+part-before b p e y v h =
+    let l : length (slice p e b) ≡ suc (length v) = ap length h in
+    let m = length-drop p (take e b) in
+    let i : p ≤ length (take e b) = omega (arith, l, m) in
+    ap (drop p) (sym (take-append-drop e b)) ∙ (drop-append-le p (take e b) (drop e b) i ∙ ap (λ (z : List ℕ). z ++ drop e b) h)
+
+part-bytes : (b : List ℕ) (p e : ℕ) → Bytes b → Bytes (slice p e b)
+part-bytes b p e h =
+    let t : Bytes (take e b) = each-front _ (take e b) (drop e b) (rw (← take-append-drop e b) at h) .0 in
+    each-front _ (take p (take e b)) (drop p (take e b)) (rw (← take-append-drop p (take e b)) at t) .1
+
+write-some : (a : Code) → (y : ℕ) × (v : List ℕ) × (write code a ≡ y ∷ v)
+unfolding write
+write-some (node k p t) = (1, p ∷ writeAll code t, refl)
+write-some (token v) = (2, v / 256 ∷ v % 256 ∷ [], refl)
+write-some (argument i) = (3, i ∷ [], refl)
+
+pub clause-some : (s : List ℕ) (place : ℕ) (c : List ℕ) → codeBefore s place ≡ some c → (q : ℕ) × (place ≡ suc q) × (slice (q + 5) (fieldEnd s q) s ≡ c)
+clause-some s zero c e = none-some e
+clause-some s (suc q) c e = (q, refl, some-inj e)
+
+-- The code of the clause at p in the body.
+abbrev pub codeAt : List ℕ → Translation → ℕ → Code
+codeAt b f p = clausesOf f (getD b (p + 3) 0) (getD b (p + 4) 0)
+
+-- What is known of the clause at p.
+pub record ClauseAt (b : List ℕ) (f : Translation) (p : ℕ) : Type 0 where
+  pub kind : getD b (p + 3) 0 < 32
+  pub ends : fieldEnd b p ≤ length b
+  pub past : p + 5 ≤ fieldEnd b p
+  pub part : slice (p + 5) (fieldEnd b p) b ≡ write code (codeAt b f p)
+  pub typed : Typed (f .target) (mappedArguments f (getD b (p + 3) 0) (getD b (p + 4) 0)) (codeAt b f p) (mapped (f .body) (getD b (p + 3) 0))
+  pub within : levels (codeAt b f p) ≤ 16
+
+-- A translation that was accepted rises, is well formed, and fits.
+module _ {s t b : List ℕ} {f : Translation} (z : Checked s t b f) where
+  pub whole : WholeTranslation f × (wellFormed f ≡ value f)
+  whole = let w = translation-whole (z .file) f (z .accepted) in (w .1, w .2)
+
+  pub body-rises : Rising itemKey (f .body)
+  body-rises = is-rising itemKey (f .body) (rises-parts f (whole .0 .rises) .2)
+
+  kinds-below : KindsBelow f
+  unfolding isItem
+  kinds-below = (
+    λ k i. in-below s k (f .source) (z .pieces .source) i,
+    λ a t m. ltb-true a 32 (and-both (isKind a) (isKind t) (all-mem isItem (f .body) (body-whole b (f .body) (z .pieces .body) .0) (mapping a t) m) .0),
+  )
+
+  pub fits : Fitting f
+  fits = formed-fits f f kinds-below body-rises (whole .1) .0
+
+  held : HoldsItems b (f .body)
+  held = holds-items b (f .body) (z .pieces .body)
+
+  item-is : (p : ℕ) → Mem p (places b) → IsMapping b p ⊎ IsClause b p
+  item-is p m = item-facts b p (all-mem (itemWhole b) (places b) (held .whole) p m)
+
+  is-clause : (p : ℕ) → Mem p (places b) → getD b p 0 ≡ 0x23 → IsClause b p
+  is-clause p m tag = ⊎-elim (λ a. let t = a .tag in absurd (omega arith)) (λ a. a) (item-is p m)
+
+  member : (p : ℕ) → Mem p (places b) → IsClause b p
+      → Mem (clause (getD b (p + 3) 0) (getD b (p + 4) 0) (slice (p + 5) (fieldEnd b p) b)) (f .body)
+  member p m c = rw (← clause-is b p c) (rw (← held .items) (mem-map (itemAt b) p (places b) m))
+
+  module _ (bytes : (i : ℕ) → getD b i 0 < 256) where
+    pub clause-there : (p : ℕ) → Mem p (places b) → getD b p 0 ≡ 0x23 → ClauseAt b f p
+    unfolding readClause
+    clause-there p m tag =
+        let c = is-clause p m tag in
+        let i = member p m c in
+        let (a, r) = fits .codes (getD b (p + 3) 0) (getD b (p + 4) 0) (slice (p + 5) (fieldEnd b p) b) i in
+        let y : codeAt b f p ≡ a = clause-code f body-rises (getD b (p + 3) 0) (getD b (p + 4) 0) (slice (p + 5) (fieldEnd b p) b) a i r in
+        let d = read-done code (f .target) (mappedArguments f (getD b (p + 3) 0) (getD b (p + 4) 0)) codeLevels (mapped (f .body) (getD b (p + 3) 0))
+        (slice (p + 5) (fieldEnd b p) b) a [] r in
+        let is = d .2 (part-bytes b (p + 5) (fieldEnd b p) (bytes-from b (λ j l. bytes j))) .0 ∙ append-nil (write code a) in
+        record {
+          kind = c .result;
+          ends = c .ends;
+          past = c .past;
+          part = is ∙ ap (write code) (sym y);
+          typed = rw y (d .0);
+          within = rw y (d .1);
+        }
+
+    -- What the index of the items, built into the table, finds.
+    module _ (u : List ℕ) (built : Built 0x22 b u 8224) where
+      abbrev items : List ℕ
+      items = putAll 0x22 b (built .zeros) (places b)
+
+      pub indexed : IndexedItems items b (f .body)
+      indexed = build-is b (built .zeros) bytes (z .pieces .body-short) (built .long) (built .zero) (f .body) (z .pieces .body) refl
+
+      pub mapped-in : (k : ℕ) → k < 32 → (mappedIn b u k ≡ mapped (f .body) k) × (mappedIn b u k < 32)
+      unfolding mappedIn mappedAt
+      mapped-in k h =
+          let e = built .is k (omega arith) in
+          (rw e (mapped-is b items (f .body) indexed k h), rw e (mapped-kind b items (indexed .sound) k h))
+
+      pub record Found (k n : ℕ) : Type 0 where
+        pub place : ℕ
+        pub is : clauseEntry u (productionKey k n) ≡ place + 1
+        pub there : Mem place (places b)
+        pub tag : getD b place 0 ≡ 0x23
+        pub kind : getD b (place + 3) 0 ≡ k
+        pub name : getD b (place + 4) 0 ≡ n
+
+      pub clause-found : (k n : ℕ) (ks : List ℕ) → k < 32 → n < 256 → argumentsOf (f .source) k n ≡ some ks → Found k n
+      unfolding keyAt
+      clause-found k n ks h i e =
+          let (c, m) = fits .clauses k n ks (arguments-mem (f .source) k n ks e) in
+          let y = mem-clause (f .body) body-rises k n c m in
+          let q = clause-some b (getD items (productionKey k n) 0) c (sym (indexed .clause k n h i) ∙ y) in
+          let at = puts-place 0x22 b (places b) (built .zeros) (productionKey k n) (omega (arith, built .long)) (built .zero (productionKey k n)) in
+          let more : 0 < getD items (productionKey k n) 0 = omega (arith, q .1) in
+          let (p, is, key, here) = found 0x22 (λ p. any (eqb p) (places b)) b (productionKey k n) (places b)
+          (mem-all _ (places b) (λ p m. mem-any (eqb p) (places b) p m (eq-eqb p p refl))) (rw at at more) in
+          let (r, m', same) = any-mem (eqb p) (places b) here in
+          let there : Mem p (places b) = rw (eqb-true p r same) m' in
+          ⊎-elim
+          (λ a.
+          let o : keyAt 0x22 b p ≡ getD b (p + 3) 0 = cc (eq-eqb _ _ (a .tag)) in
+          let l = a .source in
+          absurd (omega (arith, o, key, l)))
+          (λ a.
+          let o = clause-key b p a in
+          let b4 = bytes (p + 4) in
+          record {
+            place = p;
+            is = built .is (productionKey k n) (omega arith) ∙ (at ∙ is);
+            there = there;
+            tag = a .tag;
+            kind = omega (arith, o, key);
+            name = omega (arith, o, key);
+          })
+          (item-is p there)
+
+-- A clause's code stands in the body.
+clause-stands : (b : List ℕ) (f : Translation) (p : ℕ) → ClauseAt b f p → Stands b (p + 5) (write code (codeAt b f p))
+clause-stands b f p c =
+    let v = write-some (codeAt b f p) in
+    let d = part-before b (p + 5) (fieldEnd b p) (v .0) (v .1) (c .part ∙ v .2) in
+    let e = c .ends in
+    let g = c .past in
+    rw (v .2) (drop-stands b (p + 5) (v .0 ∷ v .1) (drop (fieldEnd b p) b) (omega arith) d)
+
+pub clause-length : (b : List ℕ) (f : Translation) (p : ℕ) → ClauseAt b f p → p + 5 + length (write code (codeAt b f p)) ≡ fieldEnd b p
+clause-length b f p c =
+    let l : length (write code (codeAt b f p)) ≡ fieldEnd b p - (p + 5) = ap length (sym (c .part)) ∙ length-slice (p + 5) (fieldEnd b p) b (c .ends) in
+    let g = c .past in
+    omega (arith, l)
