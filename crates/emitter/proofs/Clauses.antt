@@ -15,9 +15,9 @@ use Rattle.fields.specs.Outcome.{value}
 use Rattle.fields.specs.Inner.Places.{fieldEnd, placesFrom, places, keyAt}
 use Rattle.fields.proofs.Truth.{Mem, by-test, none-some, some-inj, and-both, all-mem, mem-all, any-mem, mem-any, mem-map}
 use Rattle.fields.proofs.Keyed.{Rising, is-rising}
-use Rattle.fields.proofs.Places.{places-done, places-next}
+use Rattle.fields.proofs.Places.{places-done, places-next, end-past}
 use Rattle.fields.proofs.Codec.{Bytes, each-front, bytes-from}
-use Rattle.language.specs.Language.{argumentsOf, productionKey}
+use Rattle.language.specs.Language.{Language, argumentsOf, productionKey}
 use Rattle.language.specs.LanguageFile.{isKind}
 use Rattle.language.proofs.Lookup.{arguments-mem}
 use Rattle.reader.specs.Code.{Code, node, token, argument, levels}
@@ -41,7 +41,7 @@ use Rattle.translation.proofs.IndexedItems.{clause-key, mapped-is, mapped-kind,
 use borrow.Author.Tests.{ltb-true}
 use Rattle.emitter.specs.Inner.Stands.{Stands}
 use Rattle.emitter.specs.Inner.Table.{clauseEntry, SpansAt, Checked}
-use Rattle.emitter.specs.Inner.Filling.{Built, mappedIn, Below, CodeAsks, AllSpanned}
+use Rattle.emitter.specs.Inner.Filling.{Built, mappedIn, Below, CodeAsks, Spanned, FieldAsks, FieldSpanned, AllSpanned}
 use Rattle.emitter.proofs.Standing.{drop-stands}
 use Rattle.emitter.proofs.Spans.{spans-kept, below-none, below-then}
 
@@ -198,3 +198,118 @@ clause-length b f p c =
     let l : length (write code (codeAt b f p)) ≡ fieldEnd b p - (p + 5) = ap length (sym (c .part)) ∙ length-slice (p + 5) (fieldEnd b p) b (c .ends) in
     let g = c .past in
     omega (arith, l)
+
+-- span_field
+module _ (s index b : List ℕ) (p : ℕ) (t : List ℕ) where
+  pub field-other : (getD b p 0 ≡ 0x23 → ⊥) → (l : Language) (given : List ℕ) (a : Code) → FieldAsks s index b p t l given a → FieldSpanned b p t t a
+  field-other h l given a w = record { below = below-none t (p + 5); spans = λ e. absurd (h e) }
+
+  module _ (x k : ℕ) (tag : getD b p 0 ≡ 0x23) (ex : x ≡ getD b (p + 3) 0) (ek : k ≡ mappedIn b t x) where
+    pub field-past : 31 < k → (l : Language) (given : List ℕ) (a : Code) → FieldAsks s index b p t l given a → FieldSpanned b p t t a
+    field-past h l given a w = let i = w .kind tag in let j : k ≡ mappedIn b t (getD b (p + 3) 0) = ek ∙ ap (mappedIn b t) ex in absurd (omega arith)
+
+    pub field-spanned : (u : List ℕ) (r : ℕ) → ((l : Language) (given : List ℕ) (a : Code) → CodeAsks s index b k (p + 5) 16 l given a → Spanned t u (p + 5) a r)
+        → (l : Language) (given : List ℕ) (a : Code) → FieldAsks s index b p t l given a → FieldSpanned b p t u a
+    field-spanned u r h l given a w =
+        let j : k ≡ mappedIn b t (getD b (p + 3) 0) = ek ∙ ap (mappedIn b t) ex in
+        let y = h l given a (rw j (w .code tag)) in
+        record { below = y .below; spans = λ e. y .spans }
+
+-- span_all: the fields before p have their spans.
+abbrev Done : List ℕ → List ℕ → ℕ → Translation → ℕ → Type 0
+Done b u p f x = (fieldEnd b x ≤ p) × (getD b x 0 ≡ 0x23 → SpansAt u (x + 5) (codeAt b f x))
+
+pub record Walked (b t u : List ℕ) (p : ℕ) (f : Translation) : Type 0 where
+  pub below : Below t u 0
+  pub rest : (x : ℕ) → Mem x (placesFrom b p) → Mem x (places b)
+  pub done : (x : ℕ) → Mem x (places b) → Mem x (placesFrom b p) ⊎ Done b u p f x
+
+-- What is asked of the whole.
+pub record WalkAsks (s target index b t : List ℕ) (f : Translation) : Type 0 where
+  pub checked : Checked s target b f
+  pub indexed : Indexed index target (f .target)
+  pub built : Built 0x22 b t 8224
+
+abbrev pub Walk : List ℕ → List ℕ → List ℕ → List ℕ → List ℕ → ℕ → Type 0
+Walk target index b t u p = (s : List ℕ) (f : Translation) → WalkAsks s target index b t f → Walked b t u p f
+
+pub walk-starts : (target index b t : List ℕ) → Walk target index b t t 0
+walk-starts target index b t s f w = record { below = below-none t 0; rest = λ x m. m; done = λ x m. inl m }
+
+module _ (target index b t u : List ℕ) (p : ℕ) (bytes : (i : ℕ) → getD b i 0 < 256) where
+  mapped-same : Below t u 0 → (k : ℕ) → k < 32 → mappedIn b u k ≡ mappedIn b t k
+  unfolding mappedIn
+  mapped-same h k i = rw (h .same (8224 + k) (omega arith))
+
+  module _ (s : List ℕ) (f : Translation) (w : WalkAsks s target index b t f) (y : Walked b t u p f) where
+    field-asks : Mem p (places b) → FieldAsks target index b p u (f .target) (mappedArguments f (getD b (p + 3) 0) (getD b (p + 4) 0)) (codeAt b f p)
+    field-asks m = record {
+      kind = λ e.
+          let c = clause-there (w .checked) bytes p m e in
+          let g = mapped-in (w .checked) bytes t (w .built) (getD b (p + 3) 0) (c .kind) in
+          rw (mapped-same (y .below) (getD b (p + 3) 0) (c .kind)) (g .1);
+      code = λ e.
+          let c = clause-there (w .checked) bytes p m e in
+          let g = mapped-in (w .checked) bytes t (w .built) (getD b (p + 3) 0) (c .kind) in
+          record {
+            indexed = w .indexed;
+            typed = rw (mapped-same (y .below) (getD b (p + 3) 0) (c .kind), g .0) (c .typed);
+            stands = clause-stands b f p c;
+            within = c .within;
+          };
+    }
+
+    done-kept : (v : List ℕ) → Below u v (p + 5) → (x : ℕ) → Mem x (places b) → fieldEnd b x ≤ p → (getD b x 0 ≡ 0x23 → SpansAt u (x + 5) (codeAt b f x))
+        → getD b x 0 ≡ 0x23 → SpansAt v (x + 5) (codeAt b f x)
+    done-kept v h x m e g tag =
+        let c = clause-there (w .checked) bytes x m tag in
+        let l = clause-length b f x c in
+        spans-kept u v (codeAt b f x) (x + 5) (λ j i k. h .same (21568 + j) (omega arith)) (g tag)
+
+    done-here : (v : List ℕ) (e x : ℕ) → x ≡ p → e ≡ fieldEnd b p → (getD b p 0 ≡ 0x23 → SpansAt v (p + 5) (codeAt b f p)) → Done b v e f x
+    done-here v e x d ee g =
+        let h : fieldEnd b x ≤ e = rw (d, ee) (omega arith) in
+        (h, λ tag. let i : getD b p 0 ≡ 0x23 = rw d at tag in rw d (g i))
+
+    walked-next : (v : List ℕ) (e : ℕ) → p < length b → e ≡ fieldEnd b p
+        → ((l : Language) (given : List ℕ) (a : Code) → FieldAsks target index b p u l given a → FieldSpanned b p u v a) → Walked b t v e f
+    walked-next v e h ee spans =
+        let n = places-next b p h in
+        let here : Mem p (placesFrom b p) = rw n (inl refl) in
+        let m = y .rest p here in
+        let g = spans (f .target) (mappedArguments f (getD b (p + 3) 0) (getD b (p + 4) 0)) (codeAt b f p) (field-asks m) in
+        let past = end-past b p in
+        record {
+          below = below-then t u v 0 (p + 5) (omega arith) (y .below) (g .below);
+          rest = λ x i. y .rest x (rw n (inr (rw ee at i)));
+          done = λ x i. ⊎-elim
+              (λ j. ⊎-elim
+              (λ d. inr (done-here v e x d ee (g .spans)))
+              (λ k. inl (rw ee k))
+              (rw n at j))
+              (λ d. inr (omega (arith, d .0), λ tag. done-kept v (g .below) x i (d .0) (d .1) tag))
+              (y .done x i);
+        }
+
+  pub walk-next : (v : List ℕ) (e : ℕ) → p < length b → e ≡ fieldEnd b p
+      → ((l : Language) (given : List ℕ) (a : Code) → FieldAsks target index b p u l given a → FieldSpanned b p u v a)
+      → Walk target index b t u p → Walk target index b t v e
+  walk-next v e h ee spans y s f w = walked-next s f w (y s f w) v e h ee spans
+
+  spans-as : (f : Translation) (k n c : ℕ) {k' n' c' : ℕ} → k' ≡ k → n' ≡ n → c ≡ c' → SpansAt u c' (clausesOf f k' n') → SpansAt u c (clausesOf f k n)
+  spans-as f k n c ek en ec h = rw (ec, ← ek, ← en) h
+
+  pub walk-ends : length b ≤ p → Walk target index b t u p
+      → (s : List ℕ) (f : Translation) → Checked s target b f → Indexed index target (f .target) → Built 0x22 b t 8224 → AllSpanned t u f
+  walk-ends h y s f z i j =
+      let w = y s f (record { checked = z; indexed = i; built = j }) in
+      record {
+        below = w .below;
+        spans = λ k n ks kind byte e.
+            let c = clause-found z bytes t j k n ks kind byte e in
+            let at : clauseEntry t (productionKey k n) + 4 ≡ c .place + 5 = omega (arith, c .is) in
+            ⊎-elim
+            (λ m. absurd (rw (places-done b p h) at m))
+            (λ d. spans-as f k n (clauseEntry t (productionKey k n) + 4) (c .kind) (c .name) at (d .1 (c .tag)))
+            (w .done (c .place) (c .there));
+      }

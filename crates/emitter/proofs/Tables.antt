@@ -2,16 +2,34 @@
 use Prim.Native.Nat.{ℕ, zero, suc, _+_, _-_, _*_, _≤_, _<_}
 use mathlib.Core.Path.{_≡_, refl, sym, ap, _∙_}
 use mathlib.Core.List.{List, [], _∷_, _++_, append-assoc}
+use mathlib.Core.Option.{none, some}
+use mathlib.Core.Logic.{⊎-elim}
 use native.Mathlib.Omega.{arith}
 use native.Mathlib.Numerals.{add-one}
-use lib.ListN.{length, getD, set, take, drop, length-append, length-drop, length-set, List·getD-append}
-use borrow.Author.Tests.{eq-eqb, ne-eqb}
-use Rattle.fields.specs.Inner.Places.{places}
-use Rattle.reader.specs.Inner.Index.{putAll}
-use Rattle.reader.proofs.Placed.{puts-length}
-use Rattle.language.specs.Language.{productionKey}
-use Rattle.emitter.specs.Inner.Filling.{Built, Filled, mappedIn}
-use lib.Seq.{take-suc, take-all, drop-drop, set-split, length-take-le, getD-take, getD-drop, getD-append-add}
+use lib.ListN.{length, getD, set, take, drop, length-append, length-take, length-drop, length-set, List·getD-append, List·getD-eq-default}
+use lib.Dec.{ltb}
+use borrow.Author.Tests.{eq-eqb, ne-eqb, ltb-true, ltb-false}
+use Rattle.fields.specs.Fields.{pairAt}
+use Rattle.fields.proofs.Truth.{by-test, none-some}
+use Rattle.language.specs.Inner.Entries.{entryWhole, IsClass, IsProduction, Holds}
+use Rattle.language.proofs.Facts.{entry-facts}
+use Rattle.language.proofs.Holds.{holds-entries}
+use Rattle.reader.specs.Syntax.{write, code}
+use Rattle.reader.specs.Inner.Positions.{KindsIn}
+use Rattle.reader.specs.Code.{Code, levels}
+use Rattle.reader.proofs.Indexed.{build-is, production-key}
+use Rattle.reader.proofs.Larger.{apart}
+use Rattle.translation.specs.Translation.{Translation, mapped}
+use Rattle.translation.specs.Running.{clausesOf, mappedArguments}
+use Rattle.emitter.specs.Inner.Table.{KindsAt, Production, Clause, Ready, Checked, indexEntry, clauseEntry, sourceByte, bodyByte, SpansAt}
+use Rattle.emitter.proofs.Spans.{place-some}
+use Rattle.emitter.proofs.Clauses.{ClauseAt, codeAt, whole, clause-there, clause-found, clause-length, Found}
+use Rattle.fields.specs.Inner.Places.{fieldEnd, places, keyAt}
+use Rattle.reader.specs.Inner.Index.{putAll, Indexed, rangeBefore}
+use Rattle.reader.proofs.Placed.{puts-length, puts-place, found}
+use Rattle.language.specs.Language.{Language, Range, rangeOf, argumentsOf, productionKey}
+use Rattle.emitter.specs.Inner.Filling.{Built, Filled, mappedIn, Below, AllSpanned}
+use lib.Seq.{slice, length-slice, ext-getD, take-suc, take-all, drop-drop, set-split, length-take-le, getD-take, getD-drop, getD-append-add}
 use Rattle.emitter.specs.Inner.Stands.{Stands, spliced}
 use Rattle.emitter.proofs.Standing.{splice-splice, length-spliced, nothing-spliced}
 
@@ -64,3 +82,108 @@ module _ (b t : List ℕ) (k w : ℕ) (ew : w ≡ k) where
   pub mapped-there : (getD t (8224 + w) 0 ≡ 0 → ⊥) → (r : ℕ) → r ≡ getD b (getD t (8224 + w) 0 + 3) 0 → r ≡ mappedIn b t k
   unfolding mappedIn
   mapped-there h r er = rw (← ew, ne-eqb _ _ h) er
+
+-- What stands at each place after v was put in at pos.
+module _ (o : List ℕ) (pos : ℕ) (v : List ℕ) (fits : pos + length v ≤ length o) where
+  front-long : length (take pos o) ≡ pos
+  front-long = length-take-le pos o (omega arith)
+
+  get-below : (j : ℕ) → j < pos → getD (spliced o pos v) j 0 ≡ getD o j 0
+  get-below j h =
+      rw (spliced-is o pos v)
+      (List·getD-append (take pos o) (v ++ drop (pos + length v) o) 0 j (rw front-long h) ∙ getD-take pos o j 0 h)
+
+  get-from : (j : ℕ) → getD (spliced o pos v) (pos + j) 0 ≡ getD (v ++ drop (pos + length v) o) j 0
+  get-from j =
+      rw (spliced-is o pos v)
+      (ap (λ (n : ℕ). getD (take pos o ++ (v ++ drop (pos + length v) o)) (n + j) 0) (sym front-long) ∙ getD-append-add (take pos o) (v ++ drop (pos + length v) o) j 0)
+
+  get-in : (j : ℕ) → j < length v → getD (spliced o pos v) (pos + j) 0 ≡ getD v j 0
+  get-in j h = get-from j ∙ List·getD-append v (drop (pos + length v) o) 0 j h
+
+  get-past : (j : ℕ) → pos + length v ≤ j → getD (spliced o pos v) j 0 ≡ getD o j 0
+  get-past j h =
+      let m : ℕ = j - (pos + length v) in
+      let e : j ≡ pos + (length v + m) = omega arith in
+      let d : pos + length v + m ≡ j = omega arith in
+      ap (λ (n : ℕ). getD (spliced o pos v) n 0) e
+      ∙ (get-from (length v + m) ∙ (getD-append-add v (drop (pos + length v) o) m 0 ∙ (getD-drop (pos + length v) o m 0 ∙ ap (λ (n : ℕ). getD o n 0) d)))
+
+-- A part of a table that is zero there.
+part-zero : (o : List ℕ) (a : ℕ) → ((j : ℕ) → j < 8224 → getD o (a + j) 0 ≡ 0) → (j : ℕ) → getD (take 8224 (drop a o)) j 0 ≡ 0
+part-zero o a h j =
+    by-test (ltb j 8224)
+    (λ e.
+    let i : j < 8224 = ltb-true _ _ e in
+    getD-take 8224 (drop a o) j 0 i ∙ (getD-drop a o j 0 ∙ h j i))
+    (λ e.
+    let i : 8224 ≤ j = ltb-false _ _ e in
+    let l = length-take 8224 (drop a o) in
+    List·getD-eq-default (take 8224 (drop a o)) 0 (omega arith))
+
+-- fill
+module _ (s b t₀ t₁ t₂ t₃ t₄ : List ℕ) (short : length s ≤ 1024) (near : length b ≤ 4096) (long : length t₀ ≡ 25664) (zeros : (j : ℕ) → getD t₀ j 0 ≡ 0) where
+  abbrev first-index : List ℕ
+  first-index = putAll 0x11 s (take 8224 (drop 0 t₀)) (places s)
+
+  abbrev second-index : List ℕ
+  second-index = putAll 0x22 b (take 8224 (drop 8224 t₁)) (places b)
+
+  module _ (e₁ : t₁ ≡ spliced t₀ 0 first-index) (e₂ : t₂ ≡ spliced t₁ 8224 second-index) (e₃ : t₃ ≡ spliced t₂ 16448 s) (e₄ : t₄ ≡ spliced t₃ 17472 b) where
+    part-long : (o : List ℕ) (a : ℕ) → length o ≡ 25664 → a + 8224 ≤ 25664 → length (take 8224 (drop a o)) ≡ 8224
+    part-long o a l h = let d = length-drop a o in length-take-le 8224 (drop a o) (omega arith)
+
+    first-long : length first-index ≡ 8224
+    first-long = puts-length 0x11 s (places s) (take 8224 (drop 0 t₀)) ∙ part-long t₀ 0 long (omega arith)
+
+    room₁ : 0 + length first-index ≤ length t₀
+    room₁ = omega (arith, first-long)
+
+    long₁ : length t₁ ≡ 25664
+    long₁ = ap length e₁ ∙ (length-spliced t₀ 0 first-index room₁ ∙ long)
+
+    second-long : length second-index ≡ 8224
+    second-long = puts-length 0x22 b (places b) (take 8224 (drop 8224 t₁)) ∙ part-long t₁ 8224 long₁ (omega arith)
+
+    room₂ : 8224 + length second-index ≤ length t₁
+    room₂ = omega (arith, second-long, long₁)
+
+    long₂ : length t₂ ≡ 25664
+    long₂ = ap length e₂ ∙ (length-spliced t₁ 8224 second-index room₂ ∙ long₁)
+
+    room₃ : 16448 + length s ≤ length t₂
+    room₃ = omega (arith, long₂)
+
+    long₃ : length t₃ ≡ 25664
+    long₃ = ap length e₃ ∙ (length-spliced t₂ 16448 s room₃ ∙ long₂)
+
+    room₄ : 17472 + length b ≤ length t₃
+    room₄ = omega (arith, long₃)
+
+    from₃ : (j : ℕ) → j < 17472 → getD t₄ j 0 ≡ getD t₃ j 0
+    from₃ j h = ap (λ (t : List ℕ). getD t j 0) e₄ ∙ get-below t₃ 17472 b room₄ j h
+
+    from₂ : (j : ℕ) → j < 16448 → getD t₄ j 0 ≡ getD t₂ j 0
+    from₂ j h = from₃ j (omega arith) ∙ (ap (λ (t : List ℕ). getD t j 0) e₃ ∙ get-below t₂ 16448 s room₃ j h)
+
+    from₁ : (j : ℕ) → j < 8224 → getD t₄ j 0 ≡ getD t₁ j 0
+    from₁ j h = from₂ j (omega arith) ∙ (ap (λ (t : List ℕ). getD t j 0) e₂ ∙ get-below t₁ 8224 second-index room₂ j h)
+
+    pub filled : Filled s b t₄
+    filled = record {
+      long = ap length e₄ ∙ (length-spliced t₃ 17472 b room₄ ∙ long₃);
+      index = record {
+        zeros = take 8224 (drop 0 t₀);
+        long = part-long t₀ 0 long (omega arith);
+        zero = part-zero t₀ 0 (λ j h. zeros (0 + j));
+        is = λ j h. from₁ (0 + j) (omega arith) ∙ (ap (λ (t : List ℕ). getD t (0 + j) 0) e₁ ∙ get-in t₀ 0 first-index room₁ j (omega (arith, first-long)));
+      };
+      items = record {
+        zeros = take 8224 (drop 8224 t₁);
+        long = part-long t₁ 8224 long₁ (omega arith);
+        zero = part-zero t₁ 8224 (λ j h. ap (λ (t : List ℕ). getD t (8224 + j) 0) e₁ ∙ (get-past t₀ 0 first-index room₁ (8224 + j) (omega (arith, first-long)) ∙ zeros (8224 + j)));
+        is = λ j h. from₂ (8224 + j) (omega arith) ∙ (ap (λ (t : List ℕ). getD t (8224 + j) 0) e₂ ∙ get-in t₁ 8224 second-index room₂ j (omega (arith, second-long)));
+      };
+      source = λ j h. from₃ (16448 + j) (omega arith) ∙ (ap (λ (t : List ℕ). getD t (16448 + j) 0) e₃ ∙ get-in t₂ 16448 s room₃ j h);
+      body = λ j h. ap (λ (t : List ℕ). getD t (17472 + j) 0) e₄ ∙ get-in t₃ 17472 b room₄ j h;
+    }

@@ -17,7 +17,7 @@ ghost use Rattle.translation.specs.Translation.{Translation, mapped};
 ghost use Rattle.translation.specs.Running.{clausesOf};
 ghost use Rattle.emitter.specs.Inner.Stands.{spliced};
 ghost use Rattle.emitter.specs.Inner.Table.{Checked, Ready};
-ghost use Rattle.emitter.specs.Inner.Filling.{Built, Filled, mappedIn, CodeAsks, Spanned, AllSpanned};
+ghost use Rattle.emitter.specs.Inner.Filling.{Built, Filled, mappedIn, CodeAsks, Spanned, FieldAsks, FieldSpanned, AllSpanned};
 
 // Puts the index of a file into the table, from a position on where it is all zero. Its first entries have the tag `first`.
 fn put_index(s: &[u8], first: u8, a: usize, table: &mut [u16])
@@ -121,6 +121,22 @@ fn mapped_in(body: &[u8], table: &[u16], kind: u8) -> u8
     byte_at(body, place + 3)
 }
 
+// Keeps the spans of the code in the field of the body at a position, where it is a clause.
+fn span_field(target: &[u8], places: &[u16], body: &[u8], p: usize, table: &mut [u16])
+    requires { ⌜ Sound (now places) (now target) × (length (now body) ≤ 4096) × (p < length (now body)) × (length (now table) ≡ 25664) ⌝ }
+    ensures { λ r. ⌜ ((l : Language) (given : List ℕ) (a : Code) → FieldAsks (now (target .entry)) (now (places .entry)) (now (body .entry)) p (now (table .entry)) l given a
+        → FieldSpanned (now (body .entry)) p (now (table .entry)) (now (table .exit)) a) ⌝ }
+{
+    if body[p] != 0x23 {
+        return;
+    }
+    let kind = mapped_in(body, table, byte_at(body, p + 3));
+    if 31 < kind {
+        return;
+    }
+    span_code(target, places, body, kind, p + 5, 16, table);
+}
+
 // Keeps the spans of the codes of all clauses.
 fn span_all(target: &[u8], places: &[u16], body: &[u8], table: &mut [u16])
     requires { ⌜ Sound (now places) (now target) × (length (now body) ≤ 4096) × (length (now table) ≡ 25664) ⌝ }
@@ -129,13 +145,7 @@ fn span_all(target: &[u8], places: &[u16], body: &[u8], table: &mut [u16])
 {
     let mut p = 0;
     while p < body.len() {
-        if body[p] == 0x23 {
-            let kind = mapped_in(body, table, byte_at(body, p + 3));
-            if 31 < kind {
-                return;
-            }
-            span_code(target, places, body, kind, p + 5, 16, table);
-        }
+        span_field(target, places, body, p, table);
         p = field_end(body, p);
     }
 }

@@ -55,6 +55,16 @@ pub record Spanned (t u : List ℕ) (at : ℕ) (a : Code) (r : ℕ) : Type 0 whe
   pub spans : SpansAt u at a
   pub below : Below t u at
 
+-- Where the field at p is a clause, its code is a.
+pub record FieldAsks (s index b : List ℕ) (p : ℕ) (t : List ℕ) (l : Language) (given : List ℕ) (a : Code) : Type 0 where
+  pub kind : getD b p 0 ≡ 0x23 → mappedIn b t (getD b (p + 3) 0) < 32
+  pub code : getD b p 0 ≡ 0x23 → CodeAsks s index b (mappedIn b t (getD b (p + 3) 0)) (p + 5) 16 l given a
+
+-- Where the field at p is a clause, its spans were put into the table t.
+pub record FieldSpanned (b : List ℕ) (p : ℕ) (t u : List ℕ) (a : Code) : Type 0 where
+  pub below : Below t u (p + 5)
+  pub spans : getD b p 0 ≡ 0x23 → SpansAt u (p + 5) a
+
 -- The spans of all clauses were put into the table t.
 pub record AllSpanned (t u : List ℕ) (f : Translation) : Type 0 where
   pub below : Below t u 0

@@ -1,3 +1,4 @@
+use Rattle.emitter.proofs.Tables.{filled}
 use borrow.Author.Needs.{needs}
 use Rattle.emitter.proofs.prepare.fill.Statement.{statement}
 use Rattle.emitter.proofs.prepare.fill.Tie as tie
@@ -28,7 +29,7 @@ same-length c = search needs
 
 -- src/prepare.rt:43:1
 returns : tie.Need-returns
-returns c = ?
+returns c = filled _ _ _ _ _ _ _ (c .before .before .before .before .before .before .before .before .before .before .before .before .before .before .before .before .before .before .before .pre .0) (c .before .before .before .before .before .before .before .before .before .before .before .before .before .before .before .before .before .before .before .pre .1) (c .before .before .before .before .before .before .before .before .before .before .before .before .before .before .before .before .before .before .before .pre .2) (c .before .before .before .before .before .before .before .before .before .before .before .before .before .before .before .before .before .before .before .pre .3) (c .before .before .before .before .before .before .before .before .before .before .before .before .before .before .put-index .ensures) (c .before .before .before .before .before .before .before .before .before .before .put-index2 .ensures) (c .before .before .before .before .before .before .put-bytes .ensures) (c .before .before .put-bytes2 .ensures)
 
 pub fill-spec : {M : Type 1} → statement M
 fill-spec =

@@ -7,31 +7,31 @@ use Rattle.emitter.proofs.prepare.fill.Reads as fill-reads
 use Rattle.emitter.proofs.prepare.span_all.Reads as span-all-reads
 use Rattle.reader.proofs.index.build.Reads as build-reads
 
--- src/prepare.rt:148:5
+-- src/prepare.rt:158:5
 fill-requires : tie.Need-fill-requires
 fill-requires c κs = search needs
 
--- src/prepare.rt:150:19
+-- src/prepare.rt:160:19
 slice-aggregate-build : tie.Need-slice-aggregate-build
 slice-aggregate-build c = search needs
 
--- src/prepare.rt:150:5
+-- src/prepare.rt:160:5
 build-requires : tie.Need-build-requires
 build-requires c κs = ?
 
--- src/prepare.rt:151:22
+-- src/prepare.rt:161:22
 slice-aggregate-span-all : tie.Need-slice-aggregate-span-all
 slice-aggregate-span-all c = search needs
 
--- src/prepare.rt:151:5
+-- src/prepare.rt:161:5
 span-all-requires : tie.Need-span-all-requires
 span-all-requires c κs = ?
 
--- src/prepare.rt:144:1
+-- src/prepare.rt:154:1
 same-length : tie.Need-same-length
 same-length c = search needs
 
--- src/prepare.rt:144:1
+-- src/prepare.rt:154:1
 returns : tie.Need-returns
 returns c = ?
 

@@ -1,73 +1,49 @@
+use Prim.Native.Nat.{_-_}
+use mathlib.Core.Path.{_≡_}
+use native.Mathlib.Omega.{arith}
+use lib.ListN.{length}
+use borrow.Author.Needs.{needs}
+use Rattle.emitter.proofs.Clauses.{Walk, walk-starts, walk-next, walk-ends}
 use Rattle.emitter.proofs.prepare.span_all.Statement.{statement}
 use Rattle.emitter.proofs.prepare.span_all.Tie as tie
 use Rattle.emitter.proofs.prepare.span_all.Reads as reads
 use Rattle.emitter.proofs.prepare.span_all.Lts as lts
-use Rattle.emitter.proofs.prepare.mapped_in.Reads as mapped-in-reads
-use Rattle.emitter.proofs.prepare.span_code.Reads as span-code-reads
-use Rattle.fields.proofs.bytes.byte_at.Reads as byte-at-reads
+use Rattle.emitter.proofs.prepare.span_field.Reads as span-field-reads
 use Rattle.fields.proofs.walk.field_end.Reads as field-end-reads
 
 abbrev Inv-loop : tie.InvT-loop
-Inv-loop target places body table₀ p₀ table p = ?
+Inv-loop target places body table₀ p₀ table p = (length table ≡ 25664) × Walk target places body table₀ table p
 
 abbrev μ-loop : tie.MeasureT-loop
-μ-loop target places body table₀ p₀ table p = ?
+μ-loop target places body table₀ p₀ table p = length body - p
 
--- src/prepare.rt:131:5
+-- src/prepare.rt:147:5
 loop-holds : tie.Need-loop-holds Inv-loop μ-loop
-loop-holds c = ?
+loop-holds c = (c .before .before .before .before .pre .2, walk-starts _ _ _ _)
 
--- src/prepare.rt:132:12
-shared-slice-read-if1 : tie.Need-shared-slice-read-if1 Inv-loop μ-loop
-shared-slice-read-if1 c = ?
+-- src/prepare.rt:148:9
+span-field-requires : tie.Need-span-field-requires Inv-loop μ-loop
+span-field-requires c κs = (c .before .before .before .before .before .before .before .pre .0, c .before .before .before .before .before .before .before .pre .1, c .before .loop-test .taken, c .before .before .loop .inv .0)
 
--- src/prepare.rt:133:61
-add-byte-at : tie.Need-add-byte-at Inv-loop μ-loop
-add-byte-at c = ?
-
--- src/prepare.rt:133:47
-byte-at-requires : tie.Need-byte-at-requires Inv-loop μ-loop
-byte-at-requires c κs = ?
-
--- src/prepare.rt:133:17
-mapped-in-requires : tie.Need-mapped-in-requires Inv-loop μ-loop
-mapped-in-requires c κs = ?
-
--- src/prepare.rt:135:17
-same-length : tie.Need-same-length Inv-loop μ-loop
-same-length c = ?
-
--- src/prepare.rt:135:17
-returns : tie.Need-returns Inv-loop μ-loop
-returns c = ?
-
--- src/prepare.rt:137:51
-add-span-code : tie.Need-add-span-code Inv-loop μ-loop
-add-span-code c = ?
-
--- src/prepare.rt:137:13
-span-code-requires : tie.Need-span-code-requires Inv-loop μ-loop
-span-code-requires c κs = ?
-
--- src/prepare.rt:139:9
+-- src/prepare.rt:149:9
 field-end-requires : tie.Need-field-end-requires Inv-loop μ-loop
-field-end-requires c κs = ?
+field-end-requires c κs = search needs
 
--- src/prepare.rt:131:5
+-- src/prepare.rt:147:5
 loop-less : tie.Need-loop-less Inv-loop μ-loop
-loop-less c = ?
+loop-less c = search needs
 
--- src/prepare.rt:131:5
+-- src/prepare.rt:147:5
 loop-again : tie.Need-loop-again Inv-loop μ-loop
-loop-again c = ?
+loop-again c = (search needs, walk-next _ _ _ _ _ _ (λ i. omega (arith, c .before .before .before .before .before .before .before .before .shared-slice-known3 .given i)) _ _ (c .before .before .before .before .before .loop-test .taken) (c .field-end .ensures .is) (c .before .before .before .span-field .ensures) (c .before .before .before .before .before .before .loop .inv .1))
 
--- src/prepare.rt:125:1
-same-length-2 : tie.Need-same-length-2 Inv-loop μ-loop
-same-length-2 c = ?
+-- src/prepare.rt:141:1
+same-length : tie.Need-same-length Inv-loop μ-loop
+same-length c = search needs
 
--- src/prepare.rt:125:1
-returns-2 : tie.Need-returns-2 Inv-loop μ-loop
-returns-2 c = ?
+-- src/prepare.rt:141:1
+returns : tie.Need-returns Inv-loop μ-loop
+returns c = walk-ends _ _ _ _ _ _ (λ i. omega (arith, c .before .before .before .shared-slice-known3 .given i)) (c .loop-test .left) (c .before .loop .inv .1)
 
 pub span-all-spec : {M : Type 1} → statement M
 span-all-spec =
@@ -76,16 +52,9 @@ span-all-spec =
     Inv-loop
     μ-loop
     loop-holds
-    shared-slice-read-if1
-    add-byte-at
-    byte-at-requires
-    mapped-in-requires
-    same-length
-    returns
-    add-span-code
-    span-code-requires
+    span-field-requires
     field-end-requires
     loop-less
     loop-again
-    same-length-2
-    returns-2)
+    same-length
+    returns)
