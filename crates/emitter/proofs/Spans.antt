@@ -209,15 +209,19 @@ module _ (s index b : List ℕ) (k at n : ℕ) where
         let from : q .0 + 5 ≡ place + 4 = omega (arith, q .1) in
         let one : q .0 + 1 ≡ place = omega (arith, q .1) in
         let to : q .0 + 3 + pairAt s (q .0 + 1) ≡ stop = rw one (omega (arith, q .1)) in
-        let inside = code-inside b at a (w .stands) in
-        (d .1, d .2, record {
-          indexed = w .indexed;
-          typed = d .6;
-          kinds = kinds;
-          part = rw (from, to) at (q .2);
-          stands = d .7;
-          within = omega (arith, d .8);
-        }, λ u r x. rw (d .3) (node-spanned t u at k (d .0) (d .1) r long (omega arith) x))
+        let inside = code-inside b at a (w .stands) in (
+          d .1,
+          d .2,
+          record {
+            indexed = w .indexed;
+            typed = d .6;
+            kinds = kinds;
+            part = rw (from, to) at (q .2);
+            stands = d .7;
+            within = omega (arith, d .8);
+          },
+          λ u r x. rw (d .3) (node-spanned t u at k (d .0) (d .1) r long (omega arith) x),
+        )
 
 -- One operand more, and the end of them.
 module _ (s index b : List ℕ) (k at n : ℕ) (t₀ t : List ℕ) (q e c : ℕ) where

@@ -17,7 +17,9 @@ use Rattle.language.proofs.Holds.{holds-entries}
 use Rattle.reader.specs.Syntax.{write, code}
 use Rattle.reader.specs.Inner.Positions.{KindsIn}
 use Rattle.reader.specs.Code.{Code, levels}
+use Rattle.reader.specs.Typing.{Typed}
 use Rattle.reader.proofs.Indexed.{build-is, production-key}
+use Rattle.reader.proofs.Laws.{kinds-in}
 use Rattle.reader.proofs.Larger.{apart}
 use Rattle.translation.specs.Translation.{Translation, mapped}
 use Rattle.translation.specs.Running.{clausesOf, mappedArguments}
@@ -187,3 +189,175 @@ module _ (s b t₀ t₁ t₂ t₃ t₄ : List ℕ) (short : length s ≤ 1024) (
       source = λ j h. from₃ (16448 + j) (omega arith) ∙ (ap (λ (t : List ℕ). getD t (16448 + j) 0) e₃ ∙ get-in t₂ 16448 s room₃ j h);
       body = λ j h. ap (λ (t : List ℕ). getD t (17472 + j) 0) e₄ ∙ get-in t₃ 17472 b room₄ j h;
     }
+
+-- Bytes stand where each of them does.
+stands-each : (u : List ℕ) (at : ℕ) (v : List ℕ) → at + length v ≤ length u → ((j : ℕ) → j < length v → getD u (at + j) 0 ≡ getD v j 0) → Stands u at v
+stands-each u at v h e =
+    let d = length-drop at u in
+    let l : length (take (length v) (drop at u)) ≡ length v = length-take-le (length v) (drop at u) (omega arith) in
+    record {
+      inside = h;
+      bytes = ext-getD 0 (take (length v) (drop at u)) v l
+          (λ j i.
+          let k : j < length v = rw l at i in
+          getD-take (length v) (drop at u) j 0 k ∙ (getD-drop at u j 0 ∙ e j k));
+    }
+
+-- What stands at each place of a part.
+part-get : (s : List ℕ) (p e : ℕ) (v : List ℕ) → slice p e s ≡ v → e ≤ length s → (j : ℕ) → j < length v → (p + j < e) × (getD v j 0 ≡ getD s (p + j) 0)
+part-get s p e v h l j i =
+    let n : length v ≡ e - p = ap length (sym h) ∙ length-slice p e s l in
+    let k : p + j < e = omega arith in
+    (k, ap (λ (w : List ℕ). getD w j 0) (sym h) ∙ (getD-drop p (take e s) j 0 ∙ getD-take e s (p + j) 0 k))
+
+no-range : (s : List ℕ) (place : ℕ) → rangeBefore s place ≡ none → place ≡ 0
+no-range s zero e = refl
+no-range s (suc q) e = none-some (sym e)
+
+some-range : (s : List ℕ) (place : ℕ) (c : Range) → rangeBefore s place ≡ some c → 0 < place
+some-range s zero c e = none-some e
+some-range s (suc q) c e = omega arith
+
+-- What a run may rely on, from what was put into the table.
+module _ (s g b t u : List ℕ) (f : Translation) (z : Checked s g b f) (w : Filled s b t) (a : AllSpanned t u f)
+    (source-bytes : (i : ℕ) → getD s i 0 < 256) (bytes : (i : ℕ) → getD b i 0 < 256) where
+  abbrev index : List ℕ
+  index = putAll 0x11 s (w .index .zeros) (places s)
+
+  indexed : Indexed index s (f .source)
+  indexed = build-is s (w .index .zeros) source-bytes (z .pieces .source-short) (w .index .long) (w .index .zero) (f .source) (z .pieces .source) refl
+
+  low : (j : ℕ) → j < 21568 → getD u j 0 ≡ getD t j 0
+  low j h = a .below .same j (omega arith)
+
+  entry : (j : ℕ) → j < 8224 → getD u j 0 ≡ getD index j 0
+  entry j h =
+      let n : 0 + j ≡ j = omega arith in
+      low j (omega arith) ∙ (ap (λ (m : ℕ). getD t m 0) (sym n) ∙ w .index .is j h)
+
+  long : length u ≡ 25664
+  long = a .below .long ∙ w .long
+
+  source-at : (j : ℕ) → j < length s → getD u (16448 + j) 0 ≡ getD s j 0
+  source-at j h = let l = z .pieces .source-short in low (16448 + j) (omega arith) ∙ w .source j h
+
+  body-at : (j : ℕ) → j < length b → getD u (17472 + j) 0 ≡ getD b j 0
+  body-at j h = let l = z .short in low (17472 + j) (omega arith) ∙ w .body j h
+
+  module _ (k p : ℕ) (ks : List ℕ) (kind : k < 32) (byte : p < 256) (e : argumentsOf (f .source) k p ≡ some ks) where
+    held : Holds s (f .source)
+    held = holds-entries s (f .source) (z .pieces .source)
+
+    there : (q : ℕ) × (getD index (productionKey k p) 0 ≡ suc q) × (slice (q + 5) (fieldEnd s q) s ≡ ks)
+    there = place-some s (getD index (productionKey k p) 0) ks (sym (indexed .arguments k p kind byte) ∙ e)
+
+    is-production : IsProduction s (there .0)
+    unfolding keyAt
+    is-production =
+        let at = puts-place 0x11 s (places s) (w .index .zeros) (productionKey k p) (omega (arith, w .index .long)) (w .index .zero (productionKey k p)) in
+        let more : 0 < getD index (productionKey k p) 0 = omega (arith, there .1) in
+        let (q, is, key, good) = found 0x11 (entryWhole s) s (productionKey k p) (places s) (held .whole) (rw at at more) in
+        let same : q ≡ there .0 = omega (arith, is, at, there .1) in
+        let y : IsProduction s q =
+        ⊎-elim
+        (λ c.
+        let o : keyAt 0x11 s q ≡ getD s (q + 3) 0 = cc (eq-eqb _ _ (c .tag)) in
+        let l = c .kind in
+        absurd (omega (arith, o, key, l)))
+        (λ c. c)
+        (entry-facts s q good) in
+        rw same at y
+
+    stop-is : suc (there .0) + 2 + pairAt s (suc (there .0)) ≡ fieldEnd s (there .0)
+    unfolding fieldEnd
+    stop-is = let n : pairAt s (suc (there .0)) ≡ pairAt s (there .0 + 1) = ap (pairAt s) (omega arith) in omega arith
+
+    kinds-there : KindsIn s (there .0 + 5) (fieldEnd s (there .0))
+    kinds-there x i j =
+        let pos : suc (there .0) ≡ 0 → ⊥ = λ v. omega arith in
+        kinds-in index s (indexed .sound) refl kind byte (sym (there .1)) pos refl x (omega arith) (omega (arith, stop-is))
+
+    production-there : Production u (indexEntry u (productionKey k p)) ks
+    unfolding fieldEnd pairAt
+    production-there =
+        let q : ℕ = there .0 in
+        let c = is-production in
+        let at : getD u (productionKey k p) 0 ≡ q + 1 = entry (productionKey k p) (omega arith) ∙ omega (arith, there .1) in
+        let n : length ks ≡ fieldEnd s q - (q + 5) = ap length (sym (there .2)) ∙ length-slice (q + 5) (fieldEnd s q) s (c .fits) in
+        let fits = c .fits in
+        let two = c .two in
+        let ten = c .ten in
+        let one : getD s (q + 1 + 1) 0 ≡ getD s (q + 2) 0 = ap (λ (m : ℕ). getD s m 0) (omega arith) in
+        let here : getD u (16448 + (q + 2)) 0 ≡ getD s (q + 2) 0 = source-at (q + 2) (omega arith) in
+        let there' : getD u (16448 + (getD u (productionKey k p) 0 + 1)) 0 ≡ getD u (16448 + (q + 2)) 0 = ap (λ (m : ℕ). getD u (16448 + m) 0) (omega arith) in
+        let five : getD u (productionKey k p) 0 + 4 ≡ q + 5 = omega arith in
+        let short = z .pieces .source-short in
+        record {
+          count = omega (arith, there', here, one, n);
+          kinds = record {
+            inside = omega (arith, n);
+            stands = rw five (stands-each u (16448 + (q + 5)) ks (omega (arith, n, long))
+                (λ j i.
+                let x = part-get s (q + 5) (fieldEnd s q) ks (there .2) (c .fits) j i in
+                let m : 16448 + (q + 5) + j ≡ 16448 + (q + 5 + j) = omega arith in
+                ap (λ (m : ℕ). getD u m 0) m ∙ (source-at (q + 5 + j) (omega (arith, x .0)) ∙ sym (x .1))));
+            below = λ j i.
+                let x = part-get s (q + 5) (fieldEnd s q) ks (there .2) (c .fits) j i in
+                rw (x .1) (kinds-there (q + 5 + j) (omega arith) (x .0) .1);
+          };
+          few = omega (arith, n);
+        }
+
+    clause-is : Found z bytes t (w .items) k p
+    clause-is = clause-found z bytes t (w .items) k p ks kind byte e
+
+    at-clause : ClauseAt b f (clause-is .place)
+    at-clause = clause-there z bytes (clause-is .place) (clause-is .there) (clause-is .tag)
+
+    same-code : codeAt b f (clause-is .place) ≡ clausesOf f k p
+    same-code = rw (clause-is .kind, clause-is .name)
+
+    in-clauses : clauseEntry u (productionKey k p) ≡ clause-is .place + 1
+    in-clauses = low (8224 + productionKey k p) (omega arith) ∙ clause-is .is
+
+    clause-ready : Clause u (clauseEntry u (productionKey k p)) (clausesOf f k p)
+    unfolding fieldEnd pairAt
+    clause-ready =
+        let x : ℕ = clause-is .place in
+        let c = at-clause in
+        let ends = c .ends in
+        let n = clause-length b f x c in
+        let short = z .short in
+        let at = in-clauses in
+        let high : getD u (17472 + (x + 1)) 0 ≡ getD b (x + 1) 0 = body-at (x + 1) (omega arith) in
+        let lower : getD u (17472 + (x + 1 + 1)) 0 ≡ getD b (x + 1 + 1) 0 = body-at (x + 1 + 1) (omega arith) in
+        let five : x + 1 + 4 ≡ x + 5 = omega arith in
+        let spans : SpansAt u (clauseEntry t (productionKey k p) + 4) (clausesOf f k p) = a .spans k p ks kind byte e in
+        let same : clauseEntry t (productionKey k p) ≡ x + 1 = clause-is .is in
+        rw (at, ← same-code)
+        (record {
+          size = rw (high, lower) (omega arith);
+          inside = omega arith;
+          stands = rw five (stands-each u (17472 + (x + 5)) (write code (codeAt b f x)) (omega (arith, n, long))
+              (λ j i.
+              let y = part-get b (x + 5) (fieldEnd b x) (write code (codeAt b f x)) (c .part) (c .ends) j i in
+              let m : 17472 + (x + 5) + j ≡ 17472 + (x + 5 + j) = omega arith in
+              ap (λ (m : ℕ). getD u m 0) m ∙ (body-at (x + 5 + j) (omega (arith, y .0)) ∙ sym (y .1))));
+          spans = rw (same, ← same-code) at spans;
+          within = c .within;
+        })
+
+  pub ready : Ready u f
+  ready = record {
+    long = long;
+    class = λ k c h e. rw (entry k (omega arith)) (some-range s (getD index k 0) c (sym (indexed .range k h) ∙ e));
+    name = λ k p ks h e.
+        entry k (omega arith) ∙ no-range s (getD index k 0) (sym (indexed .range k h) ∙ apart (f .source) (whole z .0 .source-apart) k p ks e);
+    production = λ k p ks h i e. production-there k p ks h i e;
+    clause = λ k p ks h i e. clause-ready k p ks h i e;
+    typed = λ k p ks h i e. clause-typed k p (clause-is k p ks h i e .kind) (clause-is k p ks h i e .name) (at-clause k p ks h i e);
+  }
+    where
+      clause-typed : (k p : ℕ) {x : ℕ} → getD b (x + 3) 0 ≡ k → getD b (x + 4) 0 ≡ p → ClauseAt b f x
+          → Typed (f .target) (mappedArguments f k p) (clausesOf f k p) (mapped (f .body) k)
+      clause-typed k p ek ep c = rw (ek, ep) at (c .typed)

@@ -1,3 +1,7 @@
+use Rattle.reader.proofs.Check.{zeros}
+use mathlib.Core.Path.{refl}
+use native.Mathlib.Omega.{arith}
+use Rattle.emitter.proofs.Tables.{ready}
 use borrow.Author.Needs.{needs}
 use Rattle.emitter.proofs.prepare.fill_all.Statement.{statement}
 use Rattle.emitter.proofs.prepare.fill_all.Tie as tie
@@ -17,7 +21,7 @@ slice-aggregate-build c = search needs
 
 -- src/prepare.rt:160:5
 build-requires : tie.Need-build-requires
-build-requires c κs = ?
+build-requires c κs = (c .before .before .before .before .before .before .before .before .before .pre .2 .1 .pieces .target-short, refl, zeros 8224)
 
 -- src/prepare.rt:161:22
 slice-aggregate-span-all : tie.Need-slice-aggregate-span-all
@@ -25,7 +29,7 @@ slice-aggregate-span-all c = search needs
 
 -- src/prepare.rt:161:5
 span-all-requires : tie.Need-span-all-requires
-span-all-requires c κs = ?
+span-all-requires c κs = (c .before .before .before .build .ensures (c .before .before .before .before .before .before .before .before .before .before .before .before .before .pre .2 .0 .target) (c .before .before .before .before .before .before .before .before .before .before .before .before .before .pre .2 .1 .pieces .target) .sound, c .before .before .before .before .before .before .before .before .before .before .before .before .before .pre .2 .1 .short, search needs)
 
 -- src/prepare.rt:154:1
 same-length : tie.Need-same-length
@@ -33,7 +37,7 @@ same-length c = search needs
 
 -- src/prepare.rt:154:1
 returns : tie.Need-returns
-returns c = ?
+returns c = λ f z. ready _ _ _ _ _ f z (c .before .before .before .before .before .before .before .before .before .before .fill .ensures) (c .before .before .span-all .ensures _ f z (c .before .before .before .before .before .before .build .ensures (f .target) (z .pieces .target)) (c .before .before .before .before .before .before .before .before .before .before .fill .ensures .items)) (λ i. omega (arith, c .before .before .before .before .before .before .before .before .before .before .before .before .before .before .before .shared-slice-known .given i)) (λ i. omega (arith, c .before .before .before .before .before .before .before .before .before .before .before .before .before .shared-slice-known3 .given i))
 
 pub fill-all-spec : {M : Type 1} → statement M
 fill-all-spec =
