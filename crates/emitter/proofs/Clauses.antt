@@ -2,18 +2,17 @@
 use Prim.Native.Nat.{ℕ, zero, suc, _+_, _-_, _/_, _%_, _≤_, _<_}
 use mathlib.Core.Path.{_≡_, refl, sym, ap, _∙_}
 use mathlib.Core.Logic.{_⊎_, inl, inr, ⊎-elim}
-use mathlib.Core.Bool.{true}
 use mathlib.Core.List.{List, [], _∷_, _++_, append-nil}
-use mathlib.Core.Option.{none, some}
+use mathlib.Core.Option.{some}
 use native.Mathlib.Omega.{arith}
 use lib.ListN.{length, getD, take, drop, length-drop, take-append-drop}
 use lib.Seq.{slice, drop-append-le, length-slice}
 use lib.Dec.{eqb}
-use borrow.Author.Tests.{eq-eqb, eqb-true, eqb-false}
+use borrow.Author.Tests.{eq-eqb, eqb-true}
 use Rattle.fields.specs.Lists.{any}
 use Rattle.fields.specs.Outcome.{value}
 use Rattle.fields.specs.Inner.Places.{fieldEnd, placesFrom, places, keyAt}
-use Rattle.fields.proofs.Truth.{Mem, by-test, none-some, some-inj, and-both, all-mem, mem-all, any-mem, mem-any, mem-map}
+use Rattle.fields.proofs.Truth.{Mem, none-some, some-inj, and-both, all-mem, mem-all, any-mem, mem-any, mem-map}
 use Rattle.fields.proofs.Keyed.{Rising, is-rising}
 use Rattle.fields.proofs.Places.{places-done, places-next, end-past}
 use Rattle.fields.proofs.Codec.{Bytes, each-front, bytes-from}
@@ -27,8 +26,7 @@ use Rattle.reader.specs.Inner.Index.{Indexed, putAll}
 use Rattle.reader.proofs.Placed.{puts-place, found}
 use Rattle.reader.proofs.Members.{in-below}
 use Rattle.reader.proofs.Sound.{read-done}
-use Rattle.translation.specs.Translation.{Translation, mapping, clause, itemKey, mapped, clauseOf}
-use Rattle.translation.specs.TranslationFile.{allRising}
+use Rattle.translation.specs.Translation.{Translation, mapping, clause, itemKey, mapped}
 use Rattle.translation.specs.Running.{readClause, clausesOf, mappedArguments, codeLevels}
 use Rattle.translation.specs.WellFormed.{wellFormed}
 use Rattle.translation.specs.Inner.Items.{itemWhole, itemAt, IsMapping, IsClause, HoldsItems}

@@ -1,7 +1,7 @@
 -- Where the codes of productions end: laws of the spans that are put into the table.
-use Prim.Native.Nat.{ℕ, zero, suc, _+_, _-_, _/_, _%_, _≤_, _<_, max}
+use Prim.Native.Nat.{ℕ, zero, suc, _+_, _-_, _≤_, _<_}
 use mathlib.Core.Path.{_≡_, refl, sym, ap, _∙_}
-use mathlib.Core.List.{List, [], _∷_, _++_}
+use mathlib.Core.List.{List, [], _∷_}
 use mathlib.Core.Option.{none, some}
 use native.Mathlib.Omega.{arith}
 use lib.ListN.{length, getD, set, length-append, length-set}
@@ -21,7 +21,7 @@ use Rattle.reader.specs.Inner.Positions.{KindsIn}
 use Rattle.emitter.specs.Inner.Stands.{Stands}
 use Rattle.emitter.specs.Inner.Table.{spanEntry, SpansAt, SpansAllAt}
 use Rattle.emitter.specs.Inner.Filling.{Below, CodeAsks, Spanned}
-use Rattle.emitter.proofs.Standing.{stands-head, stands-both, none-stands}
+use Rattle.emitter.proofs.Standing.{stands-head, stands-both}
 
 empty-cons : {A : Type 0} {y : ℕ} {s : List ℕ} → [] ≡ y ∷ s → A
 empty-cons e = let z : _≡_ {A = ℕ} 0 1 = cc in absurd (omega arith)

@@ -1,39 +1,38 @@
 -- The table: what each part of it holds, and what a run may rely on.
 use Prim.Native.Nat.{ℕ, zero, suc, _+_, _-_, _*_, _≤_, _<_}
 use mathlib.Core.Path.{_≡_, refl, sym, ap, _∙_}
-use mathlib.Core.List.{List, [], _∷_, _++_, append-assoc}
+use mathlib.Core.List.{List, [], _∷_, _++_}
 use mathlib.Core.Option.{none, some}
 use mathlib.Core.Logic.{⊎-elim}
 use native.Mathlib.Omega.{arith}
 use native.Mathlib.Numerals.{add-one}
-use lib.ListN.{length, getD, set, take, drop, length-append, length-take, length-drop, length-set, List·getD-append, List·getD-eq-default}
+use lib.ListN.{length, getD, set, take, drop, length-take, length-drop, List·getD-append, List·getD-eq-default}
 use lib.Dec.{ltb}
 use borrow.Author.Tests.{eq-eqb, ne-eqb, ltb-true, ltb-false}
 use Rattle.fields.specs.Fields.{pairAt}
 use Rattle.fields.proofs.Truth.{by-test, none-some}
-use Rattle.language.specs.Inner.Entries.{entryWhole, IsClass, IsProduction, Holds}
+use Rattle.language.specs.Inner.Entries.{entryWhole, IsProduction, Holds}
 use Rattle.language.proofs.Facts.{entry-facts}
 use Rattle.language.proofs.Holds.{holds-entries}
 use Rattle.reader.specs.Syntax.{write, code}
 use Rattle.reader.specs.Inner.Positions.{KindsIn}
-use Rattle.reader.specs.Code.{Code, levels}
 use Rattle.reader.specs.Typing.{Typed}
-use Rattle.reader.proofs.Indexed.{build-is, production-key}
+use Rattle.reader.proofs.Indexed.{build-is}
 use Rattle.reader.proofs.Laws.{kinds-in}
 use Rattle.reader.proofs.Larger.{apart}
 use Rattle.translation.specs.Translation.{Translation, mapped}
 use Rattle.translation.specs.Running.{clausesOf, mappedArguments}
-use Rattle.emitter.specs.Inner.Table.{KindsAt, Production, Clause, Ready, Checked, indexEntry, clauseEntry, sourceByte, bodyByte, SpansAt}
+use Rattle.emitter.specs.Inner.Table.{Production, Clause, Ready, Checked, indexEntry, clauseEntry, SpansAt}
 use Rattle.emitter.proofs.Spans.{place-some}
 use Rattle.emitter.proofs.Clauses.{ClauseAt, codeAt, whole, clause-there, clause-found, clause-length, Found}
 use Rattle.fields.specs.Inner.Places.{fieldEnd, places, keyAt}
 use Rattle.reader.specs.Inner.Index.{putAll, Indexed, rangeBefore}
 use Rattle.reader.proofs.Placed.{puts-length, puts-place, found}
-use Rattle.language.specs.Language.{Language, Range, rangeOf, argumentsOf, productionKey}
-use Rattle.emitter.specs.Inner.Filling.{Built, Filled, mappedIn, Below, AllSpanned}
+use Rattle.language.specs.Language.{Range, argumentsOf, productionKey}
+use Rattle.emitter.specs.Inner.Filling.{Filled, mappedIn, AllSpanned}
 use lib.Seq.{slice, length-slice, ext-getD, take-suc, take-all, drop-drop, set-split, length-take-le, getD-take, getD-drop, getD-append-add}
 use Rattle.emitter.specs.Inner.Stands.{Stands, spliced}
-use Rattle.emitter.proofs.Standing.{splice-splice, length-spliced, nothing-spliced}
+use Rattle.emitter.proofs.Standing.{splice-splice, length-spliced}
 
 -- What is put in at a position, and what stands where then.
 spliced-is : (o : List ℕ) (pos : ℕ) (v : List ℕ) → spliced o pos v ≡ take pos o ++ (v ++ drop (pos + length v) o)

@@ -34,436 +34,77 @@ span-code-Inv-loop target places body kind at levels table₀ sign place stop q�
 abbrev span-code-μ-loop : span-code-lts.MeasureT-loop
 span-code-μ-loop target places body kind at levels table₀ sign place stop q₀ c₀ table q c = stop - q
 
--- src/prepare.rt:85:9
-span-code-returns : (t : ℕ) → span-code-lts.Need-returns (
-  byte-at-reads.Asked,
-  byte-at-reads.Learnt,
-  place-of-reads.Asked,
-  place-of-reads.Learnt,
-  pair-at-reads.Asked,
-  pair-at-reads.Learnt,
-  span-code-below t,
-  span-code.Post,
-  set-span-reads.Asked,
-  set-span-reads.Learnt,
-) (span-code-at t) span-code.Post span-code-Inv-loop span-code-μ-loop
+abbrev span-code-calls : ℕ → span-code-lts.Claims
+span-code-calls t = (byte-at-reads.Asked, byte-at-reads.Learnt, place-of-reads.Asked, place-of-reads.Learnt, pair-at-reads.Asked, pair-at-reads.Learnt, span-code-below t, span-code.Post, set-span-reads.Asked, set-span-reads.Learnt)
+
+span-code-returns : (t : ℕ) → span-code-lts.Need-returns (span-code-calls t) (span-code-at t) span-code.Post span-code-Inv-loop span-code-μ-loop
 span-code-returns t c = (omega arith, span-past _ _ _ _ _ _ _ _ _ (c .if1 .taken))
 
--- src/prepare.rt:87:16
-span-code-shared-slice-read-sign : (t : ℕ) → span-code-lts.Need-shared-slice-read-sign (
-  byte-at-reads.Asked,
-  byte-at-reads.Learnt,
-  place-of-reads.Asked,
-  place-of-reads.Learnt,
-  pair-at-reads.Asked,
-  pair-at-reads.Learnt,
-  span-code-below t,
-  span-code.Post,
-  set-span-reads.Asked,
-  set-span-reads.Learnt,
-) (span-code-at t) span-code.Post span-code-Inv-loop span-code-μ-loop
-span-code-shared-slice-read-sign t c = search needs
-
--- src/prepare.rt:89:16
-span-code-add-result : (t : ℕ) → span-code-lts.Need-add-result (
-  byte-at-reads.Asked,
-  byte-at-reads.Learnt,
-  place-of-reads.Asked,
-  place-of-reads.Learnt,
-  pair-at-reads.Asked,
-  pair-at-reads.Learnt,
-  span-code-below t,
-  span-code.Post,
-  set-span-reads.Asked,
-  set-span-reads.Learnt,
-) (span-code-at t) span-code.Post span-code-Inv-loop span-code-μ-loop
-span-code-add-result t c = search needs
-
--- src/prepare.rt:89:9
-span-code-returns-2 : (t : ℕ) → span-code-lts.Need-returns-2 (
-  byte-at-reads.Asked,
-  byte-at-reads.Learnt,
-  place-of-reads.Asked,
-  place-of-reads.Learnt,
-  pair-at-reads.Asked,
-  pair-at-reads.Learnt,
-  span-code-below t,
-  span-code.Post,
-  set-span-reads.Asked,
-  set-span-reads.Learnt,
-) (span-code-at t) span-code.Post span-code-Inv-loop span-code-μ-loop
+span-code-returns-2 : (t : ℕ) → span-code-lts.Need-returns-2 (span-code-calls t) (span-code-at t) span-code.Post span-code-Inv-loop span-code-μ-loop
 span-code-returns-2 t c = (omega arith, span-token _ _ _ _ _ _ _ (c .if2 .taken))
 
--- src/prepare.rt:92:16
-span-code-add-result-2 : (t : ℕ) → span-code-lts.Need-add-result-2 (
-  byte-at-reads.Asked,
-  byte-at-reads.Learnt,
-  place-of-reads.Asked,
-  place-of-reads.Learnt,
-  pair-at-reads.Asked,
-  pair-at-reads.Learnt,
-  span-code-below t,
-  span-code.Post,
-  set-span-reads.Asked,
-  set-span-reads.Learnt,
-) (span-code-at t) span-code.Post span-code-Inv-loop span-code-μ-loop
-span-code-add-result-2 t c = search needs
-
--- src/prepare.rt:92:9
-span-code-returns-3 : (t : ℕ) → span-code-lts.Need-returns-3 (
-  byte-at-reads.Asked,
-  byte-at-reads.Learnt,
-  place-of-reads.Asked,
-  place-of-reads.Learnt,
-  pair-at-reads.Asked,
-  pair-at-reads.Learnt,
-  span-code-below t,
-  span-code.Post,
-  set-span-reads.Asked,
-  set-span-reads.Learnt,
-) (span-code-at t) span-code.Post span-code-Inv-loop span-code-μ-loop
+span-code-returns-3 : (t : ℕ) → span-code-lts.Need-returns-3 (span-code-calls t) (span-code-at t) span-code.Post span-code-Inv-loop span-code-μ-loop
 span-code-returns-3 t c = (omega arith, span-argument _ _ _ _ _ _ _ (c .before .if2 .left) (c .if3 .taken))
 
--- src/prepare.rt:95:9
-span-code-returns-4 : (t : ℕ) → span-code-lts.Need-returns-4 (
-  byte-at-reads.Asked,
-  byte-at-reads.Learnt,
-  place-of-reads.Asked,
-  place-of-reads.Learnt,
-  pair-at-reads.Asked,
-  pair-at-reads.Learnt,
-  span-code-below t,
-  span-code.Post,
-  set-span-reads.Asked,
-  set-span-reads.Learnt,
-) (span-code-at t) span-code.Post span-code-Inv-loop span-code-μ-loop
+span-code-returns-4 : (t : ℕ) → span-code-lts.Need-returns-4 (span-code-calls t) (span-code-at t) span-code.Post span-code-Inv-loop span-code-μ-loop
 span-code-returns-4 t c = (omega arith, span-deep _ _ _ _ _ _ _ _ _ (c .if4 .taken))
 
--- src/prepare.rt:97:54
-span-code-add-byte-at : (t : ℕ) → span-code-lts.Need-add-byte-at (
-  byte-at-reads.Asked,
-  byte-at-reads.Learnt,
-  place-of-reads.Asked,
-  place-of-reads.Learnt,
-  pair-at-reads.Asked,
-  pair-at-reads.Learnt,
-  span-code-below t,
-  span-code.Post,
-  set-span-reads.Asked,
-  set-span-reads.Learnt,
-) (span-code-at t) span-code.Post span-code-Inv-loop span-code-μ-loop
-span-code-add-byte-at t c = search needs
-
--- src/prepare.rt:97:40
-span-code-byte-at-requires : (t : ℕ) → span-code-lts.Need-byte-at-requires (
-  byte-at-reads.Asked,
-  byte-at-reads.Learnt,
-  place-of-reads.Asked,
-  place-of-reads.Learnt,
-  pair-at-reads.Asked,
-  pair-at-reads.Learnt,
-  span-code-below t,
-  span-code.Post,
-  set-span-reads.Asked,
-  set-span-reads.Learnt,
-) (span-code-at t) span-code.Post span-code-Inv-loop span-code-μ-loop
-span-code-byte-at-requires t c κs = search needs
-
--- src/prepare.rt:97:9
-span-code-place-of-requires : (t : ℕ) → span-code-lts.Need-place-of-requires (
-  byte-at-reads.Asked,
-  byte-at-reads.Learnt,
-  place-of-reads.Asked,
-  place-of-reads.Learnt,
-  pair-at-reads.Asked,
-  pair-at-reads.Learnt,
-  span-code-below t,
-  span-code.Post,
-  set-span-reads.Asked,
-  set-span-reads.Learnt,
-) (span-code-at t) span-code.Post span-code-Inv-loop span-code-μ-loop
+span-code-place-of-requires : (t : ℕ) → span-code-lts.Need-place-of-requires (span-code-calls t) (span-code-at t) span-code.Post span-code-Inv-loop span-code-μ-loop
 span-code-place-of-requires t c κs = (c .before .before .before .before .before .before .before .before .before .before .pre .1 .0 .long, c .before .before .before .before .before .before .before .before .before .before .pre .1 .1)
 
--- src/prepare.rt:99:9
-span-code-returns-5 : (t : ℕ) → span-code-lts.Need-returns-5 (
-  byte-at-reads.Asked,
-  byte-at-reads.Learnt,
-  place-of-reads.Asked,
-  place-of-reads.Learnt,
-  pair-at-reads.Asked,
-  pair-at-reads.Learnt,
-  span-code-below t,
-  span-code.Post,
-  set-span-reads.Asked,
-  set-span-reads.Learnt,
-) (span-code-at t) span-code.Post span-code-Inv-loop span-code-μ-loop
+span-code-returns-5 : (t : ℕ) → span-code-lts.Need-returns-5 (span-code-calls t) (span-code-at t) span-code.Post span-code-Inv-loop span-code-μ-loop
 span-code-returns-5 t c = (omega arith, span-unknown _ _ _ _ _ _ (c .before .before .before .before .before .before .before .before .before .before .before .before .pre .1 .1) _ _ (omega (arith, c .before .before .byte-at .ensures, c .before .before .before .before .before .before .before .before .before .shared-slice-known3 .given (c .before .before .before .before .before .before .before .before .before .before .before .before .args .at + 1))) (c .before .before .byte-at .ensures) (c .before .place-of .ensures .0) (c .before .before .before .before .if3 .left) _ _ _ (c .if5 .taken))
 
--- src/prepare.rt:101:16
-span-code-add-stop : (t : ℕ) → span-code-lts.Need-add-stop (
-  byte-at-reads.Asked,
-  byte-at-reads.Learnt,
-  place-of-reads.Asked,
-  place-of-reads.Learnt,
-  pair-at-reads.Asked,
-  pair-at-reads.Learnt,
-  span-code-below t,
-  span-code.Post,
-  set-span-reads.Asked,
-  set-span-reads.Learnt,
-) (span-code-at t) span-code.Post span-code-Inv-loop span-code-μ-loop
-span-code-add-stop t c = search needs
-
--- src/prepare.rt:101:28
-span-code-pair-at-requires : (t : ℕ) → span-code-lts.Need-pair-at-requires (
-  byte-at-reads.Asked,
-  byte-at-reads.Learnt,
-  place-of-reads.Asked,
-  place-of-reads.Learnt,
-  pair-at-reads.Asked,
-  pair-at-reads.Learnt,
-  span-code-below t,
-  span-code.Post,
-  set-span-reads.Asked,
-  set-span-reads.Learnt,
-) (span-code-at t) span-code.Post span-code-Inv-loop span-code-μ-loop
+span-code-pair-at-requires : (t : ℕ) → span-code-lts.Need-pair-at-requires (span-code-calls t) (span-code-at t) span-code.Post span-code-Inv-loop span-code-μ-loop
 span-code-pair-at-requires t c κs = let w = name-in (c .before .before .before .before .before .before .before .before .before .before .before .before .args .places .now) (c .before .before .before .before .before .before .before .before .before .before .before .before .args .target .now) (c .before .before .before .before .before .before .before .before .before .before .before .before .pre .1 .0) refl (c .before .before .before .before .before .before .before .before .before .before .before .before .pre .1 .1) (omega (arith, c .before .before .byte-at .ensures, c .before .before .before .before .before .before .before .before .before .shared-slice-known3 .given (c .before .before .before .before .before .before .before .before .before .before .before .before .args .at + 1))) (c .before .place-of .ensures .0) (c .if5 .left) in omega (arith, w .0)
 
--- src/prepare.rt:101:16
-span-code-add-stop-2 : (t : ℕ) → span-code-lts.Need-add-stop-2 (
-  byte-at-reads.Asked,
-  byte-at-reads.Learnt,
-  place-of-reads.Asked,
-  place-of-reads.Learnt,
-  pair-at-reads.Asked,
-  pair-at-reads.Learnt,
-  span-code-below t,
-  span-code.Post,
-  set-span-reads.Asked,
-  set-span-reads.Learnt,
-) (span-code-at t) span-code.Post span-code-Inv-loop span-code-μ-loop
-span-code-add-stop-2 t c = search needs
-
--- src/prepare.rt:102:17
-span-code-add-q : (t : ℕ) → span-code-lts.Need-add-q (
-  byte-at-reads.Asked,
-  byte-at-reads.Learnt,
-  place-of-reads.Asked,
-  place-of-reads.Learnt,
-  pair-at-reads.Asked,
-  pair-at-reads.Learnt,
-  span-code-below t,
-  span-code.Post,
-  set-span-reads.Asked,
-  set-span-reads.Learnt,
-) (span-code-at t) span-code.Post span-code-Inv-loop span-code-μ-loop
-span-code-add-q t c = search needs
-
--- src/prepare.rt:103:17
-span-code-add-c : (t : ℕ) → span-code-lts.Need-add-c (
-  byte-at-reads.Asked,
-  byte-at-reads.Learnt,
-  place-of-reads.Asked,
-  place-of-reads.Learnt,
-  pair-at-reads.Asked,
-  pair-at-reads.Learnt,
-  span-code-below t,
-  span-code.Post,
-  set-span-reads.Asked,
-  set-span-reads.Learnt,
-) (span-code-at t) span-code.Post span-code-Inv-loop span-code-μ-loop
-span-code-add-c t c = search needs
-
--- src/prepare.rt:104:5
-span-code-loop-holds : (t : ℕ) → span-code-lts.Need-loop-holds (
-  byte-at-reads.Asked,
-  byte-at-reads.Learnt,
-  place-of-reads.Asked,
-  place-of-reads.Learnt,
-  pair-at-reads.Asked,
-  pair-at-reads.Learnt,
-  span-code-below t,
-  span-code.Post,
-  set-span-reads.Asked,
-  set-span-reads.Learnt,
-) (span-code-at t) span-code.Post span-code-Inv-loop span-code-μ-loop
+span-code-loop-holds : (t : ℕ) → span-code-lts.Need-loop-holds (span-code-calls t) (span-code-at t) span-code.Post span-code-Inv-loop span-code-μ-loop
 span-code-loop-holds t c = (omega arith, kinds-in (c .before .before .before .before .before .before .before .before .before .before .before .before .before .args .places .now) (c .before .before .before .before .before .before .before .before .before .before .before .before .before .args .target .now) (c .before .before .before .before .before .before .before .before .before .before .before .before .before .pre .1 .0) refl (c .before .before .before .before .before .before .before .before .before .before .before .before .before .pre .1 .1) (omega (arith, c .before .before .before .byte-at .ensures, c .before .before .before .before .before .before .before .before .before .before .shared-slice-known3 .given (c .before .before .before .before .before .before .before .before .before .before .before .before .before .args .at + 1))) (c .before .before .place-of .ensures .0) (c .before .if5 .left) (c .pair-at .ensures .0), c .before .before .before .before .before .before .before .before .before .before .before .before .before .pre .1 .4, turn-starts _ _ _ _ _ _ (c .before .before .before .before .before .before .before .before .before .before .before .before .before .pre .1 .1) _ _ (omega (arith, c .before .before .before .byte-at .ensures, c .before .before .before .before .before .before .before .before .before .before .shared-slice-known3 .given (c .before .before .before .before .before .before .before .before .before .before .before .before .before .args .at + 1))) (c .before .before .before .byte-at .ensures) (c .before .before .place-of .ensures .0) (c .before .before .before .before .before .if3 .left) _ _ _ (c .before .before .before .before .before .before .before .before .before .before .before .before .before .pre .1 .4) (c .before .before .before .before .before .before .before .before .before .before .before .before .before .pre .1 .2) (c .pair-at .ensures .0) refl (kinds-in (c .before .before .before .before .before .before .before .before .before .before .before .before .before .args .places .now) (c .before .before .before .before .before .before .before .before .before .before .before .before .before .args .target .now) (c .before .before .before .before .before .before .before .before .before .before .before .before .before .pre .1 .0) refl (c .before .before .before .before .before .before .before .before .before .before .before .before .before .pre .1 .1) (omega (arith, c .before .before .before .byte-at .ensures, c .before .before .before .before .before .before .before .before .before .before .shared-slice-known3 .given (c .before .before .before .before .before .before .before .before .before .before .before .before .before .args .at + 1))) (c .before .before .place-of .ensures .0) (c .before .if5 .left) (c .pair-at .ensures .0)))
 
--- src/prepare.rt:105:45
-span-code-shared-slice-read-span-code : (t : ℕ) → span-code-lts.Need-shared-slice-read-span-code (
-  byte-at-reads.Asked,
-  byte-at-reads.Learnt,
-  place-of-reads.Asked,
-  place-of-reads.Learnt,
-  pair-at-reads.Asked,
-  pair-at-reads.Learnt,
-  span-code-below t,
-  span-code.Post,
-  set-span-reads.Asked,
-  set-span-reads.Learnt,
-) (span-code-at t) span-code.Post span-code-Inv-loop span-code-μ-loop
+span-code-shared-slice-read-span-code : (t : ℕ) → span-code-lts.Need-shared-slice-read-span-code (span-code-calls t) (span-code-at t) span-code.Post span-code-Inv-loop span-code-μ-loop
 span-code-shared-slice-read-span-code t c = c .before .before .loop .inv .1 _ (omega arith) (c .before .loop-test .taken) .0
 
--- src/prepare.rt:105:59
-span-code-sub-span-code : (t : ℕ) → span-code-lts.Need-sub-span-code (
-  byte-at-reads.Asked,
-  byte-at-reads.Learnt,
-  place-of-reads.Asked,
-  place-of-reads.Learnt,
-  pair-at-reads.Asked,
-  pair-at-reads.Learnt,
-  span-code-below t,
-  span-code.Post,
-  set-span-reads.Asked,
-  set-span-reads.Learnt,
-) (span-code-at t) span-code.Post span-code-Inv-loop span-code-μ-loop
-span-code-sub-span-code t c = search needs
-
--- src/prepare.rt:105:9
-span-code-span-code-requires : (t : ℕ) → span-code-lts.Need-span-code-requires (
-  byte-at-reads.Asked,
-  byte-at-reads.Learnt,
-  place-of-reads.Asked,
-  place-of-reads.Learnt,
-  pair-at-reads.Asked,
-  pair-at-reads.Learnt,
-  span-code-below t,
-  span-code.Post,
-  set-span-reads.Asked,
-  set-span-reads.Learnt,
-) (span-code-at t) span-code.Post span-code-Inv-loop span-code-μ-loop
+span-code-span-code-requires : (t : ℕ) → span-code-lts.Need-span-code-requires (span-code-calls t) (span-code-at t) span-code.Post span-code-Inv-loop span-code-μ-loop
 span-code-span-code-requires t c κs = let b = c .before .before .before .loop .inv .1 _ (omega arith) (c .before .before .loop-test .taken) in (omega arith, (c .before .before .before .before .before .before .before .before .before .before .before .before .before .before .before .before .before .pre .1 .0, b .1, c .before .before .before .before .before .before .before .before .before .before .before .before .before .before .before .before .before .pre .1 .2, c .before .before .before .loop .inv .0, c .before .before .before .loop .inv .2))
 
--- src/prepare.rt:106:9
-span-code-add-q-2 : (t : ℕ) → span-code-lts.Need-add-q-2 (
-  byte-at-reads.Asked,
-  byte-at-reads.Learnt,
-  place-of-reads.Asked,
-  place-of-reads.Learnt,
-  pair-at-reads.Asked,
-  pair-at-reads.Learnt,
-  span-code-below t,
-  span-code.Post,
-  set-span-reads.Asked,
-  set-span-reads.Learnt,
-) (span-code-at t) span-code.Post span-code-Inv-loop span-code-μ-loop
+span-code-add-q-2 : (t : ℕ) → span-code-lts.Need-add-q-2 (span-code-calls t) (span-code-at t) span-code.Post span-code-Inv-loop span-code-μ-loop
 span-code-add-q-2 t c = let b = c .before .before .before .before .before .before .loop .inv .1 _ (omega arith) (c .before .before .before .before .before .loop-test .taken) in let z = c .before .before .before .before .before .before .before .before .before .before .before .before .before .before .before .before .before .before .before .before .pre .1 .0 in omega (arith, z .short, b .0)
 
--- src/prepare.rt:104:5
-span-code-loop-less : (t : ℕ) → span-code-lts.Need-loop-less (
-  byte-at-reads.Asked,
-  byte-at-reads.Learnt,
-  place-of-reads.Asked,
-  place-of-reads.Learnt,
-  pair-at-reads.Asked,
-  pair-at-reads.Learnt,
-  span-code-below t,
-  span-code.Post,
-  set-span-reads.Asked,
-  set-span-reads.Learnt,
-) (span-code-at t) span-code.Post span-code-Inv-loop span-code-μ-loop
-span-code-loop-less t c = search needs
-
--- src/prepare.rt:104:5
-span-code-loop-again : (t : ℕ) → span-code-lts.Need-loop-again (
-  byte-at-reads.Asked,
-  byte-at-reads.Learnt,
-  place-of-reads.Asked,
-  place-of-reads.Learnt,
-  pair-at-reads.Asked,
-  pair-at-reads.Learnt,
-  span-code-below t,
-  span-code.Post,
-  set-span-reads.Asked,
-  set-span-reads.Learnt,
-) (span-code-at t) span-code.Post span-code-Inv-loop span-code-μ-loop
+span-code-loop-again : (t : ℕ) → span-code-lts.Need-loop-again (span-code-calls t) (span-code-at t) span-code.Post span-code-Inv-loop span-code-μ-loop
 span-code-loop-again t c = (c .before .before .span-code .ensures .0, (λ x i j. c .before .before .before .before .before .before .loop .inv .1 x (omega arith) j), search needs, turn-next _ _ _ _ _ _ _ _ _ _ _ _ _ (c .before .before .before .before .before .loop-test .taken) (c .before .before .span-code .ensures .1) (c .before .before .before .before .before .before .loop .inv .3))
 
--- src/prepare.rt:108:5
-span-code-set-span-requires : (t : ℕ) → span-code-lts.Need-set-span-requires (
-  byte-at-reads.Asked,
-  byte-at-reads.Learnt,
-  place-of-reads.Asked,
-  place-of-reads.Learnt,
-  pair-at-reads.Asked,
-  pair-at-reads.Learnt,
-  span-code-below t,
-  span-code.Post,
-  set-span-reads.Asked,
-  set-span-reads.Learnt,
-) (span-code-at t) span-code.Post span-code-Inv-loop span-code-μ-loop
-span-code-set-span-requires t c κs = search needs
-
--- src/prepare.rt:71:1
-span-code-same-length : (t : ℕ) → span-code-lts.Need-same-length (
-  byte-at-reads.Asked,
-  byte-at-reads.Learnt,
-  place-of-reads.Asked,
-  place-of-reads.Learnt,
-  pair-at-reads.Asked,
-  pair-at-reads.Learnt,
-  span-code-below t,
-  span-code.Post,
-  set-span-reads.Asked,
-  set-span-reads.Learnt,
-) (span-code-at t) span-code.Post span-code-Inv-loop span-code-μ-loop
-span-code-same-length t c = search needs
-
--- src/prepare.rt:71:1
-span-code-returns-6 : (t : ℕ) → span-code-lts.Need-returns-6 (
-  byte-at-reads.Asked,
-  byte-at-reads.Learnt,
-  place-of-reads.Asked,
-  place-of-reads.Learnt,
-  pair-at-reads.Asked,
-  pair-at-reads.Learnt,
-  span-code-below t,
-  span-code.Post,
-  set-span-reads.Asked,
-  set-span-reads.Learnt,
-) (span-code-at t) span-code.Post span-code-Inv-loop span-code-μ-loop
+span-code-returns-6 : (t : ℕ) → span-code-lts.Need-returns-6 (span-code-calls t) (span-code-at t) span-code.Post span-code-Inv-loop span-code-μ-loop
 span-code-returns-6 t c = (c .before .before .before .before .before .loop .inv .0, ends-as _ _ (c .before .before .set-span .ensures) (turn-ends _ _ _ _ _ _ _ _ _ _ _ (c .before .before .before .before .loop-test .left) (c .before .before .before .before .before .loop .inv .3)))
 
 pub +span-code-spec : {M : Type 1} → statement M
-+span-code-spec = close μ-span-code λ t. span-code-lts.spec (
-  byte-at-reads.Asked,
-  byte-at-reads.Learnt,
-  place-of-reads.Asked,
-  place-of-reads.Learnt,
-  pair-at-reads.Asked,
-  pair-at-reads.Learnt,
-  span-code-below t,
-  span-code.Post,
-  set-span-reads.Asked,
-  set-span-reads.Learnt,
-)
++span-code-spec = close μ-span-code λ t. span-code-lts.spec (span-code-calls t)
     (span-code-at t)
     span-code.Post
     span-code-Inv-loop
     span-code-μ-loop
     (span-code-returns t)
-    (span-code-shared-slice-read-sign t)
-    (span-code-add-result t)
+    (λ c. search needs)
+    (λ c. search needs)
     (span-code-returns-2 t)
-    (span-code-add-result-2 t)
+    (λ c. search needs)
     (span-code-returns-3 t)
     (span-code-returns-4 t)
-    (span-code-add-byte-at t)
-    (span-code-byte-at-requires t)
+    (λ c. search needs)
+    (λ c κs. search needs)
     (span-code-place-of-requires t)
     (span-code-returns-5 t)
-    (span-code-add-stop t)
+    (λ c. search needs)
     (span-code-pair-at-requires t)
-    (span-code-add-stop-2 t)
-    (span-code-add-q t)
-    (span-code-add-c t)
+    (λ c. search needs)
+    (λ c. search needs)
+    (λ c. search needs)
     (span-code-loop-holds t)
     (span-code-shared-slice-read-span-code t)
-    (span-code-sub-span-code t)
+    (λ c. search needs)
     (span-code-span-code-requires t)
     (span-code-add-q-2 t)
-    (span-code-loop-less t)
+    (λ c. search needs)
     (span-code-loop-again t)
-    (span-code-set-span-requires t)
-    (span-code-same-length t)
+    (λ c κs. search needs)
+    (λ c. search needs)
     (span-code-returns-6 t)

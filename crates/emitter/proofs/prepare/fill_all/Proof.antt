@@ -11,31 +11,12 @@ use Rattle.emitter.proofs.prepare.fill.Reads as fill-reads
 use Rattle.emitter.proofs.prepare.span_all.Reads as span-all-reads
 use Rattle.reader.proofs.index.build.Reads as build-reads
 
--- src/prepare.rt:158:5
-fill-requires : tie.Need-fill-requires
-fill-requires c κs = search needs
-
--- src/prepare.rt:160:19
-slice-aggregate-build : tie.Need-slice-aggregate-build
-slice-aggregate-build c = search needs
-
--- src/prepare.rt:160:5
 build-requires : tie.Need-build-requires
 build-requires c κs = (c .before .before .before .before .before .before .before .before .before .pre .2 .1 .pieces .target-short, refl, zeros 8224)
 
--- src/prepare.rt:161:22
-slice-aggregate-span-all : tie.Need-slice-aggregate-span-all
-slice-aggregate-span-all c = search needs
-
--- src/prepare.rt:161:5
 span-all-requires : tie.Need-span-all-requires
 span-all-requires c κs = (c .before .before .before .build .ensures (c .before .before .before .before .before .before .before .before .before .before .before .before .before .pre .2 .0 .target) (c .before .before .before .before .before .before .before .before .before .before .before .before .before .pre .2 .1 .pieces .target) .sound, c .before .before .before .before .before .before .before .before .before .before .before .before .before .pre .2 .1 .short, search needs)
 
--- src/prepare.rt:154:1
-same-length : tie.Need-same-length
-same-length c = search needs
-
--- src/prepare.rt:154:1
 returns : tie.Need-returns
 returns c = λ f z. ready _ _ _ _ _ f z (c .before .before .before .before .before .before .before .before .before .before .fill .ensures) (c .before .before .span-all .ensures _ f z (c .before .before .before .before .before .before .build .ensures (f .target) (z .pieces .target)) (c .before .before .before .before .before .before .before .before .before .before .fill .ensures .items)) (λ i. omega (arith, c .before .before .before .before .before .before .before .before .before .before .before .before .before .before .before .shared-slice-known .given i)) (λ i. omega (arith, c .before .before .before .before .before .before .before .before .before .before .before .before .before .shared-slice-known3 .given i))
 
@@ -43,10 +24,10 @@ pub fill-all-spec : {M : Type 1} → statement M
 fill-all-spec =
     tie.close
     (tie.spec
-    fill-requires
-    slice-aggregate-build
+    (λ c κs. search needs)
+    (λ c. search needs)
     build-requires
-    slice-aggregate-span-all
+    (λ c. search needs)
     span-all-requires
-    same-length
+    (λ c. search needs)
     returns)

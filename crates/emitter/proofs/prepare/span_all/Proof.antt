@@ -17,31 +17,15 @@ Inv-loop target places body table₀ p₀ table p = (length table ≡ 25664) × 
 abbrev μ-loop : tie.MeasureT-loop
 μ-loop target places body table₀ p₀ table p = length body - p
 
--- src/prepare.rt:147:5
 loop-holds : tie.Need-loop-holds Inv-loop μ-loop
 loop-holds c = (c .before .before .before .before .pre .2, walk-starts _ _ _ _)
 
--- src/prepare.rt:148:9
 span-field-requires : tie.Need-span-field-requires Inv-loop μ-loop
 span-field-requires c κs = (c .before .before .before .before .before .before .before .pre .0, c .before .before .before .before .before .before .before .pre .1, c .before .loop-test .taken, c .before .before .loop .inv .0)
 
--- src/prepare.rt:149:9
-field-end-requires : tie.Need-field-end-requires Inv-loop μ-loop
-field-end-requires c κs = search needs
-
--- src/prepare.rt:147:5
-loop-less : tie.Need-loop-less Inv-loop μ-loop
-loop-less c = search needs
-
--- src/prepare.rt:147:5
 loop-again : tie.Need-loop-again Inv-loop μ-loop
 loop-again c = (search needs, walk-next _ _ _ _ _ _ (λ i. omega (arith, c .before .before .before .before .before .before .before .before .shared-slice-known3 .given i)) _ _ (c .before .before .before .before .before .loop-test .taken) (c .field-end .ensures .is) (c .before .before .before .span-field .ensures) (c .before .before .before .before .before .before .loop .inv .1))
 
--- src/prepare.rt:141:1
-same-length : tie.Need-same-length Inv-loop μ-loop
-same-length c = search needs
-
--- src/prepare.rt:141:1
 returns : tie.Need-returns Inv-loop μ-loop
 returns c = walk-ends _ _ _ _ _ _ (λ i. omega (arith, c .before .before .before .shared-slice-known3 .given i)) (c .loop-test .left) (c .before .loop .inv .1)
 
@@ -53,8 +37,8 @@ span-all-spec =
     μ-loop
     loop-holds
     span-field-requires
-    field-end-requires
-    loop-less
+    (λ c κs. search needs)
+    (λ c. search needs)
     loop-again
-    same-length
+    (λ c. search needs)
     returns)
