@@ -3,3 +3,6 @@ pub mod Ends
 pub mod Puts
 pub mod Standing
 pub mod Skips
+pub mod Spans
+pub mod Tables
+pub mod Clauses

@@ -2,3 +2,4 @@
 pub mod Table
 pub mod Stands
 pub mod Runs
+pub mod Filling
