@@ -1,8 +1,8 @@
-pub mod Rows
+pub mod Clauses
 pub mod Ends
 pub mod Puts
-pub mod Standing
+pub mod Rows
 pub mod Skips
 pub mod Spans
+pub mod Standing
 pub mod Tables
-pub mod Clauses

@@ -344,6 +344,7 @@ module _ (s g b t u : List ℕ) (f : Translation) (z : Checked s g b f) (w : Fil
               ap (λ (m : ℕ). getD u m 0) m ∙ (body-at (x + 5 + j) (omega (arith, y .0)) ∙ sym (y .1))));
           spans = rw (same, ← same-code) at spans;
           within = c .within;
+          narrow = λ i h j. let q : getD u (17472 + i) 0 ≡ getD b i 0 = body-at i (omega arith) in rw q (bytes i);
         })
 
   pub ready : Ready u f
