@@ -1,0 +1,1087 @@
+-- Laws of codes in a row that are put out, each argument replaced by its run.
+use Prim.Native.Nat.{ℕ, zero, suc, _+_, _-_, _*_, _/_, _%_, _≤_, _<_, max}
+use mathlib.Core.Path.{_≡_, refl, sym, ap, subst, _∙_}
+use mathlib.Core.Logic.{_⊎_, inl, inr, ⊎-elim}
+use mathlib.Core.Bool.{Bool, true, false, not, cond}
+use mathlib.Core.List.{List, [], _∷_, _++_, append-assoc, append-nil, map}
+use mathlib.Core.Option.{Option, none, some}
+use native.Mathlib.Omega.{arith}
+use lib.ListN.{length, getD, getElem?, set, take, drop, length-append, length-set, length-map, replicate, getD-replicate}
+use lib.Seq.{slice, getD-set-same, getD-set-other}
+use lib.Dec.{eqb}
+use borrow.Author.Tests.{eqb-true, eqb-false, eq-eqb, ne-eqb}
+use Rattle.fields.proofs.Truth.{none-some, some-inj, false-true, by-test}
+use Rattle.language.specs.Language.{Language, Range, rangeOf, argumentsOf, inRange, productionKey}
+use Rattle.reader.specs.Code as Terms
+use Rattle.reader.specs.Code.{node, token, argument, Codes, nil, cons, levels, levelsAll}
+use Rattle.reader.specs.Typing.{Typed, TypedAll, typed-node, typed-token, typed-argument, typed-nil, typed-cons}
+use Rattle.reader.specs.Syntax.{sign, write, writeAll, code}
+use Rattle.reader.specs.declared.node.Syntax.{Syntax}
+use Rattle.reader.specs.declared.node.Syntax.the-variants.{Tree, Code}
+use Rattle.reader.specs.Inner.Positions.{syntaxOf, nameLength}
+use Rattle.translation.specs.Translation.{Translation, mapped}
+use Rattle.translation.specs.Running.{nth, operand, substitute, substituteAll, run, runAll, mappedArguments, clausesOf, transform}
+use Rattle.translation.proofs.Fitting.{mapped-arguments}
+use Rattle.emitter.specs.Inner.Stands.{Stands, Wrote}
+use Rattle.emitter.specs.Inner.Table.{indexEntry, clauseEntry, sourceByte, bodyByte, spanEntry, KindsAt, SpansAt, SpansAllAt, Production, Clause, Ready}
+use Rattle.emitter.specs.Inner.Runs.{bytesOf, allBytes, front, Given, Term, Node, Row, Same, FindAsks, RowAsks, ArgumentAsks, TermAsks, leafAt, leafLength, signLength, knownStart, rowBytes}
+use Rattle.emitter.proofs.Standing.{stands-head, stands-both, both-stand, wrote-none, wrote-then, wrote-full}
+
+get-inside : (r : List ℕ) (i k : ℕ) → getElem? r i ≡ some k → i < length r
+get-inside [] i k e = none-some e
+get-inside (x ∷ r) zero k e = omega arith
+get-inside (x ∷ r) (suc i) k e = let h = get-inside r i k e in omega arith
+
+-- The same, at a position written in another way.
+moved : (b : List ℕ) {at to : ℕ} (v : List ℕ) → at ≡ to → Stands b at v → Stands b to v
+moved b v e h = rw e at h
+
+-- What follows the first code of a row.
+module _ (t : List ℕ) (c stop : ℕ) (l : Language) (r : List ℕ) where
+  behind : (a : Terms.Code) (ts : Codes) {ks : List ℕ} (n : ℕ) → length (write code a) ≡ n → TypedAll l r ts ks
+      → Stands t (17472 + c) (write code a ++ writeAll code ts) → SpansAllAt t (c + length (write code a)) ts
+      → stop ≡ c + length (write code a ++ writeAll code ts) → stop ≤ 4096 → ((i : ℕ) → c ≤ i → i < stop → bodyByte t i < 256)
+      → Row t (c + n) stop l r ts ks
+  behind a ts n e hs s z d i w =
+      let la = length-append (write code a) (writeAll code ts) in
+      record {
+        typed = hs;
+        stands = moved t (writeAll code ts) (omega arith) (stands-both t (17472 + c) (write code a) (writeAll code ts) s .1);
+        spans = rw (← e) z;
+        ends = omega arith;
+        inside = i;
+        narrow = λ m h k. w m (omega arith) k;
+      }
+
+  -- The sign and the byte behind it.
+  signs : (y z : ℕ) (v : List ℕ) → Stands t (17472 + c) (y ∷ z ∷ v) → (bodyByte t c ≡ y) × (bodyByte t (c + 1) ≡ z) × Stands t (17472 + (c + 2)) v
+  signs y z v s =
+      let a = stands-head t (17472 + c) y (z ∷ v) s in
+      let b = stands-head t (17472 + (c + 1)) z v (moved t (z ∷ v) (omega arith) (a .2)) in
+      (a .1, b .1, moved t v (omega arith) (b .2))
+
+  pub row-empty : (cs : Codes) {js : List ℕ} → Row t c stop l r cs js → stop ≤ c → cs ≡ nil
+  unfolding write
+  row-empty nil w h = refl
+  row-empty (cons (node k p ts) us) w h = let e = w .ends in absurd (omega arith)
+  row-empty (cons (token v) us) w h = let e = w .ends in absurd (omega arith)
+  row-empty (cons (argument i) us) w h = let e = w .ends in absurd (omega arith)
+
+  row-two : (cs : Codes) {js : List ℕ} → Row t c stop l r cs js → c < stop → c + 2 ≤ stop
+  unfolding write
+  row-two nil w h = let e = w .ends in absurd (omega arith)
+  row-two (cons (node k p ts) us) w h = let e = w .ends in omega arith
+  row-two (cons (token v) us) w h = let e = w .ends in omega arith
+  row-two (cons (argument i) us) w h = let e = w .ends in omega arith
+
+  -- The next code is an argument, counted from 0.
+  pub record Numbered (cs : Codes) : Type 0 where
+    pub number : ℕ
+    pub rest : Codes
+    pub kinds : List ℕ
+    pub is : cs ≡ cons (argument (suc number)) rest
+    pub byte : bodyByte t (c + 1) ≡ suc number
+    pub inside : number < length r
+    pub room : c + 2 ≤ stop
+    pub row : Row t (c + 2) stop l r rest kinds
+
+  -- The next code is a production: its inner codes, and what is behind it.
+  pub record Named (cs : Codes) : Type 0 where
+    pub kind : ℕ
+    pub name : ℕ
+    pub inner : Codes
+    pub innerKinds : List ℕ
+    pub rest : Codes
+    pub kinds : List ℕ
+    pub is : cs ≡ cons (node kind name inner) rest
+    pub byte : bodyByte t (c + 1) ≡ name
+    pub ends : c + 2 ≤ spanEntry t c
+    pub room : spanEntry t c ≤ stop
+    pub row : Row t (c + 2) (spanEntry t c) l r inner innerKinds
+    pub behind : Row t (spanEntry t c) stop l r rest kinds
+
+  -- The next code is a token.
+  pub record Valued (cs : Codes) : Type 0 where
+    pub value : ℕ
+    pub rest : Codes
+    pub kinds : List ℕ
+    pub is : cs ≡ cons (token value) rest
+    pub high : bodyByte t (c + 1) ≡ value / 256
+    pub low : bodyByte t (c + 2) ≡ value % 256
+    pub room : c + 3 ≤ stop
+    pub row : Row t (c + 3) stop l r rest kinds
+
+  abbrev pub Next : Codes → Type 0
+  Next cs = (bodyByte t c ≡ 1 → Named cs) × (bodyByte t c ≡ 3 → Numbered cs) × ((bodyByte t c ≡ 1 → ⊥) → (bodyByte t c ≡ 3 → ⊥) → Valued cs)
+
+  next-node : (k p : ℕ) (ts us : Codes) (ks js : List ℕ) → TypedAll l r ts ks → Row t c stop l r (cons (node k p ts) us) js → TypedAll l r us (drop 1 js)
+      → Next (cons (node k p ts) us)
+  unfolding write SpansAt
+  next-node k p ts us ks js h w hs =
+      let s = signs 1 p (writeAll code ts ++ writeAll code us) (w .stands) in
+      let b = stands-both t (17472 + (c + 2)) (writeAll code ts) (writeAll code us) (s .2) in
+      let z = w .spans in
+      let d = w .ends in
+      let i = w .inside in
+      let la = length-append (writeAll code ts) (writeAll code us) in (
+        λ e. record {
+          kind = k;
+          name = p;
+          inner = ts;
+          innerKinds = ks;
+          rest = us;
+          kinds = drop 1 js;
+          is = refl;
+          byte = s .1;
+          ends = omega (arith, z .0 .0);
+          room = omega (arith, z .0 .0);
+          row = record { typed = h; stands = b .0; spans = z .0 .1; ends = omega (arith, z .0 .0); inside = omega (arith, z .0 .0); narrow = λ m a b. w .narrow m (omega arith) (omega (arith, z .0 .0)) };
+          behind = rw (z .0 .0) (behind (node k p ts) us (length (write code (node k p ts))) refl hs (w .stands) (z .1) d i (w .narrow));
+        },
+        (λ e. absurd (omega (arith, s .0))),
+        λ e g. absurd (e (s .0)),
+      )
+
+  next-token : (v : ℕ) (us : Codes) (js : List ℕ) → Row t c stop l r (cons (token v) us) js → TypedAll l r us (drop 1 js) → Next (cons (token v) us)
+  unfolding write SpansAt
+  next-token v us js w hs =
+      let s = signs 2 (v / 256) (v % 256 ∷ writeAll code us) (w .stands) in
+      let b = stands-head t (17472 + (c + 2)) (v % 256) (writeAll code us) (s .2) in
+      let z = w .spans in
+      let d = w .ends in (
+        (λ e. absurd (omega (arith, s .0))),
+        (λ e. absurd (omega (arith, s .0))),
+        λ e g. record {
+          value = v;
+          rest = us;
+          kinds = drop 1 js;
+          is = refl;
+          high = s .1;
+          low = b .1;
+          room = omega arith;
+          row = behind (token v) us 3 refl hs (w .stands) (z .1) d (w .inside) (w .narrow);
+        },
+      )
+
+  next-argument : (i : ℕ) (us : Codes) (js : List ℕ) → i < length r → Row t c stop l r (cons (argument (suc i)) us) js → TypedAll l r us (drop 1 js) → Next (cons (argument (suc i)) us)
+  unfolding write SpansAt
+  next-argument i us js h w hs =
+      let s = signs 3 (suc i) (writeAll code us) (w .stands) in
+      let z = w .spans in
+      let d = w .ends in (
+        (λ e. absurd (omega (arith, s .0))),
+        (λ e. record {
+          number = i;
+          rest = us;
+          kinds = drop 1 js;
+          is = refl;
+          byte = s .1;
+          inside = h;
+          room = omega arith;
+          row = behind (argument (suc i)) us 2 refl hs (w .stands) (z .1) d (w .inside) (w .narrow);
+        }),
+        λ e g. absurd (g (s .0)),
+      )
+
+  next-code : {a : Terms.Code} {k : ℕ} {us : Codes} {js : List ℕ} → Typed l r a k → TypedAll l r us js → Row t c stop l r (cons a us) (k ∷ js) → Next (cons a us)
+  next-code {us = us} {js = js} (typed-node {k = k} {p = p} {t = ts} {ks = ks} e h) hs w = next-node k p ts us ks (k ∷ js) h w hs
+  next-code {us = us} {js = js} (typed-token {v = v} {k = k} e h) hs w = next-token v us (k ∷ js) w hs
+  next-code (typed-argument {i = zero} e) hs w = none-some e
+  next-code {us = us} {js = js} (typed-argument {i = suc i} {k = k} e) hs w = next-argument i us (k ∷ js) (get-inside r i k e) w hs
+
+  next-by : {cs : Codes} {js : List ℕ} → TypedAll l r cs js → Row t c stop l r cs js → c < stop → Next cs
+  unfolding write
+  next-by typed-nil w h = let e = w .ends in absurd (omega arith)
+  next-by (typed-cons h hs) w i = next-code h hs w
+
+  pub next : {cs : Codes} {js : List ℕ} → Row t c stop l r cs js → c < stop → Next cs
+  next w h = next-by (w .typed) w h
+
+-- The bytes of a row, from the first code on.
+module _ (x : Syntax) (f : Translation) (ts : Codes) where
+  pub row-argument : (i : ℕ) (us : Codes) → rowBytes x f ts (cons (argument (suc i)) us) ≡ bytesOf x (nth (runAll (clausesOf f) ts) i) ++ rowBytes x f ts us
+  unfolding write substitute operand
+  row-argument i us = refl
+
+  pub row-token : (v high low : ℕ) (us : Codes) → high ≡ v / 256 → low ≡ v % 256
+      → rowBytes x f ts (cons (token v) us) ≡ (sign (syntaxOf x) 2 ++ high ∷ low ∷ []) ++ rowBytes x f ts us
+  unfolding write substitute
+  row-token v high low us a b = rw (a, b)
+
+  pub row-node : (k p : ℕ) (is us : Codes) → rowBytes x f ts (cons (node k p is) us) ≡ (sign (syntaxOf x) 1 ++ p ∷ []) ++ (rowBytes x f ts is ++ rowBytes x f ts us)
+  unfolding write substitute
+  row-node k p is us = by x
+    where
+      by : (x : Syntax) → rowBytes x f ts (cons (node k p is) us) ≡ (sign (syntaxOf x) 1 ++ p ∷ []) ++ (rowBytes x f ts is ++ rowBytes x f ts us)
+      by Tree = refl
+      by Code = refl
+
+  pub row-nil : rowBytes x f ts nil ≡ []
+  unfolding write substitute
+  row-nil = refl
+
+  pub row-one : (a : Terms.Code) → rowBytes x f ts (cons a nil) ≡ bytesOf x (substitute (runAll (clausesOf f) ts) a)
+  unfolding write substitute
+  row-one a = append-nil (bytesOf x (substitute (runAll (clausesOf f) ts) a))
+
+-- A row that is partly put out: what is left of it, and what was put out so far.
+pub record Going (x : Syntax) (t input before state : List ℕ) (deep c stop left : ℕ) (f : Translation) (given : List ℕ) (ts : Codes) (ks r : List ℕ) (cs : Codes) (o mid : List ℕ) (pos p : ℕ) : Type 0 where
+  pub rest : Codes
+  pub kinds : List ℕ
+  pub asks : RowAsks x t input state deep c stop left f given ts ks r rest kinds
+  pub same : Same before state
+  pub goes : (after : List ℕ) (e : ℕ) → Wrote (rowBytes x f ts rest) mid after p e → Wrote (rowBytes x f ts cs) o after pos e
+
+pub same-self : (s : List ℕ) → Same s s
+same-self s = record { from = refl; start = refl }
+
+pub same-then : {a b c : List ℕ} → Same a b → Same b c → Same a c
+same-then h g = record { from = g .from ∙ h .from; start = g .start ∙ h .start }
+
+-- What an argument that was put out gives.
+abbrev pub ArgumentGives : (x : Syntax) (t input before after : List ℕ) (deep j : ℕ) (o end : List ℕ) (pos e : ℕ) → Type 0
+ArgumentGives x t input before after deep j o end pos e =
+    (f : Translation) (given : List ℕ) (ts : Codes) (ks : List ℕ) → ArgumentAsks x t input before deep j f given ts ks
+    → Wrote (bytesOf x (nth (runAll (clausesOf f) ts) j)) o end pos e × Node x t input after (f .source) given ts ks × Same before after
+
+-- What a row that was put out gives.
+abbrev pub RowGives : (x : Syntax) (t input before after : List ℕ) (deep at stop n : ℕ) (o end : List ℕ) (pos e : ℕ) → Type 0
+RowGives x t input before after deep at stop n o end pos e =
+    (f : Translation) (given : List ℕ) (ts : Codes) (ks r : List ℕ) (cs : Codes) (js : List ℕ) → RowAsks x t input before deep at stop n f given ts ks r cs js
+    → Wrote (rowBytes x f ts cs) o end pos e × Node x t input after (f .source) given ts ks × Same before after
+
+-- What is known of a row in the middle, whatever it is a row of.
+abbrev pub RowHeld : (x : Syntax) (t input before state : List ℕ) (deep at stop n c left : ℕ) (o mid : List ℕ) (pos p : ℕ) → Type 0
+RowHeld x t input before state deep at stop n c left o mid pos p =
+    (f : Translation) (given : List ℕ) (ts : Codes) (ks r : List ℕ) (cs : Codes) (js : List ℕ) → RowAsks x t input before deep at stop n f given ts ks r cs js
+    → Going x t input before state deep c stop left f given ts ks r cs o mid pos p
+
+pub going-start : (x : Syntax) (t input state : List ℕ) (deep at stop n : ℕ) (o : List ℕ) (pos : ℕ)
+    → RowHeld x t input state state deep at stop n at n o o pos pos
+going-start x t input state deep at stop n o pos f given ts ks r cs js a =
+    record { rest = cs; kinds = js; asks = a; same = same-self state; goes = λ after e w. w }
+
+module _ (x : Syntax) (t input before state : List ℕ) (deep c stop left : ℕ) (f : Translation) (given : List ℕ) (ts : Codes) (ks r : List ℕ) (cs : Codes) (o mid : List ℕ) (pos p : ℕ)
+    (g : Going x t input before state deep c stop left f given ts ks r cs o mid pos p) where
+  -- At the end of the row.
+  pub going-end : stop ≤ c → p ≤ length mid → Wrote (rowBytes x f ts cs) o mid pos p × Node x t input state (f .source) given ts ks × Same before state
+  going-end h i =
+      let e = row-empty t c stop (f .target) r (g .rest) (g .asks .row) h in
+      let w : Wrote (rowBytes x f ts (g .rest)) mid mid p p = rw (e, row-nil x f ts) (wrote-none mid p i) in
+      (g .goes mid p w, g .asks .node, g .same)
+
+  -- Bytes v are put out, and what follows them is to be put out.
+  module _ (v w : List ℕ) (is : rowBytes x f ts (g .rest) ≡ v ++ w) (end : List ℕ) (e : ℕ) (h : Wrote v mid end p e) where
+    pub goes-full : length mid < e → Wrote (rowBytes x f ts cs) o end pos e
+    goes-full i = g .goes end e (rw is (wrote-full v w mid end p e h i))
+
+    pub goes-on : e ≤ length mid → (after : List ℕ) (d : ℕ) → Wrote w end after e d → Wrote (rowBytes x f ts cs) o after pos d
+    goes-on i after d k = g .goes after d (rw is (wrote-then v w mid end after p e d h i k))
+
+  module _ (more : c < stop) where
+    nexts : Next t c stop (f .target) r (g .rest)
+    nexts = next t c stop (f .target) r (g .asks .row) more
+
+    pub next-two : c + 1 < stop
+    next-two = let j = row-two t c stop (f .target) r (g .rest) (g .asks .row) more in omega arith
+
+    pub next-below : c + 1 < 4096
+    next-below = let i = g .asks .row .inside in let j = row-two t c stop (f .target) r (g .rest) (g .asks .row) more in omega arith
+
+    -- Bytes of the body are bytes.
+    pub next-narrow : (b i : ℕ) → b ≡ bodyByte t i → c ≤ i → i < stop → b < 256
+    next-narrow b i e h k = let n = g .asks .row .narrow i h k in omega arith
+
+    -- The rest of the row, behind its next code.
+    onward : (state′ : List ℕ) (c′ : ℕ) (us : Codes) (js : List ℕ) → Node x t input state′ (f .source) given ts ks → Row t c′ stop (f .target) r us js
+        → levelsAll us ≤ left → RowAsks x t input state′ deep c′ stop left f given ts ks r us js
+    onward state′ c′ us js n w h = record {
+      table = g .asks .table;
+      node = n;
+      row = w;
+      numbers = g .asks .numbers;
+      levels = g .asks .levels;
+      most = g .asks .most;
+      within = h;
+    }
+
+    levels-behind : (a : Terms.Code) (us : Codes) → g .rest ≡ cons a us → (levels a ≤ left) × (levelsAll us ≤ left)
+    unfolding levels
+    levels-behind a us e =
+        let h : levelsAll (cons a us) ≤ left = rw e at (g .asks .within) in
+        (omega arith, omega arith)
+
+    -- The next code is an argument.
+    module _ (number : ℕ) (en : number ≡ bodyByte t (c + 1)) (is : bodyByte t c ≡ 3) where
+      numbered : Numbered t c stop (f .target) r (g .rest)
+      numbered = nexts .1 is
+
+      from-zero : number - 1 ≡ numbered .number
+      from-zero = let b = numbered .byte in omega arith
+
+      pub argument-some : 0 < number
+      argument-some = let b = numbered .byte in omega arith
+
+      pub argument-asks : ArgumentAsks x t input state deep (number - 1) f given ts ks
+      argument-asks = record {
+        table = g .asks .table;
+        node = g .asks .node;
+        levels = g .asks .levels;
+        most = g .asks .most;
+        number = let i = numbered .inside in let n = g .asks .numbers in let z = from-zero in omega arith;
+      }
+
+      bytes-number : rowBytes x f ts (g .rest) ≡ bytesOf x (nth (runAll (clausesOf f) ts) (number - 1)) ++ rowBytes x f ts (numbered .rest)
+      bytes-number = ap (rowBytes x f ts) (numbered .is) ∙ rw from-zero (row-argument x f ts (numbered .number) (numbered .rest))
+
+      module _ (after end : List ℕ) (e : ℕ) (gives : ArgumentGives x t input state after deep (number - 1) mid end p e) where
+        given-argument : Wrote (bytesOf x (nth (runAll (clausesOf f) ts) (number - 1))) mid end p e × Node x t input after (f .source) given ts ks × Same state after
+        given-argument = gives f given ts ks argument-asks
+
+        pub argument-full : length mid < e → Wrote (rowBytes x f ts cs) o end pos e × Node x t input after (f .source) given ts ks × Same before after
+        argument-full h =
+            (goes-full _ (rowBytes x f ts (numbered .rest)) bytes-number end e (given-argument .0) h, given-argument .1, same-then (g .same) (given-argument .2))
+
+        pub argument-turn : e ≤ length mid → Going x t input before after deep (c + 2) stop left f given ts ks r cs o end pos e
+        argument-turn h = record {
+          rest = numbered .rest;
+          kinds = numbered .kinds;
+          asks = onward after (c + 2) (numbered .rest) (numbered .kinds) (given-argument .1) (numbered .row)
+              (levels-behind _ (numbered .rest) (numbered .is) .1);
+          same = same-then (g .same) (given-argument .2);
+          goes = goes-on _ (rowBytes x f ts (numbered .rest)) bytes-number end e (given-argument .0) h;
+        }
+
+    -- The next code is a token.
+    module _ (not-name : bodyByte t c ≡ 1 → ⊥) (not-argument : bodyByte t c ≡ 3 → ⊥) where
+      valued : Valued t c stop (f .target) r (g .rest)
+      valued = nexts .2 not-name not-argument
+
+      pub token-three : c + 2 < stop
+      token-three = let w = valued .room in omega arith
+
+      pub token-room : c + 2 < 4096
+      token-room = let i = g .asks .row .inside in let w = valued .room in omega arith
+
+      module _ (high low : ℕ) (eh : high ≡ bodyByte t (c + 1)) (el : low ≡ bodyByte t (c + 2)) where
+        bytes-token : rowBytes x f ts (g .rest) ≡ (sign (syntaxOf x) 2 ++ high ∷ low ∷ []) ++ rowBytes x f ts (valued .rest)
+        bytes-token = ap (rowBytes x f ts) (valued .is) ∙ row-token x f ts (valued .value) high low (valued .rest) (eh ∙ valued .high) (el ∙ valued .low)
+
+        module _ (end : List ℕ) (e : ℕ) (w : Wrote (sign (syntaxOf x) 2 ++ high ∷ low ∷ []) mid end p e) where
+          pub token-full : length mid < e → Wrote (rowBytes x f ts cs) o end pos e × Node x t input state (f .source) given ts ks × Same before state
+          token-full h = (goes-full _ (rowBytes x f ts (valued .rest)) bytes-token end e w h, g .asks .node, g .same)
+
+          pub token-turn : e ≤ length mid → Going x t input before state deep (c + 3) stop left f given ts ks r cs o end pos e
+          token-turn h = record {
+            rest = valued .rest;
+            kinds = valued .kinds;
+            asks = onward state (c + 3) (valued .rest) (valued .kinds) (g .asks .node) (valued .row) (levels-behind _ (valued .rest) (valued .is) .1);
+            same = g .same;
+            goes = goes-on _ (rowBytes x f ts (valued .rest)) bytes-token end e w h;
+          }
+
+    -- The next code is a production.
+    module _ (is : bodyByte t c ≡ 1) where
+      pub named : Named t c stop (f .target) r (g .rest)
+      named = nexts .0 is
+
+      pub named-some : 0 < left
+      unfolding levels
+      named-some = let h = levels-behind _ (named .rest) (named .is) .0 in omega arith
+
+      pub named-room : (c + 2 ≤ spanEntry t c) × (spanEntry t c ≤ stop) × (stop ≤ 4096)
+      named-room = (named .ends, named .room, g .asks .row .inside)
+
+      inner-levels : levelsAll (named .inner) ≤ left - 1
+      unfolding levels
+      inner-levels = let h = levels-behind _ (named .rest) (named .is) .0 in omega arith
+
+      pub named-asks : RowAsks x t input state deep (c + 2) (spanEntry t c) (left - 1) f given ts ks r (named .inner) (named .innerKinds)
+      named-asks = record {
+        table = g .asks .table;
+        node = g .asks .node;
+        row = named .row;
+        numbers = g .asks .numbers;
+        levels = g .asks .levels;
+        most = g .asks .most;
+        within = inner-levels;
+      }
+
+      pub named-asks-at : (fin : ℕ) → fin ≡ spanEntry t c → RowAsks x t input state deep (c + 2) fin (left - 1) f given ts ks r (named .inner) (named .innerKinds)
+      named-asks-at fin q = rw q named-asks
+
+      module _ (name : ℕ) (en : name ≡ bodyByte t (c + 1)) (end : List ℕ) (e : ℕ) (w : Wrote (sign (syntaxOf x) 1 ++ name ∷ []) mid end p e) where
+        rest-bytes : List ℕ
+        rest-bytes = rowBytes x f ts (named .inner) ++ rowBytes x f ts (named .rest)
+
+        bytes-name : rowBytes x f ts (g .rest) ≡ (sign (syntaxOf x) 1 ++ name ∷ []) ++ rest-bytes
+        unfolding rest-bytes
+        bytes-name =
+            ap (rowBytes x f ts) (named .is) ∙ rw (en, named .byte) (row-node x f ts (named .kind) (named .name) (named .inner) (named .rest))
+
+        pub named-full : length mid < e → Wrote (rowBytes x f ts cs) o end pos e × Node x t input state (f .source) given ts ks × Same before state
+        named-full h = (goes-full _ rest-bytes bytes-name end e w h, g .asks .node, g .same)
+
+        module _ (fits : e ≤ length mid) where
+          -- Nothing is behind it.
+          pub named-last : spanEntry t c ≡ stop → Going x t input before state deep (c + 2) stop (left - 1) f given ts ks r cs o end pos e
+          unfolding rest-bytes
+          named-last q =
+              let z = row-empty t (spanEntry t c) stop (f .target) r (named .rest) (named .behind) (omega arith) in
+              let y : rest-bytes ≡ rowBytes x f ts (named .inner) =
+              ap (λ (us : Codes). rowBytes x f ts (named .inner) ++ rowBytes x f ts us) z ∙ rw (row-nil x f ts) (append-nil (rowBytes x f ts (named .inner))) in
+              record {
+                rest = named .inner;
+                kinds = named .innerKinds;
+                asks = rw q at named-asks;
+                same = g .same;
+                goes = λ after d k. goes-on _ rest-bytes bytes-name end e w fits after d (rw y k);
+              }
+
+          -- Nothing is in it.
+          pub named-empty : spanEntry t c ≤ c + 2 → Going x t input before state deep (c + 2) stop left f given ts ks r cs o end pos e
+          unfolding rest-bytes
+          named-empty q =
+              let z = row-empty t (c + 2) (spanEntry t c) (f .target) r (named .inner) (named .row) q in
+              let y : rest-bytes ≡ rowBytes x f ts (named .rest) =
+              ap (λ (us : Codes). rowBytes x f ts us ++ rowBytes x f ts (named .rest)) z ∙ rw (row-nil x f ts) in
+              let i = named .ends in
+              let j : spanEntry t c ≡ c + 2 = omega arith in
+              record {
+                rest = named .rest;
+                kinds = named .kinds;
+                asks = onward state (c + 2) (named .rest) (named .kinds) (g .asks .node) (rw j at (named .behind)) (levels-behind _ (named .rest) (named .is) .1);
+                same = g .same;
+                goes = λ after d k. goes-on _ rest-bytes bytes-name end e w fits after d (rw y k);
+              }
+
+          -- Its inner codes were put out.
+          module _ (fin : ℕ) (ef : fin ≡ spanEntry t c) (after last : List ℕ) (d : ℕ) (gives : RowGives x t input state after deep (c + 2) fin (left - 1) end last e d) where
+            given-row : Wrote (rowBytes x f ts (named .inner)) end last e d × Node x t input after (f .source) given ts ks × Same state after
+            given-row = gives f given ts ks r (named .inner) (named .innerKinds) (named-asks-at fin ef)
+
+            pub inner-full : length end < d → Wrote (rowBytes x f ts cs) o last pos d × Node x t input after (f .source) given ts ks × Same before after
+            unfolding rest-bytes
+            inner-full h = (
+              goes-on _ rest-bytes bytes-name end e w fits last d (wrote-full _ (rowBytes x f ts (named .rest)) end last e d (given-row .0) h),
+              given-row .1,
+              same-then (g .same) (given-row .2),
+            )
+
+            pub inner-turn : d ≤ length end → Going x t input before after deep fin stop left f given ts ks r cs o last pos d
+            unfolding rest-bytes
+            inner-turn h = rw ef record {
+              rest = named .rest;
+              kinds = named .kinds;
+              asks = onward after (spanEntry t c) (named .rest) (named .kinds) (given-row .1) (named .behind) (levels-behind _ (named .rest) (named .is) .1);
+              same = same-then (g .same) (given-row .2);
+              goes = λ far m k. goes-on _ rest-bytes bytes-name end e w fits far m (wrote-then _ (rowBytes x f ts (named .rest)) end last far e d m (given-row .0) h k);
+            }
+
+-- A byte of what stands at a position.
+pub stands-nth : (b : List ℕ) (at : ℕ) (v : List ℕ) (i : ℕ) → Stands b at v → i < length v → getD b (at + i) 0 ≡ getD v i 0
+stands-nth b at [] i h k = absurd (omega arith)
+stands-nth b at (y ∷ v) zero h k = let e : at + 0 ≡ at = omega arith in ap (λ (n : ℕ). getD b n 0) e ∙ stands-head b at y v h .1
+stands-nth b at (y ∷ v) (suc i) h k =
+    let e : at + suc i ≡ at + 1 + i = omega arith in
+    ap (λ (n : ℕ). getD b n 0) e ∙ stands-nth b (at + 1) v i (stands-head b at y v h .2) (omega arith)
+
+-- The bytes of a part are what stands there.
+pub stands-slice : (b : List ℕ) (at n : ℕ) (v : List ℕ) → n ≡ length v → Stands b at v → slice at (at + n) b ≡ v
+stands-slice b at n v e h = rw e (drop-take at (length v) b ∙ h .bytes)
+  where
+    drop-take : (i n : ℕ) (b : List ℕ) → drop i (take (i + n) b) ≡ take n (drop i b)
+    drop-take zero n b = let z : 0 + n ≡ n = omega arith in rw z
+    drop-take (suc i) n [] = let z : suc i + n ≡ suc (i + n) = omega arith in rw z (empty n)
+      where
+        empty : (n : ℕ) → _≡_ {A = List ℕ} [] (take n [])
+        empty zero = refl
+        empty (suc n) = refl
+    drop-take (suc i) n (y ∷ b) = let z : suc i + n ≡ suc (i + n) = omega arith in rw z (drop-take i n b)
+
+-- The arguments of a node.
+module _ (x : Syntax) (l : Language) (given : List ℕ) where
+  pub front-next : (j : ℕ) {ts : Codes} {ks : List ℕ} → TypedAll l given ts ks → j < length ks
+      → allBytes x (front (suc j) ts) ≡ allBytes x (front j ts) ++ bytesOf x (nth ts j)
+  unfolding front nth write
+  front-next j typed-nil h = absurd (omega arith)
+  front-next zero (typed-cons {a = a} h hs) k = append-nil (bytesOf x a)
+  front-next (suc j) (typed-cons {a = a} {t = t} h hs) k =
+      ap (λ (v : List ℕ). bytesOf x a ++ v) (front-next j hs (omega arith)) ∙ sym (append-assoc (bytesOf x a) (allBytes x (front j t)) (bytesOf x (nth t j)))
+
+  pub front-all : {ts : Codes} {ks : List ℕ} → TypedAll l given ts ks → front (length ks) ts ≡ ts
+  unfolding front
+  front-all typed-nil = refl
+  front-all (typed-cons {a = a} h hs) = ap (cons a) (front-all hs)
+
+  pub one-typed : (j : ℕ) {ts : Codes} {ks : List ℕ} → TypedAll l given ts ks → j < length ks → Typed l given (nth ts j) (getD ks j 0) × (levels (nth ts j) ≤ levelsAll ts)
+  unfolding nth levels
+  one-typed j typed-nil h = absurd (omega arith)
+  one-typed zero (typed-cons h hs) k = (h, omega arith)
+  one-typed (suc j) (typed-cons h hs) k = let w = one-typed j hs (omega arith) in (w .0, omega (arith, w .1))
+
+  pub one-stands : (j : ℕ) (input : List ℕ) (at : ℕ) {ts : Codes} {ks : List ℕ} → TypedAll l given ts ks → j < length ks → Stands input at (allBytes x ts)
+      → Stands input (at + length (allBytes x (front j ts))) (bytesOf x (nth ts j))
+  unfolding nth write front
+  one-stands j input at typed-nil h s = absurd (omega arith)
+  one-stands zero input at (typed-cons {a = a} {t = t} h hs) k s =
+      moved input (bytesOf x a) (omega arith) (stands-both input at (bytesOf x a) (allBytes x t) s .0)
+  one-stands (suc j) input at (typed-cons {a = a} {t = t} h hs) k s =
+      let w = one-stands j input (at + length (bytesOf x a)) hs (omega arith) (stands-both input at (bytesOf x a) (allBytes x t) s .1) in
+      let e = length-append (bytesOf x a) (allBytes x (front j t)) in
+      moved input (bytesOf x (nth t j)) (omega arith) w
+
+  pub nth-run : (f : Translation) (j : ℕ) {ts : Codes} {ks : List ℕ} → TypedAll l given ts ks → j < length ks
+      → nth (runAll (clausesOf f) ts) j ≡ run (clausesOf f) (nth ts j)
+  unfolding nth run
+  nth-run f j typed-nil h = absurd (omega arith)
+  nth-run f zero (typed-cons h hs) k = refl
+  nth-run f (suc j) (typed-cons h hs) k = nth-run f j hs (omega arith)
+
+-- Where argument j of a node starts.
+abbrev pub startOf : Syntax → List ℕ → Codes → ℕ → ℕ
+startOf x state ts j = getD state 9 0 + length (allBytes x (front j ts))
+
+module _ (x : Syntax) (t input state : List ℕ) (l : Language) (given : List ℕ) (ts : Codes) (ks : List ℕ) (h : Node x t input state l given ts ks) where
+  pub known-start : (j : ℕ) → j ≤ length ks → (knownStart state j ≡ 0 → ⊥) → knownStart state j ≡ startOf x state ts j
+  unfolding knownStart front write
+  known-start zero i n = omega arith
+  known-start (suc j) i n =
+      let f = h .few in
+      let e : j + 1 ≡ suc j = omega arith in
+      ⊎-elim (λ z. absurd (n z)) (λ z. rw e at z) (h .known j (omega arith))
+
+  module _ (j : ℕ) (i : j < length ks) where
+    pub argument-term : Term x input (startOf x state ts j) l given (nth ts j) (getD ks j 0)
+    argument-term = record {
+      typed = one-typed x l given j (h .typed) i .0;
+      kind = h .kinds .below j i;
+      stands = one-stands x l given j input (getD state 9 0) (h .typed) i (h .stands);
+    }
+
+    pub argument-levels : levels (nth ts j) ≤ levelsAll ts
+    argument-levels = one-typed x l given j (h .typed) i .1
+
+    pub argument-place : (j < 8) × (getD state 8 0 + j < 1024)
+    argument-place = let f = h .few in let q = h .kinds .inside in (omega arith, omega arith)
+
+    pub argument-kind : sourceByte t (getD state 8 0 + j) ≡ getD ks j 0
+    argument-kind =
+        let e : 16448 + (getD state 8 0 + j) ≡ 16448 + getD state 8 0 + j = omega arith in
+        ap (λ (n : ℕ). getD t n 0) e ∙ stands-nth t (16448 + getD state 8 0) ks j (h .kinds .stands) i
+
+    -- Where the argument ends is kept.
+    pub learnt : (e : ℕ) → e ≡ startOf x state ts j + length (bytesOf x (nth ts j)) → Node x t input (set state j e) l given ts ks × Same state (set state j e)
+    learnt e q =
+        let f = h .few in
+        let eight : getD (set state j e) 8 0 ≡ getD state 8 0 = getD-set-other state j 8 e 0 (λ z. omega arith) in
+        let nine : getD (set state j e) 9 0 ≡ getD state 9 0 = getD-set-other state j 9 e 0 (λ z. omega arith) in (
+          record {
+            long = length-set state j e ∙ h .long;
+            kinds = rw eight (h .kinds);
+            few = h .few;
+            typed = h .typed;
+            stands = rw nine (h .stands);
+            some = rw nine (h .some);
+            known = λ m k. rw nine (by m k);
+          },
+          record { from = eight; start = nine },
+        )
+      where
+        by : (m : ℕ) → m < 8 → (getD (set state j e) m 0 ≡ 0) ⊎ (getD (set state j e) m 0 ≡ startOf x state ts (m + 1))
+        by m k = by-test (eqb m j)
+            (λ z. let d = eqb-true m j z in inr (rw d here))
+            (λ z. let d = getD-set-other state j m e 0 (eqb-false m j z) in rw d (h .known m k))
+          where
+            here : getD (set state j e) j 0 ≡ startOf x state ts (j + 1)
+            here =
+                let f = h .few in
+                let g = h .long in
+                let n : j + 1 ≡ suc j = omega arith in
+                let y = length-append (allBytes x (front j ts)) (bytesOf x (nth ts j)) in
+                let w : length (allBytes x (front (suc j) ts)) ≡ length (allBytes x (front j ts) ++ bytesOf x (nth ts j)) = ap length (front-next x l given j (h .typed) i) in
+                getD-set-same state j e 0 (omega arith) ∙ rw n (omega arith)
+
+  -- The end of all arguments.
+  pub last-end : startOf x state ts (length ks) ≡ getD state 9 0 + length (allBytes x ts)
+  last-end = rw (front-all x l given (h .typed))
+
+-- The term at a position is a leaf: so many bytes, and its run is itself.
+abbrev pub IsLeaf : Syntax → Translation → List ℕ → ℕ → Terms.Code → Type 0
+IsLeaf x f input at u = (leafLength x input at ≡ length (bytesOf x u)) × (run (clausesOf f) u ≡ u)
+
+-- The term at a position is a production's.
+pub record IsNode (x : Syntax) (f : Translation) (given input : List ℕ) (at : ℕ) (u : Terms.Code) (k : ℕ) : Type 0 where
+  pub name : ℕ
+  pub operands : Codes
+  pub kinds : List ℕ
+  pub is : u ≡ node k name operands
+  pub there : argumentsOf (f .source) k name ≡ some kinds
+  pub typed : TypedAll (f .source) given operands kinds
+  pub byte : getD input (at + signLength x) 0 ≡ name
+  pub inside : at + signLength x < length input
+  pub stands : Stands input (at + nameLength x) (allBytes x operands)
+  pub long : length (bytesOf x u) ≡ nameLength x + length (allBytes x operands)
+
+module _ (t : List ℕ) (f : Translation) (given input : List ℕ) (at : ℕ) (ready : Ready t f) where
+  abbrev Tells : Syntax → Terms.Code → ℕ → Type 0
+  Tells x u k =
+      (at < length input) × (leafAt x t k input at ≡ true → IsLeaf x f input at u) × (leafAt x t k input at ≡ false → IsNode x f given input at u k)
+
+  tree-node : (k p : ℕ) (us : Codes) (ks : List ℕ) → argumentsOf (f .source) k p ≡ some ks → TypedAll (f .source) given us ks → k < 32
+      → Stands input at (bytesOf Tree (node k p us)) → Tells Tree (node k p us) k
+  unfolding write leafAt leafLength
+  tree-node k p us ks e h i s =
+      let z : eqb (indexEntry t k) 0 ≡ true = eq-eqb (indexEntry t k) 0 (ready .name k p ks i e) in
+      let b = stands-head input at p (allBytes Tree us) s in
+      let n : at + 0 ≡ at = omega arith in (
+        b .0,
+        (λ q. false-true (sym (ap not z) ∙ q)),
+        λ q. record {
+          name = p;
+          operands = us;
+          kinds = ks;
+          is = refl;
+          there = e;
+          typed = h;
+          byte = rw n (b .1);
+          inside = omega (arith, b .0);
+          stands = b .2;
+          long = omega arith;
+        },
+      )
+
+  tree-token : (k v : ℕ) (c : Range) → rangeOf (f .source) k ≡ some c → k < 32 → Stands input at (bytesOf Tree (token v)) → Tells Tree (token v) k
+  unfolding write leafAt leafLength run
+  tree-token k v c e i s =
+      let l = ready .class k c i e in
+      let z : eqb (indexEntry t k) 0 ≡ false = ne-eqb (indexEntry t k) 0 (λ q. omega arith) in
+      let b = stands-head input at (v / 256) (v % 256 ∷ []) s in
+      (b .0, (λ q. (refl, refl)), λ q. false-true (sym q ∙ ap not z))
+
+  tree-argument : (k i : ℕ) → given ≡ [] → getElem? given i ≡ some k → Tells Tree (argument (suc i)) k
+  tree-argument k i e h = none-some (sym (ap (λ (g : List ℕ). getElem? g i) e) ∙ h)
+
+  code-node : (k p : ℕ) (us : Codes) (ks : List ℕ) → argumentsOf (f .source) k p ≡ some ks → TypedAll (f .source) given us ks
+      → Stands input at (bytesOf Code (node k p us)) → Tells Code (node k p us) k
+  unfolding write leafAt leafLength
+  code-node k p us ks e h s =
+      let a = stands-head input at 1 (p ∷ allBytes Code us) s in
+      let b = stands-head input (at + 1) p (allBytes Code us) (a .2) in
+      let z : eqb (getD input at 0) 1 ≡ true = eq-eqb (getD input at 0) 1 (a .1) in (
+        a .0,
+        (λ q. false-true (sym (ap not z) ∙ q)),
+        λ q. record {
+          name = p;
+          operands = us;
+          kinds = ks;
+          is = refl;
+          there = e;
+          typed = h;
+          byte = b .1;
+          inside = b .0;
+          stands = moved input (allBytes Code us) (omega arith) (b .2);
+          long = omega arith;
+        },
+      )
+
+  code-token : (k v : ℕ) → Stands input at (bytesOf Code (token v)) → Tells Code (token v) k
+  unfolding write leafAt leafLength run
+  code-token k v s =
+      let a = stands-head input at 2 (v / 256 ∷ v % 256 ∷ []) s in
+      let y : eqb (getD input at 0) 2 ≡ true = eq-eqb (getD input at 0) 2 (a .1) in
+      let z : eqb (getD input at 0) 1 ≡ false = ne-eqb (getD input at 0) 1 (λ q. omega (arith, a .1)) in
+      (a .0, (λ q. (rw y, refl)), λ q. false-true (sym q ∙ ap not z))
+
+  code-argument : (k i : ℕ) → Stands input at (bytesOf Code (argument i)) → Tells Code (argument i) k
+  unfolding write leafAt leafLength run
+  code-argument k i s =
+      let a = stands-head input at 3 (i ∷ []) s in
+      let y : eqb (getD input at 0) 2 ≡ false = ne-eqb (getD input at 0) 2 (λ q. omega (arith, a .1)) in
+      let z : eqb (getD input at 0) 1 ≡ false = ne-eqb (getD input at 0) 1 (λ q. omega (arith, a .1)) in
+      (a .0, (λ q. (rw y, refl)), λ q. false-true (sym q ∙ ap not z))
+
+  tells-by : (x : Syntax) {u : Terms.Code} {k : ℕ} → (x ≡ Tree → given ≡ []) → Typed (f .source) given u k → k < 32 → Stands input at (bytesOf x u) → Tells x u k
+  tells-by Tree plain (typed-node {k = k} {p = p} {t = us} {ks = ks} e h) i s = tree-node k p us ks e h i s
+  tells-by Tree plain (typed-token {v = v} {k = k} {c = c} e h) i s = tree-token k v c e i s
+  tells-by Tree plain (typed-argument {i = zero} e) i s = none-some e
+  tells-by Tree plain (typed-argument {i = suc j} {k = k} e) i s = tree-argument k j (plain refl) e
+  tells-by Code plain (typed-node {k = k} {p = p} {t = us} {ks = ks} e h) i s = code-node k p us ks e h s
+  tells-by Code plain (typed-token {v = v} {k = k} {c = c} e h) i s = code-token k v s
+  tells-by Code plain (typed-argument {i = j} {k = k} e) i s = code-argument k j s
+
+pub tells : (x : Syntax) (t : List ℕ) (f : Translation) (given input : List ℕ) (at : ℕ) (u : Terms.Code) (k : ℕ) → Given x t f given → Term x input at (f .source) given u k
+    → (at < length input) × (leafAt x t k input at ≡ true → IsLeaf x f input at u) × (leafAt x t k input at ≡ false → IsNode x f given input at u k)
+tells x t f given input at u k g h = tells-by t f given input at (g .ready) x (g .plain) (h .typed) (h .kind) (h .stands)
+
+-- A node of which nothing is known but where its argument kinds and its arguments start.
+pub record Fresh (state : List ℕ) (from start : ℕ) : Type 0 where
+  pub long : length state ≡ 10
+  pub kinds : getD state 8 0 ≡ from
+  pub starts : getD state 9 0 ≡ start
+  pub none : (j : ℕ) → j < 8 → getD state j 0 ≡ 0
+
+-- The run of a production's term, in the terms of the code.
+module _ (x : Syntax) (t : List ℕ) (f : Translation) (given input : List ℕ) (at : ℕ) (u : Terms.Code) (k : ℕ) (table : Given x t f given) (kind : k < 32)
+    (n : IsNode x f given input at u k) (name : ℕ) (en : name ≡ getD input (at + signLength x) 0) (small : name < 256) where
+  is-name : name ≡ n .name
+  is-name = en ∙ n .byte
+
+  there : argumentsOf (f .source) k name ≡ some (n .kinds)
+  there = rw is-name (n .there)
+
+  pub key-below : 32 + (k * 256 + name) < 8224
+  key-below = omega arith
+
+  production : Production t (indexEntry t (productionKey k name)) (n .kinds)
+  production = table .ready .production k name (n .kinds) kind small there
+
+  clause : Clause t (clauseEntry t (productionKey k name)) (clausesOf f k name)
+  clause = table .ready .clause k name (n .kinds) kind small there
+
+  name-some : 0 < nameLength x
+  name-some = by x
+    where
+      by : (x : Syntax) → 0 < nameLength x
+      by Tree = omega arith
+      by Code = omega arith
+
+  pub node-levels : (deep : ℕ) → levels u ≤ deep → (0 < deep) × (levelsAll (n .operands) ≤ deep - 1)
+  unfolding levels
+  node-levels deep h = let w : levels (node k (n .name) (n .operands)) ≤ deep = rw (n .is) at h in (omega arith, omega arith)
+
+  module _ (place from : ℕ) (ep : place ≡ indexEntry t (32 + (k * 256 + name))) (ec : from ≡ clauseEntry t (32 + (k * 256 + name))) where
+    at-place : Production t place (n .kinds)
+    at-place = rw ep production
+
+    at-clause : Clause t from (clausesOf f k name)
+    at-clause = rw ec clause
+
+    pub place-room : place + 4 ≤ 1024
+    place-room = let i = at-place .kinds .inside in omega arith
+
+    pub place-count : (m : ℕ) → m ≡ sourceByte t (place + 1) → (2 ≤ m) × (m - 2 ≡ length (n .kinds)) × (m - 2 ≤ 8)
+    place-count m e = let i = at-place .count in let h = at-place .few in (omega arith, omega arith, omega arith)
+
+    pub clause-room : from + 4 ≤ 4096
+    clause-room = let i = at-clause .inside in omega arith
+
+    module _ (b d : ℕ) (eb : b ≡ bodyByte t from) (ed : d ≡ bodyByte t (from + 1)) where
+      pub clause-size : from + 2 + (b * 256 + d) ≡ from + 4 + length (write code (clausesOf f k name))
+      clause-size =
+          let s = at-clause .size in
+          let q : b * 256 + d ≡ 2 + length (write code (clausesOf f k name)) = rw (eb, ed) s in
+          omega arith
+
+      clause-row : Row t (from + 4) (from + 2 + (b * 256 + d)) (f .target) (mappedArguments f k name) (cons (clausesOf f k name) nil) (mapped (f .body) k ∷ [])
+      unfolding write SpansAt
+      clause-row =
+          let z = append-nil (write code (clausesOf f k name)) in
+          record {
+            typed = typed-cons (table .ready .typed k name (n .kinds) kind small there) typed-nil;
+            stands = rw z (at-clause .stands);
+            spans = (at-clause .spans, tt);
+            ends = rw z clause-size;
+            inside = let i = at-clause .inside in let e = clause-size in omega arith;
+            narrow = λ m h k. let e = clause-size in at-clause .narrow m h (omega arith);
+          }
+
+      numbers : length (mappedArguments f k name) ≡ length (n .kinds)
+      numbers = ap length (mapped-arguments f k name (n .kinds) there) ∙ length-map (n .kinds) (mapped (f .body))
+
+      module _ (state : List ℕ) (fresh : Fresh state (place + 4) (at + nameLength x)) where
+        fresh-node : Node x t input state (f .source) given (n .operands) (n .kinds)
+        fresh-node = record {
+          long = fresh .long;
+          kinds = rw (fresh .kinds) (at-place .kinds);
+          few = at-place .few;
+          typed = n .typed;
+          stands = rw (fresh .starts) (n .stands);
+          some = rw (fresh .starts) (let i = name-some in omega arith);
+          known = λ j h. inl (fresh .none j h);
+        }
+
+        module _ (deep : ℕ) (less : levels u ≤ deep) (most : deep ≤ 64) where
+          pub clause-asks : RowAsks x t input state (deep - 1) (from + 4) (from + 2 + (b * 256 + d)) 16 f given (n .operands) (n .kinds)
+              (mappedArguments f k name) (cons (clausesOf f k name) nil) (mapped (f .body) k ∷ [])
+          unfolding levels
+          clause-asks = record {
+            table = table;
+            node = fresh-node;
+            row = clause-row;
+            numbers = numbers;
+            levels = node-levels deep less .1;
+            most = omega arith;
+            within = let h = at-clause .within in omega arith;
+          }
+
+          module _ (after o end : List ℕ) (pos e : ℕ) (gives : RowGives x t input state after (deep - 1) (from + 4) (from + 2 + (b * 256 + d)) 16 o end pos e) where
+            given-clause : Wrote (rowBytes x f (n .operands) (cons (clausesOf f k name) nil)) o end pos e × Node x t input after (f .source) given (n .operands) (n .kinds) × Same state after
+            given-clause = gives f given (n .operands) (n .kinds) (mappedArguments f k name) (cons (clausesOf f k name) nil) (mapped (f .body) k ∷ []) clause-asks
+
+            run-is : rowBytes x f (n .operands) (cons (clausesOf f k name) nil) ≡ bytesOf x (run (clausesOf f) u)
+            unfolding run
+            run-is =
+                let q : clausesOf f k name ≡ clausesOf f k (n .name) = ap (clausesOf f k) is-name in
+                row-one x f (n .operands) (clausesOf f k name)
+                ∙ (ap (λ (a : Terms.Code). bytesOf x (substitute (runAll (clausesOf f) (n .operands)) a)) q
+                ∙ ap (λ (a : Terms.Code). bytesOf x (run (clausesOf f) a)) (sym (n .is)))
+
+            pub node-wrote : Wrote (bytesOf x (run (clausesOf f) u)) o end pos e
+            node-wrote = rw (← run-is) (given-clause .0)
+
+            pub node-after : Node x t input after (f .source) given (n .operands) (n .kinds)
+            node-after = given-clause .1
+
+            -- Where the term ends: at the end of its last argument.
+            pub node-find : (m : ℕ) → m ≡ sourceByte t (place + 1) → FindAsks x t input after (m - 2) f given (n .operands) (n .kinds)
+            node-find m em =
+                let c = place-count m em in
+                let l = node-levels deep less in
+                record { table = table; node = node-after; levels = omega (arith, l .1); number = omega (arith, c .1) }
+
+            pub node-end : (m : ℕ) → m ≡ sourceByte t (place + 1) → startOf x after (n .operands) (m - 2) ≡ at + length (bytesOf x u)
+            node-end m em =
+                let c = place-count m em in
+                let s = given-clause .2 .start ∙ fresh .starts in
+                let l = n .long in
+                rw (c .1) (last-end x t input after (f .source) given (n .operands) (n .kinds) node-after ∙ omega (arith, s))
+
+            pub node-known : (m : ℕ) → m ≡ sourceByte t (place + 1) → (knownStart after (m - 2) ≡ 0 → ⊥) → knownStart after (m - 2) ≡ at + length (bytesOf x u)
+            node-known m em h =
+                let c = place-count m em in
+                known-start x t input after (f .source) given (n .operands) (n .kinds) node-after (m - 2) (omega (arith, c .1)) h ∙ node-end m em
+
+-- What finding the start of an argument gives.
+abbrev pub FindGives : (x : Syntax) (t input before after : List ℕ) (j e : ℕ) → Type 0
+FindGives x t input before after j e =
+    (f : Translation) (given : List ℕ) (ts : Codes) (ks : List ℕ) → FindAsks x t input before j f given ts ks
+    → (e ≡ getD before 9 0 + length (allBytes x (front j ts))) × Node x t input after (f .source) given ts ks × Same before after
+
+-- The start of argument j is found.
+pub record Found (x : Syntax) (t input before state : List ℕ) (j at : ℕ) (f : Translation) (given : List ℕ) (ts : Codes) (ks : List ℕ) : Type 0 where
+  pub node : Node x t input state (f .source) given ts ks
+  pub same : Same before state
+  pub start : at ≡ startOf x state ts j
+
+module _ (x : Syntax) (t input before : List ℕ) (deep j : ℕ) (f : Translation) (given : List ℕ) (ts : Codes) (ks : List ℕ) (a : ArgumentAsks x t input before deep j f given ts ks) where
+  pub find-asks : FindAsks x t input before j f given ts ks
+  find-asks =
+      let l = a .levels in
+      let m = a .most in
+      let n = a .number in
+      record { table = a .table; node = a .node; levels = omega arith; number = omega arith }
+
+  pub found-known : (state : List ℕ) (at k : ℕ) → k ≡ knownStart before j → (k ≡ 0 → ⊥) → state ≡ before → at ≡ k → Found x t input before state j at f given ts ks
+  found-known state at k e h es ea =
+      let n = a .number in
+      rw es record {
+        node = a .node;
+        same = same-self before;
+        start = ea ∙ (e ∙ known-start x t input before (f .source) given ts ks (a .node) j (omega arith) (λ z. h (e ∙ z)));
+      }
+
+  pub found-find : (state after : List ℕ) (at k : ℕ) → FindGives x t input before after j k → state ≡ after → at ≡ k → Found x t input before state j at f given ts ks
+  found-find state after at k gives es ea =
+      let w = gives f given ts ks find-asks in
+      rw es record {
+        node = w .1;
+        same = w .2;
+        start = ea ∙ (w .0 ∙ ap (λ (n : ℕ). n + length (allBytes x (front j ts))) (sym (w .2 .start)));
+      }
+
+  -- The term that starts there.
+  module _ (state : List ℕ) (at : ℕ) (d : Found x t input before state j at f given ts ks) (kind : ℕ) (ek : kind ≡ sourceByte t (getD state 8 0 + j)) where
+    found-term : Term x input at (f .source) given (nth ts j) kind
+    found-term =
+        let q : kind ≡ getD ks j 0 = ek ∙ argument-kind x t input state (f .source) given ts ks (d .node) j (a .number) in
+        rw (q, d .start) (argument-term x t input state (f .source) given ts ks (d .node) j (a .number))
+
+    found-tells : (at < length input) × (leafAt x t kind input at ≡ true → IsLeaf x f input at (nth ts j)) × (leafAt x t kind input at ≡ false → IsNode x f given input at (nth ts j) kind)
+    found-tells = tells x t f given input at (nth ts j) kind (a .table) found-term
+
+    pub found-below : (kind < 32) × (at < length input)
+    found-below = (found-term .kind, found-tells .0)
+
+    found-levels : levels (nth ts j) ≤ deep
+    found-levels =
+        let l = argument-levels x t input state (f .source) given ts ks (d .node) j (a .number) in
+        let m = a .levels in
+        omega arith
+
+    found-run : bytesOf x (nth (runAll (clausesOf f) ts) j) ≡ bytesOf x (run (clausesOf f) (nth ts j))
+    found-run = ap (bytesOf x) (nth-run x (f .source) given f j (d .node .typed) (a .number))
+
+    found-learnt : (e : ℕ) → e ≡ at + length (bytesOf x (nth ts j)) → Node x t input (set state j e) (f .source) given ts ks × Same before (set state j e)
+    found-learnt e q =
+        let w = learnt x t input state (f .source) given ts ks (d .node) j (a .number) e (q ∙ ap (λ (n : ℕ). n + length (bytesOf x (nth ts j))) (d .start)) in
+        (w .0, same-then (d .same) (w .1))
+
+    -- A leaf.
+    module _ (is : leafAt x t kind input at ≡ true) (n : ℕ) (en : n ≡ leafLength x input at) where
+      leaf-long : n ≡ length (bytesOf x (nth ts j))
+      leaf-long = en ∙ found-tells .1 is .0
+
+      pub leaf-room : at + n ≤ length input
+      leaf-room = let i = found-term .stands .inside in let l = leaf-long in omega arith
+
+      pub leaf-gives : (o end : List ℕ) (pos e : ℕ) → Wrote (slice at (at + n) input) o end pos e
+          → Wrote (bytesOf x (nth (runAll (clausesOf f) ts) j)) o end pos e × Node x t input (set state j (at + n)) (f .source) given ts ks × Same before (set state j (at + n))
+      leaf-gives o end pos e w =
+          let l = found-learnt (at + n) (ap (λ (m : ℕ). at + m) leaf-long) in
+          let b : bytesOf x (nth (runAll (clausesOf f) ts) j) ≡ slice at (at + n) input =
+          found-run ∙ (ap (bytesOf x) (found-tells .1 is .1) ∙ sym (stands-slice input at n (bytesOf x (nth ts j)) leaf-long (found-term .stands))) in
+          (rw b w, l .0, l .1)
+
+    -- A production.
+    module _ (is : leafAt x t kind input at ≡ false) where
+      found-node : IsNode x f given input at (nth ts j) kind
+      found-node = found-tells .2 is
+
+      pub name-inside : at + signLength x < length input
+      name-inside = found-node .inside
+
+      pub name-room : at + nameLength x ≤ length input
+      name-room = let i = found-node .stands .inside in omega arith
+
+      module _ (name : ℕ) (en : name ≡ getD input (at + signLength x) 0) (small : name < 256) where
+        pub found-key : 32 + (kind * 256 + name) < 8224
+        found-key = key-below x t f given input at (nth ts j) kind (a .table) (found-term .kind) found-node name en small
+
+        module _ (place from : ℕ) (ep : place ≡ indexEntry t (32 + (kind * 256 + name))) (ec : from ≡ clauseEntry t (32 + (kind * 256 + name))) where
+          pub found-clause : from + 4 ≤ 4096
+          found-clause = clause-room x t f given input at (nth ts j) kind (a .table) (found-term .kind) found-node name en small place from ep ec
+
+          pub found-place : place + 4 ≤ 1024
+          found-place = place-room x t f given input at (nth ts j) kind (a .table) (found-term .kind) found-node name en small place from ep ec
+
+          pub found-count : (m : ℕ) → m ≡ sourceByte t (place + 1) → (2 ≤ m) × (m - 2 ≤ 8)
+          found-count m em =
+              let w = place-count x t f given input at (nth ts j) kind (a .table) (found-term .kind) found-node name en small place from ep ec m em in
+              (w .0, w .2)
+
+          pub found-deep : 0 < deep
+          found-deep = node-levels x t f given input at (nth ts j) kind (a .table) (found-term .kind) found-node name en small deep found-levels .0
+
+          module _ (b c : ℕ) (eb : b ≡ bodyByte t from) (ed : c ≡ bodyByte t (from + 1)) (inner : List ℕ) (fresh : Fresh inner (place + 4) (at + nameLength x)) where
+            pub found-asks : (ts′ : Codes) × (ks′ r : List ℕ) × (cs : Codes) × (js : List ℕ) × RowAsks x t input inner (deep - 1) (from + 4) (from + 2 + (b * 256 + c)) 16 f given ts′ ks′ r cs js
+            found-asks = (
+              found-node .operands,
+              found-node .kinds,
+              mappedArguments f kind name,
+              cons (clausesOf f kind name) nil,
+              mapped (f .body) kind ∷ [],
+              clause-asks x t f given input at (nth ts j) kind (a .table) (found-term .kind) found-node name en small place from ep ec b c eb ed inner fresh deep found-levels (a .most),
+            )
+
+            module _ (after o end : List ℕ) (pos e : ℕ) (gives : RowGives x t input inner after (deep - 1) (from + 4) (from + 2 + (b * 256 + c)) 16 o end pos e) where
+              found-wrote : Wrote (bytesOf x (nth (runAll (clausesOf f) ts) j)) o end pos e
+              found-wrote =
+                  rw found-run (node-wrote x t f given input at (nth ts j) kind (a .table) (found-term .kind) found-node name en small place from ep ec b c eb ed inner fresh deep found-levels (a .most) after o end pos e gives)
+
+              pub found-full : Wrote (bytesOf x (nth (runAll (clausesOf f) ts) j)) o end pos e × Node x t input state (f .source) given ts ks × Same before state
+              found-full = (found-wrote, d .node, d .same)
+
+              module _ (m : ℕ) (em : m ≡ sourceByte t (place + 1)) where
+                pub last-asks : (ts′ : Codes) × (ks′ : List ℕ) × FindAsks x t input after (m - 2) f given ts′ ks′
+                last-asks = (
+                  found-node .operands,
+                  found-node .kinds,
+                  node-find x t f given input at (nth ts j) kind (a .table) (found-term .kind) found-node name en small place from ep ec b c eb ed inner fresh deep found-levels (a .most) after o end pos e gives m em,
+                )
+
+                last-end-is : startOf x after (found-node .operands) (m - 2) ≡ at + length (bytesOf x (nth ts j))
+                last-end-is = node-end x t f given input at (nth ts j) kind (a .table) (found-term .kind) found-node name en small place from ep ec b c eb ed inner fresh deep found-levels (a .most) after o end pos e gives m em
+
+                pub last-known : (fin k : ℕ) → k ≡ knownStart after (m - 2) → (k ≡ 0 → ⊥) → fin ≡ k → fin ≡ at + length (bytesOf x (nth ts j))
+                last-known fin k ek h ef =
+                    ef ∙ (ek ∙ node-known x t f given input at (nth ts j) kind (a .table) (found-term .kind) found-node name en small place from ep ec b c eb ed inner fresh deep found-levels (a .most) after o end pos e gives m em (λ z. h (ek ∙ z)))
+
+                pub last-find : (fin k : ℕ) (after′ : List ℕ) → FindGives x t input after after′ (m - 2) k → fin ≡ k → fin ≡ at + length (bytesOf x (nth ts j))
+                unfolding found-node last-asks
+                last-find fin k after′ finds ef = ef ∙ (finds f given (found-node .operands) (found-node .kinds) (last-asks .2) .0 ∙ last-end-is)
+
+                pub found-done : (fin : ℕ) → fin ≡ at + length (bytesOf x (nth ts j))
+                    → Wrote (bytesOf x (nth (runAll (clausesOf f) ts) j)) o end pos e × Node x t input (set state j fin) (f .source) given ts ks × Same before (set state j fin)
+                found-done fin q = let l = found-learnt fin q in (found-wrote, l .0, l .1)
+
+-- A new node.
+pub fresh : (from start : ℕ) → Fresh (set (set (replicate 10 0) 8 from) 9 start) from start
+fresh from start = record { long = refl; kinds = refl; starts = refl; none = by }
+  where
+    by : (j : ℕ) → j < 8 → getD (set (set (replicate 10 0) 8 from) 9 start) j 0 ≡ 0
+    by j h =
+        getD-set-other (set (replicate 10 0) 8 from) 9 j start 0 (λ z. omega arith)
+        ∙ (getD-set-other (replicate 10 0) 8 j from 0 (λ z. omega arith) ∙ getD-replicate 10 j 0 0 (omega arith))
+
+pub fresh-at : (from start start′ : ℕ) → start ≡ start′ → Fresh (set (set (replicate 10 0) 8 from) 9 start) from start′
+fresh-at from start start′ e = subst (λ (n : ℕ). Fresh (set (set (replicate 10 0) 8 from) 9 start) from n) e (fresh from start)
+
+-- A byte behind a sign.
+pub behind-sign : (input : List ℕ) (at name n m : ℕ) → name ≡ getD input (at + n) 0 → n ≡ m → name ≡ getD input (at + m) 0
+behind-sign input at name n m e q = e ∙ ap (λ (i : ℕ). getD input (at + i) 0) q
+
+-- The run of a whole term.
+module _ (x : Syntax) (t input : List ℕ) (deep k : ℕ) (f : Translation) (given : List ℕ) (u : Terms.Code) (a : TermAsks x t input deep k f given u) where
+  term-tells : (0 < length input) × (leafAt x t k input 0 ≡ true → IsLeaf x f input 0 u) × (leafAt x t k input 0 ≡ false → IsNode x f given input 0 u k)
+  term-tells = tells x t f given input 0 u k (a .table) (a .term)
+
+  pub term-below : (k < 32) × (0 < length input)
+  term-below = (a .term .kind, term-tells .0)
+
+  transform-run : bytesOf x (transform f u) ≡ bytesOf x (run (clausesOf f) u)
+  unfolding transform
+  transform-run = refl
+
+  module _ (is : leafAt x t k input 0 ≡ true) (n : ℕ) (en : n ≡ leafLength x input 0) where
+    term-long : n ≡ length (bytesOf x u)
+    term-long = en ∙ term-tells .1 is .0
+
+    pub term-room : 0 + n ≤ length input
+    term-room = let i = a .term .stands .inside in let l = term-long in omega arith
+
+    pub term-leaf : (o end : List ℕ) (pos e : ℕ) → Wrote (slice 0 (0 + n) input) o end pos e → Wrote (bytesOf x (transform f u)) o end pos e
+    term-leaf o end pos e w =
+        let b : bytesOf x (transform f u) ≡ slice 0 (0 + n) input =
+        transform-run ∙ (ap (bytesOf x) (term-tells .1 is .1) ∙ sym (stands-slice input 0 n (bytesOf x u) term-long (a .term .stands))) in
+        rw b w
+
+  module _ (is : leafAt x t k input 0 ≡ false) where
+    term-node : IsNode x f given input 0 u k
+    term-node = term-tells .2 is
+
+    pub term-inside : (n : ℕ) → n ≡ signLength x → n < length input
+    term-inside n e = let i = term-node .inside in omega arith
+
+    module _ (n name : ℕ) (es : n ≡ signLength x) (en : name ≡ getD input n 0) (small : name < 256) where
+      term-name : name ≡ getD input (0 + signLength x) 0
+      term-name = let z : n ≡ 0 + signLength x = omega arith in en ∙ ap (λ (i : ℕ). getD input i 0) z
+
+      pub term-key : 32 + (k * 256 + name) < 8224
+      term-key = key-below x t f given input 0 u k (a .table) (a .term .kind) term-node name term-name small
+
+      pub term-deep : 0 < deep
+      term-deep = node-levels x t f given input 0 u k (a .table) (a .term .kind) term-node name term-name small deep (a .levels) .0
+
+      module _ (place from : ℕ) (ep : place ≡ indexEntry t (32 + (k * 256 + name))) (ec : from ≡ clauseEntry t (32 + (k * 256 + name))) where
+        pub term-clause : from + 4 ≤ 4096
+        term-clause = clause-room x t f given input 0 u k (a .table) (a .term .kind) term-node name term-name small place from ep ec
+
+        module _ (b c : ℕ) (eb : b ≡ bodyByte t from) (ed : c ≡ bodyByte t (from + 1)) (inner : List ℕ) (made : Fresh inner (place + 4) (0 + nameLength x)) where
+          pub term-asks : (ts : Codes) × (ks r : List ℕ) × (cs : Codes) × (js : List ℕ) × RowAsks x t input inner (deep - 1) (from + 4) (from + 2 + (b * 256 + c)) 16 f given ts ks r cs js
+          term-asks = (
+            term-node .operands,
+            term-node .kinds,
+            mappedArguments f k name,
+            cons (clausesOf f k name) nil,
+            mapped (f .body) k ∷ [],
+            clause-asks x t f given input 0 u k (a .table) (a .term .kind) term-node name term-name small place from ep ec b c eb ed inner made deep (a .levels) (a .most),
+          )
+
+          pub term-gives : (after o end : List ℕ) (pos e : ℕ) → RowGives x t input inner after (deep - 1) (from + 4) (from + 2 + (b * 256 + c)) 16 o end pos e
+              → Wrote (bytesOf x (transform f u)) o end pos e
+          term-gives after o end pos e gives =
+              rw transform-run (node-wrote x t f given input 0 u k (a .table) (a .term .kind) term-node name term-name small place from ep ec b c eb ed inner made deep (a .levels) (a .most) after o end pos e gives)
+
+pub fresh-first : (from n m : ℕ) → n ≡ m → Fresh (set (set (replicate 10 0) 8 from) 9 n) from (0 + m)
+fresh-first from n m e = let z : n ≡ 0 + m = omega arith in fresh-at from n (0 + m) z

@@ -1,0 +1,134 @@
+-- What the functions of the run ask for and give: for a term of the input, for the node whose arguments are put out, and
+-- for codes in a row.
+use Prim.Native.Nat.{ℕ, zero, suc, _+_, _≤_, _<_}
+use mathlib.Core.Path.{_≡_}
+use mathlib.Core.Bool.{Bool, not, cond}
+use mathlib.Core.Logic.{_⊎_}
+use mathlib.Core.List.{List, []}
+use lib.ListN.{length, getD}
+use lib.Dec.{eqb}
+use Rattle.language.specs.Language.{Language}
+use Rattle.reader.specs.Code as Terms
+use Rattle.reader.specs.Code.{Codes, nil, cons, levels, levelsAll}
+use Rattle.reader.specs.Typing.{Typed, TypedAll}
+use Rattle.reader.specs.Syntax.{write, writeAll, code}
+use Rattle.reader.specs.declared.node.Syntax.{Syntax}
+use Rattle.reader.specs.declared.node.Syntax.the-variants.{Tree, Code}
+use Rattle.reader.specs.Inner.Positions.{syntaxOf}
+use Rattle.translation.specs.Translation.{Translation}
+use Rattle.translation.specs.Running.{clausesOf, substituteAll, runAll}
+use Rattle.emitter.specs.Inner.Stands.{Stands, Wrote}
+use Rattle.emitter.specs.Inner.Table.{indexEntry, sourceByte, bodyByte, KindsAt, SpansAllAt, Ready}
+
+-- The bytes of a code or of codes in the syntax of the input.
+abbrev pub bytesOf : Syntax → Terms.Code → List ℕ
+bytesOf x u = write (syntaxOf x) u
+
+abbrev pub allBytes : Syntax → Codes → List ℕ
+allBytes x ts = writeAll (syntaxOf x) ts
+
+-- The first so many codes.
+unfoldable pub front : ℕ → Codes → Codes
+front zero ts = nil
+front (suc j) nil = nil
+front (suc j) (cons a ts) = cons a (front j ts)
+
+-- The table is that of f, and a tree has no arguments.
+pub record Given (x : Syntax) (t : List ℕ) (f : Translation) (given : List ℕ) : Type 0 where
+  pub ready : Ready t f
+  pub plain : x ≡ Tree → given ≡ []
+
+-- The term u of kind k stands in the input from `at` on.
+pub record Term (x : Syntax) (input : List ℕ) (at : ℕ) (l : Language) (given : List ℕ) (u : Terms.Code) (k : ℕ) : Type 0 where
+  pub typed : Typed l given u k
+  pub kind : k < 32
+  pub stands : Stands input at (bytesOf x u)
+
+-- The node whose arguments ts, of kinds ks, are put out. Up to 8 it has where each argument ends, or 0 where that is not
+-- known; then where its argument kinds start in the source, and where its arguments start in the input.
+pub record Node (x : Syntax) (t input node : List ℕ) (l : Language) (given : List ℕ) (ts : Codes) (ks : List ℕ) : Type 0 where
+  pub long : length node ≡ 10
+  pub kinds : KindsAt t (getD node 8 0) ks
+  pub few : length ks ≤ 8
+  pub typed : TypedAll l given ts ks
+  pub stands : Stands input (getD node 9 0) (allBytes x ts)
+  pub some : 0 < getD node 9 0
+  pub known : (j : ℕ) → j < 8 → (getD node j 0 ≡ 0) ⊎ (getD node j 0 ≡ getD node 9 0 + length (allBytes x (front (j + 1) ts)))
+
+-- The codes cs stand in the body from `at` up to `stop`; they may use as many arguments as r has kinds.
+pub record Row (t : List ℕ) (at stop : ℕ) (l : Language) (r : List ℕ) (cs : Codes) (js : List ℕ) : Type 0 where
+  pub typed : TypedAll l r cs js
+  pub stands : Stands t (17472 + at) (writeAll code cs)
+  pub spans : SpansAllAt t at cs
+  pub ends : stop ≡ at + length (writeAll code cs)
+  pub inside : stop ≤ 4096
+  pub narrow : (i : ℕ) → at ≤ i → i < stop → bodyByte t i < 256
+
+-- The same node, but for what is known of it.
+pub record Same (before after : List ℕ) : Type 0 where
+  pub from : getD after 8 0 ≡ getD before 8 0
+  pub start : getD after 9 0 ≡ getD before 9 0
+
+-- Stepping over a term whose kind stands in the source at q.
+pub record SkipAsks (x : Syntax) (t input : List ℕ) (q at : ℕ) (f : Translation) (given : List ℕ) (u : Terms.Code) (k : ℕ) : Type 0 where
+  pub table : Given x t f given
+  pub term : Term x input at (f .source) given u k
+  pub inside : q < 1024
+  pub kind : sourceByte t q ≡ k
+  pub levels : levels u ≤ 64
+
+-- Where argument j of a node starts, counted from 0; the end of the last one is where one more would start.
+pub record FindAsks (x : Syntax) (t input state : List ℕ) (j : ℕ) (f : Translation) (given : List ℕ) (ts : Codes) (ks : List ℕ) : Type 0 where
+  pub table : Given x t f given
+  pub node : Node x t input state (f .source) given ts ks
+  pub levels : levelsAll ts ≤ 64
+  pub number : j ≤ length ks
+
+-- Codes in a row, each argument replaced by its run.
+pub record RowAsks (x : Syntax) (t input state : List ℕ) (deep at stop n : ℕ) (f : Translation) (given : List ℕ) (ts : Codes) (ks r : List ℕ) (cs : Codes) (js : List ℕ) : Type 0 where
+  pub table : Given x t f given
+  pub node : Node x t input state (f .source) given ts ks
+  pub row : Row t at stop (f .target) r cs js
+  pub numbers : length r ≡ length ks
+  pub levels : levelsAll ts ≤ deep
+  pub most : deep ≤ 64
+  pub within : levelsAll cs ≤ n
+
+-- The run of argument j of a node, counted from 0.
+pub record ArgumentAsks (x : Syntax) (t input state : List ℕ) (deep j : ℕ) (f : Translation) (given : List ℕ) (ts : Codes) (ks : List ℕ) : Type 0 where
+  pub table : Given x t f given
+  pub node : Node x t input state (f .source) given ts ks
+  pub levels : levelsAll ts ≤ deep
+  pub most : deep ≤ 64
+  pub number : j < length ks
+
+-- The run of the term that the input starts with.
+pub record TermAsks (x : Syntax) (t input : List ℕ) (deep k : ℕ) (f : Translation) (given : List ℕ) (u : Terms.Code) : Type 0 where
+  pub table : Given x t f given
+  pub term : Term x input 0 (f .source) given u k
+  pub levels : levels u ≤ deep
+  pub most : deep ≤ 64
+
+-- Whether a leaf stands at `at`, where a term of kind k is to be: in a tree a class has one, in a code the sign tells.
+unfoldable pub leafAt : Syntax → List ℕ → ℕ → List ℕ → ℕ → Bool
+leafAt Tree t k b at = not (eqb (indexEntry t k) 0)
+leafAt Code t k b at = not (eqb (getD b at 0) 1)
+
+-- How many bytes the leaf at `at` has.
+unfoldable pub leafLength : Syntax → List ℕ → ℕ → ℕ
+leafLength Tree b at = 2
+leafLength Code b at = cond (eqb (getD b at 0) 2) 3 2
+
+-- How many bytes a sign has: a tree is written without.
+abbrev pub signLength : Syntax → ℕ
+signLength Tree = 0
+signLength Code = 1
+
+-- Where argument j starts by what is known of the node, counted from 0; 0 where it is not known.
+unfoldable pub knownStart : List ℕ → ℕ → ℕ
+knownStart state zero = getD state 9 0
+knownStart state (suc j) = getD state j 0
+
+-- The bytes of the codes, each argument replaced by its run.
+abbrev pub rowBytes : Syntax → Translation → Codes → Codes → List ℕ
+rowBytes x f ts cs = allBytes x (substituteAll (runAll (clausesOf f) ts) cs)

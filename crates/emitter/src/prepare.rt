@@ -1,0 +1,169 @@
+// Filling the table that a run looks things up in.
+use fields::bytes::byte_at;
+use fields::bytes::pair_at;
+use fields::bytes::wide;
+use fields::walk::field_end;
+use reader::index::build;
+use reader::index::put_all;
+ghost use mathlib.Core.Path.{_≡_};
+ghost use mathlib.Core.List.{List};
+ghost use Prim.Native.Nat.{ℕ, _+_, _<_, _≤_};
+ghost use lib.ListN.{length, getD, set, take, drop};
+ghost use Rattle.fields.specs.Inner.Places.{places};
+ghost use Rattle.language.specs.Language.{Language, productionKey};
+ghost use Rattle.reader.specs.Code.{Code};
+ghost use Rattle.reader.specs.Inner.Index.{Sound, Indexed, putAll};
+ghost use Rattle.translation.specs.Translation.{Translation};
+ghost use Rattle.emitter.specs.Inner.Stands.{spliced};
+ghost use Rattle.emitter.specs.Inner.Table.{Checked, Ready};
+ghost use Rattle.emitter.specs.Inner.Filling.{Built, Filled, mappedIn, CodeAsks, Spanned, FieldAsks, FieldSpanned, AllSpanned};
+
+// Puts the index of a file into the table, from a position on where it is all zero. Its first entries have the tag `first`.
+fn put_index(s: &[u8], first: u8, a: usize, table: &mut [u16])
+    requires { ⌜ (length (now s) ≤ 32768) × (a + 8224 ≤ length (now table)) ⌝ }
+    ensures { λ r. ⌜ now (table .exit) ≡ spliced (now (table .entry)) a (putAll first (now (s .entry)) (take 8224 (drop a (now (table .entry)))) (places (now (s .entry)))) ⌝ }
+{
+    put_all(s, first, &mut table[a..a + 8224]);
+}
+
+// Puts bytes into the table, from a position on.
+fn put_bytes(s: &[u8], a: usize, table: &mut [u16])
+    requires { ⌜ a + length (now s) ≤ length (now table) ⌝ }
+    ensures { λ r. ⌜ now (table .exit) ≡ spliced (now (table .entry)) a (now (s .entry)) ⌝ }
+{
+    let mut i = 0;
+    while i < s.len() {
+        table[a + i] = s[i] as u16;
+        i += 1;
+    }
+}
+
+// Fills the table but for the spans.
+fn fill(source: &[u8], body: &[u8], table: &mut [u16])
+    requires { ⌜ (length (now source) ≤ 1024) × (length (now body) ≤ 4096) × (length (now table) ≡ 25664) × ((j : ℕ) → getD (now table) j 0 ≡ 0) ⌝ }
+    ensures { λ r. ⌜ Filled (now (source .entry)) (now (body .entry)) (now (table .exit)) ⌝ }
+{
+    put_index(source, 0x11, 0, table);
+    put_index(body, 0x22, 8224, table);
+    put_bytes(source, 16448, table);
+    put_bytes(body, 17472, table);
+}
+
+// Where the field of a production of the target stands, and one more.
+fn place_of(places: &[u16], kind: u8, name: u8) -> usize
+    requires { ⌜ (length (now places) ≡ 8224) × (kind < 32) ⌝ }
+    ensures { λ r. ⌜ (r ≡ getD (now (places .entry)) (productionKey kind name) 0) × (r < 65536) ⌝ }
+{
+    places[32 + (wide(kind) * 256 + wide(name))] as usize
+}
+
+// Keeps where the production's code at a position of the body ends.
+fn set_span(table: &mut [u16], at: usize, end: usize)
+    requires { ⌜ (length (now table) ≡ 25664) × (at < 4096) × (end < 65536) ⌝ }
+    ensures { λ r. ⌜ now (table .exit) ≡ set (now (table .entry)) (21568 + at) end ⌝ }
+{
+    table[21568 + at] = end as u16;
+}
+
+// Keeps where the code of a kind at a position of the body ends, and where each production's code in it does, and answers
+// where it ends. It calls itself on the operands, one level fewer.
+fn span_code(
+    target: &[u8],
+    places: &[u16],
+    body: &[u8],
+    kind: u8,
+    at: usize,
+    levels: usize,
+    table: &mut [u16],
+) -> usize
+    requires { ⌜ Sound (now places) (now target) × (kind < 32) × (length (now body) ≤ 4096) × (at ≤ 4100) × (length (now table) ≡ 25664) ⌝ }
+    ensures { λ r. ⌜ (r ≤ 4100) × ((l : Language) (given : List ℕ) (a : Code) → CodeAsks (now (target .entry)) (now (places .entry)) (now (body .entry)) kind at levels l given a
+        → Spanned (now (table .entry)) (now (table .exit)) at a r) ⌝ }
+{
+    if body.len() <= at {
+        return at;
+    }
+    let sign = body[at];
+    if sign == 2 {
+        return at + 3;
+    }
+    if sign != 1 {
+        return at + 2;
+    }
+    if levels == 0 {
+        return at;
+    }
+    let place = place_of(places, kind, byte_at(body, at + 1));
+    if place == 0 {
+        return at;
+    }
+    let stop = place + 2 + pair_at(target, place);
+    let mut q = place + 4;
+    let mut c = at + 2;
+    while q < stop {
+        c = span_code(target, places, body, target[q], c, levels - 1, table);
+        q += 1;
+    }
+    set_span(table, at, c);
+    c
+}
+
+// The kind that a kind maps to, by the table; 0 where it is not mapped.
+fn mapped_in(body: &[u8], table: &[u16], kind: u8) -> u8
+    requires { ⌜ length (now table) ≡ 25664 ⌝ }
+    ensures { λ r. ⌜ r ≡ mappedIn (now (body .entry)) (now (table .entry)) kind ⌝ }
+{
+    let place = table[8224 + wide(kind)] as usize;
+    if place == 0 {
+        return 0;
+    }
+    byte_at(body, place + 3)
+}
+
+// Keeps the spans of the code in the field of the body at a position, where it is a clause.
+fn span_field(target: &[u8], places: &[u16], body: &[u8], p: usize, table: &mut [u16])
+    requires { ⌜ Sound (now places) (now target) × (length (now body) ≤ 4096) × (p < length (now body)) × (length (now table) ≡ 25664) ⌝ }
+    ensures { λ r. ⌜ ((l : Language) (given : List ℕ) (a : Code) → FieldAsks (now (target .entry)) (now (places .entry)) (now (body .entry)) p (now (table .entry)) l given a
+        → FieldSpanned (now (body .entry)) p (now (table .entry)) (now (table .exit)) a) ⌝ }
+{
+    if body[p] != 0x23 {
+        return;
+    }
+    let kind = mapped_in(body, table, byte_at(body, p + 3));
+    if 31 < kind {
+        return;
+    }
+    span_code(target, places, body, kind, p + 5, 16, table);
+}
+
+// Keeps the spans of the codes of all clauses.
+fn span_all(target: &[u8], places: &[u16], body: &[u8], table: &mut [u16])
+    requires { ⌜ Sound (now places) (now target) × (length (now body) ≤ 4096) × (length (now table) ≡ 25664) ⌝ }
+    ensures { λ r. ⌜ ((s : List ℕ) (f : Translation) → Checked s (now (target .entry)) (now (body .entry)) f → Indexed (now (places .entry)) (now (target .entry)) (f .target)
+        → Built 0x22 (now (body .entry)) (now (table .entry)) 8224 → AllSpanned (now (table .entry)) (now (table .exit)) f) ⌝ }
+{
+    let mut p = 0;
+    while p < body.len() {
+        span_field(target, places, body, p, table);
+        p = field_end(body, p);
+    }
+}
+
+// The same as `prepare`, for a table of that length.
+fn fill_all(source: &[u8], target: &[u8], body: &[u8], table: &mut [u16])
+    requires { ⌜ (length (now table) ≡ 25664) × ((j : ℕ) → getD (now table) j 0 ≡ 0) × ((f : Translation) × Checked (now source) (now target) (now body) f) ⌝ }
+    ensures { λ r. ⌜ ((f : Translation) → Checked (now (source .entry)) (now (target .entry)) (now (body .entry)) f → Ready (now (table .exit)) f) ⌝ }
+{
+    fill(source, body, table);
+    let mut places = [0u16; 8224];
+    build(target, &mut places);
+    span_all(target, &places, body, table);
+}
+
+// Fills the table of a translation that was accepted, by the bytes of its source, target and body. It is all zero before.
+pub fn prepare(source: &[u8], target: &[u8], body: &[u8], table: &mut [u16; 25664])
+    requires { ⌜ ((j : ℕ) → getD (now table) j 0 ≡ 0) × ((f : Translation) × Checked (now source) (now target) (now body) f) ⌝ }
+    ensures { λ r. ⌜ ((f : Translation) → Checked (now (source .entry)) (now (target .entry)) (now (body .entry)) f → Ready (now (table .exit)) f) ⌝ }
+{
+    fill_all(source, target, body, table);
+}

@@ -1,0 +1,47 @@
+// Where the arguments of a node start: learnt on the way.
+use crate::skip::skip;
+use reader::node::Syntax;
+ghost use mathlib.Core.Path.{_≡_};
+ghost use mathlib.Core.List.{List};
+ghost use Prim.Native.Nat.{ℕ, _+_, _≤_};
+ghost use lib.ListN.{length, getD};
+ghost use Rattle.reader.specs.Code.{Codes};
+ghost use Rattle.translation.specs.Translation.{Translation};
+ghost use Rattle.emitter.specs.Inner.Runs.{allBytes, front, Node, Same, FindAsks, knownStart};
+
+// Where argument j starts by what is known of the node; 0 where it is not known.
+pub fn known(node: &[usize; 10], j: usize) -> usize
+    requires { ⌜ j ≤ 8 ⌝ }
+    ensures { λ r. ⌜ r ≡ knownStart (now (node .entry)) j ⌝ }
+{
+    if j == 0 { node[9] } else { node[j - 1] }
+}
+
+// Where argument j starts: the arguments before it whose end is not known are stepped over.
+pub fn find(
+    syntax: Syntax,
+    table: &[u16; 25664],
+    input: &[u8],
+    node: &mut [usize; 10],
+    j: usize,
+) -> usize
+    requires { ⌜ ((f : Translation) × (given : List ℕ) × (ts : Codes) × (ks : List ℕ) × FindAsks syntax (now table) (now input) (now node) j f given ts ks) ⌝ }
+    ensures { λ r. ⌜ ((f : Translation) (given : List ℕ) (ts : Codes) (ks : List ℕ) → FindAsks syntax (now (table .entry)) (now (input .entry)) (now (node .entry)) j f given ts ks
+        → (r ≡ getD (now (node .entry)) 9 0 + length (allBytes syntax (front j ts)))
+        × Node syntax (now (table .entry)) (now (input .entry)) (now (node .exit)) (f .source) given ts ks
+        × Same (now (node .entry)) (now (node .exit))) ⌝ }
+{
+    let from = node[8];
+    let mut p = node[9];
+    let mut i = 0;
+    while i < j {
+        let mut e = node[i];
+        if e == 0 {
+            e = skip(syntax, table, input, from + i, p);
+            node[i] = e;
+        }
+        p = e;
+        i += 1;
+    }
+    p
+}
