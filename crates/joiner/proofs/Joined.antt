@@ -1,7 +1,7 @@
 -- What the join gives: the check of the joined value refuses it exactly if it exceeds a limit.
 use Prim.Native.Nat.{ℕ, _≤_, _<_}
 use mathlib.Core.Path.{_≡_, refl, sym, ap, subst, _∙_}
-use mathlib.Core.Bool.{Bool, true, false, not}
+use mathlib.Core.Bool.{Bool, true, false}
 use mathlib.Core.Option.{some}
 use mathlib.Core.List.{List}
 use native.Mathlib.Omega.{arith}
@@ -21,13 +21,14 @@ use Rattle.language.specs.Language.{entryKey}
 use Rattle.language.specs.LanguageFile.{entriesOf, encodeLanguage}
 use Rattle.language.proofs.Codec.{entryWhole, language-encode}
 use Rattle.language.proofs.Lookup.{none-clashes}
-use Rattle.reader.specs.Inner.Index.{Indexed}
 use Rattle.translation.specs.Translation.{Translation, itemKey}
 use Rattle.translation.specs.TranslationFile.{encodeTranslation, translationLimit, bodyOf, allRising}
 use Rattle.translation.specs.Operations.{checkTranslation}
 use Rattle.translation.specs.Inner.ItemIndex.{IndexedItems, mappedAt}
 use Rattle.translation.proofs.Codec.{itemWhole, rising-grouped, body-encode, WholeTranslation, translation-back}
 use Rattle.translation.proofs.Chain.{accepts}
+use Rattle.translation.proofs.IndexedItems.{mapped-is}
+use Rattle.emitter.specs.Inner.Table.{Ready, Checked}
 use Rattle.operators.specs.Algebra.{joinFits, joined, translationJoin}
 use Rattle.operators.specs.Limits.{codeIsDeep, languageExceeds, translationExceeds}
 use Rattle.operators.specs.declared.copy.Stored.{Stored}
@@ -42,7 +43,7 @@ use Rattle.values.specs.Inner.Assembled.{assembled}
 use Rattle.values.proofs.Accepted.{accepted-good, whole-over, body-in, body-over, assembled-given}
 use Rattle.values.proofs.Given.{assembled-is, gives-refused}
 use Rattle.values.proofs.TranslationLaws.{spelt-good}
-use Rattle.joiner.specs.Inner.Joining.{Held, Joining, Fitted, joinedBody, measured}
+use Rattle.joiner.specs.Inner.Joining.{Held, Joining, Maps, Fitted, joinedBody, measured}
 
 -- Bytes that were given whole.
 pub record Whole (v o′ : List ℕ) (n : ℕ) : Type 0 where
@@ -197,25 +198,40 @@ module _ (s t b : List ℕ) (f : Translation) (w : Spelt s t b f) where
   pub target-within : length t ≤ 1024
   target-within = omega (arith, ap length (w .target), good .target-short)
 
-  pub body-within : length b ≤ 32768
-  body-within = omega (arith, ap length (w .body), body-in f, good .short)
+  pub body-short : length b ≤ 4096
+  body-short = omega (arith, ap length (w .body), body-in f, good .short)
 
--- `join_body`: the tables of the parts
+  pub body-within : length b ≤ 32768
+  body-within = omega (arith, body-short)
+
+-- `join_body`: the first's table is made from its parts
+pub spelt-checked : (s t b : List ℕ) (f : Translation) → Spelt s t b f → Checked s t b f
+spelt-checked s t b f w = record {
+  pieces = record {
+    source = source-entries s t b f w;
+    target = target-entries s t b f w;
+    body = body-items s t b f w;
+    source-short = source-within s t b f w;
+    target-short = target-within s t b f w;
+    body-short = body-within s t b f w;
+  };
+  short = body-short s t b f w;
+  file = encodeTranslation f;
+  accepted = w .accepted;
+}
+
 module _ (s t b s′ b′ : List ℕ) (f g : Translation) (w : Fitted s t b s′ b′ f g) where
-  pub fitted-joining : (is it ib m is′ ib′ : List ℕ) → Indexed is s (f .source) → Indexed it t (f .target) → IndexedItems ib b (f .body)
-      → ((k : ℕ) → k < 32 → getD m k 0 ≡ mappedAt b ib k) × ((k : ℕ) → getD m k 0 < 32) × (length m ≡ 32)
-      → Indexed is′ s′ (g .source) → IndexedItems ib′ b′ (g .body) → Joining s is t it b ib m s′ is′ b′ ib′ f g
-  fitted-joining is it ib m is′ ib′ x y z n u v = record {
+  pub fitted-joining : (table ib′ : List ℕ) → (Checked s t b f → Ready table f) → IndexedItems ib′ b′ (g .body) → Joining table b′ ib′ f g
+  fitted-joining table ib′ x v = record {
     first = spelt-held s t b f (w .first);
     second = spelt-held s′ (w .second .0) b′ g (w .second .1);
     fits = w .fits;
-    parts = record { source = x; target = y; body = z };
-    mapped = n .0;
-    kinds = n .1;
-    long = n .2;
-    source = u;
+    table = x (spelt-checked s t b f (w .first));
     body = v;
   }
+
+  pub fitted-maps : (ib m : List ℕ) → IndexedItems ib b (f .body) → ((k : ℕ) → k < 32 → getD m k 0 ≡ mappedAt b ib k) → Maps m f
+  fitted-maps ib m y n = record { at = λ k h. n k h ∙ mapped-is b ib (f .body) y k h }
 
   -- `join_fitting`: the body did not fit into 4,096 bytes
   pub fitting-full : (d d′ o : List ℕ) (r : Stored) → length d ≡ 4096 → Stores (joinedBody f g) d d′ 0 r → r ≡ Full

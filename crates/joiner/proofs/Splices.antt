@@ -1,10 +1,13 @@
 -- Writing a field: its first bytes, and what follows them.
 use Prim.Native.Nat.{ℕ, suc, _+_, _-_, _<_, _≤_}
-use mathlib.Core.Path.{_≡_, sym, ap, _∙_}
+use mathlib.Core.Path.{_≡_, refl, sym, ap, _∙_}
 use mathlib.Core.List.{List, [], _∷_, _++_, append-assoc}
 use native.Mathlib.Omega.{arith}
 use lib.ListN.{length, take, drop, set, length-append}
 use lib.Seq.{sets-eq, take-append-le, take-take, drop-at, length-take-le}
+use Rattle.emitter.specs.Inner.Stands as Standing
+use Rattle.emitter.specs.Inner.Stands.{Wrote}
+use Rattle.emitter.proofs.Standing.{wrote-long}
 use Rattle.operators.specs.declared.copy.Stored.the-variants.{To, Full}
 use Rattle.operators.specs.Inner.Parts.{spliced, Stores}
 
@@ -50,3 +53,20 @@ stored-full v o o′ n h = record {
   done = λ m q. let z : _≡_ {A = ℕ} 0 1 = cc in absurd (omega arith);
   full = λ q. h;
 }
+
+-- What the emitter put in.
+module _ (v o o′ : List ℕ) (n m : ℕ) (w : Wrote v o o′ n m) where
+  same-spliced : Standing.spliced o n v ≡ spliced o n v
+  unfolding Standing.spliced spliced
+  same-spliced = refl
+
+  pub wrote-to : m ≤ length o′ → Stores v o o′ n (To m)
+  wrote-to h =
+      let l = wrote-long v o o′ n m w in
+      let x = w .fits (omega arith) in
+      stored-to v o o′ n m (x .0) (omega arith) (x .1 ∙ same-spliced)
+
+  pub wrote-over : length o′ < m → Stores v o o′ n Full
+  wrote-over h =
+      let l = wrote-long v o o′ n m w in
+      stored-full v o o′ n (w .full (omega arith) .0)

@@ -11,17 +11,16 @@ use Rattle.fields.specs.Fields.{encodeField, encodeFields}
 use Rattle.fields.specs.Inner.Places.{fieldEnd, placesFrom, places}
 use Rattle.fields.proofs.Codec.{concat-append}
 use Rattle.fields.proofs.Places.{places-done, places-next}
-use Rattle.translation.specs.Translation.{Item, Translation, mapped}
+use Rattle.translation.specs.Translation.{Item, Translation}
 use Rattle.translation.specs.TranslationFile.{itemField}
 use Rattle.translation.specs.Inner.Items.{itemWhole, itemAt, IsMapping, IsClause}
 use Rattle.translation.proofs.Items.{item-facts, mapping-is, clause-is, holds-items}
-use Rattle.translation.proofs.IndexedItems.{mapped-is}
 use Rattle.operators.specs.Algebra.{joinItem, joined}
 use Rattle.operators.specs.declared.copy.Stored.{Stored}
 use Rattle.operators.specs.declared.copy.Stored.the-variants.{To, Full}
 use Rattle.operators.specs.Inner.Parts.{spliced, Written, Stores}
 use Rattle.operators.proofs.Splices.{nothing-spliced, written-then}
-use Rattle.joiner.specs.Inner.Joining.{Joining, Reached, head, joinedCode, joinedField, joinedBody}
+use Rattle.joiner.specs.Inner.Joining.{Joining, Maps, Reached, head, joinedCode, joinedField, joinedBody}
 use Rattle.joiner.proofs.Splices.{head-before, head-full, stored-to, stored-full}
 
 -- join_mapping
@@ -33,7 +32,7 @@ module _ (o : List ℕ) (n : ℕ) (inside : n ≤ length o) (first second : ℕ)
       → Stores (head 0x22 2 first second) o o′ n (To (n + 5))
   mapping-to h o′ a b ea eb e = stored-to _ o o′ n (n + 5) refl (omega arith) (e ∙ rw (ea, eb))
 
-module _ (s is t it b ib m s′ is′ b′ ib′ : List ℕ) (f g : Translation) (z : Joining s is t it b ib m s′ is′ b′ ib′ f g) where
+module _ (t b′ ib′ : List ℕ) (f g : Translation) (z : Joining t b′ ib′ f g) where
   -- The field of a clause, and of a mapping, joined.
   clause-field : (p : ℕ) → IsClause b′ p → (size : ℕ) → size ≡ 2 + length (joinedCode f g b′ p)
       → joinedField f g b′ p ≡ head 0x23 size (getD b′ (p + 3) 0) (getD b′ (p + 4) 0) ++ joinedCode f g b′ p
@@ -42,11 +41,11 @@ module _ (s is t it b ib m s′ is′ b′ ib′ : List ℕ) (f g : Translation)
       let d : size ≡ suc (suc (length (joinedCode f g b′ p))) = omega (arith, e) in
       rw (clause-is b′ p c, d) refl
 
-  pub mapping-field : (p : ℕ) → IsMapping b′ p → head 0x22 2 (getD b′ (p + 3) 0) (getD m (getD b′ (p + 4) 0) 0) ≡ joinedField f g b′ p
+  pub mapping-field : (m : List ℕ) → Maps m f → (p : ℕ) → IsMapping b′ p → head 0x22 2 (getD b′ (p + 3) 0) (getD m (getD b′ (p + 4) 0) 0) ≡ joinedField f g b′ p
   unfolding encodeField itemField joinItem
-  mapping-field p c =
+  mapping-field m n p c =
       let k = getD b′ (p + 4) 0 in
-      rw (mapping-is b′ p c, ← (z .mapped k (c .target) ∙ mapped-is b ib (f .body) (z .parts .body) k (c .target))) refl
+      rw (mapping-is b′ p c, ← n .at k (c .target)) refl
 
   -- join_clause
   module _ (p : ℕ) (c : IsClause b′ p) (o : List ℕ) (n : ℕ) (inside : n ≤ length o) where
@@ -80,9 +79,9 @@ module _ (s is t it b ib m s′ is′ b′ ib′ : List ℕ) (f g : Translation)
   pub item-mapping : (p tag : ℕ) → tag ≡ getD b′ p 0 → itemWhole b′ p ≡ true → tag ≡ 0x22 → IsMapping b′ p
   item-mapping p tag et w h = ⊎-elim (λ c. c) (λ c. absurd (omega (arith, c .tag, et, h))) (item-facts b′ p w)
 
-  pub item-stored : (p : ℕ) → IsMapping b′ p → (o o′ : List ℕ) (n : ℕ) (x : Stored)
+  pub item-stored : (m : List ℕ) → Maps m f → (p : ℕ) → IsMapping b′ p → (o o′ : List ℕ) (n : ℕ) (x : Stored)
       → Stores (head 0x22 2 (getD b′ (p + 3) 0) (getD m (getD b′ (p + 4) 0) 0)) o o′ n x → Stores (joinedField f g b′ p) o o′ n x
-  item-stored p c o o′ n x w = rw (← mapping-field p c) w
+  item-stored m k p c o o′ n x w = rw (← mapping-field m k p c) w
 
   -- The body of the join, place by place.
   joined-places : (l : List ℕ) → encodeFields (map itemField (map (joinItem f g) (map (itemAt b′) l))) ≡ concatMap (joinedField f g b′) l

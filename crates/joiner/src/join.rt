@@ -1,7 +1,8 @@
 // The join of two translations.
 ghost use mathlib.Core.Path.{_≡_};
 ghost use mathlib.Core.Bool.{true};
-ghost use Prim.Native.Nat.{_≤_};
+ghost use mathlib.Core.List.{List};
+ghost use Prim.Native.Nat.{ℕ, _≤_};
 ghost use lib.ListN.{length};
 ghost use Rattle.fields.specs.Outcome.{value};
 ghost use Rattle.language.specs.LanguageFile.{encodeLanguage};
@@ -14,50 +15,33 @@ ghost use Rattle.operators.specs.Inner.Values.{Gives, translationBytes};
 ghost use Rattle.values.specs.Inner.Spelt.{Spelt};
 ghost use Rattle.joiner.specs.Inner.Joining.{Held, Fitted, joinedBody, measured};
 use super::body::join_items;
+use emitter::prepare::prepare;
 use fields::outcome::Outcome;
 use fields::outcome::Reason;
 use operators::copy::Stored;
 use operators::within::lies_within;
-use reader::index::build;
 use translation::check::check_translation;
 use translation::index::build_items;
 use translation::index::map_kinds;
 use translation::parts::accepted_parts;
 use values::assemble::assemble;
 
-// The body of the join of two translations that fit, by the source, target and body of the first and the source and
-// body of the second: through an index of each.
-fn join_body(s: &[u8], t: &[u8], x: &[u8], u: &[u8], y: &[u8], out: &mut [u8]) -> Stored
-    requires { ⌜ (length (now out) ≤ 4096) × ((f g : Translation) × Fitted (now s) (now t) (now x) (now u) (now y) f g) ⌝ }
-    ensures { λ r. ⌜ ((f g : Translation) → Fitted (now (s .entry)) (now (t .entry)) (now (x .entry)) (now (u .entry)) (now (y .entry)) f g
+// The body of the join of two translations that fit, by the source, target and body of the first and the body of the
+// second: through the table of the first's run, the kinds that it maps to, and an index of the second's items.
+fn join_body(s: &[u8], t: &[u8], x: &[u8], y: &[u8], out: &mut [u8]) -> Stored
+    requires { ⌜ (length (now out) ≤ 4096) × ((f g : Translation) × (u : List ℕ) × Fitted (now s) (now t) (now x) u (now y) f g) ⌝ }
+    ensures { λ r. ⌜ ((f g : Translation) (u : List ℕ) → Fitted (now (s .entry)) (now (t .entry)) (now (x .entry)) u (now (y .entry)) f g
         → Stores (joinedBody f g) (now (out .entry)) (now (out .exit)) 0 r) ⌝ }
 {
-    let mut index = [0u16; 8224];
-    build(s, &mut index);
-    let mut places = [0u16; 8224];
-    build(t, &mut places);
+    let mut table = [0u16; 25664];
+    prepare(s, t, x, &mut table);
     let mut clauses = [0u16; 8224];
     build_items(x, &mut clauses);
     let mut mapped = [0u8; 32];
     map_kinds(x, &clauses, &mut mapped);
-    let mut sources = [0u16; 8224];
-    build(u, &mut sources);
     let mut items = [0u16; 8224];
     build_items(y, &mut items);
-    join_items(
-        s,
-        &index,
-        t,
-        &places,
-        x,
-        &clauses,
-        &mapped,
-        u,
-        &sources,
-        y,
-        &items,
-        out,
-    )
+    join_items(&table, &mapped, y, &items, out)
 }
 
 // The length of a joined value, or 11 where the check refuses it: a code of it goes too deep.
@@ -91,7 +75,7 @@ fn join_fitting(s: &[u8], t: &[u8], x: &[u8], u: &[u8], y: &[u8], out: &mut [u8]
         → Gives (translationBytes (value (joined f g))) (now (out .entry)) (now (out .exit)) r) ⌝ }
 {
     let mut body = [0u8; 4096];
-    let Stored::To(n) = join_body(s, t, x, u, y, &mut body) else {
+    let Stored::To(n) = join_body(s, t, x, y, &mut body) else {
         return Outcome::Refused(Reason::Limit);
     };
     finish(u, t, &body[..n], out)

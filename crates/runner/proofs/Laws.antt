@@ -1,5 +1,5 @@
 -- What a run relies on, and a law for each return of `write_tree`, `run_parts` and `run`.
-use Prim.Native.Nat.{ℕ, zero, suc, _+_, _<_, _≤_}
+use Prim.Native.Nat.{ℕ, _+_, _<_, _≤_}
 use mathlib.Core.Path.{_≡_, refl, sym, ap, _∙_}
 use mathlib.Core.Bool.{Bool, true, false, _||_}
 use mathlib.Core.List.{List, [], _++_}
@@ -15,28 +15,24 @@ use Rattle.fields.specs.declared.outcome.Reason.{Reason}
 use Rattle.fields.specs.declared.outcome.Reason.the-variants as Why
 use Rattle.fields.proofs.Truth.{by-test, or-false}
 use Rattle.fields.proofs.Split.{front}
-use Rattle.fields.proofs.Keyed.{Rising}
-use Rattle.language.specs.Language.{isIn, productionKey}
+use Rattle.fields.proofs.Codec.{bytes-from}
+use Rattle.language.specs.Language.{isIn}
 use Rattle.language.specs.LanguageFile.{languageLimit}
 use Rattle.reader.specs.Code.{Code}
 use Rattle.reader.specs.Syntax as Meant
 use Rattle.reader.specs.Operations.{treeOf, wholeTree}
 use Rattle.reader.specs.declared.node.Syntax.the-variants.{Tree}
-use Rattle.reader.specs.Inner.Index.{Indexed}
 use Rattle.reader.proofs.Check.{refused-not}
+use Rattle.reader.proofs.Sound.{read-done as right-done}
 use Rattle.reader.proofs.Members.{in-below}
-use Rattle.reader.proofs.Larger.{apart}
-use Rattle.translation.specs.Translation.{Translation, itemKey}
+use Rattle.translation.specs.Translation.{Translation}
 use Rattle.translation.specs.Running.{transform}
 use Rattle.translation.specs.TranslationFile.{translationLimit, isLanguageTag, allRising, translationOf}
 use Rattle.translation.specs.WellFormed.{wellFormed}
 use Rattle.translation.specs.Operations.{checkTranslation, fitted, runBytes, runTree}
 use Rattle.translation.specs.Inner.Parts.{Parted}
-use Rattle.translation.specs.Inner.ItemIndex.{IndexedItems}
-use Rattle.translation.specs.Inner.ItemIndex as Items
-use Rattle.translation.proofs.Codec.{WholeTranslation, translation-whole, translation-parts}
-use Rattle.translation.proofs.Fitting.{Fitting, formed-fits, refuse-value}
-use Rattle.translation.proofs.IndexedItems.{mapped-is}
+use Rattle.translation.proofs.Codec.{translation-whole, translation-parts}
+use Rattle.translation.proofs.Fitting.{refuse-value}
 use Rattle.translation.proofs.Found.{cut, rest-is}
 use Rattle.translation.proofs.Chain.{pieces}
 use Rattle.measure.specs.declared.measure.Measured.{Measured}
@@ -45,68 +41,53 @@ use Rattle.measure.specs.Inner.Sizes.{size, capped}
 use Rattle.measure.specs.Inner.Measuring.{EndsIn, sizedAt, sizedOf}
 use Rattle.measure.proofs.Sizes.{over-room, within-room}
 use Rattle.measure.proofs.Meaning.{sized-done, sized-deep, sized-broken}
-use Rattle.measure.proofs.Prepared.{items-rise, kinds-below}
-use Rattle.writer.specs.declared.output.Ran.{Ran}
-use Rattle.writer.specs.declared.output.Ran.the-variants.{To, Full}
-use Rattle.writer.specs.Inner.Pieces.{spliced}
-use Rattle.writer.specs.Inner.Runs.{tables, Sized}
-use Rattle.writer.specs.Inner.Prepared.{codeBefore, Prepared, Written}
-use Rattle.writer.proofs.Meaning.{fit-each, fit-codes}
-use Rattle.runner.specs.Inner.Runs.{Checked, Kinds, runOf, Answers}
+use Rattle.emitter.specs.Inner.Stands.{spliced, Wrote}
+use Rattle.emitter.specs.Inner.Table.{Ready, Checked}
+use Rattle.emitter.specs.Inner.Runs.{TermAsks}
+use Rattle.emitter.proofs.Standing.{drop-stands, wrote-long}
+use Rattle.runner.specs.Inner.Runs.{runOf, Answers}
 
--- Both say the code in the clause before `place`.
-code-before : (s : List ℕ) (place : ℕ) → Items.codeBefore s place ≡ codeBefore s place
-code-before s zero = refl
-code-before s (suc p) = refl
-
--- A translation that was accepted rises, is well formed, and fits.
+-- A translation that was accepted rises, and is well formed.
 module _ {s t b : List ℕ} {f : Translation} (z : Checked s t b f) where
-  whole : WholeTranslation f × (wellFormed f ≡ value f)
-  whole = let w = translation-whole (z .file) f (z .accepted) in (w .1, w .2)
-
   pub rises : allRising f ≡ true
-  rises = whole .0 .rises
+  rises = translation-whole (z .file) f (z .accepted) .1 .rises
 
   pub formed : wellFormed f ≡ value f
-  formed = whole .1
+  formed = translation-whole (z .file) f (z .accepted) .2
 
-  body-rises : Rising itemKey (f .body)
-  body-rises = items-rise b f (z .pieces .body) rises
+-- The bytes of a run, and what reading its tree comes to.
+abbrev pub runBy : Translation → Code → List ℕ
+runBy f t = Meant.write Meant.tree (transform f t)
 
-  fits : Fitting f
-  fits = formed-fits f f (kinds-below b f (z .pieces .body) rises s (z .pieces .source)) body-rises formed .0
+abbrev pub treeRead : Translation → ℕ → List ℕ → Meant.Read Code
+treeRead f k b = Meant.read Meant.tree (f .source) [] 64 k b
 
-  -- What `write_tree` hands to the writer.
-  module _ {index places items mapped : List ℕ} (tree : List ℕ) (i : Indexed index s (f .source)) (j : Indexed places t (f .target))
-      (k : IndexedItems items b (f .body)) (m : Kinds mapped b items) where
-    pub sized : Sized (tables Tree s index t places b items mapped [] tree)
-    sized = record { source = i .sound; target = j .sound; clauses = k .sound .long; mapped = m .2; kinds = m .1 }
-
-    pub prepared : Prepared (tables Tree s index t places b items mapped [] tree) f
-    prepared = record {
-      tree = λ e. refl;
-      source = i;
-      target = j;
-      apart = apart (f .source) (whole .0 .source-apart);
-      clauses = λ a p h l. k .clause a p h l ∙ code-before b (getD items (productionKey a p) 0);
-      codes = λ a p ks c e y. fit-codes f body-rises fits a p ks e c y;
-      each = λ a p ks e. fit-each f body-rises fits a p ks e;
-      mapped = λ a h. m .0 a h ∙ mapped-is b items (f .body) k a h;
+-- What `write_tree` hands to the emitter: the tree that was read stands in its bytes.
+pub tree-asks : (table b : List ℕ) (k : ℕ) (f : Translation) (t : Code) → Ready table f → k < 32 → ((i : ℕ) → getD b i 0 < 256)
+    → treeRead f k b ≡ Meant.done t [] → TermAsks Tree table b 64 k f [] t
+tree-asks table b k f t r h y e =
+    let d = right-done Meant.tree (f .source) [] 64 k b t [] e in
+    record {
+      table = record { ready = r; plain = λ q. refl };
+      term = record { typed = d .0; kind = h; stands = drop-stands b 0 _ [] (omega arith) (d .2 (bytes-from b (λ i l. y i)) .0) };
+      levels = d .1;
+      most = omega arith;
     }
 
 -- write_tree
-module _ (v rest input o after : List ℕ) (r : Ran) (w : Written v rest input o after 0 r) where
-  pub tree-written : {out : Outcome} {e p : ℕ} → r ≡ To e p → out ≡ Accepted p → Answers (value v) o after out
+module _ (v o after : List ℕ) (p : ℕ) (w : Wrote v o after 0 p) where
+  pub tree-written : {out : Outcome} → p ≤ length after → out ≡ Accepted p → Answers (value v) o after out
   unfolding spliced
-  tree-written {e = e} {p = p} y h =
-      let x : Written v rest input o after 0 (To e p) = rw y at w in
+  tree-written i h =
+      let l = wrote-long v o after 0 p w in
+      let x = w .fits (omega arith) in
       let z : 0 + length v ≡ length v = omega arith in
-      record { answer = h ∙ ap Accepted (x .2 ∙ z); left = x .4 ∙ ap (λ (n : ℕ). v ++ drop n o) z }
+      record { answer = h ∙ ap Accepted (x .0 ∙ z); left = x .1 ∙ ap (λ (n : ℕ). v ++ drop n o) z }
 
-  pub tree-full : {out : Outcome} → r ≡ Full → length v ≤ length o → Answers (value v) o after out
-  tree-full y h =
-      let x : Written v rest input o after 0 Full = rw y at w in
-      let l = x .0 in
+  pub tree-full : {out : Outcome} → length after < p → length v ≤ length o → Answers (value v) o after out
+  tree-full i h =
+      let l = wrote-long v o after 0 p w in
+      let x = w .full (omega arith) .0 in
       absurd (omega arith)
 
 -- The answer that a result makes.
@@ -115,13 +96,6 @@ answer-refused {o = o} e h = record { answer = h ∙ sym (ap written e); left = 
 
 answer-same : {x y : Result (List ℕ)} {o after : List ℕ} {out : Outcome} → x ≡ y → Answers y o after out → Answers x o after out
 answer-same {o = o} e h = record { answer = h .answer ∙ sym (ap written e); left = h .left ∙ sym (ap (outputAfter o) e) }
-
--- The bytes of a run, and what reading its tree comes to.
-abbrev pub runBy : Translation → Code → List ℕ
-runBy f t = Meant.write Meant.tree (transform f t)
-
-abbrev pub treeRead : Translation → ℕ → List ℕ → Meant.Read Code
-treeRead f k b = Meant.read Meant.tree (f .source) [] 64 k b
 
 -- run_parts
 module _ (f : Translation) (k room : ℕ) (b o : List ℕ) {r : Bool} (er : r ≡ isIn (f .source) k) where
@@ -155,6 +129,10 @@ module _ (f : Translation) (k room : ℕ) (b o : List ℕ) {r : Bool} (er : r �
         module _ (all : e ≡ length b) where
           read-all : treeRead f k b ≡ Meant.done (read-done .0) []
           read-all = read-done .1 ∙ ap (Meant.done (read-done .0)) (drop-of-length-le b {i = e} (omega arith))
+
+          -- The tree is legal.
+          pub tree-whole : (t : Code) × (treeRead f k b ≡ Meant.done t [])
+          tree-whole = (read-done .0, read-all)
 
           fitted-is : (c : Bool) → ltb room n ≡ c → ltb room (size (transform f (read-done .0))) ≡ c
           fitted-is c h = sym (over-room room (size (transform f (read-done .0)))) ∙ (ap (ltb room) (sym (read-done .2)) ∙ h)

@@ -7,14 +7,10 @@ use fields::outcome::refuse;
 use measure::measure::Measured;
 use measure::measure::measure;
 use measure::prepare::prepare;
-use reader::index::build;
 use reader::kinds::is_in;
 use reader::node::Syntax;
 use translation::check::check_translation;
-use translation::index::build_items;
-use translation::index::map_kinds;
 use translation::parts::accepted_parts;
-use writer::output::Ran;
 ghost use mathlib.Core.Path.{_≡_};
 ghost use mathlib.Core.List.{[]};
 ghost use Prim.Native.Nat.{_<_, _≤_};
@@ -22,53 +18,33 @@ ghost use lib.ListN.{length};
 ghost use Rattle.fields.specs.Outcome.{value};
 ghost use Rattle.reader.specs.Code.{Code};
 ghost use Rattle.reader.specs.Syntax.{read, done, write, tree as inTrees};
-ghost use Rattle.reader.specs.Inner.Index.{Indexed};
 ghost use Rattle.translation.specs.Translation.{Translation};
 ghost use Rattle.translation.specs.Running.{transform};
 ghost use Rattle.translation.specs.Operations.{runTree};
-ghost use Rattle.runner.specs.Inner.Runs.{Checked, runOf, Answers};
+ghost use Rattle.emitter.specs.Inner.Table.{Checked};
+ghost use Rattle.runner.specs.Inner.Runs.{runOf, Answers};
 
-// Writes the run of a tree whose result fits into the output.
+// Writes the run of a legal tree whose result fits into the output.
 fn write_tree(
     source: &[u8],
-    index: &[u16],
     target: &[u8],
     body: &[u8],
     kind: u8,
     tree: &[u8],
     output: &mut [u8],
 ) -> Answer
-    requires { ⌜ (kind < 32) × ((f : Translation) × Checked (now source) (now target) (now body) f × Indexed (now index) (now source) (f .source)) ⌝ }
-    ensures { λ r. ⌜ ((f : Translation) (t : Code) → Checked (now (source .entry)) (now (target .entry)) (now (body .entry)) f → Indexed (now (index .entry)) (now (source .entry)) (f .source)
+    requires { ⌜ (kind < 32) × ((f : Translation) × (t : Code) × Checked (now source) (now target) (now body) f × (read inTrees (f .source) [] 64 kind (now tree) ≡ done t [])) ⌝ }
+    ensures { λ r. ⌜ ((f : Translation) (t : Code) → Checked (now (source .entry)) (now (target .entry)) (now (body .entry)) f
         → read inTrees (f .source) [] 64 kind (now (tree .entry)) ≡ done t [] → length (write inTrees (transform f t)) ≤ length (now (output .entry))
         → Answers (value (write inTrees (transform f t))) (now (output .entry)) (now (output .exit)) (r .outcome)) ⌝ }
 {
-    let mut places = [0u16; 8224];
-    build(target, &mut places);
-    let mut items = [0u16; 8224];
-    build_items(body, &mut items);
-    let mut mapped = [0u8; 32];
-    map_kinds(body, &items, &mut mapped);
-    match writer::run::run(
-        Syntax::Tree,
-        source,
-        index,
-        target,
-        &places,
-        body,
-        &items,
-        &mapped,
-        &[],
-        tree,
-        kind,
-        0,
-        64,
-        output,
-        0,
-    ) {
-        Ran::To(_, p) => accept(p),
-        Ran::Full => refuse(Reason::Output),
+    let mut table = [0u16; 25664];
+    emitter::prepare::prepare(source, target, body, &mut table);
+    let p = emitter::run::run(Syntax::Tree, &table, tree, kind, 64, output, 0);
+    if output.len() < p {
+        return refuse(Reason::Output);
     }
+    accept(p)
 }
 
 // The run of a tree of a kind, through a translation that was accepted: 14 to 17.
@@ -99,7 +75,7 @@ fn run_parts(
             if room < n {
                 return refuse(Reason::Output);
             }
-            write_tree(source, &index, target, body, kind, tree, output)
+            write_tree(source, target, body, kind, tree, output)
         }
         Measured::Deep => refuse(Reason::Levels),
         Measured::Broken => refuse(Reason::Tree),

@@ -11,12 +11,12 @@ use Rattle.fields.specs.declared.outcome.Reason.the-variants.{Limit}
 use Rattle.fields.specs.Fields.{encodeField, encodeFields, byteAt}
 use Rattle.fields.specs.Inner.Places.{placesFrom, places}
 use Rattle.reader.specs.Syntax.{write, code}
-use Rattle.reader.specs.Inner.Index.{Indexed}
-use Rattle.translation.specs.Translation.{Translation}
+use Rattle.translation.specs.Translation.{Translation, mapped}
 use Rattle.translation.specs.TranslationFile.{itemField, translationOf}
 use Rattle.translation.specs.Running.{run, clausesOf}
 use Rattle.translation.specs.Inner.Items.{itemAt}
-use Rattle.translation.specs.Inner.ItemIndex.{IndexedItems, mappedAt, Prepared}
+use Rattle.translation.specs.Inner.ItemIndex.{IndexedItems}
+use Rattle.emitter.specs.Inner.Table.{Ready}
 use Rattle.operators.specs.Algebra.{joinFits, joinItem, joined}
 use Rattle.values.specs.Inner.Spelt.{Spelt}
 
@@ -24,18 +24,17 @@ use Rattle.values.specs.Inner.Spelt.{Spelt}
 abbrev pub Held : Translation → Type 0
 Held f = (bytes : List ℕ) × (translationOf bytes ≡ value f)
 
--- The first translation, f, by the bytes of its source, target and body, the index of each, and the kinds that the
--- kinds map to; and the second, g, by its source and its body and the index of each.
-pub record Joining (s is t it b ib m s′ is′ b′ ib′ : List ℕ) (f g : Translation) : Type 0 where
+-- The first translation, f, by the table of its run, and the second, g, by its body and the index of that.
+pub record Joining (t b ib : List ℕ) (f g : Translation) : Type 0 where
   pub first : Held f
   pub second : Held g
   pub fits : joinFits f g ≡ true
-  pub parts : Prepared s is t it b ib f
-  pub mapped : (k : ℕ) → k < 32 → getD m k 0 ≡ mappedAt b ib k
-  pub kinds : (k : ℕ) → getD m k 0 < 32
-  pub long : length m ≡ 32
-  pub source : Indexed is′ s′ (g .source)
-  pub body : IndexedItems ib′ b′ (g .body)
+  pub table : Ready t f
+  pub body : IndexedItems ib b (g .body)
+
+-- The table has at each kind the kind that f maps it to.
+pub record Maps (m : List ℕ) (f : Translation) : Type 0 where
+  pub at : (k : ℕ) → k < 32 → getD m k 0 ≡ mapped (f .body) k
 
 -- A field of s starts at p, or s ends there: the walk over its fields comes by p.
 pub record Reached (s : List ℕ) (p : ℕ) : Type 0 where

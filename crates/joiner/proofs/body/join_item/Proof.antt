@@ -10,13 +10,16 @@ use Rattle.joiner.proofs.body.join_clause.Reads as join-clause-reads
 use Rattle.joiner.proofs.body.join_mapping.Reads as join-mapping-reads
 
 join-mapping-requires : tie.Need-join-mapping-requires
-join-mapping-requires c κs = (item-mapping (c .before .before .before .before .before .before .before .before .before .before .before .before .before .before .before .args .source .now) (c .before .before .before .before .before .before .before .before .before .before .before .before .before .before .before .args .index .now) (c .before .before .before .before .before .before .before .before .before .before .before .before .before .before .before .args .target .now) (c .before .before .before .before .before .before .before .before .before .before .before .before .before .before .before .args .places .now) (c .before .before .before .before .before .before .before .before .before .before .before .before .before .before .before .args .body .now) (c .before .before .before .before .before .before .before .before .before .before .before .before .before .before .before .args .clauses .now) (c .before .before .before .before .before .before .before .before .before .before .before .before .before .before .before .args .mapped .now) (c .before .before .before .before .before .before .before .before .before .before .before .before .before .before .before .args .second-source .now) (c .before .before .before .before .before .before .before .before .before .before .before .before .before .before .before .args .second-index .now) (c .before .before .before .before .before .before .before .before .before .before .before .before .before .before .before .args .second-body .now) (c .before .before .before .before .before .before .before .before .before .before .before .before .before .before .before .args .second-items .now) _ _ (c .before .before .before .before .before .before .before .before .before .before .before .before .before .before .before .pre .5 .2) _ _ (c .before .before .byte-at .ensures) (c .before .before .before .before .before .before .before .before .before .before .before .before .before .before .before .pre .0) (c .before .if1 .taken), c .before .before .before .before .before .before .before .before .before .before .before .before .before .before .before .pre .3, c .before .before .before .before .before .before .before .before .before .before .before .before .before .before .before .pre .4)
+join-mapping-requires c κs = (item-mapping (c .before .before .before .before .before .before .before .args .table .now) (c .before .before .before .before .before .before .before .args .second-body .now) (c .before .before .before .before .before .before .before .args .second-items .now) _ _ (c .before .before .before .before .before .before .before .pre .5 .2) _ _ (c .before .before .byte-at .ensures) (c .before .before .before .before .before .before .before .pre .0) (c .before .if1 .taken), c .before .before .before .before .before .before .before .pre .3, c .before .before .before .before .before .before .before .pre .4)
 
 returns : tie.Need-returns
-returns c = λ f g z. item-stored (c .before .before .before .before .before .before .before .before .before .before .before .before .before .before .before .before .before .before .args .source .now) (c .before .before .before .before .before .before .before .before .before .before .before .before .before .before .before .before .before .before .args .index .now) (c .before .before .before .before .before .before .before .before .before .before .before .before .before .before .before .before .before .before .args .target .now) (c .before .before .before .before .before .before .before .before .before .before .before .before .before .before .before .before .before .before .args .places .now) (c .before .before .before .before .before .before .before .before .before .before .before .before .before .before .before .before .before .before .args .body .now) (c .before .before .before .before .before .before .before .before .before .before .before .before .before .before .before .before .before .before .args .clauses .now) (c .before .before .before .before .before .before .before .before .before .before .before .before .before .before .before .before .before .before .args .mapped .now) (c .before .before .before .before .before .before .before .before .before .before .before .before .before .before .before .before .before .before .args .second-source .now) (c .before .before .before .before .before .before .before .before .before .before .before .before .before .before .before .before .before .before .args .second-index .now) (c .before .before .before .before .before .before .before .before .before .before .before .before .before .before .before .before .before .before .args .second-body .now) (c .before .before .before .before .before .before .before .before .before .before .before .before .before .before .before .before .before .before .args .second-items .now) f g z _ (item-mapping (c .before .before .before .before .before .before .before .before .before .before .before .before .before .before .before .before .before .before .args .source .now) (c .before .before .before .before .before .before .before .before .before .before .before .before .before .before .before .before .before .before .args .index .now) (c .before .before .before .before .before .before .before .before .before .before .before .before .before .before .before .before .before .before .args .target .now) (c .before .before .before .before .before .before .before .before .before .before .before .before .before .before .before .before .before .before .args .places .now) (c .before .before .before .before .before .before .before .before .before .before .before .before .before .before .before .before .before .before .args .body .now) (c .before .before .before .before .before .before .before .before .before .before .before .before .before .before .before .before .before .before .args .clauses .now) (c .before .before .before .before .before .before .before .before .before .before .before .before .before .before .before .before .before .before .args .mapped .now) (c .before .before .before .before .before .before .before .before .before .before .before .before .before .before .before .before .before .before .args .second-source .now) (c .before .before .before .before .before .before .before .before .before .before .before .before .before .before .before .before .before .before .args .second-index .now) (c .before .before .before .before .before .before .before .before .before .before .before .before .before .before .before .before .before .before .args .second-body .now) (c .before .before .before .before .before .before .before .before .before .before .before .before .before .before .before .before .before .before .args .second-items .now) _ _ (c .before .before .before .before .before .before .before .before .before .before .before .before .before .before .before .before .before .before .pre .5 .2) _ _ (c .before .before .before .before .before .byte-at .ensures) (c .before .before .before .before .before .before .before .before .before .before .before .before .before .before .before .before .before .before .pre .0) (c .before .before .before .before .if1 .taken)) _ _ _ _ (c .before .before .join-mapping .ensures)
+returns c = λ f g z k. item-stored (c .before .before .before .before .before .before .before .before .before .before .args .table .now) (c .before .before .before .before .before .before .before .before .before .before .args .second-body .now) (c .before .before .before .before .before .before .before .before .before .before .args .second-items .now) f g z _ k _ (item-mapping (c .before .before .before .before .before .before .before .before .before .before .args .table .now) (c .before .before .before .before .before .before .before .before .before .before .args .second-body .now) (c .before .before .before .before .before .before .before .before .before .before .args .second-items .now) _ _ (c .before .before .before .before .before .before .before .before .before .before .pre .5 .2) _ _ (c .before .before .before .before .before .byte-at .ensures) (c .before .before .before .before .before .before .before .before .before .before .pre .0) (c .before .before .before .before .if1 .taken)) _ _ _ _ (c .before .before .join-mapping .ensures)
 
 join-clause-requires : tie.Need-join-clause-requires
-join-clause-requires c κs = (other-clause _ _ _ (c .before .before .byte-at .ensures) (c .before .before .before .before .before .before .before .before .before .before .before .before .before .before .before .pre .0) (c .before .if1 .left), c .before .before .before .before .before .before .before .before .before .before .before .before .before .before .before .pre .1, c .before .before .before .before .before .before .before .before .before .before .before .before .before .before .before .pre .2 .is, c .before .before .before .before .before .before .before .before .before .before .before .before .before .before .before .pre .3, c .before .before .before .before .before .before .before .before .before .before .before .before .before .before .before .pre .4, c .before .before .before .before .before .before .before .before .before .before .before .before .before .before .before .pre .5)
+join-clause-requires c κs = (other-clause _ _ _ (c .before .before .byte-at .ensures) (c .before .before .before .before .before .before .before .pre .0) (c .before .if1 .left), c .before .before .before .before .before .before .before .pre .1, c .before .before .before .before .before .before .before .pre .2 .is, c .before .before .before .before .before .before .before .pre .3, c .before .before .before .before .before .before .before .pre .4, (c .before .before .before .before .before .before .before .pre .5 .0, c .before .before .before .before .before .before .before .pre .5 .1, c .before .before .before .before .before .before .before .pre .5 .2))
+
+returns-2 : tie.Need-returns-2
+returns-2 c = λ f g z k. c .before .before .join-clause .ensures f g z
 
 pub join-item-spec : {M : Type 1} → statement M
 join-item-spec =
@@ -28,4 +31,4 @@ join-item-spec =
     returns
     join-clause-requires
     (λ c. search needs)
-    (λ c. search needs))
+    returns-2)

@@ -2,7 +2,7 @@ use mathlib.Core.Path.{refl}
 use native.Mathlib.Omega.{arith}
 use borrow.Author.Tests.{not-true, not-false}
 use Rattle.reader.proofs.Check.{zeros}
-use Rattle.runner.proofs.Laws.{rises, formed, kind-out, tree-deep, tree-broken, tree-more, tree-long, tree-fits}
+use Rattle.runner.proofs.Laws.{rises, formed, kind-out, tree-deep, tree-broken, tree-more, tree-whole, tree-long, tree-fits}
 use borrow.Author.Needs.{needs}
 use Rattle.runner.proofs.run.run_parts.Statement.{statement}
 use Rattle.runner.proofs.run.run_parts.Tie as tie
@@ -30,10 +30,10 @@ returns-3 : tie.Need-returns-3
 returns-3 c = λ f z. let p = c .before .before .before .before .before .before .before .before .before .before .before .prepare .ensures f (z .pieces .source) (z .pieces .body) (rises z) (formed z) in tree-long f _ _ _ _ (c .before .before .before .before .before .before .before .before .before .before .before .before .before .before .before .is-in .ensures (f .source) (z .pieces .source)) (not-false _ (c .before .before .before .before .before .before .before .before .before .before .before .before .before .before .if1 .left)) (c .before .before .before .before .before .before .measure .result) (c .before .before .before .before .before .before .measure .ensures .0 f (p .0) (p .1)) _ _ (c .before .before .before .before .e .given .1) (c .before .before .if2 .left) (c .before .if3 .taken) (c .refuse3 .ensures)
 
 write-tree-requires : tie.Need-write-tree-requires
-write-tree-requires c κs = (c .before .before .before .before .before .before .before .before .before .before .before .before .before .before .before .before .before .before .before .before .before .before .pre .0, (c .before .before .before .before .before .before .before .before .before .before .before .before .before .before .before .before .before .before .before .before .before .before .pre .1 .0, c .before .before .before .before .before .before .before .before .before .before .before .before .before .before .before .before .before .before .before .before .before .before .pre .1 .1, c .before .before .before .before .before .before .before .before .before .before .before .before .prepare .ensures (c .before .before .before .before .before .before .before .before .before .before .before .before .before .before .before .before .before .before .before .before .before .before .pre .1 .0) (c .before .before .before .before .before .before .before .before .before .before .before .before .before .before .before .before .before .before .before .before .before .before .pre .1 .1 .pieces .source) (c .before .before .before .before .before .before .before .before .before .before .before .before .before .before .before .before .before .before .before .before .before .before .pre .1 .1 .pieces .body) (rises (c .before .before .before .before .before .before .before .before .before .before .before .before .before .before .before .before .before .before .before .before .before .before .pre .1 .1)) (formed (c .before .before .before .before .before .before .before .before .before .before .before .before .before .before .before .before .before .before .before .before .before .before .pre .1 .1)) .0))
+write-tree-requires c κs = let f = c .before .before .before .before .before .before .before .before .before .before .before .before .before .before .before .before .before .before .before .before .before .pre .1 .0 in let z = c .before .before .before .before .before .before .before .before .before .before .before .before .before .before .before .before .before .before .before .before .before .pre .1 .1 in let p = c .before .before .before .before .before .before .before .before .before .before .before .prepare .ensures f (z .pieces .source) (z .pieces .body) (rises z) (formed z) in let w = tree-whole f _ _ _ (c .before .before .before .before .before .before .before .before .before .before .before .before .before .before .before .before .before .before .before .before .before .args .tree .now) (c .before .before .before .before .before .before .before .before .before .before .before .before .before .before .before .is-in .ensures (f .source) (z .pieces .source)) (not-false _ (c .before .before .before .before .before .before .before .before .before .before .before .before .before .before .if1 .left)) (c .before .before .before .before .before .before .measure .result) (c .before .before .before .before .before .before .measure .ensures .0 f (p .0) (p .1)) _ _ (c .before .before .before .before .e .given .1) (c .before .before .if2 .left) in (c .before .before .before .before .before .before .before .before .before .before .before .before .before .before .before .before .before .before .before .before .before .pre .0, (f, w .0, z, w .1))
 
 returns-4 : tie.Need-returns-4
-returns-4 c = λ f z. let p = c .before .before .before .before .before .before .before .before .before .before .before .before .before .before .before .prepare .ensures f (z .pieces .source) (z .pieces .body) (rises z) (formed z) in tree-fits f _ _ _ _ (c .before .before .before .before .before .before .before .before .before .before .before .before .before .before .before .before .before .before .before .is-in .ensures (f .source) (z .pieces .source)) (not-false _ (c .before .before .before .before .before .before .before .before .before .before .before .before .before .before .before .before .before .before .if1 .left)) (c .before .before .before .before .before .before .before .before .before .before .measure .result) (c .before .before .before .before .before .before .before .before .before .before .measure .ensures .0 f (p .0) (p .1)) _ _ (c .before .before .before .before .before .before .before .before .e .given .1) (c .before .before .before .before .before .before .if2 .left) (c .before .before .before .before .before .if3 .left) (λ t e h. c .before .before .write-tree .ensures f t z (p .0) e h)
+returns-4 c = λ f z. let p = c .before .before .before .before .before .before .before .before .before .before .before .before .before .before .prepare .ensures f (z .pieces .source) (z .pieces .body) (rises z) (formed z) in tree-fits f _ _ _ _ (c .before .before .before .before .before .before .before .before .before .before .before .before .before .before .before .before .before .before .is-in .ensures (f .source) (z .pieces .source)) (not-false _ (c .before .before .before .before .before .before .before .before .before .before .before .before .before .before .before .before .before .if1 .left)) (c .before .before .before .before .before .before .before .before .before .measure .result) (c .before .before .before .before .before .before .before .before .before .measure .ensures .0 f (p .0) (p .1)) _ _ (c .before .before .before .before .before .before .before .e .given .1) (c .before .before .before .before .before .if2 .left) (c .before .before .before .before .if3 .left) (λ t e h. c .before .before .write-tree .ensures f t z e h)
 
 returns-5 : tie.Need-returns-5
 returns-5 c = λ f z. let p = c .before .before .before .before .before .before .before .before .prepare .ensures f (z .pieces .source) (z .pieces .body) (rises z) (formed z) in tree-deep f _ _ _ _ (c .before .before .before .before .before .before .before .before .before .before .before .before .is-in .ensures (f .source) (z .pieces .source)) (not-false _ (c .before .before .before .before .before .before .before .before .before .before .before .if1 .left)) (c .before .before .before .measure .result) (c .before .before .before .measure .ensures .0 f (p .0) (p .1)) (c .before .enum-told .given .1) (c .refuse4 .ensures)
@@ -58,7 +58,6 @@ run-parts-spec =
     returns-2
     (λ c κs. search needs)
     returns-3
-    (λ c. search needs)
     write-tree-requires
     (λ c. search needs)
     (λ c κs. search needs)

@@ -1,5 +1,0 @@
-pub mod Pieces
-pub mod Steps
-pub mod Ends
-pub mod Turns
-pub mod Meaning
