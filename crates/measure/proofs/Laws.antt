@@ -26,11 +26,11 @@ use Rattle.measure.specs.Inner.Measuring.{EndsIn}
 use Rattle.measure.specs.Inner.Descent.{leafDown, downFrom, weighDown, downAt, downRow, unwind, leafStep, goesOn, StepIn}
 
 -- add_share
-pub share-whole : (weight length : ℕ) → weight < 0x800000000000 → length < 65536 → weight * length < 0x8000000000000000
+pub share-whole : (weight length : ℕ) → weight < 0x40000000 → length < 65536 → weight * length < 0x8000000000000000
 share-whole weight length h k =
-    let m : weight ≤ 0x7fffffffffff = omega arith in
+    let m : weight ≤ 0x3fffffff = omega arith in
     let n : length ≤ 65535 = omega arith in
-    let p : weight * length ≤ 0x7fffffffffff * 65535 = mul-le-mul m n in
+    let p : weight * length ≤ 0x3fffffff * 65535 = mul-le-mul m n in
     omega arith
 
 module _ (sum weight length top : ℕ) (under : sum ≤ top) where
