@@ -1,5 +1,5 @@
 -- Measuring from above comes to what measuring from below comes to.
-use Prim.Native.Nat.{ℕ, zero, suc, _+_, _*_, _-_, min, _<_, _≤_}
+use Prim.Native.Nat.{ℕ, zero, suc, _+_, _*_, _-_, _<_}
 use mathlib.Core.Path.{_≡_, refl, sym, ap, _∙_}
 use mathlib.Core.List.{List, []}
 use native.Mathlib.Omega.{arith}
@@ -20,8 +20,8 @@ use Rattle.measure.specs.declared.measure.Measured.the-variants.{End, De
 use Rattle.measure.specs.declared.measure.Step.{Step}
 use Rattle.measure.specs.declared.measure.Step.the-variants as Step
 use Rattle.measure.specs.Inner.Sizes.{size, capped}
-use Rattle.measure.specs.Inner.Measuring.{leafAt, sharesFrom, weigh, measureAt, Sized, sized, deep, broken, sizedAt, sizedOf, Counted}
-use Rattle.measure.specs.Inner.Descent.{leafDown, downFrom, weighDown, downAt, downRow, goesOn}
+use Rattle.measure.specs.Inner.Measuring.{sharesFrom, weigh, measureAt, sized, deep, broken, sizedAt, sizedOf, Counted}
+use Rattle.measure.specs.Inner.Descent.{downFrom, weighDown, downAt, downRow, goesOn}
 use Rattle.measure.proofs.Sizes.{capped-times, capped-share}
 use Rattle.measure.proofs.Laws.{Goes}
 use Rattle.measure.proofs.Meaning.{measure-same, sized-done}

@@ -1,5 +1,5 @@
 -- The definitions by position, one turn at a time, in the terms of the code: a law for each return.
-use Prim.Native.Nat.{ℕ, zero, suc, _+_, _*_, _-_, _/_, min, _<_, _≤_}
+use Prim.Native.Nat.{ℕ, zero, suc, _+_, _*_, _-_, _/_, _<_, _≤_}
 use mathlib.Core.Path.{_≡_, refl, sym, ap, _∙_}
 use mathlib.Core.List.{List, []}
 use mathlib.Core.Bool.{Bool, true, false, cond}
@@ -8,7 +8,6 @@ use native.Mathlib.Nat.{mul-le-mul, le-div-iff-mul-le, div-lt-iff-lt-mul}
 use lib.ListN.{length, getD, set}
 use lib.Seq.{getD-set-same, getD-set-other}
 use lib.Dec.{ltb, leb, eqb}
-use borrow.Author.Tests.{eqb-true, eqb-false}
 use Rattle.fields.specs.Fields.{pairAt}
 use Rattle.fields.proofs.Truth.{by-test}
 use Rattle.reader.specs.declared.node.Syntax.the-variants.{Tree}
@@ -22,15 +21,14 @@ use Rattle.measure.specs.declared.measure.Measured.the-variants.{End, De
 use Rattle.measure.specs.declared.measure.Step.{Step}
 use Rattle.measure.specs.declared.measure.Step.the-variants as Step
 use Rattle.measure.specs.Inner.Sizes.{capped}
-use Rattle.measure.specs.Inner.Measuring.{EndsIn}
-use Rattle.measure.specs.Inner.Descent.{leafDown, downFrom, weighDown, downAt, downRow, unwind, leafStep, goesOn, StepIn}
+use Rattle.measure.specs.Inner.Descent.{leafDown, downFrom, downAt, downRow, unwind, leafStep, goesOn, StepIn}
 
 -- add_share
-pub share-whole : (weight length : ℕ) → weight < 0x800000000000 → length < 65536 → weight * length < 0x8000000000000000
+pub share-whole : (weight length : ℕ) → weight < 0x40000000 → length < 65536 → weight * length < 0x8000000000000000
 share-whole weight length h k =
-    let m : weight ≤ 0x7fffffffffff = omega arith in
+    let m : weight ≤ 0x3fffffff = omega arith in
     let n : length ≤ 65535 = omega arith in
-    let p : weight * length ≤ 0x7fffffffffff * 65535 = mul-le-mul m n in
+    let p : weight * length ≤ 0x3fffffff * 65535 = mul-le-mul m n in
     omega arith
 
 module _ (sum weight length top : ℕ) (under : sum ≤ top) where

@@ -1,5 +1,5 @@
 -- A turn of the loop over rows: what is left to measure stays the same.
-use Prim.Native.Nat.{ℕ, zero, suc, _+_, _*_, _-_, min, _<_, _≤_}
+use Prim.Native.Nat.{ℕ, _+_, _*_, _-_, _<_, _≤_}
 use mathlib.Core.Path.{_≡_, refl, sym, ap, _∙_}
 use mathlib.Core.List.{List}
 use native.Mathlib.Omega.{arith}
@@ -14,7 +14,7 @@ use Rattle.measure.specs.declared.measure.Measured.the-variants.{End, De
 use Rattle.measure.specs.declared.measure.Step.{Step}
 use Rattle.measure.specs.declared.measure.Step.the-variants as Step
 use Rattle.measure.specs.Inner.Sizes.{capped}
-use Rattle.measure.specs.Inner.Descent.{downAt, downRow, unwind, Waiting, goesOn, StepIn}
+use Rattle.measure.specs.Inner.Descent.{downRow, unwind, Waiting, StepIn}
 use Rattle.measure.proofs.Laws.{Goes, step-row, rows-start, rows-done, rows-back, rows-deep, rows-broken, rows-on, rows-down}
 
 -- The row from q up to e is open at depth d, the rows above it wait, and all of them together come to the answer.

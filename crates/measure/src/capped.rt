@@ -19,7 +19,7 @@ pub fn add_share(sum: usize, weight: usize, length: usize, top: usize) -> usize
     requires { ⌜ (sum ≤ top) × (length < 65536) ⌝ }
     ensures { λ r. ⌜ r ≡ capped top (sum + weight * length) ⌝ }
 {
-    if weight < 0x800000000000 {
+    if weight < 0x40000000 {
         return add(sum, weight * length, top);
     }
     if length == 0 {
