@@ -35,7 +35,7 @@ use Rattle.translation.proofs.Items.{holds-items, item-facts, clause-is}
 use Rattle.translation.proofs.Codec.{itemWhole as isItem, body-whole, rises-parts, WholeTranslation, translation-whole}
 use Rattle.translation.proofs.Lookup.{mem-clause}
 use Rattle.translation.proofs.Fitting.{Fitting, KindsBelow, formed-fits, clause-code}
-use Rattle.translation.proofs.IndexedItems.{clause-key, mapped-is, mapped-kind, build-is}
+use Rattle.translation.proofs.IndexedItems.{clause-key, mapped-is, mapped-kind, kinds-sound, build-is}
 use borrow.Author.Tests.{ltb-true}
 use Rattle.emitter.specs.Inner.Stands.{Stands}
 use Rattle.emitter.specs.Inner.Table.{clauseEntry, SpansAt, Checked}
@@ -136,13 +136,13 @@ module _ {s t b : List ℕ} {f : Translation} (z : Checked s t b f) where
       items = putAll 0x22 b (built .zeros) (places b)
 
       pub indexed : IndexedItems items b (f .body)
-      indexed = build-is b (built .zeros) bytes (z .pieces .body-short) (built .long) (built .zero) (f .body) (z .pieces .body) refl
+      indexed = build-is b (built .zeros) bytes (z .pieces .body-short) (built .zero) (f .body) (z .pieces .body) (built .long) refl
 
       pub mapped-in : (k : ℕ) → k < 32 → (mappedIn b u k ≡ mapped (f .body) k) × (mappedIn b u k < 32)
       unfolding mappedIn mappedAt
       mapped-in k h =
           let e = built .is k (omega arith) in
-          (rw e (mapped-is b items (f .body) indexed k h), rw e (mapped-kind b items (indexed .sound) k h))
+          (rw e (mapped-is b items (f .body) indexed k h), rw e (mapped-kind b items (kinds-sound (indexed .sound)) k h))
 
       pub record Found (k n : ℕ) : Type 0 where
         pub place : ℕ
