@@ -15,6 +15,7 @@ use Rattle.language.specs.Language.{Language, Range, rangeOf, argumentsOf, inRa
 use Rattle.reader.specs.Code as Terms
 use Rattle.reader.specs.Code.{node, token, argument, Codes, nil, cons, levels, levelsAll}
 use Rattle.reader.specs.Typing.{Typed, TypedAll, typed-node, typed-token, typed-argument, typed-nil, typed-cons}
+use Rattle.reader.specs.Syntax as Forms
 use Rattle.reader.specs.Syntax.{sign, write, writeAll, code}
 use Rattle.reader.specs.declared.node.Syntax.{Syntax}
 use Rattle.reader.specs.declared.node.Syntax.the-variants.{Tree, Code}
@@ -35,6 +36,58 @@ get-inside (x ∷ r) (suc i) k e = let h = get-inside r i k e in omega arith
 -- The same, at a position written in another way.
 moved : (b : List ℕ) {at to : ℕ} (v : List ℕ) → at ≡ to → Stands b at v → Stands b to v
 moved b v e h = rw e at h
+
+-- Codes and others behind them.
+unfoldable appended : Codes → Codes → Codes
+appended nil us = us
+appended (cons a ts) us = cons a (appended ts us)
+
+typed-appended : {l : Language} {r : List ℕ} {ts us : Codes} {ks js : List ℕ} → TypedAll l r ts ks → TypedAll l r us js → TypedAll l r (appended ts us) (ks ++ js)
+unfolding appended
+typed-appended typed-nil h = h
+typed-appended (typed-cons a hs) h = typed-cons a (typed-appended hs h)
+
+write-appended : (s : Forms.Syntax) (ts us : Codes) → writeAll s (appended ts us) ≡ writeAll s ts ++ writeAll s us
+unfolding appended write
+write-appended s nil us = refl
+write-appended s (cons a ts) us =
+    ap (λ (v : List ℕ). write s a ++ v) (write-appended s ts us) ∙ sym (append-assoc (write s a) (writeAll s ts) (writeAll s us))
+
+spans-moved : (t : List ℕ) {at to : ℕ} (us : Codes) → at ≡ to → SpansAllAt t at us → SpansAllAt t to us
+spans-moved t us e h = rw e at h
+
+spans-appended : (t : List ℕ) (c : ℕ) (ts us : Codes) → SpansAllAt t c ts → SpansAllAt t (c + length (writeAll code ts)) us → SpansAllAt t c (appended ts us)
+unfolding appended write SpansAt
+spans-appended t c nil us h k = spans-moved t us (omega arith) k
+spans-appended t c (cons a ts) us h k =
+    let la = length-append (write code a) (writeAll code ts) in
+    (h .0, spans-appended t (c + length (write code a)) ts us (h .1) (spans-moved t us (omega arith) k))
+
+levels-appended : (n : ℕ) (ts us : Codes) → levelsAll ts ≤ n → levelsAll us ≤ n → levelsAll (appended ts us) ≤ n
+unfolding appended levels
+levels-appended n nil us h k = k
+levels-appended n (cons a ts) us h k = let i = levels-appended n ts us (omega arith) k in omega arith
+
+substitute-appended : (s ts us : Codes) → substituteAll s (appended ts us) ≡ appended (substituteAll s ts) (substituteAll s us)
+unfolding appended substitute
+substitute-appended s nil us = refl
+substitute-appended s (cons a ts) us = ap (cons (substitute s a)) (substitute-appended s ts us)
+
+-- A row and another that stands behind it are one row.
+row-appended : (t : List ℕ) (at mid stop : ℕ) (l : Language) (r : List ℕ) (ts us : Codes) {ks js : List ℕ} → Row t at mid l r ts ks → Row t mid stop l r us js
+    → ((i : ℕ) → at ≤ i → i < stop → bodyByte t i < 256) → Row t at stop l r (appended ts us) (ks ++ js)
+row-appended t at mid stop l r ts us h g n =
+    let e = h .ends in
+    let d = g .ends in
+    let la = length-append (writeAll code ts) (writeAll code us) in
+    record {
+      typed = typed-appended (h .typed) (g .typed);
+      stands = rw (write-appended code ts us) (both-stand t (17472 + at) (writeAll code ts) (writeAll code us) (h .stands) (moved t (writeAll code us) (omega arith) (g .stands)));
+      spans = spans-appended t at ts us (h .spans) (spans-moved t us e (g .spans));
+      ends = rw (write-appended code ts us) (omega arith);
+      inside = g .inside;
+      narrow = n;
+    }
 
 -- What follows the first code of a row.
 module _ (t : List ℕ) (c stop : ℕ) (l : Language) (r : List ℕ) where
@@ -215,6 +268,9 @@ module _ (x : Syntax) (f : Translation) (ts : Codes) where
       by : (x : Syntax) → rowBytes x f ts (cons (node k p is) us) ≡ (sign (syntaxOf x) 1 ++ p ∷ []) ++ (rowBytes x f ts is ++ rowBytes x f ts us)
       by Tree = refl
       by Code = refl
+
+  row-behind : (is us : Codes) → rowBytes x f ts (appended is us) ≡ rowBytes x f ts is ++ rowBytes x f ts us
+  row-behind is us = ap (allBytes x) (substitute-appended (runAll (clausesOf f) ts) is us) ∙ write-appended (syntaxOf x) _ _
 
   pub row-nil : rowBytes x f ts nil ≡ []
   unfolding write substitute
@@ -438,19 +494,18 @@ module _ (x : Syntax) (t input before state : List ℕ) (deep c stop left : ℕ)
                 goes = λ after d k. goes-on _ rest-bytes bytes-name end e w fits after d (rw y k);
               }
 
-          -- Nothing is in it.
-          pub named-empty : spanEntry t c ≤ c + 2 → Going x t input before state deep (c + 2) stop left f given ts ks r cs o end pos e
+          -- Its inner codes are to be put out next, and then what is behind it.
+          pub named-goes : Going x t input before state deep (c + 2) stop left f given ts ks r cs o end pos e
           unfolding rest-bytes
-          named-empty q =
-              let z = row-empty t (c + 2) (spanEntry t c) (f .target) r (named .inner) (named .row) q in
-              let y : rest-bytes ≡ rowBytes x f ts (named .rest) =
-              ap (λ (us : Codes). rowBytes x f ts us ++ rowBytes x f ts (named .rest)) z ∙ rw (row-nil x f ts) in
-              let i = named .ends in
-              let j : spanEntry t c ≡ c + 2 = omega arith in
+          named-goes =
+              let i = inner-levels in
+              let y : rest-bytes ≡ rowBytes x f ts (appended (named .inner) (named .rest)) = sym (row-behind x f ts (named .inner) (named .rest)) in
               record {
-                rest = named .rest;
-                kinds = named .kinds;
-                asks = onward state (c + 2) (named .rest) (named .kinds) (g .asks .node) (rw j at (named .behind)) (levels-behind _ (named .rest) (named .is) .1);
+                rest = appended (named .inner) (named .rest);
+                kinds = named .innerKinds ++ named .kinds;
+                asks = onward state (c + 2) (appended (named .inner) (named .rest)) (named .innerKinds ++ named .kinds) (g .asks .node)
+                    (row-appended t (c + 2) (spanEntry t c) stop (f .target) r (named .inner) (named .rest) (named .row) (named .behind) λ m a b. g .asks .row .narrow m (omega arith) b)
+                    (levels-appended left (named .inner) (named .rest) (omega arith) (levels-behind _ (named .rest) (named .is) .1));
                 same = g .same;
                 goes = λ after d k. goes-on _ rest-bytes bytes-name end e w fits after d (rw y k);
               }

@@ -83,8 +83,8 @@ fn run_argument(
     p
 }
 
-// Codes in a row, from a position in the body up to another, each argument replaced by its run. Behind the last one nothing
-// is left to do, so its inner codes are run here.
+// Codes in a row, from a position in the body up to another, each argument replaced by its run. Inner codes of the last one,
+// and those that begin with a leaf, are gone on with in the loop; for others it calls itself with one level fewer.
 fn run_row(
     syntax: Syntax,
     table: &[u16; 25664],
@@ -125,22 +125,24 @@ fn run_row(
             if end == stop {
                 left -= 1;
             } else if c < end {
-                p = run_row(
-                    syntax,
-                    table,
-                    input,
-                    node,
-                    deep,
-                    c,
-                    end,
-                    left - 1,
-                    output,
-                    p,
-                );
-                if output.len() < p {
-                    return p;
+                if body_at(table, c) == 1 {
+                    p = run_row(
+                        syntax,
+                        table,
+                        input,
+                        node,
+                        deep,
+                        c,
+                        end,
+                        left - 1,
+                        output,
+                        p,
+                    );
+                    if output.len() < p {
+                        return p;
+                    }
+                    c = end;
                 }
-                c = end;
             }
         } else {
             let high = body_at(table, c + 1) as u8;

@@ -8,7 +8,7 @@ use mathlib.Core.List.{List}
 use Rattle.reader.specs.Code.{Codes}
 use Rattle.translation.specs.Translation.{Translation}
 use Rattle.emitter.specs.Inner.Runs.{ArgumentAsks}
-use Rattle.emitter.proofs.Rows.{RowHeld, going-start, going-end, next-below, next-two, next-narrow, token-three, argument-some, argument-asks, argument-full, argument-turn, named, named-some, named-full, named-last, named-empty, named-asks-at, inner-full, inner-turn, token-room, token-full, token-turn, Found, find-asks, found-find, found-known, argument-place, found-below, leaf-room, leaf-gives, name-inside, name-room, found-key, found-clause, found-place, found-count, found-deep, found-asks, found-full, last-asks, last-known, last-find, found-done, fresh-at, behind-sign}
+use Rattle.emitter.proofs.Rows.{RowHeld, going-start, going-end, next-below, next-two, next-narrow, token-three, argument-some, argument-asks, argument-full, argument-turn, named, named-some, named-room, named-full, named-last, named-goes, named-asks-at, inner-full, inner-turn, token-room, token-full, token-turn, Found, find-asks, found-find, found-known, argument-place, found-below, leaf-room, leaf-gives, name-inside, name-room, found-key, found-clause, found-place, found-count, found-deep, found-asks, found-full, last-asks, last-known, last-find, found-done, fresh-at, behind-sign}
 use borrow.Fn.Kinds.{In}
 use borrow.Fn.PlainCycle.{Measures, is, falls, and}
 use Rattle.emitter.proofs.run.run_argument.Reads as run-argument
@@ -182,38 +182,44 @@ run-row-sub-left t c = omega (arith, named-some _ _ _ _ _ _ _ _ _ _ _ _ _ _ _ _ 
 run-row-loop-again-2 : (t : ℕ) → run-row-lts.Need-loop-again-2 (run-row-calls t) (run-row-at t) run-row.Post run-row-Inv-loop run-row-μ-loop
 run-row-loop-again-2 t c = (c .before .before .if4 .left, c .before .before .before .before .output2 .given ∙ c .before .before .before .before .before .before .before .before .before .before .before .before .loop .inv .1, omega (arith, c .before .before .before .before .before .before .before .before .before .before .before .before .loop .inv .2), λ f given ts ks r cs js a. named-last _ _ _ _ _ _ _ _ _ _ _ _ _ _ _ _ _ _ _ (c .before .before .before .before .before .before .before .before .before .before .before .before .loop .inv .3 f given ts ks r cs js a) (c .before .before .before .before .before .before .before .before .before .before .before .loop-test .taken) (sym (c .before .before .before .before .before .before .before .before .before .before .body-at .ensures .0) ∙ c .before .before .before .before .before .before .before .before .if3 .taken) _ (c .before .before .before .before .before .before .before .body-at3 .ensures .0) _ _ (c .before .before .before .before .before .put-name .ensures) (omega (arith, c .before .before .before .before .output2 .given, c .before .before .if4 .left)) (sym (c .before .span-at .ensures .0) ∙ c .if5 .taken))
 
+run-row-body-at-requires-4 : (t : ℕ) → run-row-lts.Need-body-at-requires-4 (run-row-calls t) (run-row-at t) run-row.Post run-row-Inv-loop run-row-μ-loop
+run-row-body-at-requires-4 t c κs = let n = named-room _ _ _ _ _ _ _ _ _ _ _ _ _ _ _ _ _ _ _ (c .before .before .before .before .before .before .before .before .before .before .before .before .before .loop .inv .3 (c .before .before .before .before .before .before .before .before .before .before .before .before .before .before .before .before .pre .1 .1 .0) (c .before .before .before .before .before .before .before .before .before .before .before .before .before .before .before .before .pre .1 .1 .1) (c .before .before .before .before .before .before .before .before .before .before .before .before .before .before .before .before .pre .1 .1 .2) (c .before .before .before .before .before .before .before .before .before .before .before .before .before .before .before .before .pre .1 .1 .3) (c .before .before .before .before .before .before .before .before .before .before .before .before .before .before .before .before .pre .1 .1 .4) (c .before .before .before .before .before .before .before .before .before .before .before .before .before .before .before .before .pre .1 .1 .5) (c .before .before .before .before .before .before .before .before .before .before .before .before .before .before .before .before .pre .1 .1 .6) (c .before .before .before .before .before .before .before .before .before .before .before .before .before .before .before .before .pre .1 .1 .7)) (c .before .before .before .before .before .before .before .before .before .before .before .before .loop-test .taken) (sym (c .before .before .before .before .before .before .before .before .before .before .before .body-at .ensures .0) ∙ c .before .before .before .before .before .before .before .before .before .if3 .taken) in omega (arith, n .1, n .2, c .if6 .taken, c .before .before .span-at .ensures .0)
+
 run-row-sub-run-row : (t : ℕ) → run-row-lts.Need-sub-run-row (run-row-calls t) (run-row-at t) run-row.Post run-row-Inv-loop run-row-μ-loop
-run-row-sub-run-row t c = omega (arith, named-some _ _ _ _ _ _ _ _ _ _ _ _ _ _ _ _ _ _ _ (c .before .before .before .before .before .before .before .before .before .before .before .before .before .before .loop .inv .3 (c .before .before .before .before .before .before .before .before .before .before .before .before .before .before .before .before .before .pre .1 .1 .0) (c .before .before .before .before .before .before .before .before .before .before .before .before .before .before .before .before .before .pre .1 .1 .1) (c .before .before .before .before .before .before .before .before .before .before .before .before .before .before .before .before .before .pre .1 .1 .2) (c .before .before .before .before .before .before .before .before .before .before .before .before .before .before .before .before .before .pre .1 .1 .3) (c .before .before .before .before .before .before .before .before .before .before .before .before .before .before .before .before .before .pre .1 .1 .4) (c .before .before .before .before .before .before .before .before .before .before .before .before .before .before .before .before .before .pre .1 .1 .5) (c .before .before .before .before .before .before .before .before .before .before .before .before .before .before .before .before .before .pre .1 .1 .6) (c .before .before .before .before .before .before .before .before .before .before .before .before .before .before .before .before .before .pre .1 .1 .7)) (c .before .before .before .before .before .before .before .before .before .before .before .before .before .loop-test .taken) (sym (c .before .before .before .before .before .before .before .before .before .before .before .before .body-at .ensures .0) ∙ c .before .before .before .before .before .before .before .before .before .before .if3 .taken))
+run-row-sub-run-row t c = omega (arith, named-some _ _ _ _ _ _ _ _ _ _ _ _ _ _ _ _ _ _ _ (c .before .before .before .before .before .before .before .before .before .before .before .before .before .before .before .before .loop .inv .3 (c .before .before .before .before .before .before .before .before .before .before .before .before .before .before .before .before .before .before .before .pre .1 .1 .0) (c .before .before .before .before .before .before .before .before .before .before .before .before .before .before .before .before .before .before .before .pre .1 .1 .1) (c .before .before .before .before .before .before .before .before .before .before .before .before .before .before .before .before .before .before .before .pre .1 .1 .2) (c .before .before .before .before .before .before .before .before .before .before .before .before .before .before .before .before .before .before .before .pre .1 .1 .3) (c .before .before .before .before .before .before .before .before .before .before .before .before .before .before .before .before .before .before .before .pre .1 .1 .4) (c .before .before .before .before .before .before .before .before .before .before .before .before .before .before .before .before .before .before .before .pre .1 .1 .5) (c .before .before .before .before .before .before .before .before .before .before .before .before .before .before .before .before .before .before .before .pre .1 .1 .6) (c .before .before .before .before .before .before .before .before .before .before .before .before .before .before .before .before .before .before .before .pre .1 .1 .7)) (c .before .before .before .before .before .before .before .before .before .before .before .before .before .before .before .loop-test .taken) (sym (c .before .before .before .before .before .before .before .before .before .before .before .before .before .before .body-at .ensures .0) ∙ c .before .before .before .before .before .before .before .before .before .before .before .before .if3 .taken))
 
 run-row-run-row-requires : (t : ℕ) → run-row-lts.Need-run-row-requires (run-row-calls t) (run-row-at t) run-row.Post run-row-Inv-loop run-row-μ-loop
-run-row-run-row-requires t c κs = (omega (arith, c .before .before .before .before .before .before .before .before .before .before .before .before .before .before .before .before .before .before .pre .0, c .before .before .before .before .before .before .before .before .before .before .before .before .before .before .before .loop .inv .2, named-some _ _ _ _ _ _ _ _ _ _ _ _ _ _ _ _ _ _ _ (c .before .before .before .before .before .before .before .before .before .before .before .before .before .before .before .loop .inv .3 (c .before .before .before .before .before .before .before .before .before .before .before .before .before .before .before .before .before .before .pre .1 .1 .0) (c .before .before .before .before .before .before .before .before .before .before .before .before .before .before .before .before .before .before .pre .1 .1 .1) (c .before .before .before .before .before .before .before .before .before .before .before .before .before .before .before .before .before .before .pre .1 .1 .2) (c .before .before .before .before .before .before .before .before .before .before .before .before .before .before .before .before .before .before .pre .1 .1 .3) (c .before .before .before .before .before .before .before .before .before .before .before .before .before .before .before .before .before .before .pre .1 .1 .4) (c .before .before .before .before .before .before .before .before .before .before .before .before .before .before .before .before .before .before .pre .1 .1 .5) (c .before .before .before .before .before .before .before .before .before .before .before .before .before .before .before .before .before .before .pre .1 .1 .6) (c .before .before .before .before .before .before .before .before .before .before .before .before .before .before .before .before .before .before .pre .1 .1 .7)) (c .before .before .before .before .before .before .before .before .before .before .before .before .before .before .loop-test .taken) (sym (c .before .before .before .before .before .before .before .before .before .before .before .before .before .body-at .ensures .0) ∙ c .before .before .before .before .before .before .before .before .before .before .before .if3 .taken)), (c .before .before .before .before .before .if4 .left, (c .before .before .before .before .before .before .before .before .before .before .before .before .before .before .before .before .before .before .pre .1 .1 .0, c .before .before .before .before .before .before .before .before .before .before .before .before .before .before .before .before .before .before .pre .1 .1 .1, c .before .before .before .before .before .before .before .before .before .before .before .before .before .before .before .before .before .before .pre .1 .1 .2, c .before .before .before .before .before .before .before .before .before .before .before .before .before .before .before .before .before .before .pre .1 .1 .3, c .before .before .before .before .before .before .before .before .before .before .before .before .before .before .before .before .before .before .pre .1 .1 .4, named _ _ _ _ _ _ _ _ _ _ _ _ _ _ _ _ _ _ _ (c .before .before .before .before .before .before .before .before .before .before .before .before .before .before .before .loop .inv .3 (c .before .before .before .before .before .before .before .before .before .before .before .before .before .before .before .before .before .before .pre .1 .1 .0) (c .before .before .before .before .before .before .before .before .before .before .before .before .before .before .before .before .before .before .pre .1 .1 .1) (c .before .before .before .before .before .before .before .before .before .before .before .before .before .before .before .before .before .before .pre .1 .1 .2) (c .before .before .before .before .before .before .before .before .before .before .before .before .before .before .before .before .before .before .pre .1 .1 .3) (c .before .before .before .before .before .before .before .before .before .before .before .before .before .before .before .before .before .before .pre .1 .1 .4) (c .before .before .before .before .before .before .before .before .before .before .before .before .before .before .before .before .before .before .pre .1 .1 .5) (c .before .before .before .before .before .before .before .before .before .before .before .before .before .before .before .before .before .before .pre .1 .1 .6) (c .before .before .before .before .before .before .before .before .before .before .before .before .before .before .before .before .before .before .pre .1 .1 .7)) (c .before .before .before .before .before .before .before .before .before .before .before .before .before .before .loop-test .taken) (sym (c .before .before .before .before .before .before .before .before .before .before .before .before .before .body-at .ensures .0) ∙ c .before .before .before .before .before .before .before .before .before .before .before .if3 .taken) .inner, named _ _ _ _ _ _ _ _ _ _ _ _ _ _ _ _ _ _ _ (c .before .before .before .before .before .before .before .before .before .before .before .before .before .before .before .loop .inv .3 (c .before .before .before .before .before .before .before .before .before .before .before .before .before .before .before .before .before .before .pre .1 .1 .0) (c .before .before .before .before .before .before .before .before .before .before .before .before .before .before .before .before .before .before .pre .1 .1 .1) (c .before .before .before .before .before .before .before .before .before .before .before .before .before .before .before .before .before .before .pre .1 .1 .2) (c .before .before .before .before .before .before .before .before .before .before .before .before .before .before .before .before .before .before .pre .1 .1 .3) (c .before .before .before .before .before .before .before .before .before .before .before .before .before .before .before .before .before .before .pre .1 .1 .4) (c .before .before .before .before .before .before .before .before .before .before .before .before .before .before .before .before .before .before .pre .1 .1 .5) (c .before .before .before .before .before .before .before .before .before .before .before .before .before .before .before .before .before .before .pre .1 .1 .6) (c .before .before .before .before .before .before .before .before .before .before .before .before .before .before .before .before .before .before .pre .1 .1 .7)) (c .before .before .before .before .before .before .before .before .before .before .before .before .before .before .loop-test .taken) (sym (c .before .before .before .before .before .before .before .before .before .before .before .before .before .body-at .ensures .0) ∙ c .before .before .before .before .before .before .before .before .before .before .before .if3 .taken) .innerKinds, named-asks-at _ _ _ _ _ _ _ _ _ _ _ _ _ _ _ _ _ _ _ (c .before .before .before .before .before .before .before .before .before .before .before .before .before .before .before .loop .inv .3 (c .before .before .before .before .before .before .before .before .before .before .before .before .before .before .before .before .before .before .pre .1 .1 .0) (c .before .before .before .before .before .before .before .before .before .before .before .before .before .before .before .before .before .before .pre .1 .1 .1) (c .before .before .before .before .before .before .before .before .before .before .before .before .before .before .before .before .before .before .pre .1 .1 .2) (c .before .before .before .before .before .before .before .before .before .before .before .before .before .before .before .before .before .before .pre .1 .1 .3) (c .before .before .before .before .before .before .before .before .before .before .before .before .before .before .before .before .before .before .pre .1 .1 .4) (c .before .before .before .before .before .before .before .before .before .before .before .before .before .before .before .before .before .before .pre .1 .1 .5) (c .before .before .before .before .before .before .before .before .before .before .before .before .before .before .before .before .before .before .pre .1 .1 .6) (c .before .before .before .before .before .before .before .before .before .before .before .before .before .before .before .before .before .before .pre .1 .1 .7)) (c .before .before .before .before .before .before .before .before .before .before .before .before .before .before .loop-test .taken) (sym (c .before .before .before .before .before .before .before .before .before .before .before .before .before .body-at .ensures .0) ∙ c .before .before .before .before .before .before .before .before .before .before .before .if3 .taken) _ (c .before .before .before .before .span-at .ensures .0))))
+run-row-run-row-requires t c κs = (omega (arith, c .before .before .before .before .before .before .before .before .before .before .before .before .before .before .before .before .before .before .before .before .pre .0, c .before .before .before .before .before .before .before .before .before .before .before .before .before .before .before .before .before .loop .inv .2, named-some _ _ _ _ _ _ _ _ _ _ _ _ _ _ _ _ _ _ _ (c .before .before .before .before .before .before .before .before .before .before .before .before .before .before .before .before .before .loop .inv .3 (c .before .before .before .before .before .before .before .before .before .before .before .before .before .before .before .before .before .before .before .before .pre .1 .1 .0) (c .before .before .before .before .before .before .before .before .before .before .before .before .before .before .before .before .before .before .before .before .pre .1 .1 .1) (c .before .before .before .before .before .before .before .before .before .before .before .before .before .before .before .before .before .before .before .before .pre .1 .1 .2) (c .before .before .before .before .before .before .before .before .before .before .before .before .before .before .before .before .before .before .before .before .pre .1 .1 .3) (c .before .before .before .before .before .before .before .before .before .before .before .before .before .before .before .before .before .before .before .before .pre .1 .1 .4) (c .before .before .before .before .before .before .before .before .before .before .before .before .before .before .before .before .before .before .before .before .pre .1 .1 .5) (c .before .before .before .before .before .before .before .before .before .before .before .before .before .before .before .before .before .before .before .before .pre .1 .1 .6) (c .before .before .before .before .before .before .before .before .before .before .before .before .before .before .before .before .before .before .before .before .pre .1 .1 .7)) (c .before .before .before .before .before .before .before .before .before .before .before .before .before .before .before .before .loop-test .taken) (sym (c .before .before .before .before .before .before .before .before .before .before .before .before .before .before .before .body-at .ensures .0) ∙ c .before .before .before .before .before .before .before .before .before .before .before .before .before .if3 .taken)), (c .before .before .before .before .before .before .before .if4 .left, (c .before .before .before .before .before .before .before .before .before .before .before .before .before .before .before .before .before .before .before .before .pre .1 .1 .0, c .before .before .before .before .before .before .before .before .before .before .before .before .before .before .before .before .before .before .before .before .pre .1 .1 .1, c .before .before .before .before .before .before .before .before .before .before .before .before .before .before .before .before .before .before .before .before .pre .1 .1 .2, c .before .before .before .before .before .before .before .before .before .before .before .before .before .before .before .before .before .before .before .before .pre .1 .1 .3, c .before .before .before .before .before .before .before .before .before .before .before .before .before .before .before .before .before .before .before .before .pre .1 .1 .4, named _ _ _ _ _ _ _ _ _ _ _ _ _ _ _ _ _ _ _ (c .before .before .before .before .before .before .before .before .before .before .before .before .before .before .before .before .before .loop .inv .3 (c .before .before .before .before .before .before .before .before .before .before .before .before .before .before .before .before .before .before .before .before .pre .1 .1 .0) (c .before .before .before .before .before .before .before .before .before .before .before .before .before .before .before .before .before .before .before .before .pre .1 .1 .1) (c .before .before .before .before .before .before .before .before .before .before .before .before .before .before .before .before .before .before .before .before .pre .1 .1 .2) (c .before .before .before .before .before .before .before .before .before .before .before .before .before .before .before .before .before .before .before .before .pre .1 .1 .3) (c .before .before .before .before .before .before .before .before .before .before .before .before .before .before .before .before .before .before .before .before .pre .1 .1 .4) (c .before .before .before .before .before .before .before .before .before .before .before .before .before .before .before .before .before .before .before .before .pre .1 .1 .5) (c .before .before .before .before .before .before .before .before .before .before .before .before .before .before .before .before .before .before .before .before .pre .1 .1 .6) (c .before .before .before .before .before .before .before .before .before .before .before .before .before .before .before .before .before .before .before .before .pre .1 .1 .7)) (c .before .before .before .before .before .before .before .before .before .before .before .before .before .before .before .before .loop-test .taken) (sym (c .before .before .before .before .before .before .before .before .before .before .before .before .before .before .before .body-at .ensures .0) ∙ c .before .before .before .before .before .before .before .before .before .before .before .before .before .if3 .taken) .inner, named _ _ _ _ _ _ _ _ _ _ _ _ _ _ _ _ _ _ _ (c .before .before .before .before .before .before .before .before .before .before .before .before .before .before .before .before .before .loop .inv .3 (c .before .before .before .before .before .before .before .before .before .before .before .before .before .before .before .before .before .before .before .before .pre .1 .1 .0) (c .before .before .before .before .before .before .before .before .before .before .before .before .before .before .before .before .before .before .before .before .pre .1 .1 .1) (c .before .before .before .before .before .before .before .before .before .before .before .before .before .before .before .before .before .before .before .before .pre .1 .1 .2) (c .before .before .before .before .before .before .before .before .before .before .before .before .before .before .before .before .before .before .before .before .pre .1 .1 .3) (c .before .before .before .before .before .before .before .before .before .before .before .before .before .before .before .before .before .before .before .before .pre .1 .1 .4) (c .before .before .before .before .before .before .before .before .before .before .before .before .before .before .before .before .before .before .before .before .pre .1 .1 .5) (c .before .before .before .before .before .before .before .before .before .before .before .before .before .before .before .before .before .before .before .before .pre .1 .1 .6) (c .before .before .before .before .before .before .before .before .before .before .before .before .before .before .before .before .before .before .before .before .pre .1 .1 .7)) (c .before .before .before .before .before .before .before .before .before .before .before .before .before .before .before .before .loop-test .taken) (sym (c .before .before .before .before .before .before .before .before .before .before .before .before .before .before .before .body-at .ensures .0) ∙ c .before .before .before .before .before .before .before .before .before .before .before .before .before .if3 .taken) .innerKinds, named-asks-at _ _ _ _ _ _ _ _ _ _ _ _ _ _ _ _ _ _ _ (c .before .before .before .before .before .before .before .before .before .before .before .before .before .before .before .before .before .loop .inv .3 (c .before .before .before .before .before .before .before .before .before .before .before .before .before .before .before .before .before .before .before .before .pre .1 .1 .0) (c .before .before .before .before .before .before .before .before .before .before .before .before .before .before .before .before .before .before .before .before .pre .1 .1 .1) (c .before .before .before .before .before .before .before .before .before .before .before .before .before .before .before .before .before .before .before .before .pre .1 .1 .2) (c .before .before .before .before .before .before .before .before .before .before .before .before .before .before .before .before .before .before .before .before .pre .1 .1 .3) (c .before .before .before .before .before .before .before .before .before .before .before .before .before .before .before .before .before .before .before .before .pre .1 .1 .4) (c .before .before .before .before .before .before .before .before .before .before .before .before .before .before .before .before .before .before .before .before .pre .1 .1 .5) (c .before .before .before .before .before .before .before .before .before .before .before .before .before .before .before .before .before .before .before .before .pre .1 .1 .6) (c .before .before .before .before .before .before .before .before .before .before .before .before .before .before .before .before .before .before .before .before .pre .1 .1 .7)) (c .before .before .before .before .before .before .before .before .before .before .before .before .before .before .before .before .loop-test .taken) (sym (c .before .before .before .before .before .before .before .before .before .before .before .before .before .before .before .body-at .ensures .0) ∙ c .before .before .before .before .before .before .before .before .before .before .before .before .before .if3 .taken) _ (c .before .before .before .before .before .before .span-at .ensures .0))))
 
 run-row-returns-3 : (t : ℕ) → run-row-lts.Need-returns-3 (run-row-calls t) (run-row-at t) run-row.Post run-row-Inv-loop run-row-μ-loop
-run-row-returns-3 t c = λ f given ts ks r cs js a. inner-full _ _ _ _ _ _ _ _ _ _ _ _ _ _ _ _ _ _ _ (c .before .before .before .before .before .before .before .before .before .before .before .before .before .before .before .before .before .before .before .loop .inv .3 f given ts ks r cs js a) (c .before .before .before .before .before .before .before .before .before .before .before .before .before .before .before .before .before .before .loop-test .taken) (sym (c .before .before .before .before .before .before .before .before .before .before .before .before .before .before .before .before .before .body-at .ensures .0) ∙ c .before .before .before .before .before .before .before .before .before .before .before .before .before .before .before .if3 .taken) _ (c .before .before .before .before .before .before .before .before .before .before .before .before .before .before .body-at3 .ensures .0) _ _ (c .before .before .before .before .before .before .before .before .before .before .before .before .put-name .ensures) (omega (arith, c .before .before .before .before .before .before .before .before .before .before .before .output2 .given, c .before .before .before .before .before .before .before .before .before .if4 .left)) _ (c .before .before .before .before .before .before .before .before .span-at .ensures .0) _ _ _ (c .before .before .before .run-row .ensures) (omega (arith, c .before .before .output3 .given, c .if7 .taken))
+run-row-returns-3 t c = λ f given ts ks r cs js a. inner-full _ _ _ _ _ _ _ _ _ _ _ _ _ _ _ _ _ _ _ (c .before .before .before .before .before .before .before .before .before .before .before .before .before .before .before .before .before .before .before .before .before .loop .inv .3 f given ts ks r cs js a) (c .before .before .before .before .before .before .before .before .before .before .before .before .before .before .before .before .before .before .before .before .loop-test .taken) (sym (c .before .before .before .before .before .before .before .before .before .before .before .before .before .before .before .before .before .before .before .body-at .ensures .0) ∙ c .before .before .before .before .before .before .before .before .before .before .before .before .before .before .before .before .before .if3 .taken) _ (c .before .before .before .before .before .before .before .before .before .before .before .before .before .before .before .before .body-at3 .ensures .0) _ _ (c .before .before .before .before .before .before .before .before .before .before .before .before .before .before .put-name .ensures) (omega (arith, c .before .before .before .before .before .before .before .before .before .before .before .before .before .output2 .given, c .before .before .before .before .before .before .before .before .before .before .before .if4 .left)) _ (c .before .before .before .before .before .before .before .before .before .before .span-at .ensures .0) _ _ _ (c .before .before .before .run-row .ensures) (omega (arith, c .before .before .output3 .given, c .if8 .taken))
 
 run-row-loop-again-3 : (t : ℕ) → run-row-lts.Need-loop-again-3 (run-row-calls t) (run-row-at t) run-row.Post run-row-Inv-loop run-row-μ-loop
-run-row-loop-again-3 t c = (c .if7 .left, c .before .before .output3 .given ∙ (c .before .before .before .before .before .before .before .before .before .before .before .output2 .given ∙ c .before .before .before .before .before .before .before .before .before .before .before .before .before .before .before .before .before .before .before .loop .inv .1), c .before .before .before .before .before .before .before .before .before .before .before .before .before .before .before .before .before .before .before .loop .inv .2, λ f given ts ks r cs js a. inner-turn _ _ _ _ _ _ _ _ _ _ _ _ _ _ _ _ _ _ _ (c .before .before .before .before .before .before .before .before .before .before .before .before .before .before .before .before .before .before .before .loop .inv .3 f given ts ks r cs js a) (c .before .before .before .before .before .before .before .before .before .before .before .before .before .before .before .before .before .before .loop-test .taken) (sym (c .before .before .before .before .before .before .before .before .before .before .before .before .before .before .before .before .before .body-at .ensures .0) ∙ c .before .before .before .before .before .before .before .before .before .before .before .before .before .before .before .if3 .taken) _ (c .before .before .before .before .before .before .before .before .before .before .before .before .before .before .body-at3 .ensures .0) _ _ (c .before .before .before .before .before .before .before .before .before .before .before .before .put-name .ensures) (omega (arith, c .before .before .before .before .before .before .before .before .before .before .before .output2 .given, c .before .before .before .before .before .before .before .before .before .if4 .left)) _ (c .before .before .before .before .before .before .before .before .span-at .ensures .0) _ _ _ (c .before .before .before .run-row .ensures) (omega (arith, c .before .before .output3 .given, c .if7 .left)))
+run-row-loop-again-3 t c = (c .if8 .left, c .before .before .output3 .given ∙ (c .before .before .before .before .before .before .before .before .before .before .before .before .before .output2 .given ∙ c .before .before .before .before .before .before .before .before .before .before .before .before .before .before .before .before .before .before .before .before .before .loop .inv .1), c .before .before .before .before .before .before .before .before .before .before .before .before .before .before .before .before .before .before .before .before .before .loop .inv .2, λ f given ts ks r cs js a. inner-turn _ _ _ _ _ _ _ _ _ _ _ _ _ _ _ _ _ _ _ (c .before .before .before .before .before .before .before .before .before .before .before .before .before .before .before .before .before .before .before .before .before .loop .inv .3 f given ts ks r cs js a) (c .before .before .before .before .before .before .before .before .before .before .before .before .before .before .before .before .before .before .before .before .loop-test .taken) (sym (c .before .before .before .before .before .before .before .before .before .before .before .before .before .before .before .before .before .before .before .body-at .ensures .0) ∙ c .before .before .before .before .before .before .before .before .before .before .before .before .before .before .before .before .before .if3 .taken) _ (c .before .before .before .before .before .before .before .before .before .before .before .before .before .before .before .before .body-at3 .ensures .0) _ _ (c .before .before .before .before .before .before .before .before .before .before .before .before .before .before .put-name .ensures) (omega (arith, c .before .before .before .before .before .before .before .before .before .before .before .before .before .output2 .given, c .before .before .before .before .before .before .before .before .before .before .before .if4 .left)) _ (c .before .before .before .before .before .before .before .before .before .before .span-at .ensures .0) _ _ _ (c .before .before .before .run-row .ensures) (omega (arith, c .before .before .output3 .given, c .if8 .left)))
 
 run-row-loop-again-4 : (t : ℕ) → run-row-lts.Need-loop-again-4 (run-row-calls t) (run-row-at t) run-row.Post run-row-Inv-loop run-row-μ-loop
-run-row-loop-again-4 t c = (c .before .before .before .if4 .left, c .before .before .before .before .before .output2 .given ∙ c .before .before .before .before .before .before .before .before .before .before .before .before .before .loop .inv .1, c .before .before .before .before .before .before .before .before .before .before .before .before .before .loop .inv .2, λ f given ts ks r cs js a. named-empty _ _ _ _ _ _ _ _ _ _ _ _ _ _ _ _ _ _ _ (c .before .before .before .before .before .before .before .before .before .before .before .before .before .loop .inv .3 f given ts ks r cs js a) (c .before .before .before .before .before .before .before .before .before .before .before .before .loop-test .taken) (sym (c .before .before .before .before .before .before .before .before .before .before .before .body-at .ensures .0) ∙ c .before .before .before .before .before .before .before .before .before .if3 .taken) _ (c .before .before .before .before .before .before .before .before .body-at3 .ensures .0) _ _ (c .before .before .before .before .before .before .put-name .ensures) (omega (arith, c .before .before .before .before .before .output2 .given, c .before .before .before .if4 .left)) (omega (arith, c .if6 .left, c .before .before .span-at .ensures .0)))
-
-run-row-body-at-requires-4 : (t : ℕ) → run-row-lts.Need-body-at-requires-4 (run-row-calls t) (run-row-at t) run-row.Post run-row-Inv-loop run-row-μ-loop
-run-row-body-at-requires-4 t c κs = next-below _ _ _ _ _ _ _ _ _ _ _ _ _ _ _ _ _ _ _ (c .before .before .before .before .loop .inv .3 (c .before .before .before .before .before .before .before .pre .1 .1 .0) (c .before .before .before .before .before .before .before .pre .1 .1 .1) (c .before .before .before .before .before .before .before .pre .1 .1 .2) (c .before .before .before .before .before .before .before .pre .1 .1 .3) (c .before .before .before .before .before .before .before .pre .1 .1 .4) (c .before .before .before .before .before .before .before .pre .1 .1 .5) (c .before .before .before .before .before .before .before .pre .1 .1 .6) (c .before .before .before .before .before .before .before .pre .1 .1 .7)) (c .before .before .before .loop-test .taken)
-
-run-row-cast-high : (t : ℕ) → run-row-lts.Need-cast-high (run-row-calls t) (run-row-at t) run-row.Post run-row-Inv-loop run-row-μ-loop
-run-row-cast-high t c = omega (arith, next-narrow _ _ _ _ _ _ _ _ _ _ _ _ _ _ _ _ _ _ _ (c .before .before .before .before .before .loop .inv .3 (c .before .before .before .before .before .before .before .before .pre .1 .1 .0) (c .before .before .before .before .before .before .before .before .pre .1 .1 .1) (c .before .before .before .before .before .before .before .before .pre .1 .1 .2) (c .before .before .before .before .before .before .before .before .pre .1 .1 .3) (c .before .before .before .before .before .before .before .before .pre .1 .1 .4) (c .before .before .before .before .before .before .before .before .pre .1 .1 .5) (c .before .before .before .before .before .before .before .before .pre .1 .1 .6) (c .before .before .before .before .before .before .before .before .pre .1 .1 .7)) (c .before .before .before .before .loop-test .taken) _ _ (c .body-at4 .ensures .0) (omega arith) (next-two _ _ _ _ _ _ _ _ _ _ _ _ _ _ _ _ _ _ _ (c .before .before .before .before .before .loop .inv .3 (c .before .before .before .before .before .before .before .before .pre .1 .1 .0) (c .before .before .before .before .before .before .before .before .pre .1 .1 .1) (c .before .before .before .before .before .before .before .before .pre .1 .1 .2) (c .before .before .before .before .before .before .before .before .pre .1 .1 .3) (c .before .before .before .before .before .before .before .before .pre .1 .1 .4) (c .before .before .before .before .before .before .before .before .pre .1 .1 .5) (c .before .before .before .before .before .before .before .before .pre .1 .1 .6) (c .before .before .before .before .before .before .before .before .pre .1 .1 .7)) (c .before .before .before .before .loop-test .taken)))
-
-run-row-body-at-requires-5 : (t : ℕ) → run-row-lts.Need-body-at-requires-5 (run-row-calls t) (run-row-at t) run-row.Post run-row-Inv-loop run-row-μ-loop
-run-row-body-at-requires-5 t c κs = token-room _ _ _ _ _ _ _ _ _ _ _ _ _ _ _ _ _ _ _ (c .before .before .before .before .before .loop .inv .3 (c .before .before .before .before .before .before .before .before .pre .1 .1 .0) (c .before .before .before .before .before .before .before .before .pre .1 .1 .1) (c .before .before .before .before .before .before .before .before .pre .1 .1 .2) (c .before .before .before .before .before .before .before .before .pre .1 .1 .3) (c .before .before .before .before .before .before .before .before .pre .1 .1 .4) (c .before .before .before .before .before .before .before .before .pre .1 .1 .5) (c .before .before .before .before .before .before .before .before .pre .1 .1 .6) (c .before .before .before .before .before .before .before .before .pre .1 .1 .7)) (c .before .before .before .before .loop-test .taken) (λ z. c .before .if3 .left (c .before .before .before .body-at .ensures .0 ∙ z)) (λ z. c .before .before .if1 .left (c .before .before .before .body-at .ensures .0 ∙ z))
-
-run-row-cast-low : (t : ℕ) → run-row-lts.Need-cast-low (run-row-calls t) (run-row-at t) run-row.Post run-row-Inv-loop run-row-μ-loop
-run-row-cast-low t c = omega (arith, next-narrow _ _ _ _ _ _ _ _ _ _ _ _ _ _ _ _ _ _ _ (c .before .before .before .before .before .before .loop .inv .3 (c .before .before .before .before .before .before .before .before .before .pre .1 .1 .0) (c .before .before .before .before .before .before .before .before .before .pre .1 .1 .1) (c .before .before .before .before .before .before .before .before .before .pre .1 .1 .2) (c .before .before .before .before .before .before .before .before .before .pre .1 .1 .3) (c .before .before .before .before .before .before .before .before .before .pre .1 .1 .4) (c .before .before .before .before .before .before .before .before .before .pre .1 .1 .5) (c .before .before .before .before .before .before .before .before .before .pre .1 .1 .6) (c .before .before .before .before .before .before .before .before .before .pre .1 .1 .7)) (c .before .before .before .before .before .loop-test .taken) _ _ (c .body-at5 .ensures .0) (omega arith) (token-three _ _ _ _ _ _ _ _ _ _ _ _ _ _ _ _ _ _ _ (c .before .before .before .before .before .before .loop .inv .3 (c .before .before .before .before .before .before .before .before .before .pre .1 .1 .0) (c .before .before .before .before .before .before .before .before .before .pre .1 .1 .1) (c .before .before .before .before .before .before .before .before .before .pre .1 .1 .2) (c .before .before .before .before .before .before .before .before .before .pre .1 .1 .3) (c .before .before .before .before .before .before .before .before .before .pre .1 .1 .4) (c .before .before .before .before .before .before .before .before .before .pre .1 .1 .5) (c .before .before .before .before .before .before .before .before .before .pre .1 .1 .6) (c .before .before .before .before .before .before .before .before .before .pre .1 .1 .7)) (c .before .before .before .before .before .loop-test .taken) (λ z. c .before .before .if3 .left (c .before .before .before .before .body-at .ensures .0 ∙ z)) (λ z. c .before .before .before .if1 .left (c .before .before .before .before .body-at .ensures .0 ∙ z))))
-
-run-row-returns-4 : (t : ℕ) → run-row-lts.Need-returns-4 (run-row-calls t) (run-row-at t) run-row.Post run-row-Inv-loop run-row-μ-loop
-run-row-returns-4 t c = λ f given ts ks r cs js a. token-full _ _ _ _ _ _ _ _ _ _ _ _ _ _ _ _ _ _ _ (c .before .before .before .before .before .before .before .before .before .before .before .loop .inv .3 f given ts ks r cs js a) (c .before .before .before .before .before .before .before .before .before .before .loop-test .taken) (λ z. c .before .before .before .before .before .before .before .if3 .left (c .before .before .before .before .before .before .before .before .before .body-at .ensures .0 ∙ z)) (λ z. c .before .before .before .before .before .before .before .before .if1 .left (c .before .before .before .before .before .before .before .before .before .body-at .ensures .0 ∙ z)) _ _ (c .before .before .before .before .before .before .body-at4 .ensures .0) (c .before .before .before .before .before .body-at5 .ensures .0) _ _ (c .before .before .before .put-token .ensures) (omega (arith, c .before .before .output4 .given, c .if8 .taken))
+run-row-loop-again-4 t c = (c .before .before .before .before .before .if4 .left, c .before .before .before .before .before .before .before .output2 .given ∙ c .before .before .before .before .before .before .before .before .before .before .before .before .before .before .before .loop .inv .1, c .before .before .before .before .before .before .before .before .before .before .before .before .before .before .before .loop .inv .2, λ f given ts ks r cs js a. named-goes _ _ _ _ _ _ _ _ _ _ _ _ _ _ _ _ _ _ _ (c .before .before .before .before .before .before .before .before .before .before .before .before .before .before .before .loop .inv .3 f given ts ks r cs js a) (c .before .before .before .before .before .before .before .before .before .before .before .before .before .before .loop-test .taken) (sym (c .before .before .before .before .before .before .before .before .before .before .before .before .before .body-at .ensures .0) ∙ c .before .before .before .before .before .before .before .before .before .before .before .if3 .taken) _ (c .before .before .before .before .before .before .before .before .before .before .body-at3 .ensures .0) _ _ (c .before .before .before .before .before .before .before .before .put-name .ensures) (omega (arith, c .before .before .before .before .before .before .before .output2 .given, c .before .before .before .before .before .if4 .left)))
 
 run-row-loop-again-5 : (t : ℕ) → run-row-lts.Need-loop-again-5 (run-row-calls t) (run-row-at t) run-row.Post run-row-Inv-loop run-row-μ-loop
-run-row-loop-again-5 t c = (c .if8 .left, c .before .before .output4 .given ∙ c .before .before .before .before .before .before .before .before .before .before .before .loop .inv .1, c .before .before .before .before .before .before .before .before .before .before .before .loop .inv .2, λ f given ts ks r cs js a. token-turn _ _ _ _ _ _ _ _ _ _ _ _ _ _ _ _ _ _ _ (c .before .before .before .before .before .before .before .before .before .before .before .loop .inv .3 f given ts ks r cs js a) (c .before .before .before .before .before .before .before .before .before .before .loop-test .taken) (λ z. c .before .before .before .before .before .before .before .if3 .left (c .before .before .before .before .before .before .before .before .before .body-at .ensures .0 ∙ z)) (λ z. c .before .before .before .before .before .before .before .before .if1 .left (c .before .before .before .before .before .before .before .before .before .body-at .ensures .0 ∙ z)) _ _ (c .before .before .before .before .before .before .body-at4 .ensures .0) (c .before .before .before .before .before .body-at5 .ensures .0) _ _ (c .before .before .before .put-token .ensures) (omega (arith, c .before .before .output4 .given, c .if8 .left)))
+run-row-loop-again-5 t c = (c .before .before .before .if4 .left, c .before .before .before .before .before .output2 .given ∙ c .before .before .before .before .before .before .before .before .before .before .before .before .before .loop .inv .1, c .before .before .before .before .before .before .before .before .before .before .before .before .before .loop .inv .2, λ f given ts ks r cs js a. named-goes _ _ _ _ _ _ _ _ _ _ _ _ _ _ _ _ _ _ _ (c .before .before .before .before .before .before .before .before .before .before .before .before .before .loop .inv .3 f given ts ks r cs js a) (c .before .before .before .before .before .before .before .before .before .before .before .before .loop-test .taken) (sym (c .before .before .before .before .before .before .before .before .before .before .before .body-at .ensures .0) ∙ c .before .before .before .before .before .before .before .before .before .if3 .taken) _ (c .before .before .before .before .before .before .before .before .body-at3 .ensures .0) _ _ (c .before .before .before .before .before .before .put-name .ensures) (omega (arith, c .before .before .before .before .before .output2 .given, c .before .before .before .if4 .left)))
+
+run-row-body-at-requires-5 : (t : ℕ) → run-row-lts.Need-body-at-requires-5 (run-row-calls t) (run-row-at t) run-row.Post run-row-Inv-loop run-row-μ-loop
+run-row-body-at-requires-5 t c κs = next-below _ _ _ _ _ _ _ _ _ _ _ _ _ _ _ _ _ _ _ (c .before .before .before .before .loop .inv .3 (c .before .before .before .before .before .before .before .pre .1 .1 .0) (c .before .before .before .before .before .before .before .pre .1 .1 .1) (c .before .before .before .before .before .before .before .pre .1 .1 .2) (c .before .before .before .before .before .before .before .pre .1 .1 .3) (c .before .before .before .before .before .before .before .pre .1 .1 .4) (c .before .before .before .before .before .before .before .pre .1 .1 .5) (c .before .before .before .before .before .before .before .pre .1 .1 .6) (c .before .before .before .before .before .before .before .pre .1 .1 .7)) (c .before .before .before .loop-test .taken)
+
+run-row-cast-high : (t : ℕ) → run-row-lts.Need-cast-high (run-row-calls t) (run-row-at t) run-row.Post run-row-Inv-loop run-row-μ-loop
+run-row-cast-high t c = omega (arith, next-narrow _ _ _ _ _ _ _ _ _ _ _ _ _ _ _ _ _ _ _ (c .before .before .before .before .before .loop .inv .3 (c .before .before .before .before .before .before .before .before .pre .1 .1 .0) (c .before .before .before .before .before .before .before .before .pre .1 .1 .1) (c .before .before .before .before .before .before .before .before .pre .1 .1 .2) (c .before .before .before .before .before .before .before .before .pre .1 .1 .3) (c .before .before .before .before .before .before .before .before .pre .1 .1 .4) (c .before .before .before .before .before .before .before .before .pre .1 .1 .5) (c .before .before .before .before .before .before .before .before .pre .1 .1 .6) (c .before .before .before .before .before .before .before .before .pre .1 .1 .7)) (c .before .before .before .before .loop-test .taken) _ _ (c .body-at5 .ensures .0) (omega arith) (next-two _ _ _ _ _ _ _ _ _ _ _ _ _ _ _ _ _ _ _ (c .before .before .before .before .before .loop .inv .3 (c .before .before .before .before .before .before .before .before .pre .1 .1 .0) (c .before .before .before .before .before .before .before .before .pre .1 .1 .1) (c .before .before .before .before .before .before .before .before .pre .1 .1 .2) (c .before .before .before .before .before .before .before .before .pre .1 .1 .3) (c .before .before .before .before .before .before .before .before .pre .1 .1 .4) (c .before .before .before .before .before .before .before .before .pre .1 .1 .5) (c .before .before .before .before .before .before .before .before .pre .1 .1 .6) (c .before .before .before .before .before .before .before .before .pre .1 .1 .7)) (c .before .before .before .before .loop-test .taken)))
+
+run-row-body-at-requires-6 : (t : ℕ) → run-row-lts.Need-body-at-requires-6 (run-row-calls t) (run-row-at t) run-row.Post run-row-Inv-loop run-row-μ-loop
+run-row-body-at-requires-6 t c κs = token-room _ _ _ _ _ _ _ _ _ _ _ _ _ _ _ _ _ _ _ (c .before .before .before .before .before .loop .inv .3 (c .before .before .before .before .before .before .before .before .pre .1 .1 .0) (c .before .before .before .before .before .before .before .before .pre .1 .1 .1) (c .before .before .before .before .before .before .before .before .pre .1 .1 .2) (c .before .before .before .before .before .before .before .before .pre .1 .1 .3) (c .before .before .before .before .before .before .before .before .pre .1 .1 .4) (c .before .before .before .before .before .before .before .before .pre .1 .1 .5) (c .before .before .before .before .before .before .before .before .pre .1 .1 .6) (c .before .before .before .before .before .before .before .before .pre .1 .1 .7)) (c .before .before .before .before .loop-test .taken) (λ z. c .before .if3 .left (c .before .before .before .body-at .ensures .0 ∙ z)) (λ z. c .before .before .if1 .left (c .before .before .before .body-at .ensures .0 ∙ z))
+
+run-row-cast-low : (t : ℕ) → run-row-lts.Need-cast-low (run-row-calls t) (run-row-at t) run-row.Post run-row-Inv-loop run-row-μ-loop
+run-row-cast-low t c = omega (arith, next-narrow _ _ _ _ _ _ _ _ _ _ _ _ _ _ _ _ _ _ _ (c .before .before .before .before .before .before .loop .inv .3 (c .before .before .before .before .before .before .before .before .before .pre .1 .1 .0) (c .before .before .before .before .before .before .before .before .before .pre .1 .1 .1) (c .before .before .before .before .before .before .before .before .before .pre .1 .1 .2) (c .before .before .before .before .before .before .before .before .before .pre .1 .1 .3) (c .before .before .before .before .before .before .before .before .before .pre .1 .1 .4) (c .before .before .before .before .before .before .before .before .before .pre .1 .1 .5) (c .before .before .before .before .before .before .before .before .before .pre .1 .1 .6) (c .before .before .before .before .before .before .before .before .before .pre .1 .1 .7)) (c .before .before .before .before .before .loop-test .taken) _ _ (c .body-at6 .ensures .0) (omega arith) (token-three _ _ _ _ _ _ _ _ _ _ _ _ _ _ _ _ _ _ _ (c .before .before .before .before .before .before .loop .inv .3 (c .before .before .before .before .before .before .before .before .before .pre .1 .1 .0) (c .before .before .before .before .before .before .before .before .before .pre .1 .1 .1) (c .before .before .before .before .before .before .before .before .before .pre .1 .1 .2) (c .before .before .before .before .before .before .before .before .before .pre .1 .1 .3) (c .before .before .before .before .before .before .before .before .before .pre .1 .1 .4) (c .before .before .before .before .before .before .before .before .before .pre .1 .1 .5) (c .before .before .before .before .before .before .before .before .before .pre .1 .1 .6) (c .before .before .before .before .before .before .before .before .before .pre .1 .1 .7)) (c .before .before .before .before .before .loop-test .taken) (λ z. c .before .before .if3 .left (c .before .before .before .before .body-at .ensures .0 ∙ z)) (λ z. c .before .before .before .if1 .left (c .before .before .before .before .body-at .ensures .0 ∙ z))))
+
+run-row-returns-4 : (t : ℕ) → run-row-lts.Need-returns-4 (run-row-calls t) (run-row-at t) run-row.Post run-row-Inv-loop run-row-μ-loop
+run-row-returns-4 t c = λ f given ts ks r cs js a. token-full _ _ _ _ _ _ _ _ _ _ _ _ _ _ _ _ _ _ _ (c .before .before .before .before .before .before .before .before .before .before .before .loop .inv .3 f given ts ks r cs js a) (c .before .before .before .before .before .before .before .before .before .before .loop-test .taken) (λ z. c .before .before .before .before .before .before .before .if3 .left (c .before .before .before .before .before .before .before .before .before .body-at .ensures .0 ∙ z)) (λ z. c .before .before .before .before .before .before .before .before .if1 .left (c .before .before .before .before .before .before .before .before .before .body-at .ensures .0 ∙ z)) _ _ (c .before .before .before .before .before .before .body-at5 .ensures .0) (c .before .before .before .before .before .body-at6 .ensures .0) _ _ (c .before .before .before .put-token .ensures) (omega (arith, c .before .before .output4 .given, c .if9 .taken))
+
+run-row-loop-again-6 : (t : ℕ) → run-row-lts.Need-loop-again-6 (run-row-calls t) (run-row-at t) run-row.Post run-row-Inv-loop run-row-μ-loop
+run-row-loop-again-6 t c = (c .if9 .left, c .before .before .output4 .given ∙ c .before .before .before .before .before .before .before .before .before .before .before .loop .inv .1, c .before .before .before .before .before .before .before .before .before .before .before .loop .inv .2, λ f given ts ks r cs js a. token-turn _ _ _ _ _ _ _ _ _ _ _ _ _ _ _ _ _ _ _ (c .before .before .before .before .before .before .before .before .before .before .before .loop .inv .3 f given ts ks r cs js a) (c .before .before .before .before .before .before .before .before .before .before .loop-test .taken) (λ z. c .before .before .before .before .before .before .before .if3 .left (c .before .before .before .before .before .before .before .before .before .body-at .ensures .0 ∙ z)) (λ z. c .before .before .before .before .before .before .before .before .if1 .left (c .before .before .before .before .before .before .before .before .before .body-at .ensures .0 ∙ z)) _ _ (c .before .before .before .before .before .before .body-at5 .ensures .0) (c .before .before .before .before .before .body-at6 .ensures .0) _ _ (c .before .before .before .put-token .ensures) (omega (arith, c .before .before .output4 .given, c .if9 .left)))
 
 run-row-returns-5 : (t : ℕ) → run-row-lts.Need-returns-5 (run-row-calls t) (run-row-at t) run-row.Post run-row-Inv-loop run-row-μ-loop
 run-row-returns-5 t c = λ f given ts ks r cs js a. going-end _ _ _ _ _ _ _ _ _ _ _ _ _ _ _ _ _ _ _ (c .before .loop .inv .3 f given ts ks r cs js a) (c .loop-test .left) (c .before .loop .inv .0)
@@ -297,6 +303,7 @@ pub +run-argument+run-row-spec : {M : Type 1} → statement M
     (run-row-sub-left t)
     (λ c. search needs)
     (run-row-loop-again-2 t)
+    (run-row-body-at-requires-4 t)
     (run-row-sub-run-row t)
     (run-row-run-row-requires t)
     (λ c. search needs)
@@ -306,16 +313,18 @@ pub +run-argument+run-row-spec : {M : Type 1} → statement M
     (λ c. search needs)
     (run-row-loop-again-4 t)
     (λ c. search needs)
-    (run-row-body-at-requires-4 t)
-    (run-row-cast-high t)
+    (run-row-loop-again-5 t)
     (λ c. search needs)
     (run-row-body-at-requires-5 t)
+    (run-row-cast-high t)
+    (λ c. search needs)
+    (run-row-body-at-requires-6 t)
     (run-row-cast-low t)
     (λ c κs. search needs)
     (λ c. search needs)
     (run-row-returns-4 t)
     (λ c. search needs)
     (λ c. search needs)
-    (run-row-loop-again-5 t)
+    (run-row-loop-again-6 t)
     (λ c. search needs)
     (run-row-returns-5 t)
