@@ -1,5 +1,5 @@
 -- Laws of where the arguments of a node start and end.
-use Prim.Native.Nat.{ℕ, zero, suc, _+_, _-_, _≤_, _<_}
+use Prim.Native.Nat.{ℕ, zero, suc, _+_, _≤_, _<_}
 use mathlib.Core.Path.{_≡_, refl, sym, ap, _∙_}
 use mathlib.Core.List.{List, []}
 use mathlib.Core.Logic.{_≢_, inr, ⊎-elim}
@@ -23,19 +23,8 @@ use Rattle.translation.specs.Translation.{Translation}
 use Rattle.translation.specs.Running.{nth}
 use Rattle.emitter.specs.Inner.Stands.{Stands}
 use Rattle.emitter.specs.Inner.Table.{sourceByte, KindsAt}
-use Rattle.emitter.specs.Inner.Runs.{bytesOf, allBytes, front, knownStart, Node, Same, SkipAsks, FindAsks}
+use Rattle.emitter.specs.Inner.Runs.{bytesOf, allBytes, front, Node, Same, SkipAsks, FindAsks}
 use Rattle.emitter.proofs.Standing.{stands-both}
-
--- known
-pub known-first : (s : List ℕ) (j : ℕ) → j ≡ 0 → getD s 9 0 ≡ knownStart s j
-unfolding knownStart
-known-first s zero h = refl
-known-first s (suc j) h = absurd (omega arith)
-
-pub known-other : (s : List ℕ) (j : ℕ) → j ≢ 0 → getD s (j - 1) 0 ≡ knownStart s j
-unfolding knownStart
-known-other s zero h = absurd (h refl)
-known-other s (suc j) h = let e : suc j - 1 ≡ j = omega arith in rw e
 
 -- The i-th of codes of the given kinds: its kind, its levels, and where it stands.
 module _ {l : Language} {given : List ℕ} where
@@ -75,38 +64,38 @@ kind-byte {t} {q} {ks} z i h =
 
 -- The end of an argument is kept.
 module _ {x : Syntax} {t input state : List ℕ} {l : Language} {given : List ℕ} {ts : Codes} {ks : List ℕ} (n : Node x t input state l given ts ks) (i e : ℕ) (small : i < 8) where
-  other : (j : ℕ) → j ≢ i → getD (set state i e) j 0 ≡ getD state j 0
-  other j h = getD-set-other state i j e 0 h
+  other : (j : ℕ) → j ≢ i + 1 → getD (set state (i + 1) e) j 0 ≡ getD state j 0
+  other j h = getD-set-other state (i + 1) j e 0 h
 
-  from-kept : getD (set state i e) 8 0 ≡ getD state 8 0
-  from-kept = other 8 (λ h. omega arith)
+  from-kept : getD (set state (i + 1) e) 9 0 ≡ getD state 9 0
+  from-kept = other 9 (λ h. omega arith)
 
-  start-kept : getD (set state i e) 9 0 ≡ getD state 9 0
-  start-kept = other 9 (λ h. omega arith)
+  start-kept : getD (set state (i + 1) e) 0 0 ≡ getD state 0 0
+  start-kept = other 0 (λ h. omega arith)
 
-  pub same-learnt : Same state (set state i e)
+  pub same-learnt : Same state (set state (i + 1) e)
   same-learnt = record { from = from-kept; start = start-kept }
 
-  pub node-learnt : e ≡ getD state 9 0 + length (allBytes x (front (i + 1) ts)) → Node x t input (set state i e) l given ts ks
+  pub node-learnt : e ≡ getD state 0 0 + length (allBytes x (front (i + 1) ts)) → Node x t input (set state (i + 1) e) l given ts ks
   node-learnt y = record {
-    long = length-set state i e ∙ n .long;
+    long = length-set state (i + 1) e ∙ n .long;
     kinds = rw from-kept (n .kinds);
     few = n .few;
     typed = n .typed;
     stands = rw start-kept (n .stands);
     some = rw start-kept (n .some);
-    known = λ j h. rw start-kept (by-test (eqb j i) (λ q. inr (learnt j (eqb-true j i q))) (λ q. rw (other j (eqb-false j i q)) (n .known j h)));
+    known = λ j h. rw start-kept (by-test (eqb j i) (λ q. inr (learnt j (eqb-true j i q))) (λ q. rw (other (j + 1) (λ z. eqb-false j i q (omega arith))) (n .known j h)));
   }
     where
-      learnt : (j : ℕ) → j ≡ i → getD (set state i e) j 0 ≡ getD state 9 0 + length (allBytes x (front (j + 1) ts))
-      learnt j q = let z = n .long in rw q (getD-set-same state i e 0 (omega arith) ∙ y)
+      learnt : (j : ℕ) → j ≡ i → getD (set state (i + 1) e) (j + 1) 0 ≡ getD state 0 0 + length (allBytes x (front (j + 1) ts))
+      learnt j q = let z = n .long in rw q (getD-set-same state (i + 1) e 0 (omega arith) ∙ y)
 
 pub same-after : {a b c : List ℕ} → Same a b → Same b c → Same a c
 same-after h k = record { from = k .from ∙ h .from; start = k .start ∙ h .start }
 
 -- find: p is where argument i starts, and the node is the one that it was.
 pub record Reached (x : Syntax) (t input before state : List ℕ) (p i : ℕ) (f : Translation) (given : List ℕ) (ts : Codes) (ks : List ℕ) : Type 0 where
-  pub at : p ≡ getD before 9 0 + length (allBytes x (front i ts))
+  pub at : p ≡ getD before 0 0 + length (allBytes x (front i ts))
   pub node : Node x t input state (f .source) given ts ks
   pub same : Same before state
 
@@ -114,25 +103,25 @@ module _ {x : Syntax} {t input before : List ℕ} {j : ℕ} {f : Translation} {g
   pub find-few : j ≤ 8
   find-few = let n = a .number in let m = a .node .few in omega arith
 
-  pub find-inside : (i : ℕ) → i < j → getD before 8 0 + i < 1024
+  pub find-inside : (i : ℕ) → i < j → getD before 9 0 + i < 1024
   find-inside i h = let n = a .number in let m = a .node .kinds .inside in omega arith
 
-  pub reached-none : Reached x t input before before (getD before 9 0) 0 f given ts ks
+  pub reached-none : Reached x t input before before (getD before 0 0) 0 f given ts ks
   unfolding front writeAll
-  reached-none = record { at = sym (add-zero (getD before 9 0)); node = a .node; same = record { from = refl; start = refl } }
+  reached-none = record { at = sym (add-zero (getD before 0 0)); node = a .node; same = record { from = refl; start = refl } }
 
   -- A turn.
   module _ {state : List ℕ} {p i : ℕ} (z : Reached x t input before state p i f given ts ks) (h : i < j) where
     few : i < length ks
     few = let n = a .number in omega arith
 
-    pub reached-skip : SkipAsks x t input (getD before 8 0 + i) p f given (nth ts i) (getD ks i 0)
+    pub reached-skip : SkipAsks x t input (getD before 9 0 + i) p f given (nth ts i) (getD ks i 0)
     reached-skip = record {
       table = a .table;
       term = record {
         typed = nth-kind (a .node .typed) i few;
         kind = a .node .kinds .below i few;
-        stands = rw (z .at) (nth-stands (syntaxOf x) (a .node .typed) i few input (getD before 9 0) (a .node .stands));
+        stands = rw (z .at) (nth-stands (syntaxOf x) (a .node .typed) i few input (getD before 0 0) (a .node .stands));
       };
       inside = find-inside i h;
       kind = kind-byte (a .node .kinds) i few;
@@ -142,19 +131,19 @@ module _ {x : Syntax} {t input before : List ℕ} {j : ℕ} {f : Translation} {g
     more : length (allBytes x (front (i + 1) ts)) ≡ length (allBytes x (front i ts)) + length (bytesOf x (nth ts i))
     more = rw (add-one i) (front-next (syntaxOf x) (a .node .typed) i few)
 
-    pub reached-known : {after : List ℕ} {e : ℕ} → getD state i 0 ≢ 0 → after ≡ state → e ≡ getD state i 0 → Reached x t input before after e (i + 1) f given ts ks
+    pub reached-known : {after : List ℕ} {e : ℕ} → getD state (i + 1) 0 ≢ 0 → after ≡ state → e ≡ getD state (i + 1) 0 → Reached x t input before after e (i + 1) f given ts ks
     reached-known {after} {e} k w y = rw w record {
       at = y ∙ (⊎-elim (λ q. absurd (k q)) (λ q. q) (z .node .known i (omega (arith, find-few))) ∙ ap (λ (m : ℕ). m + length (allBytes x (front (i + 1) ts))) (z .same .start));
       node = z .node;
       same = z .same;
     }
 
-    pub reached-more : {after : List ℕ} {e r : ℕ} → r ≡ p + length (bytesOf x (nth ts i)) → after ≡ set state i r → e ≡ r → Reached x t input before after e (i + 1) f given ts ks
+    pub reached-more : {after : List ℕ} {e r : ℕ} → r ≡ p + length (bytesOf x (nth ts i)) → after ≡ set state (i + 1) r → e ≡ r → Reached x t input before after e (i + 1) f given ts ks
     reached-more {after} {e} {r} k w y =
         let s : i < 8 = omega (arith, find-few) in
         let b = z .same .start in
         let c = z .at in
-        let d : r ≡ getD before 9 0 + length (allBytes x (front (i + 1) ts)) = omega (arith, more) in
+        let d : r ≡ getD before 0 0 + length (allBytes x (front (i + 1) ts)) = omega (arith, more) in
         rw w record {
           at = y ∙ d;
           node = node-learnt (z .node) i r s (omega arith);
@@ -162,7 +151,7 @@ module _ {x : Syntax} {t input before : List ℕ} {j : ℕ} {f : Translation} {g
         }
 
   pub reached-done : {state : List ℕ} {p i : ℕ} → i ≤ j → j ≤ i → Reached x t input before state p i f given ts ks
-      → (p ≡ getD before 9 0 + length (allBytes x (front j ts))) × Node x t input state (f .source) given ts ks × Same before state
+      → (p ≡ getD before 0 0 + length (allBytes x (front j ts))) × Node x t input state (f .source) given ts ks × Same before state
   reached-done {i = i} h k z =
       let e : i ≡ j = omega arith in
-      (z .at ∙ ap (λ (m : ℕ). getD before 9 0 + length (allBytes x (front m ts))) e, z .node, z .same)
+      (z .at ∙ ap (λ (m : ℕ). getD before 0 0 + length (allBytes x (front m ts))) e, z .node, z .same)

@@ -595,70 +595,70 @@ module _ (x : Syntax) (l : Language) (given : List ℕ) where
 
 -- Where argument j of a node starts.
 abbrev pub startOf : Syntax → List ℕ → Codes → ℕ → ℕ
-startOf x state ts j = getD state 9 0 + length (allBytes x (front j ts))
+startOf x state ts j = getD state 0 0 + length (allBytes x (front j ts))
 
 module _ (x : Syntax) (t input state : List ℕ) (l : Language) (given : List ℕ) (ts : Codes) (ks : List ℕ) (h : Node x t input state l given ts ks) where
   pub known-start : (j : ℕ) → j ≤ length ks → (knownStart state j ≡ 0 → ⊥) → knownStart state j ≡ startOf x state ts j
-  unfolding knownStart front write
+  unfolding front write
   known-start zero i n = omega arith
   known-start (suc j) i n =
       let f = h .few in
       let e : j + 1 ≡ suc j = omega arith in
-      ⊎-elim (λ z. absurd (n z)) (λ z. rw e at z) (h .known j (omega arith))
+      ⊎-elim (λ z. absurd (n (rw e at z))) (λ z. rw e at z) (h .known j (omega arith))
 
   module _ (j : ℕ) (i : j < length ks) where
     pub argument-term : Term x input (startOf x state ts j) l given (nth ts j) (getD ks j 0)
     argument-term = record {
       typed = one-typed x l given j (h .typed) i .0;
       kind = h .kinds .below j i;
-      stands = one-stands x l given j input (getD state 9 0) (h .typed) i (h .stands);
+      stands = one-stands x l given j input (getD state 0 0) (h .typed) i (h .stands);
     }
 
     pub argument-levels : levels (nth ts j) ≤ levelsAll ts
     argument-levels = one-typed x l given j (h .typed) i .1
 
-    pub argument-place : (j < 8) × (getD state 8 0 + j < 1024)
+    pub argument-place : (j < 8) × (getD state 9 0 + j < 1024)
     argument-place = let f = h .few in let q = h .kinds .inside in (omega arith, omega arith)
 
-    pub argument-kind : sourceByte t (getD state 8 0 + j) ≡ getD ks j 0
+    pub argument-kind : sourceByte t (getD state 9 0 + j) ≡ getD ks j 0
     argument-kind =
-        let e : 16448 + (getD state 8 0 + j) ≡ 16448 + getD state 8 0 + j = omega arith in
-        ap (λ (n : ℕ). getD t n 0) e ∙ stands-nth t (16448 + getD state 8 0) ks j (h .kinds .stands) i
+        let e : 16448 + (getD state 9 0 + j) ≡ 16448 + getD state 9 0 + j = omega arith in
+        ap (λ (n : ℕ). getD t n 0) e ∙ stands-nth t (16448 + getD state 9 0) ks j (h .kinds .stands) i
 
     -- Where the argument ends is kept.
-    pub learnt : (e : ℕ) → e ≡ startOf x state ts j + length (bytesOf x (nth ts j)) → Node x t input (set state j e) l given ts ks × Same state (set state j e)
+    pub learnt : (e : ℕ) → e ≡ startOf x state ts j + length (bytesOf x (nth ts j)) → Node x t input (set state (j + 1) e) l given ts ks × Same state (set state (j + 1) e)
     learnt e q =
         let f = h .few in
-        let eight : getD (set state j e) 8 0 ≡ getD state 8 0 = getD-set-other state j 8 e 0 (λ z. omega arith) in
-        let nine : getD (set state j e) 9 0 ≡ getD state 9 0 = getD-set-other state j 9 e 0 (λ z. omega arith) in (
+        let nine : getD (set state (j + 1) e) 9 0 ≡ getD state 9 0 = getD-set-other state (j + 1) 9 e 0 (λ z. omega arith) in
+        let first : getD (set state (j + 1) e) 0 0 ≡ getD state 0 0 = getD-set-other state (j + 1) 0 e 0 (λ z. omega arith) in (
           record {
-            long = length-set state j e ∙ h .long;
-            kinds = rw eight (h .kinds);
+            long = length-set state (j + 1) e ∙ h .long;
+            kinds = rw nine (h .kinds);
             few = h .few;
             typed = h .typed;
-            stands = rw nine (h .stands);
-            some = rw nine (h .some);
-            known = λ m k. rw nine (by m k);
+            stands = rw first (h .stands);
+            some = rw first (h .some);
+            known = λ m k. rw first (by m k);
           },
-          record { from = eight; start = nine },
+          record { from = nine; start = first },
         )
       where
-        by : (m : ℕ) → m < 8 → (getD (set state j e) m 0 ≡ 0) ⊎ (getD (set state j e) m 0 ≡ startOf x state ts (m + 1))
+        by : (m : ℕ) → m < 8 → (getD (set state (j + 1) e) (m + 1) 0 ≡ 0) ⊎ (getD (set state (j + 1) e) (m + 1) 0 ≡ startOf x state ts (m + 1))
         by m k = by-test (eqb m j)
             (λ z. let d = eqb-true m j z in inr (rw d here))
-            (λ z. let d = getD-set-other state j m e 0 (eqb-false m j z) in rw d (h .known m k))
+            (λ z. let d = getD-set-other state (j + 1) (m + 1) e 0 (λ y. eqb-false m j z (omega arith)) in rw d (h .known m k))
           where
-            here : getD (set state j e) j 0 ≡ startOf x state ts (j + 1)
+            here : getD (set state (j + 1) e) (j + 1) 0 ≡ startOf x state ts (j + 1)
             here =
                 let f = h .few in
                 let g = h .long in
                 let n : j + 1 ≡ suc j = omega arith in
                 let y = length-append (allBytes x (front j ts)) (bytesOf x (nth ts j)) in
                 let w : length (allBytes x (front (suc j) ts)) ≡ length (allBytes x (front j ts) ++ bytesOf x (nth ts j)) = ap length (front-next x l given j (h .typed) i) in
-                getD-set-same state j e 0 (omega arith) ∙ rw n (omega arith)
+                getD-set-same state (j + 1) e 0 (omega arith) ∙ rw n (omega arith)
 
   -- The end of all arguments.
-  pub last-end : startOf x state ts (length ks) ≡ getD state 9 0 + length (allBytes x ts)
+  pub last-end : startOf x state ts (length ks) ≡ getD state 0 0 + length (allBytes x ts)
   last-end = rw (front-all x l given (h .typed))
 
 -- The term at a position is a leaf: so many bytes, and its run is itself.
@@ -772,9 +772,9 @@ tells x t f given input at u k g h = tells-by t f given input at (g .ready) x (g
 -- A node of which nothing is known but where its argument kinds and its arguments start.
 pub record Fresh (state : List ℕ) (from start : ℕ) : Type 0 where
   pub long : length state ≡ 10
-  pub kinds : getD state 8 0 ≡ from
-  pub starts : getD state 9 0 ≡ start
-  pub none : (j : ℕ) → j < 8 → getD state j 0 ≡ 0
+  pub kinds : getD state 9 0 ≡ from
+  pub starts : getD state 0 0 ≡ start
+  pub none : (j : ℕ) → j < 8 → getD state (j + 1) 0 ≡ 0
 
 -- The run of a production's term, in the terms of the code.
 module _ (x : Syntax) (t : List ℕ) (f : Translation) (given input : List ℕ) (at : ℕ) (u : Terms.Code) (k : ℕ) (table : Given x t f given) (kind : k < 32)
@@ -911,7 +911,7 @@ module _ (x : Syntax) (t : List ℕ) (f : Translation) (given input : List ℕ) 
 abbrev pub FindGives : (x : Syntax) (t input before after : List ℕ) (j e : ℕ) → Type 0
 FindGives x t input before after j e =
     (f : Translation) (given : List ℕ) (ts : Codes) (ks : List ℕ) → FindAsks x t input before j f given ts ks
-    → (e ≡ getD before 9 0 + length (allBytes x (front j ts))) × Node x t input after (f .source) given ts ks × Same before after
+    → (e ≡ getD before 0 0 + length (allBytes x (front j ts))) × Node x t input after (f .source) given ts ks × Same before after
 
 -- The start of argument j is found.
 pub record Found (x : Syntax) (t input before state : List ℕ) (j at : ℕ) (f : Translation) (given : List ℕ) (ts : Codes) (ks : List ℕ) : Type 0 where
@@ -946,7 +946,7 @@ module _ (x : Syntax) (t input before : List ℕ) (deep j : ℕ) (f : Translatio
       }
 
   -- The term that starts there.
-  module _ (state : List ℕ) (at : ℕ) (d : Found x t input before state j at f given ts ks) (kind : ℕ) (ek : kind ≡ sourceByte t (getD state 8 0 + j)) where
+  module _ (state : List ℕ) (at : ℕ) (d : Found x t input before state j at f given ts ks) (kind : ℕ) (ek : kind ≡ sourceByte t (getD state 9 0 + j)) where
     found-term : Term x input at (f .source) given (nth ts j) kind
     found-term =
         let q : kind ≡ getD ks j 0 = ek ∙ argument-kind x t input state (f .source) given ts ks (d .node) j (a .number) in
@@ -967,7 +967,7 @@ module _ (x : Syntax) (t input before : List ℕ) (deep j : ℕ) (f : Translatio
     found-run : bytesOf x (nth (runAll (clausesOf f) ts) j) ≡ bytesOf x (run (clausesOf f) (nth ts j))
     found-run = ap (bytesOf x) (nth-run x (f .source) given f j (d .node .typed) (a .number))
 
-    found-learnt : (e : ℕ) → e ≡ at + length (bytesOf x (nth ts j)) → Node x t input (set state j e) (f .source) given ts ks × Same before (set state j e)
+    found-learnt : (e : ℕ) → e ≡ at + length (bytesOf x (nth ts j)) → Node x t input (set state (j + 1) e) (f .source) given ts ks × Same before (set state (j + 1) e)
     found-learnt e q =
         let w = learnt x t input state (f .source) given ts ks (d .node) j (a .number) e (q ∙ ap (λ (n : ℕ). n + length (bytesOf x (nth ts j))) (d .start)) in
         (w .0, same-then (d .same) (w .1))
@@ -981,7 +981,7 @@ module _ (x : Syntax) (t input before : List ℕ) (deep j : ℕ) (f : Translatio
       leaf-room = let i = found-term .stands .inside in let l = leaf-long in omega arith
 
       pub leaf-gives : (o end : List ℕ) (pos e : ℕ) → Wrote (slice at (at + n) input) o end pos e
-          → Wrote (bytesOf x (nth (runAll (clausesOf f) ts) j)) o end pos e × Node x t input (set state j (at + n)) (f .source) given ts ks × Same before (set state j (at + n))
+          → Wrote (bytesOf x (nth (runAll (clausesOf f) ts) j)) o end pos e × Node x t input (set state (j + 1) (at + n)) (f .source) given ts ks × Same before (set state (j + 1) (at + n))
       leaf-gives o end pos e w =
           let l = found-learnt (at + n) (ap (λ (m : ℕ). at + m) leaf-long) in
           let b : bytesOf x (nth (runAll (clausesOf f) ts) j) ≡ slice at (at + n) input =
@@ -1034,9 +1034,6 @@ module _ (x : Syntax) (t input before : List ℕ) (deep j : ℕ) (f : Translatio
               found-wrote =
                   rw found-run (node-wrote x t f given input at (nth ts j) kind (a .table) (found-term .kind) found-node name en small place from ep ec b c eb ed inner fresh deep found-levels (a .most) after o end pos e gives)
 
-              pub found-full : Wrote (bytesOf x (nth (runAll (clausesOf f) ts) j)) o end pos e × Node x t input state (f .source) given ts ks × Same before state
-              found-full = (found-wrote, d .node, d .same)
-
               module _ (m : ℕ) (em : m ≡ sourceByte t (place + 1)) where
                 pub last-asks : (ts′ : Codes) × (ks′ : List ℕ) × FindAsks x t input after (m - 2) f given ts′ ks′
                 last-asks = (
@@ -1057,20 +1054,20 @@ module _ (x : Syntax) (t input before : List ℕ) (deep j : ℕ) (f : Translatio
                 last-find fin k after′ finds ef = ef ∙ (finds f given (found-node .operands) (found-node .kinds) (last-asks .2) .0 ∙ last-end-is)
 
                 pub found-done : (fin : ℕ) → fin ≡ at + length (bytesOf x (nth ts j))
-                    → Wrote (bytesOf x (nth (runAll (clausesOf f) ts) j)) o end pos e × Node x t input (set state j fin) (f .source) given ts ks × Same before (set state j fin)
+                    → Wrote (bytesOf x (nth (runAll (clausesOf f) ts) j)) o end pos e × Node x t input (set state (j + 1) fin) (f .source) given ts ks × Same before (set state (j + 1) fin)
                 found-done fin q = let l = found-learnt fin q in (found-wrote, l .0, l .1)
 
 -- A new node.
-pub fresh : (from start : ℕ) → Fresh (set (set (replicate 10 0) 8 from) 9 start) from start
+pub fresh : (from start : ℕ) → Fresh (set (set (replicate 10 0) 9 from) 0 start) from start
 fresh from start = record { long = refl; kinds = refl; starts = refl; none = by }
   where
-    by : (j : ℕ) → j < 8 → getD (set (set (replicate 10 0) 8 from) 9 start) j 0 ≡ 0
+    by : (j : ℕ) → j < 8 → getD (set (set (replicate 10 0) 9 from) 0 start) (j + 1) 0 ≡ 0
     by j h =
-        getD-set-other (set (replicate 10 0) 8 from) 9 j start 0 (λ z. omega arith)
-        ∙ (getD-set-other (replicate 10 0) 8 j from 0 (λ z. omega arith) ∙ getD-replicate 10 j 0 0 (omega arith))
+        getD-set-other (set (replicate 10 0) 9 from) 0 (j + 1) start 0 (λ z. omega arith)
+        ∙ (getD-set-other (replicate 10 0) 9 (j + 1) from 0 (λ z. omega arith) ∙ getD-replicate 10 (j + 1) 0 0 (omega arith))
 
-pub fresh-at : (from start start′ : ℕ) → start ≡ start′ → Fresh (set (set (replicate 10 0) 8 from) 9 start) from start′
-fresh-at from start start′ e = subst (λ (n : ℕ). Fresh (set (set (replicate 10 0) 8 from) 9 start) from n) e (fresh from start)
+pub fresh-at : (from start start′ : ℕ) → start ≡ start′ → Fresh (set (set (replicate 10 0) 9 from) 0 start) from start′
+fresh-at from start start′ e = subst (λ (n : ℕ). Fresh (set (set (replicate 10 0) 9 from) 0 start) from n) e (fresh from start)
 
 -- A byte behind a sign.
 pub behind-sign : (input : List ℕ) (at name n m : ℕ) → name ≡ getD input (at + n) 0 → n ≡ m → name ≡ getD input (at + m) 0
@@ -1138,5 +1135,5 @@ module _ (x : Syntax) (t input : List ℕ) (deep k : ℕ) (f : Translation) (giv
           term-gives after o end pos e gives =
               rw transform-run (node-wrote x t f given input 0 u k (a .table) (a .term .kind) term-node name term-name small place from ep ec b c eb ed inner made deep (a .levels) (a .most) after o end pos e gives)
 
-pub fresh-first : (from n m : ℕ) → n ≡ m → Fresh (set (set (replicate 10 0) 8 from) 9 n) from (0 + m)
+pub fresh-first : (from n m : ℕ) → n ≡ m → Fresh (set (set (replicate 10 0) 9 from) 0 n) from (0 + m)
 fresh-first from n m e = let z : n ≡ 0 + m = omega arith in fresh-at from n (0 + m) z

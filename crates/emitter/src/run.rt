@@ -46,10 +46,10 @@ fn run_argument(
     if at == 0 {
         at = find(syntax, table, input, node, j);
     }
-    let kind = source_at(table, node[8] + j);
+    let kind = source_at(table, node[9] + j);
     if is_leaf(syntax, table, kind, input, at) {
         let n = leaf_length(syntax, input, at);
-        node[j] = at + n;
+        node[j + 1] = at + n;
         return put_leaf(input, at, n, output, pos);
     }
     let key = 32 + (kind * 256 + wide(input[at + sign_length(syntax)]));
@@ -57,8 +57,8 @@ fn run_argument(
     let clause = clause_at(table, key);
     let stop = clause + 2 + (body_at(table, clause) * 256 + body_at(table, clause + 1));
     let mut inner = [0usize; 10];
-    inner[8] = place + 4;
-    inner[9] = at + name_length(syntax);
+    inner[9] = place + 4;
+    inner[0] = at + name_length(syntax);
     let p = run_row(
         syntax,
         table,
@@ -71,15 +71,12 @@ fn run_argument(
         output,
         pos,
     );
-    if output.len() < p {
-        return p;
-    }
     let n = source_at(table, place + 1) - 2;
     let mut end = known(&inner, n);
     if end == 0 {
         end = find(syntax, table, input, &mut inner, n);
     }
-    node[j] = end;
+    node[j + 1] = end;
     p
 }
 
@@ -179,8 +176,8 @@ pub fn run(
     let clause = clause_at(table, key);
     let stop = clause + 2 + (body_at(table, clause) * 256 + body_at(table, clause + 1));
     let mut node = [0usize; 10];
-    node[8] = index_at(table, key) + 4;
-    node[9] = name_length(syntax);
+    node[9] = index_at(table, key) + 4;
+    node[0] = name_length(syntax);
     run_row(
         syntax,
         table,

@@ -14,7 +14,7 @@ pub fn known(node: &[usize; 10], j: usize) -> usize
     requires { ⌜ j ≤ 8 ⌝ }
     ensures { λ r. ⌜ r ≡ knownStart (now (node .entry)) j ⌝ }
 {
-    if j == 0 { node[9] } else { node[j - 1] }
+    node[j]
 }
 
 // Where argument j starts: the arguments before it whose end is not known are stepped over.
@@ -27,18 +27,18 @@ pub fn find(
 ) -> usize
     requires { ⌜ ((f : Translation) × (given : List ℕ) × (ts : Codes) × (ks : List ℕ) × FindAsks syntax (now table) (now input) (now node) j f given ts ks) ⌝ }
     ensures { λ r. ⌜ ((f : Translation) (given : List ℕ) (ts : Codes) (ks : List ℕ) → FindAsks syntax (now (table .entry)) (now (input .entry)) (now (node .entry)) j f given ts ks
-        → (r ≡ getD (now (node .entry)) 9 0 + length (allBytes syntax (front j ts)))
+        → (r ≡ getD (now (node .entry)) 0 0 + length (allBytes syntax (front j ts)))
         × Node syntax (now (table .entry)) (now (input .entry)) (now (node .exit)) (f .source) given ts ks
         × Same (now (node .entry)) (now (node .exit))) ⌝ }
 {
-    let from = node[8];
-    let mut p = node[9];
+    let from = node[9];
+    let mut p = node[0];
     let mut i = 0;
     while i < j {
-        let mut e = node[i];
+        let mut e = node[i + 1];
         if e == 0 {
             e = skip(syntax, table, input, from + i, p);
-            node[i] = e;
+            node[i + 1] = e;
         }
         p = e;
         i += 1;

@@ -44,16 +44,16 @@ pub record Term (x : Syntax) (input : List ℕ) (at : ℕ) (l : Language) (given
   pub kind : k < 32
   pub stands : Stands input at (bytesOf x u)
 
--- The node whose arguments ts, of kinds ks, are put out. Up to 8 it has where each argument ends, or 0 where that is not
--- known; then where its argument kinds start in the source, and where its arguments start in the input.
+-- The node whose arguments ts, of kinds ks, are put out. First it has where its arguments start in the input; then, up to
+-- 8, where each argument ends, or 0 where that is not known; last where its argument kinds start in the source.
 pub record Node (x : Syntax) (t input node : List ℕ) (l : Language) (given : List ℕ) (ts : Codes) (ks : List ℕ) : Type 0 where
   pub long : length node ≡ 10
-  pub kinds : KindsAt t (getD node 8 0) ks
+  pub kinds : KindsAt t (getD node 9 0) ks
   pub few : length ks ≤ 8
   pub typed : TypedAll l given ts ks
-  pub stands : Stands input (getD node 9 0) (allBytes x ts)
-  pub some : 0 < getD node 9 0
-  pub known : (j : ℕ) → j < 8 → (getD node j 0 ≡ 0) ⊎ (getD node j 0 ≡ getD node 9 0 + length (allBytes x (front (j + 1) ts)))
+  pub stands : Stands input (getD node 0 0) (allBytes x ts)
+  pub some : 0 < getD node 0 0
+  pub known : (j : ℕ) → j < 8 → (getD node (j + 1) 0 ≡ 0) ⊎ (getD node (j + 1) 0 ≡ getD node 0 0 + length (allBytes x (front (j + 1) ts)))
 
 -- The codes cs stand in the body from `at` up to `stop`; they may use as many arguments as r has kinds.
 pub record Row (t : List ℕ) (at stop : ℕ) (l : Language) (r : List ℕ) (cs : Codes) (js : List ℕ) : Type 0 where
@@ -66,8 +66,8 @@ pub record Row (t : List ℕ) (at stop : ℕ) (l : Language) (r : List ℕ) (cs 
 
 -- The same node, but for what is known of it.
 pub record Same (before after : List ℕ) : Type 0 where
-  pub from : getD after 8 0 ≡ getD before 8 0
-  pub start : getD after 9 0 ≡ getD before 9 0
+  pub from : getD after 9 0 ≡ getD before 9 0
+  pub start : getD after 0 0 ≡ getD before 0 0
 
 -- Stepping over a term whose kind stands in the source at q.
 pub record SkipAsks (x : Syntax) (t input : List ℕ) (q at : ℕ) (f : Translation) (given : List ℕ) (u : Terms.Code) (k : ℕ) : Type 0 where
@@ -125,9 +125,8 @@ signLength Tree = 0
 signLength Code = 1
 
 -- Where argument j starts by what is known of the node, counted from 0; 0 where it is not known.
-unfoldable pub knownStart : List ℕ → ℕ → ℕ
-knownStart state zero = getD state 9 0
-knownStart state (suc j) = getD state j 0
+abbrev pub knownStart : List ℕ → ℕ → ℕ
+knownStart state j = getD state j 0
 
 -- The bytes of the codes, each argument replaced by its run.
 abbrev pub rowBytes : Syntax → Translation → Codes → Codes → List ℕ

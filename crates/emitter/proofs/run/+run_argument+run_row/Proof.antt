@@ -8,7 +8,7 @@ use mathlib.Core.List.{List}
 use Rattle.reader.specs.Code.{Codes}
 use Rattle.translation.specs.Translation.{Translation}
 use Rattle.emitter.specs.Inner.Runs.{ArgumentAsks}
-use Rattle.emitter.proofs.Rows.{RowHeld, going-start, going-end, next-below, next-two, next-narrow, token-three, argument-some, argument-asks, argument-full, argument-turn, named, named-some, named-room, named-full, named-last, named-goes, named-asks-at, inner-full, inner-turn, token-room, token-full, token-turn, Found, find-asks, found-find, found-known, argument-place, found-below, leaf-room, leaf-gives, name-inside, name-room, found-key, found-clause, found-place, found-count, found-deep, found-asks, found-full, last-asks, last-known, last-find, found-done, fresh-at, behind-sign}
+use Rattle.emitter.proofs.Rows.{RowHeld, going-start, going-end, next-below, next-two, next-narrow, token-three, argument-some, argument-asks, argument-full, argument-turn, named, named-some, named-room, named-full, named-last, named-goes, named-asks-at, inner-full, inner-turn, token-room, token-full, token-turn, Found, find-asks, found-find, found-known, argument-place, found-below, leaf-room, leaf-gives, name-inside, name-room, found-key, found-clause, found-place, found-count, found-deep, found-asks, last-asks, last-known, last-find, found-done, fresh-at, behind-sign}
 use borrow.Fn.Kinds.{In}
 use borrow.Fn.PlainCycle.{Measures, is, falls, and}
 use Rattle.emitter.proofs.run.run_argument.Reads as run-argument
@@ -121,29 +121,29 @@ run-argument-sub-run-row t c = omega (arith, found-deep _ _ _ _ _ _ _ _ _ _ (c .
 run-argument-run-row-requires : (t : ℕ) → run-argument-lts.Need-run-row-requires (run-argument-calls t) (run-argument-at t) run-argument.Post
 run-argument-run-row-requires t c κs = let w = found-asks _ _ _ _ _ _ _ _ _ _ (c .before .before .before .before .before .before .before .before .before .before .before .before .before .before .before .before .before .before .before .before .pre .1 .1 .4) _ _ (run-argument-found t (c .before .before .before .before .before .before .before .before .before .before .before .before .before .before .before) (c .before .before .before .before .before .before .before .before .before .before .before .before .before .before .before .before .before .before .before .before .pre .1 .1 .0) (c .before .before .before .before .before .before .before .before .before .before .before .before .before .before .before .before .before .before .before .before .pre .1 .1 .1) (c .before .before .before .before .before .before .before .before .before .before .before .before .before .before .before .before .before .before .before .before .pre .1 .1 .2) (c .before .before .before .before .before .before .before .before .before .before .before .before .before .before .before .before .before .before .before .before .pre .1 .1 .3) (c .before .before .before .before .before .before .before .before .before .before .before .before .before .before .before .before .before .before .before .before .pre .1 .1 .4)) _ (c .before .before .before .before .before .before .before .before .before .before .before .before .before .source-at .ensures .0) (sym (c .before .before .before .before .before .before .before .before .before .before .before .before .is-leaf .ensures) ∙ c .before .before .before .before .before .before .before .before .before .before .before .if2 .left) _ (behind-sign (c .before .before .before .before .before .before .before .before .before .before .before .before .before .before .before .before .before .before .before .before .args .input .now) (c .before .before .before .before .before .before .before .before .before .before .before .before .before .before .before .if1 .at) _ _ _ (c .before .before .before .before .before .before .before .wide .ensures .0) (c .before .before .before .before .before .before .before .before .before .before .sign-length .ensures .0)) (c .before .before .before .before .before .before .before .wide .ensures .1) _ _ (c .before .before .before .before .before .before .index-at .ensures .0) (c .before .before .before .before .before .clause-at .ensures .0) _ _ (c .before .before .before .before .body-at .ensures .0) (c .before .before .before .body-at2 .ensures .0) _ (fresh-at _ _ _ (ap (λ (n : ℕ). c .before .before .before .before .before .before .before .before .before .before .before .before .before .before .before .if1 .at + n) (c .before .before .name-length .ensures .0))) in (omega (arith, c .before .before .before .before .before .before .before .before .before .before .before .before .before .before .before .before .before .before .before .before .pre .0, found-deep _ _ _ _ _ _ _ _ _ _ (c .before .before .before .before .before .before .before .before .before .before .before .before .before .before .before .before .before .before .before .before .pre .1 .1 .4) _ _ (run-argument-found t (c .before .before .before .before .before .before .before .before .before .before .before .before .before .before .before) (c .before .before .before .before .before .before .before .before .before .before .before .before .before .before .before .before .before .before .before .before .pre .1 .1 .0) (c .before .before .before .before .before .before .before .before .before .before .before .before .before .before .before .before .before .before .before .before .pre .1 .1 .1) (c .before .before .before .before .before .before .before .before .before .before .before .before .before .before .before .before .before .before .before .before .pre .1 .1 .2) (c .before .before .before .before .before .before .before .before .before .before .before .before .before .before .before .before .before .before .before .before .pre .1 .1 .3) (c .before .before .before .before .before .before .before .before .before .before .before .before .before .before .before .before .before .before .before .before .pre .1 .1 .4)) _ (c .before .before .before .before .before .before .before .before .before .before .before .before .before .source-at .ensures .0) (sym (c .before .before .before .before .before .before .before .before .before .before .before .before .is-leaf .ensures) ∙ c .before .before .before .before .before .before .before .before .before .before .before .if2 .left) _ (behind-sign (c .before .before .before .before .before .before .before .before .before .before .before .before .before .before .before .before .before .before .before .before .args .input .now) (c .before .before .before .before .before .before .before .before .before .before .before .before .before .before .before .if1 .at) _ _ _ (c .before .before .before .before .before .before .before .wide .ensures .0) (c .before .before .before .before .before .before .before .before .before .before .sign-length .ensures .0)) (c .before .before .before .before .before .before .before .wide .ensures .1) _ _ (c .before .before .before .before .before .before .index-at .ensures .0) (c .before .before .before .before .before .clause-at .ensures .0)), (c .before .before .before .before .before .before .before .before .before .before .before .before .before .before .before .before .before .before .before .before .pre .1 .0, (c .before .before .before .before .before .before .before .before .before .before .before .before .before .before .before .before .before .before .before .before .pre .1 .1 .0, c .before .before .before .before .before .before .before .before .before .before .before .before .before .before .before .before .before .before .before .before .pre .1 .1 .1, w .0, w .1, w .2, w .3, w .4, w .5)))
 
-run-argument-returns-2 : (t : ℕ) → run-argument-lts.Need-returns-2 (run-argument-calls t) (run-argument-at t) run-argument.Post
-run-argument-returns-2 t c = λ f given ts ks a. found-full _ _ _ _ _ _ _ _ _ _ a _ _ (run-argument-found t (c .before .before .before .before .before .before .before .before .before .before .before .before .before .before .before .before .before .before .before) f given ts ks a) _ (c .before .before .before .before .before .before .before .before .before .before .before .before .before .before .before .before .before .source-at .ensures .0) (sym (c .before .before .before .before .before .before .before .before .before .before .before .before .before .before .before .before .is-leaf .ensures) ∙ c .before .before .before .before .before .before .before .before .before .before .before .before .before .before .before .if2 .left) _ (behind-sign (c .before .before .before .before .before .before .before .before .before .before .before .before .before .before .before .before .before .before .before .before .before .before .before .before .args .input .now) (c .before .before .before .before .before .before .before .before .before .before .before .before .before .before .before .before .before .before .before .if1 .at) _ _ _ (c .before .before .before .before .before .before .before .before .before .before .before .wide .ensures .0) (c .before .before .before .before .before .before .before .before .before .before .before .before .before .before .sign-length .ensures .0)) (c .before .before .before .before .before .before .before .before .before .before .before .wide .ensures .1) _ _ (c .before .before .before .before .before .before .before .before .before .before .index-at .ensures .0) (c .before .before .before .before .before .before .before .before .before .clause-at .ensures .0) _ _ (c .before .before .before .before .before .before .before .before .body-at .ensures .0) (c .before .before .before .before .before .before .before .body-at2 .ensures .0) _ (fresh-at _ _ _ (ap (λ (n : ℕ). c .before .before .before .before .before .before .before .before .before .before .before .before .before .before .before .before .before .before .before .if1 .at + n) (c .before .before .before .before .before .before .name-length .ensures .0))) _ _ _ _ _ (c .before .before .before .run-row .ensures)
-
 run-argument-source-at-requires-2 : (t : ℕ) → run-argument-lts.Need-source-at-requires-2 (run-argument-calls t) (run-argument-at t) run-argument.Post
-run-argument-source-at-requires-2 t c κs = omega (arith, found-place _ _ _ _ _ _ _ _ _ _ (c .before .before .before .before .before .before .before .before .before .before .before .before .before .before .before .before .before .before .before .before .before .before .before .before .pre .1 .1 .4) _ _ (run-argument-found t (c .before .before .before .before .before .before .before .before .before .before .before .before .before .before .before .before .before .before .before) (c .before .before .before .before .before .before .before .before .before .before .before .before .before .before .before .before .before .before .before .before .before .before .before .before .pre .1 .1 .0) (c .before .before .before .before .before .before .before .before .before .before .before .before .before .before .before .before .before .before .before .before .before .before .before .before .pre .1 .1 .1) (c .before .before .before .before .before .before .before .before .before .before .before .before .before .before .before .before .before .before .before .before .before .before .before .before .pre .1 .1 .2) (c .before .before .before .before .before .before .before .before .before .before .before .before .before .before .before .before .before .before .before .before .before .before .before .before .pre .1 .1 .3) (c .before .before .before .before .before .before .before .before .before .before .before .before .before .before .before .before .before .before .before .before .before .before .before .before .pre .1 .1 .4)) _ (c .before .before .before .before .before .before .before .before .before .before .before .before .before .before .before .before .before .source-at .ensures .0) (sym (c .before .before .before .before .before .before .before .before .before .before .before .before .before .before .before .before .is-leaf .ensures) ∙ c .before .before .before .before .before .before .before .before .before .before .before .before .before .before .before .if2 .left) _ (behind-sign (c .before .before .before .before .before .before .before .before .before .before .before .before .before .before .before .before .before .before .before .before .before .before .before .before .args .input .now) (c .before .before .before .before .before .before .before .before .before .before .before .before .before .before .before .before .before .before .before .if1 .at) _ _ _ (c .before .before .before .before .before .before .before .before .before .before .before .wide .ensures .0) (c .before .before .before .before .before .before .before .before .before .before .before .before .before .before .sign-length .ensures .0)) (c .before .before .before .before .before .before .before .before .before .before .before .wide .ensures .1) _ _ (c .before .before .before .before .before .before .before .before .before .before .index-at .ensures .0) (c .before .before .before .before .before .before .before .before .before .clause-at .ensures .0))
+run-argument-source-at-requires-2 t c κs = omega (arith, found-place _ _ _ _ _ _ _ _ _ _ (c .before .before .before .before .before .before .before .before .before .before .before .before .before .before .before .before .before .before .before .before .before .before .before .pre .1 .1 .4) _ _ (run-argument-found t (c .before .before .before .before .before .before .before .before .before .before .before .before .before .before .before .before .before .before) (c .before .before .before .before .before .before .before .before .before .before .before .before .before .before .before .before .before .before .before .before .before .before .before .pre .1 .1 .0) (c .before .before .before .before .before .before .before .before .before .before .before .before .before .before .before .before .before .before .before .before .before .before .before .pre .1 .1 .1) (c .before .before .before .before .before .before .before .before .before .before .before .before .before .before .before .before .before .before .before .before .before .before .before .pre .1 .1 .2) (c .before .before .before .before .before .before .before .before .before .before .before .before .before .before .before .before .before .before .before .before .before .before .before .pre .1 .1 .3) (c .before .before .before .before .before .before .before .before .before .before .before .before .before .before .before .before .before .before .before .before .before .before .before .pre .1 .1 .4)) _ (c .before .before .before .before .before .before .before .before .before .before .before .before .before .before .before .before .source-at .ensures .0) (sym (c .before .before .before .before .before .before .before .before .before .before .before .before .before .before .before .is-leaf .ensures) ∙ c .before .before .before .before .before .before .before .before .before .before .before .before .before .before .if2 .left) _ (behind-sign (c .before .before .before .before .before .before .before .before .before .before .before .before .before .before .before .before .before .before .before .before .before .before .before .args .input .now) (c .before .before .before .before .before .before .before .before .before .before .before .before .before .before .before .before .before .before .if1 .at) _ _ _ (c .before .before .before .before .before .before .before .before .before .before .wide .ensures .0) (c .before .before .before .before .before .before .before .before .before .before .before .before .before .sign-length .ensures .0)) (c .before .before .before .before .before .before .before .before .before .before .wide .ensures .1) _ _ (c .before .before .before .before .before .before .before .before .before .index-at .ensures .0) (c .before .before .before .before .before .before .before .before .clause-at .ensures .0))
 
 run-argument-sub-n : (t : ℕ) → run-argument-lts.Need-sub-n (run-argument-calls t) (run-argument-at t) run-argument.Post
-run-argument-sub-n t c = omega (arith, found-count _ _ _ _ _ _ _ _ _ _ (c .before .before .before .before .before .before .before .before .before .before .before .before .before .before .before .before .before .before .before .before .before .before .before .before .before .pre .1 .1 .4) _ _ (run-argument-found t (c .before .before .before .before .before .before .before .before .before .before .before .before .before .before .before .before .before .before .before .before) (c .before .before .before .before .before .before .before .before .before .before .before .before .before .before .before .before .before .before .before .before .before .before .before .before .before .pre .1 .1 .0) (c .before .before .before .before .before .before .before .before .before .before .before .before .before .before .before .before .before .before .before .before .before .before .before .before .before .pre .1 .1 .1) (c .before .before .before .before .before .before .before .before .before .before .before .before .before .before .before .before .before .before .before .before .before .before .before .before .before .pre .1 .1 .2) (c .before .before .before .before .before .before .before .before .before .before .before .before .before .before .before .before .before .before .before .before .before .before .before .before .before .pre .1 .1 .3) (c .before .before .before .before .before .before .before .before .before .before .before .before .before .before .before .before .before .before .before .before .before .before .before .before .before .pre .1 .1 .4)) _ (c .before .before .before .before .before .before .before .before .before .before .before .before .before .before .before .before .before .before .source-at .ensures .0) (sym (c .before .before .before .before .before .before .before .before .before .before .before .before .before .before .before .before .before .is-leaf .ensures) ∙ c .before .before .before .before .before .before .before .before .before .before .before .before .before .before .before .before .if2 .left) _ (behind-sign (c .before .before .before .before .before .before .before .before .before .before .before .before .before .before .before .before .before .before .before .before .before .before .before .before .before .args .input .now) (c .before .before .before .before .before .before .before .before .before .before .before .before .before .before .before .before .before .before .before .before .if1 .at) _ _ _ (c .before .before .before .before .before .before .before .before .before .before .before .before .wide .ensures .0) (c .before .before .before .before .before .before .before .before .before .before .before .before .before .before .before .sign-length .ensures .0)) (c .before .before .before .before .before .before .before .before .before .before .before .before .wide .ensures .1) _ _ (c .before .before .before .before .before .before .before .before .before .before .before .index-at .ensures .0) (c .before .before .before .before .before .before .before .before .before .before .clause-at .ensures .0) _ (c .source-at2 .ensures .0) .0)
+run-argument-sub-n t c = omega (arith, found-count _ _ _ _ _ _ _ _ _ _ (c .before .before .before .before .before .before .before .before .before .before .before .before .before .before .before .before .before .before .before .before .before .before .before .before .pre .1 .1 .4) _ _ (run-argument-found t (c .before .before .before .before .before .before .before .before .before .before .before .before .before .before .before .before .before .before .before) (c .before .before .before .before .before .before .before .before .before .before .before .before .before .before .before .before .before .before .before .before .before .before .before .before .pre .1 .1 .0) (c .before .before .before .before .before .before .before .before .before .before .before .before .before .before .before .before .before .before .before .before .before .before .before .before .pre .1 .1 .1) (c .before .before .before .before .before .before .before .before .before .before .before .before .before .before .before .before .before .before .before .before .before .before .before .before .pre .1 .1 .2) (c .before .before .before .before .before .before .before .before .before .before .before .before .before .before .before .before .before .before .before .before .before .before .before .before .pre .1 .1 .3) (c .before .before .before .before .before .before .before .before .before .before .before .before .before .before .before .before .before .before .before .before .before .before .before .before .pre .1 .1 .4)) _ (c .before .before .before .before .before .before .before .before .before .before .before .before .before .before .before .before .before .source-at .ensures .0) (sym (c .before .before .before .before .before .before .before .before .before .before .before .before .before .before .before .before .is-leaf .ensures) ∙ c .before .before .before .before .before .before .before .before .before .before .before .before .before .before .before .if2 .left) _ (behind-sign (c .before .before .before .before .before .before .before .before .before .before .before .before .before .before .before .before .before .before .before .before .before .before .before .before .args .input .now) (c .before .before .before .before .before .before .before .before .before .before .before .before .before .before .before .before .before .before .before .if1 .at) _ _ _ (c .before .before .before .before .before .before .before .before .before .before .before .wide .ensures .0) (c .before .before .before .before .before .before .before .before .before .before .before .before .before .before .sign-length .ensures .0)) (c .before .before .before .before .before .before .before .before .before .before .before .wide .ensures .1) _ _ (c .before .before .before .before .before .before .before .before .before .before .index-at .ensures .0) (c .before .before .before .before .before .before .before .before .before .clause-at .ensures .0) _ (c .source-at2 .ensures .0) .0)
 
 run-argument-known-requires-2 : (t : ℕ) → run-argument-lts.Need-known-requires-2 (run-argument-calls t) (run-argument-at t) run-argument.Post
-run-argument-known-requires-2 t c κs = found-count _ _ _ _ _ _ _ _ _ _ (c .before .before .before .before .before .before .before .before .before .before .before .before .before .before .before .before .before .before .before .before .before .before .before .before .before .before .pre .1 .1 .4) _ _ (run-argument-found t (c .before .before .before .before .before .before .before .before .before .before .before .before .before .before .before .before .before .before .before .before .before) (c .before .before .before .before .before .before .before .before .before .before .before .before .before .before .before .before .before .before .before .before .before .before .before .before .before .before .pre .1 .1 .0) (c .before .before .before .before .before .before .before .before .before .before .before .before .before .before .before .before .before .before .before .before .before .before .before .before .before .before .pre .1 .1 .1) (c .before .before .before .before .before .before .before .before .before .before .before .before .before .before .before .before .before .before .before .before .before .before .before .before .before .before .pre .1 .1 .2) (c .before .before .before .before .before .before .before .before .before .before .before .before .before .before .before .before .before .before .before .before .before .before .before .before .before .before .pre .1 .1 .3) (c .before .before .before .before .before .before .before .before .before .before .before .before .before .before .before .before .before .before .before .before .before .before .before .before .before .before .pre .1 .1 .4)) _ (c .before .before .before .before .before .before .before .before .before .before .before .before .before .before .before .before .before .before .before .source-at .ensures .0) (sym (c .before .before .before .before .before .before .before .before .before .before .before .before .before .before .before .before .before .before .is-leaf .ensures) ∙ c .before .before .before .before .before .before .before .before .before .before .before .before .before .before .before .before .before .if2 .left) _ (behind-sign (c .before .before .before .before .before .before .before .before .before .before .before .before .before .before .before .before .before .before .before .before .before .before .before .before .before .before .args .input .now) (c .before .before .before .before .before .before .before .before .before .before .before .before .before .before .before .before .before .before .before .before .before .if1 .at) _ _ _ (c .before .before .before .before .before .before .before .before .before .before .before .before .before .wide .ensures .0) (c .before .before .before .before .before .before .before .before .before .before .before .before .before .before .before .before .sign-length .ensures .0)) (c .before .before .before .before .before .before .before .before .before .before .before .before .before .wide .ensures .1) _ _ (c .before .before .before .before .before .before .before .before .before .before .before .before .index-at .ensures .0) (c .before .before .before .before .before .before .before .before .before .before .before .clause-at .ensures .0) _ (c .before .source-at2 .ensures .0) .1
+run-argument-known-requires-2 t c κs = found-count _ _ _ _ _ _ _ _ _ _ (c .before .before .before .before .before .before .before .before .before .before .before .before .before .before .before .before .before .before .before .before .before .before .before .before .before .pre .1 .1 .4) _ _ (run-argument-found t (c .before .before .before .before .before .before .before .before .before .before .before .before .before .before .before .before .before .before .before .before) (c .before .before .before .before .before .before .before .before .before .before .before .before .before .before .before .before .before .before .before .before .before .before .before .before .before .pre .1 .1 .0) (c .before .before .before .before .before .before .before .before .before .before .before .before .before .before .before .before .before .before .before .before .before .before .before .before .before .pre .1 .1 .1) (c .before .before .before .before .before .before .before .before .before .before .before .before .before .before .before .before .before .before .before .before .before .before .before .before .before .pre .1 .1 .2) (c .before .before .before .before .before .before .before .before .before .before .before .before .before .before .before .before .before .before .before .before .before .before .before .before .before .pre .1 .1 .3) (c .before .before .before .before .before .before .before .before .before .before .before .before .before .before .before .before .before .before .before .before .before .before .before .before .before .pre .1 .1 .4)) _ (c .before .before .before .before .before .before .before .before .before .before .before .before .before .before .before .before .before .before .source-at .ensures .0) (sym (c .before .before .before .before .before .before .before .before .before .before .before .before .before .before .before .before .before .is-leaf .ensures) ∙ c .before .before .before .before .before .before .before .before .before .before .before .before .before .before .before .before .if2 .left) _ (behind-sign (c .before .before .before .before .before .before .before .before .before .before .before .before .before .before .before .before .before .before .before .before .before .before .before .before .before .args .input .now) (c .before .before .before .before .before .before .before .before .before .before .before .before .before .before .before .before .before .before .before .before .if1 .at) _ _ _ (c .before .before .before .before .before .before .before .before .before .before .before .before .wide .ensures .0) (c .before .before .before .before .before .before .before .before .before .before .before .before .before .before .before .sign-length .ensures .0)) (c .before .before .before .before .before .before .before .before .before .before .before .before .wide .ensures .1) _ _ (c .before .before .before .before .before .before .before .before .before .before .before .index-at .ensures .0) (c .before .before .before .before .before .before .before .before .before .before .clause-at .ensures .0) _ (c .before .source-at2 .ensures .0) .1
 
 run-argument-find-requires-2 : (t : ℕ) → run-argument-lts.Need-find-requires-2 (run-argument-calls t) (run-argument-at t) run-argument.Post
-run-argument-find-requires-2 t c κs = let w = last-asks _ _ _ _ _ _ _ _ _ _ (c .before .before .before .before .before .before .before .before .before .before .before .before .before .before .before .before .before .before .before .before .before .before .before .before .before .before .before .before .before .pre .1 .1 .4) _ _ (run-argument-found t (c .before .before .before .before .before .before .before .before .before .before .before .before .before .before .before .before .before .before .before .before .before .before .before .before) (c .before .before .before .before .before .before .before .before .before .before .before .before .before .before .before .before .before .before .before .before .before .before .before .before .before .before .before .before .before .pre .1 .1 .0) (c .before .before .before .before .before .before .before .before .before .before .before .before .before .before .before .before .before .before .before .before .before .before .before .before .before .before .before .before .before .pre .1 .1 .1) (c .before .before .before .before .before .before .before .before .before .before .before .before .before .before .before .before .before .before .before .before .before .before .before .before .before .before .before .before .before .pre .1 .1 .2) (c .before .before .before .before .before .before .before .before .before .before .before .before .before .before .before .before .before .before .before .before .before .before .before .before .before .before .before .before .before .pre .1 .1 .3) (c .before .before .before .before .before .before .before .before .before .before .before .before .before .before .before .before .before .before .before .before .before .before .before .before .before .before .before .before .before .pre .1 .1 .4)) _ (c .before .before .before .before .before .before .before .before .before .before .before .before .before .before .before .before .before .before .before .before .before .before .source-at .ensures .0) (sym (c .before .before .before .before .before .before .before .before .before .before .before .before .before .before .before .before .before .before .before .before .before .is-leaf .ensures) ∙ c .before .before .before .before .before .before .before .before .before .before .before .before .before .before .before .before .before .before .before .before .if2 .left) _ (behind-sign (c .before .before .before .before .before .before .before .before .before .before .before .before .before .before .before .before .before .before .before .before .before .before .before .before .before .before .before .before .before .args .input .now) (c .before .before .before .before .before .before .before .before .before .before .before .before .before .before .before .before .before .before .before .before .before .before .before .before .if1 .at) _ _ _ (c .before .before .before .before .before .before .before .before .before .before .before .before .before .before .before .before .wide .ensures .0) (c .before .before .before .before .before .before .before .before .before .before .before .before .before .before .before .before .before .before .before .sign-length .ensures .0)) (c .before .before .before .before .before .before .before .before .before .before .before .before .before .before .before .before .wide .ensures .1) _ _ (c .before .before .before .before .before .before .before .before .before .before .before .before .before .before .before .index-at .ensures .0) (c .before .before .before .before .before .before .before .before .before .before .before .before .before .before .clause-at .ensures .0) _ _ (c .before .before .before .before .before .before .before .before .before .before .before .before .before .body-at .ensures .0) (c .before .before .before .before .before .before .before .before .before .before .before .before .body-at2 .ensures .0) _ (fresh-at _ _ _ (ap (λ (n : ℕ). c .before .before .before .before .before .before .before .before .before .before .before .before .before .before .before .before .before .before .before .before .before .before .before .before .if1 .at + n) (c .before .before .before .before .before .before .before .before .before .before .before .name-length .ensures .0))) _ _ _ _ _ (c .before .before .before .before .before .before .before .before .run-row .ensures) _ (c .before .before .before .before .source-at2 .ensures .0) in (c .before .before .before .before .before .before .before .before .before .before .before .before .before .before .before .before .before .before .before .before .before .before .before .before .before .before .before .before .before .pre .1 .1 .0, c .before .before .before .before .before .before .before .before .before .before .before .before .before .before .before .before .before .before .before .before .before .before .before .before .before .before .before .before .before .pre .1 .1 .1, w .0, w .1, w .2)
+run-argument-find-requires-2 t c κs = let w = last-asks _ _ _ _ _ _ _ _ _ _ (c .before .before .before .before .before .before .before .before .before .before .before .before .before .before .before .before .before .before .before .before .before .before .before .before .before .before .before .before .pre .1 .1 .4) _ _ (run-argument-found t (c .before .before .before .before .before .before .before .before .before .before .before .before .before .before .before .before .before .before .before .before .before .before .before) (c .before .before .before .before .before .before .before .before .before .before .before .before .before .before .before .before .before .before .before .before .before .before .before .before .before .before .before .before .pre .1 .1 .0) (c .before .before .before .before .before .before .before .before .before .before .before .before .before .before .before .before .before .before .before .before .before .before .before .before .before .before .before .before .pre .1 .1 .1) (c .before .before .before .before .before .before .before .before .before .before .before .before .before .before .before .before .before .before .before .before .before .before .before .before .before .before .before .before .pre .1 .1 .2) (c .before .before .before .before .before .before .before .before .before .before .before .before .before .before .before .before .before .before .before .before .before .before .before .before .before .before .before .before .pre .1 .1 .3) (c .before .before .before .before .before .before .before .before .before .before .before .before .before .before .before .before .before .before .before .before .before .before .before .before .before .before .before .before .pre .1 .1 .4)) _ (c .before .before .before .before .before .before .before .before .before .before .before .before .before .before .before .before .before .before .before .before .before .source-at .ensures .0) (sym (c .before .before .before .before .before .before .before .before .before .before .before .before .before .before .before .before .before .before .before .before .is-leaf .ensures) ∙ c .before .before .before .before .before .before .before .before .before .before .before .before .before .before .before .before .before .before .before .if2 .left) _ (behind-sign (c .before .before .before .before .before .before .before .before .before .before .before .before .before .before .before .before .before .before .before .before .before .before .before .before .before .before .before .before .args .input .now) (c .before .before .before .before .before .before .before .before .before .before .before .before .before .before .before .before .before .before .before .before .before .before .before .if1 .at) _ _ _ (c .before .before .before .before .before .before .before .before .before .before .before .before .before .before .before .wide .ensures .0) (c .before .before .before .before .before .before .before .before .before .before .before .before .before .before .before .before .before .before .sign-length .ensures .0)) (c .before .before .before .before .before .before .before .before .before .before .before .before .before .before .before .wide .ensures .1) _ _ (c .before .before .before .before .before .before .before .before .before .before .before .before .before .before .index-at .ensures .0) (c .before .before .before .before .before .before .before .before .before .before .before .before .before .clause-at .ensures .0) _ _ (c .before .before .before .before .before .before .before .before .before .before .before .before .body-at .ensures .0) (c .before .before .before .before .before .before .before .before .before .before .before .body-at2 .ensures .0) _ (fresh-at _ _ _ (ap (λ (n : ℕ). c .before .before .before .before .before .before .before .before .before .before .before .before .before .before .before .before .before .before .before .before .before .before .before .if1 .at + n) (c .before .before .before .before .before .before .before .before .before .before .name-length .ensures .0))) _ _ _ _ _ (c .before .before .before .before .before .before .before .run-row .ensures) _ (c .before .before .before .before .source-at2 .ensures .0) in (c .before .before .before .before .before .before .before .before .before .before .before .before .before .before .before .before .before .before .before .before .before .before .before .before .before .before .before .before .pre .1 .1 .0, c .before .before .before .before .before .before .before .before .before .before .before .before .before .before .before .before .before .before .before .before .before .before .before .before .before .before .before .before .pre .1 .1 .1, w .0, w .1, w .2)
+
+run-argument-add-node-3 : (t : ℕ) → run-argument-lts.Need-add-node-3 (run-argument-calls t) (run-argument-at t) run-argument.Post
+run-argument-add-node-3 t c = omega (arith, argument-place _ _ _ _ _ _ _ _ ((run-argument-found t (c .before .before .before .before .before .before .before .before .before .before .before .before .before .before .before .before .before .before .before .before .before .before) (c .before .before .before .before .before .before .before .before .before .before .before .before .before .before .before .before .before .before .before .before .before .before .before .before .before .before .before .pre .1 .1 .0) (c .before .before .before .before .before .before .before .before .before .before .before .before .before .before .before .before .before .before .before .before .before .before .before .before .before .before .before .pre .1 .1 .1) (c .before .before .before .before .before .before .before .before .before .before .before .before .before .before .before .before .before .before .before .before .before .before .before .before .before .before .before .pre .1 .1 .2) (c .before .before .before .before .before .before .before .before .before .before .before .before .before .before .before .before .before .before .before .before .before .before .before .before .before .before .before .pre .1 .1 .3) (c .before .before .before .before .before .before .before .before .before .before .before .before .before .before .before .before .before .before .before .before .before .before .before .before .before .before .before .pre .1 .1 .4)) .node) _ (c .before .before .before .before .before .before .before .before .before .before .before .before .before .before .before .before .before .before .before .before .before .before .before .before .before .before .before .pre .1 .1 .4 .number) .0)
 
 run-argument-mul-node-2 : (t : ℕ) → run-argument-lts.Need-mul-node-2 (run-argument-calls t) (run-argument-at t) run-argument.Post
-run-argument-mul-node-2 t c = omega (arith, argument-place _ _ _ _ _ _ _ _ ((run-argument-found t (c .before .before .before .before .before .before .before .before .before .before .before .before .before .before .before .before .before .before .before .before .before .before .before) (c .before .before .before .before .before .before .before .before .before .before .before .before .before .before .before .before .before .before .before .before .before .before .before .before .before .before .before .before .pre .1 .1 .0) (c .before .before .before .before .before .before .before .before .before .before .before .before .before .before .before .before .before .before .before .before .before .before .before .before .before .before .before .before .pre .1 .1 .1) (c .before .before .before .before .before .before .before .before .before .before .before .before .before .before .before .before .before .before .before .before .before .before .before .before .before .before .before .before .pre .1 .1 .2) (c .before .before .before .before .before .before .before .before .before .before .before .before .before .before .before .before .before .before .before .before .before .before .before .before .before .before .before .before .pre .1 .1 .3) (c .before .before .before .before .before .before .before .before .before .before .before .before .before .before .before .before .before .before .before .before .before .before .before .before .before .before .before .before .pre .1 .1 .4)) .node) _ (c .before .before .before .before .before .before .before .before .before .before .before .before .before .before .before .before .before .before .before .before .before .before .before .before .before .before .before .before .pre .1 .1 .4 .number) .0)
+run-argument-mul-node-2 t c = omega (arith, argument-place _ _ _ _ _ _ _ _ ((run-argument-found t (c .before .before .before .before .before .before .before .before .before .before .before .before .before .before .before .before .before .before .before .before .before .before) (c .before .before .before .before .before .before .before .before .before .before .before .before .before .before .before .before .before .before .before .before .before .before .before .before .before .before .before .pre .1 .1 .0) (c .before .before .before .before .before .before .before .before .before .before .before .before .before .before .before .before .before .before .before .before .before .before .before .before .before .before .before .pre .1 .1 .1) (c .before .before .before .before .before .before .before .before .before .before .before .before .before .before .before .before .before .before .before .before .before .before .before .before .before .before .before .pre .1 .1 .2) (c .before .before .before .before .before .before .before .before .before .before .before .before .before .before .before .before .before .before .before .before .before .before .before .before .before .before .before .pre .1 .1 .3) (c .before .before .before .before .before .before .before .before .before .before .before .before .before .before .before .before .before .before .before .before .before .before .before .before .before .before .before .pre .1 .1 .4)) .node) _ (c .before .before .before .before .before .before .before .before .before .before .before .before .before .before .before .before .before .before .before .before .before .before .before .before .before .before .before .pre .1 .1 .4 .number) .0)
 
 run-argument-element-write-node-2 : (t : ℕ) → run-argument-lts.Need-element-write-node-2 (run-argument-calls t) (run-argument-at t) run-argument.Post
-run-argument-element-write-node-2 t c = omega (arith, argument-place _ _ _ _ _ _ _ _ ((run-argument-found t (c .before .before .before .before .before .before .before .before .before .before .before .before .before .before .before .before .before .before .before .before .before .before .before) (c .before .before .before .before .before .before .before .before .before .before .before .before .before .before .before .before .before .before .before .before .before .before .before .before .before .before .before .before .pre .1 .1 .0) (c .before .before .before .before .before .before .before .before .before .before .before .before .before .before .before .before .before .before .before .before .before .before .before .before .before .before .before .before .pre .1 .1 .1) (c .before .before .before .before .before .before .before .before .before .before .before .before .before .before .before .before .before .before .before .before .before .before .before .before .before .before .before .before .pre .1 .1 .2) (c .before .before .before .before .before .before .before .before .before .before .before .before .before .before .before .before .before .before .before .before .before .before .before .before .before .before .before .before .pre .1 .1 .3) (c .before .before .before .before .before .before .before .before .before .before .before .before .before .before .before .before .before .before .before .before .before .before .before .before .before .before .before .before .pre .1 .1 .4)) .node) _ (c .before .before .before .before .before .before .before .before .before .before .before .before .before .before .before .before .before .before .before .before .before .before .before .before .before .before .before .before .pre .1 .1 .4 .number) .0)
+run-argument-element-write-node-2 t c = omega (arith, argument-place _ _ _ _ _ _ _ _ ((run-argument-found t (c .before .before .before .before .before .before .before .before .before .before .before .before .before .before .before .before .before .before .before .before .before .before) (c .before .before .before .before .before .before .before .before .before .before .before .before .before .before .before .before .before .before .before .before .before .before .before .before .before .before .before .pre .1 .1 .0) (c .before .before .before .before .before .before .before .before .before .before .before .before .before .before .before .before .before .before .before .before .before .before .before .before .before .before .before .pre .1 .1 .1) (c .before .before .before .before .before .before .before .before .before .before .before .before .before .before .before .before .before .before .before .before .before .before .before .before .before .before .before .pre .1 .1 .2) (c .before .before .before .before .before .before .before .before .before .before .before .before .before .before .before .before .before .before .before .before .before .before .before .before .before .before .before .pre .1 .1 .3) (c .before .before .before .before .before .before .before .before .before .before .before .before .before .before .before .before .before .before .before .before .before .before .before .before .before .before .before .pre .1 .1 .4)) .node) _ (c .before .before .before .before .before .before .before .before .before .before .before .before .before .before .before .before .before .before .before .before .before .before .before .before .before .before .before .pre .1 .1 .4 .number) .0)
 
-run-argument-returns-3 : (t : ℕ) → run-argument-lts.Need-returns-3 (run-argument-calls t) (run-argument-at t) run-argument.Post
-run-argument-returns-3 t c = λ f given ts ks a. found-done _ _ _ _ _ _ _ _ _ _ a _ _ (run-argument-found t (c .before .before .before .before .before .before .before .before .before .before .before .before .before .before .before .before .before .before .before .before .before .before .before) f given ts ks a) _ (c .before .before .before .before .before .before .before .before .before .before .before .before .before .before .before .before .before .before .before .before .before .source-at .ensures .0) (sym (c .before .before .before .before .before .before .before .before .before .before .before .before .before .before .before .before .before .before .before .before .is-leaf .ensures) ∙ c .before .before .before .before .before .before .before .before .before .before .before .before .before .before .before .before .before .before .before .if2 .left) _ (behind-sign (c .before .before .before .before .before .before .before .before .before .before .before .before .before .before .before .before .before .before .before .before .before .before .before .before .before .before .before .before .args .input .now) (c .before .before .before .before .before .before .before .before .before .before .before .before .before .before .before .before .before .before .before .before .before .before .before .if1 .at) _ _ _ (c .before .before .before .before .before .before .before .before .before .before .before .before .before .before .before .wide .ensures .0) (c .before .before .before .before .before .before .before .before .before .before .before .before .before .before .before .before .before .before .sign-length .ensures .0)) (c .before .before .before .before .before .before .before .before .before .before .before .before .before .before .before .wide .ensures .1) _ _ (c .before .before .before .before .before .before .before .before .before .before .before .before .before .before .index-at .ensures .0) (c .before .before .before .before .before .before .before .before .before .before .before .before .before .clause-at .ensures .0) _ _ (c .before .before .before .before .before .before .before .before .before .before .before .before .body-at .ensures .0) (c .before .before .before .before .before .before .before .before .before .before .before .body-at2 .ensures .0) _ (fresh-at _ _ _ (ap (λ (n : ℕ). c .before .before .before .before .before .before .before .before .before .before .before .before .before .before .before .before .before .before .before .before .before .before .before .if1 .at + n) (c .before .before .before .before .before .before .before .before .before .before .name-length .ensures .0))) _ _ _ _ _ (c .before .before .before .before .before .before .before .run-row .ensures) _ (c .before .before .before .source-at2 .ensures .0) _ (⊎-elim (λ w. last-find _ _ _ _ _ _ _ _ _ _ a _ _ (run-argument-found t (c .before .before .before .before .before .before .before .before .before .before .before .before .before .before .before .before .before .before .before .before .before .before .before) f given ts ks a) _ (c .before .before .before .before .before .before .before .before .before .before .before .before .before .before .before .before .before .before .before .before .before .source-at .ensures .0) (sym (c .before .before .before .before .before .before .before .before .before .before .before .before .before .before .before .before .before .before .before .before .is-leaf .ensures) ∙ c .before .before .before .before .before .before .before .before .before .before .before .before .before .before .before .before .before .before .before .if2 .left) _ (behind-sign (c .before .before .before .before .before .before .before .before .before .before .before .before .before .before .before .before .before .before .before .before .before .before .before .before .before .before .before .before .args .input .now) (c .before .before .before .before .before .before .before .before .before .before .before .before .before .before .before .before .before .before .before .before .before .before .before .if1 .at) _ _ _ (c .before .before .before .before .before .before .before .before .before .before .before .before .before .before .before .wide .ensures .0) (c .before .before .before .before .before .before .before .before .before .before .before .before .before .before .before .before .before .before .sign-length .ensures .0)) (c .before .before .before .before .before .before .before .before .before .before .before .before .before .before .before .wide .ensures .1) _ _ (c .before .before .before .before .before .before .before .before .before .before .before .before .before .before .index-at .ensures .0) (c .before .before .before .before .before .before .before .before .before .before .before .before .before .clause-at .ensures .0) _ _ (c .before .before .before .before .before .before .before .before .before .before .before .before .body-at .ensures .0) (c .before .before .before .before .before .before .before .before .before .before .before .body-at2 .ensures .0) _ (fresh-at _ _ _ (ap (λ (n : ℕ). c .before .before .before .before .before .before .before .before .before .before .before .before .before .before .before .before .before .before .before .before .before .before .before .if1 .at + n) (c .before .before .before .before .before .before .before .before .before .before .name-length .ensures .0))) _ _ _ _ _ (c .before .before .before .before .before .before .before .run-row .ensures) _ (c .before .before .before .source-at2 .ensures .0) _ _ _ (w .2 .ensures) (w .3)) (λ w. last-known _ _ _ _ _ _ _ _ _ _ a _ _ (run-argument-found t (c .before .before .before .before .before .before .before .before .before .before .before .before .before .before .before .before .before .before .before .before .before .before .before) f given ts ks a) _ (c .before .before .before .before .before .before .before .before .before .before .before .before .before .before .before .before .before .before .before .before .before .source-at .ensures .0) (sym (c .before .before .before .before .before .before .before .before .before .before .before .before .before .before .before .before .before .before .before .before .is-leaf .ensures) ∙ c .before .before .before .before .before .before .before .before .before .before .before .before .before .before .before .before .before .before .before .if2 .left) _ (behind-sign (c .before .before .before .before .before .before .before .before .before .before .before .before .before .before .before .before .before .before .before .before .before .before .before .before .before .before .before .before .args .input .now) (c .before .before .before .before .before .before .before .before .before .before .before .before .before .before .before .before .before .before .before .before .before .before .before .if1 .at) _ _ _ (c .before .before .before .before .before .before .before .before .before .before .before .before .before .before .before .wide .ensures .0) (c .before .before .before .before .before .before .before .before .before .before .before .before .before .before .before .before .before .before .sign-length .ensures .0)) (c .before .before .before .before .before .before .before .before .before .before .before .before .before .before .before .wide .ensures .1) _ _ (c .before .before .before .before .before .before .before .before .before .before .before .before .before .before .index-at .ensures .0) (c .before .before .before .before .before .before .before .before .before .before .before .before .before .clause-at .ensures .0) _ _ (c .before .before .before .before .before .before .before .before .before .before .before .before .body-at .ensures .0) (c .before .before .before .before .before .before .before .before .before .before .before .body-at2 .ensures .0) _ (fresh-at _ _ _ (ap (λ (n : ℕ). c .before .before .before .before .before .before .before .before .before .before .before .before .before .before .before .before .before .before .before .before .before .before .before .if1 .at + n) (c .before .before .before .before .before .before .before .before .before .before .name-length .ensures .0))) _ _ _ _ _ (c .before .before .before .before .before .before .before .run-row .ensures) _ (c .before .before .before .source-at2 .ensures .0) _ _ (c .before .known2 .ensures) (w .0 .left) (w .1)) (c .if4 .came))
+run-argument-returns-2 : (t : ℕ) → run-argument-lts.Need-returns-2 (run-argument-calls t) (run-argument-at t) run-argument.Post
+run-argument-returns-2 t c = λ f given ts ks a. found-done _ _ _ _ _ _ _ _ _ _ a _ _ (run-argument-found t (c .before .before .before .before .before .before .before .before .before .before .before .before .before .before .before .before .before .before .before .before .before .before) f given ts ks a) _ (c .before .before .before .before .before .before .before .before .before .before .before .before .before .before .before .before .before .before .before .before .source-at .ensures .0) (sym (c .before .before .before .before .before .before .before .before .before .before .before .before .before .before .before .before .before .before .before .is-leaf .ensures) ∙ c .before .before .before .before .before .before .before .before .before .before .before .before .before .before .before .before .before .before .if2 .left) _ (behind-sign (c .before .before .before .before .before .before .before .before .before .before .before .before .before .before .before .before .before .before .before .before .before .before .before .before .before .before .before .args .input .now) (c .before .before .before .before .before .before .before .before .before .before .before .before .before .before .before .before .before .before .before .before .before .before .if1 .at) _ _ _ (c .before .before .before .before .before .before .before .before .before .before .before .before .before .before .wide .ensures .0) (c .before .before .before .before .before .before .before .before .before .before .before .before .before .before .before .before .before .sign-length .ensures .0)) (c .before .before .before .before .before .before .before .before .before .before .before .before .before .before .wide .ensures .1) _ _ (c .before .before .before .before .before .before .before .before .before .before .before .before .before .index-at .ensures .0) (c .before .before .before .before .before .before .before .before .before .before .before .before .clause-at .ensures .0) _ _ (c .before .before .before .before .before .before .before .before .before .before .before .body-at .ensures .0) (c .before .before .before .before .before .before .before .before .before .before .body-at2 .ensures .0) _ (fresh-at _ _ _ (ap (λ (n : ℕ). c .before .before .before .before .before .before .before .before .before .before .before .before .before .before .before .before .before .before .before .before .before .before .if1 .at + n) (c .before .before .before .before .before .before .before .before .before .name-length .ensures .0))) _ _ _ _ _ (c .before .before .before .before .before .before .run-row .ensures) _ (c .before .before .before .source-at2 .ensures .0) _ (⊎-elim (λ w. last-find _ _ _ _ _ _ _ _ _ _ a _ _ (run-argument-found t (c .before .before .before .before .before .before .before .before .before .before .before .before .before .before .before .before .before .before .before .before .before .before) f given ts ks a) _ (c .before .before .before .before .before .before .before .before .before .before .before .before .before .before .before .before .before .before .before .before .source-at .ensures .0) (sym (c .before .before .before .before .before .before .before .before .before .before .before .before .before .before .before .before .before .before .before .is-leaf .ensures) ∙ c .before .before .before .before .before .before .before .before .before .before .before .before .before .before .before .before .before .before .if2 .left) _ (behind-sign (c .before .before .before .before .before .before .before .before .before .before .before .before .before .before .before .before .before .before .before .before .before .before .before .before .before .before .before .args .input .now) (c .before .before .before .before .before .before .before .before .before .before .before .before .before .before .before .before .before .before .before .before .before .before .if1 .at) _ _ _ (c .before .before .before .before .before .before .before .before .before .before .before .before .before .before .wide .ensures .0) (c .before .before .before .before .before .before .before .before .before .before .before .before .before .before .before .before .before .sign-length .ensures .0)) (c .before .before .before .before .before .before .before .before .before .before .before .before .before .before .wide .ensures .1) _ _ (c .before .before .before .before .before .before .before .before .before .before .before .before .before .index-at .ensures .0) (c .before .before .before .before .before .before .before .before .before .before .before .before .clause-at .ensures .0) _ _ (c .before .before .before .before .before .before .before .before .before .before .before .body-at .ensures .0) (c .before .before .before .before .before .before .before .before .before .before .body-at2 .ensures .0) _ (fresh-at _ _ _ (ap (λ (n : ℕ). c .before .before .before .before .before .before .before .before .before .before .before .before .before .before .before .before .before .before .before .before .before .before .if1 .at + n) (c .before .before .before .before .before .before .before .before .before .name-length .ensures .0))) _ _ _ _ _ (c .before .before .before .before .before .before .run-row .ensures) _ (c .before .before .before .source-at2 .ensures .0) _ _ _ (w .2 .ensures) (w .3)) (λ w. last-known _ _ _ _ _ _ _ _ _ _ a _ _ (run-argument-found t (c .before .before .before .before .before .before .before .before .before .before .before .before .before .before .before .before .before .before .before .before .before .before) f given ts ks a) _ (c .before .before .before .before .before .before .before .before .before .before .before .before .before .before .before .before .before .before .before .before .source-at .ensures .0) (sym (c .before .before .before .before .before .before .before .before .before .before .before .before .before .before .before .before .before .before .before .is-leaf .ensures) ∙ c .before .before .before .before .before .before .before .before .before .before .before .before .before .before .before .before .before .before .if2 .left) _ (behind-sign (c .before .before .before .before .before .before .before .before .before .before .before .before .before .before .before .before .before .before .before .before .before .before .before .before .before .before .before .args .input .now) (c .before .before .before .before .before .before .before .before .before .before .before .before .before .before .before .before .before .before .before .before .before .before .if1 .at) _ _ _ (c .before .before .before .before .before .before .before .before .before .before .before .before .before .before .wide .ensures .0) (c .before .before .before .before .before .before .before .before .before .before .before .before .before .before .before .before .before .sign-length .ensures .0)) (c .before .before .before .before .before .before .before .before .before .before .before .before .before .before .wide .ensures .1) _ _ (c .before .before .before .before .before .before .before .before .before .before .before .before .before .index-at .ensures .0) (c .before .before .before .before .before .before .before .before .before .before .before .before .clause-at .ensures .0) _ _ (c .before .before .before .before .before .before .before .before .before .before .before .body-at .ensures .0) (c .before .before .before .before .before .before .before .before .before .before .body-at2 .ensures .0) _ (fresh-at _ _ _ (ap (λ (n : ℕ). c .before .before .before .before .before .before .before .before .before .before .before .before .before .before .before .before .before .before .before .before .before .before .if1 .at + n) (c .before .before .before .before .before .before .before .before .before .name-length .ensures .0))) _ _ _ _ _ (c .before .before .before .before .before .before .run-row .ensures) _ (c .before .before .before .source-at2 .ensures .0) _ _ (c .before .known2 .ensures) (w .0 .left) (w .1)) (c .if3 .came))
 
 abbrev run-row-Inv-loop : run-row-lts.InvT-loop
 run-row-Inv-loop syntax table input node₀ deep at stop levels output₀ pos c₀ p₀ left₀ node output c p left =
@@ -238,6 +238,7 @@ pub +run-argument+run-row-spec : {M : Type 1} → statement M
     (run-argument-add-node t)
     (λ c. search needs)
     (λ c. search needs)
+    (λ c. search needs)
     (run-argument-put-leaf-requires t)
     (λ c. search needs)
     (run-argument-returns t)
@@ -266,16 +267,15 @@ pub +run-argument+run-row-spec : {M : Type 1} → statement M
     (λ c. search needs)
     (run-argument-run-row-requires t)
     (λ c. search needs)
-    (run-argument-returns-2 t)
-    (λ c. search needs)
     (run-argument-source-at-requires-2 t)
     (run-argument-sub-n t)
     (run-argument-known-requires-2 t)
     (run-argument-find-requires-2 t)
+    (run-argument-add-node-3 t)
     (run-argument-mul-node-2 t)
     (run-argument-element-write-node-2 t)
     (λ c. search needs)
-    (run-argument-returns-3 t))
+    (run-argument-returns-2 t))
     λ t. run-row-lts.spec (run-row-calls t)
     (run-row-at t)
     run-row.Post
