@@ -59,7 +59,7 @@ parts-at-places s =
     ))
     (λ h. cc (fields-at-places s, whole-is))
 
-good-of : (s : List ℕ) (p : ℕ) → partWhole s p ≡ true → partGood s p ≡ true
+pub good-of : (s : List ℕ) (p : ℕ) → partWhole s p ≡ true → partGood s p ≡ true
 unfolding partWhole
 good-of s p h = and-both (isWhole s p) (partGood s p) h .1
 

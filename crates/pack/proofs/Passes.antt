@@ -16,23 +16,25 @@ use Rattle.fields.specs.declared.outcome.Outcome.{Outcome}
 use Rattle.fields.specs.declared.outcome.Outcome.the-variants.{Accepted, Refused}
 use Rattle.fields.specs.declared.outcome.Reason.the-variants as Why
 use Rattle.fields.specs.Inner.Places.{fieldEnd, isWhole, contentsAt, placesFrom, places, keyAt}
-use Rattle.fields.proofs.Truth.{false-true, some-is}
+use Rattle.fields.proofs.Truth.{false-true, and-both, some-is}
 use Rattle.fields.proofs.Lists.{all-true}
 use Rattle.fields.proofs.Places.{pass-done, pass-next, every-here}
 use Rattle.language.specs.Language.{entryKey, clashes}
 use Rattle.language.specs.LanguageFile.{entriesOf, languageLimit}
-use Rattle.language.specs.Inner.Entries.{resultsMeet}
-use Rattle.language.proofs.Holds.{holds-entries}
+use Rattle.language.specs.Inner.Entries.{entryWhole, resultsMeet}
+use Rattle.language.proofs.Holds.{entries-there, holds-entries}
 use Rattle.language.proofs.Chain.{rising-is}
 use Rattle.language.proofs.Clashes.{clash-is}
 use Rattle.translation.specs.Translation.{itemKey}
 use Rattle.translation.specs.TranslationFile.{bodyOf}
+use Rattle.translation.specs.Inner.Items.{longAt}
 use Rattle.translation.proofs.Items.{holds-items, rising-is as items-rise}
+use Rattle.translation.proofs.Classes.{entries-long, items-long}
 use Rattle.translation.proofs.Found.{cut}
 use Rattle.pack.specs.Pack.{Pack, packParts, packLimit, isLanguageTag, packOf}
 use Rattle.pack.specs.Inner.Parts.{languageAt, bodyAt, partGood, partWhole, partsOrdered, isTag, tagged, risesAt, clashAt}
 use Rattle.pack.proofs.PackCodec.{packRises, packClashes}
-use Rattle.pack.proofs.ByPlace.{part-cases, and-swap, and-join, parts-there, HoldsParts, holds-parts, wholes}
+use Rattle.pack.proofs.ByPlace.{good-of, part-cases, and-swap, and-join, parts-there, HoldsParts, holds-parts}
 
 -- part_whole, rises_at and clash_at: the field at p ends at e
 module _ (s : List ℕ) (p e : ℕ) (ee : e ≡ fieldEnd s p) where
@@ -81,13 +83,17 @@ module _ (s : List ℕ) (p e : ℕ) (ee : e ≡ fieldEnd s p) where
     unfolding clashAt
     clash-language h ex = cc (lent, eq-eqb tag 0x30 h)
 
--- A field that is whole ends in the file, and those after it are whole.
+-- A field that is whole ends in the file, and what holds at each place holds after it.
 pub ends-in : (s : List ℕ) (p e : ℕ) → e ≡ fieldEnd s p → isWhole s p ≡ true → e ≤ length s
 unfolding isWhole
 ends-in s p e h w = rw h (leb-true (fieldEnd s p) (length s) w)
 
-pub whole-next : (s : List ℕ) (p e : ℕ) → e ≡ fieldEnd s p → all (isWhole s) (placesFrom s p) ≡ true → p < length s → all (isWhole s) (placesFrom s e) ≡ true
-whole-next s p e h inv here = rw h (every-here (isWhole s) s p inv here .1)
+pub part-ends : (s : List ℕ) (p e : ℕ) → e ≡ fieldEnd s p → partWhole s p ≡ true → e ≤ length s
+unfolding partWhole
+part-ends s p e h w = ends-in s p e h (and-both (isWhole s p) (partGood s p) w .0)
+
+pub whole-next : (f : ℕ → Bool) (s : List ℕ) (p e : ℕ) → e ≡ fieldEnd s p → all f (placesFrom s p) ≡ true → p < length s → all f (placesFrom s e) ≡ true
+whole-next f s p e h inv here = rw h (every-here f s p inv here .1)
 
 -- parts_ordered
 module _ (s : List ℕ) (last p : ℕ) (x : Bool) (inv : partsOrdered s last (placesFrom s p) ≡ x) where
@@ -160,6 +166,31 @@ module _ (s : List ℕ) (p : ℕ) where
   unfolding bodyAt
   body-is h = let r = some-is (bodyOf (contentsAt s p)) h in rw (r .1)
 
+-- rises_at and clash_at: the bytes that are lent of a whole part
+module _ (s : List ℕ) (p e : ℕ) (ee : e ≡ fieldEnd s p) (tag : ℕ) (et : tag ≡ getD s p 0) where
+  module _ (w : partWhole s p ≡ true) where
+    pub entries-in : tag ≡ 0x30 → all (entryWhole (cut s (p + 3) e)) (places (cut s (p + 3) e)) ≡ true
+    unfolding partGood
+    entries-in h =
+        let i : isSome (entriesOf (contentsAt s p)) ≡ true = rw (← et, eq-eqb tag 0x30 h) at (good-of s p w) in
+        entries-there (cut s (p + 3) e) ∙ (ap (λ (c : List ℕ). isSome (entriesOf c)) (lent s p e ee) ∙ i)
+
+    pub entries-long-in : tag ≡ 0x30 → all (longAt (cut s (p + 3) e)) (places (cut s (p + 3) e)) ≡ true
+    entries-long-in h = entries-long (cut s (p + 3) e) (entries-in h)
+
+    pub items-long-in : (tag ≡ 0x30 → ⊥) → tag ≡ 0x31 → all (longAt (cut s (p + 3) e)) (places (cut s (p + 3) e)) ≡ true
+    unfolding partGood
+    items-long-in n h =
+        let i : isSome (bodyOf (contentsAt s p)) ≡ true = rw (← et, ne-eqb tag 0x30 n, eq-eqb tag 0x31 h) at (good-of s p w) in
+        let l : all (longAt (contentsAt s p)) (places (contentsAt s p)) ≡ true = items-long (contentsAt s p) (holds-items _ _ (body-is s p i) .whole) in
+        ap (λ (c : List ℕ). all (longAt c) (places c)) (lent s p e ee) ∙ l
+
+  pub entries-rise : risesAt s p ≡ true → tag ≡ 0x30 → rising (keyAt 0x11 (cut s (p + 3) e)) (places (cut s (p + 3) e)) ≡ true
+  unfolding risesAt
+  entries-rise r h =
+      let i : rising (keyAt 0x11 (contentsAt s p)) (places (contentsAt s p)) ≡ true = rw (← et, eq-eqb tag 0x30 h) at r in
+      ap (λ (c : List ℕ). rising (keyAt 0x11 c) (places c)) (lent s p e ee) ∙ i
+
 -- The keys of all languages and bodies rise where they do at each place.
 rises-places : (s l : List ℕ) → all (partWhole s) l ≡ true
     → all (risesAt s) l ≡ (all (rising entryKey) (map (languageAt s) (keep (isTag 0x30 s) l)) && all (rising itemKey) (map (bodyAt s) (keep (isTag 0x31 s) l)))
@@ -228,8 +259,8 @@ module _ (s : List ℕ) (over : Bool) (eo : over ≡ (ltb packLimit (length s) |
       holds : HoldsParts s (held .0)
       holds = holds-parts s (held .0) (held .1)
 
-      pub each-whole : all (isWhole s) (places s) ≡ true
-      each-whole = wholes s (places s) (holds .parts)
+      pub each-whole : all (partWhole s) (places s) ≡ true
+      each-whole = holds .parts
 
       opened : (p : Pack) → packParts s ≡ some p → packOf s ≡ refuseIf (not (packRises p)) Why.Order (refuseIf (packClashes p) Why.Clash (value p))
       unfolding packOf

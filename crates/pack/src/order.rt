@@ -4,31 +4,31 @@ ghost use mathlib.Core.Bool.{true};
 ghost use Prim.Native.Nat.{_≤_};
 ghost use lib.ListN.{length};
 ghost use Rattle.fields.specs.Lists.{all, any};
-ghost use Rattle.fields.specs.Inner.Places.{EndsAt, isWhole, places};
-ghost use Rattle.pack.specs.Inner.Parts.{risesAt, clashAt};
+ghost use Rattle.fields.specs.Inner.Places.{EndsAt, places};
+ghost use Rattle.pack.specs.Inner.Parts.{partWhole, risesAt, clashAt};
 use fields::bytes::byte_at;
 use fields::walk::field_end;
-use fields::walk::keys_rise;
-use language::clash::results_meet;
+use translation::clash::class_results;
+use translation::walk::whole_rise;
 
-// The keys of the field at p, which ends at e, rise, if it is a language or a body.
+// The keys of the part at p, which ends at e, rise, if it is a language or a body.
 fn rises_at(s: &[u8], p: usize, e: usize) -> bool
-    requires { ⌜ EndsAt (now s) p e × (e ≤ length (now s)) ⌝ }
+    requires { ⌜ EndsAt (now s) p e × (e ≤ length (now s)) × (partWhole (now s) p ≡ true) ⌝ }
     ensures { λ r. ⌜ r ≡ risesAt (now (s .entry)) p ⌝ }
 {
     let tag = byte_at(s, p);
     if tag == 0x30 {
-        return keys_rise(&s[p + 3..e], 0x11);
+        return whole_rise(&s[p + 3..e], 0x11);
     }
     if tag == 0x31 {
-        return keys_rise(&s[p + 3..e], 0x22);
+        return whole_rise(&s[p + 3..e], 0x22);
     }
     true
 }
 
 // The keys rise in every language and in every body.
 pub fn in_order(s: &[u8]) -> bool
-    requires { ⌜ all (isWhole (now s)) (places (now s)) ≡ true ⌝ }
+    requires { ⌜ all (partWhole (now s)) (places (now s)) ≡ true ⌝ }
     ensures { λ r. ⌜ r ≡ all (risesAt (now (s .entry))) (places (now (s .entry))) ⌝ }
 {
     let mut p = 0;
@@ -42,20 +42,20 @@ pub fn in_order(s: &[u8]) -> bool
     true
 }
 
-// The field at p, which ends at e, is a language in which a result is a class.
+// The part at p, which ends at e and whose keys rise, is a language in which a result is a class.
 fn clash_at(s: &[u8], p: usize, e: usize) -> bool
-    requires { ⌜ EndsAt (now s) p e × (e ≤ length (now s)) ⌝ }
+    requires { ⌜ EndsAt (now s) p e × (e ≤ length (now s)) × (partWhole (now s) p ≡ true) × (risesAt (now s) p ≡ true) ⌝ }
     ensures { λ r. ⌜ r ≡ clashAt (now (s .entry)) p ⌝ }
 {
     if byte_at(s, p) != 0x30 {
         return false;
     }
-    results_meet(&s[p + 3..e], &s[p + 3..e])
+    class_results(&s[p + 3..e])
 }
 
 // In some language a result is a class.
 pub fn languages_clash(s: &[u8]) -> bool
-    requires { ⌜ all (isWhole (now s)) (places (now s)) ≡ true ⌝ }
+    requires { ⌜ (all (partWhole (now s)) (places (now s)) ≡ true) × (all (risesAt (now s)) (places (now s)) ≡ true) ⌝ }
     ensures { λ r. ⌜ r ≡ any (clashAt (now (s .entry))) (places (now (s .entry))) ⌝ }
 {
     let mut p = 0;

@@ -1,3 +1,4 @@
+use mathlib.Core.Path.{sym, _∙_}
 use borrow.Author.Tests.{not-true, not-false}
 use Rattle.pack.proofs.Passes.{over-refused, broken-refused, each-whole, order-refused, clash-refused, pack-accepted}
 use borrow.Author.Needs.{needs}
@@ -25,7 +26,7 @@ returns-3 : tie.Need-returns-3
 returns-3 c = order-refused _ _ (c .before .before .before .before .before .before .over-limit .ensures) (c .before .before .before .before .before .if1 .left) _ (c .before .before .before .before .parts-whole .ensures) (not-false _ (c .before .before .before .if2 .left)) _ (c .before .before .in-order .ensures) (not-true _ (c .before .if3 .taken)) (c .refuse3 .ensures)
 
 languages-clash-requires : tie.Need-languages-clash-requires
-languages-clash-requires c κs = each-whole _ _ (c .before .before .before .before .before .over-limit .ensures) (c .before .before .before .before .if1 .left) _ (c .before .before .before .parts-whole .ensures) (not-false _ (c .before .before .if2 .left))
+languages-clash-requires c κs = (each-whole _ _ (c .before .before .before .before .before .over-limit .ensures) (c .before .before .before .before .if1 .left) _ (c .before .before .before .parts-whole .ensures) (not-false _ (c .before .before .if2 .left)), sym (c .before .in-order .ensures) ∙ not-false _ (c .if3 .left))
 
 returns-4 : tie.Need-returns-4
 returns-4 c = clash-refused _ _ (c .before .before .before .before .before .before .before .before .over-limit .ensures) (c .before .before .before .before .before .before .before .if1 .left) _ (c .before .before .before .before .before .before .parts-whole .ensures) (not-false _ (c .before .before .before .before .before .if2 .left)) _ (c .before .before .before .before .in-order .ensures) (not-false _ (c .before .before .before .if3 .left)) _ (c .before .before .languages-clash .ensures) (c .before .if4 .taken) (c .refuse4 .ensures)

@@ -30,10 +30,10 @@ returns : tie.Need-returns Inv-loop μ-loop
 returns c = stands-here _ _ _ _ _ (c .before .before .before .before .before .loop .inv .1) _ (c .before .before .before .field-end .ensures .is) (c .before .before .before .before .loop-test .taken) _ (c .before .before .byte-at .ensures) (c .before .if1 .taken) (c .if2 .taken) (every-here _ _ _ (c .before .before .before .before .before .loop .inv .0) (c .before .before .before .before .loop-test .taken) .0)
 
 loop-again : tie.Need-loop-again Inv-loop μ-loop
-loop-again c = (whole-next _ _ _ (c .before .before .before .field-end .ensures .is) (c .before .before .before .before .before .loop .inv .0) (c .before .before .before .before .loop-test .taken), place-next _ _ _ _ _ (c .before .before .before .before .before .loop .inv .1) _ (c .before .before .before .field-end .ensures .is) (c .before .before .before .before .loop-test .taken) _ (c .before .before .byte-at .ensures) (c .before .if1 .taken) (c .if2 .left))
+loop-again c = (whole-next _ _ _ _ (c .before .before .before .field-end .ensures .is) (c .before .before .before .before .before .loop .inv .0) (c .before .before .before .before .loop-test .taken), place-next _ _ _ _ _ (c .before .before .before .before .before .loop .inv .1) _ (c .before .before .before .field-end .ensures .is) (c .before .before .before .before .loop-test .taken) _ (c .before .before .byte-at .ensures) (c .before .if1 .taken) (c .if2 .left))
 
 loop-again-2 : tie.Need-loop-again-2 Inv-loop μ-loop
-loop-again-2 c = (whole-next _ _ _ (c .before .before .field-end .ensures .is) (c .before .before .before .before .loop .inv .0) (c .before .before .before .loop-test .taken), place-other _ _ _ _ _ (c .before .before .before .before .loop .inv .1) _ (c .before .before .field-end .ensures .is) (c .before .before .before .loop-test .taken) _ (c .before .byte-at .ensures) (c .if1 .left))
+loop-again-2 c = (whole-next _ _ _ _ (c .before .before .field-end .ensures .is) (c .before .before .before .before .loop .inv .0) (c .before .before .before .loop-test .taken), place-other _ _ _ _ _ (c .before .before .before .before .loop .inv .1) _ (c .before .before .field-end .ensures .is) (c .before .before .before .loop-test .taken) _ (c .before .byte-at .ensures) (c .if1 .left))
 
 returns-2 : tie.Need-returns-2 Inv-loop μ-loop
 returns-2 c = record { past = omega arith; inside = omega arith; is = λ q e. place-none (c .before .before .before .args .tag) (c .before .before .before .args .s .now) (c .before .loop .p) (c .before .loop .left) _ (c .before .loop .inv .1) (c .loop-test .left) q e }
