@@ -37,13 +37,14 @@ use Rattle.operators.specs.Inner.Parts.{Stores}
 use Rattle.operators.specs.Inner.Values.{translationBytes, Gives}
 use Rattle.operators.proofs.Proper.{good-proper}
 use Rattle.operators.proofs.IdentitySound.{sound-identity}
-use Rattle.operators.proofs.Splices.{put-unwanted, both-then}
+use Rattle.operators.proofs.Splices.{put-unwanted, both-full, both-then}
 use Rattle.operators.proofs.Turns.{Progress, progress-start}
 use Rattle.values.specs.Inner.Assembled.{assembled}
 use Rattle.values.specs.Inner.Kept.{writtenFrom}
 use Rattle.values.specs.Inner.SameItems.{kindItem, kindItems, clauseItem}
 use Rattle.values.proofs.Given.{gives-refused, stored-first}
 use Rattle.values.proofs.Accepted.{language-entries, language-written, assembled-given, body-over}
+use Rattle.values.proofs.Keeping.{walk-next, walk-done}
 
 -- put_kind
 pub kind-stored : (l : Language) (k : ℕ) (there : Bool) → there ≡ isIn l k → (o o′ : List ℕ) (n : ℕ) (x : Stored)
@@ -128,27 +129,47 @@ module _ (s : List ℕ) (p tag : ℕ) (et : tag ≡ byteAt s p) where
         let d : x ≡ 2 * length ks = omega (arith, m, ex, b .0) in
         subst (λ (v : List ℕ). Stores v o o′ n y) (same-item r q x ks h d ∙ sym (ap (λ (a : Entry). encodeFields (map itemField (identityClause a))) z)) k
 
--- put_clauses: where it is
-pub record Claused (a o out : List ℕ) (p n : ℕ) : Type 0 where
-  pub progress : Progress (writtenFrom (clauseItem a) a 0) (writtenFrom (clauseItem a) a p) o out n
+-- put_clauses: where it is, and what comes of the clauses from there on
+pub record Claused (a o out : List ℕ) (from p n : ℕ) : Type 0 where
+  pub rest : (out′ : List ℕ) (x : Stored) → Stores (writtenFrom (clauseItem a) a p) out out′ n x → Stores (writtenFrom (clauseItem a) a 0) o out′ from x
   pub whole : all (entryWhole a) (placesFrom a p) ≡ true
   pub room : n ≤ length out
   pub long : length out ≡ length o
 
-pub claused-start : (a o : List ℕ) → (l : Language) × (entriesOf a ≡ some l) → Claused a o o 0 0
-claused-start a o e = record {
-  progress = progress-start (writtenFrom (clauseItem a) a 0) o;
+pub claused-start : (a o : List ℕ) (from : ℕ) → (l : Language) × (entriesOf a ≡ some l) → from ≤ length o → Claused a o o from 0 from
+claused-start a o from e room = record {
+  rest = λ out′ x w. w;
   whole = entries-whole a e;
-  room = omega arith;
+  room = room;
   long = refl;
 }
 
-module _ (a : List ℕ) (p : ℕ) (w : all (entryWhole a) (placesFrom a p) ≡ true) (here : p < length a) where
-  pub entry-here : entryWhole a p ≡ true
-  entry-here = every-here (entryWhole a) a p w here .0
+module _ (a o out : List ℕ) (from p n : ℕ) (h : Claused a o out from p n) where
+  -- the clause at p is written, or it did not fit
+  module _ (here : p < length a) (e : ℕ) (ee : e ≡ fieldEnd a p) (out′ : List ℕ) (x : Stored) (w : Stores (clauseItem a p) out out′ n x) where
+    pub claused-full : x ≡ Full → Stores (writtenFrom (clauseItem a) a 0) o out′ from Full
+    claused-full f =
+        h .rest out′ Full (subst (λ (v : List ℕ). Stores v out out′ n Full) (sym (walk-next (clauseItem a) a p here e ee))
+        (both-full (clauseItem a p) (writtenFrom (clauseItem a) a e) out out′ n x w f))
 
-  pub entries-next : (e : ℕ) → e ≡ fieldEnd a p → all (entryWhole a) (placesFrom a e) ≡ true
-  entries-next e ee = rw ee (every-here (entryWhole a) a p w here .1)
+    pub claused-next : (m : ℕ) → x ≡ To m → length out′ ≡ length out → Claused a o out′ from e m
+    claused-next m d l = record {
+      rest = λ out″ y u.
+          h .rest out″ y (subst (λ (v : List ℕ). Stores v out out″ n y) (sym (walk-next (clauseItem a) a p here e ee))
+          (both-then (clauseItem a p) (writtenFrom (clauseItem a) a e) out out′ n x w m d out″ y l u));
+      whole = rw ee (every-here (entryWhole a) a p (h .whole) here .1);
+      room = omega (arith, w .done m d .fits);
+      long = l ∙ h .long;
+    }
+
+  -- no clause is left
+  pub claused-done : length a ≤ p → Stores (writtenFrom (clauseItem a) a 0) o out from (To n)
+  claused-done past =
+      h .rest out (To n) (subst (λ (v : List ℕ). Stores v out out n (To n)) (sym (walk-done (clauseItem a) a p past))
+      (put-unwanted false [] out n refl (h .room)))
+
+pub entry-here : (a : List ℕ) (p : ℕ) → all (entryWhole a) (placesFrom a p) ≡ true → p < length a → entryWhole a p ≡ true
+entry-here a p w here = every-here (entryWhole a) a p w here .0
 
 -- The bytes of items, one after the other.
 map-append : {A B : Type 0} (f : A → B) (l m : List A) → map f (l ++ m) ≡ map f l ++ map f m
@@ -191,26 +212,19 @@ module _ (s : List ℕ) (l : Language) (e : languageOf s ≡ value l) where
   pub identity-over : (o : List ℕ) → 4096 < length (kindItems l 0 ++ writtenFrom (clauseItem s) s 0) → Gives (translationBytes (value (identityOf l))) o o (Refused Limit)
   identity-over o h = gives-refused _ o o Limit (body-over (identityOf l) (omega (arith, ap length (same-bytes s l (language-entries s l e))))) refl
 
-  -- the mappings did not fit, or the clauses
+  -- the mappings did not fit
   pub kinds-over : (o d d′ : List ℕ) (x : Stored) → Stores (kindItems l 0) d d′ 0 x → x ≡ Full → length d ≡ 4096
       → Gives (translationBytes (value (identityOf l))) o o (Refused Limit)
   kinds-over o d d′ x w f n = identity-over o (omega (arith, w .full f, length-append (kindItems l 0) (writtenFrom (clauseItem s) s 0)))
 
-  pub clauses-over : (o d d′ : List ℕ) (x : Stored) → Stores (writtenFrom (clauseItem s) s 0) d d′ 0 x → x ≡ Full → length d ≡ 4096
-      → Gives (translationBytes (value (identityOf l))) o o (Refused Limit)
-  clauses-over o d d′ x w f n = identity-over o (omega (arith, w .full f, length-append (kindItems l 0) (writtenFrom (clauseItem s) s 0)))
-
   -- the clauses behind the mappings
   module _ (d d₁ d₂ : List ℕ) (n : length d ≡ 4096) (long : length d₁ ≡ length d) (i : ℕ) (x : Stored) (w : Stores (kindItems l 0) d d₁ 0 x) (ex : x ≡ To i)
-      (c c₁ : List ℕ) (j : ℕ) (y : Stored) (v : Stores (writtenFrom (clauseItem s) s 0) c c₁ 0 y) (ey : y ≡ To j)
-      (z : Stored) (u : Stores (slice 0 j c₁) d₁ d₂ i z) where
+      (z : Stored) (u : Stores (writtenFrom (clauseItem s) s 0) d₁ d₂ i z) where
     pub same-stored : Stores (kindItems l 0 ++ writtenFrom (clauseItem s) s 0) d d₂ 0 z
-    same-stored =
-        both-then (kindItems l 0) (writtenFrom (clauseItem s) s 0) d d₁ 0 x w i ex d₂ z long
-        (subst (λ (r : List ℕ). Stores r d₁ d₂ i z) (stored-first _ c c₁ j y v ey) u)
+    same-stored = both-then (kindItems l 0) (writtenFrom (clauseItem s) s 0) d d₁ 0 x w i ex d₂ z long u
 
-    pub both-over : (o : List ℕ) → z ≡ Full → Gives (translationBytes (value (identityOf l))) o o (Refused Limit)
-    both-over o f = identity-over o (omega (arith, same-stored .full f))
+    pub clauses-over : (o : List ℕ) → z ≡ Full → Gives (translationBytes (value (identityOf l))) o o (Refused Limit)
+    clauses-over o f = identity-over o (omega (arith, same-stored .full f))
 
     pub identity-given : ((i : ℕ) → byteAt s i < 256) → (k : ℕ) → z ≡ To k → (o o′ : List ℕ) (r : Outcome)
         → Gives (refuseIf (ltb 4096 (length (assembled s s (take k d₂)))) Limit (value (assembled s s (take k d₂)))) o o′ r

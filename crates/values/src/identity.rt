@@ -20,7 +20,6 @@ use fields::outcome::Outcome;
 use fields::outcome::Reason;
 use fields::walk::field_end;
 use operators::copy::Stored;
-use operators::copy::put;
 use operators::copy::put_both;
 use operators::copy::put_if;
 use reader::kinds::is_in;
@@ -67,13 +66,13 @@ fn put_clause(a: &[u8], p: usize, e: usize, out: &mut [u8], n: usize) -> Stored
     put_both(&head, 0, 7, arguments, 0, size, out, n)
 }
 
-// The clauses of all productions, into the output from its start.
-fn put_clauses(a: &[u8], out: &mut [u8]) -> Stored
-    requires { ⌜ ((l : Language) × (entriesOf (now a) ≡ some l)) ⌝ }
-    ensures { λ r. ⌜ Stores (writtenFrom (clauseItem (now (a .entry))) (now (a .entry)) 0) (now (out .entry)) (now (out .exit)) 0 r ⌝ }
+// The clauses of all productions, into the output from a place on.
+fn put_clauses(a: &[u8], out: &mut [u8], from: usize) -> Stored
+    requires { ⌜ ((l : Language) × (entriesOf (now a) ≡ some l)) × (from ≤ length (now out)) ⌝ }
+    ensures { λ r. ⌜ Stores (writtenFrom (clauseItem (now (a .entry))) (now (a .entry)) 0) (now (out .entry)) (now (out .exit)) from r ⌝ }
 {
     let mut p = 0;
-    let mut n = 0;
+    let mut n = from;
     while p < a.len() {
         let e = field_end(a, p);
         let Stored::To(m) = put_clause(a, p, e, out, n) else {
@@ -95,11 +94,7 @@ pub fn identity(a: &[u8], out: &mut [u8]) -> Outcome
     let Stored::To(i) = put_kinds(a, &mut body) else {
         return Outcome::Refused(Reason::Limit);
     };
-    let mut clauses = [0u8; 4096];
-    let Stored::To(j) = put_clauses(a, &mut clauses) else {
-        return Outcome::Refused(Reason::Limit);
-    };
-    let Stored::To(k) = put(&clauses, 0, j, &mut body, i) else {
+    let Stored::To(k) = put_clauses(a, &mut body, i) else {
         return Outcome::Refused(Reason::Limit);
     };
     assemble(a, a, &body[..k], out)
