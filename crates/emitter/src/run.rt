@@ -30,21 +30,22 @@ fn run_argument(
     syntax: Syntax,
     table: &[u16; 25664],
     input: &[u8],
+    ends: &[u32],
     node: &mut [usize; 10],
     deep: usize,
     j: usize,
     output: &mut [u8],
     pos: usize,
 ) -> usize
-    requires { ⌜ (pos ≤ length (now output)) × ((f : Translation) × (given : List ℕ) × (ts : Codes) × (ks : List ℕ) × ArgumentAsks syntax (now table) (now input) (now node) deep j f given ts ks) ⌝ }
-    ensures { λ r. ⌜ ((f : Translation) (given : List ℕ) (ts : Codes) (ks : List ℕ) → ArgumentAsks syntax (now (table .entry)) (now (input .entry)) (now (node .entry)) deep j f given ts ks
+    requires { ⌜ (pos ≤ length (now output)) × ((f : Translation) × (given : List ℕ) × (ts : Codes) × (ks : List ℕ) × ArgumentAsks syntax (now table) (now input) (now ends) (now node) deep j f given ts ks) ⌝ }
+    ensures { λ r. ⌜ ((f : Translation) (given : List ℕ) (ts : Codes) (ks : List ℕ) → ArgumentAsks syntax (now (table .entry)) (now (input .entry)) (now (ends .entry)) (now (node .entry)) deep j f given ts ks
         → Wrote (bytesOf syntax (nth (runAll (clausesOf f) ts) j)) (now (output .entry)) (now (output .exit)) pos r
         × Node syntax (now (table .entry)) (now (input .entry)) (now (node .exit)) (f .source) given ts ks
         × Same (now (node .entry)) (now (node .exit))) ⌝ }
 {
     let mut at = known(node, j);
     if at == 0 {
-        at = find(syntax, table, input, node, j);
+        at = find(syntax, table, input, ends, node, j);
     }
     let kind = source_at(table, node[9] + j);
     if is_leaf(syntax, table, kind, input, at) {
@@ -63,6 +64,7 @@ fn run_argument(
         syntax,
         table,
         input,
+        ends,
         &mut inner,
         deep - 1,
         clause + 4,
@@ -74,7 +76,7 @@ fn run_argument(
     let n = source_at(table, place + 1) - 2;
     let mut end = known(&inner, n);
     if end == 0 {
-        end = find(syntax, table, input, &mut inner, n);
+        end = find(syntax, table, input, ends, &mut inner, n);
     }
     node[j + 1] = end;
     p
@@ -86,6 +88,7 @@ fn run_row(
     syntax: Syntax,
     table: &[u16; 25664],
     input: &[u8],
+    ends: &[u32],
     node: &mut [usize; 10],
     deep: usize,
     at: usize,
@@ -94,8 +97,8 @@ fn run_row(
     output: &mut [u8],
     pos: usize,
 ) -> usize
-    requires { ⌜ (pos ≤ length (now output)) × ((f : Translation) × (given : List ℕ) × (ts : Codes) × (ks r : List ℕ) × (cs : Codes) × (js : List ℕ) × RowAsks syntax (now table) (now input) (now node) deep at stop levels f given ts ks r cs js) ⌝ }
-    ensures { λ o. ⌜ ((f : Translation) (given : List ℕ) (ts : Codes) (ks r : List ℕ) (cs : Codes) (js : List ℕ) → RowAsks syntax (now (table .entry)) (now (input .entry)) (now (node .entry)) deep at stop levels f given ts ks r cs js
+    requires { ⌜ (pos ≤ length (now output)) × ((f : Translation) × (given : List ℕ) × (ts : Codes) × (ks r : List ℕ) × (cs : Codes) × (js : List ℕ) × RowAsks syntax (now table) (now input) (now ends) (now node) deep at stop levels f given ts ks r cs js) ⌝ }
+    ensures { λ o. ⌜ ((f : Translation) (given : List ℕ) (ts : Codes) (ks r : List ℕ) (cs : Codes) (js : List ℕ) → RowAsks syntax (now (table .entry)) (now (input .entry)) (now (ends .entry)) (now (node .entry)) deep at stop levels f given ts ks r cs js
         → Wrote (rowBytes syntax f ts cs) (now (output .entry)) (now (output .exit)) pos o
         × Node syntax (now (table .entry)) (now (input .entry)) (now (node .exit)) (f .source) given ts ks
         × Same (now (node .entry)) (now (node .exit))) ⌝ }
@@ -107,7 +110,7 @@ fn run_row(
         let sign = body_at(table, c);
         if sign == 3 {
             let number = body_at(table, c + 1);
-            p = run_argument(syntax, table, input, node, deep, number - 1, output, p);
+            p = run_argument(syntax, table, input, ends, node, deep, number - 1, output, p);
             if output.len() < p {
                 return p;
             }
@@ -127,6 +130,7 @@ fn run_row(
                         syntax,
                         table,
                         input,
+                        ends,
                         node,
                         deep,
                         c,
@@ -159,13 +163,14 @@ pub fn run(
     syntax: Syntax,
     table: &[u16; 25664],
     input: &[u8],
+    ends: &[u32],
     kind: u8,
     deep: usize,
     output: &mut [u8],
     pos: usize,
 ) -> usize
-    requires { ⌜ (pos ≤ length (now output)) × ((f : Translation) × (given : List ℕ) × (u : Code) × TermAsks syntax (now table) (now input) deep kind f given u) ⌝ }
-    ensures { λ r. ⌜ ((f : Translation) (given : List ℕ) (u : Code) → TermAsks syntax (now (table .entry)) (now (input .entry)) deep kind f given u
+    requires { ⌜ (pos ≤ length (now output)) × ((f : Translation) × (given : List ℕ) × (u : Code) × TermAsks syntax (now table) (now input) (now ends) deep kind f given u) ⌝ }
+    ensures { λ r. ⌜ ((f : Translation) (given : List ℕ) (u : Code) → TermAsks syntax (now (table .entry)) (now (input .entry)) (now (ends .entry)) deep kind f given u
         → Wrote (bytesOf syntax (transform f u)) (now (output .entry)) (now (output .exit)) pos r) ⌝ }
 {
     let k = kind as usize;
@@ -182,6 +187,7 @@ pub fn run(
         syntax,
         table,
         input,
+        ends,
         &mut node,
         deep - 1,
         clause + 4,

@@ -1,13 +1,15 @@
 // Where the arguments of a node start: learnt on the way.
 use crate::skip::skip;
+use crate::table::source_at;
+use reader::ends::known_end;
 use reader::node::Syntax;
 ghost use mathlib.Core.Path.{_≡_};
 ghost use mathlib.Core.List.{List};
 ghost use Prim.Native.Nat.{ℕ, _+_, _≤_};
 ghost use lib.ListN.{length, getD};
-ghost use Rattle.reader.specs.Code.{Codes};
+ghost use Rattle.reader.specs.Code.{Code, Codes};
 ghost use Rattle.translation.specs.Translation.{Translation};
-ghost use Rattle.emitter.specs.Inner.Runs.{allBytes, front, Node, Same, FindAsks, knownStart};
+ghost use Rattle.emitter.specs.Inner.Runs.{bytesOf, allBytes, front, Right, Node, Same, SkipAsks, FindAsks, knownStart};
 
 // Where argument j starts by what is known of the node; 0 where it is not known.
 pub fn known(node: &[usize; 10], j: usize) -> usize
@@ -17,16 +19,38 @@ pub fn known(node: &[usize; 10], j: usize) -> usize
     node[j]
 }
 
+// Where the term ends that starts at a position and whose kind stands in the source at q: it is kept, or found by stepping
+// over it.
+fn end_of(
+    syntax: Syntax,
+    table: &[u16; 25664],
+    input: &[u8],
+    ends: &[u32],
+    q: usize,
+    at: usize,
+) -> usize
+    requires { ⌜ ((f : Translation) × (given : List ℕ) × (u : Code) × (k : ℕ) × SkipAsks syntax (now table) (now input) q at f given u k) ⌝ }
+    ensures { λ r. ⌜ ((f : Translation) (given : List ℕ) (u : Code) (k : ℕ) → SkipAsks syntax (now (table .entry)) (now (input .entry)) q at f given u k
+        → Right syntax (now (ends .entry)) (now (input .entry)) (f .source) given → r ≡ at + length (bytesOf syntax u)) ⌝ }
+{
+    let end = known_end(ends, source_at(table, q), at);
+    if end != 0 {
+        return end;
+    }
+    skip(syntax, table, input, q, at)
+}
+
 // Where argument j starts: the arguments before it whose end is not known are stepped over.
 pub fn find(
     syntax: Syntax,
     table: &[u16; 25664],
     input: &[u8],
+    ends: &[u32],
     node: &mut [usize; 10],
     j: usize,
 ) -> usize
-    requires { ⌜ ((f : Translation) × (given : List ℕ) × (ts : Codes) × (ks : List ℕ) × FindAsks syntax (now table) (now input) (now node) j f given ts ks) ⌝ }
-    ensures { λ r. ⌜ ((f : Translation) (given : List ℕ) (ts : Codes) (ks : List ℕ) → FindAsks syntax (now (table .entry)) (now (input .entry)) (now (node .entry)) j f given ts ks
+    requires { ⌜ ((f : Translation) × (given : List ℕ) × (ts : Codes) × (ks : List ℕ) × FindAsks syntax (now table) (now input) (now ends) (now node) j f given ts ks) ⌝ }
+    ensures { λ r. ⌜ ((f : Translation) (given : List ℕ) (ts : Codes) (ks : List ℕ) → FindAsks syntax (now (table .entry)) (now (input .entry)) (now (ends .entry)) (now (node .entry)) j f given ts ks
         → (r ≡ getD (now (node .entry)) 0 0 + length (allBytes syntax (front j ts)))
         × Node syntax (now (table .entry)) (now (input .entry)) (now (node .exit)) (f .source) given ts ks
         × Same (now (node .entry)) (now (node .exit))) ⌝ }
@@ -37,7 +61,7 @@ pub fn find(
     while i < j {
         let mut e = node[i + 1];
         if e == 0 {
-            e = skip(syntax, table, input, from + i, p);
+            e = end_of(syntax, table, input, ends, from + i, p);
             node[i + 1] = e;
         }
         p = e;

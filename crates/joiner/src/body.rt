@@ -57,10 +57,12 @@ fn join_code(
         → Stores (joinedCode f g (now («second_body» .entry)) p) (now (out .entry)) (now (out .exit)) n r) ⌝ }
 {
     let kind = map_kind(second_body, second_items, byte_at(second_body, p + 3));
+    let ends = [0u32; 2];
     let m = run(
         Syntax::Code,
         table,
         &second_body[p + 5..e],
+        &ends,
         kind,
         16,
         out,

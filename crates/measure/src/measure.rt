@@ -2,6 +2,7 @@
 use crate::capped::add_share;
 use crate::table::count_in;
 use fields::bytes::wide;
+use reader::ends::keep_end;
 use reader::node::Read;
 use reader::node::Syntax;
 use reader::node::pair_in;
@@ -18,6 +19,7 @@ ghost use Rattle.reader.specs.Inner.Positions.{KindsIn};
 ghost use Rattle.translation.specs.Translation.{Translation};
 ghost use Rattle.measure.specs.Inner.Measuring.{EndsIn, sizedAt, sizedOf, Counted};
 ghost use Rattle.measure.specs.Inner.Descent.{leafStep, downAt, downRow, goesOn, StepIn};
+ghost use Rattle.measure.specs.Inner.Learning.{Learnt};
 
 // The position after a tree, and the length of its run up to a top; one level too many; or bytes that are no such tree.
 pub enum Measured {
@@ -76,7 +78,8 @@ fn step_at(
     )
 }
 
-// The operands of a row and all that stands below them. The rows above wait in three tables, the outermost first.
+// The operands of a row and all that stands below them. The rows above wait in three tables, the outermost first, and in a
+// fourth stands where the operand starts whose row is being measured; where it ends is kept.
 fn measure_rows(
     source: &[u8],
     index: &[u16; 8224],
@@ -89,14 +92,17 @@ fn measure_rows(
     levels: usize,
     own: usize,
     top: usize,
+    ends: &mut [u32],
 ) -> Measured
     requires { ⌜ Sound (now index) (now source) × KindsIn (now source) from stop × (at ≤ length (now tree)) × (own ≤ top) × (levels < 64) ⌝ }
-    ensures { λ r. ⌜ (r ≡ downRow (now (source .entry)) (now (index .entry)) (now (counts .entry)) (now (tree .entry)) top levels weight from stop at own)
+    ensures is { λ r. ⌜ (r ≡ downRow (now (source .entry)) (now (index .entry)) (now (counts .entry)) (now (tree .entry)) top levels weight from stop at own)
         × EndsIn (length (now (tree .entry))) top r ⌝ }
+    ensures learnt { λ r. ⌜ Learnt (now (source .entry)) (now (index .entry)) (now (tree .entry)) (now (ends .entry)) (now (ends .exit)) ⌝ }
 {
     let mut firsts = [0u16; 64];
     let mut lasts = [0u16; 64];
     let mut weights = [0usize; 64];
+    let mut starts = [0usize; 64];
     let mut depth = 0;
     let mut q = from;
     let mut end = stop;
@@ -112,6 +118,7 @@ fn measure_rows(
             q = firsts[depth] as usize;
             end = lasts[depth] as usize;
             w = weights[depth];
+            keep_end(ends, source[q - 1], starts[depth], to);
             continue;
         }
         if depth == levels {
@@ -123,16 +130,18 @@ fn measure_rows(
                 return Measured::Broken;
             }
             Step::Row(first, last, v, e, n) => {
-                to = e;
                 sum = n;
                 q += 1;
                 if last <= first {
+                    to = e;
                     continue;
                 }
                 firsts[depth] = q as u16;
                 lasts[depth] = end as u16;
                 weights[depth] = w;
+                starts[depth] = to;
                 depth += 1;
+                to = e;
                 q = first;
                 end = last;
                 w = v;
@@ -151,11 +160,13 @@ pub fn measure(
     at: usize,
     levels: usize,
     top: usize,
+    ends: &mut [u32],
 ) -> Measured
     requires { ⌜ Sound (now index) (now source) × (kind < 32) × (at ≤ length (now tree)) × (levels ≤ 64) ⌝ }
     ensures is { λ r. ⌜ ((f : Translation) → Indexed (now (index .entry)) (now (source .entry)) (f .source) → Counted (now (counts .entry)) (now (index .entry)) f
         → sizedAt (now (tree .entry)) r ≡ sizedOf top f (readCode inTrees (f .source) [] levels kind (drop at (now (tree .entry))))) ⌝ }
     ensures within { λ r. ⌜ EndsIn (length (now (tree .entry))) top r ⌝ }
+    ensures learnt { λ r. ⌜ Learnt (now (source .entry)) (now (index .entry)) (now (tree .entry)) (now (ends .entry)) (now (ends .exit)) ⌝ }
 {
     if levels == 0 {
         return Measured::Deep;
@@ -174,6 +185,7 @@ pub fn measure(
             levels - 1,
             own,
             top,
+            ends,
         ),
     }
 }

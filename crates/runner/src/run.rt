@@ -13,15 +13,17 @@ use translation::check::check_translation;
 use translation::parts::accepted_parts;
 ghost use mathlib.Core.Path.{_≡_};
 ghost use mathlib.Core.List.{[]};
-ghost use Prim.Native.Nat.{_<_, _≤_};
-ghost use lib.ListN.{length};
+ghost use Prim.Native.Nat.{ℕ, _<_, _≤_};
+ghost use lib.ListN.{length, getD};
 ghost use Rattle.fields.specs.Outcome.{value};
 ghost use Rattle.reader.specs.Code.{Code};
 ghost use Rattle.reader.specs.Syntax.{read, done, write, tree as inTrees};
 ghost use Rattle.translation.specs.Translation.{Translation};
 ghost use Rattle.translation.specs.Running.{transform};
 ghost use Rattle.translation.specs.Operations.{runTree};
+ghost use Rattle.reader.specs.declared.node.Syntax.the-variants.{Tree};
 ghost use Rattle.emitter.specs.Inner.Table.{Checked};
+ghost use Rattle.emitter.specs.Inner.Runs.{Right};
 ghost use Rattle.runner.specs.Inner.Runs.{runOf, Answers};
 
 // Writes the run of a legal tree whose result fits into the output.
@@ -31,23 +33,61 @@ fn write_tree(
     body: &[u8],
     kind: u8,
     tree: &[u8],
+    ends: &[u32],
     output: &mut [u8],
 ) -> Answer
-    requires { ⌜ (kind < 32) × ((f : Translation) × (t : Code) × Checked (now source) (now target) (now body) f × (read inTrees (f .source) [] 64 kind (now tree) ≡ done t [])) ⌝ }
+    requires { ⌜ (kind < 32) × ((f : Translation) × (t : Code) × Checked (now source) (now target) (now body) f × (read inTrees (f .source) [] 64 kind (now tree) ≡ done t []) × Right Tree (now ends) (now tree) (f .source) []) ⌝ }
     ensures { λ r. ⌜ ((f : Translation) (t : Code) → Checked (now (source .entry)) (now (target .entry)) (now (body .entry)) f
-        → read inTrees (f .source) [] 64 kind (now (tree .entry)) ≡ done t [] → length (write inTrees (transform f t)) ≤ length (now (output .entry))
+        → read inTrees (f .source) [] 64 kind (now (tree .entry)) ≡ done t [] → Right Tree (now (ends .entry)) (now (tree .entry)) (f .source) [] → length (write inTrees (transform f t)) ≤ length (now (output .entry))
         → Answers (value (write inTrees (transform f t))) (now (output .entry)) (now (output .exit)) (r .outcome)) ⌝ }
 {
     let mut table = [0u16; 25664];
     emitter::prepare::prepare(source, target, body, &mut table);
-    let p = emitter::run::run(Syntax::Tree, &table, tree, kind, 64, output, 0);
+    let p = emitter::run::run(Syntax::Tree, &table, tree, ends, kind, 64, output, 0);
     if output.len() < p {
         return refuse(Reason::Output);
     }
     accept(p)
 }
 
-// The run of a tree of a kind, through a translation that was accepted: 14 to 17.
+// The run of a tree of a kind, through a translation that was accepted: 14 to 17. Where long subtrees end is kept in a table,
+// which is all zero before.
+fn run_kept(
+    source: &[u8],
+    target: &[u8],
+    body: &[u8],
+    kind: u8,
+    tree: &[u8],
+    ends: &mut [u32],
+    output: &mut [u8],
+) -> Answer
+    requires { ⌜ (kind < 32) × ((j : ℕ) → getD (now ends) j 0 ≡ 0) × ((f : Translation) × Checked (now source) (now target) (now body) f) ⌝ }
+    ensures { λ r. ⌜ ((f : Translation) → Checked (now (source .entry)) (now (target .entry)) (now (body .entry)) f
+        → Answers (runOf f kind (now (tree .entry)) (length (now (output .entry)))) (now (output .entry)) (now (output .exit)) (r .outcome)) ⌝ }
+{
+    if !is_in(source, kind) {
+        return refuse(Reason::Root);
+    }
+    let mut index = [0u16; 8224];
+    let mut counts = [0u16; 1024];
+    prepare(source, body, &mut index, &mut counts);
+    let room = output.len();
+    match measure(source, &index, &counts, kind, tree, 0, 64, room + 1, ends) {
+        Measured::End(e, n) => {
+            if e != tree.len() {
+                return refuse(Reason::Tree);
+            }
+            if room < n {
+                return refuse(Reason::Output);
+            }
+            write_tree(source, target, body, kind, tree, ends, output)
+        }
+        Measured::Deep => refuse(Reason::Levels),
+        Measured::Broken => refuse(Reason::Tree),
+    }
+}
+
+// The same, with a table for a tree that has long subtrees.
 fn run_parts(
     source: &[u8],
     target: &[u8],
@@ -60,26 +100,12 @@ fn run_parts(
     ensures { λ r. ⌜ ((f : Translation) → Checked (now (source .entry)) (now (target .entry)) (now (body .entry)) f
         → Answers (runOf f kind (now (tree .entry)) (length (now (output .entry)))) (now (output .entry)) (now (output .exit)) (r .outcome)) ⌝ }
 {
-    if !is_in(source, kind) {
-        return refuse(Reason::Root);
+    if tree.len() < 4096 {
+        let mut ends = [0u32; 2];
+        return run_kept(source, target, body, kind, tree, &mut ends, output);
     }
-    let mut index = [0u16; 8224];
-    let mut counts = [0u16; 1024];
-    prepare(source, body, &mut index, &mut counts);
-    let room = output.len();
-    match measure(source, &index, &counts, kind, tree, 0, 64, room + 1) {
-        Measured::End(e, n) => {
-            if e != tree.len() {
-                return refuse(Reason::Tree);
-            }
-            if room < n {
-                return refuse(Reason::Output);
-            }
-            write_tree(source, target, body, kind, tree, output)
-        }
-        Measured::Deep => refuse(Reason::Levels),
-        Measured::Broken => refuse(Reason::Tree),
-    }
+    let mut ends = [0u32; 8192];
+    run_kept(source, target, body, kind, tree, &mut ends, output)
 }
 
 // Run: 1 to 7 for the translation, 14 to 16 for the tree against its source, 17 where the result is longer than the output.

@@ -15,6 +15,7 @@ use Rattle.reader.specs.Syntax.{write, writeAll, code}
 use Rattle.reader.specs.declared.node.Syntax.{Syntax}
 use Rattle.reader.specs.declared.node.Syntax.the-variants.{Tree, Code}
 use Rattle.reader.specs.Inner.Positions.{syntaxOf}
+use Rattle.reader.specs.Inner.Ends.{Kept}
 use Rattle.translation.specs.Translation.{Translation}
 use Rattle.translation.specs.Running.{clausesOf, substituteAll, runAll}
 use Rattle.emitter.specs.Inner.Stands.{Stands, Wrote}
@@ -64,6 +65,11 @@ pub record Row (t : List ℕ) (at stop : ℕ) (l : Language) (r : List ℕ) (cs 
   pub inside : stop ≤ 4096
   pub narrow : (i : ℕ) → at ≤ i → i < stop → bodyByte t i < 256
 
+-- What is kept is right: a term of the kind that stands there ends there.
+abbrev pub Right : Syntax → List ℕ → List ℕ → Language → List ℕ → Type 0
+Right x ends input l given =
+    (k at e : ℕ) → Kept ends k at e → (u : Terms.Code) → Typed l given u k → Stands input at (bytesOf x u) → e ≡ at + length (bytesOf x u)
+
 -- The same node, but for what is known of it.
 pub record Same (before after : List ℕ) : Type 0 where
   pub from : getD after 9 0 ≡ getD before 9 0
@@ -78,15 +84,17 @@ pub record SkipAsks (x : Syntax) (t input : List ℕ) (q at : ℕ) (f : Translat
   pub levels : levels u ≤ 64
 
 -- Where argument j of a node starts, counted from 0; the end of the last one is where one more would start.
-pub record FindAsks (x : Syntax) (t input state : List ℕ) (j : ℕ) (f : Translation) (given : List ℕ) (ts : Codes) (ks : List ℕ) : Type 0 where
+pub record FindAsks (x : Syntax) (t input ends state : List ℕ) (j : ℕ) (f : Translation) (given : List ℕ) (ts : Codes) (ks : List ℕ) : Type 0 where
   pub table : Given x t f given
+  pub kept : Right x ends input (f .source) given
   pub node : Node x t input state (f .source) given ts ks
   pub levels : levelsAll ts ≤ 64
   pub number : j ≤ length ks
 
 -- Codes in a row, each argument replaced by its run.
-pub record RowAsks (x : Syntax) (t input state : List ℕ) (deep at stop n : ℕ) (f : Translation) (given : List ℕ) (ts : Codes) (ks r : List ℕ) (cs : Codes) (js : List ℕ) : Type 0 where
+pub record RowAsks (x : Syntax) (t input ends state : List ℕ) (deep at stop n : ℕ) (f : Translation) (given : List ℕ) (ts : Codes) (ks r : List ℕ) (cs : Codes) (js : List ℕ) : Type 0 where
   pub table : Given x t f given
+  pub kept : Right x ends input (f .source) given
   pub node : Node x t input state (f .source) given ts ks
   pub row : Row t at stop (f .target) r cs js
   pub numbers : length r ≡ length ks
@@ -95,16 +103,18 @@ pub record RowAsks (x : Syntax) (t input state : List ℕ) (deep at stop n : ℕ
   pub within : levelsAll cs ≤ n
 
 -- The run of argument j of a node, counted from 0.
-pub record ArgumentAsks (x : Syntax) (t input state : List ℕ) (deep j : ℕ) (f : Translation) (given : List ℕ) (ts : Codes) (ks : List ℕ) : Type 0 where
+pub record ArgumentAsks (x : Syntax) (t input ends state : List ℕ) (deep j : ℕ) (f : Translation) (given : List ℕ) (ts : Codes) (ks : List ℕ) : Type 0 where
   pub table : Given x t f given
+  pub kept : Right x ends input (f .source) given
   pub node : Node x t input state (f .source) given ts ks
   pub levels : levelsAll ts ≤ deep
   pub most : deep ≤ 64
   pub number : j < length ks
 
 -- The run of the term that the input starts with.
-pub record TermAsks (x : Syntax) (t input : List ℕ) (deep k : ℕ) (f : Translation) (given : List ℕ) (u : Terms.Code) : Type 0 where
+pub record TermAsks (x : Syntax) (t input ends : List ℕ) (deep k : ℕ) (f : Translation) (given : List ℕ) (u : Terms.Code) : Type 0 where
   pub table : Given x t f given
+  pub kept : Right x ends input (f .source) given
   pub term : Term x input 0 (f .source) given u k
   pub levels : levels u ≤ deep
   pub most : deep ≤ 64
