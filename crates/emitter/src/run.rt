@@ -110,7 +110,17 @@ fn run_row(
         let sign = body_at(table, c);
         if sign == 3 {
             let number = body_at(table, c + 1);
-            p = run_argument(syntax, table, input, ends, node, deep, number - 1, output, p);
+            p = run_argument(
+                syntax,
+                table,
+                input,
+                ends,
+                node,
+                deep,
+                number - 1,
+                output,
+                p,
+            );
             if output.len() < p {
                 return p;
             }

@@ -1,0 +1,55 @@
+use borrow.Author.Needs.{needs}
+use mathlib.Core.Logic.{inl}
+use Rattle.reader.proofs.Keeping.{kept-put}
+use Rattle.reader.proofs.ends.keep_end.Statement.{statement}
+use Rattle.reader.proofs.ends.keep_end.Tie as tie
+use Rattle.reader.proofs.ends.keep_end.Reads as reads
+use Rattle.reader.proofs.ends.keep_end.Lts as lts
+use Rattle.reader.proofs.ends.wide.Reads as wide-reads
+
+returns : tie.Need-returns
+returns c = λ k p e h. inl h
+
+returns-2 : tie.Need-returns-2
+returns-2 c = λ k p e h. inl h
+
+returns-3 : tie.Need-returns-3
+returns-3 c = λ k p e h. inl h
+
+returns-4 : tie.Need-returns-4
+returns-4 c = kept-put _ _ _ _ _ (c .before .before .before .before .before .before .before .before .before .pre .0) (c .before .before .before .before .before .before .if2 .left)
+
+returns-5 : tie.Need-returns-5
+returns-5 c = λ k p e h. inl h
+
+pub keep-end-spec : {M : Type 1} → statement M
+keep-end-spec =
+    tie.close
+    (tie.spec
+    (λ c. search needs)
+    returns
+    (λ c. search needs)
+    (λ c. search needs)
+    returns-2
+    returns-3
+    (λ c. search needs)
+    (λ c. search needs)
+    (λ c. search needs)
+    (λ c κs. search needs)
+    (λ c. search needs)
+    (λ c. search needs)
+    (λ c. search needs)
+    (λ c κs. search needs)
+    (λ c. search needs)
+    (λ c. search needs)
+    (λ c. search needs)
+    (λ c. search needs)
+    (λ c. search needs)
+    (λ c. search needs)
+    (λ c. search needs)
+    (λ c. search needs)
+    (λ c. search needs)
+    (λ c. search needs)
+    (λ c. search needs)
+    returns-4
+    returns-5)
