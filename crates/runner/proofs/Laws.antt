@@ -23,6 +23,8 @@ use Rattle.reader.specs.Syntax as Meant
 use Rattle.reader.specs.Operations.{treeOf, wholeTree}
 use Rattle.reader.specs.declared.node.Syntax.the-variants.{Tree}
 use Rattle.reader.proofs.Check.{refused-not}
+use Rattle.reader.proofs.RoundTrip.{Apart}
+use Rattle.reader.proofs.Larger.{apart}
 use Rattle.reader.proofs.Sound.{read-done as right-done}
 use Rattle.reader.proofs.Members.{in-below}
 use Rattle.translation.specs.Translation.{Translation}
@@ -43,7 +45,7 @@ use Rattle.measure.proofs.Sizes.{over-room, within-room}
 use Rattle.measure.proofs.Meaning.{sized-done, sized-deep, sized-broken}
 use Rattle.emitter.specs.Inner.Stands.{spliced, Wrote}
 use Rattle.emitter.specs.Inner.Table.{Ready, Checked}
-use Rattle.emitter.specs.Inner.Runs.{TermAsks}
+use Rattle.emitter.specs.Inner.Runs.{Right, TermAsks}
 use Rattle.emitter.proofs.Standing.{drop-stands, wrote-long}
 use Rattle.runner.specs.Inner.Runs.{runOf, Answers}
 
@@ -51,6 +53,9 @@ use Rattle.runner.specs.Inner.Runs.{runOf, Answers}
 module _ {s t b : List ℕ} {f : Translation} (z : Checked s t b f) where
   pub rises : allRising f ≡ true
   rises = translation-whole (z .file) f (z .accepted) .1 .rises
+
+  pub source-apart : Apart (f .source)
+  source-apart = apart (f .source) (translation-whole (z .file) f (z .accepted) .1 .source-apart)
 
   pub formed : wellFormed f ≡ value f
   formed = translation-whole (z .file) f (z .accepted) .2
@@ -63,12 +68,13 @@ abbrev pub treeRead : Translation → ℕ → List ℕ → Meant.Read Code
 treeRead f k b = Meant.read Meant.tree (f .source) [] 64 k b
 
 -- What `write_tree` hands to the emitter: the tree that was read stands in its bytes.
-pub tree-asks : (table b : List ℕ) (k : ℕ) (f : Translation) (t : Code) → Ready table f → k < 32 → ((i : ℕ) → getD b i 0 < 256)
-    → treeRead f k b ≡ Meant.done t [] → TermAsks Tree table b 64 k f [] t
-tree-asks table b k f t r h y e =
+pub tree-asks : (table b ends : List ℕ) (k : ℕ) (f : Translation) (t : Code) → Ready table f → k < 32 → ((i : ℕ) → getD b i 0 < 256)
+    → treeRead f k b ≡ Meant.done t [] → Right Tree ends b (f .source) [] → TermAsks Tree table b ends 64 k f [] t
+tree-asks table b ends k f t r h y e g =
     let d = right-done Meant.tree (f .source) [] 64 k b t [] e in
     record {
       table = record { ready = r; plain = λ q. refl };
+      kept = g;
       term = record { typed = d .0; kind = h; stands = drop-stands b 0 _ [] (omega arith) (d .2 (bytes-from b (λ i l. y i)) .0) };
       levels = d .1;
       most = omega arith;
