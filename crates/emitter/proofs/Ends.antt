@@ -2,7 +2,7 @@
 use Prim.Native.Nat.{ℕ, zero, suc, _+_, _≤_, _<_}
 use mathlib.Core.Path.{_≡_, refl, sym, ap, _∙_}
 use mathlib.Core.List.{List, []}
-use mathlib.Core.Logic.{_≢_, inr, ⊎-elim}
+use mathlib.Core.Logic.{_≢_, _⊎_, inr, ⊎-elim}
 use native.Mathlib.Nat.{add-assoc, add-zero}
 use native.Mathlib.Numerals.{add-one}
 use native.Mathlib.Omega.{arith}
@@ -13,17 +13,18 @@ use borrow.Author.Tests.{eqb-true, eqb-false}
 use Rattle.fields.proofs.Split.{byte-in}
 use Rattle.fields.proofs.Truth.{by-test}
 use Rattle.language.specs.Language.{Language}
-use Rattle.reader.specs.Code.{Codes, levels, levelsAll}
+use Rattle.reader.specs.Code.{Code, Codes, levels, levelsAll}
 use Rattle.reader.specs.Typing.{Typed, TypedAll, typed-nil, typed-cons}
 use Rattle.reader.specs.Syntax as Meant
 use Rattle.reader.specs.Syntax.{write, writeAll}
 use Rattle.reader.specs.declared.node.Syntax.{Syntax}
 use Rattle.reader.specs.Inner.Positions.{syntaxOf}
+use Rattle.reader.specs.Inner.Ends.{Kept}
 use Rattle.translation.specs.Translation.{Translation}
 use Rattle.translation.specs.Running.{nth}
 use Rattle.emitter.specs.Inner.Stands.{Stands}
 use Rattle.emitter.specs.Inner.Table.{sourceByte, KindsAt}
-use Rattle.emitter.specs.Inner.Runs.{bytesOf, allBytes, front, Node, Same, SkipAsks, FindAsks}
+use Rattle.emitter.specs.Inner.Runs.{bytesOf, allBytes, front, Right, Node, Same, SkipAsks, FindAsks}
 use Rattle.emitter.proofs.Standing.{stands-both}
 
 -- The i-th of codes of the given kinds: its kind, its levels, and where it stands.
@@ -93,13 +94,22 @@ module _ {x : Syntax} {t input state : List ℕ} {l : Language} {given : List �
 pub same-after : {a b c : List ℕ} → Same a b → Same b c → Same a c
 same-after h k = record { from = k .from ∙ h .from; start = k .start ∙ h .start }
 
+-- end_of: the kind that is asked for, and the end where it is kept.
+module _ {x : Syntax} {t input : List ℕ} {q at : ℕ} {f : Translation} {given : List ℕ} {u : Code} {k : ℕ} (a : SkipAsks x t input q at f given u k) where
+  pub asked-kind : {kind : ℕ} → kind ≡ sourceByte t q → kind < 32
+  asked-kind e = let h = a .kind in let m = a .term .kind in omega arith
+
+  pub end-kept : {ends : List ℕ} {kind e : ℕ} → Right x ends input (f .source) given → kind ≡ sourceByte t q → (e ≡ 0) ⊎ Kept ends kind at e → e ≢ 0 → e ≡ at + length (bytesOf x u)
+  end-kept {kind = kind} {e = e} right ek h some =
+      ⊎-elim (λ z. absurd (some z)) (λ z. right kind at e z u (rw (ek ∙ a .kind) (a .term .typed)) (a .term .stands)) h
+
 -- find: p is where argument i starts, and the node is the one that it was.
 pub record Reached (x : Syntax) (t input before state : List ℕ) (p i : ℕ) (f : Translation) (given : List ℕ) (ts : Codes) (ks : List ℕ) : Type 0 where
   pub at : p ≡ getD before 0 0 + length (allBytes x (front i ts))
   pub node : Node x t input state (f .source) given ts ks
   pub same : Same before state
 
-module _ {x : Syntax} {t input before : List ℕ} {j : ℕ} {f : Translation} {given : List ℕ} {ts : Codes} {ks : List ℕ} (a : FindAsks x t input before j f given ts ks) where
+module _ {x : Syntax} {t input ends before : List ℕ} {j : ℕ} {f : Translation} {given : List ℕ} {ts : Codes} {ks : List ℕ} (a : FindAsks x t input ends before j f given ts ks) where
   pub find-few : j ≤ 8
   find-few = let n = a .number in let m = a .node .few in omega arith
 

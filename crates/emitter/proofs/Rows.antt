@@ -25,7 +25,7 @@ use Rattle.translation.specs.Running.{nth, operand, substitute, substituteAll, 
 use Rattle.translation.proofs.Fitting.{mapped-arguments}
 use Rattle.emitter.specs.Inner.Stands.{Stands, Wrote}
 use Rattle.emitter.specs.Inner.Table.{indexEntry, clauseEntry, sourceByte, bodyByte, spanEntry, KindsAt, SpansAt, SpansAllAt, Production, Clause, Ready}
-use Rattle.emitter.specs.Inner.Runs.{bytesOf, allBytes, front, Given, Term, Node, Row, Same, FindAsks, RowAsks, ArgumentAsks, TermAsks, leafAt, leafLength, signLength, knownStart, rowBytes}
+use Rattle.emitter.specs.Inner.Runs.{bytesOf, allBytes, front, Given, Term, Node, Row, Right, Same, FindAsks, RowAsks, ArgumentAsks, TermAsks, leafAt, leafLength, signLength, knownStart, rowBytes}
 use Rattle.emitter.proofs.Standing.{stands-head, stands-both, both-stand, wrote-none, wrote-then, wrote-full}
 
 get-inside : (r : List ℕ) (i k : ℕ) → getElem? r i ≡ some k → i < length r
@@ -281,10 +281,10 @@ module _ (x : Syntax) (f : Translation) (ts : Codes) where
   row-one a = append-nil (bytesOf x (substitute (runAll (clausesOf f) ts) a))
 
 -- A row that is partly put out: what is left of it, and what was put out so far.
-pub record Going (x : Syntax) (t input before state : List ℕ) (deep c stop left : ℕ) (f : Translation) (given : List ℕ) (ts : Codes) (ks r : List ℕ) (cs : Codes) (o mid : List ℕ) (pos p : ℕ) : Type 0 where
+pub record Going (x : Syntax) (t input ends before state : List ℕ) (deep c stop left : ℕ) (f : Translation) (given : List ℕ) (ts : Codes) (ks r : List ℕ) (cs : Codes) (o mid : List ℕ) (pos p : ℕ) : Type 0 where
   pub rest : Codes
   pub kinds : List ℕ
-  pub asks : RowAsks x t input state deep c stop left f given ts ks r rest kinds
+  pub asks : RowAsks x t input ends state deep c stop left f given ts ks r rest kinds
   pub same : Same before state
   pub goes : (after : List ℕ) (e : ℕ) → Wrote (rowBytes x f ts rest) mid after p e → Wrote (rowBytes x f ts cs) o after pos e
 
@@ -295,30 +295,30 @@ pub same-then : {a b c : List ℕ} → Same a b → Same b c → Same a c
 same-then h g = record { from = g .from ∙ h .from; start = g .start ∙ h .start }
 
 -- What an argument that was put out gives.
-abbrev pub ArgumentGives : (x : Syntax) (t input before after : List ℕ) (deep j : ℕ) (o end : List ℕ) (pos e : ℕ) → Type 0
-ArgumentGives x t input before after deep j o end pos e =
-    (f : Translation) (given : List ℕ) (ts : Codes) (ks : List ℕ) → ArgumentAsks x t input before deep j f given ts ks
+abbrev pub ArgumentGives : (x : Syntax) (t input ends before after : List ℕ) (deep j : ℕ) (o end : List ℕ) (pos e : ℕ) → Type 0
+ArgumentGives x t input ends before after deep j o end pos e =
+    (f : Translation) (given : List ℕ) (ts : Codes) (ks : List ℕ) → ArgumentAsks x t input ends before deep j f given ts ks
     → Wrote (bytesOf x (nth (runAll (clausesOf f) ts) j)) o end pos e × Node x t input after (f .source) given ts ks × Same before after
 
 -- What a row that was put out gives.
-abbrev pub RowGives : (x : Syntax) (t input before after : List ℕ) (deep at stop n : ℕ) (o end : List ℕ) (pos e : ℕ) → Type 0
-RowGives x t input before after deep at stop n o end pos e =
-    (f : Translation) (given : List ℕ) (ts : Codes) (ks r : List ℕ) (cs : Codes) (js : List ℕ) → RowAsks x t input before deep at stop n f given ts ks r cs js
+abbrev pub RowGives : (x : Syntax) (t input ends before after : List ℕ) (deep at stop n : ℕ) (o end : List ℕ) (pos e : ℕ) → Type 0
+RowGives x t input ends before after deep at stop n o end pos e =
+    (f : Translation) (given : List ℕ) (ts : Codes) (ks r : List ℕ) (cs : Codes) (js : List ℕ) → RowAsks x t input ends before deep at stop n f given ts ks r cs js
     → Wrote (rowBytes x f ts cs) o end pos e × Node x t input after (f .source) given ts ks × Same before after
 
 -- What is known of a row in the middle, whatever it is a row of.
-abbrev pub RowHeld : (x : Syntax) (t input before state : List ℕ) (deep at stop n c left : ℕ) (o mid : List ℕ) (pos p : ℕ) → Type 0
-RowHeld x t input before state deep at stop n c left o mid pos p =
-    (f : Translation) (given : List ℕ) (ts : Codes) (ks r : List ℕ) (cs : Codes) (js : List ℕ) → RowAsks x t input before deep at stop n f given ts ks r cs js
-    → Going x t input before state deep c stop left f given ts ks r cs o mid pos p
+abbrev pub RowHeld : (x : Syntax) (t input ends before state : List ℕ) (deep at stop n c left : ℕ) (o mid : List ℕ) (pos p : ℕ) → Type 0
+RowHeld x t input ends before state deep at stop n c left o mid pos p =
+    (f : Translation) (given : List ℕ) (ts : Codes) (ks r : List ℕ) (cs : Codes) (js : List ℕ) → RowAsks x t input ends before deep at stop n f given ts ks r cs js
+    → Going x t input ends before state deep c stop left f given ts ks r cs o mid pos p
 
-pub going-start : (x : Syntax) (t input state : List ℕ) (deep at stop n : ℕ) (o : List ℕ) (pos : ℕ)
-    → RowHeld x t input state state deep at stop n at n o o pos pos
-going-start x t input state deep at stop n o pos f given ts ks r cs js a =
+pub going-start : (x : Syntax) (t input ends state : List ℕ) (deep at stop n : ℕ) (o : List ℕ) (pos : ℕ)
+    → RowHeld x t input ends state state deep at stop n at n o o pos pos
+going-start x t input ends state deep at stop n o pos f given ts ks r cs js a =
     record { rest = cs; kinds = js; asks = a; same = same-self state; goes = λ after e w. w }
 
-module _ (x : Syntax) (t input before state : List ℕ) (deep c stop left : ℕ) (f : Translation) (given : List ℕ) (ts : Codes) (ks r : List ℕ) (cs : Codes) (o mid : List ℕ) (pos p : ℕ)
-    (g : Going x t input before state deep c stop left f given ts ks r cs o mid pos p) where
+module _ (x : Syntax) (t input ends before state : List ℕ) (deep c stop left : ℕ) (f : Translation) (given : List ℕ) (ts : Codes) (ks r : List ℕ) (cs : Codes) (o mid : List ℕ) (pos p : ℕ)
+    (g : Going x t input ends before state deep c stop left f given ts ks r cs o mid pos p) where
   -- At the end of the row.
   pub going-end : stop ≤ c → p ≤ length mid → Wrote (rowBytes x f ts cs) o mid pos p × Node x t input state (f .source) given ts ks × Same before state
   going-end h i =
@@ -350,9 +350,10 @@ module _ (x : Syntax) (t input before state : List ℕ) (deep c stop left : ℕ)
 
     -- The rest of the row, behind its next code.
     onward : (state′ : List ℕ) (c′ : ℕ) (us : Codes) (js : List ℕ) → Node x t input state′ (f .source) given ts ks → Row t c′ stop (f .target) r us js
-        → levelsAll us ≤ left → RowAsks x t input state′ deep c′ stop left f given ts ks r us js
+        → levelsAll us ≤ left → RowAsks x t input ends state′ deep c′ stop left f given ts ks r us js
     onward state′ c′ us js n w h = record {
       table = g .asks .table;
+      kept = g .asks .kept;
       node = n;
       row = w;
       numbers = g .asks .numbers;
@@ -378,9 +379,10 @@ module _ (x : Syntax) (t input before state : List ℕ) (deep c stop left : ℕ)
       pub argument-some : 0 < number
       argument-some = let b = numbered .byte in omega arith
 
-      pub argument-asks : ArgumentAsks x t input state deep (number - 1) f given ts ks
+      pub argument-asks : ArgumentAsks x t input ends state deep (number - 1) f given ts ks
       argument-asks = record {
         table = g .asks .table;
+        kept = g .asks .kept;
         node = g .asks .node;
         levels = g .asks .levels;
         most = g .asks .most;
@@ -390,7 +392,7 @@ module _ (x : Syntax) (t input before state : List ℕ) (deep c stop left : ℕ)
       bytes-number : rowBytes x f ts (g .rest) ≡ bytesOf x (nth (runAll (clausesOf f) ts) (number - 1)) ++ rowBytes x f ts (numbered .rest)
       bytes-number = ap (rowBytes x f ts) (numbered .is) ∙ rw from-zero (row-argument x f ts (numbered .number) (numbered .rest))
 
-      module _ (after end : List ℕ) (e : ℕ) (gives : ArgumentGives x t input state after deep (number - 1) mid end p e) where
+      module _ (after end : List ℕ) (e : ℕ) (gives : ArgumentGives x t input ends state after deep (number - 1) mid end p e) where
         given-argument : Wrote (bytesOf x (nth (runAll (clausesOf f) ts) (number - 1))) mid end p e × Node x t input after (f .source) given ts ks × Same state after
         given-argument = gives f given ts ks argument-asks
 
@@ -398,7 +400,7 @@ module _ (x : Syntax) (t input before state : List ℕ) (deep c stop left : ℕ)
         argument-full h =
             (goes-full _ (rowBytes x f ts (numbered .rest)) bytes-number end e (given-argument .0) h, given-argument .1, same-then (g .same) (given-argument .2))
 
-        pub argument-turn : e ≤ length mid → Going x t input before after deep (c + 2) stop left f given ts ks r cs o end pos e
+        pub argument-turn : e ≤ length mid → Going x t input ends before after deep (c + 2) stop left f given ts ks r cs o end pos e
         argument-turn h = record {
           rest = numbered .rest;
           kinds = numbered .kinds;
@@ -427,7 +429,7 @@ module _ (x : Syntax) (t input before state : List ℕ) (deep c stop left : ℕ)
           pub token-full : length mid < e → Wrote (rowBytes x f ts cs) o end pos e × Node x t input state (f .source) given ts ks × Same before state
           token-full h = (goes-full _ (rowBytes x f ts (valued .rest)) bytes-token end e w h, g .asks .node, g .same)
 
-          pub token-turn : e ≤ length mid → Going x t input before state deep (c + 3) stop left f given ts ks r cs o end pos e
+          pub token-turn : e ≤ length mid → Going x t input ends before state deep (c + 3) stop left f given ts ks r cs o end pos e
           token-turn h = record {
             rest = valued .rest;
             kinds = valued .kinds;
@@ -452,9 +454,10 @@ module _ (x : Syntax) (t input before state : List ℕ) (deep c stop left : ℕ)
       unfolding levels
       inner-levels = let h = levels-behind _ (named .rest) (named .is) .0 in omega arith
 
-      pub named-asks : RowAsks x t input state deep (c + 2) (spanEntry t c) (left - 1) f given ts ks r (named .inner) (named .innerKinds)
+      pub named-asks : RowAsks x t input ends state deep (c + 2) (spanEntry t c) (left - 1) f given ts ks r (named .inner) (named .innerKinds)
       named-asks = record {
         table = g .asks .table;
+        kept = g .asks .kept;
         node = g .asks .node;
         row = named .row;
         numbers = g .asks .numbers;
@@ -463,7 +466,7 @@ module _ (x : Syntax) (t input before state : List ℕ) (deep c stop left : ℕ)
         within = inner-levels;
       }
 
-      pub named-asks-at : (fin : ℕ) → fin ≡ spanEntry t c → RowAsks x t input state deep (c + 2) fin (left - 1) f given ts ks r (named .inner) (named .innerKinds)
+      pub named-asks-at : (fin : ℕ) → fin ≡ spanEntry t c → RowAsks x t input ends state deep (c + 2) fin (left - 1) f given ts ks r (named .inner) (named .innerKinds)
       named-asks-at fin q = rw q named-asks
 
       module _ (name : ℕ) (en : name ≡ bodyByte t (c + 1)) (end : List ℕ) (e : ℕ) (w : Wrote (sign (syntaxOf x) 1 ++ name ∷ []) mid end p e) where
@@ -480,7 +483,7 @@ module _ (x : Syntax) (t input before state : List ℕ) (deep c stop left : ℕ)
 
         module _ (fits : e ≤ length mid) where
           -- Nothing is behind it.
-          pub named-last : spanEntry t c ≡ stop → Going x t input before state deep (c + 2) stop (left - 1) f given ts ks r cs o end pos e
+          pub named-last : spanEntry t c ≡ stop → Going x t input ends before state deep (c + 2) stop (left - 1) f given ts ks r cs o end pos e
           unfolding rest-bytes
           named-last q =
               let z = row-empty t (spanEntry t c) stop (f .target) r (named .rest) (named .behind) (omega arith) in
@@ -495,7 +498,7 @@ module _ (x : Syntax) (t input before state : List ℕ) (deep c stop left : ℕ)
               }
 
           -- Its inner codes are to be put out next, and then what is behind it.
-          pub named-goes : Going x t input before state deep (c + 2) stop left f given ts ks r cs o end pos e
+          pub named-goes : Going x t input ends before state deep (c + 2) stop left f given ts ks r cs o end pos e
           unfolding rest-bytes
           named-goes =
               let i = inner-levels in
@@ -511,7 +514,7 @@ module _ (x : Syntax) (t input before state : List ℕ) (deep c stop left : ℕ)
               }
 
           -- Its inner codes were put out.
-          module _ (fin : ℕ) (ef : fin ≡ spanEntry t c) (after last : List ℕ) (d : ℕ) (gives : RowGives x t input state after deep (c + 2) fin (left - 1) end last e d) where
+          module _ (fin : ℕ) (ef : fin ≡ spanEntry t c) (after last : List ℕ) (d : ℕ) (gives : RowGives x t input ends state after deep (c + 2) fin (left - 1) end last e d) where
             given-row : Wrote (rowBytes x f ts (named .inner)) end last e d × Node x t input after (f .source) given ts ks × Same state after
             given-row = gives f given ts ks r (named .inner) (named .innerKinds) (named-asks-at fin ef)
 
@@ -523,7 +526,7 @@ module _ (x : Syntax) (t input before state : List ℕ) (deep c stop left : ℕ)
               same-then (g .same) (given-row .2),
             )
 
-            pub inner-turn : d ≤ length end → Going x t input before after deep fin stop left f given ts ks r cs o last pos d
+            pub inner-turn : d ≤ length end → Going x t input ends before after deep fin stop left f given ts ks r cs o last pos d
             unfolding rest-bytes
             inner-turn h = rw ef record {
               rest = named .rest;
@@ -856,12 +859,13 @@ module _ (x : Syntax) (t : List ℕ) (f : Translation) (given input : List ℕ) 
           known = λ j h. inl (fresh .none j h);
         }
 
-        module _ (deep : ℕ) (less : levels u ≤ deep) (most : deep ≤ 64) where
-          pub clause-asks : RowAsks x t input state (deep - 1) (from + 4) (from + 2 + (b * 256 + d)) 16 f given (n .operands) (n .kinds)
+        module _ (deep : ℕ) (less : levels u ≤ deep) (most : deep ≤ 64) (ends : List ℕ) (kept : Right x ends input (f .source) given) where
+          pub clause-asks : RowAsks x t input ends state (deep - 1) (from + 4) (from + 2 + (b * 256 + d)) 16 f given (n .operands) (n .kinds)
               (mappedArguments f k name) (cons (clausesOf f k name) nil) (mapped (f .body) k ∷ [])
           unfolding levels
           clause-asks = record {
             table = table;
+            kept = kept;
             node = fresh-node;
             row = clause-row;
             numbers = numbers;
@@ -870,7 +874,7 @@ module _ (x : Syntax) (t : List ℕ) (f : Translation) (given input : List ℕ) 
             within = let h = at-clause .within in omega arith;
           }
 
-          module _ (after o end : List ℕ) (pos e : ℕ) (gives : RowGives x t input state after (deep - 1) (from + 4) (from + 2 + (b * 256 + d)) 16 o end pos e) where
+          module _ (after o end : List ℕ) (pos e : ℕ) (gives : RowGives x t input ends state after (deep - 1) (from + 4) (from + 2 + (b * 256 + d)) 16 o end pos e) where
             given-clause : Wrote (rowBytes x f (n .operands) (cons (clausesOf f k name) nil)) o end pos e × Node x t input after (f .source) given (n .operands) (n .kinds) × Same state after
             given-clause = gives f given (n .operands) (n .kinds) (mappedArguments f k name) (cons (clausesOf f k name) nil) (mapped (f .body) k ∷ []) clause-asks
 
@@ -889,11 +893,11 @@ module _ (x : Syntax) (t : List ℕ) (f : Translation) (given input : List ℕ) 
             node-after = given-clause .1
 
             -- Where the term ends: at the end of its last argument.
-            pub node-find : (m : ℕ) → m ≡ sourceByte t (place + 1) → FindAsks x t input after (m - 2) f given (n .operands) (n .kinds)
+            pub node-find : (m : ℕ) → m ≡ sourceByte t (place + 1) → FindAsks x t input ends after (m - 2) f given (n .operands) (n .kinds)
             node-find m em =
                 let c = place-count m em in
                 let l = node-levels deep less in
-                record { table = table; node = node-after; levels = omega (arith, l .1); number = omega (arith, c .1) }
+                record { table = table; kept = kept; node = node-after; levels = omega (arith, l .1); number = omega (arith, c .1) }
 
             pub node-end : (m : ℕ) → m ≡ sourceByte t (place + 1) → startOf x after (n .operands) (m - 2) ≡ at + length (bytesOf x u)
             node-end m em =
@@ -908,9 +912,9 @@ module _ (x : Syntax) (t : List ℕ) (f : Translation) (given input : List ℕ) 
                 known-start x t input after (f .source) given (n .operands) (n .kinds) node-after (m - 2) (omega (arith, c .1)) h ∙ node-end m em
 
 -- What finding the start of an argument gives.
-abbrev pub FindGives : (x : Syntax) (t input before after : List ℕ) (j e : ℕ) → Type 0
-FindGives x t input before after j e =
-    (f : Translation) (given : List ℕ) (ts : Codes) (ks : List ℕ) → FindAsks x t input before j f given ts ks
+abbrev pub FindGives : (x : Syntax) (t input ends before after : List ℕ) (j e : ℕ) → Type 0
+FindGives x t input ends before after j e =
+    (f : Translation) (given : List ℕ) (ts : Codes) (ks : List ℕ) → FindAsks x t input ends before j f given ts ks
     → (e ≡ getD before 0 0 + length (allBytes x (front j ts))) × Node x t input after (f .source) given ts ks × Same before after
 
 -- The start of argument j is found.
@@ -919,13 +923,13 @@ pub record Found (x : Syntax) (t input before state : List ℕ) (j at : ℕ) (f 
   pub same : Same before state
   pub start : at ≡ startOf x state ts j
 
-module _ (x : Syntax) (t input before : List ℕ) (deep j : ℕ) (f : Translation) (given : List ℕ) (ts : Codes) (ks : List ℕ) (a : ArgumentAsks x t input before deep j f given ts ks) where
-  pub find-asks : FindAsks x t input before j f given ts ks
+module _ (x : Syntax) (t input ends before : List ℕ) (deep j : ℕ) (f : Translation) (given : List ℕ) (ts : Codes) (ks : List ℕ) (a : ArgumentAsks x t input ends before deep j f given ts ks) where
+  pub find-asks : FindAsks x t input ends before j f given ts ks
   find-asks =
       let l = a .levels in
       let m = a .most in
       let n = a .number in
-      record { table = a .table; node = a .node; levels = omega arith; number = omega arith }
+      record { table = a .table; kept = a .kept; node = a .node; levels = omega arith; number = omega arith }
 
   pub found-known : (state : List ℕ) (at k : ℕ) → k ≡ knownStart before j → (k ≡ 0 → ⊥) → state ≡ before → at ≡ k → Found x t input before state j at f given ts ks
   found-known state at k e h es ea =
@@ -936,7 +940,7 @@ module _ (x : Syntax) (t input before : List ℕ) (deep j : ℕ) (f : Translatio
         start = ea ∙ (e ∙ known-start x t input before (f .source) given ts ks (a .node) j (omega arith) (λ z. h (e ∙ z)));
       }
 
-  pub found-find : (state after : List ℕ) (at k : ℕ) → FindGives x t input before after j k → state ≡ after → at ≡ k → Found x t input before state j at f given ts ks
+  pub found-find : (state after : List ℕ) (at k : ℕ) → FindGives x t input ends before after j k → state ≡ after → at ≡ k → Found x t input before state j at f given ts ks
   found-find state after at k gives es ea =
       let w = gives f given ts ks find-asks in
       rw es record {
@@ -1019,37 +1023,37 @@ module _ (x : Syntax) (t input before : List ℕ) (deep j : ℕ) (f : Translatio
           found-deep = node-levels x t f given input at (nth ts j) kind (a .table) (found-term .kind) found-node name en small deep found-levels .0
 
           module _ (b c : ℕ) (eb : b ≡ bodyByte t from) (ed : c ≡ bodyByte t (from + 1)) (inner : List ℕ) (fresh : Fresh inner (place + 4) (at + nameLength x)) where
-            pub found-asks : (ts′ : Codes) × (ks′ r : List ℕ) × (cs : Codes) × (js : List ℕ) × RowAsks x t input inner (deep - 1) (from + 4) (from + 2 + (b * 256 + c)) 16 f given ts′ ks′ r cs js
+            pub found-asks : (ts′ : Codes) × (ks′ r : List ℕ) × (cs : Codes) × (js : List ℕ) × RowAsks x t input ends inner (deep - 1) (from + 4) (from + 2 + (b * 256 + c)) 16 f given ts′ ks′ r cs js
             found-asks = (
               found-node .operands,
               found-node .kinds,
               mappedArguments f kind name,
               cons (clausesOf f kind name) nil,
               mapped (f .body) kind ∷ [],
-              clause-asks x t f given input at (nth ts j) kind (a .table) (found-term .kind) found-node name en small place from ep ec b c eb ed inner fresh deep found-levels (a .most),
+              clause-asks x t f given input at (nth ts j) kind (a .table) (found-term .kind) found-node name en small place from ep ec b c eb ed inner fresh deep found-levels (a .most) ends (a .kept),
             )
 
-            module _ (after o end : List ℕ) (pos e : ℕ) (gives : RowGives x t input inner after (deep - 1) (from + 4) (from + 2 + (b * 256 + c)) 16 o end pos e) where
+            module _ (after o end : List ℕ) (pos e : ℕ) (gives : RowGives x t input ends inner after (deep - 1) (from + 4) (from + 2 + (b * 256 + c)) 16 o end pos e) where
               found-wrote : Wrote (bytesOf x (nth (runAll (clausesOf f) ts) j)) o end pos e
               found-wrote =
-                  rw found-run (node-wrote x t f given input at (nth ts j) kind (a .table) (found-term .kind) found-node name en small place from ep ec b c eb ed inner fresh deep found-levels (a .most) after o end pos e gives)
+                  rw found-run (node-wrote x t f given input at (nth ts j) kind (a .table) (found-term .kind) found-node name en small place from ep ec b c eb ed inner fresh deep found-levels (a .most) ends (a .kept) after o end pos e gives)
 
               module _ (m : ℕ) (em : m ≡ sourceByte t (place + 1)) where
-                pub last-asks : (ts′ : Codes) × (ks′ : List ℕ) × FindAsks x t input after (m - 2) f given ts′ ks′
+                pub last-asks : (ts′ : Codes) × (ks′ : List ℕ) × FindAsks x t input ends after (m - 2) f given ts′ ks′
                 last-asks = (
                   found-node .operands,
                   found-node .kinds,
-                  node-find x t f given input at (nth ts j) kind (a .table) (found-term .kind) found-node name en small place from ep ec b c eb ed inner fresh deep found-levels (a .most) after o end pos e gives m em,
+                  node-find x t f given input at (nth ts j) kind (a .table) (found-term .kind) found-node name en small place from ep ec b c eb ed inner fresh deep found-levels (a .most) ends (a .kept) after o end pos e gives m em,
                 )
 
                 last-end-is : startOf x after (found-node .operands) (m - 2) ≡ at + length (bytesOf x (nth ts j))
-                last-end-is = node-end x t f given input at (nth ts j) kind (a .table) (found-term .kind) found-node name en small place from ep ec b c eb ed inner fresh deep found-levels (a .most) after o end pos e gives m em
+                last-end-is = node-end x t f given input at (nth ts j) kind (a .table) (found-term .kind) found-node name en small place from ep ec b c eb ed inner fresh deep found-levels (a .most) ends (a .kept) after o end pos e gives m em
 
                 pub last-known : (fin k : ℕ) → k ≡ knownStart after (m - 2) → (k ≡ 0 → ⊥) → fin ≡ k → fin ≡ at + length (bytesOf x (nth ts j))
                 last-known fin k ek h ef =
-                    ef ∙ (ek ∙ node-known x t f given input at (nth ts j) kind (a .table) (found-term .kind) found-node name en small place from ep ec b c eb ed inner fresh deep found-levels (a .most) after o end pos e gives m em (λ z. h (ek ∙ z)))
+                    ef ∙ (ek ∙ node-known x t f given input at (nth ts j) kind (a .table) (found-term .kind) found-node name en small place from ep ec b c eb ed inner fresh deep found-levels (a .most) ends (a .kept) after o end pos e gives m em (λ z. h (ek ∙ z)))
 
-                pub last-find : (fin k : ℕ) (after′ : List ℕ) → FindGives x t input after after′ (m - 2) k → fin ≡ k → fin ≡ at + length (bytesOf x (nth ts j))
+                pub last-find : (fin k : ℕ) (after′ : List ℕ) → FindGives x t input ends after after′ (m - 2) k → fin ≡ k → fin ≡ at + length (bytesOf x (nth ts j))
                 unfolding found-node last-asks
                 last-find fin k after′ finds ef = ef ∙ (finds f given (found-node .operands) (found-node .kinds) (last-asks .2) .0 ∙ last-end-is)
 
@@ -1074,7 +1078,7 @@ pub behind-sign : (input : List ℕ) (at name n m : ℕ) → name ≡ getD input
 behind-sign input at name n m e q = e ∙ ap (λ (i : ℕ). getD input (at + i) 0) q
 
 -- The run of a whole term.
-module _ (x : Syntax) (t input : List ℕ) (deep k : ℕ) (f : Translation) (given : List ℕ) (u : Terms.Code) (a : TermAsks x t input deep k f given u) where
+module _ (x : Syntax) (t input ends : List ℕ) (deep k : ℕ) (f : Translation) (given : List ℕ) (u : Terms.Code) (a : TermAsks x t input ends deep k f given u) where
   term-tells : (0 < length input) × (leafAt x t k input 0 ≡ true → IsLeaf x f input 0 u) × (leafAt x t k input 0 ≡ false → IsNode x f given input 0 u k)
   term-tells = tells x t f given input 0 u k (a .table) (a .term)
 
@@ -1120,20 +1124,20 @@ module _ (x : Syntax) (t input : List ℕ) (deep k : ℕ) (f : Translation) (giv
         term-clause = clause-room x t f given input 0 u k (a .table) (a .term .kind) term-node name term-name small place from ep ec
 
         module _ (b c : ℕ) (eb : b ≡ bodyByte t from) (ed : c ≡ bodyByte t (from + 1)) (inner : List ℕ) (made : Fresh inner (place + 4) (0 + nameLength x)) where
-          pub term-asks : (ts : Codes) × (ks r : List ℕ) × (cs : Codes) × (js : List ℕ) × RowAsks x t input inner (deep - 1) (from + 4) (from + 2 + (b * 256 + c)) 16 f given ts ks r cs js
+          pub term-asks : (ts : Codes) × (ks r : List ℕ) × (cs : Codes) × (js : List ℕ) × RowAsks x t input ends inner (deep - 1) (from + 4) (from + 2 + (b * 256 + c)) 16 f given ts ks r cs js
           term-asks = (
             term-node .operands,
             term-node .kinds,
             mappedArguments f k name,
             cons (clausesOf f k name) nil,
             mapped (f .body) k ∷ [],
-            clause-asks x t f given input 0 u k (a .table) (a .term .kind) term-node name term-name small place from ep ec b c eb ed inner made deep (a .levels) (a .most),
+            clause-asks x t f given input 0 u k (a .table) (a .term .kind) term-node name term-name small place from ep ec b c eb ed inner made deep (a .levels) (a .most) ends (a .kept),
           )
 
-          pub term-gives : (after o end : List ℕ) (pos e : ℕ) → RowGives x t input inner after (deep - 1) (from + 4) (from + 2 + (b * 256 + c)) 16 o end pos e
+          pub term-gives : (after o end : List ℕ) (pos e : ℕ) → RowGives x t input ends inner after (deep - 1) (from + 4) (from + 2 + (b * 256 + c)) 16 o end pos e
               → Wrote (bytesOf x (transform f u)) o end pos e
           term-gives after o end pos e gives =
-              rw transform-run (node-wrote x t f given input 0 u k (a .table) (a .term .kind) term-node name term-name small place from ep ec b c eb ed inner made deep (a .levels) (a .most) after o end pos e gives)
+              rw transform-run (node-wrote x t f given input 0 u k (a .table) (a .term .kind) term-node name term-name small place from ep ec b c eb ed inner made deep (a .levels) (a .most) ends (a .kept) after o end pos e gives)
 
 pub fresh-first : (from n m : ℕ) → n ≡ m → Fresh (set (set (replicate 10 0) 9 from) 0 n) from (0 + m)
 fresh-first from n m e = let z : n ≡ 0 + m = omega arith in fresh-at from n (0 + m) z

@@ -1,18 +1,20 @@
 -- What the join is told of two translations: both are sound, and the emitter is told what it asks for.
-use Prim.Native.Nat.{ℕ, _+_, _-_, _<_}
+use Prim.Native.Nat.{ℕ, _+_, _-_, _*_, _<_}
 use mathlib.Core.Path.{_≡_, refl, ap, _∙_}
 use mathlib.Core.Logic.{inl, inr}
 use mathlib.Core.List.{List, [], _∷_}
 use native.Mathlib.Omega.{arith}
-use lib.ListN.{length, getD, drop, length-take}
+use lib.ListN.{length, getD, drop, replicate, length-take}
 use lib.Seq.{slice, getD-take, getD-drop}
 use Rattle.fields.specs.Inner.Places.{fieldEnd, placesFrom, places}
 use Rattle.fields.proofs.Truth.{Mem, mem-map, mem-append}
 use Rattle.fields.proofs.Codec.{Bytes, bytes-from}
 use Rattle.fields.proofs.Places.{places-next}
+use Rattle.language.specs.Language.{Language}
 use Rattle.reader.specs.Code.{Code}
 use Rattle.reader.specs.Syntax as Meant
 use Rattle.reader.specs.declared.node.Syntax.the-variants as Syntaxes
+use Rattle.reader.proofs.Check.{zeros}
 use Rattle.reader.proofs.Larger.{read-keeps, keeps}
 use Rattle.reader.proofs.Sound.{read-done}
 use Rattle.translation.specs.Translation.{Translation, clause, mapped}
@@ -25,7 +27,7 @@ use Rattle.translation.proofs.Coded.{code-cut}
 use Rattle.translation.proofs.Found.{cut, cut-is}
 use Rattle.translation.proofs.Fitting.{clause-code}
 use Rattle.emitter.specs.Inner.Stands.{Wrote}
-use Rattle.emitter.specs.Inner.Runs.{bytesOf, TermAsks}
+use Rattle.emitter.specs.Inner.Runs.{bytesOf, Right, TermAsks}
 use Rattle.emitter.proofs.Standing.{drop-stands}
 use Rattle.operators.proofs.Proper.{Sound}
 use Rattle.values.proofs.Accepted.{accepted-good}
@@ -47,6 +49,14 @@ cut-bytes s q e h =
     (λ i l.
     let g : getD (cut s q e) i 0 ≡ getD s (q + i) 0 = getD-take (e - q) (drop q s) i 0 (omega (arith, length-take (e - q) (drop q s), l)) ∙ getD-drop q s i 0 in
     rw g (h (q + i)))
+
+-- Nothing is kept in a table of zeros.
+nothing-kept : (n : ℕ) (input : List ℕ) (l : Language) (given : List ℕ) → Right Syntaxes.Code (replicate n 0) input l given
+nothing-kept n input l given k at e z u d s =
+    let y = z .end in
+    let w = zeros n (2 * z .slot + 1) in
+    let m = z .some in
+    absurd (omega arith)
 
 module _ (t b′ ib′ : List ℕ) (f g : Translation) (z : Joining t b′ ib′ f g) where
   pub first-sound : Sound f
@@ -85,12 +95,13 @@ module _ (t b′ ib′ : List ℕ) (f g : Translation) (z : Joining t b′ ib′
           cut-is b′ (p + 5) e (code-cut b′ p e c ee .0) (code-cut b′ p e c ee .1) ∙ ap (λ (j : ℕ). slice (p + 5) j b′) ee in
           rw (l, u) clause-read
 
-      pub code-asks : TermAsks Syntaxes.Code t (cut b′ (p + 5) e) 16 kind f (mappedArguments g (getD b′ (p + 3) 0) (getD b′ (p + 4) 0))
+      pub code-asks : TermAsks Syntaxes.Code t (cut b′ (p + 5) e) (replicate 2 0) 16 kind f (mappedArguments g (getD b′ (p + 3) 0) (getD b′ (p + 4) 0))
           (clausesOf g (getD b′ (p + 3) 0) (getD b′ (p + 4) 0))
       code-asks =
           let d = read-done Meant.code (f .source) _ 16 kind (cut b′ (p + 5) e) _ [] code-told in
           record {
             table = record { ready = z .table; plain = λ q. no-tree q };
+            kept = nothing-kept 2 _ _ _;
             term = record {
               typed = d .0;
               kind = below;
@@ -101,7 +112,7 @@ module _ (t b′ ib′ : List ℕ) (f g : Translation) (z : Joining t b′ ib′
           }
 
       pub code-wrote : (o o′ : List ℕ) (n q : ℕ)
-          → ((h : Translation) (given : List ℕ) (u : Code) → TermAsks Syntaxes.Code t (cut b′ (p + 5) e) 16 kind h given u
+          → ((h : Translation) (given : List ℕ) (u : Code) → TermAsks Syntaxes.Code t (cut b′ (p + 5) e) (replicate 2 0) 16 kind h given u
           → Wrote (bytesOf Syntaxes.Code (transform h u)) o o′ n q)
           → Wrote (joinedCode f g b′ p) o o′ n q
       unfolding transform

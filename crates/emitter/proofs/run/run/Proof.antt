@@ -19,34 +19,34 @@ use Rattle.fields.proofs.bytes.wide.Reads as wide-reads
 use Rattle.reader.proofs.node.name_length.Reads as name-length-reads
 
 is-leaf-requires : tie.Need-is-leaf-requires
-is-leaf-requires c κs = term-below _ _ _ _ _ _ _ _ (c .before .before .pre .1 .3)
+is-leaf-requires c κs = term-below _ _ _ _ _ _ _ _ _ (c .before .before .before .pre .1 .3)
 
 leaf-length-requires : tie.Need-leaf-length-requires
-leaf-length-requires c κs = term-below _ _ _ _ _ _ _ _ (c .before .before .before .before .pre .1 .3) .1
+leaf-length-requires c κs = term-below _ _ _ _ _ _ _ _ _ (c .before .before .before .before .before .pre .1 .3) .1
 
 put-leaf-requires : tie.Need-put-leaf-requires
-put-leaf-requires c κs = (c .before .leaf-length .ensures .1, c .before .leaf-length .ensures .2, term-room _ _ _ _ _ _ _ _ (c .before .before .before .before .before .before .pre .1 .3) (sym (c .before .before .before .is-leaf .ensures) ∙ c .before .before .if1 .taken) _ (c .before .leaf-length .ensures .0), c .before .before .before .before .before .before .pre .0)
+put-leaf-requires c κs = (c .before .leaf-length .ensures .1, c .before .leaf-length .ensures .2, term-room _ _ _ _ _ _ _ _ _ (c .before .before .before .before .before .before .before .pre .1 .3) (sym (c .before .before .before .is-leaf .ensures) ∙ c .before .before .if1 .taken) _ (c .before .leaf-length .ensures .0), c .before .before .before .before .before .before .before .pre .0)
 
 returns : tie.Need-returns
-returns c = λ f given u a. term-leaf _ _ _ _ _ _ _ _ a (sym (c .before .before .before .before .before .before .is-leaf .ensures) ∙ c .before .before .before .before .before .if1 .taken) _ (c .before .before .before .before .leaf-length .ensures .0) _ _ _ _ (c .before .before .put-leaf .ensures)
+returns c = λ f given u a. term-leaf _ _ _ _ _ _ _ _ _ a (sym (c .before .before .before .before .before .before .is-leaf .ensures) ∙ c .before .before .before .before .before .if1 .taken) _ (c .before .before .before .before .leaf-length .ensures .0) _ _ _ _ (c .before .before .put-leaf .ensures)
 
 shared-slice-read-wide : tie.Need-shared-slice-read-wide
-shared-slice-read-wide c = term-inside _ _ _ _ _ _ _ _ (c .before .before .before .before .before .before .pre .1 .3) (sym (c .before .before .before .is-leaf .ensures) ∙ c .before .before .if1 .left) _ (c .before .sign-length .ensures .0)
+shared-slice-read-wide c = term-inside _ _ _ _ _ _ _ _ _ (c .before .before .before .before .before .before .before .pre .1 .3) (sym (c .before .before .before .is-leaf .ensures) ∙ c .before .before .if1 .left) _ (c .before .sign-length .ensures .0)
 
 body-at-requires : tie.Need-body-at-requires
-body-at-requires c κs = omega (arith, term-clause _ _ _ _ _ _ _ _ (c .before .before .before .before .before .before .before .before .pre .1 .3) (sym (c .before .before .before .before .before .is-leaf .ensures) ∙ c .before .before .before .before .if1 .left) _ _ (c .before .before .before .sign-length .ensures .0) (c .before .wide .ensures .0) (c .before .wide .ensures .1) _ _ refl (c .clause-at .ensures .0))
+body-at-requires c κs = omega (arith, term-clause _ _ _ _ _ _ _ _ _ (c .before .before .before .before .before .before .before .before .before .pre .1 .3) (sym (c .before .before .before .before .before .is-leaf .ensures) ∙ c .before .before .before .before .if1 .left) _ _ (c .before .before .before .sign-length .ensures .0) (c .before .wide .ensures .0) (c .before .wide .ensures .1) _ _ refl (c .clause-at .ensures .0))
 
 body-at-requires-2 : tie.Need-body-at-requires-2
-body-at-requires-2 c κs = omega (arith, term-clause _ _ _ _ _ _ _ _ (c .before .before .before .before .before .before .before .before .before .pre .1 .3) (sym (c .before .before .before .before .before .before .is-leaf .ensures) ∙ c .before .before .before .before .before .if1 .left) _ _ (c .before .before .before .before .sign-length .ensures .0) (c .before .before .wide .ensures .0) (c .before .before .wide .ensures .1) _ _ refl (c .before .clause-at .ensures .0))
+body-at-requires-2 c κs = omega (arith, term-clause _ _ _ _ _ _ _ _ _ (c .before .before .before .before .before .before .before .before .before .before .pre .1 .3) (sym (c .before .before .before .before .before .before .is-leaf .ensures) ∙ c .before .before .before .before .before .if1 .left) _ _ (c .before .before .before .before .sign-length .ensures .0) (c .before .before .wide .ensures .0) (c .before .before .wide .ensures .1) _ _ refl (c .before .clause-at .ensures .0))
 
 sub-run-row : tie.Need-sub-run-row
-sub-run-row c = omega (arith, term-deep _ _ _ _ _ _ _ _ (c .before .before .before .before .before .before .before .before .before .before .before .before .before .pre .1 .3) (sym (c .before .before .before .before .before .before .before .before .before .before .is-leaf .ensures) ∙ c .before .before .before .before .before .before .before .before .before .if1 .left) _ _ (c .before .before .before .before .before .before .before .before .sign-length .ensures .0) (c .before .before .before .before .before .before .wide .ensures .0) (c .before .before .before .before .before .before .wide .ensures .1))
+sub-run-row c = omega (arith, term-deep _ _ _ _ _ _ _ _ _ (c .before .before .before .before .before .before .before .before .before .before .before .before .before .before .pre .1 .3) (sym (c .before .before .before .before .before .before .before .before .before .before .is-leaf .ensures) ∙ c .before .before .before .before .before .before .before .before .before .if1 .left) _ _ (c .before .before .before .before .before .before .before .before .sign-length .ensures .0) (c .before .before .before .before .before .before .wide .ensures .0) (c .before .before .before .before .before .before .wide .ensures .1))
 
 run-row-requires : tie.Need-run-row-requires
-run-row-requires c κs = let w = term-asks _ _ _ _ _ _ _ _ (c .before .before .before .before .before .before .before .before .before .before .before .before .before .before .pre .1 .3) (sym (c .before .before .before .before .before .before .before .before .before .before .before .is-leaf .ensures) ∙ c .before .before .before .before .before .before .before .before .before .before .if1 .left) _ _ (c .before .before .before .before .before .before .before .before .before .sign-length .ensures .0) (c .before .before .before .before .before .before .before .wide .ensures .0) (c .before .before .before .before .before .before .before .wide .ensures .1) _ _ (c .before .before .before .index-at .ensures .0) (c .before .before .before .before .before .before .clause-at .ensures .0) _ _ (c .before .before .before .before .before .body-at .ensures .0) (c .before .before .before .before .body-at2 .ensures .0) _ (fresh-first _ _ _ (c .before .before .name-length .ensures .0)) in (c .before .before .before .before .before .before .before .before .before .before .before .before .before .before .pre .0, (c .before .before .before .before .before .before .before .before .before .before .before .before .before .before .pre .1 .0, c .before .before .before .before .before .before .before .before .before .before .before .before .before .before .pre .1 .1, w .0, w .1, w .2, w .3, w .4, w .5))
+run-row-requires c κs = let w = term-asks _ _ _ _ _ _ _ _ _ (c .before .before .before .before .before .before .before .before .before .before .before .before .before .before .before .pre .1 .3) (sym (c .before .before .before .before .before .before .before .before .before .before .before .is-leaf .ensures) ∙ c .before .before .before .before .before .before .before .before .before .before .if1 .left) _ _ (c .before .before .before .before .before .before .before .before .before .sign-length .ensures .0) (c .before .before .before .before .before .before .before .wide .ensures .0) (c .before .before .before .before .before .before .before .wide .ensures .1) _ _ (c .before .before .before .index-at .ensures .0) (c .before .before .before .before .before .before .clause-at .ensures .0) _ _ (c .before .before .before .before .before .body-at .ensures .0) (c .before .before .before .before .body-at2 .ensures .0) _ (fresh-first _ _ _ (c .before .before .name-length .ensures .0)) in (c .before .before .before .before .before .before .before .before .before .before .before .before .before .before .before .pre .0, (c .before .before .before .before .before .before .before .before .before .before .before .before .before .before .before .pre .1 .0, c .before .before .before .before .before .before .before .before .before .before .before .before .before .before .before .pre .1 .1, w .0, w .1, w .2, w .3, w .4, w .5))
 
 returns-2 : tie.Need-returns-2
-returns-2 c = λ f given u a. term-gives _ _ _ _ _ _ _ _ a (sym (c .before .before .before .before .before .before .before .before .before .before .before .before .before .before .is-leaf .ensures) ∙ c .before .before .before .before .before .before .before .before .before .before .before .before .before .if1 .left) _ _ (c .before .before .before .before .before .before .before .before .before .before .before .before .sign-length .ensures .0) (c .before .before .before .before .before .before .before .before .before .before .wide .ensures .0) (c .before .before .before .before .before .before .before .before .before .before .wide .ensures .1) _ _ (c .before .before .before .before .before .before .index-at .ensures .0) (c .before .before .before .before .before .before .before .before .before .clause-at .ensures .0) _ _ (c .before .before .before .before .before .before .before .before .body-at .ensures .0) (c .before .before .before .before .before .before .before .body-at2 .ensures .0) _ (fresh-first _ _ _ (c .before .before .before .before .before .name-length .ensures .0)) _ _ _ _ _ (c .before .before .run-row .ensures)
+returns-2 c = λ f given u a. term-gives _ _ _ _ _ _ _ _ _ a (sym (c .before .before .before .before .before .before .before .before .before .before .before .before .before .before .is-leaf .ensures) ∙ c .before .before .before .before .before .before .before .before .before .before .before .before .before .if1 .left) _ _ (c .before .before .before .before .before .before .before .before .before .before .before .before .sign-length .ensures .0) (c .before .before .before .before .before .before .before .before .before .before .wide .ensures .0) (c .before .before .before .before .before .before .before .before .before .before .wide .ensures .1) _ _ (c .before .before .before .before .before .before .index-at .ensures .0) (c .before .before .before .before .before .before .before .before .before .clause-at .ensures .0) _ _ (c .before .before .before .before .before .before .before .before .body-at .ensures .0) (c .before .before .before .before .before .before .before .body-at2 .ensures .0) _ (fresh-first _ _ _ (c .before .before .before .before .before .name-length .ensures .0)) _ _ _ _ _ (c .before .before .run-row .ensures)
 
 pub run-spec : {M : Type 1} → statement M
 run-spec =

@@ -14,13 +14,13 @@ use Rattle.fields.proofs.bytes.byte_at.Reads as byte-at-reads
 use Rattle.translation.proofs.index.map_kind.Reads as map-kind-reads
 
 run-requires : tie.Need-run-requires
-run-requires c κs = (c .before .before .before .before .before .before .before .pre .3, (_, _, _, code-asks (c .before .before .before .before .before .before .before .args .table .now) (c .before .before .before .before .before .before .before .args .second-body .now) (c .before .before .before .before .before .before .before .args .second-items .now) _ _ (c .before .before .before .before .before .before .before .pre .4 .2) _ (c .before .before .before .before .before .before .before .pre .1) (c .before .before .before .before .before .before .before .pre .0) (λ i. omega (arith, c .before .before .before .before .before .before .shared-slice-known .given i)) _ (c .before .before .before .before .before .before .before .pre .2) _ (c .before .before .map-kind .ensures .1) (c .before .before .map-kind .ensures .0 ∙ ap (λ (i : ℕ). mappedAt (c .before .before .before .before .before .before .before .args .second-body .now) (c .before .before .before .before .before .before .before .args .second-items .now) i) (c .before .before .before .byte-at .ensures))))
+run-requires c κs = (c .before .before .before .before .before .before .before .before .pre .3, (_, _, _, code-asks (c .before .before .before .before .before .before .before .before .args .table .now) (c .before .before .before .before .before .before .before .before .args .second-body .now) (c .before .before .before .before .before .before .before .before .args .second-items .now) _ _ (c .before .before .before .before .before .before .before .before .pre .4 .2) _ (c .before .before .before .before .before .before .before .before .pre .1) (c .before .before .before .before .before .before .before .before .pre .0) (λ i. omega (arith, c .before .before .before .before .before .before .before .shared-slice-known .given i)) _ (c .before .before .before .before .before .before .before .before .pre .2) _ (c .before .before .before .map-kind .ensures .1) (c .before .before .before .map-kind .ensures .0 ∙ ap (λ (i : ℕ). mappedAt (c .before .before .before .before .before .before .before .before .args .second-body .now) (c .before .before .before .before .before .before .before .before .args .second-items .now) i) (c .before .before .before .before .byte-at .ensures))))
 
 returns : tie.Need-returns
-returns c = λ f g z. wrote-over _ _ _ _ _ (code-wrote (c .before .before .before .before .before .before .before .before .before .before .before .args .table .now) (c .before .before .before .before .before .before .before .before .before .before .before .args .second-body .now) (c .before .before .before .before .before .before .before .before .before .before .before .args .second-items .now) f g z _ (c .before .before .before .before .before .before .before .before .before .before .before .pre .1) (c .before .before .before .before .before .before .before .before .before .before .before .pre .0) (λ i. omega (arith, c .before .before .before .before .before .before .before .before .before .before .shared-slice-known .given i)) _ (c .before .before .before .before .before .before .before .before .before .before .before .pre .2) _ (c .before .before .before .before .before .before .map-kind .ensures .1) (c .before .before .before .before .before .before .map-kind .ensures .0 ∙ ap (λ (i : ℕ). mappedAt (c .before .before .before .before .before .before .before .before .before .before .before .args .second-body .now) (c .before .before .before .before .before .before .before .before .before .before .before .args .second-items .now) i) (c .before .before .before .before .before .before .before .byte-at .ensures)) _ _ _ _ (c .before .before .before .run .ensures)) (c .if1 .taken)
+returns c = λ f g z. wrote-over _ _ _ _ _ (code-wrote (c .before .before .before .before .before .before .before .before .before .before .before .before .args .table .now) (c .before .before .before .before .before .before .before .before .before .before .before .before .args .second-body .now) (c .before .before .before .before .before .before .before .before .before .before .before .before .args .second-items .now) f g z _ (c .before .before .before .before .before .before .before .before .before .before .before .before .pre .1) (c .before .before .before .before .before .before .before .before .before .before .before .before .pre .0) (λ i. omega (arith, c .before .before .before .before .before .before .before .before .before .before .before .shared-slice-known .given i)) _ (c .before .before .before .before .before .before .before .before .before .before .before .before .pre .2) _ (c .before .before .before .before .before .before .before .map-kind .ensures .1) (c .before .before .before .before .before .before .before .map-kind .ensures .0 ∙ ap (λ (i : ℕ). mappedAt (c .before .before .before .before .before .before .before .before .before .before .before .before .args .second-body .now) (c .before .before .before .before .before .before .before .before .before .before .before .before .args .second-items .now) i) (c .before .before .before .before .before .before .before .before .byte-at .ensures)) _ _ _ _ (c .before .before .before .run .ensures)) (c .if1 .taken)
 
 returns-2 : tie.Need-returns-2
-returns-2 c = λ f g z. wrote-to _ _ _ _ _ (code-wrote (c .before .before .before .before .before .before .before .before .before .before .before .args .table .now) (c .before .before .before .before .before .before .before .before .before .before .before .args .second-body .now) (c .before .before .before .before .before .before .before .before .before .before .before .args .second-items .now) f g z _ (c .before .before .before .before .before .before .before .before .before .before .before .pre .1) (c .before .before .before .before .before .before .before .before .before .before .before .pre .0) (λ i. omega (arith, c .before .before .before .before .before .before .before .before .before .before .shared-slice-known .given i)) _ (c .before .before .before .before .before .before .before .before .before .before .before .pre .2) _ (c .before .before .before .before .before .before .map-kind .ensures .1) (c .before .before .before .before .before .before .map-kind .ensures .0 ∙ ap (λ (i : ℕ). mappedAt (c .before .before .before .before .before .before .before .before .before .before .before .args .second-body .now) (c .before .before .before .before .before .before .before .before .before .before .before .args .second-items .now) i) (c .before .before .before .before .before .before .before .byte-at .ensures)) _ _ _ _ (c .before .before .before .run .ensures)) (c .if1 .left)
+returns-2 c = λ f g z. wrote-to _ _ _ _ _ (code-wrote (c .before .before .before .before .before .before .before .before .before .before .before .before .args .table .now) (c .before .before .before .before .before .before .before .before .before .before .before .before .args .second-body .now) (c .before .before .before .before .before .before .before .before .before .before .before .before .args .second-items .now) f g z _ (c .before .before .before .before .before .before .before .before .before .before .before .before .pre .1) (c .before .before .before .before .before .before .before .before .before .before .before .before .pre .0) (λ i. omega (arith, c .before .before .before .before .before .before .before .before .before .before .before .shared-slice-known .given i)) _ (c .before .before .before .before .before .before .before .before .before .before .before .before .pre .2) _ (c .before .before .before .before .before .before .before .map-kind .ensures .1) (c .before .before .before .before .before .before .before .map-kind .ensures .0 ∙ ap (λ (i : ℕ). mappedAt (c .before .before .before .before .before .before .before .before .before .before .before .before .args .second-body .now) (c .before .before .before .before .before .before .before .before .before .before .before .before .args .second-items .now) i) (c .before .before .before .before .before .before .before .before .byte-at .ensures)) _ _ _ _ (c .before .before .before .run .ensures)) (c .if1 .left)
 
 pub join-code-spec : {M : Type 1} → statement M
 join-code-spec =
@@ -29,6 +29,7 @@ join-code-spec =
     (λ c. search needs)
     (λ c κs. search needs)
     (λ c κs. search needs)
+    (λ c. search needs)
     (λ c. search needs)
     (λ c. search needs)
     (λ c. search needs)
