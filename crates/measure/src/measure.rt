@@ -19,7 +19,7 @@ ghost use Rattle.reader.specs.Inner.Positions.{KindsIn};
 ghost use Rattle.translation.specs.Translation.{Translation};
 ghost use Rattle.measure.specs.Inner.Measuring.{EndsIn, sizedAt, sizedOf, Counted};
 ghost use Rattle.measure.specs.Inner.Descent.{leafStep, downAt, downRow, goesOn, StepIn};
-ghost use Rattle.measure.specs.Inner.Learning.{Learnt};
+ghost use Rattle.measure.specs.Inner.Learning.{Learnt, Decides};
 
 // The position after a tree, and the length of its run up to a top; one level too many; or bytes that are no such tree.
 pub enum Measured {
@@ -63,6 +63,7 @@ fn step_at(
     ensures is { λ r. ⌜ ((n : ℕ) → goesOn (now (source .entry)) (now (index .entry)) (now (counts .entry)) (now (tree .entry)) top n r
         ≡ downAt (now (source .entry)) (now (index .entry)) (now (counts .entry)) (now (tree .entry)) top (suc n) weight kind at sum) ⌝ }
     ensures within { λ r. ⌜ StepIn (now (source .entry)) (length (now (tree .entry))) top at r ⌝ }
+    ensures decides { λ r. ⌜ Decides (now (source .entry)) (now (index .entry)) (now (tree .entry)) kind at r ⌝ }
 {
     let class = place_at(index, wide(kind));
     let place = production_place(Syntax::Tree, index, class, kind, tree, at);
