@@ -5,7 +5,7 @@
  * stores 0 and leaves the output unchanged. A slice is a pointer and a length; the pointer
  * must be valid for that many bytes, and must not be null even if the length is 0.
  *
- * The library has the three checks so far; reduce and run are declared for what is to come. */
+ * The library has all five operations declared here: three checks, reduce and run. */
 #ifndef ALGEBRA_H
 #define ALGEBRA_H
 

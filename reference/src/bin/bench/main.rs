@@ -8,7 +8,7 @@
 mod inputs;
 mod measure;
 
-use measure::{compare, Timing};
+use measure::{compare, growth, Growth, Timing};
 use reference::library;
 use std::hint::black_box;
 
@@ -49,31 +49,36 @@ fn bench_check_language() {
 /// Measures the check of trees of three sizes, and how the time for a byte grows.
 fn bench_check_tree() {
     let language = inputs::tree_language();
-    let mut growth = Vec::new();
-    for (size, bytes) in SIZES {
-        let tree = inputs::wide_tree(bytes);
-        assert_eq!(library::check_tree(&language, 1, &tree), 0);
-        assert_eq!(reference::check_tree(&language, 1, &tree).number(), 0);
+    let trees = trees();
+    for ((size, _), tree) in SIZES.iter().zip(&trees) {
+        assert_eq!(library::check_tree(&language, 1, tree), 0);
+        assert_eq!(reference::check_tree(&language, 1, tree).number(), 0);
         let timing = compare(
-            || library::check_tree(black_box(&language), 1, black_box(&tree)),
-            || reference::check_tree(black_box(&language), 1, black_box(&tree)),
+            || library::check_tree(black_box(&language), 1, black_box(tree)),
+            || reference::check_tree(black_box(&language), 1, black_box(tree)),
         );
         print_line(&format!("check_tree, {size}"), tree.len(), timing);
-        growth.push((tree.len(), timing));
     }
-    print_growth("check_tree", &growth);
+    let [_, small, large] = &trees;
+    let growth = growth(
+        small,
+        large,
+        |tree| library::check_tree(black_box(&language), 1, tree),
+        |tree| reference::check_tree(black_box(&language), 1, tree),
+    );
+    print_growth("check_tree", growth);
+}
+
+/// The trees of the three sizes.
+fn trees() -> [Vec<u8>; 3] {
+    SIZES.map(|(_, bytes)| inputs::wide_tree(bytes))
 }
 
 /// Prints the time for a byte at 10 MB over that at 100 KB, for both sides.
-fn print_growth(name: &str, growth: &[(usize, Timing)]) {
-    let &[_, (small, middle), (large, most)] = growth else {
-        return;
-    };
-    let growth = |middle: f64, most: f64| (most / large as f64) / (middle / small as f64);
+fn print_growth(name: &str, growth: Growth) {
     println!(
         "{name}: ns/byte at 10 MB over 100 KB: library {:.2}, reference {:.2}",
-        growth(middle.library, most.library),
-        growth(middle.reference, most.reference)
+        growth.library, growth.reference
     );
 }
 
@@ -95,9 +100,14 @@ mod run {
     use super::*;
     use inputs::runs;
 
-    /// Measures one run, with an output of exactly the length of the result.
+    /// The length of an output with room for each of the results from a tree.
+    fn room(tree: &[u8]) -> usize {
+        4 * tree.len() + 64
+    }
+
+    /// Measures one run, with an output that has room for the result.
     fn bench_one(name: &str, translation: &[u8], tree: &[u8]) -> Timing {
-        let mut output = vec![0; 4 * tree.len() + 64];
+        let mut output = vec![0; room(tree)];
         let expected = reference::run(translation, 1, tree, &mut output);
         assert_eq!(expected.number(), 0);
         let mut library_output = vec![0; output.len()];
@@ -112,6 +122,18 @@ mod run {
         timing
     }
 
+    /// Measures how the time for a byte of a run grows from the small tree to the large one.
+    fn bench_growth(name: &str, translation: &[u8], small: &[u8], large: &[u8]) {
+        let (mut library_output, mut output) = (vec![0; room(large)], vec![0; room(large)]);
+        let growth = growth(
+            small,
+            large,
+            |tree| library::run(translation, 1, tree, &mut library_output[..room(tree)]),
+            |tree| reference::run(translation, 1, tree, &mut output[..room(tree)]),
+        );
+        print_growth(name, growth);
+    }
+
     /// Measures the four translations on trees of three sizes, and a chain and a flat tree.
     pub fn bench() {
         let translations = [
@@ -120,14 +142,13 @@ mod run {
             ("swapping", runs::swapping()),
             ("dropping", runs::dropping()),
         ];
+        let trees = trees();
+        let [_, small, large] = &trees;
         for (name, translation) in &translations {
-            let mut growth = Vec::new();
-            for (size, bytes) in SIZES {
-                let tree = inputs::wide_tree(bytes);
-                let timing = bench_one(&format!("run, {name}, {size}"), translation, &tree);
-                growth.push((tree.len(), timing));
+            for ((size, _), tree) in SIZES.iter().zip(&trees) {
+                bench_one(&format!("run, {name}, {size}"), translation, tree);
             }
-            print_growth(&format!("run, {name}"), &growth);
+            bench_growth(&format!("run, {name}"), translation, small, large);
         }
         for (name, translation) in &translations {
             let (chain, flat) = (runs::chain_tree(), runs::flat_tree());

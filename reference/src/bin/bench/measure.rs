@@ -1,4 +1,5 @@
-//! Timing of two functions in turn, and the median of several rounds.
+//! Timing of two functions in turn, of each on two sizes in turn, and the median of several
+//! rounds.
 //!
 //! Times are processor times of the thread, so other programs disturb them less.
 
@@ -13,6 +14,8 @@ const LEAST_ROUNDS: usize = 7;
 const LEAST: Duration = Duration::from_millis(2);
 /// All rounds together take about this long, unless the least number takes longer.
 const TOTAL: Duration = Duration::from_secs(1);
+/// Growth is measured in so many rounds, an odd number.
+const GROWTH_ROUNDS: usize = 9;
 
 /// What was measured: for both sides the median time of a call, and the median ratio.
 #[derive(Clone, Copy)]
@@ -40,6 +43,41 @@ pub fn compare<A, B>(mut library: impl FnMut() -> A, mut reference: impl FnMut()
         reference: median(times.iter().map(|(_, reference)| *reference)),
         ratio: median(times.iter().map(|(library, reference)| reference / library)),
     }
+}
+
+/// The time for a byte of the large tree over that of the small one, the median for both sides.
+pub struct Growth {
+    pub library: f64,
+    pub reference: f64,
+}
+
+/// Measures the growth of both functions in turn, round by round, after one call of each on the
+/// large tree that is not timed.
+pub fn growth<A, B>(
+    small: &[u8],
+    large: &[u8],
+    mut library: impl FnMut(&[u8]) -> A,
+    mut reference: impl FnMut(&[u8]) -> B,
+) -> Growth {
+    drop(black_box((library(large), reference(large))));
+    let mut rounds = Vec::new();
+    for _ in 0..GROWTH_ROUNDS {
+        let library = pair(small, large, &mut library);
+        rounds.push((library, pair(small, large, &mut reference)));
+    }
+    Growth {
+        library: median(rounds.iter().map(|(library, _)| *library)),
+        reference: median(rounds.iter().map(|(_, reference)| *reference)),
+    }
+}
+
+/// The growth from one pair of timings: calls on the small tree for about the bytes of the large
+/// one, and right after them one call on the large tree.
+fn pair<A>(small: &[u8], large: &[u8], function: &mut impl FnMut(&[u8]) -> A) -> f64 {
+    let calls = (large.len() as f64 / small.len() as f64).round() as u32;
+    let small_time = time(&mut || function(black_box(small)), calls.max(1));
+    let large_time = time(&mut || function(black_box(large)), 1);
+    (large_time / large.len() as f64) / (small_time / small.len() as f64)
 }
 
 /// How many calls take about the least time of a round.
