@@ -23,7 +23,9 @@ use operators::within::lies_within;
 use translation::check::check_translation;
 use translation::index::build_items;
 use translation::index::map_kinds;
-use translation::parts::accepted_parts;
+use translation::parts::body_of;
+use translation::parts::source_of;
+use translation::parts::target_of;
 use values::assemble::assemble;
 
 // The body of the join of two translations that fit, by the source, target and body of the first and the body of the
@@ -99,19 +101,13 @@ pub fn join(a: &[u8], b: &[u8], out: &mut [u8]) -> Outcome
     ensures { λ r. ⌜ ((f g : Translation) → translationOf (now (a .entry)) ≡ value f → translationOf (now (b .entry)) ≡ value g
         → Gives (translationBytes (translationJoin f g)) (now (out .entry)) (now (out .exit)) r) ⌝ }
 {
-    let first = accepted_parts(a);
-    let c = first.source_end;
-    let d = first.target_end;
-    let second = accepted_parts(b);
-    let p = second.source_end;
-    let q = second.target_end;
     join_parts(
-        &a[3..c],
-        &a[c + 3..d],
-        &a[d..],
-        &b[3..p],
-        &b[p + 3..q],
-        &b[q..],
+        source_of(a),
+        target_of(a),
+        body_of(a),
+        source_of(b),
+        target_of(b),
+        body_of(b),
         out,
     )
 }

@@ -5,8 +5,7 @@ use mathlib.Core.Bool.{Bool, true, false, _||_}
 use mathlib.Core.List.{List}
 use mathlib.Core.Option.{Option, none, some}
 use native.Mathlib.Omega.{arith}
-use lib.ListN.{length, drop, length-drop}
-use lib.Seq.{slice}
+use lib.ListN.{length}
 use lib.Dec.{ltb}
 use borrow.Author.Tests.{ltb-false}
 use Rattle.fields.specs.Lists.{isSome}
@@ -19,7 +18,6 @@ use Rattle.fields.specs.declared.outcome.Reason.the-variants as Why
 use Rattle.fields.proofs.Truth.{false-true, some-is, or-false}
 use Rattle.language.specs.Language.{clashes}
 use Rattle.language.specs.LanguageFile.{languageLimit, whole}
-use Rattle.language.proofs.Codec.{language-length}
 use Rattle.translation.specs.Translation.{Translation}
 use Rattle.translation.specs.TranslationFile.{partsOf, translationLimit, isLanguageTag, allRising, translationOf}
 use Rattle.translation.specs.WellFormed.{mappingFits, clausesFit, codesFit, wellFormed}
@@ -27,8 +25,9 @@ use Rattle.translation.specs.Operations.{checkTranslation}
 use Rattle.translation.specs.Inner.Parts.{Parted}
 use Rattle.translation.specs.Inner.Pieces.{Pieces, inOrder}
 use Rattle.translation.specs.Inner.ItemIndex.{Ready, Prepared}
-use Rattle.translation.proofs.Codec.{parts-in, both-short, translation-whole, translation-parts, translation-length}
+use Rattle.translation.proofs.Codec.{parts-in, both-short, translation-parts}
 use Rattle.translation.proofs.Found.{cut, cut-is, rest-is}
+use Rattle.translation.proofs.Cuts.{parted-pieces, accepted-short}
 use Rattle.translation.proofs.IndexedItems.{kinds-of}
 
 -- check_prepared
@@ -97,21 +96,10 @@ module _ (s : List ℕ) (over : Bool) (eo : over ≡ (ltb translationLimit (leng
 
       pub pieces : Pieces (cut s 3 a) (cut s (a + 3) b) (cut s b (length s)) f
       pieces =
-          let short = both-short (parts-in s f e) (limits .1) in
-          let i = w .source-past in
           let j = w .target-past in
           let k = w .inside in
-          let fits : a ≤ length s = omega arith in
-          let long = limits .0 in
-          let last : length (drop b s) ≤ 32768 = simp length-drop (omega arith) in
-          rw (cut-is s 3 a i fits, cut-is s (a + 3) b j k, rest-is s b) (record {
-            source = w .source;
-            target = w .target;
-            body = w .body;
-            source-short = omega (arith, short .0, language-length (slice 3 a s) (f .source) (w .source));
-            target-short = omega (arith, short .1, language-length (slice (a + 3) b s) (f .target) (w .target));
-            body-short = last;
-          })
+          rw (cut-is s 3 a (w .source-past) (omega arith), cut-is s (a + 3) b j k, rest-is s b)
+          (parted-pieces s a b f w (both-short (parts-in s f e) (limits .1)) (limits .0))
 
       pub pieces-checked : {o : Outcome} → o ≡ checked (inOrder f) → o ≡ checkTranslation s
       pieces-checked h = h ∙ sym (chain ∙ rw e)
@@ -131,8 +119,5 @@ unfolding checkTranslation
 accepts s {o} {n} e h = go (translationOf s) refl (sym e ∙ h)
   where
     go : (r : Result Translation) → translationOf s ≡ r → checked r ≡ Accepted n → Accepts s
-    go (value f) d y =
-        let w = translation-whole s f d in
-        let k = w .1 .short in
-        record { translation = f; is = d; parts = translation-parts s f d; short = omega (arith, translation-length (w .0)) }
+    go (value f) d y = record { translation = f; is = d; parts = translation-parts s f d; short = accepted-short s f d }
     go (refused r) d y = refused-not {n = n} {r = r} y

@@ -5,6 +5,7 @@ pub mod Fitting
 pub mod Codec
 pub mod Items
 pub mod Found
+pub mod Cuts
 pub mod Rising
 pub mod IndexedItems
 pub mod Marked

@@ -11,7 +11,7 @@ ghost use Rattle.fields.specs.Outcome.{value};
 ghost use Rattle.language.specs.LanguageFile.{languageLimit};
 ghost use Rattle.translation.specs.Translation.{Translation};
 ghost use Rattle.translation.specs.TranslationFile.{partsOf, translationLimit, isLanguageTag, translationOf};
-ghost use Rattle.translation.specs.Inner.Parts.{Parted};
+ghost use Rattle.translation.specs.Inner.Parts.{Parted, sourceIn, targetIn, bodyIn};
 ghost use Rattle.translation.specs.Inner.Pieces.{partEnd};
 use super::body::body_whole;
 use fields::bytes::byte_at;
@@ -91,4 +91,33 @@ pub fn accepted_parts(s: &[u8]) -> Parts
     ensures { λ r. ⌜ ((f : Translation) → translationOf (now (s .entry)) ≡ value f → Parted (now (s .entry)) (r .«source_end») (r .«target_end») f) ⌝ }
 {
     parts_of(s)
+}
+
+// The bytes of the source of a translation that was accepted.
+pub fn source_of(s: &[u8]) -> &[u8]
+    requires { ⌜ ((f : Translation) × (translationOf (now s) ≡ value f)) ⌝ }
+    ensures { λ r. ⌜ now r ≡ sourceIn (now (s .entry)) ⌝ }
+{
+    let a = field_end(s, 0);
+    &s[3..a]
+}
+
+// The bytes of the target of a translation that was accepted.
+pub fn target_of(s: &[u8]) -> &[u8]
+    requires { ⌜ ((f : Translation) × (translationOf (now s) ≡ value f)) ⌝ }
+    ensures { λ r. ⌜ now r ≡ targetIn (now (s .entry)) ⌝ }
+{
+    let a = field_end(s, 0);
+    let b = field_end(s, a);
+    &s[a + 3..b]
+}
+
+// The bytes of the body of a translation that was accepted.
+pub fn body_of(s: &[u8]) -> &[u8]
+    requires { ⌜ ((f : Translation) × (translationOf (now s) ≡ value f)) ⌝ }
+    ensures { λ r. ⌜ now r ≡ bodyIn (now (s .entry)) ⌝ }
+{
+    let a = field_end(s, 0);
+    let b = field_end(s, a);
+    &s[b..]
 }

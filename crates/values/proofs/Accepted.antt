@@ -13,18 +13,20 @@ use Rattle.fields.specs.Outcome.{Result, value, refused, refuseIf}
 use Rattle.fields.specs.declared.outcome.Outcome.{Outcome}
 use Rattle.fields.specs.declared.outcome.Reason.the-variants.{Limit}
 use Rattle.fields.specs.Fields.{field, byteAt, encodeField, encodeFields}
+use Rattle.fields.specs.Inner.Places.{fieldEnd}
 use Rattle.fields.specs.Lists.{any}
 use Rattle.fields.proofs.Truth.{Mem, or-right, false-any, all-mem}
 use Rattle.fields.proofs.Keyed.{is-rising}
 use Rattle.fields.proofs.Codec.{Bytes, bytes-from, each-front}
 use Rattle.language.specs.Language.{Language, entryKey}
 use Rattle.language.specs.LanguageFile.{entriesOf, encodeLanguage, languageOf}
-use Rattle.language.proofs.Codec.{entryWhole, language-good, language-length, language-sound, language-bytes}
+use Rattle.language.proofs.Codec.{entryWhole, language-good, language-length, language-sound, language-bytes, language-back}
 use Rattle.language.proofs.Lookup.{clashes-none}
 use Rattle.translation.specs.Translation.{Item, mapping, clause, Translation, itemKey}
 use Rattle.translation.specs.TranslationFile.{itemField, encodeTranslation, translationLimit, translationOf}
-use Rattle.translation.specs.Inner.Parts.{Parted}
+use Rattle.translation.specs.Inner.Parts.{sourceIn, targetIn, bodyIn}
 use Rattle.translation.proofs.Codec.{itemWhole, body-sound, rises-parts, translation-whole, translation-bytes}
+use Rattle.translation.proofs.Cuts.{pieces-in}
 use Rattle.operators.specs.Limits.{isDeep, codeIsDeep, languageExceeds, translationExceeds}
 use Rattle.operators.specs.Inner.Values.{languageBytes, translationBytes, Gives}
 use Rattle.operators.proofs.Proper.{Proper, Sound, GoodTranslation, formed-sound}
@@ -60,16 +62,29 @@ part-written : (s : List ℕ) (p e : ℕ) (l : Language) → ((i : ℕ) → byte
     → slice p e s ≡ encodeLanguage l
 part-written s p e l h d = language-sound (slice p e s) l d (drop-bytes (take e s) p (take-bytes s e (slice-bytes s h)))
 
--- The parts of a translation in its file are the bytes of its source, target and body.
-module _ (s : List ℕ) (a b : ℕ) (f : Translation) (p : Parted s a b f) (h : (i : ℕ) → byteAt s i < 256) where
-  pub source-written : slice 3 a s ≡ encodeLanguage (f .source)
-  source-written = part-written s 3 a (f .source) h (p .source)
+-- The parts of an accepted translation are the bytes of its source, target and body, and the first two are accepted.
+module _ (s : List ℕ) (f : Translation) (e : translationOf s ≡ value f) (h : (i : ℕ) → byteAt s i < 256) where
+  pub source-written : sourceIn s ≡ encodeLanguage (f .source)
+  unfolding sourceIn
+  source-written = part-written s 3 (fieldEnd s 0) (f .source) h (pieces-in s f e .source)
 
-  pub target-written : slice (a + 3) b s ≡ encodeLanguage (f .target)
-  target-written = part-written s (a + 3) b (f .target) h (p .target)
+  pub target-written : targetIn s ≡ encodeLanguage (f .target)
+  unfolding targetIn
+  target-written = part-written s (fieldEnd s 0 + 3) (fieldEnd s (fieldEnd s 0)) (f .target) h (pieces-in s f e .target)
 
-  pub body-written : drop b s ≡ encodeFields (map itemField (f .body))
-  body-written = body-sound (drop b s) (f .body) (p .body) (drop-bytes s b (slice-bytes s h))
+  pub body-written : bodyIn s ≡ encodeFields (map itemField (f .body))
+  unfolding bodyIn
+  body-written = body-sound (bodyIn s) (f .body) (pieces-in s f e .body) (drop-bytes s (fieldEnd s (fieldEnd s 0)) (slice-bytes s h))
+
+  pub source-accepted : (x : List ℕ) → x ≡ sourceIn s → languageOf x ≡ value (f .source)
+  source-accepted x i =
+      let w = translation-whole s f e .1 in
+      rw (i, source-written) (language-back (f .source) (record { whole = w .source; rises = rises-parts f (w .rises) .0; apart = w .source-apart; short = w .source-short }))
+
+  pub target-accepted : (x : List ℕ) → x ≡ targetIn s → languageOf x ≡ value (f .target)
+  target-accepted x i =
+      let w = translation-whole s f e .1 in
+      rw (i, target-written) (language-back (f .target) (record { whole = w .target; rises = rises-parts f (w .rises) .1; apart = w .target-apart; short = w .target-short }))
 
 -- What is told of bytes within the limit, said of the language that they are.
 pub language-given : (l : Language) (v o o′ : List ℕ) (r : Outcome) → v ≡ encodeLanguage l

@@ -1,5 +1,5 @@
 -- The operators on translations that stand in accepted files: a law for each return.
-use Prim.Native.Nat.{ℕ, _+_, _≤_, _<_}
+use Prim.Native.Nat.{ℕ, _≤_, _<_}
 use mathlib.Core.Path.{_≡_, refl, sym, ap, subst, _∙_}
 use mathlib.Core.Bool.{Bool, true, false, not, _&&_}
 use mathlib.Core.List.{List, map}
@@ -19,8 +19,7 @@ use Rattle.language.specs.LanguageFile.{encodeLanguage, languageOf}
 use Rattle.language.proofs.Codec.{entryWhole}
 use Rattle.translation.specs.Translation.{Translation, itemKey, sameItem}
 use Rattle.translation.specs.TranslationFile.{itemField, encodeTranslation, translationOf}
-use Rattle.translation.specs.Inner.Parts.{Parted}
-use Rattle.translation.proofs.Found.{cut, cut-is, rest-is}
+use Rattle.translation.specs.Inner.Parts.{sourceIn, targetIn, bodyIn}
 use Rattle.operators.specs.declared.copy.Stored.{Stored}
 use Rattle.operators.specs.declared.copy.Stored.the-variants.{To, Full}
 use Rattle.operators.specs.Algebra.{languagesFit, languageWithout, translationsFit, translationUnion, translationSum, translationWithout}
@@ -36,19 +35,14 @@ use Rattle.values.proofs.Given.{gives-refused, stored-first, stored-sho
 use Rattle.values.proofs.Accepted.{accepted-good, language-written, translation-written, source-written, target-written, body-written, assembled-given, source-over, target-over, body-over}
 
 -- The parts of an accepted translation in its file.
-pub parted-spelt : (s : List ℕ) (a b : ℕ) (f : Translation) → Parted s a b f → ((i : ℕ) → byteAt s i < 256) → translationOf s ≡ value f
-    → Spelt (cut s 3 a) (cut s (a + 3) b) (cut s b (length s)) f
-parted-spelt s a b f p h e =
-    let i = p .source-past in
-    let j = p .target-past in
-    let k = p .inside in
-    let fits : a ≤ length s = omega arith in
-    rw (cut-is s 3 a i fits, cut-is s (a + 3) b j k, rest-is s b) (record {
-      source = source-written s a b f p h;
-      target = target-written s a b f p h;
-      body = body-written s a b f p h;
-      accepted = subst (λ (x : List ℕ). translationOf x ≡ value f) (translation-written s f e h) e;
-    })
+pub accepted-spelt : (s : List ℕ) (f : Translation) → translationOf s ≡ value f → ((i : ℕ) → byteAt s i < 256)
+    → (x y z : List ℕ) → x ≡ sourceIn s → y ≡ targetIn s → z ≡ bodyIn s → Spelt x y z f
+accepted-spelt s f e h x y z i j k = record {
+  source = i ∙ source-written s f e h;
+  target = j ∙ target-written s f e h;
+  body = k ∙ body-written s f e h;
+  accepted = subst (λ (x : List ℕ). translationOf x ≡ value f) (translation-written s f e h) e;
+}
 
 -- What is known of parts.
 module _ (s t b : List ℕ) (f : Translation) (w : Spelt s t b f) where

@@ -11,7 +11,8 @@ ghost use Rattle.operators.specs.Inner.Values.{Gives, languageBytes, translatio
 use super::limit::limited;
 use fields::outcome::Outcome;
 use operators::copy::put;
-use translation::parts::accepted_parts;
+use translation::parts::source_of;
+use translation::parts::target_of;
 
 // The language itself.
 pub fn language(a: &[u8], out: &mut [u8]) -> Outcome
@@ -37,8 +38,7 @@ pub fn source(a: &[u8], out: &mut [u8]) -> Outcome
     ensures { λ r. ⌜ ((f : Translation) → translationOf (now (a .entry)) ≡ value f
         → Gives (languageBytes (value (f .source))) (now (out .entry)) (now (out .exit)) r) ⌝ }
 {
-    let parts = accepted_parts(a);
-    limited(put(a, 3, parts.source_end, out, 0), 1024)
+    language(source_of(a), out)
 }
 
 // The target of a translation.
@@ -47,6 +47,5 @@ pub fn target(a: &[u8], out: &mut [u8]) -> Outcome
     ensures { λ r. ⌜ ((f : Translation) → translationOf (now (a .entry)) ≡ value f
         → Gives (languageBytes (value (f .target))) (now (out .entry)) (now (out .exit)) r) ⌝ }
 {
-    let parts = accepted_parts(a);
-    limited(put(a, parts.source_end + 3, parts.target_end, out, 0), 1024)
+    language(target_of(a), out)
 }

@@ -20,7 +20,9 @@ use operators::fit::languages_fit;
 use operators::merge::merge;
 use operators::merge::remove;
 use operators::within::agree;
-use translation::parts::accepted_parts;
+use translation::parts::body_of;
+use translation::parts::source_of;
+use translation::parts::target_of;
 
 // Both sources fit, both targets fit, and items of one key are the same in both bodies.
 fn parts_fit(s: &[u8], t: &[u8], x: &[u8], u: &[u8], v: &[u8], y: &[u8]) -> bool
@@ -76,19 +78,13 @@ pub fn sum(a: &[u8], b: &[u8], out: &mut [u8]) -> Outcome
     ensures { λ r. ⌜ ((f g : Translation) → translationOf (now (a .entry)) ≡ value f → translationOf (now (b .entry)) ≡ value g
         → Gives (translationBytes (translationSum f g)) (now (out .entry)) (now (out .exit)) r) ⌝ }
 {
-    let first = accepted_parts(a);
-    let c = first.source_end;
-    let d = first.target_end;
-    let second = accepted_parts(b);
-    let p = second.source_end;
-    let q = second.target_end;
     sum_parts(
-        &a[3..c],
-        &a[c + 3..d],
-        &a[d..],
-        &b[3..p],
-        &b[p + 3..q],
-        &b[q..],
+        source_of(a),
+        target_of(a),
+        body_of(a),
+        source_of(b),
+        target_of(b),
+        body_of(b),
         out,
     )
 }
@@ -112,8 +108,5 @@ pub fn without(a: &[u8], b: &[u8], out: &mut [u8]) -> Outcome
     ensures { λ r. ⌜ ((f : Translation) (m : Language) → translationOf (now (a .entry)) ≡ value f → languageOf (now (b .entry)) ≡ value m
         → Gives (translationBytes (value (translationWithout f m))) (now (out .entry)) (now (out .exit)) r) ⌝ }
 {
-    let parts = accepted_parts(a);
-    let c = parts.source_end;
-    let d = parts.target_end;
-    without_parts(&a[3..c], &a[c + 3..d], &a[d..], b, out)
+    without_parts(source_of(a), target_of(a), body_of(a), b, out)
 }

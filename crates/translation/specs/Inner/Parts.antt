@@ -5,6 +5,7 @@ use mathlib.Core.List.{List}
 use mathlib.Core.Option.{some}
 use lib.ListN.{length, drop}
 use lib.Seq.{slice}
+use Rattle.fields.specs.Inner.Places.{fieldEnd}
 use Rattle.language.specs.LanguageFile.{entriesOf}
 use Rattle.translation.specs.Translation.{Translation}
 use Rattle.translation.specs.TranslationFile.{bodyOf}
@@ -17,3 +18,13 @@ pub record Parted (s : List ℕ) (a b : ℕ) (f : Translation) : Type 0 where
   pub source : entriesOf (slice 3 a s) ≡ some (f .source)
   pub target : entriesOf (slice (a + 3) b s) ≡ some (f .target)
   pub body : bodyOf (drop b s) ≡ some (f .body)
+
+-- The bytes of a translation's source, of its target and of its body, by its first two fields.
+unfoldable pub sourceIn : List ℕ → List ℕ
+sourceIn s = slice 3 (fieldEnd s 0) s
+
+unfoldable pub targetIn : List ℕ → List ℕ
+targetIn s = slice (fieldEnd s 0 + 3) (fieldEnd s (fieldEnd s 0)) s
+
+unfoldable pub bodyIn : List ℕ → List ℕ
+bodyIn s = drop (fieldEnd s (fieldEnd s 0)) s

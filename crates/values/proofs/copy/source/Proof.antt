@@ -1,15 +1,14 @@
 use native.Mathlib.Omega.{arith}
-use Rattle.values.proofs.Accepted.{source-written, language-copied}
+use Rattle.values.proofs.Accepted.{source-accepted}
 use borrow.Author.Needs.{needs}
 use Rattle.values.proofs.copy.source.Statement.{statement}
 use Rattle.values.proofs.copy.source.Tie as tie
 
-put-requires : tie.Need-put-requires
-put-requires c κs = let w = c .before .accepted-parts .ensures (c .before .before .before .before .pre .0 .0) (c .before .before .before .before .pre .0 .1) in (record { rise = w .source-past; fits = omega (arith, w .target-past, w .inside) }, omega arith)
+language-requires : tie.Need-language-requires
+language-requires c κs = ((_, source-accepted _ _ (c .before .before .before .before .pre .0 .1) (λ i. omega (arith, c .before .before .before .shared-slice-known .given i)) _ (c .before .source-of .ensures)), c .before .before .before .before .pre .1)
 
 returns : tie.Need-returns
-returns c = λ f e. language-copied _ _ (c .before .before .before .put .kept .1 .1 .1 .0) _ _ (f .source) _ (source-written _ _ _ f (c .before .before .before .before .before .accepted-parts .ensures f e) (λ i. omega (arith, c .before .before .before .before .before .before .before .shared-slice-known .given i))) (c .before .before .before .before .before .before .before .before .pre .1) (c .before .before .before .put .ensures) (c .limited .ensures)
+returns c = λ f e. c .before .before .language .ensures (f .source) (source-accepted _ f e (λ i. omega (arith, c .before .before .before .before .before .before .shared-slice-known .given i)) _ (c .before .before .before .before .source-of .ensures))
 
 pub source-spec : {M : Type 1} → statement M
-source-spec =
-    tie.close (tie.spec (λ c κs. search needs) put-requires (λ c κs. search needs) (λ c. search needs) returns)
+source-spec = tie.close (tie.spec (λ c κs. search needs) language-requires (λ c. search needs) returns)
