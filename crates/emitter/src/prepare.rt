@@ -3,7 +3,6 @@ use fields::bytes::byte_at;
 use fields::bytes::pair_at;
 use fields::bytes::wide;
 use fields::walk::field_end;
-use reader::index::build;
 use reader::index::put_all;
 ghost use mathlib.Core.Path.{_≡_};
 ghost use mathlib.Core.List.{List};
@@ -16,7 +15,7 @@ ghost use Rattle.reader.specs.Inner.Index.{Sound, Indexed, putAll};
 ghost use Rattle.translation.specs.Translation.{Translation};
 ghost use Rattle.emitter.specs.Inner.Stands.{spliced};
 ghost use Rattle.emitter.specs.Inner.Table.{Checked, Ready};
-ghost use Rattle.emitter.specs.Inner.Filling.{Built, Filled, mappedIn, CodeAsks, Spanned, FieldAsks, FieldSpanned, AllSpanned};
+ghost use Rattle.emitter.specs.Inner.Filling.{Begun, Built, Filled, mappedIn, CodeAsks, Spanned, FieldAsks, FieldSpanned, AllSpanned};
 
 // Puts the index of a file into the table, from a position on where it is all zero. Its first entries have the tag `first`.
 fn put_index(s: &[u8], first: u8, a: usize, table: &mut [u16])
@@ -38,12 +37,11 @@ fn put_bytes(s: &[u8], a: usize, table: &mut [u16])
     }
 }
 
-// Fills the table but for the spans.
+// Fills the table, in which the index of the source stands, but for the spans.
 fn fill(source: &[u8], body: &[u8], table: &mut [u16])
-    requires { ⌜ (length (now source) ≤ 1024) × (length (now body) ≤ 4096) × (length (now table) ≡ 25664) × ((j : ℕ) → getD (now table) j 0 ≡ 0) ⌝ }
+    requires { ⌜ (length (now source) ≤ 1024) × (length (now body) ≤ 4096) × Begun (now source) (now table) ⌝ }
     ensures { λ r. ⌜ Filled (now (source .entry)) (now (body .entry)) (now (table .exit)) ⌝ }
 {
-    put_index(source, 0x11, 0, table);
     put_index(body, 0x22, 8224, table);
     put_bytes(source, 16448, table);
     put_bytes(body, 17472, table);
@@ -51,7 +49,7 @@ fn fill(source: &[u8], body: &[u8], table: &mut [u16])
 
 // Where the field of a production of the target stands, and one more.
 fn place_of(places: &[u16], kind: u8, name: u8) -> usize
-    requires { ⌜ (length (now places) ≡ 8224) × (kind < 32) ⌝ }
+    requires { ⌜ (8224 ≤ length (now places)) × (kind < 32) ⌝ }
     ensures { λ r. ⌜ (r ≡ getD (now (places .entry)) (productionKey kind name) 0) × (r < 65536) ⌝ }
 {
     places[32 + (wide(kind) * 256 + wide(name))] as usize
@@ -150,20 +148,27 @@ fn span_all(target: &[u8], places: &[u16], body: &[u8], table: &mut [u16])
 }
 
 // The same as `prepare`, for a table of that length.
-fn fill_all(source: &[u8], target: &[u8], body: &[u8], table: &mut [u16])
-    requires { ⌜ (length (now table) ≡ 25664) × ((j : ℕ) → getD (now table) j 0 ≡ 0) × ((f : Translation) × Checked (now source) (now target) (now body) f) ⌝ }
-    ensures { λ r. ⌜ ((f : Translation) → Checked (now (source .entry)) (now (target .entry)) (now (body .entry)) f → Ready (now (table .exit)) f) ⌝ }
+fn fill_all(source: &[u8], target: &[u8], places: &[u16], body: &[u8], table: &mut [u16])
+    requires { ⌜ Begun (now source) (now table) × ((f : Translation) × Checked (now source) (now target) (now body) f × Indexed (now places) (now target) (f .target)) ⌝ }
+    ensures { λ r. ⌜ ((f : Translation) → Checked (now (source .entry)) (now (target .entry)) (now (body .entry)) f → Indexed (now (places .entry)) (now (target .entry)) (f .target)
+        → Ready (now (table .exit)) f) ⌝ }
 {
     fill(source, body, table);
-    let mut places = [0u16; 8224];
-    build(target, &mut places);
-    span_all(target, &places, body, table);
+    span_all(target, places, body, table);
 }
 
-// Fills the table of a translation that was accepted, by the bytes of its source, target and body. It is all zero before.
-pub fn prepare(source: &[u8], target: &[u8], body: &[u8], table: &mut [u16; 25664])
-    requires { ⌜ ((j : ℕ) → getD (now table) j 0 ≡ 0) × ((f : Translation) × Checked (now source) (now target) (now body) f) ⌝ }
-    ensures { λ r. ⌜ ((f : Translation) → Checked (now (source .entry)) (now (target .entry)) (now (body .entry)) f → Ready (now (table .exit)) f) ⌝ }
+// Fills the table of a translation that was accepted, by the bytes of its source, target and body, and an index of the
+// target. The index of the source stands in the table, and it is all zero besides.
+pub fn prepare(
+    source: &[u8],
+    target: &[u8],
+    places: &[u16],
+    body: &[u8],
+    table: &mut [u16; 25664],
+)
+    requires { ⌜ Begun (now source) (now table) × ((f : Translation) × Checked (now source) (now target) (now body) f × Indexed (now places) (now target) (f .target)) ⌝ }
+    ensures { λ r. ⌜ ((f : Translation) → Checked (now (source .entry)) (now (target .entry)) (now (body .entry)) f → Indexed (now (places .entry)) (now (target .entry)) (f .target)
+        → Ready (now (table .exit)) f) ⌝ }
 {
-    fill_all(source, target, body, table);
+    fill_all(source, target, places, body, table);
 }

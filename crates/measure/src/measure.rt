@@ -50,7 +50,7 @@ fn leaf(read: Read, weight: usize, sum: usize, top: usize) -> Step
 // What stands where a tree of the kind begins, and its own bytes as often as it counts, on top of a sum.
 fn step_at(
     source: &[u8],
-    index: &[u16; 8224],
+    index: &[u16; 25664],
     counts: &[u16; 1024],
     kind: u8,
     weight: usize,
@@ -80,10 +80,10 @@ fn step_at(
 }
 
 // The operands of a row and all that stands below them. The rows above wait in three tables, the outermost first, and in a
-// fourth stands where the operand starts whose row is being measured; where it ends is kept.
+// fourth stands where the operand of each row starts; where it ends is kept. The index is the front of a longer table.
 fn measure_rows(
     source: &[u8],
-    index: &[u16; 8224],
+    index: &[u16; 25664],
     counts: &[u16; 1024],
     from: usize,
     stop: usize,
@@ -126,23 +126,22 @@ fn measure_rows(
             return Measured::Deep;
         }
         let part = add_share(0, w, count_in(counts, q), top);
+        starts[depth] = to;
         match step_at(source, index, counts, source[q], part, tree, to, sum, top) {
             Step::Broken => {
                 return Measured::Broken;
             }
             Step::Row(first, last, v, e, n) => {
+                to = e;
                 sum = n;
                 q += 1;
                 if last <= first {
-                    to = e;
                     continue;
                 }
                 firsts[depth] = q as u16;
                 lasts[depth] = end as u16;
                 weights[depth] = w;
-                starts[depth] = to;
                 depth += 1;
-                to = e;
                 q = first;
                 end = last;
                 w = v;
@@ -154,7 +153,7 @@ fn measure_rows(
 // The tree of the kind at a position, read as the source has it, and the length of its run up to a top.
 pub fn measure(
     source: &[u8],
-    index: &[u16; 8224],
+    index: &[u16; 25664],
     counts: &[u16; 1024],
     kind: u8,
     tree: &[u8],

@@ -12,15 +12,15 @@ fn wide(x: u32) -> usize
     x as usize
 }
 
-// Where the term of a kind at a position ends, where that is kept; 0 where it is not.
+// Where the term of a kind at a position ends, where that is kept; 0 where it is not. A short table keeps nothing.
 pub fn known_end(ends: &[u32], kind: usize, at: usize) -> usize
     requires { ⌜ kind < 32 ⌝ }
     ensures { λ r. ⌜ (r ≡ 0) ⊎ Kept (now (ends .entry)) kind at r ⌝ }
 {
-    let slot = 2 * (at % 4096);
-    if ends.len() <= slot + 1 {
+    if ends.len() < 8192 {
         return 0;
     }
+    let slot = 2 * (at % 4096);
     if 134217727 < at {
         return 0;
     }
@@ -35,13 +35,13 @@ pub fn keep_end(ends: &mut [u32], kind: u8, at: usize, end: usize)
     requires { ⌜ (kind < 32) × (at ≤ end) ⌝ }
     ensures { λ r. ⌜ ((k p e : ℕ) → Kept (now (ends .exit)) k p e → Kept (now (ends .entry)) k p e ⊎ ((k ≡ kind) × (p ≡ at) × (e ≡ end))) ⌝ }
 {
+    if ends.len() < 8192 {
+        return;
+    }
     if end - at < 4096 {
         return;
     }
     let slot = 2 * (at % 4096);
-    if ends.len() <= slot + 1 {
-        return;
-    }
     if 134217727 < end {
         return;
     }

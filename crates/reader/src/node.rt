@@ -57,7 +57,7 @@ pub fn name_length(syntax: Syntax) -> usize
 
 // The place of the production of the kind whose name stands at a position of a tree, or 0.
 fn name_place(index: &[u16], kind: u8, bytes: &[u8], at: usize) -> usize
-    requires { ⌜ (length (now index) ≡ 8224) × (kind < 32) ⌝ }
+    requires { ⌜ (8224 ≤ length (now index)) × (kind < 32) ⌝ }
     ensures { λ r. ⌜ r ≡ productionPlace Syntax.Tree (now (index .entry)) kind (now (bytes .entry)) at ⌝ }
 {
     if bytes.len() <= at {
@@ -76,7 +76,7 @@ pub fn production_place(
     bytes: &[u8],
     at: usize,
 ) -> usize
-    requires { ⌜ (length (now index) ≡ 8224) × (kind < 32) × (at ≤ length (now bytes)) ⌝ }
+    requires { ⌜ (8224 ≤ length (now index)) × (kind < 32) × (at ≤ length (now bytes)) ⌝ }
     ensures { λ r. ⌜ r ≡ cond (eqb class 0) (productionPlace syntax (now (index .entry)) kind (now (bytes .entry)) at) 0 ⌝ }
 {
     if class != 0 {

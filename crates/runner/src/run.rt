@@ -9,8 +9,10 @@ use measure::measure::measure;
 use measure::prepare::prepare;
 use reader::kinds::is_in;
 use reader::node::Syntax;
-use translation::check::check_translation;
-use translation::parts::accepted_parts;
+use translation::check::check_indexed;
+use translation::parts::body_of;
+use translation::parts::source_of;
+use translation::parts::target_of;
 ghost use mathlib.Core.Path.{_≡_};
 ghost use mathlib.Core.List.{[]};
 ghost use Prim.Native.Nat.{ℕ, _<_, _≤_};
@@ -22,7 +24,9 @@ ghost use Rattle.translation.specs.Translation.{Translation};
 ghost use Rattle.translation.specs.Running.{transform};
 ghost use Rattle.translation.specs.Operations.{runTree};
 ghost use Rattle.reader.specs.declared.node.Syntax.the-variants.{Tree};
+ghost use Rattle.reader.specs.Inner.Index.{Indexed};
 ghost use Rattle.emitter.specs.Inner.Table.{Checked};
+ghost use Rattle.emitter.specs.Inner.Filling.{Begun};
 ghost use Rattle.emitter.specs.Inner.Runs.{Right};
 ghost use Rattle.runner.specs.Inner.Runs.{runOf, Answers};
 
@@ -30,20 +34,21 @@ ghost use Rattle.runner.specs.Inner.Runs.{runOf, Answers};
 fn write_tree(
     source: &[u8],
     target: &[u8],
+    places: &[u16],
     body: &[u8],
+    table: &mut [u16; 25664],
     kind: u8,
     tree: &[u8],
     ends: &[u32],
     output: &mut [u8],
 ) -> Answer
-    requires { ⌜ (kind < 32) × ((f : Translation) × (t : Code) × Checked (now source) (now target) (now body) f × (read inTrees (f .source) [] 64 kind (now tree) ≡ done t []) × Right Tree (now ends) (now tree) (f .source) []) ⌝ }
+    requires { ⌜ (kind < 32) × Begun (now source) (now table) × ((f : Translation) × (t : Code) × Checked (now source) (now target) (now body) f × Indexed (now places) (now target) (f .target) × (read inTrees (f .source) [] 64 kind (now tree) ≡ done t []) × Right Tree (now ends) (now tree) (f .source) []) ⌝ }
     ensures { λ r. ⌜ ((f : Translation) (t : Code) → Checked (now (source .entry)) (now (target .entry)) (now (body .entry)) f
-        → read inTrees (f .source) [] 64 kind (now (tree .entry)) ≡ done t [] → Right Tree (now (ends .entry)) (now (tree .entry)) (f .source) [] → length (write inTrees (transform f t)) ≤ length (now (output .entry))
+        → Indexed (now (places .entry)) (now (target .entry)) (f .target) → read inTrees (f .source) [] 64 kind (now (tree .entry)) ≡ done t [] → Right Tree (now (ends .entry)) (now (tree .entry)) (f .source) [] → length (write inTrees (transform f t)) ≤ length (now (output .entry))
         → Answers (value (write inTrees (transform f t))) (now (output .entry)) (now (output .exit)) (r .outcome)) ⌝ }
 {
-    let mut table = [0u16; 25664];
-    emitter::prepare::prepare(source, target, body, &mut table);
-    let p = emitter::run::run(Syntax::Tree, &table, tree, ends, kind, 64, output, 0);
+    emitter::prepare::prepare(source, target, places, body, table);
+    let p = emitter::run::run(Syntax::Tree, table, tree, ends, kind, 64, output, 0);
     if output.len() < p {
         return refuse(Reason::Output);
     }
@@ -55,24 +60,25 @@ fn write_tree(
 fn run_kept(
     source: &[u8],
     target: &[u8],
+    places: &[u16],
     body: &[u8],
     kind: u8,
     tree: &[u8],
     ends: &mut [u32],
     output: &mut [u8],
 ) -> Answer
-    requires { ⌜ (kind < 32) × ((j : ℕ) → getD (now ends) j 0 ≡ 0) × ((f : Translation) × Checked (now source) (now target) (now body) f) ⌝ }
+    requires { ⌜ (kind < 32) × ((j : ℕ) → getD (now ends) j 0 ≡ 0) × ((f : Translation) × Checked (now source) (now target) (now body) f × Indexed (now places) (now target) (f .target)) ⌝ }
     ensures { λ r. ⌜ ((f : Translation) → Checked (now (source .entry)) (now (target .entry)) (now (body .entry)) f
-        → Answers (runOf f kind (now (tree .entry)) (length (now (output .entry)))) (now (output .entry)) (now (output .exit)) (r .outcome)) ⌝ }
+        → Indexed (now (places .entry)) (now (target .entry)) (f .target) → Answers (runOf f kind (now (tree .entry)) (length (now (output .entry)))) (now (output .entry)) (now (output .exit)) (r .outcome)) ⌝ }
 {
     if !is_in(source, kind) {
         return refuse(Reason::Root);
     }
-    let mut index = [0u16; 8224];
+    let mut table = [0u16; 25664];
     let mut counts = [0u16; 1024];
-    prepare(source, body, &mut index, &mut counts);
+    prepare(source, body, &mut table[..8224], &mut counts);
     let room = output.len();
-    match measure(source, &index, &counts, kind, tree, 0, 64, room + 1, ends) {
+    match measure(source, &table, &counts, kind, tree, 0, 64, room + 1, ends) {
         Measured::End(e, n) => {
             if e != tree.len() {
                 return refuse(Reason::Tree);
@@ -80,7 +86,7 @@ fn run_kept(
             if room < n {
                 return refuse(Reason::Output);
             }
-            write_tree(source, target, body, kind, tree, ends, output)
+            write_tree(source, target, places, body, &mut table, kind, tree, ends, output)
         }
         Measured::Deep => refuse(Reason::Levels),
         Measured::Broken => refuse(Reason::Tree),
@@ -91,21 +97,22 @@ fn run_kept(
 fn run_parts(
     source: &[u8],
     target: &[u8],
+    places: &[u16],
     body: &[u8],
     kind: u8,
     tree: &[u8],
     output: &mut [u8],
 ) -> Answer
-    requires { ⌜ (kind < 32) × ((f : Translation) × Checked (now source) (now target) (now body) f) ⌝ }
+    requires { ⌜ (kind < 32) × ((f : Translation) × Checked (now source) (now target) (now body) f × Indexed (now places) (now target) (f .target)) ⌝ }
     ensures { λ r. ⌜ ((f : Translation) → Checked (now (source .entry)) (now (target .entry)) (now (body .entry)) f
-        → Answers (runOf f kind (now (tree .entry)) (length (now (output .entry)))) (now (output .entry)) (now (output .exit)) (r .outcome)) ⌝ }
+        → Indexed (now (places .entry)) (now (target .entry)) (f .target) → Answers (runOf f kind (now (tree .entry)) (length (now (output .entry)))) (now (output .entry)) (now (output .exit)) (r .outcome)) ⌝ }
 {
     if tree.len() < 4096 {
         let mut ends = [0u32; 2];
-        return run_kept(source, target, body, kind, tree, &mut ends, output);
+        return run_kept(source, target, places, body, kind, tree, &mut ends, output);
     }
     let mut ends = [0u32; 8192];
-    run_kept(source, target, body, kind, tree, &mut ends, output)
+    run_kept(source, target, places, body, kind, tree, &mut ends, output)
 }
 
 // Run: 1 to 7 for the translation, 14 to 16 for the tree against its source, 17 where the result is longer than the output.
@@ -113,7 +120,8 @@ pub fn run(translation: &[u8], root: u32, tree: &[u8], output: &mut [u8]) -> Ans
     ensures { λ r. ⌜ (r .outcome ≡ runTree (now (translation .entry)) root (now (tree .entry)) (now (output .entry)) .outcome)
         × (now (output .exit) ≡ runTree (now (translation .entry)) root (now (tree .entry)) (now (output .entry)) .output) ⌝ }
 {
-    let answer = check_translation(translation);
+    let mut places = [0u16; 8224];
+    let answer = check_indexed(translation, &mut places);
     let outcome = answer.outcome;
     if let Outcome::Refused(reason) = outcome {
         return refuse(reason);
@@ -121,13 +129,11 @@ pub fn run(translation: &[u8], root: u32, tree: &[u8], output: &mut [u8]) -> Ans
     if 31 < root {
         return refuse(Reason::Root);
     }
-    let parts = accepted_parts(translation);
-    let a = parts.source_end;
-    let b = parts.target_end;
     run_parts(
-        &translation[3..a],
-        &translation[a + 3..b],
-        &translation[b..],
+        source_of(translation),
+        target_of(translation),
+        &places,
+        body_of(translation),
         root as u8,
         tree,
         output,

@@ -4,7 +4,7 @@ use mathlib.Core.Path.{_≡_}
 use mathlib.Core.Bool.{cond}
 use mathlib.Core.List.{List}
 use mathlib.Core.Option.{some}
-use lib.ListN.{length, getD}
+use lib.ListN.{length, getD, take}
 use lib.Dec.{eqb}
 use Rattle.fields.specs.Fields.{byteAt}
 use Rattle.fields.specs.Inner.Places.{places}
@@ -15,8 +15,15 @@ use Rattle.reader.specs.Syntax.{write, code}
 use Rattle.reader.specs.Inner.Index.{Indexed, putAll}
 use Rattle.translation.specs.Translation.{Translation}
 use Rattle.translation.specs.Running.{clausesOf}
-use Rattle.emitter.specs.Inner.Stands.{Stands}
+use Rattle.emitter.specs.Inner.Stands.{Stands, spliced}
 use Rattle.emitter.specs.Inner.Table.{clauseEntry, sourceByte, bodyByte, SpansAt}
+
+-- The index of the source s stands in the table t, which is all zero besides.
+pub record Begun (s t : List ℕ) : Type 0 where
+  pub zeros : List ℕ
+  pub long : length zeros ≡ 25664
+  pub zero : (j : ℕ) → getD zeros j 0 ≡ 0
+  pub is : t ≡ spliced zeros 0 (putAll 0x11 s (take 8224 zeros) (places s))
 
 -- The index of s stands in the table from a on. The first entries of s have the tag `first`.
 pub record Built (first : ℕ) (s t : List ℕ) (a : ℕ) : Type 0 where

@@ -35,7 +35,7 @@ putAll first s index (p ∷ l) = putAll first s (putAt index (keyAt first s p) (
 
 -- What a lookup may rely on: each place is that of a whole field.
 pub record Sound (index s : List ℕ) : Type 0 where
-  pub long : length index ≡ 8224
+  pub long : 8224 ≤ length index
   pub short : length s ≤ 1024
   pub class : (k : ℕ) → k < 32 → 0 < getD index (kindKey k) 0 → getD index (kindKey k) 0 + 7 ≤ length s
   pub name : (k p : ℕ) → k < 32 → p < 256 → 0 < getD index (productionKey k p) 0
