@@ -159,13 +159,7 @@ fn fill_all(source: &[u8], target: &[u8], places: &[u16], body: &[u8], table: &m
 
 // Fills the table of a translation that was accepted, by the bytes of its source, target and body, and an index of the
 // target. The index of the source stands in the table, and it is all zero besides.
-pub fn prepare(
-    source: &[u8],
-    target: &[u8],
-    places: &[u16],
-    body: &[u8],
-    table: &mut [u16; 25664],
-)
+pub fn prepare(source: &[u8], target: &[u8], places: &[u16], body: &[u8], table: &mut [u16; 25664])
     requires { ⌜ Begun (now source) (now table) × ((f : Translation) × Checked (now source) (now target) (now body) f × Indexed (now places) (now target) (f .target)) ⌝ }
     ensures { λ r. ⌜ ((f : Translation) → Checked (now (source .entry)) (now (target .entry)) (now (body .entry)) f → Indexed (now (places .entry)) (now (target .entry)) (f .target)
         → Ready (now (table .exit)) f) ⌝ }

@@ -104,7 +104,7 @@ module _ (s index : List ℕ) (bytes : (i : ℕ) → getD s i 0 < 256) (short : 
 
   sound : Sound built s
   sound = record {
-    long = built-long;
+    long = omega (arith, built-long);
     short = short;
     class = class-at;
     name = λ k p h j z. let f = production-at k p h j z in let i = f .1 in let b = production-fits s (f .0) (f .2) in omega arith;

@@ -86,7 +86,17 @@ fn run_kept(
             if room < n {
                 return refuse(Reason::Output);
             }
-            write_tree(source, target, places, body, &mut table, kind, tree, ends, output)
+            write_tree(
+                source,
+                target,
+                places,
+                body,
+                &mut table,
+                kind,
+                tree,
+                ends,
+                output,
+            )
         }
         Measured::Deep => refuse(Reason::Levels),
         Measured::Broken => refuse(Reason::Tree),

@@ -1,5 +1,7 @@
 use borrow.Author.Needs.{needs}
 use mathlib.Core.Logic.{inl}
+use native.Mathlib.Omega.{arith}
+use lib.ListN.{length-set}
 use Rattle.reader.proofs.Keeping.{kept-put}
 use Rattle.reader.proofs.ends.keep_end.Statement.{statement}
 use Rattle.reader.proofs.ends.keep_end.Tie as tie
@@ -16,8 +18,11 @@ returns-2 c = λ k p e h. inl h
 returns-3 : tie.Need-returns-3
 returns-3 c = λ k p e h. inl h
 
+slice-write-ends-2 : tie.Need-slice-write-ends-2
+slice-write-ends-2 c = rw (length-set _ _ _) (omega (arith, c .before .before .before .before .before .before .before .if1 .left))
+
 returns-4 : tie.Need-returns-4
-returns-4 c = kept-put _ _ _ _ _ (c .before .before .before .before .before .before .before .before .before .pre .0) (c .before .before .before .before .before .before .if2 .left)
+returns-4 c = kept-put _ _ _ _ _ (c .before .before .before .before .before .before .before .before .before .pre .0) (omega (arith, c .before .before .before .before .before .before .before .if1 .left))
 
 returns-5 : tie.Need-returns-5
 returns-5 c = λ k p e h. inl h
@@ -26,11 +31,10 @@ pub keep-end-spec : {M : Type 1} → statement M
 keep-end-spec =
     tie.close
     (tie.spec
-    (λ c. search needs)
     returns
     (λ c. search needs)
-    (λ c. search needs)
     returns-2
+    (λ c. search needs)
     returns-3
     (λ c. search needs)
     (λ c. search needs)
@@ -49,7 +53,7 @@ keep-end-spec =
     (λ c. search needs)
     (λ c. search needs)
     (λ c. search needs)
-    (λ c. search needs)
+    slice-write-ends-2
     (λ c. search needs)
     returns-4
     returns-5)

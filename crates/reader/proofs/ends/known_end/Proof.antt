@@ -24,9 +24,8 @@ pub known-end-spec : {M : Type 1} → statement M
 known-end-spec =
     tie.close
     (tie.spec
-    (λ c. search needs)
-    (λ c. search needs)
     returns
+    (λ c. search needs)
     returns-2
     (λ c. search needs)
     (λ c. search needs)
