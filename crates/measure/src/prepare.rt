@@ -8,7 +8,8 @@ ghost use Prim.Native.Nat.{ℕ, _≤_};
 ghost use lib.ListN.{length, getD};
 ghost use Rattle.fields.specs.Outcome.{value};
 ghost use Rattle.language.specs.LanguageFile.{entriesOf};
-ghost use Rattle.reader.specs.Inner.Index.{Indexed};
+ghost use Rattle.fields.specs.Inner.Places.{places};
+ghost use Rattle.reader.specs.Inner.Index.{Indexed, putAll};
 ghost use Rattle.translation.specs.Translation.{Translation};
 ghost use Rattle.translation.specs.TranslationFile.{bodyOf, allRising};
 ghost use Rattle.translation.specs.WellFormed.{wellFormed};
@@ -20,7 +21,8 @@ pub fn prepare(source: &[u8], body: &[u8], index: &mut [u16], counts: &mut [u16]
     requires { ⌜ (length (now source) ≤ 1024) × (length (now body) ≤ 4096) × (length (now index) ≡ 8224) × ((j : ℕ) → getD (now index) j 0 ≡ 0)
         × (length (now counts) ≡ 1024) × ((j : ℕ) → getD (now counts) j 0 ≡ 0)
         × ((f : Translation) × (entriesOf (now source) ≡ some (f .source)) × (bodyOf (now body) ≡ some (f .body))) ⌝ }
-    ensures { λ r. ⌜ ((f : Translation) → entriesOf (now (source .entry)) ≡ some (f .source) → bodyOf (now (body .entry)) ≡ some (f .body)
+    ensures put { λ r. ⌜ now (index .exit) ≡ putAll 0x11 (now (source .entry)) (now (index .entry)) (places (now (source .entry))) ⌝ }
+    ensures ready { λ r. ⌜ ((f : Translation) → entriesOf (now (source .entry)) ≡ some (f .source) → bodyOf (now (body .entry)) ≡ some (f .body)
         → allRising f ≡ true → wellFormed f ≡ value f
         → Indexed (now (index .exit)) (now (source .entry)) (f .source) × Counted (now (counts .exit)) (now (index .exit)) f) ⌝ }
 {

@@ -14,21 +14,41 @@ use translation::parts::body_of;
 use translation::parts::source_of;
 use translation::parts::target_of;
 ghost use mathlib.Core.Path.{_≡_};
+ghost use mathlib.Core.Bool.{true};
+ghost use mathlib.Core.Option.{some};
 ghost use mathlib.Core.List.{[]};
 ghost use Prim.Native.Nat.{ℕ, _<_, _≤_};
 ghost use lib.ListN.{length, getD};
 ghost use Rattle.fields.specs.Outcome.{value};
+ghost use Rattle.language.specs.LanguageFile.{entriesOf};
 ghost use Rattle.reader.specs.Code.{Code};
 ghost use Rattle.reader.specs.Syntax.{read, done, write, tree as inTrees};
 ghost use Rattle.translation.specs.Translation.{Translation};
 ghost use Rattle.translation.specs.Running.{transform};
 ghost use Rattle.translation.specs.Operations.{runTree};
+ghost use Rattle.translation.specs.TranslationFile.{bodyOf, allRising};
+ghost use Rattle.translation.specs.WellFormed.{wellFormed};
+ghost use Rattle.measure.specs.Inner.Measuring.{Counted};
 ghost use Rattle.reader.specs.declared.node.Syntax.the-variants.{Tree};
 ghost use Rattle.reader.specs.Inner.Index.{Indexed};
 ghost use Rattle.emitter.specs.Inner.Table.{Checked};
 ghost use Rattle.emitter.specs.Inner.Filling.{Begun};
 ghost use Rattle.emitter.specs.Inner.Runs.{Right};
 ghost use Rattle.runner.specs.Inner.Runs.{runOf, Answers};
+
+// Puts the index of the source into the front of the table of a run, and what the body's clauses count into another. Both
+// are all zero before.
+fn begin(source: &[u8], body: &[u8], table: &mut [u16], counts: &mut [u16])
+    requires { ⌜ (length (now source) ≤ 1024) × (length (now body) ≤ 4096) × (length (now table) ≡ 25664) × ((j : ℕ) → getD (now table) j 0 ≡ 0)
+        × (length (now counts) ≡ 1024) × ((j : ℕ) → getD (now counts) j 0 ≡ 0)
+        × ((f : Translation) × (entriesOf (now source) ≡ some (f .source)) × (bodyOf (now body) ≡ some (f .body))) ⌝ }
+    ensures begun { λ r. ⌜ Begun (now (source .entry)) (now (table .exit)) ⌝ }
+    ensures ready { λ r. ⌜ ((f : Translation) → entriesOf (now (source .entry)) ≡ some (f .source) → bodyOf (now (body .entry)) ≡ some (f .body)
+        → allRising f ≡ true → wellFormed f ≡ value f
+        → Indexed (now (table .exit)) (now (source .entry)) (f .source) × Counted (now (counts .exit)) (now (table .exit)) f) ⌝ }
+{
+    prepare(source, body, &mut table[..8224], counts);
+}
 
 // Writes the run of a legal tree whose result fits into the output.
 fn write_tree(
@@ -76,7 +96,7 @@ fn run_kept(
     }
     let mut table = [0u16; 25664];
     let mut counts = [0u16; 1024];
-    prepare(source, body, &mut table[..8224], &mut counts);
+    begin(source, body, &mut table, &mut counts);
     let room = output.len();
     match measure(source, &table, &counts, kind, tree, 0, 64, room + 1, ends) {
         Measured::End(e, n) => {
