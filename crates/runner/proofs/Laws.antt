@@ -1,23 +1,21 @@
 -- What a run relies on, and a law for each return of `write_tree`, `run_parts` and `run`.
 use Prim.Native.Nat.{ℕ, _+_, _<_, _≤_}
 use mathlib.Core.Path.{_≡_, refl, sym, ap, _∙_}
-use mathlib.Core.Bool.{Bool, true, false, _||_}
+use mathlib.Core.Bool.{Bool, true, false}
 use mathlib.Core.List.{List, [], _++_}
 use native.Mathlib.Omega.{arith}
-use lib.ListN.{length, getD, drop, length-drop, drop-of-length-le}
+use lib.ListN.{length, getD, drop, drop-of-length-le}
 use lib.Dec.{ltb}
-use borrow.Author.Tests.{ltb-false, le-ltb, lt-ltb}
-use Rattle.fields.specs.Fields.{hasOver}
+use borrow.Author.Tests.{le-ltb, lt-ltb}
 use Rattle.fields.specs.Outcome.{Result, value, refused, _>>=_, checked, written, outputAfter}
 use Rattle.fields.specs.declared.outcome.Outcome.{Outcome}
 use Rattle.fields.specs.declared.outcome.Outcome.the-variants.{Accepted, Refused}
 use Rattle.fields.specs.declared.outcome.Reason.{Reason}
 use Rattle.fields.specs.declared.outcome.Reason.the-variants as Why
-use Rattle.fields.proofs.Truth.{by-test, or-false}
+use Rattle.fields.proofs.Truth.{by-test}
 use Rattle.fields.proofs.Split.{front}
 use Rattle.fields.proofs.Codec.{bytes-from}
 use Rattle.language.specs.Language.{isIn}
-use Rattle.language.specs.LanguageFile.{languageLimit}
 use Rattle.reader.specs.Code.{Code}
 use Rattle.reader.specs.Syntax as Meant
 use Rattle.reader.specs.Operations.{treeOf, wholeTree}
@@ -29,14 +27,12 @@ use Rattle.reader.proofs.Sound.{read-done as right-done}
 use Rattle.reader.proofs.Members.{in-below}
 use Rattle.translation.specs.Translation.{Translation}
 use Rattle.translation.specs.Running.{transform}
-use Rattle.translation.specs.TranslationFile.{translationLimit, isLanguageTag, allRising, translationOf}
+use Rattle.translation.specs.TranslationFile.{allRising, translationOf}
 use Rattle.translation.specs.WellFormed.{wellFormed}
 use Rattle.translation.specs.Operations.{checkTranslation, fitted, runBytes, runTree}
-use Rattle.translation.specs.Inner.Parts.{Parted}
+use Rattle.translation.specs.Inner.Parts.{sourceIn, targetIn, bodyIn}
 use Rattle.translation.proofs.Codec.{translation-whole, translation-parts}
-use Rattle.translation.proofs.Fitting.{refuse-value}
-use Rattle.translation.proofs.Found.{cut, rest-is}
-use Rattle.translation.proofs.Chain.{pieces}
+use Rattle.translation.proofs.Cuts.{pieces-in, body-in-short}
 use Rattle.measure.specs.declared.measure.Measured.{Measured}
 use Rattle.measure.specs.declared.measure.Measured.the-variants.{End, Deep, Broken}
 use Rattle.measure.specs.Inner.Sizes.{size, capped}
@@ -154,20 +150,11 @@ module _ (f : Translation) (k room : ℕ) (b o : List ℕ) {r : Bool} (er : r �
               let l = within-room room (size (transform f (read-done .0))) (omega arith) in
               answer-same (by-read read-all ∙ rw (fitted-is false (le-ltb room n h))) (x (read-done .0) read-all (omega arith))
 
--- run
-module _ (s : List ℕ) (f : Translation) (e : translationOf s ≡ value f) where
-  -- The parts that are lent.
-  pub parts-checked : (a b : ℕ) → Parted s a b f → Checked (cut s 3 a) (cut s (a + 3) b) (cut s b (length s)) f
-  unfolding translationOf
-  parts-checked a b w =
-      let r = refuse-value (ltb translationLimit (length s) || hasOver isLanguageTag languageLimit s) Why.TooLong _ e .0 in
-      let l = ltb-false translationLimit (length s) (or-false (ltb translationLimit (length s)) (hasOver isLanguageTag languageLimit s) r .0) in
-      record {
-        pieces = pieces s _ refl r a b f w (translation-parts s f e);
-        short = rw (rest-is s b) (simp length-drop (omega arith));
-        file = s;
-        accepted = e;
-      }
+-- run: the parts that are lent.
+pub parts-checked : (s : List ℕ) (f : Translation) → translationOf s ≡ value f → {x y z : List ℕ} → x ≡ sourceIn s → y ≡ targetIn s → z ≡ bodyIn s
+    → Checked x y z f
+parts-checked s f e ex ey ez =
+    rw (ex, ey, ez) (record { pieces = pieces-in s f e; short = body-in-short s f e; file = s; accepted = e })
 
 -- The outcome and the output are those of the operation.
 abbrev pub AsRun : List ℕ → ℕ → List ℕ → List ℕ → List ℕ → Outcome → Type 0

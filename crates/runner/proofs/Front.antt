@@ -1,0 +1,55 @@
+-- The index of the source as the front of the table of a run.
+use Prim.Native.Nat.{ℕ, _+_, _*_, _≤_, _<_}
+use mathlib.Core.Path.{_≡_, sym, ap, _∙_}
+use mathlib.Core.List.{List, [], _∷_, _++_}
+use native.Mathlib.Omega.{arith}
+use lib.ListN.{length, getD, take, drop, length-append, List·getD-append}
+use lib.Seq.{length-take-le}
+use Rattle.fields.specs.Inner.Places.{places}
+use Rattle.language.specs.Language.{Language, productionKey}
+use Rattle.reader.specs.Inner.Index.{Sound, Indexed, putAll}
+use Rattle.reader.proofs.Placed.{puts-length}
+use Rattle.translation.specs.Translation.{Translation}
+use Rattle.measure.specs.Inner.Measuring.{Counted}
+use Rattle.emitter.specs.Inner.Stands.{spliced}
+use Rattle.emitter.specs.Inner.Filling.{Begun}
+
+-- What is looked up in a longer table is what stands in its front.
+module _ (index table s : List ℕ) (long : 8224 ≤ length table) (same : (j : ℕ) → j < 8224 → getD table j 0 ≡ getD index j 0) where
+  sound-front : Sound index s → Sound table s
+  sound-front z = record {
+    long = long;
+    short = z .short;
+    class = λ k h q. rw (same k (omega arith)) (z .class k h (rw (same k (omega arith)) at q));
+    name = λ k p h j q. rw (same (productionKey k p) (omega arith)) (z .name k p h j (rw (same (productionKey k p) (omega arith)) at q));
+    operands = λ k p h j q. rw (same (productionKey k p) (omega arith)) (z .operands k p h j (rw (same (productionKey k p) (omega arith)) at q));
+  }
+
+  pub indexed-front : (l : Language) → Indexed index s l → Indexed table s l
+  indexed-front l z = record {
+    sound = sound-front (z .sound);
+    entries = z .entries;
+    range = λ k h. rw (same k (omega arith)) (z .range k h);
+    arguments = λ k p h j. rw (same (productionKey k p) (omega arith)) (z .arguments k p h j);
+  }
+
+  pub counted-front : (counts : List ℕ) (f : Translation) → Counted counts index f → Counted counts table f
+  counted-front counts f z = record {
+    owns = λ k p ks h j e. rw (same (productionKey k p) (omega arith)) (z .owns k p ks h j e);
+    used = λ k p ks h j e i n. rw (same (productionKey k p) (omega arith)) (z .used k p ks h j e i n);
+  }
+
+-- begin: the front of the table o, which is all zero, was replaced by the index.
+module _ (s o index : List ℕ) (long : length o ≡ 25664) (zero : (j : ℕ) → getD o j 0 ≡ 0) (put : index ≡ putAll 0x11 s (take 8224 o) (places s)) where
+  index-long : length index ≡ 8224
+  index-long = rw put (puts-length 0x11 s (places s) (take 8224 o) ∙ length-take-le 8224 o (omega arith))
+
+  pub begun : Begun s (index ++ drop 8224 o)
+  unfolding spliced
+  begun = record { zeros = o; long = long; zero = zero; is = rw (← put, index-long) }
+
+  pub front-same : (j : ℕ) → j < 8224 → getD (index ++ drop 8224 o) j 0 ≡ getD index j 0
+  front-same j h = List·getD-append index (drop 8224 o) 0 j (omega (arith, index-long))
+
+  pub front-long : 8224 ≤ length (index ++ drop 8224 o)
+  front-long = rw (length-append index (drop 8224 o)) (omega (arith, index-long))
