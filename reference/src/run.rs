@@ -184,6 +184,14 @@ pub fn run(translation: &[u8], root: u32, tree: &[u8], output: &mut [u8]) -> Out
     write_run(translation, root, tree, output).into()
 }
 
+/// The length of the result of a well-formed translation, if the tree is legal.
+pub fn result_length(translation: &Translation, root: u8, tree: &[u8]) -> Option<u64> {
+    let program = Program::new(translation);
+    let tally = Length { program: &program, length: 0 };
+    let tally = read_tree(&Grammar::new(&translation.source), root, tree, tally, 1);
+    tally.ok().map(|tally| tally.length)
+}
+
 /// The tests of `run` in order, and then its result.
 fn write_run(
     translation: &[u8],

@@ -4,7 +4,8 @@ mod build;
 
 use build::reduce_answer;
 use reference::generate::{
-    language_file, reduce_case, run_case, translation_file, tree_case, Random,
+    language_file, long_run_case, reduce_case, run_case, translation_file, tree_case, Random,
+    LONG_TREE,
 };
 use reference::{check_language, check_translation, check_tree, reduce, run};
 
@@ -64,6 +65,34 @@ fn runs_reach_every_answer() {
         outcome.number()
     });
     assert_reached(counts, &[0, 1, 2, 3, 4, 5, 6, 7, 14, 15, 16, 17]);
+}
+
+#[test]
+fn long_runs_reach_every_answer_of_a_tree() {
+    let counts = count(1000, 8, |random| {
+        let case = long_run_case(random).case;
+        assert!((LONG_TREE..=201_000).contains(&case.tree.len()), "{} bytes", case.tree.len());
+        assert_eq!(check_translation(&case.translation).number(), 0);
+        run(&case.translation, case.root, &case.tree, &mut vec![0; case.output]).number()
+    });
+    assert_reached(counts, &[0, 15, 16, 17]);
+}
+
+#[test]
+fn long_trees_have_subtrees_about_4096_bytes_and_all_numbers_of_levels() {
+    let (mut lengths, mut levels) = ([0; 3], [0; 65]);
+    count(1000, 9, |random| {
+        let long = long_run_case(random);
+        levels[long.levels] += 1;
+        for length in long.subtrees.iter().map(|subtree| subtree.len()) {
+            if let Some(count) = lengths.get_mut(length.wrapping_sub(4095)) {
+                *count += 1;
+            }
+        }
+        0
+    });
+    assert!(lengths.iter().all(|&count| count >= 100), "{lengths:?}");
+    assert!(levels[10..].iter().all(|&count| count > 0) && levels[64] >= 100, "{levels:?}");
 }
 
 #[test]

@@ -5,7 +5,7 @@
 
 #![forbid(unsafe_code)]
 
-use reference::generate::{language_file, tree_case, Random};
+use reference::generate::{language_file, tree_case, Random, LONG_TREE};
 use reference::library;
 use std::fmt::Write as _;
 use std::process::ExitCode;
@@ -39,6 +39,8 @@ enum Input {
 /// What one case showed: the numbers that it counts for, and the lines of a difference.
 struct Finding {
     reached: Vec<usize>,
+    /// Whether the case has a long tree.
+    long: bool,
     difference: Option<Vec<String>>,
 }
 
@@ -264,13 +266,14 @@ mod laws {
         match said(random) {
             Ok(said) => Finding {
                 reached: said.into_iter().map(|said| said as usize).collect(),
+                long: false,
                 difference: None,
             },
             Err(broken) => {
                 let inputs = broken.inputs.into_iter();
                 let inputs = inputs.map(|(name, bytes)| Input::Bytes(bytes).line(name));
                 let lines = [format!("  {}", broken.what)].into_iter().chain(inputs);
-                Finding { reached: vec![], difference: Some(lines.collect()) }
+                Finding { reached: vec![], long: false, difference: Some(lines.collect()) }
             }
         }
     }
@@ -337,6 +340,15 @@ fn hexadecimal(bytes: &[u8]) -> String {
     text
 }
 
+/// An output in hexadecimal digits: all of it, or of a long one 64 bytes from a place on.
+fn output_shown(output: &[u8], place: usize) -> String {
+    if output.len() <= 5000 {
+        return hexadecimal(output);
+    }
+    let end = output.len().min(place + 64);
+    format!("bytes {place} to {end}: {}", hexadecimal(&output[place..end]))
+}
+
 /// Where two buffers differ first.
 fn first_difference(left: &[u8], right: &[u8]) -> Option<usize> {
     (0..left.len()).find(|&place| left[place] != right[place])
@@ -358,7 +370,14 @@ impl Comparison {
     /// The answer that was reached, and the difference if there is one.
     fn finding(&self) -> Finding {
         let difference = (self.library != self.reference).then(|| self.lines());
-        Finding { reached: vec![self.reference.number as usize], difference }
+        let reached = vec![self.reference.number as usize];
+        Finding { reached, long: self.has_long_tree(), difference }
+    }
+
+    /// Whether one of the inputs is a long tree.
+    fn has_long_tree(&self) -> bool {
+        let long = |input: &Input| matches!(input, Input::Bytes(tree) if tree.len() >= LONG_TREE);
+        self.inputs.iter().any(|(name, input)| *name == "tree" && long(input))
     }
 
     /// The lines of a difference, with everything that is needed to repeat it.
@@ -370,8 +389,8 @@ impl Comparison {
         ];
         if let Some(place) = first_difference(&library.output, &reference.output) {
             lines.push(format!("  outputs differ first at byte {place}"));
-            lines.push(format!("  library output:   {}", hexadecimal(&library.output)));
-            lines.push(format!("  reference output: {}", hexadecimal(&reference.output)));
+            lines.push(format!("  library output:   {}", output_shown(&library.output, place)));
+            lines.push(format!("  reference output: {}", output_shown(&reference.output, place)));
         }
         if let Some(place) = first_difference(&library.workspace, &reference.workspace) {
             lines.push(format!("  workspaces differ first at byte {place}"));
@@ -393,7 +412,7 @@ const SHOWN: u64 = 5;
 /// Compares one operation on all cases; gives the number of differences and missing answers.
 fn compare_all(operation: &Operation, cases: u64, request: &Request) -> (u64, u64) {
     let (seed, start) = (request.seed, Instant::now());
-    let mut reached = [0u64; NUMBERS];
+    let (mut reached, mut reached_long) = ([0u64; NUMBERS], [0u64; NUMBERS]);
     let mut differences = 0;
     for case in request.first..request.first + cases {
         if request.trace {
@@ -401,7 +420,10 @@ fn compare_all(operation: &Operation, cases: u64, request: &Request) -> (u64, u6
         }
         let mut random = Random::new(case_seed(seed, operation, case));
         let finding = (operation.find)(&mut random);
-        finding.reached.iter().for_each(|&number| reached[number] += 1);
+        for &number in &finding.reached {
+            reached[number] += 1;
+            reached_long[number] += u64::from(finding.long);
+        }
         if let Some(lines) = finding.difference {
             differences += 1;
             if differences <= SHOWN {
@@ -411,7 +433,21 @@ fn compare_all(operation: &Operation, cases: u64, request: &Request) -> (u64, u6
     }
     let seconds = start.elapsed().as_secs_f64();
     println!("{}: {cases} cases, seed {seed}, {seconds:.1} s", operation.name);
-    (differences, print_reached(operation, &reached))
+    let missing = print_reached(operation, &reached);
+    print_long(operation, &reached_long);
+    (differences, missing)
+}
+
+/// Prints how many cases had a long tree and how often each number was reached on them, if any.
+fn print_long(operation: &Operation, reached: &[u64; NUMBERS]) {
+    let trees: u64 = reached.iter().sum();
+    if trees == 0 {
+        return;
+    }
+    println!("  trees of {LONG_TREE} bytes or more: {trees}, of which");
+    for number in (0..NUMBERS).filter(|&number| reached[number] > 0) {
+        println!("    {}: {:8}", (operation.label)(number), reached[number]);
+    }
 }
 
 /// Prints how often each number was reached; gives the number of those never reached.

@@ -39,6 +39,37 @@ impl Coder<'_> {
         (code.len() < 400).then_some(code)
     }
 
+    /// A well-formed code, mostly a production over arguments in any order, twice or not at all.
+    pub fn arrangement(&self, random: &mut Random, kind: u8) -> Option<Vec<u8>> {
+        let low = |&kind: &u8| self.least(kind).is_some_and(|least| least < CODE_LEVELS as usize);
+        let fits = |p: &&Production| p.result == kind && p.arguments().iter().all(low);
+        let list: Vec<&Production> = self.target.productions.iter().filter(fits).collect();
+        if list.is_empty() || random.percent(15) {
+            return self.code(random, kind);
+        }
+        let pair = [random.pick(&list), random.pick(&list)];
+        let production = pair.into_iter().max_by_key(|p| p.arguments().len())?;
+        let (mut code, mut used) = (Vec::new(), Vec::new());
+        Symbol::Production(production.name).put(&mut code);
+        for &kind in production.arguments() {
+            let fresh = if random.percent(65) { self.fresh(random, kind, &used) } else { None };
+            match fresh.or_else(|| self.argument(random, kind)) {
+                Some(argument) => argument.put(&mut code),
+                None => self.put(random, kind, self.least(kind)?, &mut code),
+            }
+            used.extend(fresh);
+        }
+        (code.len() < 400).then_some(code)
+    }
+
+    /// One of the arguments that have the kind and are not among those used.
+    fn fresh(&self, random: &mut Random, kind: u8, used: &[Symbol]) -> Option<Symbol> {
+        let arguments = self.arguments.iter().enumerate().filter(|(_, &other)| other == kind);
+        let arguments = arguments.map(|(number, _)| Symbol::Argument(number as u8));
+        let list: Vec<Symbol> = arguments.filter(|symbol| !used.contains(symbol)).collect();
+        (!list.is_empty()).then(|| random.pick(&list))
+    }
+
     /// Appends a code of the kind with at most so many levels, which must be enough.
     fn put(&self, random: &mut Random, kind: u8, levels: usize, code: &mut Vec<u8>) {
         if let Some(argument) = self.argument(random, kind) {

@@ -4,6 +4,8 @@ mod codes;
 mod damage;
 mod heights;
 mod languages;
+mod lengths;
+mod long;
 mod packs;
 mod random;
 mod terms;
@@ -11,6 +13,7 @@ mod translations;
 mod trees;
 
 pub use languages::language_file;
+pub use long::{long_run_case, LongRunCase, LONG_TREE};
 pub use packs::{law_pack, pack_with_term, reduce_case, LawPack, ReduceCase};
 pub use random::Random;
 pub use translations::{run_case, translation_file, RunCase};

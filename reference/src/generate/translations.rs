@@ -4,6 +4,7 @@ use super::codes::Coder;
 use super::damage::{damage, damage_fields};
 use super::heights::Heights;
 use super::languages::{arguments, full_language, language, name};
+use super::long::long_run_case;
 use super::random::Random;
 use super::trees::root_and_tree;
 use crate::body::{Body, Clause, Clauses, Mapping};
@@ -81,6 +82,9 @@ fn source_productions(random: &mut Random, classes: &[(Class, u8)]) -> Vec<Produ
     table.into_values().collect()
 }
 
+/// Gives a code of a kind, if one is found.
+type Code = fn(&Coder, &mut Random, u8) -> Option<Vec<u8>>;
+
 /// A body for the source: the mapping cut to its kinds, and a code for each production.
 ///
 /// Productions for which no code is found are dropped from the source.
@@ -89,6 +93,7 @@ fn with_body(
     mut source: Language,
     target: Language,
     whole: &[u8; KINDS],
+    code: Code,
 ) -> Translation {
     let heights = Heights::new(&target);
     let mut clauses = Clauses::default();
@@ -96,7 +101,7 @@ fn with_body(
         let arguments: Vec<u8> =
             production.arguments().iter().map(|&kind| whole[kind as usize]).collect();
         let coder = Coder { target: &target, heights: &heights, arguments: &arguments };
-        let code = coder.code(random, whole[production.result as usize]);
+        let code = code(&coder, random, whole[production.result as usize]);
         let Some(code) = code else { return false };
         clauses.push(Clause { key: production.key(), code: &code });
         true
@@ -143,7 +148,8 @@ pub fn translation(random: &mut Random) -> Translation {
     let whole = whole_mapping(random, &target, &classes);
     let source =
         Language { classes: classes.into_iter().map(|(class, _)| class).collect(), productions };
-    trim(with_body(random, source, target, &whole), TRANSLATION_LIMIT)
+    let code: Code = |coder, random, kind| coder.code(random, kind);
+    trim(with_body(random, source, target, &whole, code), TRANSLATION_LIMIT)
 }
 
 /// A well-formed translation of a language into itself.
@@ -158,7 +164,17 @@ pub fn endomorphism(random: &mut Random, language: &Language) -> Translation {
     if random.percent(60) {
         whole = std::array::from_fn(|kind| kind as u8);
     }
-    trim(with_body(random, language.clone(), language.clone(), &whole), TRANSLATION_LIMIT)
+    let (source, target) = (language.clone(), language.clone());
+    let code: Code = |coder, random, kind| coder.code(random, kind);
+    trim(with_body(random, source, target, &whole, code), TRANSLATION_LIMIT)
+}
+
+/// A translation of a language into itself whose clauses mostly arrange their arguments anew.
+pub fn arrangement(random: &mut Random, language: &Language) -> Translation {
+    let whole = std::array::from_fn(|kind| kind as u8);
+    let (source, target) = (language.clone(), language.clone());
+    let code: Code = |coder, random, kind| coder.arrangement(random, kind);
+    trim(with_body(random, source, target, &whole, code), TRANSLATION_LIMIT)
 }
 
 /// A language whose kind 1 has names 0, 1 and 2 with none, one and two arguments of kind 1.
@@ -403,8 +419,14 @@ fn endless_run_case(random: &mut Random) -> RunCase {
     RunCase { translation, root: 1, tree, output }
 }
 
+/// One run in so many is on a long tree.
+const RUNS_FOR_A_LONG_ONE: usize = 200;
+
 /// A translation, a root, a tree and an output length.
 pub fn run_case(random: &mut Random) -> RunCase {
+    if random.below(RUNS_FOR_A_LONG_ONE) == 0 {
+        return long_run_case(random).case;
+    }
     if random.percent(5) {
         return endless_run_case(random);
     }
