@@ -94,15 +94,16 @@ module _ (s index b : List ℕ) (levels : ℕ) where
       (term d (getD s (getD firsts d 0 - 1) 0) (getD starts d 0) ≡ r)
       × Decided firsts lasts starts d (behind r (λ t. row d (getD firsts d 0) (getD lasts d 0) t))
 
-  -- What is written above the open terms leaves them as they were.
-  decided-kept : (firsts lasts starts : List ℕ) (i p q a d : ℕ) (r : Read) → d ≤ i → Decided firsts lasts starts d r
-      → Decided (set firsts i p) (set lasts i q) (set starts i a) d r
+  -- Only what stands at the open terms counts.
+  decided-same : (firsts lasts starts f l a : List ℕ) (d : ℕ) (r : Read)
+      → ((j : ℕ) → j < d → (getD f j 0 ≡ getD firsts j 0) × (getD l j 0 ≡ getD lasts j 0) × (getD a j 0 ≡ getD starts j 0))
+      → Decided firsts lasts starts d r → Decided f l a d r
   unfolding Decided
-  decided-kept firsts lasts starts i p q a zero r le h = tt
-  decided-kept firsts lasts starts i p q a (suc d) r le h =
-      let ne : d ≡ i → ⊥ = λ z. omega arith in
-      rw (getD-set-other firsts i d p 0 ne, getD-set-other lasts i d q 0 ne, getD-set-other starts i d a 0 ne)
-      (h .0, decided-kept firsts lasts starts i p q a d (behind r (λ t. row d (getD firsts d 0) (getD lasts d 0) t)) (omega arith) (h .1))
+  decided-same firsts lasts starts f l a zero r same h = tt
+  decided-same firsts lasts starts f l a (suc d) r same h =
+      let z = same d (omega arith) in
+      rw (z .0, z .1, z .2)
+      (h .0, decided-same firsts lasts starts f l a d (behind r (λ t. row d (getD firsts d 0) (getD lasts d 0) t)) (λ j i. same j (omega arith)) (h .1))
 
   module _ (firsts lasts starts : List ℕ) where
     -- The deepest term has ended.
@@ -120,8 +121,14 @@ module _ (s index b : List ℕ) (levels : ℕ) where
     unfolding Decided
     decided-one h k =
         let z : q + 1 - 1 ≡ q = omega arith in
-        rw (getD-set-same firsts d (q + 1) 0 hf, getD-set-same lasts d e 0 hl, getD-set-same starts d to 0 hs, z)
-        (h, decided-kept firsts lasts starts d (q + 1) e to d (behind r (λ t. row d (q + 1) e t)) (omega arith) k)
+        rw (getD-set-same firsts d (q + 1) 0 hf, getD-set-same lasts d e 0 hl, getD-set-same starts d to 0 hs, z) (
+          h,
+          decided-same firsts lasts starts (set firsts d (q + 1)) (set lasts d e) (set starts d to) d (behind r (λ t. row d (q + 1) e t))
+              (λ j i.
+              let ne : j ≡ d → ⊥ = λ y. omega arith in
+              (getD-set-other firsts d j (q + 1) 0 ne, getD-set-other lasts d j e 0 ne, getD-set-other starts d j to 0 ne))
+              k,
+        )
 
     decided-down : term d (getD s q 0) to ≡ r → Decided firsts lasts starts d (behind r (λ t. row d (q + 1) e t))
         → Decided (set firsts d (q + 1)) (set lasts d e) (set starts d to) (d + 1) r
@@ -185,15 +192,18 @@ module _ (s index b : List ℕ) (levels : ℕ) where
           row-next s index b levels d q e to more
           ∙ ap (λ (r : Read). behind r (λ a. row s index b levels d (q + 1) e a)) found
 
-      -- A term without operands has ended.
-      pub learn-on : last ≤ first → Learning s index b levels before firsts lasts starts ends d (q + 1) e t
+      -- A term without operands has ended; where it starts is written above the open ones.
+      pub learn-on : last ≤ first → Learning s index b levels before firsts lasts (set starts d to) ends d (q + 1) e t
       learn-on h =
           let z : row s index b levels d q e to ≡ row s index b levels d (q + 1) e t =
           whole ∙ ap (λ (r : Read). behind r (λ a. row s index b levels d (q + 1) e a)) (row-done s index b levels (d + 1) first last t h) in
+          let kept : (j : ℕ) → j < d → getD (set starts d to) j 0 ≡ getD starts j 0 =
+          λ j l. let ne : j ≡ d → ⊥ = λ y. omega arith in getD-set-other starts d j to 0 ne in
           record {
-            start-long = o .start-long;
-            begun = λ j l. let w = o .begun j l in (w .0, w .1, w .2, omega (arith, w .3));
-            decided = subst (λ (r : Read). Decided s index b levels firsts lasts starts d r) z (o .decided);
+            start-long = length-set starts d to ∙ o .start-long;
+            begun = λ j l. let w = o .begun j l in (w .0, w .1, w .2, omega (arith, kept j l, w .3));
+            decided = decided-same s index b levels firsts lasts starts firsts lasts (set starts d to) d (row s index b levels d (q + 1) e t)
+                (λ j l. (refl, refl, kept j l)) (subst (λ (r : Read). Decided s index b levels firsts lasts starts d r) z (o .decided));
             learnt = o .learnt;
           }
 

@@ -95,6 +95,12 @@ count-in-requires c κs = open-in _ _ _ _ _ _ (c .before .before .loop .inv .0) 
 add-share-requires : tie.Need-add-share-requires Inv-loop μ-loop
 add-share-requires c κs = (omega arith, c .count-in .ensures .1)
 
+mul-starts : tie.Need-mul-starts Inv-loop μ-loop
+mul-starts c = omega (arith, c .before .before .before .before .loop .inv .0 .shallow, c .before .before .before .before .before .before .before .before .pre .4)
+
+array-write-starts : tie.Need-array-write-starts Inv-loop μ-loop
+array-write-starts c = omega (arith, c .before .before .before .before .loop .inv .0 .shallow, c .before .before .before .before .before .before .before .before .pre .4)
+
 shared-slice-read-step-at : tie.Need-shared-slice-read-step-at Inv-loop μ-loop
 shared-slice-read-step-at c = open-in _ _ _ _ _ _ (c .before .before .before .before .before .loop .inv .0) (c .before .before .before .before .if1 .left) (c .before .before .before .before .before .before .before .before .before .pre .0 .short) .0
 
@@ -140,12 +146,6 @@ mul-weights c = omega (arith, c .before .before .before .before .before .before 
 array-write-weights : tie.Need-array-write-weights Inv-loop μ-loop
 array-write-weights c = omega (arith, c .before .before .before .before .before .before .before .before .before .before .loop .inv .0 .shallow, c .before .before .before .before .before .before .before .before .before .before .before .before .before .before .pre .4)
 
-mul-starts : tie.Need-mul-starts Inv-loop μ-loop
-mul-starts c = omega (arith, c .before .before .before .before .before .before .before .before .before .before .loop .inv .0 .shallow, c .before .before .before .before .before .before .before .before .before .before .before .before .before .before .pre .4)
-
-array-write-starts : tie.Need-array-write-starts Inv-loop μ-loop
-array-write-starts c = omega (arith, c .before .before .before .before .before .before .before .before .before .before .loop .inv .0 .shallow, c .before .before .before .before .before .before .before .before .before .before .before .before .before .before .pre .4)
-
 add-depth : tie.Need-add-depth Inv-loop μ-loop
 add-depth c = omega (arith, c .before .before .before .before .before .before .before .before .before .before .loop .inv .0 .shallow, c .before .before .before .before .before .before .before .before .before .before .before .before .before .before .pre .4)
 
@@ -184,6 +184,8 @@ measure-rows-spec =
     returns-2
     count-in-requires
     add-share-requires
+    mul-starts
+    array-write-starts
     shared-slice-read-step-at
     step-at-requires
     (λ c. search needs)
@@ -201,8 +203,6 @@ measure-rows-spec =
     array-write-lasts
     mul-weights
     array-write-weights
-    mul-starts
-    array-write-starts
     add-depth
     loop-less-3
     loop-again-3)
