@@ -85,14 +85,6 @@ pub fn parts_of(s: &[u8]) -> Parts
     }
 }
 
-// Where the parts of a translation that was accepted stand.
-pub fn accepted_parts(s: &[u8]) -> Parts
-    requires { ⌜ ((f : Translation) × (translationOf (now s) ≡ value f)) ⌝ }
-    ensures { λ r. ⌜ ((f : Translation) → translationOf (now (s .entry)) ≡ value f → Parted (now (s .entry)) (r .«source_end») (r .«target_end») f) ⌝ }
-{
-    parts_of(s)
-}
-
 // The bytes of the source of a translation that was accepted.
 pub fn source_of(s: &[u8]) -> &[u8]
     requires { ⌜ ((f : Translation) × (translationOf (now s) ≡ value f)) ⌝ }
