@@ -29,7 +29,7 @@ use Rattle.fields.specs.Inner.Places.{fieldEnd, places, keyAt}
 use Rattle.reader.specs.Inner.Index.{putAll, Indexed, rangeBefore}
 use Rattle.reader.proofs.Placed.{puts-length, puts-place, found}
 use Rattle.language.specs.Language.{Range, argumentsOf, productionKey}
-use Rattle.emitter.specs.Inner.Filling.{Filled, mappedIn, AllSpanned}
+use Rattle.emitter.specs.Inner.Filling.{Begun, Filled, mappedIn, AllSpanned}
 use lib.Seq.{slice, length-slice, ext-getD, take-suc, take-all, drop-drop, set-split, length-take-le, getD-take, getD-drop, getD-append-add}
 use Rattle.emitter.specs.Inner.Stands.{Stands, spliced}
 use Rattle.emitter.proofs.Standing.{splice-splice, length-spliced}
@@ -110,47 +110,70 @@ module _ (o : List ℕ) (pos : ℕ) (v : List ℕ) (fits : pos + length v ≤ le
       ap (λ (n : ℕ). getD (spliced o pos v) n 0) e
       ∙ (get-from (length v + m) ∙ (getD-append-add v (drop (pos + length v) o) m 0 ∙ (getD-drop (pos + length v) o m 0 ∙ ap (λ (n : ℕ). getD o n 0) d)))
 
--- A part of a table that is zero there.
-part-zero : (o : List ℕ) (a : ℕ) → ((j : ℕ) → j < 8224 → getD o (a + j) 0 ≡ 0) → (j : ℕ) → getD (take 8224 (drop a o)) j 0 ≡ 0
-part-zero o a h j =
+-- The front of a table that is zero there.
+front-zero : (o : List ℕ) → ((j : ℕ) → j < 8224 → getD o j 0 ≡ 0) → (j : ℕ) → getD (take 8224 o) j 0 ≡ 0
+front-zero o h j =
     by-test (ltb j 8224)
     (λ e.
     let i : j < 8224 = ltb-true _ _ e in
-    getD-take 8224 (drop a o) j 0 i ∙ (getD-drop a o j 0 ∙ h j i))
+    getD-take 8224 o j 0 i ∙ h j i)
     (λ e.
     let i : 8224 ≤ j = ltb-false _ _ e in
-    let l = length-take 8224 (drop a o) in
-    List·getD-eq-default (take 8224 (drop a o)) 0 (omega arith))
+    let l = length-take 8224 o in
+    List·getD-eq-default (take 8224 o) 0 (omega arith))
 
--- fill
-module _ (s b t₀ t₁ t₂ t₃ t₄ : List ℕ) (short : length s ≤ 1024) (near : length b ≤ 4096) (long : length t₀ ≡ 25664) (zeros : (j : ℕ) → getD t₀ j 0 ≡ 0) where
+-- An index that is put into the front of a table.
+module _ (s o : List ℕ) (long : length o ≡ 25664) where
+  front-index-long : length (putAll 0x11 s (take 8224 o) (places s)) ≡ 8224
+  front-index-long = puts-length 0x11 s (places s) (take 8224 o) ∙ length-take-le 8224 o (omega arith)
+
+  -- It stands there, where the table is all zero besides.
+  pub begun : ((j : ℕ) → getD o j 0 ≡ 0) → (v : List ℕ) → v ≡ putAll 0x11 s (take 8224 o) (places s) → Begun s (v ++ drop 8224 o)
+  begun clear v e = record {
+    zeros = o;
+    long = long;
+    zero = clear;
+    is = rw (e, spliced-is o 0 (putAll 0x11 s (take 8224 o) (places s)), front-index-long);
+  }
+
+-- A table in which the index of the source stands.
+module _ (s t₁ : List ℕ) (begins : Begun s t₁) where
+  abbrev t₀ : List ℕ
+  t₀ = begins .zeros
+
   abbrev first-index : List ℕ
-  first-index = putAll 0x11 s (take 8224 (drop 0 t₀)) (places s)
+  first-index = putAll 0x11 s (take 8224 t₀) (places s)
 
-  abbrev second-index : List ℕ
-  second-index = putAll 0x22 b (take 8224 (drop 8224 t₁)) (places b)
+  first-long : length first-index ≡ 8224
+  first-long = front-index-long s t₀ (begins .long)
 
-  module _ (e₁ : t₁ ≡ spliced t₀ 0 first-index) (e₂ : t₂ ≡ spliced t₁ 8224 second-index) (e₃ : t₃ ≡ spliced t₂ 16448 s) (e₄ : t₄ ≡ spliced t₃ 17472 b) where
-    part-long : (o : List ℕ) (a : ℕ) → length o ≡ 25664 → a + 8224 ≤ 25664 → length (take 8224 (drop a o)) ≡ 8224
-    part-long o a l h = let d = length-drop a o in length-take-le 8224 (drop a o) (omega arith)
+  room₁ : 0 + length first-index ≤ length t₀
+  room₁ = omega (arith, first-long, begins .long)
 
-    first-long : length first-index ≡ 8224
-    first-long = puts-length 0x11 s (places s) (take 8224 (drop 0 t₀)) ∙ part-long t₀ 0 long (omega arith)
+  pub begun-long : length t₁ ≡ 25664
+  begun-long = ap length (begins .is) ∙ (length-spliced t₀ 0 first-index room₁ ∙ begins .long)
 
-    room₁ : 0 + length first-index ≤ length t₀
-    room₁ = omega (arith, first-long)
+  -- The table is zero behind the first index.
+  rest-zero : (j : ℕ) → getD t₁ (8224 + j) 0 ≡ 0
+  rest-zero j = ap (λ (t : List ℕ). getD t (8224 + j) 0) (begins .is) ∙ (get-past t₀ 0 first-index room₁ (8224 + j) (omega (arith, first-long)) ∙ begins .zero (8224 + j))
 
-    long₁ : length t₁ ≡ 25664
-    long₁ = ap length e₁ ∙ (length-spliced t₀ 0 first-index room₁ ∙ long)
+  second-part-long : length (take 8224 (drop 8224 t₁)) ≡ 8224
+  second-part-long = let d = length-drop 8224 t₁ in length-take-le 8224 (drop 8224 t₁) (omega (arith, begun-long))
+
+  -- fill
+  module _ (b t₂ t₃ t₄ : List ℕ) (short : length s ≤ 1024) (near : length b ≤ 4096) (e₂ : t₂ ≡ spliced t₁ 8224 (putAll 0x22 b (take 8224 (drop 8224 t₁)) (places b)))
+      (e₃ : t₃ ≡ spliced t₂ 16448 s) (e₄ : t₄ ≡ spliced t₃ 17472 b) where
+    abbrev second-index : List ℕ
+    second-index = putAll 0x22 b (take 8224 (drop 8224 t₁)) (places b)
 
     second-long : length second-index ≡ 8224
-    second-long = puts-length 0x22 b (places b) (take 8224 (drop 8224 t₁)) ∙ part-long t₁ 8224 long₁ (omega arith)
+    second-long = puts-length 0x22 b (places b) (take 8224 (drop 8224 t₁)) ∙ second-part-long
 
     room₂ : 8224 + length second-index ≤ length t₁
-    room₂ = omega (arith, second-long, long₁)
+    room₂ = omega (arith, second-long, begun-long)
 
     long₂ : length t₂ ≡ 25664
-    long₂ = ap length e₂ ∙ (length-spliced t₁ 8224 second-index room₂ ∙ long₁)
+    long₂ = ap length e₂ ∙ (length-spliced t₁ 8224 second-index room₂ ∙ begun-long)
 
     room₃ : 16448 + length s ≤ length t₂
     room₃ = omega (arith, long₂)
@@ -174,15 +197,15 @@ module _ (s b t₀ t₁ t₂ t₃ t₄ : List ℕ) (short : length s ≤ 1024) (
     filled = record {
       long = ap length e₄ ∙ (length-spliced t₃ 17472 b room₄ ∙ long₃);
       index = record {
-        zeros = take 8224 (drop 0 t₀);
-        long = part-long t₀ 0 long (omega arith);
-        zero = part-zero t₀ 0 (λ j h. zeros (0 + j));
-        is = λ j h. from₁ (0 + j) (omega arith) ∙ (ap (λ (t : List ℕ). getD t (0 + j) 0) e₁ ∙ get-in t₀ 0 first-index room₁ j (omega (arith, first-long)));
+        zeros = take 8224 t₀;
+        long = length-take-le 8224 t₀ (omega (arith, begins .long));
+        zero = front-zero t₀ (λ j h. begins .zero j);
+        is = λ j h. from₁ (0 + j) (omega arith) ∙ (ap (λ (t : List ℕ). getD t (0 + j) 0) (begins .is) ∙ get-in t₀ 0 first-index room₁ j (omega (arith, first-long)));
       };
       items = record {
         zeros = take 8224 (drop 8224 t₁);
-        long = part-long t₁ 8224 long₁ (omega arith);
-        zero = part-zero t₁ 8224 (λ j h. ap (λ (t : List ℕ). getD t (8224 + j) 0) e₁ ∙ (get-past t₀ 0 first-index room₁ (8224 + j) (omega (arith, first-long)) ∙ zeros (8224 + j)));
+        long = second-part-long;
+        zero = front-zero (drop 8224 t₁) (λ j h. getD-drop 8224 t₁ j 0 ∙ rest-zero j);
         is = λ j h. from₂ (8224 + j) (omega arith) ∙ (ap (λ (t : List ℕ). getD t (8224 + j) 0) e₂ ∙ get-in t₁ 8224 second-index room₂ j (omega (arith, second-long)));
       };
       source = λ j h. from₃ (16448 + j) (omega arith) ∙ (ap (λ (t : List ℕ). getD t (16448 + j) 0) e₃ ∙ get-in t₂ 16448 s room₃ j h);

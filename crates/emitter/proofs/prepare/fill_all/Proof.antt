@@ -1,5 +1,3 @@
-use Rattle.reader.proofs.Check.{zeros}
-use mathlib.Core.Path.{refl}
 use native.Mathlib.Omega.{arith}
 use Rattle.emitter.proofs.Tables.{ready}
 use borrow.Author.Needs.{needs}
@@ -9,25 +7,21 @@ use Rattle.emitter.proofs.prepare.fill_all.Reads as reads
 use Rattle.emitter.proofs.prepare.fill_all.Lts as lts
 use Rattle.emitter.proofs.prepare.fill.Reads as fill-reads
 use Rattle.emitter.proofs.prepare.span_all.Reads as span-all-reads
-use Rattle.reader.proofs.index.build.Reads as build-reads
 
-build-requires : tie.Need-build-requires
-build-requires c κs = (c .before .before .before .before .before .before .before .before .before .pre .2 .1 .pieces .target-short, refl, zeros 8224)
+fill-requires : tie.Need-fill-requires
+fill-requires c κs = (c .before .before .before .before .before .before .pre .1 .1 .pieces .source-short, c .before .before .before .before .before .before .pre .1 .1 .short, c .before .before .before .before .before .before .pre .0)
 
 span-all-requires : tie.Need-span-all-requires
-span-all-requires c κs = (c .before .before .before .build .ensures (c .before .before .before .before .before .before .before .before .before .before .before .before .before .pre .2 .0 .target) (c .before .before .before .before .before .before .before .before .before .before .before .before .before .pre .2 .1 .pieces .target) .sound, c .before .before .before .before .before .before .before .before .before .before .before .before .before .pre .2 .1 .short, search needs)
+span-all-requires c κs = (c .before .before .before .before .before .before .before .before .before .before .pre .1 .2 .sound, c .before .before .before .before .before .before .before .before .before .before .pre .1 .1 .short, c .before .before .before .fill .ensures .long)
 
 returns : tie.Need-returns
-returns c = λ f z. ready _ _ _ _ _ f z (c .before .before .before .before .before .before .before .before .before .before .fill .ensures) (c .before .before .span-all .ensures _ f z (c .before .before .before .before .before .before .build .ensures (f .target) (z .pieces .target)) (c .before .before .before .before .before .before .before .before .before .before .fill .ensures .items)) (λ i. omega (arith, c .before .before .before .before .before .before .before .before .before .before .before .before .before .before .before .shared-slice-known .given i)) (λ i. omega (arith, c .before .before .before .before .before .before .before .before .before .before .before .before .before .shared-slice-known3 .given i))
+returns c = λ f z x. ready _ _ _ _ _ f z (c .before .before .before .before .before .before .fill .ensures) (c .before .before .span-all .ensures _ f z x (c .before .before .before .before .before .before .fill .ensures .items)) (λ i. omega (arith, c .before .before .before .before .before .before .before .before .before .before .before .before .shared-slice-known .given i)) (λ i. omega (arith, c .before .before .before .before .before .before .before .before .before .shared-slice-known4 .given i))
 
 pub fill-all-spec : {M : Type 1} → statement M
 fill-all-spec =
     tie.close
     (tie.spec
-    (λ c κs. search needs)
-    (λ c. search needs)
-    build-requires
-    (λ c. search needs)
+    fill-requires
     span-all-requires
     (λ c. search needs)
     returns)
