@@ -111,7 +111,7 @@ module _ (o : List ℕ) (pos : ℕ) (v : List ℕ) (fits : pos + length v ≤ le
       ∙ (get-from (length v + m) ∙ (getD-append-add v (drop (pos + length v) o) m 0 ∙ (getD-drop (pos + length v) o m 0 ∙ ap (λ (n : ℕ). getD o n 0) d)))
 
 -- The front of a table that is zero there.
-front-zero : (o : List ℕ) → ((j : ℕ) → j < 8224 → getD o j 0 ≡ 0) → (j : ℕ) → getD (take 8224 o) j 0 ≡ 0
+pub front-zero : (o : List ℕ) → ((j : ℕ) → j < 8224 → getD o j 0 ≡ 0) → (j : ℕ) → getD (take 8224 o) j 0 ≡ 0
 front-zero o h j =
     by-test (ltb j 8224)
     (λ e.
@@ -124,7 +124,7 @@ front-zero o h j =
 
 -- An index that is put into the front of a table.
 module _ (s o : List ℕ) (long : length o ≡ 25664) where
-  front-index-long : length (putAll 0x11 s (take 8224 o) (places s)) ≡ 8224
+  pub front-index-long : length (putAll 0x11 s (take 8224 o) (places s)) ≡ 8224
   front-index-long = puts-length 0x11 s (places s) (take 8224 o) ∙ length-take-le 8224 o (omega arith)
 
   -- It stands there, where the table is all zero besides.

@@ -1,18 +1,15 @@
 -- The index of the source as the front of the table of a run.
-use Prim.Native.Nat.{ℕ, zero, suc, _+_, _*_, _≤_, _<_}
-use mathlib.Core.Path.{_≡_, refl, sym, ap, _∙_}
-use mathlib.Core.List.{List, [], _∷_, _++_}
+use Prim.Native.Nat.{ℕ, _+_, _*_, _≤_, _<_}
+use mathlib.Core.Path.{_≡_}
+use mathlib.Core.List.{List, _++_}
 use native.Mathlib.Omega.{arith}
 use lib.ListN.{length, getD, take, drop, length-append, List·getD-append}
-use lib.Seq.{length-take-le}
 use Rattle.fields.specs.Inner.Places.{places}
 use Rattle.language.specs.Language.{Language, productionKey}
 use Rattle.reader.specs.Inner.Index.{Sound, Indexed, putAll}
-use Rattle.reader.proofs.Placed.{puts-length}
 use Rattle.translation.specs.Translation.{Translation}
 use Rattle.measure.specs.Inner.Measuring.{Counted}
-use Rattle.emitter.specs.Inner.Stands.{spliced}
-use Rattle.emitter.specs.Inner.Filling.{Begun}
+use Rattle.emitter.proofs.Tables.{front-index-long}
 
 -- What is looked up in a longer table is what stands in its front.
 module _ (index table s : List ℕ) (long : 8224 ≤ length table) (same : (j : ℕ) → j < 8224 → getD table j 0 ≡ getD index j 0) where
@@ -39,21 +36,10 @@ module _ (index table s : List ℕ) (long : 8224 ≤ length table) (same : (j : 
     used = λ k p ks h j e i n. rw (same (productionKey k p) (omega arith)) (z .used k p ks h j e i n);
   }
 
--- The front of a table that is all zero is.
-pub zero-front : (n : ℕ) (o : List ℕ) → ((j : ℕ) → getD o j 0 ≡ 0) → (j : ℕ) → getD (take n o) j 0 ≡ 0
-zero-front zero o h j = refl
-zero-front (suc n) [] h j = refl
-zero-front (suc n) (x ∷ o) h zero = h 0
-zero-front (suc n) (x ∷ o) h (suc j) = zero-front n o (λ i. h (suc i)) j
-
--- begin: the front of the table o, which is all zero, was replaced by the index.
-module _ (s o index : List ℕ) (long : length o ≡ 25664) (zeros : (j : ℕ) → getD o j 0 ≡ 0) (put : index ≡ putAll 0x11 s (take 8224 o) (places s)) where
+-- begin: the front of the table o was replaced by the index.
+module _ (s o index : List ℕ) (long : length o ≡ 25664) (put : index ≡ putAll 0x11 s (take 8224 o) (places s)) where
   index-long : length index ≡ 8224
-  index-long = rw put (puts-length 0x11 s (places s) (take 8224 o) ∙ length-take-le 8224 o (omega arith))
-
-  pub begun : Begun s (index ++ drop 8224 o)
-  unfolding spliced
-  begun = record { zeros = o; long = long; zero = zeros; is = rw (← put, index-long) }
+  index-long = rw put (front-index-long s o long)
 
   pub front-same : (j : ℕ) → j < 8224 → getD (index ++ drop 8224 o) j 0 ≡ getD index j 0
   front-same j h = List·getD-append index (drop 8224 o) 0 j (omega (arith, index-long))

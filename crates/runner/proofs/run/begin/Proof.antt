@@ -2,7 +2,8 @@ use borrow.Author.Needs.{needs}
 use mathlib.Core.Path.{sym}
 use native.Mathlib.Omega.{arith}
 use lib.Seq.{length-take-le}
-use Rattle.runner.proofs.Front.{indexed-front, counted-front, zero-front, begun, front-same, front-long}
+use Rattle.emitter.proofs.Tables.{front-zero, begun}
+use Rattle.runner.proofs.Front.{indexed-front, counted-front, front-same, front-long}
 use Rattle.runner.proofs.run.begin.Statement.{statement}
 use Rattle.runner.proofs.run.begin.Tie as tie
 use Rattle.runner.proofs.run.begin.Reads as reads
@@ -13,17 +14,17 @@ slice-aggregate-prepare : tie.Need-slice-aggregate-prepare
 slice-aggregate-prepare c = sym (length-take-le 8224 (c .before .before .before .before .before .args .table .now) (omega (arith, c .before .before .before .before .before .pre .2)))
 
 prepare-requires : tie.Need-prepare-requires
-prepare-requires c κs = (c .before .before .before .before .before .before .pre .0, c .before .before .before .before .before .before .pre .1, length-take-le 8224 (c .before .before .before .before .before .before .args .table .now) (omega (arith, c .before .before .before .before .before .before .pre .2)), zero-front 8224 (c .before .before .before .before .before .before .args .table .now) (c .before .before .before .before .before .before .pre .3), c .before .before .before .before .before .before .pre .4, c .before .before .before .before .before .before .pre .5, c .before .before .before .before .before .before .pre .6)
+prepare-requires c κs = (c .before .before .before .before .before .before .pre .0, c .before .before .before .before .before .before .pre .1, length-take-le 8224 (c .before .before .before .before .before .before .args .table .now) (omega (arith, c .before .before .before .before .before .before .pre .2)), front-zero (c .before .before .before .before .before .before .args .table .now) (λ j h. c .before .before .before .before .before .before .pre .3 j), c .before .before .before .before .before .before .pre .4, c .before .before .before .before .before .before .pre .5, c .before .before .before .before .before .before .pre .6)
 
 returns : tie.Need-returns
 returns c =
     let p = c .before .before .before .before .before .before .before .before .before .before .before .pre in
     let q = c .before .before .before .before .prepare .ensures .0 in (
-      begun (c .before .before .before .before .before .before .before .before .before .before .before .args .source .now) (c .before .before .before .before .before .before .before .before .before .before .before .args .table .now) _ (p .2) (p .3) q,
+      begun (c .before .before .before .before .before .before .before .before .before .before .before .args .source .now) (c .before .before .before .before .before .before .before .before .before .before .before .args .table .now) (p .2) (p .3) _ q,
       λ f x y v w.
           let r = c .before .before .before .before .prepare .ensures .1 f x y v w in (
-            indexed-front _ _ _ (front-long (c .before .before .before .before .before .before .before .before .before .before .before .args .source .now) (c .before .before .before .before .before .before .before .before .before .before .before .args .table .now) _ (p .2) (p .3) q) (front-same (c .before .before .before .before .before .before .before .before .before .before .before .args .source .now) (c .before .before .before .before .before .before .before .before .before .before .before .args .table .now) _ (p .2) (p .3) q) (f .source) (r .0),
-            counted-front _ _ (c .before .before .before .before .before .before .before .before .before .before .before .args .source .now) (front-long (c .before .before .before .before .before .before .before .before .before .before .before .args .source .now) (c .before .before .before .before .before .before .before .before .before .before .before .args .table .now) _ (p .2) (p .3) q) (front-same (c .before .before .before .before .before .before .before .before .before .before .before .args .source .now) (c .before .before .before .before .before .before .before .before .before .before .before .args .table .now) _ (p .2) (p .3) q) _ f (r .1),
+            indexed-front _ _ _ (front-long (c .before .before .before .before .before .before .before .before .before .before .before .args .source .now) (c .before .before .before .before .before .before .before .before .before .before .before .args .table .now) _ (p .2) q) (front-same (c .before .before .before .before .before .before .before .before .before .before .before .args .source .now) (c .before .before .before .before .before .before .before .before .before .before .before .args .table .now) _ (p .2) q) (f .source) (r .0),
+            counted-front _ _ (c .before .before .before .before .before .before .before .before .before .before .before .args .source .now) (front-long (c .before .before .before .before .before .before .before .before .before .before .before .args .source .now) (c .before .before .before .before .before .before .before .before .before .before .before .args .table .now) _ (p .2) q) (front-same (c .before .before .before .before .before .before .before .before .before .before .before .args .source .now) (c .before .before .before .before .before .before .before .before .before .before .before .args .table .now) _ (p .2) q) _ f (r .1),
           ),
     )
 
