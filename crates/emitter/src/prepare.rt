@@ -3,6 +3,7 @@ use fields::bytes::byte_at;
 use fields::bytes::pair_at;
 use fields::bytes::wide;
 use fields::walk::field_end;
+use reader::index::build;
 use reader::index::put_all;
 ghost use mathlib.Core.Path.{_≡_};
 ghost use mathlib.Core.List.{List};
@@ -148,21 +149,21 @@ fn span_all(target: &[u8], places: &[u16], body: &[u8], table: &mut [u16])
 }
 
 // The same as `prepare`, for a table of that length.
-fn fill_all(source: &[u8], target: &[u8], places: &[u16], body: &[u8], table: &mut [u16])
-    requires { ⌜ Begun (now source) (now table) × ((f : Translation) × Checked (now source) (now target) (now body) f × Indexed (now places) (now target) (f .target)) ⌝ }
-    ensures { λ r. ⌜ ((f : Translation) → Checked (now (source .entry)) (now (target .entry)) (now (body .entry)) f → Indexed (now (places .entry)) (now (target .entry)) (f .target)
-        → Ready (now (table .exit)) f) ⌝ }
+fn fill_all(source: &[u8], target: &[u8], body: &[u8], table: &mut [u16])
+    requires { ⌜ Begun (now source) (now table) × ((f : Translation) × Checked (now source) (now target) (now body) f) ⌝ }
+    ensures { λ r. ⌜ ((f : Translation) → Checked (now (source .entry)) (now (target .entry)) (now (body .entry)) f → Ready (now (table .exit)) f) ⌝ }
 {
     fill(source, body, table);
-    span_all(target, places, body, table);
+    let mut places = [0u16; 8224];
+    build(target, &mut places);
+    span_all(target, &places, body, table);
 }
 
-// Fills the table of a translation that was accepted, by the bytes of its source, target and body, and an index of the
-// target. The index of the source stands in the table, and it is all zero besides.
-pub fn prepare(source: &[u8], target: &[u8], places: &[u16], body: &[u8], table: &mut [u16; 25664])
-    requires { ⌜ Begun (now source) (now table) × ((f : Translation) × Checked (now source) (now target) (now body) f × Indexed (now places) (now target) (f .target)) ⌝ }
-    ensures { λ r. ⌜ ((f : Translation) → Checked (now (source .entry)) (now (target .entry)) (now (body .entry)) f → Indexed (now (places .entry)) (now (target .entry)) (f .target)
-        → Ready (now (table .exit)) f) ⌝ }
+// Fills the table of a translation that was accepted, by the bytes of its source, target and body. The index of the source
+// stands in the table, and it is all zero besides.
+pub fn prepare(source: &[u8], target: &[u8], body: &[u8], table: &mut [u16; 25664])
+    requires { ⌜ Begun (now source) (now table) × ((f : Translation) × Checked (now source) (now target) (now body) f) ⌝ }
+    ensures { λ r. ⌜ ((f : Translation) → Checked (now (source .entry)) (now (target .entry)) (now (body .entry)) f → Ready (now (table .exit)) f) ⌝ }
 {
-    fill_all(source, target, places, body, table);
+    fill_all(source, target, body, table);
 }

@@ -20,7 +20,6 @@ use fields::outcome::Outcome;
 use fields::outcome::Reason;
 use operators::copy::Stored;
 use operators::within::lies_within;
-use reader::index::build;
 use reader::index::put_all;
 use translation::check::check_translation;
 use translation::index::build_items;
@@ -37,11 +36,9 @@ fn join_body(s: &[u8], t: &[u8], x: &[u8], y: &[u8], out: &mut [u8]) -> Stored
     ensures { λ r. ⌜ ((f g : Translation) (u : List ℕ) → Fitted (now (s .entry)) (now (t .entry)) (now (x .entry)) u (now (y .entry)) f g
         → Stores (joinedBody f g) (now (out .entry)) (now (out .exit)) 0 r) ⌝ }
 {
-    let mut places = [0u16; 8224];
-    build(t, &mut places);
     let mut table = [0u16; 25664];
     put_all(s, 0x11, &mut table[..8224]);
-    prepare(s, t, &places, x, &mut table);
+    prepare(s, t, x, &mut table);
     let mut clauses = [0u16; 8224];
     build_items(x, &mut clauses);
     let mut mapped = [0u8; 32];

@@ -9,7 +9,7 @@ use measure::measure::measure;
 use measure::prepare::prepare;
 use reader::kinds::is_in;
 use reader::node::Syntax;
-use translation::check::check_indexed;
+use translation::check::check_translation;
 use translation::parts::body_of;
 use translation::parts::source_of;
 use translation::parts::target_of;
@@ -54,7 +54,6 @@ fn begin(source: &[u8], body: &[u8], table: &mut [u16], counts: &mut [u16])
 fn write_tree(
     source: &[u8],
     target: &[u8],
-    places: &[u16],
     body: &[u8],
     table: &mut [u16; 25664],
     kind: u8,
@@ -62,12 +61,12 @@ fn write_tree(
     ends: &[u32],
     output: &mut [u8],
 ) -> Answer
-    requires { ⌜ (kind < 32) × Begun (now source) (now table) × ((f : Translation) × (t : Code) × Checked (now source) (now target) (now body) f × Indexed (now places) (now target) (f .target) × (read inTrees (f .source) [] 64 kind (now tree) ≡ done t []) × Right Tree (now ends) (now tree) (f .source) []) ⌝ }
+    requires { ⌜ (kind < 32) × Begun (now source) (now table) × ((f : Translation) × (t : Code) × Checked (now source) (now target) (now body) f × (read inTrees (f .source) [] 64 kind (now tree) ≡ done t []) × Right Tree (now ends) (now tree) (f .source) []) ⌝ }
     ensures { λ r. ⌜ ((f : Translation) (t : Code) → Checked (now (source .entry)) (now (target .entry)) (now (body .entry)) f
-        → Indexed (now (places .entry)) (now (target .entry)) (f .target) → read inTrees (f .source) [] 64 kind (now (tree .entry)) ≡ done t [] → Right Tree (now (ends .entry)) (now (tree .entry)) (f .source) [] → length (write inTrees (transform f t)) ≤ length (now (output .entry))
+        → read inTrees (f .source) [] 64 kind (now (tree .entry)) ≡ done t [] → Right Tree (now (ends .entry)) (now (tree .entry)) (f .source) [] → length (write inTrees (transform f t)) ≤ length (now (output .entry))
         → Answers (value (write inTrees (transform f t))) (now (output .entry)) (now (output .exit)) (r .outcome)) ⌝ }
 {
-    emitter::prepare::prepare(source, target, places, body, table);
+    emitter::prepare::prepare(source, target, body, table);
     let p = emitter::run::run(Syntax::Tree, table, tree, ends, kind, 64, output, 0);
     if output.len() < p {
         return refuse(Reason::Output);
@@ -80,16 +79,15 @@ fn write_tree(
 fn run_kept(
     source: &[u8],
     target: &[u8],
-    places: &[u16],
     body: &[u8],
     kind: u8,
     tree: &[u8],
     ends: &mut [u32],
     output: &mut [u8],
 ) -> Answer
-    requires { ⌜ (kind < 32) × ((j : ℕ) → getD (now ends) j 0 ≡ 0) × ((f : Translation) × Checked (now source) (now target) (now body) f × Indexed (now places) (now target) (f .target)) ⌝ }
+    requires { ⌜ (kind < 32) × ((j : ℕ) → getD (now ends) j 0 ≡ 0) × ((f : Translation) × Checked (now source) (now target) (now body) f) ⌝ }
     ensures { λ r. ⌜ ((f : Translation) → Checked (now (source .entry)) (now (target .entry)) (now (body .entry)) f
-        → Indexed (now (places .entry)) (now (target .entry)) (f .target) → Answers (runOf f kind (now (tree .entry)) (length (now (output .entry)))) (now (output .entry)) (now (output .exit)) (r .outcome)) ⌝ }
+        → Answers (runOf f kind (now (tree .entry)) (length (now (output .entry)))) (now (output .entry)) (now (output .exit)) (r .outcome)) ⌝ }
 {
     if !is_in(source, kind) {
         return refuse(Reason::Root);
@@ -106,17 +104,7 @@ fn run_kept(
             if room < n {
                 return refuse(Reason::Output);
             }
-            write_tree(
-                source,
-                target,
-                places,
-                body,
-                &mut table,
-                kind,
-                tree,
-                ends,
-                output,
-            )
+            write_tree(source, target, body, &mut table, kind, tree, ends, output)
         }
         Measured::Deep => refuse(Reason::Levels),
         Measured::Broken => refuse(Reason::Tree),
@@ -127,22 +115,21 @@ fn run_kept(
 fn run_parts(
     source: &[u8],
     target: &[u8],
-    places: &[u16],
     body: &[u8],
     kind: u8,
     tree: &[u8],
     output: &mut [u8],
 ) -> Answer
-    requires { ⌜ (kind < 32) × ((f : Translation) × Checked (now source) (now target) (now body) f × Indexed (now places) (now target) (f .target)) ⌝ }
+    requires { ⌜ (kind < 32) × ((f : Translation) × Checked (now source) (now target) (now body) f) ⌝ }
     ensures { λ r. ⌜ ((f : Translation) → Checked (now (source .entry)) (now (target .entry)) (now (body .entry)) f
-        → Indexed (now (places .entry)) (now (target .entry)) (f .target) → Answers (runOf f kind (now (tree .entry)) (length (now (output .entry)))) (now (output .entry)) (now (output .exit)) (r .outcome)) ⌝ }
+        → Answers (runOf f kind (now (tree .entry)) (length (now (output .entry)))) (now (output .entry)) (now (output .exit)) (r .outcome)) ⌝ }
 {
     if tree.len() < 4096 {
         let mut ends = [0u32; 2];
-        return run_kept(source, target, places, body, kind, tree, &mut ends, output);
+        return run_kept(source, target, body, kind, tree, &mut ends, output);
     }
     let mut ends = [0u32; 8192];
-    run_kept(source, target, places, body, kind, tree, &mut ends, output)
+    run_kept(source, target, body, kind, tree, &mut ends, output)
 }
 
 // Run: 1 to 7 for the translation, 14 to 16 for the tree against its source, 17 where the result is longer than the output.
@@ -150,8 +137,7 @@ pub fn run(translation: &[u8], root: u32, tree: &[u8], output: &mut [u8]) -> Ans
     ensures { λ r. ⌜ (r .outcome ≡ runTree (now (translation .entry)) root (now (tree .entry)) (now (output .entry)) .outcome)
         × (now (output .exit) ≡ runTree (now (translation .entry)) root (now (tree .entry)) (now (output .entry)) .output) ⌝ }
 {
-    let mut places = [0u16; 8224];
-    let answer = check_indexed(translation, &mut places);
+    let answer = check_translation(translation);
     let outcome = answer.outcome;
     if let Outcome::Refused(reason) = outcome {
         return refuse(reason);
@@ -162,7 +148,6 @@ pub fn run(translation: &[u8], root: u32, tree: &[u8], output: &mut [u8]) -> Ans
     run_parts(
         source_of(translation),
         target_of(translation),
-        &places,
         body_of(translation),
         root as u8,
         tree,

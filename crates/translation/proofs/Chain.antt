@@ -1,6 +1,6 @@
 -- The chain of tests of `checkTranslation`: a law for each return of the functions of the check.
 use Prim.Native.Nat.{ℕ, _+_, _-_, _≤_}
-use mathlib.Core.Path.{_≡_, refl, sym, ap, _∙_}
+use mathlib.Core.Path.{_≡_, refl, sym, _∙_}
 use mathlib.Core.Bool.{Bool, true, false, _||_}
 use mathlib.Core.List.{List}
 use mathlib.Core.Option.{Option, none, some}
@@ -15,20 +15,19 @@ use Rattle.fields.specs.declared.outcome.Outcome.{Outcome}
 use Rattle.fields.specs.declared.outcome.Outcome.the-variants.{Accepted, Refused}
 use Rattle.fields.specs.declared.outcome.Reason.{Reason}
 use Rattle.fields.specs.declared.outcome.Reason.the-variants as Why
-use Rattle.fields.proofs.Truth.{false-true, some-is, some-inj, or-false}
+use Rattle.fields.proofs.Truth.{false-true, some-is, or-false}
 use Rattle.language.specs.Language.{clashes}
 use Rattle.language.specs.LanguageFile.{languageLimit, whole}
-use Rattle.reader.specs.Inner.Index.{Indexed}
 use Rattle.translation.specs.Translation.{Translation}
 use Rattle.translation.specs.TranslationFile.{partsOf, translationLimit, isLanguageTag, allRising, translationOf}
 use Rattle.translation.specs.WellFormed.{mappingFits, clausesFit, codesFit, wellFormed}
 use Rattle.translation.specs.Operations.{checkTranslation}
-use Rattle.translation.specs.Inner.Parts.{Parted, targetIn}
+use Rattle.translation.specs.Inner.Parts.{Parted}
 use Rattle.translation.specs.Inner.Pieces.{Pieces, inOrder}
 use Rattle.translation.specs.Inner.ItemIndex.{Ready, Prepared}
 use Rattle.translation.proofs.Codec.{parts-in, both-short, translation-parts}
 use Rattle.translation.proofs.Found.{cut, cut-is, rest-is}
-use Rattle.translation.proofs.Cuts.{parted-pieces, accepted-short, target-held}
+use Rattle.translation.proofs.Cuts.{parted-pieces, accepted-short}
 use Rattle.translation.proofs.IndexedItems.{kinds-of}
 
 -- check_prepared
@@ -54,14 +53,7 @@ module _ (f : Translation) {o : Outcome} (x : Bool) (ex : x ≡ mappingFits f) w
       unfolding wellFormed
       formed-all h i = cc
 
--- What is refused is not accepted.
-refused-not : {A : Type 0} {n : ℕ} {r : Reason} → Refused r ≡ Accepted n → A
-refused-not y = let z : _≡_ {A = ℕ} 0 1 = cc in absurd (omega arith)
-
 -- check_pieces
-pub refused-none : {A : Type 0} {o : Outcome} {r : Reason} → o ≡ Refused r → (n : ℕ) → o ≡ Accepted n → A
-refused-none {r = r} e n h = refused-not {n = n} {r = r} (sym e ∙ h)
-
 module _ (f : Translation) {o : Outcome} (x : Bool) (ex : x ≡ allRising f) where
   pub order-refused : x ≡ false → o ≡ Refused Why.Order → o ≡ checked (inOrder f)
   order-refused h i = cc
@@ -73,12 +65,7 @@ module _ (f : Translation) {o : Outcome} (x : Bool) (ex : x ≡ allRising f) whe
     pub formed-next : y ≡ false → o ≡ checked (wellFormed f) → o ≡ checked (inOrder f)
     formed-next h i = cc
 
--- check_indexed
-pub not-accepted : (s : List ℕ) {A : Type 0} {o : Outcome} {r : Reason} → o ≡ checkTranslation s → o ≡ Refused r
-    → (f : Translation) → translationOf s ≡ value f → A
-unfolding checkTranslation
-not-accepted s {r = r} e i f d = refused-not {n = 0} {r = r} (sym i ∙ (e ∙ ap checked d))
-
+-- check_translation
 module _ (s : List ℕ) (over : Bool) (eo : over ≡ (ltb translationLimit (length s) || hasOver isLanguageTag languageLimit s)) where
   pub over-refused : {o : Outcome} → over ≡ true → o ≡ Refused Why.TooLong → o ≡ checkTranslation s
   unfolding checkTranslation translationOf
@@ -117,21 +104,15 @@ module _ (s : List ℕ) (over : Bool) (eo : over ≡ (ltb translationLimit (leng
       pub pieces-checked : {o : Outcome} → o ≡ checked (inOrder f) → o ≡ checkTranslation s
       pieces-checked h = h ∙ sym (chain ∙ rw e)
 
-      pub pieces-indexed : {o : Outcome} (index : List ℕ) → o ≡ checked (inOrder f)
-          → ((n : ℕ) → o ≡ Accepted n → Indexed index (cut s (a + 3) b) (f .target))
-          → (g : Translation) → translationOf s ≡ value g → Indexed index (targetIn s) (g .target)
-      unfolding checkTranslation
-      pieces-indexed index h i g d =
-          let same : f ≡ g = some-inj (sym e ∙ translation-parts s g d) in
-          let there : cut s (a + 3) b ≡ targetIn s = cut-is s (a + 3) b (w .target-past) (w .inside) ∙ target-held s f e a b w in
-          rw (← same, ← there) (i 0 (pieces-checked h ∙ ap checked d))
-
 -- What a translation that was accepted holds.
 pub record Accepts (s : List ℕ) : Type 0 where
   pub translation : Translation
   pub is : translationOf s ≡ value translation
   pub parts : partsOf s ≡ some translation
   pub short : length s ≤ 4096
+
+refused-not : {A : Type 0} {n : ℕ} {r : Reason} → Refused r ≡ Accepted n → A
+refused-not y = let z : _≡_ {A = ℕ} 0 1 = cc in absurd (omega arith)
 
 pub accepts : (s : List ℕ) {o : Outcome} {n : ℕ} → o ≡ checkTranslation s → o ≡ Accepted n → Accepts s
 unfolding checkTranslation

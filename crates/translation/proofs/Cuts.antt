@@ -1,17 +1,16 @@
 -- The parts of a translation that was accepted: where they are cut out, and what they hold.
 use Prim.Native.Nat.{ℕ, _+_, _≤_}
-use mathlib.Core.Path.{_≡_, refl, sym, _∙_}
+use mathlib.Core.Path.{_≡_, refl, _∙_}
 use mathlib.Core.List.{List}
-use mathlib.Core.Option.{some}
 use native.Mathlib.Omega.{arith}
 use lib.ListN.{length, drop, length-drop}
-use lib.Seq.{slice, length-slice}
+use lib.Seq.{slice}
 use Rattle.fields.specs.Inner.Places.{fieldEnd}
 use Rattle.fields.specs.Outcome.{value}
 use Rattle.language.specs.LanguageFile.{encodeLanguage}
 use Rattle.language.proofs.Codec.{language-length}
 use Rattle.translation.specs.Translation.{Translation}
-use Rattle.translation.specs.TranslationFile.{partsOf, translationOf}
+use Rattle.translation.specs.TranslationFile.{translationOf}
 use Rattle.translation.specs.Inner.Parts.{Parted, sourceIn, targetIn, bodyIn}
 use Rattle.translation.specs.Inner.Pieces.{Pieces}
 use Rattle.translation.proofs.Codec.{translation-parts, translation-whole, translation-length}
@@ -31,28 +30,6 @@ parted-pieces s a b f w short long =
       target-short = omega (arith, short .1, language-length (slice (a + 3) b s) (f .target) (w .target));
       body-short = last;
     }
-
--- What the parts hold says how long they are, so they end where their fields do.
-module _ (s : List ℕ) (f : Translation) (e : partsOf s ≡ some f) (a b : ℕ) (w : Parted s a b f) where
-  held : Parted s (fieldEnd s 0) (fieldEnd s (fieldEnd s 0)) f
-  held = parted s (fieldEnd s 0) refl (fieldEnd s (fieldEnd s 0)) refl f e
-
-  source-length : (c d : ℕ) → Parted s c d f → c ≡ length (encodeLanguage (f .source)) + 3
-  source-length c d v =
-      let i : c ≤ length s = omega (arith, v .target-past, v .inside) in
-      omega (arith, v .source-past, language-length (slice 3 c s) (f .source) (v .source), length-slice 3 c s i)
-
-  target-length : (c d : ℕ) → Parted s c d f → d ≡ length (encodeLanguage (f .target)) + (c + 3)
-  target-length c d v =
-      omega (arith, v .target-past, language-length (slice (c + 3) d s) (f .target) (v .target), length-slice (c + 3) d s (v .inside))
-
-  pub target-held : slice (a + 3) b s ≡ targetIn s
-  unfolding targetIn
-  target-held =
-      let h = held in
-      let p : a ≡ fieldEnd s 0 = source-length a b w ∙ sym (source-length (fieldEnd s 0) (fieldEnd s (fieldEnd s 0)) h) in
-      let q : b ≡ fieldEnd s (fieldEnd s 0) = omega (arith, p, target-length a b w, target-length (fieldEnd s 0) (fieldEnd s (fieldEnd s 0)) h) in
-      rw (p, q)
 
 -- source_of, target_of and body_of
 module _ (s : List ℕ) (h : (f : Translation) × (translationOf s ≡ value f)) (a : ℕ) (ea : a ≡ fieldEnd s 0) where

@@ -1,14 +1,9 @@
 // The check of a translation.
 ghost use mathlib.Core.Path.{_≡_};
 ghost use mathlib.Core.Bool.{true};
-ghost use Prim.Native.Nat.{ℕ};
-ghost use lib.ListN.{length, getD};
-ghost use Rattle.fields.specs.Outcome.{checked, value};
-ghost use Rattle.fields.specs.declared.outcome.Outcome.the-variants.{Accepted};
+ghost use Rattle.fields.specs.Outcome.{checked};
 ghost use Rattle.reader.specs.Inner.Index.{Indexed};
 ghost use Rattle.translation.specs.Translation.{Translation};
-ghost use Rattle.translation.specs.TranslationFile.{translationOf};
-ghost use Rattle.translation.specs.Inner.Parts.{targetIn};
 ghost use Rattle.translation.specs.WellFormed.{mappingFits, wellFormed};
 ghost use Rattle.translation.specs.Operations.{checkTranslation};
 ghost use Rattle.translation.specs.Inner.ItemIndex.{Ready, Prepared};
@@ -87,24 +82,24 @@ fn check_ready(source: &[u8], target: &[u8], targets: &[u16], body: &[u8], mappe
     accept(0)
 }
 
-// The three parts are well formed: 5 to 7, through an index of the target and one of the mappings. The table for the index
-// of the target is all zero before.
-pub fn check_formed(source: &[u8], target: &[u8], targets: &mut [u16], body: &[u8]) -> Answer
-    requires { ⌜ (length (now targets) ≡ 8224) × ((j : ℕ) → getD (now targets) j 0 ≡ 0) × ((f : Translation) × Pieces (now source) (now target) (now body) f) ⌝ }
+// The three parts are well formed: 5 to 7, through an index of the target and one of the mappings.
+pub fn check_formed(source: &[u8], target: &[u8], body: &[u8]) -> Answer
+    requires { ⌜ ((f : Translation) × Pieces (now source) (now target) (now body) f) ⌝ }
     ensures { λ r. ⌜ ((f : Translation) → Pieces (now (source .entry)) (now (target .entry)) (now (body .entry)) f
-        → (r .outcome ≡ checked (wellFormed f)) × Indexed (now (targets .exit)) (now (target .entry)) (f .target)) ⌝ }
+        → r .outcome ≡ checked (wellFormed f)) ⌝ }
 {
-    build(target, targets);
+    let mut targets = [0u16; 8224];
+    build(target, &mut targets);
     let mut mapped = [0u16; 32];
     put_mappings(body, &mut mapped);
-    check_ready(source, target, targets, body, &mapped)
+    check_ready(source, target, &targets, body, &mapped)
 }
 
 // The three parts: 3 to 7.
-fn check_pieces(source: &[u8], target: &[u8], targets: &mut [u16], body: &[u8]) -> Answer
-    requires { ⌜ (length (now targets) ≡ 8224) × ((j : ℕ) → getD (now targets) j 0 ≡ 0) × ((f : Translation) × Pieces (now source) (now target) (now body) f) ⌝ }
+fn check_pieces(source: &[u8], target: &[u8], body: &[u8]) -> Answer
+    requires { ⌜ ((f : Translation) × Pieces (now source) (now target) (now body) f) ⌝ }
     ensures { λ r. ⌜ ((f : Translation) → Pieces (now (source .entry)) (now (target .entry)) (now (body .entry)) f
-        → (r .outcome ≡ checked (inOrder f)) × ((n : ℕ) → r .outcome ≡ Accepted n → Indexed (now (targets .exit)) (now (target .entry)) (f .target))) ⌝ }
+        → r .outcome ≡ checked (inOrder f)) ⌝ }
 {
     if !in_order(source, target, body) {
         return refuse(Reason::Order);
@@ -112,15 +107,12 @@ fn check_pieces(source: &[u8], target: &[u8], targets: &mut [u16], body: &[u8]) 
     if languages_clash(source, target, body) {
         return refuse(Reason::Clash);
     }
-    check_formed(source, target, targets, body)
+    check_formed(source, target, body)
 }
 
-// Check a translation: the lowest refusal of 1 to 7 that applies, or accepted; then the index of its target stands in a
-// table that is all zero before.
-pub fn check_indexed(translation: &[u8], targets: &mut [u16]) -> Answer
-    requires { ⌜ (length (now targets) ≡ 8224) × ((j : ℕ) → getD (now targets) j 0 ≡ 0) ⌝ }
-    ensures { λ r. ⌜ (r .outcome ≡ checkTranslation (now (translation .entry)))
-        × ((f : Translation) → translationOf (now (translation .entry)) ≡ value f → Indexed (now (targets .exit)) (targetIn (now (translation .entry))) (f .target)) ⌝ }
+// Check a translation: the lowest refusal of 1 to 7 that applies, or accepted.
+pub fn check_translation(translation: &[u8]) -> Answer
+    ensures { λ r. ⌜ r .outcome ≡ checkTranslation (now (translation .entry)) ⌝ }
 {
     if over_limit(translation) {
         return refuse(Reason::TooLong);
@@ -134,15 +126,6 @@ pub fn check_indexed(translation: &[u8], targets: &mut [u16]) -> Answer
     check_pieces(
         &translation[3..a],
         &translation[a + 3..b],
-        targets,
         &translation[b..],
     )
-}
-
-// Check a translation: the lowest refusal of 1 to 7 that applies, or accepted.
-pub fn check_translation(translation: &[u8]) -> Answer
-    ensures { λ r. ⌜ r .outcome ≡ checkTranslation (now (translation .entry)) ⌝ }
-{
-    let mut targets = [0u16; 8224];
-    check_indexed(translation, &mut targets)
 }

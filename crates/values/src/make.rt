@@ -24,8 +24,7 @@ pub fn make(source: &[u8], target: &[u8], body: &[u8], out: &mut [u8]) -> Outcom
         → bodyOf (now (body .entry)) ≡ some b → rising itemKey b ≡ true
         → Gives (translationBytes (wellFormed (record { source = l; target = m; body = b }))) (now (out .entry)) (now (out .exit)) r) ⌝ }
 {
-    let mut targets = [0u16; 8224];
-    let answer = check_formed(source, target, &mut targets, body);
+    let answer = check_formed(source, target, body);
     let outcome = answer.outcome;
     if let Outcome::Refused(reason) = outcome {
         return Outcome::Refused(reason);

@@ -1,7 +1,5 @@
 use borrow.Author.Needs.{needs}
-use mathlib.Core.Path.{refl}
 use native.Mathlib.Omega.{arith}
-use Rattle.reader.proofs.Check.{zeros}
 use Rattle.translation.proofs.Chain.{accepts}
 use Rattle.runner.proofs.Laws.{parts-checked, run-refused, root-past, run-accepted}
 use Rattle.runner.proofs.run.run.Statement.{statement}
@@ -10,41 +8,37 @@ use Rattle.runner.proofs.run.run.Reads as reads
 use Rattle.runner.proofs.run.run.Lts as lts
 use Rattle.fields.proofs.outcome.refuse.Reads as refuse-reads
 use Rattle.runner.proofs.run.run_parts.Reads as run-parts-reads
-use Rattle.translation.proofs.check.check_indexed.Reads as check-indexed-reads
+use Rattle.translation.proofs.check.check_translation.Reads as check-translation-reads
 use Rattle.translation.proofs.parts.body_of.Reads as body-of-reads
 use Rattle.translation.proofs.parts.source_of.Reads as source-of-reads
 use Rattle.translation.proofs.parts.target_of.Reads as target-of-reads
 
-check-indexed-requires : tie.Need-check-indexed-requires
-check-indexed-requires c κs = (refl, zeros 8224)
-
 returns : tie.Need-returns
-returns c = run-refused _ _ _ _ _ _ _ (c .before .before .before .before .before .check-indexed .ensures .0) (c .before .before .outcome .given .1) (c .refuse .ensures)
+returns c = run-refused _ _ _ _ _ _ _ (c .before .before .before .before .check-translation .ensures) (c .before .before .outcome .given .1) (c .refuse .ensures)
 
 returns-2 : tie.Need-returns-2
-returns-2 c = let a = accepts _ (c .before .before .before .before .before .check-indexed .ensures .0) (c .before .before .enum-told .given .1) in root-past _ _ _ _ (a .translation) (a .is) _ (c .before .if1 .taken) (c .refuse2 .ensures)
+returns-2 c = let a = accepts _ (c .before .before .before .before .check-translation .ensures) (c .before .before .enum-told .given .1) in root-past _ _ _ _ (a .translation) (a .is) _ (c .before .if1 .taken) (c .refuse2 .ensures)
 
 source-of-requires : tie.Need-source-of-requires
-source-of-requires c κs = let a = accepts _ (c .before .before .before .before .check-indexed .ensures .0) (c .before .enum-told .given .1) in (a .translation, a .is)
+source-of-requires c κs = let a = accepts _ (c .before .before .before .check-translation .ensures) (c .before .enum-told .given .1) in (a .translation, a .is)
 
 target-of-requires : tie.Need-target-of-requires
-target-of-requires c κs = let a = accepts _ (c .before .before .before .before .before .check-indexed .ensures .0) (c .before .before .enum-told .given .1) in (a .translation, a .is)
+target-of-requires c κs = let a = accepts _ (c .before .before .before .before .check-translation .ensures) (c .before .before .enum-told .given .1) in (a .translation, a .is)
 
 body-of-requires : tie.Need-body-of-requires
-body-of-requires c κs = let a = accepts _ (c .before .before .before .before .before .before .before .check-indexed .ensures .0) (c .before .before .before .before .enum-told .given .1) in (a .translation, a .is)
+body-of-requires c κs = let a = accepts _ (c .before .before .before .before .before .check-translation .ensures) (c .before .before .before .enum-told .given .1) in (a .translation, a .is)
 
 run-parts-requires : tie.Need-run-parts-requires
-run-parts-requires c κs = let a = accepts _ (c .before .before .before .before .before .before .before .before .before .check-indexed .ensures .0) (c .before .before .before .before .before .before .enum-told .given .1) in (omega (arith, c .before .before .before .before .before .if1 .left), (a .translation, parts-checked _ (a .translation) (a .is) (c .before .before .before .before .source-of .ensures) (c .before .before .before .target-of .ensures) (c .before .body-of .ensures), rw (c .before .before .before .target-of .ensures) (c .before .before .before .before .before .before .before .before .before .check-indexed .ensures .1 (a .translation) (a .is))))
+run-parts-requires c κs = let a = accepts _ (c .before .before .before .before .before .before .before .check-translation .ensures) (c .before .before .before .before .before .enum-told .given .1) in (omega (arith, c .before .before .before .before .if1 .left), (a .translation, parts-checked _ (a .translation) (a .is) (c .before .before .before .source-of .ensures) (c .before .before .target-of .ensures) (c .before .body-of .ensures)))
 
 returns-3 : tie.Need-returns-3
-returns-3 c = let a = accepts _ (c .before .before .before .before .before .before .before .before .before .before .before .before .check-indexed .ensures .0) (c .before .before .before .before .before .before .before .before .before .enum-told .given .1) in run-accepted _ _ _ _ (a .translation) (a .is) _ _ (c .before .before .run-parts .ensures (a .translation) (parts-checked _ (a .translation) (a .is) (c .before .before .before .before .before .before .before .source-of .ensures) (c .before .before .before .before .before .before .target-of .ensures) (c .before .before .before .before .body-of .ensures)) (rw (c .before .before .before .before .before .before .target-of .ensures) (c .before .before .before .before .before .before .before .before .before .before .before .before .check-indexed .ensures .1 (a .translation) (a .is))))
+returns-3 c = let a = accepts _ (c .before .before .before .before .before .before .before .before .before .before .check-translation .ensures) (c .before .before .before .before .before .before .before .before .enum-told .given .1) in run-accepted _ _ _ _ (a .translation) (a .is) _ _ (c .before .before .run-parts .ensures (a .translation) (parts-checked _ (a .translation) (a .is) (c .before .before .before .before .before .before .source-of .ensures) (c .before .before .before .before .before .target-of .ensures) (c .before .before .before .before .body-of .ensures)))
 
 pub run-spec : {M : Type 1} → statement M
 run-spec =
     tie.close
     (tie.spec
-    (λ c. search needs)
-    check-indexed-requires
+    (λ c κs. search needs)
     (λ c. search needs)
     (λ c κs. search needs)
     returns
@@ -53,7 +47,6 @@ run-spec =
     returns-2
     source-of-requires
     target-of-requires
-    (λ c. search needs)
     body-of-requires
     (λ c. search needs)
     run-parts-requires

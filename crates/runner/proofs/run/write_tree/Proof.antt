@@ -13,16 +13,16 @@ use Rattle.fields.proofs.outcome.accept.Reads as accept-reads
 use Rattle.fields.proofs.outcome.refuse.Reads as refuse-reads
 
 prepare-requires : tie.Need-prepare-requires
-prepare-requires c κs = (c .before .before .before .before .before .before .before .before .pre .1, (c .before .before .before .before .before .before .before .before .pre .2 .0, c .before .before .before .before .before .before .before .before .pre .2 .2, c .before .before .before .before .before .before .before .before .pre .2 .3))
+prepare-requires c κs = (c .before .before .before .before .before .before .before .pre .1, (c .before .before .before .before .before .before .before .pre .2 .0, c .before .before .before .before .before .before .before .pre .2 .2))
 
 run-requires : tie.Need-run-requires
-run-requires c κs = let p = c .before .before .before .before .before .before .before .before .before .before .before .pre .2 in (omega arith, (p .0, [], p .1, (tree-asks _ (c .before .before .before .before .before .before .before .before .before .before .before .args .tree .now) _ _ (p .0) (p .1) (c .before .before .prepare .ensures (p .0) (p .2) (p .3)) (c .before .before .before .before .before .before .before .before .before .before .before .pre .0) (λ i. omega (arith, c .before .before .before .before .before .before .shared-slice-known5 .given i)) (p .4) (p .5))))
+run-requires c κs = let p = c .before .before .before .before .before .before .before .before .before .before .pre .2 in (omega arith, (p .0, [], p .1, (tree-asks _ (c .before .before .before .before .before .before .before .before .before .before .args .tree .now) _ _ (p .0) (p .1) (c .before .before .prepare .ensures (p .0) (p .2)) (c .before .before .before .before .before .before .before .before .before .before .pre .0) (λ i. omega (arith, c .before .before .before .before .before .before .shared-slice-known4 .given i)) (p .3) (p .4))))
 
 returns : tie.Need-returns
-returns c = λ f t z x e g h. tree-full _ _ _ _ (c .before .before .before .before .run .ensures f [] t (tree-asks _ (c .before .before .before .before .before .before .before .before .before .before .before .before .before .before .before .before .args .tree .now) _ _ f t (c .before .before .before .before .before .before .before .prepare .ensures f z x) (c .before .before .before .before .before .before .before .before .before .before .before .before .before .before .before .before .pre .0) (λ i. omega (arith, c .before .before .before .before .before .before .before .before .before .before .before .shared-slice-known5 .given i)) e g)) (c .before .if1 .taken) h
+returns c = λ f t z e g h. tree-full _ _ _ _ (c .before .before .before .before .run .ensures f [] t (tree-asks _ (c .before .before .before .before .before .before .before .before .before .before .before .before .before .before .before .args .tree .now) _ _ f t (c .before .before .before .before .before .before .before .prepare .ensures f z) (c .before .before .before .before .before .before .before .before .before .before .before .before .before .before .before .pre .0) (λ i. omega (arith, c .before .before .before .before .before .before .before .before .before .before .before .shared-slice-known4 .given i)) e g)) (c .before .if1 .taken) h
 
 returns-2 : tie.Need-returns-2
-returns-2 c = λ f t z x e g h. tree-written _ _ _ _ (c .before .before .before .before .run .ensures f [] t (tree-asks _ (c .before .before .before .before .before .before .before .before .before .before .before .before .before .before .before .before .args .tree .now) _ _ f t (c .before .before .before .before .before .before .before .prepare .ensures f z x) (c .before .before .before .before .before .before .before .before .before .before .before .before .before .before .before .before .pre .0) (λ i. omega (arith, c .before .before .before .before .before .before .before .before .before .before .before .shared-slice-known5 .given i)) e g)) (c .before .if1 .left) (c .accept .ensures)
+returns-2 c = λ f t z e g h. tree-written _ _ _ _ (c .before .before .before .before .run .ensures f [] t (tree-asks _ (c .before .before .before .before .before .before .before .before .before .before .before .before .before .before .before .args .tree .now) _ _ f t (c .before .before .before .before .before .before .before .prepare .ensures f z) (c .before .before .before .before .before .before .before .before .before .before .before .before .before .before .before .pre .0) (λ i. omega (arith, c .before .before .before .before .before .before .before .before .before .before .before .shared-slice-known4 .given i)) e g)) (c .before .if1 .left) (c .accept .ensures)
 
 pub write-tree-spec : {M : Type 1} → statement M
 write-tree-spec =

@@ -1,6 +1,6 @@
+use borrow.Author.Needs.{needs}
 use mathlib.Core.Path.{refl}
 use Rattle.reader.proofs.Check.{zeros}
-use borrow.Author.Needs.{needs}
 use Rattle.translation.proofs.check.check_formed.Statement.{statement}
 use Rattle.translation.proofs.check.check_formed.Tie as tie
 use Rattle.translation.proofs.check.check_formed.Reads as reads
@@ -10,25 +10,26 @@ use Rattle.translation.proofs.check.check_ready.Reads as check-ready-re
 use Rattle.translation.proofs.index.put_mappings.Reads as put-mappings-reads
 
 build-requires : tie.Need-build-requires
-build-requires c κs = (c .before .before .before .before .before .pre .2 .1 .target-short, c .before .before .before .before .before .pre .0, c .before .before .before .before .before .pre .1)
+build-requires c κs = (c .before .before .before .before .pre .1 .target-short, refl, zeros 8224)
 
 put-mappings-requires : tie.Need-put-mappings-requires
-put-mappings-requires c κs = (c .before .before .before .before .before .before .before .before .before .pre .2 .1 .body-short, refl, zeros 32, (_, c .before .before .before .before .before .before .before .before .before .pre .2 .1 .body))
+put-mappings-requires c κs = (c .before .before .before .before .before .before .before .pre .1 .body-short, refl, zeros 32, (_, c .before .before .before .before .before .before .before .pre .1 .body))
 
 check-ready-requires : tie.Need-check-ready-requires
-check-ready-requires c κs = (c .before .before .before .before .before .before .before .before .before .before .before .before .before .pre .2 .0, c .before .before .before .before .before .before .before .before .before .before .before .before .before .pre .2 .1, record { source = c .before .before .before .before .before .before .before .before .before .before .before .before .before .pre .2 .1 .source; target = c .before .before .before .before .before .before .before .build .ensures _ (c .before .before .before .before .before .before .before .before .before .before .before .before .before .pre .2 .1 .target); body = c .before .before .before .put-mappings .ensures _ (c .before .before .before .before .before .before .before .before .before .before .before .before .before .pre .2 .1 .body) })
+check-ready-requires c κs = (c .before .before .before .before .before .before .before .before .before .before .before .pre .0, c .before .before .before .before .before .before .before .before .before .before .before .pre .1, (record { source = c .before .before .before .before .before .before .before .before .before .before .before .pre .1 .source; target = c .before .before .before .before .before .before .build .ensures _ (c .before .before .before .before .before .before .before .before .before .before .before .pre .1 .target); body = c .before .before .before .put-mappings .ensures _ (c .before .before .before .before .before .before .before .before .before .before .before .pre .1 .body) }))
 
 returns : tie.Need-returns
-returns c = λ f w. let z = c .before .before .before .before .before .before .before .before .build .ensures _ (w .target) in (c .check-ready .ensures f w (record { source = w .source; target = z; body = c .before .before .before .before .put-mappings .ensures _ (w .body) }), z)
+returns c = λ f w. c .check-ready .ensures f w (record { source = w .source; target = c .before .before .before .before .before .before .before .build .ensures _ (w .target); body = c .before .before .before .before .put-mappings .ensures _ (w .body) })
 
 pub check-formed-spec : {M : Type 1} → statement M
 check-formed-spec =
     tie.close
     (tie.spec
+    (λ c. search needs)
     build-requires
     (λ c. search needs)
     put-mappings-requires
     (λ c. search needs)
-    check-ready-requires
     (λ c. search needs)
+    check-ready-requires
     returns)

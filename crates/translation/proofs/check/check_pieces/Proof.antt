@@ -1,6 +1,6 @@
 use mathlib.Core.Path.{sym, _∙_}
 use borrow.Author.Tests.{not-true, not-false}
-use Rattle.translation.proofs.Chain.{order-refused, clash-refused, formed-next, refused-none}
+use Rattle.translation.proofs.Chain.{order-refused, clash-refused, formed-next}
 use borrow.Author.Needs.{needs}
 use Rattle.translation.proofs.check.check_pieces.Statement.{statement}
 use Rattle.translation.proofs.check.check_pieces.Tie as tie
@@ -12,22 +12,22 @@ use Rattle.translation.proofs.order.in_order.Reads as in-order-reads
 use Rattle.translation.proofs.order.languages_clash.Reads as languages-clash-reads
 
 in-order-requires : tie.Need-in-order-requires
-in-order-requires c κs = c .before .before .before .before .pre .2
+in-order-requires c κs = c .before .before .before .pre
 
 returns : tie.Need-returns
-returns c = λ f w. (order-refused f _ (c .before .before .in-order .ensures f w) (not-true _ (c .before .if1 .taken)) (c .refuse .ensures), refused-none (c .refuse .ensures))
+returns c = λ f w. order-refused f _ (c .before .before .in-order .ensures f w) (not-true _ (c .before .if1 .taken)) (c .refuse .ensures)
 
 languages-clash-requires : tie.Need-languages-clash-requires
-languages-clash-requires c κs = (c .before .before .before .before .before .before .pre .2 .0, c .before .before .before .before .before .before .pre .2 .1, sym (c .before .in-order .ensures _ (c .before .before .before .before .before .before .pre .2 .1)) ∙ not-false _ (c .if1 .left))
+languages-clash-requires c κs = (c .before .before .before .before .before .pre .0, c .before .before .before .before .before .pre .1, sym (c .before .in-order .ensures _ (c .before .before .before .before .before .pre .1)) ∙ not-false _ (c .if1 .left))
 
 returns-2 : tie.Need-returns-2
-returns-2 c = λ f w. (clash-refused f _ (c .before .before .before .before .in-order .ensures f w) (not-false _ (c .before .before .before .if1 .left)) _ (c .before .before .languages-clash .ensures f w) (c .before .if2 .taken) (c .refuse2 .ensures), refused-none (c .refuse2 .ensures))
+returns-2 c = λ f w. clash-refused f _ (c .before .before .before .before .in-order .ensures f w) (not-false _ (c .before .before .before .if1 .left)) _ (c .before .before .languages-clash .ensures f w) (c .before .if2 .taken) (c .refuse2 .ensures)
 
 check-formed-requires : tie.Need-check-formed-requires
-check-formed-requires c κs = c .before .before .before .before .before .before .before .before .before .pre
+check-formed-requires c κs = c .before .before .before .before .before .before .before .pre
 
 returns-3 : tie.Need-returns-3
-returns-3 c = λ f w. let z = c .before .before .check-formed .ensures f w in (formed-next f _ (c .before .before .before .before .before .before .before .in-order .ensures f w) (not-false _ (c .before .before .before .before .before .before .if1 .left)) _ (c .before .before .before .before .before .languages-clash .ensures f w) (c .before .before .before .before .if2 .left) (z .0), λ n h. z .1)
+returns-3 c = λ f w. formed-next f _ (c .before .before .before .before .in-order .ensures f w) (not-false _ (c .before .before .before .if1 .left)) _ (c .before .before .languages-clash .ensures f w) (c .before .if2 .left) (c .check-formed .ensures f w)
 
 pub check-pieces-spec : {M : Type 1} → statement M
 check-pieces-spec =
@@ -40,5 +40,4 @@ check-pieces-spec =
     (λ c κs. search needs)
     returns-2
     check-formed-requires
-    (λ c. search needs)
     returns-3)
