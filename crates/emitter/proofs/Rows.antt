@@ -1,17 +1,17 @@
 -- Laws of codes in a row that are put out, each argument replaced by its run.
-use Prim.Native.Nat.{ℕ, zero, suc, _+_, _-_, _*_, _/_, _%_, _≤_, _<_, max}
+use Prim.Native.Nat.{ℕ, zero, suc, _+_, _-_, _*_, _/_, _%_, _≤_, _<_}
 use mathlib.Core.Path.{_≡_, refl, sym, ap, subst, _∙_}
 use mathlib.Core.Logic.{_⊎_, inl, inr, ⊎-elim}
-use mathlib.Core.Bool.{Bool, true, false, not, cond}
-use mathlib.Core.List.{List, [], _∷_, _++_, append-assoc, append-nil, map}
-use mathlib.Core.Option.{Option, none, some}
+use mathlib.Core.Bool.{true, false, not}
+use mathlib.Core.List.{List, [], _∷_, _++_, append-assoc, append-nil}
+use mathlib.Core.Option.{none, some}
 use native.Mathlib.Omega.{arith}
 use lib.ListN.{length, getD, getElem?, set, take, drop, length-append, length-set, length-map, replicate, getD-replicate}
 use lib.Seq.{slice, getD-set-same, getD-set-other}
 use lib.Dec.{eqb}
 use borrow.Author.Tests.{eqb-true, eqb-false, eq-eqb, ne-eqb}
-use Rattle.fields.proofs.Truth.{none-some, some-inj, false-true, by-test}
-use Rattle.language.specs.Language.{Language, Range, rangeOf, argumentsOf, inRange, productionKey}
+use Rattle.fields.proofs.Truth.{none-some, false-true, by-test}
+use Rattle.language.specs.Language.{Language, Range, rangeOf, argumentsOf, productionKey}
 use Rattle.reader.specs.Code as Terms
 use Rattle.reader.specs.Code.{node, token, argument, Codes, nil, cons, levels, levelsAll}
 use Rattle.reader.specs.Typing.{Typed, TypedAll, typed-node, typed-token, typed-argument, typed-nil, typed-cons}
@@ -24,7 +24,7 @@ use Rattle.translation.specs.Translation.{Translation, mapped}
 use Rattle.translation.specs.Running.{nth, operand, substitute, substituteAll, run, runAll, mappedArguments, clausesOf, transform}
 use Rattle.translation.proofs.Fitting.{mapped-arguments}
 use Rattle.emitter.specs.Inner.Stands.{Stands, Wrote}
-use Rattle.emitter.specs.Inner.Table.{indexEntry, clauseEntry, sourceByte, bodyByte, spanEntry, KindsAt, SpansAt, SpansAllAt, Production, Clause, Ready}
+use Rattle.emitter.specs.Inner.Table.{indexEntry, clauseEntry, sourceByte, bodyByte, spanEntry, SpansAt, SpansAllAt, Production, Clause, Ready}
 use Rattle.emitter.specs.Inner.Runs.{bytesOf, allBytes, front, Given, Term, Node, Row, Right, Same, FindAsks, RowAsks, ArgumentAsks, TermAsks, leafAt, leafLength, signLength, knownStart, rowBytes}
 use Rattle.emitter.proofs.Standing.{stands-head, stands-both, both-stand, wrote-none, wrote-then, wrote-full}
 

@@ -1,16 +1,16 @@
 -- Lists that rise strictly by a key: given by their members; union commutes, associates, and takes a list once.
 -- Languages and bodies both use these laws.
-use Prim.Native.Nat.{ℕ, zero, suc, _≤_, _<_}
+use Prim.Native.Nat.{ℕ, suc, _≤_, _<_}
 use mathlib.Core.Path.{_≡_, refl, ap, sym, _∙_}
 use mathlib.Core.Logic.{_⊎_, inl, inr, ⊎-elim, ⊎-swap}
-use mathlib.Core.Bool.{Bool, true, false, not, _&&_, _||_}
+use mathlib.Core.Bool.{Bool, true, false, not}
 use mathlib.Core.List.{List, [], _∷_, map}
 use native.Mathlib.Omega.{arith}
 use lib.Dec.{ltb, leb, eqb}
-use borrow.Author.Tests.{ltb-true, ltb-false, leb-true, le-leb, eqb-true, eq-eqb, lt-ltb, le-ltb}
-use Rattle.fields.specs.Lists.{all, any, keep}
+use borrow.Author.Tests.{ltb-true, ltb-false, leb-true, le-leb, eqb-true, eq-eqb}
+use Rattle.fields.specs.Lists.{keep}
 use Rattle.fields.specs.Keyed.{Order, below, same, above, ordered, order, risingFrom, rising, place, insert, union, holds, within, without, agree}
-use Rattle.fields.proofs.Truth.{Mem, false-true, by-test, and-both, both-and, or-cases, or-right, or-left, not-true, refuted, not-both, all-mem, mem-all, any-mem, mem-any, keep-cases, mem-keep}
+use Rattle.fields.proofs.Truth.{Mem, by-test, and-both, both-and, or-cases, or-right, or-left, not-true, not-both, all-mem, mem-all, any-mem, mem-any, keep-cases}
 
 -- What the order of two keys says.
 pub data Compared (m n : ℕ) : Order → Type 0 where

@@ -3,14 +3,12 @@ use Prim.Native.Nat.{ℕ, zero, suc, _+_, _-_, _<_, _≤_}
 use mathlib.Core.Path.{_≡_, refl, sym, ap, _∙_}
 use mathlib.Core.Bool.{Bool, true, false}
 use mathlib.Core.List.{List, [], _∷_}
-use mathlib.Core.Option.{some}
 use native.Mathlib.Omega.{arith}
 use lib.ListN.{length}
 use lib.Dec.{leb}
 use borrow.Author.Tests.{le-leb, lt-leb, leb-true, leb-false}
 use Rattle.fields.specs.Lists.{all, any}
-use Rattle.fields.specs.Fields.{field}
-use Rattle.fields.specs.Inner.Places.{fieldEnd, placesIn, placesFrom, places}
+use Rattle.fields.specs.Inner.Places.{fieldEnd, placesIn, placesFrom}
 use Rattle.fields.proofs.Truth.{by-test}
 use Rattle.fields.proofs.Lists.{all-stop, all-next, all-true, any-stop, any-next}
 

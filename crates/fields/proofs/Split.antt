@@ -11,7 +11,7 @@ use lib.Seq.{drop-cons, drop-drop, getD-drop, getD-take}
 use lib.Dec.{leb}
 use borrow.Author.Tests.{le-leb, lt-leb, leb-true, leb-false}
 use Rattle.fields.specs.Lists.{all, traverse, before}
-use Rattle.fields.specs.Fields.{Field, field, pairAt, splitFields, fieldsOf}
+use Rattle.fields.specs.Fields.{Field, pairAt, splitFields, fieldsOf}
 use Rattle.fields.specs.Inner.Places.{fieldEnd, isWhole, fieldAt, placesIn, placesFrom, places}
 use Rattle.fields.proofs.Truth.{by-test}
 use Rattle.fields.proofs.Lists.{before-conds, all-true}

@@ -1,7 +1,6 @@
 -- Lists of entries that rise strictly by a key: languages and bodies are both such lists, so what paper 01 says of
 -- order, sums, "without" and lying within (its "Rules") is said here once for both (document 000: B.3, B.4, B.6, B.8).
-use Prim.Native.Nat.{ℕ, zero, suc, _<_}
-use mathlib.Core.Path.{_≡_}
+use Prim.Native.Nat.{ℕ, suc}
 use mathlib.Core.Bool.{Bool, true, false, not, _&&_, _||_}
 use mathlib.Core.List.{List, [], _∷_}
 use lib.Dec.{ltb, leb, eqb}

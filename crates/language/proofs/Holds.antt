@@ -10,7 +10,7 @@ use lib.Seq.{slice}
 use lib.Dec.{leb, eqb}
 use borrow.Author.Tests.{leb-true, eqb-true}
 use Rattle.fields.specs.Lists.{all, isSome}
-use Rattle.fields.specs.Fields.{field, pairAt}
+use Rattle.fields.specs.Fields.{pairAt}
 use Rattle.fields.specs.Inner.Places.{fieldEnd, isWhole, fieldAt, places}
 use Rattle.fields.proofs.Truth.{by-test}
 use Rattle.fields.proofs.Codec.{cond-some}

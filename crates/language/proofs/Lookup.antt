@@ -1,17 +1,16 @@
 -- Lookups in a language, by its members.
-use Prim.Native.Nat.{ℕ, zero, suc, _+_, _*_, _≤_, _<_}
-use mathlib.Core.Path.{_≡_, refl, ap, sym, _∙_}
+use Prim.Native.Nat.{ℕ}
+use mathlib.Core.Path.{_≡_, refl}
 use mathlib.Core.Logic.{_⊎_, inl, inr, ⊎-elim}
-use mathlib.Core.Bool.{Bool, true, false, cond, not, _&&_, _||_}
-use mathlib.Core.Option.{Option, none, some}
-use mathlib.Core.List.{List, [], _∷_}
-use native.Mathlib.Omega.{arith}
+use mathlib.Core.Bool.{Bool, true, false, cond, _&&_}
+use mathlib.Core.Option.{none, some}
+use mathlib.Core.List.{List}
 use lib.Dec.{eqb}
 use borrow.Author.Tests.{eqb-true, eq-eqb}
-use Rattle.fields.specs.Lists.{any, first, sameNumbers}
+use Rattle.fields.specs.Lists.{sameNumbers}
 use Rattle.fields.specs.Keyed.{union}
-use Rattle.fields.proofs.Truth.{Mem, none-some, some-inj, false-true, by-test, and-both, both-and, or-cases, or-left, or-right, not-both, refuted, any-mem, mem-any, any-false, false-any, first-mem, mem-first, numbers-equal, equal-numbers}
-use Rattle.fields.proofs.Keyed.{Rising, Agree, from-agree, union-cases}
+use Rattle.fields.proofs.Truth.{Mem, none-some, some-inj, false-true, and-both, or-left, or-right, not-both, refuted, any-mem, mem-any, any-false, false-any, first-mem, mem-first, numbers-equal, equal-numbers}
+use Rattle.fields.proofs.Keyed.{Rising, from-agree, union-cases}
 use Rattle.language.specs.Language.{Entry, class, production, Language, entryKey, sameEntry, Range, rangeAt, rangeOf, argumentsAt, argumentsOf, resultIs, mentions, isIn, classIsResult, clashes}
 
 -- Entries that are the same are equal.

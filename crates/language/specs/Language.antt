@@ -1,9 +1,9 @@
 -- Languages (paper 01, "Languages"; document 000: B.1, B.2). A kind is document 000's nonterminal.
 use Prim.Native.Nat.{ℕ, _+_, _*_}
-use mathlib.Core.Bool.{Bool, true, false, cond, not, _&&_, _||_}
-use mathlib.Core.List.{List, [], _∷_}
+use mathlib.Core.Bool.{Bool, false, cond, not, _&&_, _||_}
+use mathlib.Core.List.{List}
 use mathlib.Core.Option.{Option, none, some}
-use lib.Dec.{ltb, leb, eqb}
+use lib.Dec.{leb, eqb}
 use Rattle.fields.specs.Lists.{any, first, isSome, sameNumbers}
 use Rattle.fields.specs.Keyed as Keyed
 

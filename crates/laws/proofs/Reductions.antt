@@ -1,27 +1,25 @@
 -- What an accepted reduction was made of, and how one is made.
-use Prim.Native.Nat.{ℕ, zero, suc, _+_, _≤_, _<_}
+use Prim.Native.Nat.{ℕ, _+_, _≤_}
 use mathlib.Core.Path.{_≡_, refl, ap, sym, _∙_}
-use mathlib.Core.Bool.{Bool, true, false, _||_}
-use mathlib.Core.Option.{Option, some}
+use mathlib.Core.Bool.{true, false, _||_}
+use mathlib.Core.Option.{some}
 use mathlib.Core.List.{List, [], _++_, append-nil}
 use native.Mathlib.Omega.{arith}
-use lib.ListN.{length, take, drop}
+use lib.ListN.{length, drop}
 use lib.Seq.{take-append-seam}
 use lib.Dec.{ltb}
-use Rattle.fields.specs.Outcome.{Result, value, refused, refuseIf, _>>=_, reasonNumber, numberOf, lengthOf, written, outputAfter}
+use Rattle.fields.specs.Outcome.{Result, value, refused, reasonNumber, numberOf, written, outputAfter}
 use Rattle.fields.specs.Fields.{Field}
 use Rattle.fields.specs.declared.outcome.Reason.{Reason}
 use Rattle.fields.specs.declared.outcome.Reason.the-variants.{TooLong, Broken, Order, Clash, Mapping, Clauses, Code, Term as TermRefused, Lent, Unbound, Limit, SumUnfit, JoinUnfit, Root, Tree, Levels, Output}
-use Rattle.fields.specs.declared.outcome.Outcome.the-variants.{Accepted, Refused}
-use Rattle.fields.proofs.Truth.{none-some}
 use Rattle.translation.specs.Translation.{Translation}
 use Rattle.translation.specs.TranslationFile.{encodeTranslation}
 use Rattle.pack.specs.Terms.{Sort, translations, Term, writeTerm, termLevels, readTerm, scoped}
 use Rattle.pack.specs.Pack.{Pack, packOf, packLimit, termLimit, termOf}
-use Rattle.reducer.specs.Evaluation.{Constants, constantsOf, nothingBound, evaluate}
-use Rattle.reducer.specs.Operations.{ready, work, reduceBytes, Reduced, reduce}
+use Rattle.reducer.specs.Evaluation.{constantsOf, nothingBound, evaluate}
+use Rattle.reducer.specs.Operations.{ready, work, reduceBytes}
 use Rattle.pack.proofs.TermCodec.{read-write, read-sound}
-use Rattle.pack.proofs.PackCodec.{withTerm, newTerm, pack-term, pack-short, pack-good}
+use Rattle.pack.proofs.PackCodec.{pack-term, pack-short, pack-good}
 use Rattle.reducer.proofs.Evaluated.{step-value, value-inj, GoodConstants}
 use Rattle.reducer.proofs.Readied.{whole-term, ready-value}
 use Rattle.laws.specs.Packed.{packed, putOut}

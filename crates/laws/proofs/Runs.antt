@@ -1,18 +1,16 @@
 -- The law of runs holds.
-use Prim.Native.Nat.{ℕ, zero, suc, _+_, _≤_, _<_}
+use Prim.Native.Nat.{ℕ, _+_}
 use mathlib.Core.Path.{_≡_, refl, ap, sym, subst, _∙_}
 use mathlib.Core.Logic.{_⊎_, inl, inr, ⊎-elim}
-use mathlib.Core.Bool.{Bool, true, false, not}
-use mathlib.Core.Option.{Option, none, some}
-use mathlib.Core.List.{List, [], _∷_, _++_, map, append-nil}
+use mathlib.Core.Bool.{true, false, not}
+use mathlib.Core.List.{List, [], _∷_, append-nil}
 use native.Mathlib.Omega.{arith}
 use lib.ListN.{length}
 use lib.Dec.{ltb}
-use Rattle.fields.specs.Outcome.{Result, value, refused, refuseIf, _>>=_, numberOf, lengthOf, written, outputAfter}
+use Rattle.fields.specs.Outcome.{Result, value, refused, _>>=_, written, outputAfter}
 use Rattle.fields.specs.Fields.{Field}
-use Rattle.fields.specs.declared.outcome.Reason.{Reason}
 use Rattle.fields.specs.declared.outcome.Reason.the-variants.{Root, Levels, Output}
-use Rattle.fields.specs.declared.outcome.Outcome.the-variants.{Accepted, Refused}
+use Rattle.fields.specs.declared.outcome.Outcome.the-variants.{Refused}
 use Rattle.fields.proofs.Truth.{true-not}
 use Rattle.fields.proofs.Codec.{refused-value}
 use Rattle.language.specs.Language.{Language, isIn}
@@ -24,14 +22,13 @@ use Rattle.reader.proofs.RoundTrip.{Apart, round, as-tree}
 use Rattle.reader.proofs.Sound.{read-done, more-levels}
 use Rattle.reader.proofs.Larger.{typed-larger}
 use Rattle.translation.specs.Translation.{Translation, mapped}
-use Rattle.translation.specs.Running.{transform, clausesOf}
+use Rattle.translation.specs.Running.{transform}
 use Rattle.translation.specs.TranslationFile.{encodeTranslation, translationOf}
-use Rattle.translation.specs.Operations.{fitted, runBytes, Ran, runTree}
+use Rattle.translation.specs.Operations.{fitted, runBytes, runTree}
 use Rattle.translation.proofs.Preserved.{typed-run}
 use Rattle.translation.proofs.Fitting.{refuse-value, fit-carries}
 use Rattle.pack.specs.Terms.{Term, translations, join, writeTerm}
 use Rattle.operators.specs.Algebra.{joinFits, joined, translationJoin}
-use Rattle.pack.specs.Pack.{packOf}
 use Rattle.operators.specs.Limits.{translationExceeds}
 use Rattle.reducer.specs.Evaluation.{Constants, constantsOf, nothingBound, limited, evaluate}
 use Rattle.reducer.specs.Operations.{reduceBytes, reduce}

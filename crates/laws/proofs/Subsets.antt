@@ -1,24 +1,20 @@
 -- Translations that lie in another: they fit, and their sum is no larger than it.
-use Prim.Native.Nat.{ℕ, zero, suc, _+_, _≤_, _<_}
-use mathlib.Core.Path.{_≡_, refl, ap, sym, subst, _∙_}
+use Prim.Native.Nat.{ℕ, suc, _+_, _≤_, _<_}
+use mathlib.Core.Path.{_≡_, refl, ap, subst}
 use mathlib.Core.Logic.{_⊎_, inl, inr, ⊎-elim}
-use mathlib.Core.Bool.{Bool, true, false, not, _||_}
-use mathlib.Core.List.{List, [], _∷_, _++_, map}
+use mathlib.Core.Bool.{false}
+use mathlib.Core.List.{List, [], _∷_, map}
 use native.Mathlib.Omega.{arith}
 use lib.ListN.{length}
-use lib.Dec.{ltb}
 use borrow.Author.Tests.{le-ltb}
-use Rattle.fields.specs.Lists.{any}
 use Rattle.fields.specs.Fields.{Field, field, encodeFields}
 use Rattle.fields.specs.Keyed.{union}
-use Rattle.fields.proofs.Truth.{Mem, false-any, false-or}
-use Rattle.fields.proofs.Keyed.{Rising, From, Agree, from-mem, from-agree, rising-ext, union-cases}
+use Rattle.fields.proofs.Truth.{Mem, false-any}
+use Rattle.fields.proofs.Keyed.{Rising, From, from-mem, from-agree, rising-ext, union-cases}
 use Rattle.fields.proofs.Codec.{contentsOf, encode-length}
-use Rattle.language.specs.Language.{Entry, Language, entryKey}
+use Rattle.language.specs.Language.{Language, entryKey}
 use Rattle.language.specs.LanguageFile.{entryField, encodeLanguage, languageLimit}
-use Rattle.language.proofs.Lookup.{NoClash}
-use Rattle.reader.specs.Syntax.{done}
-use Rattle.translation.specs.Translation.{Item, mapping, clause, Translation, itemKey}
+use Rattle.translation.specs.Translation.{Translation, itemKey}
 use Rattle.translation.specs.TranslationFile.{itemField, translationFields, encodeTranslation, translationLimit}
 use Rattle.operators.specs.Algebra.{languageUnion, translationUnion}
 use Rattle.operators.specs.Limits.{codeIsDeep, languageExceeds, translationExceeds}

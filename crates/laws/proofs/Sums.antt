@@ -1,28 +1,25 @@
 -- The law of sums holds.
-use Prim.Native.Nat.{ℕ, zero, suc, _+_, _≤_, _<_}
+use Prim.Native.Nat.{ℕ}
 use mathlib.Core.Path.{_≡_, refl, ap, sym, subst, _∙_}
 use mathlib.Core.Logic.{_⊎_, inl, inr, ⊎-elim}
-use mathlib.Core.Bool.{Bool, true, false, not, _&&_, _||_}
-use mathlib.Core.List.{List, [], _∷_, _++_}
+use mathlib.Core.Bool.{true, false}
+use mathlib.Core.List.{List}
 use lib.ListN.{length}
-use lib.Dec.{ltb}
-use Rattle.fields.specs.Outcome.{Result, value, refused, refuseIf, _>>=_, numberOf, lengthOf, written, outputAfter}
+use Rattle.fields.specs.Outcome.{Result, value, lengthOf, written}
 use Rattle.fields.specs.Fields.{Field}
 use Rattle.fields.proofs.Truth.{and-both, both-and, mem-append, append-cases}
 use Rattle.translation.specs.Translation.{Translation}
-use Rattle.translation.specs.TranslationFile.{encodeTranslation}
-use Rattle.pack.specs.Terms.{Term, translations, sum, termLevels, scoped}
+use Rattle.pack.specs.Terms.{Term, translations, sum, scoped}
 use Rattle.operators.specs.Algebra.{translationsFit, translationUnion, translationSum}
-use Rattle.pack.specs.Pack.{Pack}
 use Rattle.operators.specs.Limits.{translationExceeds}
-use Rattle.reducer.specs.Evaluation.{Constants, constantsOf, nothingBound, limited, sumOf, evaluate}
-use Rattle.reducer.specs.Operations.{reduceBytes, Reduced, reduce}
-use Rattle.operators.proofs.Proper.{Sound, GoodTranslation}
-use Rattle.operators.proofs.SumSound.{TranslationsFit, fit-translations, translations-fit, sound-union}
+use Rattle.reducer.specs.Evaluation.{Constants, constantsOf, nothingBound, limited, evaluate}
+use Rattle.reducer.specs.Operations.{reduceBytes, reduce}
+use Rattle.operators.proofs.Proper.{GoodTranslation}
+use Rattle.operators.proofs.SumSound.{fit-translations, translations-fit, sound-union}
 use Rattle.reducer.proofs.Evaluated.{step-value, value-inj, limited-value, translation-sum, GoodConstants, nothing-good, evaluate-good}
-use Rattle.laws.specs.Packed.{packed, putOut}
-use Rattle.laws.specs.Sums.{Sum, alone, plus, asTerm, builtFrom, In, SumOver, WithinLimits, AcceptedAlike, LawOfSums}
-use Rattle.laws.proofs.Reductions.{accepted-value, value-accepted, put-out, Reduction, reduction, reduction-good, reduce-other}
+use Rattle.laws.specs.Packed.{packed}
+use Rattle.laws.specs.Sums.{Sum, alone, plus, asTerm, builtFrom, In, SumOver, WithinLimits, LawOfSums}
+use Rattle.laws.proofs.Reductions.{accepted-value, value-accepted, put-out, reduction, reduction-good, reduce-other}
 use Rattle.laws.proofs.Subsets.{Lies, lies-itself, lies-further, lies-within, lie-fit, sum-lies, lies-sum, lies-equal}
 
 module _ (c : Constants) (good : GoodConstants c) where

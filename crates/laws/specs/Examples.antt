@@ -1,7 +1,7 @@
 -- The starred examples (paper 01, "Strap examples"), as rows of one table. C, K and the body are those of the paper.
 use Prim.Native.Nat.{ℕ}
-use mathlib.Core.Bool.{Bool, true, false, _&&_}
-use mathlib.Core.List.{List, [], _∷_, _++_}
+use mathlib.Core.Bool.{Bool, _&&_}
+use mathlib.Core.List.{List, [], _∷_}
 use lib.Dec.{eqb}
 use Rattle.fields.specs.Outcome.{Result, value, refused, _>>=_, numberOf, written}
 use Rattle.fields.specs.Lists.{sameNumbers}

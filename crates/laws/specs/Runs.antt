@@ -5,8 +5,7 @@ use mathlib.Core.List.{List, []}
 use lib.ListN.{length}
 use Rattle.fields.specs.Outcome.{Result, value, refused, numberOf}
 use Rattle.fields.specs.Fields.{Field}
-use Rattle.fields.specs.declared.outcome.Outcome.{Outcome}
-use Rattle.fields.specs.declared.outcome.Outcome.the-variants.{Accepted, Refused}
+use Rattle.fields.specs.declared.outcome.Outcome.the-variants.{Refused}
 use Rattle.fields.specs.declared.outcome.Reason.the-variants.{Levels}
 use Rattle.language.specs.Language.{Language}
 use Rattle.reader.specs.Code.{Code}
@@ -16,7 +15,7 @@ use Rattle.translation.specs.Translation.{Translation, mapped}
 use Rattle.translation.specs.TranslationFile.{translationOf}
 use Rattle.translation.specs.Operations.{Ran, runTree}
 use Rattle.pack.specs.Terms.{Term, translations, join}
-use Rattle.reducer.specs.Operations.{Reduced, reduce}
+use Rattle.reducer.specs.Operations.{reduce}
 use Rattle.laws.specs.Packed.{packed, putOut}
 
 -- The bytes are a legal tree of the kind, at any depth.

@@ -1,32 +1,30 @@
 -- The counts over a body are those of each clause's code, where the table wants them.
-use Prim.Native.Nat.{ℕ, zero, suc, _+_, _*_, _-_, min, _<_, _≤_}
+use Prim.Native.Nat.{ℕ, zero, suc, _+_, _*_, _-_, _<_, _≤_}
 use mathlib.Core.Path.{_≡_, refl, sym, ap, _∙_}
 use mathlib.Core.Logic.{_⊎_, inl, inr, ⊎-elim}
 use mathlib.Core.List.{List, [], _∷_, _++_, append-nil}
-use mathlib.Core.Bool.{Bool, true, false}
-use mathlib.Core.Option.{Option, none, some}
+use mathlib.Core.Option.{some}
 use native.Mathlib.Omega.{arith}
 use lib.ListN.{length, getD, take, drop, length-take, length-drop, length-map, take-append-drop}
-use lib.Seq.{slice, length-slice, drop-drop, getD-drop, getD-take}
-use lib.Dec.{leb, eqb}
-use borrow.Author.Tests.{eq-eqb, ne-eqb, eqb-true, eqb-false}
+use lib.Seq.{slice, length-slice, getD-drop, getD-take}
+use lib.Dec.{eqb}
+use borrow.Author.Tests.{ne-eqb, eqb-true, eqb-false}
 use Rattle.fields.specs.Fields.{pairAt}
 use Rattle.fields.specs.Inner.Places.{fieldEnd, places, keyAt}
 use Rattle.fields.proofs.Truth.{Mem, by-test, none-some}
 use Rattle.fields.proofs.Codec.{Bytes, bytes-from}
 use Rattle.fields.proofs.Keyed.{From, from-mem}
 use Rattle.fields.proofs.Lists.{part-is}
-use Rattle.language.specs.Language.{Language, argumentsOf, productionKey}
+use Rattle.language.specs.Language.{argumentsOf, productionKey}
 use Rattle.reader.specs.Code.{Code}
 use Rattle.reader.specs.Typing.{Typed}
 use Rattle.reader.specs.Syntax.{write, code, done}
-use Rattle.reader.specs.Inner.Index.{Sound, Indexed, argumentsBefore}
+use Rattle.reader.specs.Inner.Index.{Indexed, argumentsBefore}
 use Rattle.reader.proofs.Sound.{read-done}
 use Rattle.translation.specs.Translation.{Translation, mapped}
 use Rattle.translation.specs.Running.{codeLevels, mappedArguments, readClause, clausesOf}
 use Rattle.translation.proofs.Fitting.{mapped-arguments}
-use Rattle.measure.specs.Inner.Sizes.{own, uses}
-use Rattle.measure.specs.Inner.Counting.{addAt, countCode, countClause, countAll}
+use Rattle.measure.specs.Inner.Counting.{countClause, countAll}
 use Rattle.measure.specs.Inner.Measuring.{Counted}
 use Rattle.measure.proofs.Counts.{code-done, clause-other, clause-unknown, clause-known}
 use Rattle.measure.proofs.Codes.{added, code-counted, counted, added-length, added-at, added-out}

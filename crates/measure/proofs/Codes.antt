@@ -1,25 +1,23 @@
 -- Counting over the bytes of a code comes to the code's own bytes and its uses.
-use Prim.Native.Nat.{ℕ, zero, suc, _+_, _*_, _-_, _/_, _%_, _<_, _≤_}
+use Prim.Native.Nat.{ℕ, zero, suc, _+_, _-_, _/_, _%_, _<_, _≤_}
 use mathlib.Core.Path.{_≡_, refl, sym, ap, _∙_}
-use mathlib.Core.List.{List, [], _∷_, _++_, append-assoc}
-use mathlib.Core.Bool.{Bool, true, false, cond}
-use mathlib.Core.Option.{some}
+use mathlib.Core.List.{List, _∷_, _++_, append-assoc}
+use mathlib.Core.Bool.{cond}
 use native.Mathlib.Omega.{arith}
-use lib.ListN.{length, getD, take, drop, getElem?, length-append}
+use lib.ListN.{length, getD, drop, length-append}
 use lib.Seq.{drop-drop, drop-at}
 use lib.Dec.{eqb}
-use borrow.Author.Tests.{eq-eqb, ne-eqb, eqb-true, eqb-false}
-use Rattle.fields.specs.Fields.{twoBytes}
+use borrow.Author.Tests.{eqb-true, eqb-false}
 use Rattle.fields.proofs.Truth.{by-test, none-some}
 use Rattle.fields.proofs.Split.{byte-drop}
 use Rattle.language.specs.Language.{Language}
 use Rattle.reader.specs.Code.{Code, node, token, argument, Codes, nil, cons}
-use Rattle.reader.specs.Typing.{kindAt, Typed, TypedAll, typed-node, typed-token, typed-argument, typed-nil, typed-cons}
+use Rattle.reader.specs.Typing.{Typed, TypedAll, typed-node, typed-token, typed-argument, typed-nil, typed-cons}
 use Rattle.reader.specs.Syntax.{write, writeAll, code}
 use Rattle.measure.specs.Inner.Sizes.{own, ownAll, uses, usesAll}
 use Rattle.measure.specs.Inner.Counting.{addAt, amountOf, slotOf, countSign, countCode}
 use Rattle.measure.proofs.Sizes.{get-inside}
-use Rattle.measure.proofs.Counts.{add-length, add-same, add-other, code-done, code-turn}
+use Rattle.measure.proofs.Counts.{add-length, add-same, add-other, code-turn}
 
 -- The counts with those of a code: its own bytes at `to`, the uses behind.
 unfoldable mutual

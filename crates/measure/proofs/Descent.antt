@@ -4,7 +4,7 @@ use mathlib.Core.Path.{_≡_, refl, sym, ap, _∙_}
 use mathlib.Core.List.{List, []}
 use native.Mathlib.Omega.{arith}
 use native.Mathlib.Nat.{mul-comm, mul-assoc, mul-add}
-use lib.ListN.{length, getD, drop}
+use lib.ListN.{getD, drop}
 use Rattle.reader.specs.Syntax as Meant
 use Rattle.reader.specs.Code.{Code}
 use Rattle.reader.specs.declared.node.Syntax.the-variants.{Tree}
@@ -20,7 +20,7 @@ use Rattle.measure.specs.declared.measure.Measured.the-variants.{End, De
 use Rattle.measure.specs.declared.measure.Step.{Step}
 use Rattle.measure.specs.declared.measure.Step.the-variants as Step
 use Rattle.measure.specs.Inner.Sizes.{size, capped}
-use Rattle.measure.specs.Inner.Measuring.{sharesFrom, weigh, measureAt, sized, deep, broken, sizedAt, sizedOf, Counted}
+use Rattle.measure.specs.Inner.Measuring.{sharesFrom, weigh, measureAt, sized, sizedAt, sizedOf, Counted}
 use Rattle.measure.specs.Inner.Descent.{downFrom, weighDown, downAt, downRow, goesOn}
 use Rattle.measure.proofs.Sizes.{capped-times, capped-share}
 use Rattle.measure.proofs.Laws.{Goes}

@@ -1,10 +1,8 @@
 -- What counting relies on: fields that are found do not overlap, and the items of a body are the clauses.
 use Prim.Native.Nat.{ℕ, zero, suc, _+_, _<_, _≤_}
-use mathlib.Core.Path.{_≡_, refl, sym, ap, _∙_}
+use mathlib.Core.Path.{_≡_, sym, ap, _∙_}
 use mathlib.Core.Logic.{_⊎_, inl, inr, ⊎-elim}
-use mathlib.Core.List.{List, [], _∷_, map}
-use mathlib.Core.Bool.{Bool, true, false}
-use mathlib.Core.Option.{some}
+use mathlib.Core.List.{List, _∷_, map}
 use native.Mathlib.Omega.{arith}
 use lib.ListN.{length, getD}
 use lib.Seq.{slice}
@@ -15,11 +13,8 @@ use Rattle.fields.specs.Inner.Places.{fieldEnd, placesIn, placesFrom, places, k
 use Rattle.fields.proofs.Truth.{Mem, by-test, mem-map, map-cases}
 use Rattle.fields.proofs.Keyed.{From, Rising}
 use Rattle.fields.proofs.Places.{end-past, in-done, in-next}
-use Rattle.language.specs.Language.{argumentsOf}
 use Rattle.language.proofs.Lookup.{arguments-mem}
-use Rattle.reader.specs.Syntax.{done}
 use Rattle.translation.specs.Translation.{Item, mapping, clause, Translation, itemKey}
-use Rattle.translation.specs.Running.{readClause, clausesOf}
 use Rattle.translation.proofs.Fitting.{Fitting, clause-code}
 use Rattle.measure.proofs.Clauses.{ClauseAt, Clauses, Apart}
 

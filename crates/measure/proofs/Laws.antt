@@ -13,7 +13,6 @@ use Rattle.fields.proofs.Truth.{by-test}
 use Rattle.reader.specs.declared.node.Syntax.the-variants.{Tree}
 use Rattle.reader.specs.declared.node.Read.{Read}
 use Rattle.reader.specs.declared.node.Read.the-variants as Read
-use Rattle.reader.specs.declared.node.Node.{Node}
 use Rattle.reader.specs.declared.node.Node.the-variants.{Leaf, Operands}
 use Rattle.reader.specs.Inner.Positions.{productionPlace, tokenAt, operandsAt, nameAt, treeNode, nodeAt, EndsBy, KindsIn}
 use Rattle.measure.specs.declared.measure.Measured.{Measured}

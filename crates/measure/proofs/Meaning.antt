@@ -1,29 +1,29 @@
 -- Measuring by position is reading the tree and measuring its run.
-use Prim.Native.Nat.{ℕ, zero, suc, _+_, _*_, _-_, min, _<_, _≤_}
+use Prim.Native.Nat.{ℕ, zero, suc, _+_, _*_, _-_, _<_}
 use mathlib.Core.Path.{_≡_, refl, sym, ap, _∙_}
 use mathlib.Core.List.{List, [], _∷_}
 use mathlib.Core.Bool.{Bool, true, false}
-use mathlib.Core.Option.{none, some}
+use mathlib.Core.Option.{some}
 use native.Mathlib.Omega.{arith}
 use native.Mathlib.Numerals.{add-one}
 use lib.ListN.{length, getD, drop, drop-of-length-le}
 use lib.Seq.{slice}
-use lib.Dec.{leb, eqb}
+use lib.Dec.{leb}
 use borrow.Author.Tests.{lt-leb, ne-eqb, eq-eqb, leb-true, leb-false}
 use Rattle.fields.specs.Fields.{pairAt}
 use Rattle.fields.specs.Inner.Places.{fieldEnd}
 use Rattle.fields.proofs.Truth.{by-test}
 use Rattle.fields.proofs.Lists.{part-done, part-next}
 use Rattle.fields.proofs.Split.{front}
-use Rattle.language.specs.Language.{Language, Range, rangeOf, argumentsOf, inRange, productionKey}
-use Rattle.reader.specs.Code.{Code, node, token, Codes, nil, cons}
+use Rattle.language.specs.Language.{Range, argumentsOf, inRange, productionKey}
+use Rattle.reader.specs.Code.{Code, node, token, Codes, cons}
 use Rattle.reader.specs.Syntax as Meant
 use Rattle.reader.specs.Syntax.{andThen, readAll, readOperands, readNode, readToken, readTreeLevel, readLevel}
 use Rattle.reader.specs.declared.node.Syntax.the-variants.{Tree}
 use Rattle.reader.specs.declared.node.Read.{Read}
 use Rattle.reader.specs.declared.node.Read.the-variants as Read
 use Rattle.reader.specs.Inner.Index.{Indexed, rangeBefore, argumentsBefore}
-use Rattle.reader.specs.Inner.Positions.{tokenAt, operandsAt, nameAt, treeNode, nodeAt, readAt, KindsIn, restAt, restOf}
+use Rattle.reader.specs.Inner.Positions.{tokenAt, operandsAt, nameAt, nodeAt, readAt, KindsIn, restAt, restOf}
 use Rattle.reader.proofs.Laws as Read-laws
 use Rattle.reader.proofs.Meaning.{done-of, deep-of, broken-of, read-same}
 use Rattle.translation.specs.Translation.{Translation}

@@ -1,8 +1,8 @@
 -- The length of a substitution, and of the run of a node.
-use Prim.Native.Nat.{ℕ, zero, suc, _+_, _*_, min, _≤_, _<_}
+use Prim.Native.Nat.{ℕ, zero, suc, _+_, _*_, _≤_, _<_}
 use mathlib.Core.Path.{_≡_, refl, ap, sym, _∙_}
-use mathlib.Core.Bool.{Bool, true, false, cond}
-use mathlib.Core.List.{List, [], _∷_, _++_}
+use mathlib.Core.Bool.{cond}
+use mathlib.Core.List.{List, [], _∷_}
 use mathlib.Core.Option.{Option, none, some, Option·getD}
 use native.Mathlib.Omega.{arith}
 use lib.ListN.{length, getElem?, length-append, length-map}
@@ -10,8 +10,8 @@ use lib.Dec.{ltb, leb, eqb}
 use borrow.Author.Tests.{lt-ltb, le-ltb, eq-eqb, ne-eqb, leb-true, leb-false}
 use Rattle.fields.proofs.Truth.{none-some, by-test}
 use Rattle.language.specs.Language.{Language, argumentsOf}
-use Rattle.reader.specs.Code.{Code, node, token, argument, Codes, nil, cons}
-use Rattle.reader.specs.Typing.{kindAt, Typed, TypedAll, typed-node, typed-token, typed-argument, typed-nil, typed-cons}
+use Rattle.reader.specs.Code.{Code, node, token, Codes, nil, cons}
+use Rattle.reader.specs.Typing.{Typed, TypedAll, typed-node, typed-token, typed-argument, typed-nil, typed-cons}
 use Rattle.reader.specs.Syntax.{write, writeAll, tree, code}
 use Rattle.reader.proofs.Sound.{read-done}
 use Rattle.translation.specs.Translation.{Translation, mapped}

@@ -11,7 +11,7 @@ use lib.Dec.{eqb}
 use borrow.Author.Tests.{eq-eqb}
 use Rattle.fields.specs.Lists.{all, concatMap, sameNumbers}
 use Rattle.fields.specs.Fields.{Field, field, byteAt, pairAt, encodeField, encodeFields, fieldsOf}
-use Rattle.fields.specs.Keyed.{same, place, union, holds, within, without, agree, rising}
+use Rattle.fields.specs.Keyed.{union, within, without, agree, rising}
 use Rattle.fields.specs.Inner.Places.{fieldEnd, isWhole, keyAt, places}
 use Rattle.fields.proofs.Truth.{and-both, both-and, same-truth, numbers-equal, equal-numbers}
 use Rattle.fields.proofs.Codec.{Each, contentsOf, cond-some, fields-encode, field-length}

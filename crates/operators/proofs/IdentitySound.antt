@@ -1,26 +1,24 @@
 -- The identity of a proper language is sound (document 000: C.18).
-use Prim.Native.Nat.{ℕ, zero, suc, _+_, _*_, _≤_, _<_, max}
+use Prim.Native.Nat.{ℕ, zero, suc, _+_, _≤_, _<_}
 use mathlib.Core.Path.{_≡_, refl, ap, sym, _∙_}
 use mathlib.Core.Logic.{_⊎_, inl, inr, ⊎-elim}
-use mathlib.Core.Bool.{Bool, true, false, not, _&&_}
-use mathlib.Core.Option.{Option, none, some}
+use mathlib.Core.Bool.{true}
+use mathlib.Core.Option.{some}
 use mathlib.Core.List.{List, [], _∷_, _++_, map, append-nil, append-assoc}
 use native.Mathlib.Omega.{arith}
-use lib.ListN.{length, getElem?, length-append}
-use lib.Dec.{ltb}
-use borrow.Author.Tests.{lt-ltb, ltb-true}
-use Rattle.fields.specs.Lists.{keep, concatMap, countUp, all}
-use Rattle.fields.proofs.Truth.{Mem, and-both, both-and, keep-cases, mem-keep, mem-map, map-cases, mem-append, append-cases, mem-concat, concat-cases, mem-count, count-mem}
-use Rattle.fields.proofs.Keyed.{Rising, From, from-weaken, from-mem, keep-from}
-use Rattle.language.specs.Language.{Entry, class, production, Language, entryKey, isIn, rangeOf, argumentsOf}
+use lib.ListN.{length, getElem?}
+use borrow.Author.Tests.{lt-ltb}
+use Rattle.fields.specs.Lists.{keep, concatMap, countUp}
+use Rattle.fields.proofs.Truth.{Mem, both-and, keep-cases, mem-keep, mem-map, map-cases, mem-append, append-cases, mem-concat, concat-cases, mem-count, count-mem}
+use Rattle.fields.proofs.Keyed.{Rising, From, from-weaken, keep-from}
+use Rattle.language.specs.Language.{Entry, class, production, Language, entryKey, isIn}
 use Rattle.language.specs.LanguageFile.{isKind}
-use Rattle.language.proofs.Lookup.{arguments-mem, mem-arguments, mem-range, class-in, result-in, argument-in}
-use Rattle.language.proofs.Codec.{entryWhole}
-use Rattle.reader.specs.Code.{Code, node, argument, Codes, nil, cons, levels, levelsAll}
-use Rattle.reader.specs.Typing.{kindAt, Typed, TypedAll, typed-node, typed-argument, typed-nil, typed-cons}
+use Rattle.language.proofs.Lookup.{mem-arguments, mem-range, class-in, result-in, argument-in}
+use Rattle.reader.specs.Code.{node, levels, levelsAll}
+use Rattle.reader.specs.Typing.{TypedAll, typed-node, typed-argument, typed-nil, typed-cons}
 use Rattle.reader.specs.Syntax.{done, write, code}
 use Rattle.reader.proofs.RoundTrip.{round, as-code}
-use Rattle.translation.specs.Translation.{Item, mapping, clause, Body, Translation, itemKey, mapped}
+use Rattle.translation.specs.Translation.{Item, mapping, clause, Body, itemKey, mapped}
 use Rattle.translation.specs.Running.{mappedArguments, readClause, codeLevels}
 use Rattle.translation.specs.WellFormed.{kinds}
 use Rattle.translation.proofs.Codec.{itemWhole}

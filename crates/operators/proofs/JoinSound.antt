@@ -1,34 +1,32 @@
 -- A join of sound translations whose codes are not too deep is sound (document 000: C.16), and runs as its two parts.
-use Prim.Native.Nat.{ℕ, zero, suc, _+_, _≤_, _<_}
+use Prim.Native.Nat.{ℕ, _+_}
 use mathlib.Core.Path.{_≡_, refl, ap, sym, _∙_}
-use mathlib.Core.Logic.{_⊎_, inl, inr, ⊎-elim}
-use mathlib.Core.Bool.{Bool, true, false, not, _&&_}
-use mathlib.Core.Option.{Option, none, some}
-use mathlib.Core.List.{List, [], _∷_, _++_, map, append-nil}
+use mathlib.Core.Logic.{inl, inr}
+use mathlib.Core.Bool.{true, false}
+use mathlib.Core.Option.{some}
+use mathlib.Core.List.{List, [], _∷_, map, append-nil}
 use native.Mathlib.Omega.{arith}
-use lib.Dec.{ltb}
-use borrow.Author.Tests.{ltb-true}
-use Rattle.fields.proofs.Truth.{Mem, and-both, both-and, false-true, not-both, mem-map, map-cases}
-use Rattle.fields.proofs.Keyed.{Rising, From, within-mem, map-from}
-use Rattle.language.specs.Language.{Entry, class, production, Language, entryKey, sameEntry, Range, isIn, rangeOf, argumentsOf}
+use Rattle.fields.proofs.Truth.{Mem, and-both, both-and, false-true, mem-map, map-cases}
+use Rattle.fields.proofs.Keyed.{Rising, within-mem, map-from}
+use Rattle.language.specs.Language.{Entry, production, sameEntry, isIn, argumentsOf}
 use Rattle.language.specs.LanguageFile.{isKind}
 use Rattle.language.proofs.Lookup.{same-equal, equal-same, range-mem, arguments-mem, mem-arguments, in-larger, class-in, result-in, argument-in}
 use Rattle.reader.specs.Code.{Code, levels}
 use Rattle.reader.specs.Typing.{Typed}
-use Rattle.reader.specs.Syntax.{Read, done, deep, broken, read, write, code}
+use Rattle.reader.specs.Syntax.{Read, done, write, code}
 use Rattle.reader.proofs.RoundTrip.{round, as-code}
 use Rattle.reader.proofs.Sound.{more-levels, More}
 use Rattle.reader.proofs.Larger.{Larger, larger, typed-larger}
-use Rattle.translation.specs.Translation.{Item, mapping, clause, Body, Translation, itemKey, mapped}
+use Rattle.translation.specs.Translation.{Item, mapping, clause, Translation, itemKey, mapped}
 use Rattle.translation.specs.Running.{run, mappedArguments, readClause, clausesOf, transform, codeLevels}
 use Rattle.translation.proofs.Codec.{itemWhole}
 use Rattle.translation.proofs.Lookup.{mem-mapped}
 use Rattle.translation.proofs.Running.{chained, run-chained}
-use Rattle.translation.proofs.Preserved.{Carries, typed-run, run-alike}
+use Rattle.translation.proofs.Preserved.{typed-run, run-alike}
 use Rattle.translation.proofs.Fitting.{Fitting, between, clause-code, mapped-arguments, fit-carries}
 use Rattle.operators.specs.Algebra.{joinFits, joinItem, joined}
 use Rattle.operators.specs.Limits.{isDeep, codeIsDeep}
-use Rattle.operators.proofs.Proper.{Proper, proper-apart, Sound}
+use Rattle.operators.proofs.Proper.{proper-apart, Sound}
 
 join-key : (f g : Translation) (a : Item) → itemKey (joinItem f g a) ≡ itemKey a
 unfolding joinItem itemKey

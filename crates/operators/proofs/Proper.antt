@@ -1,29 +1,26 @@
 -- Languages and translations that a file can hold, by their members, but for their sizes.
-use Prim.Native.Nat.{ℕ, zero, suc, _+_, _≤_, _<_}
-use mathlib.Core.Path.{_≡_, refl, ap, sym, _∙_}
-use mathlib.Core.Logic.{_⊎_, inl, inr, ⊎-elim}
-use mathlib.Core.Bool.{Bool, true, false, not, _&&_}
-use mathlib.Core.Option.{Option, none, some}
-use mathlib.Core.List.{List, [], _∷_}
+use Prim.Native.Nat.{ℕ, _≤_, _<_}
+use mathlib.Core.Path.{_≡_, _∙_}
+use mathlib.Core.Logic.{_⊎_, ⊎-elim}
+use mathlib.Core.Bool.{Bool, true, _&&_}
 use native.Mathlib.Omega.{arith}
 use lib.ListN.{length}
-use lib.Dec.{ltb, leb, eqb}
+use lib.Dec.{leb, eqb}
 use borrow.Author.Tests.{ltb-true, eqb-true}
 use Rattle.fields.specs.Lists.{all, any, keep}
-use Rattle.fields.specs.Outcome.{Result, value}
-use Rattle.fields.specs.Keyed.{union}
+use Rattle.fields.specs.Outcome.{value}
 use Rattle.fields.proofs.Truth.{Mem, and-both, both-and, or-cases, all-mem, mem-all, any-mem, keep-cases}
 use Rattle.fields.proofs.Keyed.{Rising, is-rising, rising-is, keep-from}
-use Rattle.language.specs.Language.{Entry, class, production, Language, entryKey, isIn, mentions, clashes}
+use Rattle.language.specs.Language.{Entry, class, production, Language, entryKey, isIn, mentions}
 use Rattle.language.specs.LanguageFile.{isKind, encodeLanguage, languageLimit}
 use Rattle.language.proofs.Lookup.{in-mem, NoClash, clashes-none, none-clashes}
 use Rattle.language.proofs.Codec.{entryWhole, GoodLanguage}
 use Rattle.reader.proofs.RoundTrip.{Apart}
 use Rattle.reader.proofs.Larger as Larger
-use Rattle.translation.specs.Translation.{Item, mapping, clause, Body, Translation, itemKey}
+use Rattle.translation.specs.Translation.{Item, mapping, Translation, itemKey}
 use Rattle.translation.specs.TranslationFile.{encodeTranslation, translationLimit, allRising, translationOf}
 use Rattle.translation.specs.WellFormed.{wellFormed}
-use Rattle.translation.proofs.Codec.{itemWhole, WholeTranslation, rises-parts, translation-back}
+use Rattle.translation.proofs.Codec.{itemWhole, WholeTranslation, translation-back}
 use Rattle.translation.proofs.Fitting.{Fitting, KindsBelow, fit-tests, formed-fits}
 
 -- A language whose entries a file can hold, rising, no class a result.

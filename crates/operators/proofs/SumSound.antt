@@ -1,20 +1,19 @@
 -- Sums and "without" keep languages proper and translations sound (document 000: B.5, B.7, C.14).
-use Prim.Native.Nat.{ℕ, zero, suc, _+_, _≤_, _<_}
-use mathlib.Core.Path.{_≡_, refl, ap, sym, _∙_}
+use Prim.Native.Nat.{ℕ}
+use mathlib.Core.Path.{_≡_, sym, _∙_}
 use mathlib.Core.Logic.{_⊎_, inl, inr, ⊎-elim}
-use mathlib.Core.Bool.{Bool, true, false, not, _&&_}
-use mathlib.Core.Option.{Option, none, some}
-use mathlib.Core.List.{List, [], _∷_}
-use Rattle.fields.specs.Lists.{keep, isSome}
+use mathlib.Core.Bool.{true, not, _&&_}
+use mathlib.Core.Option.{some}
+use mathlib.Core.List.{List, []}
 use Rattle.fields.specs.Keyed.{union, agree, without}
-use Rattle.fields.proofs.Truth.{Mem, and-both, both-and, not-true, some-is, is-some, keep-cases, mem-keep}
-use Rattle.fields.proofs.Keyed.{Rising, Agree, union-cases, union-mem, union-from, agree-holds, holds-agree, agree-sym, keep-from}
+use Rattle.fields.proofs.Truth.{Mem, and-both, not-true, some-is, is-some, keep-cases, mem-keep}
+use Rattle.fields.proofs.Keyed.{Rising, Agree, union-cases, union-mem, union-from, agree-holds, holds-agree, keep-from}
 use Rattle.language.specs.Language.{Entry, class, production, Language, entryKey, sameEntry, isIn, argumentsOf, clashes}
 use Rattle.language.proofs.Lookup.{same-equal, equal-same, in-larger, in-union, class-in, result-in, argument-in, arguments-mem, mem-arguments, NoClash, clashes-none, none-clashes}
 use Rattle.reader.specs.Code.{Code}
 use Rattle.reader.specs.Syntax.{done}
 use Rattle.reader.proofs.Larger.{Larger, larger}
-use Rattle.translation.specs.Translation.{Item, mapping, clause, Body, Translation, itemKey, sameItem, mapped}
+use Rattle.translation.specs.Translation.{mapping, clause, Translation, itemKey, sameItem, mapped}
 use Rattle.translation.specs.Running.{readClause}
 use Rattle.translation.proofs.Lookup as Items
 use Rattle.translation.proofs.Fitting.{Fitting, between, clause-alike}

@@ -1,17 +1,15 @@
 -- The signs' values (paper 01, "Rules, from document 000, appendices A to C").
-use Prim.Native.Nat.{ℕ, zero, suc}
-use mathlib.Core.Bool.{Bool, true, false, cond, not, _&&_, _||_}
+use Prim.Native.Nat.{ℕ, suc}
+use mathlib.Core.Bool.{Bool, not, _&&_}
 use mathlib.Core.List.{List, [], _∷_, _++_, map}
-use mathlib.Core.Option.{Option, none, some}
-use lib.ListN.{length}
-use Rattle.fields.specs.Outcome.{Result, value, refused, refuseIf}
+use Rattle.fields.specs.Outcome.{Result, value, refuseIf}
 use Rattle.fields.specs.declared.outcome.Reason.the-variants.{SumUnfit, JoinUnfit}
 use Rattle.fields.specs.Lists.{keep, isSome, concatMap}
 use Rattle.fields.specs.Keyed.{union, without, within, agree}
 use Rattle.language.specs.Language.{Entry, class, production, Language, entryKey, sameEntry, isIn, argumentsOf, clashes}
-use Rattle.reader.specs.Code.{Code, node, token, argument, Codes, nil, cons}
+use Rattle.reader.specs.Code.{node, argument, Codes, nil, cons}
 use Rattle.reader.specs.Syntax.{write, code}
-use Rattle.translation.specs.Translation.{Item, mapping, clause, Body, Translation, itemKey, sameItem, mapped}
+use Rattle.translation.specs.Translation.{Item, mapping, clause, Translation, itemKey, sameItem, mapped}
 use Rattle.translation.specs.Running.{run, clausesOf}
 use Rattle.translation.specs.WellFormed.{kinds}
 

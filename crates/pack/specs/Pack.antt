@@ -1,12 +1,12 @@
 -- Packs in bytes (paper 01, "The sixteen term signs", fields 30 to 32; "Reduce").
-use Prim.Native.Nat.{ℕ, zero, suc}
-use mathlib.Core.Bool.{Bool, true, false, cond, not, _&&_, _||_}
-use mathlib.Core.List.{List, [], _∷_, _++_}
+use Prim.Native.Nat.{ℕ}
+use mathlib.Core.Bool.{Bool, true, cond, not, _&&_, _||_}
+use mathlib.Core.List.{List, [], _∷_}
 use mathlib.Core.Option.{Option, none, some}
 use lib.ListN.{length}
 use lib.Dec.{ltb, leb, eqb}
 use Rattle.fields.specs.Outcome.{Result, value, refused, refuseIf, _>>=_}
-use Rattle.fields.specs.declared.outcome.Reason.the-variants.{TooLong, Order, Clash, Term, Lent}
+use Rattle.fields.specs.declared.outcome.Reason.the-variants.{TooLong, Order, Clash, Term}
 use Rattle.fields.specs.Lists.{all, any, traverse, concatMap}
 use Rattle.fields.specs.Fields.{Field, field, fieldsOf, hasOver}
 use Rattle.fields.specs.Keyed.{rising}
@@ -15,7 +15,7 @@ use Rattle.language.specs.LanguageFile.{entriesOf, languageLimit, whole}
 use Rattle.translation.specs.Translation.{Body, itemKey}
 use Rattle.translation.specs.TranslationFile.{bodyOf}
 use Rattle.pack.specs.Terms as Terms
-use Rattle.pack.specs.Terms.{Sort, translations, Parse, readTerm, scoped}
+use Rattle.pack.specs.Terms.{translations, Parse, readTerm, scoped}
 
 -- Languages and bodies, numbered from 0, and the bytes of the term.
 pub record Pack : Type 0 where

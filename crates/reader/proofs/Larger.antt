@@ -1,6 +1,6 @@
 -- A code that is read in a language is read alike in a larger one.
 use Prim.Native.Nat.{ℕ, zero, suc}
-use mathlib.Core.Path.{_≡_, refl, ap, sym, _∙_}
+use mathlib.Core.Path.{_≡_, refl}
 use mathlib.Core.Bool.{Bool, true, false}
 use mathlib.Core.List.{List, [], _∷_}
 use mathlib.Core.Option.{Option, none, some}
@@ -8,11 +8,11 @@ use native.Mathlib.Omega.{arith}
 use lib.Dec.{eqb}
 use Rattle.fields.proofs.Truth.{Mem}
 use Rattle.fields.proofs.Keyed.{Rising}
-use Rattle.language.specs.Language.{Entry, class, production, Language, entryKey, Range, rangeOf, argumentsOf, inRange, clashes}
+use Rattle.language.specs.Language.{Entry, Language, entryKey, Range, rangeOf, argumentsOf, clashes}
 use Rattle.language.proofs.Lookup.{range-mem, arguments-mem, mem-range, mem-arguments, clashes-none}
-use Rattle.reader.specs.Code.{Code, node, token, argument, Codes, nil, cons}
+use Rattle.reader.specs.Code.{Code, Codes}
 use Rattle.reader.specs.Typing.{Typed, TypedAll, typed-node, typed-token, typed-argument, typed-nil, typed-cons}
-use Rattle.reader.specs.Syntax.{Syntax, tree, code, Read, done, deep, broken, andThen, readAll, readOperands, readNode, readToken, readArgument, readCodeLevel, readLevel, read}
+use Rattle.reader.specs.Syntax.{code, Read, done, deep, broken, andThen, readAll, readOperands, readNode, readToken, readArgument, readCodeLevel, readLevel, read}
 use Rattle.reader.proofs.RoundTrip.{Apart}
 
 -- A language with all classes and productions of another.

@@ -2,20 +2,19 @@
 use Prim.Native.Nat.{ℕ, zero, suc, _+_, _*_, _-_, _<_, _≤_}
 use mathlib.Core.Path.{_≡_, refl, sym, ap, _∙_}
 use mathlib.Core.List.{List, [], _∷_}
-use mathlib.Core.Bool.{Bool, true, false, _&&_}
-use mathlib.Core.Option.{Option, none, some}
+use mathlib.Core.Option.{none, some}
 use native.Mathlib.Omega.{arith}
 use lib.ListN.{length, getD, getElem?, drop, length-drop, drop-of-length-le}
 use lib.Seq.{slice}
 use lib.Dec.{ltb, leb, eqb}
-use borrow.Author.Tests.{lt-ltb, le-ltb, le-leb, lt-leb, eq-eqb, ne-eqb, leb-true, leb-false, ltb-true, ltb-false, eqb-true, eqb-false}
+use borrow.Author.Tests.{le-leb, lt-leb, ne-eqb, leb-true, leb-false, ltb-true, ltb-false, eqb-true, eqb-false}
 use Rattle.fields.specs.Fields.{pairAt}
 use Rattle.fields.specs.Inner.Places.{fieldEnd}
 use Rattle.fields.proofs.Truth.{by-test}
 use Rattle.fields.proofs.Lists.{part-done, part-next}
 use Rattle.fields.proofs.Split.{front}
-use Rattle.language.specs.Language.{Language, Range, rangeOf, argumentsOf, inRange, productionKey}
-use Rattle.reader.specs.Code.{node, token, argument, Codes, nil, cons}
+use Rattle.language.specs.Language.{Language, Range, inRange, productionKey}
+use Rattle.reader.specs.Code.{node, token, cons}
 use Rattle.reader.specs.Code as C
 use Rattle.reader.specs.Typing.{kindAt}
 use Rattle.reader.specs.Syntax as Meant
@@ -24,11 +23,9 @@ use Rattle.reader.specs.declared.node.Syntax.{Syntax}
 use Rattle.reader.specs.declared.node.Syntax.the-variants.{Tree, Code}
 use Rattle.reader.specs.declared.node.Read.{Read}
 use Rattle.reader.specs.declared.node.Read.the-variants.{End, Deep, Broken}
-use Rattle.reader.specs.declared.node.Node.{Node}
-use Rattle.reader.specs.declared.node.Node.the-variants.{Leaf, Operands}
 use Rattle.reader.proofs.Laws as Laws
-use Rattle.reader.specs.Inner.Index.{Sound, Indexed, rangeBefore, argumentsBefore}
-use Rattle.reader.specs.Inner.Positions.{tokenAt, operandsAt, nameAt, argumentIs, argumentAt, treeNode, signNode, codeNode, nodeAt, operandsFrom, follow, readAt, KindsIn, Rest, rest, deep, broken, restAt, restOf, syntaxOf}
+use Rattle.reader.specs.Inner.Index.{Indexed, rangeBefore, argumentsBefore}
+use Rattle.reader.specs.Inner.Positions.{tokenAt, operandsAt, nameAt, argumentIs, argumentAt, treeNode, codeNode, nodeAt, operandsFrom, follow, readAt, KindsIn, rest, deep, broken, restAt, restOf, syntaxOf}
 
 -- What was read, by what is left of it.
 pub done-of : {A : Type 0} (g : Meant.Read A) (u : List ℕ) → restOf g ≡ rest u → (a : A) × (g ≡ Meant.done a u)

@@ -1,17 +1,16 @@
 -- Reading what was written gives the same code, where the levels suffice.
-use Prim.Native.Nat.{ℕ, zero, suc, _+_, _*_, _/_, _%_, _≤_, _<_, max}
-use mathlib.Core.Path.{_≡_, refl, ap, sym, _∙_}
-use mathlib.Core.Bool.{Bool, true, false, _&&_}
+use Prim.Native.Nat.{ℕ, zero, suc, _+_, _*_, _/_, _%_, _≤_}
+use mathlib.Core.Path.{_≡_, refl}
+use mathlib.Core.Bool.{true}
 use mathlib.Core.List.{List, [], _∷_, _++_, append-assoc}
-use mathlib.Core.Option.{Option, none, some}
+use mathlib.Core.Option.{none, some}
 use native.Mathlib.Omega.{arith}
-use lib.Dec.{eqb}
 use borrow.Author.Tests.{eq-eqb}
 use Rattle.fields.proofs.Truth.{none-some}
 use Rattle.language.specs.Language.{Language, Range, rangeOf, argumentsOf, inRange}
-use Rattle.reader.specs.Code.{Code, node, token, argument, Codes, nil, cons, levels, levelsAll}
+use Rattle.reader.specs.Code.{Code, node, token, argument, Codes, levels, levelsAll}
 use Rattle.reader.specs.Typing.{kindAt, Typed, TypedAll, typed-node, typed-token, typed-argument, typed-nil, typed-cons}
-use Rattle.reader.specs.Syntax.{Syntax, tree, code, sign, write, writeAll, Read, done, deep, broken, andThen, readAll, readOperands, readNode, readToken, isThe, readArgument, readTreeLevel, readCodeLevel, readLevel, read}
+use Rattle.reader.specs.Syntax.{Syntax, tree, code, sign, write, writeAll, Read, done, readAll, readOperands, readNode, readToken, readArgument, readTreeLevel, readCodeLevel, readLevel, read}
 
 -- A kind that has productions is no class.
 abbrev pub Apart : Language → Type 0

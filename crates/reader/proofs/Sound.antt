@@ -1,18 +1,18 @@
 -- What was read is typed, is within the levels, and is exactly the bytes that were eaten.
 -- More levels change nothing but the refusal.
-use Prim.Native.Nat.{ℕ, zero, suc, _+_, _*_, _/_, _%_, _≤_, _<_, max}
-use mathlib.Core.Path.{_≡_, refl, ap, sym, _∙_}
-use mathlib.Core.Logic.{_⊎_, inl, inr, ⊎-elim}
-use mathlib.Core.Bool.{Bool, true, false, _&&_}
+use Prim.Native.Nat.{ℕ, zero, suc, _+_, _*_, _/_, _%_, _≤_}
+use mathlib.Core.Path.{_≡_, refl, ap, _∙_}
+use mathlib.Core.Logic.{_⊎_, inl, inr}
+use mathlib.Core.Bool.{Bool, true, false}
 use mathlib.Core.List.{List, [], _∷_, _++_, append-assoc}
 use mathlib.Core.Option.{Option, none, some}
 use native.Mathlib.Omega.{arith}
 use lib.Dec.{eqb}
 use borrow.Author.Tests.{eqb-true}
-use Rattle.fields.proofs.Truth.{none-some, false-true}
+use Rattle.fields.proofs.Truth.{false-true}
 use Rattle.fields.proofs.Codec.{Bytes}
 use Rattle.language.specs.Language.{Language, Range, rangeOf, argumentsOf, inRange}
-use Rattle.reader.specs.Code.{Code, node, token, argument, Codes, nil, cons, levels, levelsAll}
+use Rattle.reader.specs.Code.{Code, node, token, argument, Codes, cons, levels, levelsAll}
 use Rattle.reader.specs.Typing.{kindAt, Typed, TypedAll, typed-node, typed-token, typed-argument, typed-nil, typed-cons}
 use Rattle.reader.specs.Syntax.{Syntax, tree, code, sign, write, writeAll, Read, done, deep, broken, andThen, readAll, readOperands, readNode, readToken, isThe, readArgument, readTreeLevel, readCodeLevel, readLevel, read}
 

@@ -1,6 +1,5 @@
 -- Codes (document 000: C.1, reconstructors). A tree is a code without arguments.
-use Prim.Native.Nat.{ℕ, zero, suc, max}
-use mathlib.Core.List.{List, [], _∷_}
+use Prim.Native.Nat.{ℕ, suc, max}
 
 -- A production of a kind with its operands, a token, or an argument by its number from 1.
 mutual

@@ -1,6 +1,6 @@
 -- The operation on trees (paper 01, "Operations and their refusals").
 use Prim.Native.Nat.{ℕ}
-use mathlib.Core.Bool.{Bool, true, false, not}
+use mathlib.Core.Bool.{not}
 use mathlib.Core.List.{List, [], _∷_}
 use Rattle.fields.specs.Outcome.{Result, value, refused, refuseIf, _>>=_, checked}
 use Rattle.fields.specs.declared.outcome.Outcome.{Outcome}

@@ -1,5 +1,5 @@
 -- Typing of codes (document 000: C.5; paper 01, "Languages", legal trees, and "Translations", 03 i).
-use Prim.Native.Nat.{ℕ, zero, suc, _≤_}
+use Prim.Native.Nat.{ℕ, zero, suc}
 use mathlib.Core.Path.{_≡_}
 use mathlib.Core.Bool.{true}
 use mathlib.Core.List.{List, [], _∷_}

@@ -27,7 +27,7 @@ use Rattle.reducer.specs.declared.signs.Binary.{Binary}
 use Rattle.reducer.specs.declared.signs.Unary.{Unary}
 use Rattle.reducer.specs.declared.places.Places.{Places}
 use Rattle.reducer.specs.declared.worked.Worked.{Worked}
-use Rattle.reducer.specs.declared.worked.Worked.the-variants.{To, Refused}
+use Rattle.reducer.specs.declared.worked.Worked.the-variants.{Refused}
 use Rattle.reducer.specs.Evaluation.{Value, Environment, there}
 use Rattle.reducer.specs.Inner.Sorts.{encodeAs, valueIn, bytesOf, firstSort, secondSort, binaryOf, operandSort, unarySort, unaryOf}
 use Rattle.reducer.specs.Inner.Reducing.{slotOf, Holds, Held, finished, Wrote}

@@ -1,20 +1,20 @@
 -- Every value that a term comes to is good: a file can hold it, it is well formed, and it is within the limits.
-use Prim.Native.Nat.{ℕ, zero, suc, _≤_, _<_}
-use mathlib.Core.Path.{_≡_, refl, ap, sym, subst}
-use mathlib.Core.Bool.{Bool, true, false, cond, not, _||_}
+use Prim.Native.Nat.{ℕ, zero, suc, _≤_}
+use mathlib.Core.Path.{_≡_, refl, subst}
+use mathlib.Core.Bool.{Bool, true, false, cond, not}
 use mathlib.Core.Option.{Option, none, some}
 use mathlib.Core.List.{List, [], _∷_}
 use lib.ListN.{length, getElem?}
 use lib.Dec.{ltb, eqb}
 use borrow.Author.Tests.{ltb-false}
-use Rattle.fields.specs.Lists.{all, any}
-use Rattle.fields.specs.Outcome.{Result, value, refused, refuseIf, _>>=_}
+use Rattle.fields.specs.Lists.{any}
+use Rattle.fields.specs.Outcome.{Result, value, refused, _>>=_}
 use Rattle.fields.specs.declared.outcome.Reason.{Reason}
 use Rattle.fields.specs.declared.outcome.Reason.the-variants.{SumUnfit, JoinUnfit, Limit, Unbound, Term as TermRefused}
-use Rattle.fields.proofs.Truth.{Mem, none-some, some-inj, by-test, or-false, true-not, all-mem, any-false}
+use Rattle.fields.proofs.Truth.{Mem, none-some, some-inj, or-false, true-not, all-mem, any-false}
 use Rattle.fields.proofs.Codec.{Each, refused-value}
 use Rattle.fields.proofs.Keyed.{is-rising}
-use Rattle.language.specs.Language.{Language, entryKey}
+use Rattle.language.specs.Language.{Language}
 use Rattle.language.specs.LanguageFile.{encodeLanguage, languageLimit}
 use Rattle.language.proofs.Codec.{GoodLanguage}
 use Rattle.translation.specs.Translation.{Item, Body, Translation, itemKey}
@@ -22,7 +22,7 @@ use Rattle.translation.specs.TranslationFile.{encodeTranslation, translationLim
 use Rattle.translation.specs.WellFormed.{wellFormed}
 use Rattle.translation.proofs.Codec.{itemWhole, GoodBody}
 use Rattle.translation.proofs.Fitting.{refuse-value}
-use Rattle.operators.specs.Algebra.{languagesFit, languageUnion, languageSum, languageWithout, translationsFit, translationUnion, translationSum, translationWithout, joinFits, joined, translationJoin, identityOf}
+use Rattle.operators.specs.Algebra.{languagesFit, languageUnion, languageSum, translationsFit, translationUnion, translationSum, joinFits, joined, translationJoin}
 use Rattle.operators.specs.Limits.{codeIsDeep, languageExceeds, translationExceeds}
 use Rattle.pack.specs.Terms.{Sort, languages, translations, Term, constant, sourceOf, targetOf, make, join, identity, variable, without, sum, bind}
 use Rattle.reducer.specs.Evaluation.{Constants, Value, Environment, nothingBound, bound, there, exceeds, limited, sumOf, withoutOf, evaluate}

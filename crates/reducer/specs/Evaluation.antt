@@ -1,8 +1,8 @@
 -- Working out terms (paper 01, "Reduce" and "Rules"; document 000: appendix A): operands left to right before their
 -- sign, and the first refusal ends it. Last at each sign comes 11, where its value exceeds a limit.
-use Prim.Native.Nat.{ℕ, zero, suc}
-use mathlib.Core.Bool.{Bool, true, false, cond}
-use mathlib.Core.List.{List, [], _∷_}
+use Prim.Native.Nat.{ℕ}
+use mathlib.Core.Bool.{Bool, cond}
+use mathlib.Core.List.{List}
 use mathlib.Core.Option.{Option, none, some}
 use lib.ListN.{getElem?}
 use lib.Dec.{eqb}

@@ -1,7 +1,7 @@
 -- The operation reduce (paper 01, "Operations and their refusals").
 use Prim.Native.Nat.{ℕ}
-use mathlib.Core.Bool.{Bool, true, false, _||_}
-use mathlib.Core.List.{List, [], _∷_}
+use mathlib.Core.Bool.{_||_}
+use mathlib.Core.List.{List}
 use lib.ListN.{length, replicate}
 use lib.Dec.{ltb}
 use Rattle.fields.specs.Outcome.{Result, value, refused, refuseIf, _>>=_, written, outputAfter}

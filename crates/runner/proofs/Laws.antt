@@ -31,7 +31,7 @@ use Rattle.translation.specs.TranslationFile.{allRising, translationOf}
 use Rattle.translation.specs.WellFormed.{wellFormed}
 use Rattle.translation.specs.Operations.{checkTranslation, fitted, runBytes, runTree}
 use Rattle.translation.specs.Inner.Parts.{sourceIn, targetIn, bodyIn}
-use Rattle.translation.proofs.Codec.{translation-whole, translation-parts}
+use Rattle.translation.proofs.Codec.{translation-whole}
 use Rattle.translation.proofs.Cuts.{pieces-in, body-in-short}
 use Rattle.measure.specs.declared.measure.Measured.{Measured}
 use Rattle.measure.specs.declared.measure.Measured.the-variants.{End, Deep, Broken}

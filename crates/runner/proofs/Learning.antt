@@ -1,8 +1,8 @@
 -- What measuring keeps of a tree is right for its run: a tree that was read and a tree that stands there end alike.
 use Prim.Native.Nat.{ℕ, _+_, _*_, _-_, _≤_, _<_}
-use mathlib.Core.Path.{_≡_, refl, sym, ap, _∙_}
+use mathlib.Core.Path.{_≡_, sym, ap, _∙_}
 use mathlib.Core.Logic.{_⊎_, inl, inr}
-use mathlib.Core.List.{List, [], _++_}
+use mathlib.Core.List.{List, []}
 use native.Mathlib.Omega.{arith}
 use lib.ListN.{length, getD, drop, length-drop}
 use Rattle.language.specs.Language.{Language}
@@ -12,13 +12,12 @@ use Rattle.reader.specs.Syntax as Meant
 use Rattle.reader.specs.declared.node.Syntax.the-variants.{Tree}
 use Rattle.reader.specs.declared.node.Read.the-variants.{End}
 use Rattle.reader.specs.Inner.Index.{Indexed}
-use Rattle.reader.specs.Inner.Positions.{readAt, restAt, rest}
+use Rattle.reader.specs.Inner.Positions.{readAt, restAt}
 use Rattle.reader.specs.Inner.Ends.{Kept}
 use Rattle.reader.proofs.RoundTrip.{Apart, round, as-tree}
 use Rattle.reader.proofs.Larger.{deep-done}
 use Rattle.reader.proofs.Meaning.{done-of, read-same}
 use Rattle.reader.proofs.Sound.{More, more-levels}
-use Rattle.translation.specs.Translation.{Translation}
 use Rattle.measure.specs.Inner.Learning.{Learnt}
 use Rattle.emitter.specs.Inner.Stands.{Stands}
 use Rattle.emitter.specs.Inner.Runs.{Right}

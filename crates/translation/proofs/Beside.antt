@@ -1,41 +1,39 @@
 -- Source productions and clauses side by side: a law for each return of the functions on them, and what they say of
 -- the translation.
-use Prim.Native.Nat.{ℕ, zero, suc, _+_, _-_, _<_, _≤_}
+use Prim.Native.Nat.{ℕ, suc, _+_, _-_, _<_, _≤_}
 use mathlib.Core.Path.{_≡_, refl, sym, ap, _∙_}
 use mathlib.Core.Logic.{_⊎_, inl, inr, ⊎-elim}
-use mathlib.Core.Bool.{Bool, true, false, _&&_}
+use mathlib.Core.Bool.{Bool, true, _&&_}
 use mathlib.Core.List.{List, [], _∷_, _++_, map}
-use mathlib.Core.Option.{Option, none, some, Option·getD}
+use mathlib.Core.Option.{Option, none, some}
 use native.Mathlib.Omega.{arith}
 use native.Mathlib.Numerals.{add-one}
 use lib.ListN.{length, getD}
 use lib.Seq.{slice, append-snoc}
 use lib.Dec.{leb, eqb}
-use borrow.Author.Tests.{le-leb, eq-eqb, leb-true, leb-false, eqb-true, eqb-false, ltb-true}
+use borrow.Author.Tests.{le-leb, eq-eqb, leb-true, leb-false, eqb-true}
 use Rattle.fields.specs.Lists.{all, first, isSome}
 use Rattle.fields.specs.Fields.{pairAt}
 use Rattle.fields.specs.Inner.Places.{fieldEnd, placesFrom, places, keyAt}
 use Rattle.fields.proofs.Truth.{Mem, by-test, none-some, false-true, and-both, both-and, all-mem, mem-all, mem-append, append-cases, mem-map, map-cases}
-use Rattle.fields.proofs.Lists.{all-true, part-next, rising-map}
+use Rattle.fields.proofs.Lists.{all-true, rising-map}
 use Rattle.fields.proofs.Keyed.{From, from-weaken, from-rising, rising-from}
 use Rattle.fields.proofs.Places.{places-done, places-next}
-use Rattle.language.specs.Language.{Entry, class, production, entryKey, argumentsAt, argumentsOf}
-use Rattle.language.specs.LanguageFile.{isKind, entriesOf}
+use Rattle.language.specs.Language.{class, production, entryKey, argumentsAt, argumentsOf}
 use Rattle.language.specs.Inner.Entries.{entryWhole, entryAt, IsProduction}
-use Rattle.language.proofs.Facts.{entry-facts, class-is, production-is, key-is}
+use Rattle.language.proofs.Facts.{entry-facts, production-is, key-is}
 use Rattle.language.proofs.Holds.{holds-entries}
 use Rattle.language.proofs.Lookup.{mem-arguments}
 use Rattle.reader.specs.Syntax.{read as readCode, code}
-use Rattle.reader.specs.Inner.Positions.{KindsIn}
 use Rattle.reader.proofs.Indexed.{production-key}
-use Rattle.translation.specs.Translation.{Item, mapping, clause, Translation, codeAt, clauseOf, mapped}
+use Rattle.translation.specs.Translation.{mapping, clause, Translation, codeAt, clauseOf}
 use Rattle.translation.specs.Running.{mappedArguments, wholeCode}
 use Rattle.translation.specs.WellFormed.{hasClause, hasProduction, clausesFit, codeFits, codesFit}
 use Rattle.translation.specs.Inner.Items.{itemWhole, itemAt, IsClause}
-use Rattle.translation.specs.Inner.ItemIndex.{mappedAt, Ready}
+use Rattle.translation.specs.Inner.ItemIndex.{mappedAt}
 use Rattle.translation.specs.Inner.Pairs.{tagIs, Skipped, besides, Beside, Paired}
 use Rattle.translation.proofs.Lookup.{at-code}
-use Rattle.translation.proofs.Items.{item-facts, mapping-is, clause-is, holds-items}
+use Rattle.translation.proofs.Items.{item-facts, clause-is, holds-items}
 use Rattle.translation.proofs.IndexedItems.{clause-key, mapped-in}
 use Rattle.translation.proofs.Mappings.{items-alike}
 use Rattle.translation.proofs.Coded.{maps-alike, clause-fits}

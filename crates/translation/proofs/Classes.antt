@@ -1,24 +1,20 @@
 -- Languages whose keys rise: a law for each turn of the walks over their classes and productions.
-use Prim.Native.Nat.{ℕ, zero, suc, _+_, _<_, _≤_}
+use Prim.Native.Nat.{ℕ, suc, _+_, _<_, _≤_}
 use mathlib.Core.Path.{_≡_, refl, sym, ap, _∙_}
-use mathlib.Core.Logic.{⊎-elim}
-use mathlib.Core.Bool.{Bool, true, false, _&&_}
+use mathlib.Core.Bool.{Bool, true, false}
 use mathlib.Core.List.{List, [], _∷_}
-use mathlib.Core.Option.{some}
 use native.Mathlib.Omega.{arith}
 use lib.ListN.{length, getD, set, replicate}
-use lib.Dec.{ltb, eqb}
 use borrow.Author.Tests.{lt-ltb, eq-eqb, ne-eqb, ltb-true, eqb-true}
 use Rattle.fields.specs.Fields.{pairAt}
 use Rattle.fields.specs.Lists.{all, any}
 use Rattle.fields.specs.Keyed.{rising, risingFrom}
 use Rattle.fields.specs.Inner.Places.{fieldEnd, placesFrom, places, keyAt}
-use Rattle.fields.proofs.Truth.{Mem, false-true, and-both, all-mem, mem-all}
+use Rattle.fields.proofs.Truth.{all-mem, mem-all}
 use Rattle.fields.proofs.Lists.{all-true}
 use Rattle.fields.proofs.Keyed.{From, from-rising, from-mem}
 use Rattle.fields.proofs.Places.{places-done, places-next, pass-done, pass-next, some-next, every-here}
-use Rattle.language.specs.Inner.Entries.{entryWhole, IsProduction, markClass, markClasses, resultMarked, classKinds, resultsMeet, resultIsClass}
-use Rattle.language.proofs.Facts.{entry-facts}
+use Rattle.language.specs.Inner.Entries.{entryWhole, markClass, markClasses, resultMarked, classKinds, resultsMeet, resultIsClass}
 use Rattle.translation.specs.Inner.Items.{itemWhole, longAt}
 use Rattle.translation.specs.Inner.Pairs.{tagIs, Classed}
 use Rattle.translation.proofs.Marked.{entry-kind}

@@ -1,31 +1,30 @@
 -- What "well formed" says, by the members of the two languages and of the body.
-use Prim.Native.Nat.{ℕ, zero, suc, _+_, _≤_, _<_}
+use Prim.Native.Nat.{ℕ, _<_}
 use mathlib.Core.Path.{_≡_, refl, ap, sym, _∙_}
-use mathlib.Core.Logic.{_⊎_, inl, inr, ⊎-elim}
+use mathlib.Core.Logic.{inl, inr}
 use mathlib.Core.Bool.{Bool, true, false, not, _&&_, Bool·beq}
-use mathlib.Core.Option.{Option, none, some, Option·getD}
+use mathlib.Core.Option.{Option, none, some}
 use mathlib.Core.List.{List, [], _∷_, map}
 use native.Mathlib.Omega.{arith}
 use lib.Dec.{eqb}
 use borrow.Author.Tests.{eqb-true, eq-eqb}
 use Rattle.fields.specs.Lists.{all, isSome}
-use Rattle.fields.specs.Outcome.{Result, value, refused, refuseIf}
+use Rattle.fields.specs.Outcome.{Result, value, refuseIf}
 use Rattle.fields.specs.declared.outcome.Reason.{Reason}
 use Rattle.fields.specs.declared.outcome.Reason.the-variants.{Mapping, Clauses, Code as CodeRefused}
-use Rattle.fields.proofs.Truth.{Mem, none-some, some-inj, false-true, and-both, both-and, same-truth, all-mem, mem-all, some-is, is-some, mem-count, count-mem, true-not}
+use Rattle.fields.proofs.Truth.{Mem, none-some, some-inj, false-true, and-both, both-and, same-truth, all-mem, mem-all, some-is, is-some, mem-count, true-not}
 use Rattle.fields.proofs.Keyed.{Rising}
 use Rattle.fields.proofs.Codec.{refused-value}
-use Rattle.language.specs.Language.{Entry, class, production, Language, entryKey, Range, isIn, rangeOf, argumentsOf, clashes}
-use Rattle.language.proofs.Lookup.{range-mem, arguments-mem, mem-range, mem-arguments, class-in, result-in, argument-in}
-use Rattle.reader.specs.Code.{Code, node, token, argument, levels}
-use Rattle.reader.specs.Typing.{Typed}
-use Rattle.reader.specs.Syntax.{Read, done, deep, broken, read, code, write}
+use Rattle.language.specs.Language.{Entry, class, production, entryKey, Range, isIn, rangeOf, argumentsOf}
+use Rattle.language.proofs.Lookup.{range-mem, arguments-mem, mem-arguments}
+use Rattle.reader.specs.Code.{Code}
+use Rattle.reader.specs.Syntax.{Read, done, deep, broken, code}
 use Rattle.reader.proofs.Sound.{read-done}
-use Rattle.reader.proofs.Larger.{Larger, deep-done, broken-done, read-keeps, keeps}
-use Rattle.translation.specs.Translation.{Item, mapping, clause, Body, Translation, itemKey, mappingOf, clauseOf, mapped}
+use Rattle.reader.proofs.Larger.{Larger, read-keeps, keeps}
+use Rattle.translation.specs.Translation.{Item, mapping, clause, Translation, itemKey, mappingOf, clauseOf, mapped}
 use Rattle.translation.specs.Running.{mappedArguments, readClause, wholeCode, clausesOf, codeLevels}
 use Rattle.translation.specs.WellFormed.{kinds, kindsMapped, reachesTarget, isRange, classKept, mappingFits, hasClause, hasProduction, clausesFit, codeFits, codesFit, wellFormed}
-use Rattle.translation.proofs.Lookup.{mapping-mem, clause-mem, mem-mapping, mem-mapped, mem-clause}
+use Rattle.translation.proofs.Lookup.{mapping-mem, clause-mem, mem-mapping, mem-clause}
 use Rattle.translation.proofs.Preserved.{Carries}
 
 -- The range of a class.

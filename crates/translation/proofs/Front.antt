@@ -1,25 +1,25 @@
 -- The mappings in front of a body: a law for each turn of the walks over them.
 use Prim.Native.Nat.{ℕ, _+_, _<_, _≤_}
-use mathlib.Core.Path.{_≡_, refl, sym, ap, _∙_}
+use mathlib.Core.Path.{_≡_, refl, sym, _∙_}
 use mathlib.Core.Logic.{⊎-elim}
-use mathlib.Core.Bool.{Bool, true, false, _&&_}
+use mathlib.Core.Bool.{Bool, true, _&&_}
 use mathlib.Core.List.{List, [], _∷_}
 use mathlib.Core.Option.{some}
 use native.Mathlib.Omega.{arith}
-use lib.ListN.{List·getD-eq-default, length, getD, set}
+use lib.ListN.{List·getD-eq-default, length, getD}
 use lib.Seq.{set-out}
-use lib.Dec.{leb, eqb}
+use lib.Dec.{leb}
 use borrow.Author.Tests.{le-leb, eq-eqb, ne-eqb, leb-true, eqb-true}
 use Rattle.fields.specs.Fields.{pairAt}
 use Rattle.fields.specs.Lists.{all}
-use Rattle.fields.specs.Inner.Places.{fieldEnd, placesFrom, places, keyAt}
+use Rattle.fields.specs.Inner.Places.{fieldEnd, placesFrom, keyAt}
 use Rattle.fields.proofs.Truth.{and-both, both-and}
 use Rattle.fields.proofs.Lists.{all-true}
-use Rattle.fields.proofs.Places.{places-done, places-next, pass-next}
+use Rattle.fields.proofs.Places.{places-next}
 use Rattle.reader.specs.Inner.Index.{putAt, putAll}
 use Rattle.translation.specs.Translation.{Body}
 use Rattle.translation.specs.TranslationFile.{bodyOf}
-use Rattle.translation.specs.Inner.Items.{itemWhole, itemsWhole, IsMapping, IsClause}
+use Rattle.translation.specs.Inner.Items.{itemWhole, itemsWhole, IsMapping}
 use Rattle.translation.specs.Inner.Tests.{reachesAt}
 use Rattle.translation.specs.Inner.Pairs.{tagIs}
 use Rattle.translation.proofs.Items.{item-facts, body-there}

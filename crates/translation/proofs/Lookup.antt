@@ -1,12 +1,12 @@
 -- Lookups in a body, by its members.
-use Prim.Native.Nat.{ℕ, zero, suc, _+_, _*_, _≤_, _<_}
-use mathlib.Core.Path.{_≡_, refl, ap, sym, _∙_}
-use mathlib.Core.Bool.{Bool, true, false, cond, _&&_}
-use mathlib.Core.Option.{Option, none, some, Option·getD}
-use mathlib.Core.List.{List, [], _∷_}
+use Prim.Native.Nat.{ℕ}
+use mathlib.Core.Path.{_≡_, refl}
+use mathlib.Core.Bool.{true, _&&_}
+use mathlib.Core.Option.{some}
+use mathlib.Core.List.{List}
 use lib.Dec.{eqb}
 use borrow.Author.Tests.{eqb-true, eq-eqb}
-use Rattle.fields.specs.Lists.{first, sameNumbers}
+use Rattle.fields.specs.Lists.{sameNumbers}
 use Rattle.fields.proofs.Truth.{Mem, none-some, false-true, and-both, first-mem, mem-first, numbers-equal, equal-numbers}
 use Rattle.fields.proofs.Keyed.{Rising, from-agree}
 use Rattle.language.proofs.Lookup.{cond-some}

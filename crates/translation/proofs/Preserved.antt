@@ -1,14 +1,13 @@
 -- Typing is preserved by substitution and by a run (document 000: C.10, C.11).
-use Prim.Native.Nat.{ℕ, zero, suc, _≤_}
-use mathlib.Core.Path.{_≡_, refl, ap, sym, _∙_}
-use mathlib.Core.Option.{Option, none, some}
+use Prim.Native.Nat.{ℕ, zero, suc}
+use mathlib.Core.Path.{_≡_, refl, ap}
+use mathlib.Core.Option.{some}
 use mathlib.Core.List.{List, [], _∷_, map}
-use mathlib.Core.Bool.{Bool, true, false}
 use lib.ListN.{getElem?}
 use Rattle.fields.proofs.Truth.{none-some, some-inj}
-use Rattle.language.specs.Language.{Language, Range, rangeOf, argumentsOf, inRange}
-use Rattle.reader.specs.Code.{Code, node, token, argument, Codes, nil, cons}
-use Rattle.reader.specs.Typing.{kindAt, Typed, TypedAll, typed-node, typed-token, typed-argument, typed-nil, typed-cons}
+use Rattle.language.specs.Language.{Language, Range, rangeOf, argumentsOf}
+use Rattle.reader.specs.Code.{Code, Codes, cons}
+use Rattle.reader.specs.Typing.{Typed, TypedAll, typed-node, typed-token, typed-argument, typed-nil, typed-cons}
 use Rattle.translation.specs.Running.{nth, operand, substitute, substituteAll, Clauses, run, runAll}
 
 -- What the clauses f, with kinds mapped by `to`, must be from l to m (C.6).

@@ -3,12 +3,11 @@ use Prim.Native.Nat.{ℕ}
 use mathlib.Core.List.{List}
 use lib.ListN.{length}
 use lib.Dec.{ltb}
-use Rattle.fields.specs.Outcome.{Result, value, refused, refuseIf, _>>=_, checked, written, outputAfter}
+use Rattle.fields.specs.Outcome.{Result, value, refuseIf, _>>=_, checked, written, outputAfter}
 use Rattle.fields.specs.declared.outcome.Outcome.{Outcome}
 use Rattle.fields.specs.declared.outcome.Reason.the-variants.{Output}
 use Rattle.reader.specs.Syntax.{write, tree}
 use Rattle.reader.specs.Operations.{treeOf}
-use Rattle.translation.specs.Translation.{Translation}
 use Rattle.translation.specs.Running.{transform}
 use Rattle.translation.specs.TranslationFile.{translationOf}
 

@@ -2,7 +2,7 @@
 use Prim.Native.Nat.{ℕ, zero, suc}
 use mathlib.Core.List.{List, [], _∷_, map}
 use mathlib.Core.Option.{Option, none, some, Option·getD}
-use Rattle.language.specs.Language.{Language, argumentsOf}
+use Rattle.language.specs.Language.{argumentsOf}
 use Rattle.reader.specs.Code.{Code, node, token, argument, Codes, nil, cons}
 use Rattle.reader.specs.Syntax.{Read, done, deep, broken, read, code}
 use Rattle.translation.specs.Translation.{Translation, mapped, clauseOf}

@@ -1,10 +1,10 @@
 -- Well-formed translations (paper 01, "Translations", "Well formed means"; document 000: C.6 as condensed there).
 use Prim.Native.Nat.{ℕ}
 use mathlib.Core.Bool.{Bool, true, false, not, _&&_, Bool·beq}
-use mathlib.Core.List.{List, [], _∷_}
+use mathlib.Core.List.{List}
 use mathlib.Core.Option.{Option, none, some}
 use lib.Dec.{eqb}
-use Rattle.fields.specs.Outcome.{Result, value, refused, refuseIf, _>>=_}
+use Rattle.fields.specs.Outcome.{Result, value, refuseIf}
 use Rattle.fields.specs.declared.outcome.Reason.the-variants.{Mapping, Clauses, Code}
 use Rattle.fields.specs.Lists.{all, isSome, countUp}
 use Rattle.language.specs.Language.{Entry, class, production, Range, isIn, rangeOf, argumentsOf}

@@ -7,7 +7,7 @@ use lib.ListN.{length, take, drop}
 use lib.Seq.{slice, take-append-seam, take-length, length-take-le}
 use lib.Dec.{ltb}
 use borrow.Author.Tests.{ltb-true, ltb-false, lt-ltb, le-ltb}
-use Rattle.fields.specs.Outcome.{Result, value, refused, refuseIf, written}
+use Rattle.fields.specs.Outcome.{Result, value, refused, refuseIf}
 use Rattle.fields.specs.declared.outcome.Outcome.{Outcome}
 use Rattle.fields.specs.declared.outcome.Outcome.the-variants.{Accepted, Refused}
 use Rattle.fields.specs.declared.outcome.Reason.{Reason}

@@ -15,7 +15,7 @@ use Rattle.fields.specs.declared.outcome.Outcome.{Outcome}
 use Rattle.fields.specs.declared.outcome.Outcome.the-variants.{Refused}
 use Rattle.fields.specs.declared.outcome.Reason.the-variants.{Limit}
 use Rattle.fields.specs.Lists.{all, keep, concatMap}
-use Rattle.fields.specs.Fields.{field, byteAt, encodeField, encodeFields}
+use Rattle.fields.specs.Fields.{byteAt, encodeField, encodeFields}
 use Rattle.fields.specs.Inner.Places.{fieldEnd, isWhole, placesFrom, places}
 use Rattle.fields.proofs.Truth.{and-both, mem-all}
 use Rattle.fields.proofs.Codec.{Each, contentsOf}

@@ -27,7 +27,7 @@ use Rattle.language.proofs.Holds.{holds-entries}
 use Rattle.language.proofs.Codec.{language-good}
 use Rattle.reader.specs.Syntax.{write}
 use Rattle.reader.proofs.Members.{entries-whole}
-use Rattle.translation.specs.Translation.{mapping, clause, Body}
+use Rattle.translation.specs.Translation.{mapping, Body}
 use Rattle.translation.specs.TranslationFile.{itemField}
 use Rattle.translation.specs.WellFormed.{kinds}
 use Rattle.operators.specs.declared.copy.Stored.{Stored}

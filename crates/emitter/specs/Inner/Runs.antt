@@ -18,7 +18,7 @@ use Rattle.reader.specs.Inner.Positions.{syntaxOf}
 use Rattle.reader.specs.Inner.Ends.{Kept}
 use Rattle.translation.specs.Translation.{Translation}
 use Rattle.translation.specs.Running.{clausesOf, substituteAll, runAll}
-use Rattle.emitter.specs.Inner.Stands.{Stands, Wrote}
+use Rattle.emitter.specs.Inner.Stands.{Stands}
 use Rattle.emitter.specs.Inner.Table.{indexEntry, sourceByte, bodyByte, KindsAt, SpansAllAt, Ready}
 
 -- The bytes of a code or of codes in the syntax of the input.

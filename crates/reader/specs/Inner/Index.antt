@@ -1,6 +1,6 @@
 -- The index of a language: for the key of an entry the place of its field in the language's bytes, and one more; 0
 -- where there is no such entry. A class of kind k is at k, production r.p at 32 + (r * 256 + p).
-use Prim.Native.Nat.{ℕ, zero, suc, _+_, _-_, _<_, _≤_}
+use Prim.Native.Nat.{ℕ, zero, suc, _+_, _<_, _≤_}
 use mathlib.Core.Path.{_≡_}
 use mathlib.Core.Bool.{cond}
 use mathlib.Core.List.{List, [], _∷_}
