@@ -5,6 +5,7 @@ ghost use Rattle.language.specs.Operations.{checkLanguage};
 ghost use Rattle.reader.specs.Operations.{checkTree};
 ghost use Rattle.translation.specs.Operations.{checkTranslation, runTree};
 ghost use Rattle.reducer.specs.Operations as Reducing;
+use fields::outcome::Outcome;
 use fields::outcome::length_of;
 use fields::outcome::number;
 use language::check::check_language;
@@ -12,6 +13,14 @@ use reader::tree::check_tree;
 use reducer::reduce::reduce;
 use runner::run::run;
 use translation::check::check_translation;
+
+// Puts the length of an outcome where the caller wants it, and answers with its number.
+fn hand_over(outcome: Outcome, length: &mut u64) -> u32
+    ensures { λ r. ⌜ (r ≡ numberOf outcome) × (now (length .exit) ≡ lengthOf outcome) ⌝ }
+{
+    *length = length_of(outcome);
+    number(outcome)
+}
 
 // Check a language.
 #[no_mangle]
@@ -58,8 +67,7 @@ pub extern "C" fn algebra_run(
 {
     let answer = run(translation, root, tree, output);
     let outcome = answer.outcome;
-    *length = length_of(outcome);
-    number(outcome)
+    hand_over(outcome, length)
 }
 
 // Reduce a pack to one translation; the length of its bytes is put into `length`.
@@ -77,6 +85,5 @@ pub extern "C" fn algebra_reduce(
 {
     let answer = reduce(pack, workspace, output);
     let outcome = answer.outcome;
-    *length = length_of(outcome);
-    number(outcome)
+    hand_over(outcome, length)
 }

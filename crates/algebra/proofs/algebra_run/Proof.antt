@@ -5,13 +5,11 @@ use Rattle.algebra.proofs.algebra_run.Statement.{statement}
 use Rattle.algebra.proofs.algebra_run.Tie as tie
 use Rattle.algebra.proofs.algebra_run.Reads as reads
 use Rattle.algebra.proofs.algebra_run.Lts as lts
-use Rattle.fields.proofs.outcome.length_of.Reads as length-of-reads
-use Rattle.fields.proofs.outcome.number.Reads as number-reads
+use Rattle.algebra.proofs.hand_over.Reads as hand-over-reads
 use Rattle.runner.proofs.run.run.Reads as run-reads
 
 returns : tie.Need-returns
-returns c = (c .number .ensures ∙ ap numberOf (c .before .before .before .before .run .ensures .0), c .before .length-of .ensures ∙ ap lengthOf (c .before .before .before .before .run .ensures .0), c .before .before .before .before .run .ensures .1)
+returns c = (c .hand-over .ensures .0 ∙ ap numberOf (c .before .before .before .before .run .ensures .0), c .hand-over .ensures .1 ∙ ap lengthOf (c .before .before .before .before .run .ensures .0), c .before .before .before .before .run .ensures .1)
 
 pub algebra-run-spec : {M : Type 1} → statement M
-algebra-run-spec =
-    tie.close (tie.spec (λ c κs. search needs) (λ c κs. search needs) (λ c κs. search needs) (λ c. search needs) returns)
+algebra-run-spec = tie.close (tie.spec (λ c κs. search needs) (λ c κs. search needs) (λ c. search needs) returns)
