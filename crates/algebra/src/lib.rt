@@ -5,7 +5,7 @@ ghost use Rattle.language.specs.Operations.{checkLanguage};
 ghost use Rattle.reader.specs.Operations.{checkTree};
 ghost use Rattle.translation.specs.Operations.{checkTranslation, runTree};
 ghost use Rattle.reducer.specs.Operations as Reducing;
-use fields::outcome::Outcome;
+use fields::outcome::Answer;
 use fields::outcome::length_of;
 use fields::outcome::number;
 use language::check::check_language;
@@ -14,12 +14,21 @@ use reducer::reduce::reduce;
 use runner::run::run;
 use translation::check::check_translation;
 
-// Puts the length of an outcome where the caller wants it, and answers with its number.
-fn hand_over(outcome: Outcome, length: &mut u64) -> u32
-    ensures { λ r. ⌜ (r ≡ numberOf outcome) × (now (length .exit) ≡ lengthOf outcome) ⌝ }
+// The number of an answer.
+fn number_of(answer: Answer) -> u32
+    ensures { λ r. ⌜ r ≡ numberOf (answer .outcome) ⌝ }
 {
-    *length = length_of(outcome);
+    let outcome = answer.outcome;
     number(outcome)
+}
+
+// Puts the length of an answer where the caller wants it, and gives its number.
+fn hand_over(answer: Answer, length: &mut u64) -> u32
+    ensures { λ r. ⌜ (r ≡ numberOf (answer .outcome)) × (now (length .exit) ≡ lengthOf (answer .outcome)) ⌝ }
+{
+    let outcome = answer.outcome;
+    *length = length_of(outcome);
+    number_of(answer)
 }
 
 // Check a language.
@@ -27,9 +36,7 @@ fn hand_over(outcome: Outcome, length: &mut u64) -> u32
 pub extern "C" fn algebra_check_language(language: &[u8]) -> u32
     ensures { λ r. ⌜ r ≡ numberOf (checkLanguage (now (language .entry))) ⌝ }
 {
-    let answer = check_language(language);
-    let outcome = answer.outcome;
-    number(outcome)
+    number_of(check_language(language))
 }
 
 // Check a translation.
@@ -37,9 +44,7 @@ pub extern "C" fn algebra_check_language(language: &[u8]) -> u32
 pub extern "C" fn algebra_check_translation(translation: &[u8]) -> u32
     ensures { λ r. ⌜ r ≡ numberOf (checkTranslation (now (translation .entry))) ⌝ }
 {
-    let answer = check_translation(translation);
-    let outcome = answer.outcome;
-    number(outcome)
+    number_of(check_translation(translation))
 }
 
 // Check a tree of a language, of the root kind.
@@ -47,9 +52,7 @@ pub extern "C" fn algebra_check_translation(translation: &[u8]) -> u32
 pub extern "C" fn algebra_check_tree(language: &[u8], root: u32, tree: &[u8]) -> u32
     ensures { λ r. ⌜ r ≡ numberOf (checkTree (now (language .entry)) root (now (tree .entry))) ⌝ }
 {
-    let answer = check_tree(language, root, tree);
-    let outcome = answer.outcome;
-    number(outcome)
+    number_of(check_tree(language, root, tree))
 }
 
 // Run a translation on a tree of the root kind; the length of the result is put into `length`.
@@ -66,8 +69,7 @@ pub extern "C" fn algebra_run(
         × (now (output .exit) ≡ runTree (now (translation .entry)) root (now (tree .entry)) (now (output .entry)) .output) ⌝ }
 {
     let answer = run(translation, root, tree, output);
-    let outcome = answer.outcome;
-    hand_over(outcome, length)
+    hand_over(answer, length)
 }
 
 // Reduce a pack to one translation; the length of its bytes is put into `length`.
@@ -84,6 +86,5 @@ pub extern "C" fn algebra_reduce(
         × (now (workspace .exit) ≡ Reducing.reduce (now (pack .entry)) (now (workspace .entry)) (now (output .entry)) .workspace) ⌝ }
 {
     let answer = reduce(pack, workspace, output);
-    let outcome = answer.outcome;
-    hand_over(outcome, length)
+    hand_over(answer, length)
 }
