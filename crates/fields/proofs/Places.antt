@@ -6,9 +6,10 @@ use mathlib.Core.List.{List, [], _∷_}
 use native.Mathlib.Omega.{arith}
 use lib.ListN.{length}
 use lib.Dec.{leb}
-use borrow.Author.Tests.{le-leb, lt-leb, leb-true, leb-false}
+use borrow.Author.Tests.{le-leb, lt-leb, leb-true, leb-false, ltb-true}
 use Rattle.fields.specs.Lists.{all, any}
-use Rattle.fields.specs.Inner.Places.{fieldEnd, placesIn, placesFrom}
+use Rattle.fields.specs.Fields.{pairAt}
+use Rattle.fields.specs.Inner.Places.{fieldEnd, isWhole, WholeEnd, EndIfWhole, longAt, placesIn, placesFrom}
 use Rattle.fields.proofs.Truth.{by-test}
 use Rattle.fields.proofs.Lists.{all-stop, all-next, all-true, any-stop, any-next}
 
@@ -97,3 +98,49 @@ module _ (f : ℕ → Bool) (s : List ℕ) (p : ℕ) (x : Bool) where
 pub every-here : (f : ℕ → Bool) (s : List ℕ) (p : ℕ) → all f (placesFrom s p) ≡ true → p < length s
     → (f p ≡ true) × (all f (placesFrom s (fieldEnd s p)) ≡ true)
 every-here f s p inv here = all-true f p _ (pass-next (all f) s p true inv (fieldEnd s p) here refl)
+
+-- What holds at every place from p on holds at every place after p.
+pub every-after : (f : ℕ → Bool) (s : List ℕ) (p e : ℕ) → e ≡ fieldEnd s p → all f (placesFrom s p) ≡ true → p < length s
+    → all f (placesFrom s e) ≡ true
+every-after f s p e ee inv here = rw ee (every-here f s p inv here .1)
+
+-- The field at p: whole, or cut off.
+module _ (s : List ℕ) (p : ℕ) where
+  pub whole-end : isWhole s p ≡ true → (e : ℕ) → e ≡ fieldEnd s p → WholeEnd s p e
+  unfolding isWhole
+  whole-end w e ee = record { is = ee; past = rw ee (end-past s p); fits = rw ee (leb-true _ _ w) }
+
+  pub end-whole : (e : ℕ) → WholeEnd s p e → isWhole s p ≡ true
+  unfolding isWhole
+  end-whole e w = le-leb _ _ (rw (w .is) at (w .fits))
+
+  pub head-there : isWhole s p ≡ true → p + 2 < length s
+  head-there w = let d = whole-end w (fieldEnd s p) refl in omega (arith, d .past, d .fits)
+
+  -- The length of the contents, of the field's end.
+  pub size-of : (e : ℕ) → e ≡ fieldEnd s p → e - p - 3 ≡ pairAt s (p + 1)
+  unfolding fieldEnd
+  size-of e h = omega arith
+
+  -- The first five bytes are there.
+  pub long-here : longAt s p ≡ true → p + 4 < length s
+  unfolding longAt
+  long-here h = ltb-true _ _ h
+
+  -- end_if_whole
+  pub cut-head : length s < p + 3 → EndIfWhole s p 0
+  unfolding isWhole
+  cut-head h =
+      let k : length s < fieldEnd s p = omega (arith, end-past s p) in
+      record { cut = λ z. lt-leb _ _ k; whole = λ z. absurd (z refl) }
+
+  module _ (e : ℕ) (ee : e ≡ fieldEnd s p) where
+    pub cut-end : length s < e → EndIfWhole s p 0
+    unfolding isWhole
+    cut-end h = record { cut = λ z. lt-leb _ _ (rw ee at h); whole = λ z. absurd (z refl) }
+
+    pub end-inside : e ≤ length s → EndIfWhole s p e
+    end-inside h = record {
+      cut = λ z. absurd (omega (arith, end-past s p));
+      whole = λ z. record { is = ee; past = rw ee (end-past s p); fits = h };
+    }

@@ -4,7 +4,7 @@ ghost use mathlib.Core.List.{[], _++_};
 ghost use Prim.Native.Nat.{_≤_};
 ghost use lib.ListN.{length};
 ghost use lib.Seq.{slice};
-ghost use Rattle.operators.specs.Inner.Parts.{Inside, Stores};
+ghost use Rattle.fields.specs.Inner.Writing.{Inside, Stores};
 
 // Where what was written ends, or that the output is too short for it.
 pub enum Stored {

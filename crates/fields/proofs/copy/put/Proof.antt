@@ -5,9 +5,9 @@ use mathlib.Core.List.{List}
 use native.Mathlib.Omega.{arith}
 use lib.ListN.{length, drop, set, getD, length-set}
 use lib.Seq.{paste, paste-zero}
-use Rattle.operators.proofs.Splices.{put-more, put-full, put-done}
-use Rattle.operators.proofs.copy.put.Statement.{statement}
-use Rattle.operators.proofs.copy.put.Tie as tie
+use Rattle.fields.proofs.Splices.{put-more, put-full, put-done}
+use Rattle.fields.proofs.copy.put.Statement.{statement}
+use Rattle.fields.proofs.copy.put.Tie as tie
 
 abbrev Inv-loop : tie.InvT-loop
 Inv-loop s p e out₀ n size i₀ out i = ((i ≤ size) × (length out ≡ length out₀)) × (out ≡ paste out₀ n (drop p s) i)

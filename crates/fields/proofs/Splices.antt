@@ -8,10 +8,10 @@ use native.Mathlib.Numerals.{add-one}
 use native.Mathlib.Omega.{arith}
 use lib.ListN.{length, take, drop, set, getD, length-append, length-drop, take-append-drop}
 use lib.Seq.{slice, take-at, take-add, drop-append-add, drop-drop, length-take-le, length-slice, paste, paste-suc, getD-drop}
 use Rattle.fields.proofs.Lists.{part-is}
-use Rattle.operators.specs.declared.copy.Stored.{Stored}
-use Rattle.operators.specs.declared.copy.Stored.the-variants.{To, Full}
-use Rattle.operators.specs.Inner.Parts.{spliced, Written, Stores}
+use Rattle.fields.specs.declared.copy.Stored.{Stored}
+use Rattle.fields.specs.declared.copy.Stored.the-variants.{To, Full}
+use Rattle.fields.specs.Inner.Writing.{spliced, Written, Stores}
 
 -- The bytes from p up to e, as a count of bytes.
 pub slice-is : (s : List ℕ) (p e : ℕ) → p ≤ e → e ≤ length s → slice p e s ≡ take (e - p) (drop p s)

@@ -1,9 +1,9 @@
 use native.Mathlib.Omega.{arith}
 use lib.Seq.{slice}
-use Rattle.operators.proofs.Splices.{both-full, both-then}
+use Rattle.fields.proofs.Splices.{both-full, both-then}
 use borrow.Author.Needs.{needs}
-use Rattle.operators.proofs.copy.put_both.Statement.{statement}
-use Rattle.operators.proofs.copy.put_both.Tie as tie
+use Rattle.fields.proofs.copy.put_both.Statement.{statement}
+use Rattle.fields.proofs.copy.put_both.Tie as tie
 
 returns : tie.Need-returns
 returns c = both-full (slice (c .before .before .before .before .before .before .before .before .before .args .p) (c .before .before .before .before .before .before .before .before .before .args .e) (c .before .before .before .before .before .before .before .before .before .args .s .now)) (slice (c .before .before .before .before .before .before .before .before .before .args .q) (c .before .before .before .before .before .before .before .before .before .args .d) (c .before .before .before .before .before .before .before .before .before .args .t .now)) (c .before .before .before .before .before .before .before .before .before .args .out .now) _ (c .before .before .before .before .before .before .before .before .before .args .n) _ (c .before .before .before .before .put .ensures) (c .enum-told .given .1)

@@ -1,8 +1,8 @@
 use lib.Seq.{slice}
-use Rattle.operators.proofs.Splices.{put-wanted, put-unwanted}
+use Rattle.fields.proofs.Splices.{put-wanted, put-unwanted}
 use borrow.Author.Needs.{needs}
-use Rattle.operators.proofs.copy.put_if.Statement.{statement}
-use Rattle.operators.proofs.copy.put_if.Tie as tie
+use Rattle.fields.proofs.copy.put_if.Statement.{statement}
+use Rattle.fields.proofs.copy.put_if.Tie as tie
 
 returns : tie.Need-returns
 returns c = put-wanted (c .before .before .before .before .before .before .before .args .wanted) (slice (c .before .before .before .before .before .before .before .args .p) (c .before .before .before .before .before .before .before .args .e) (c .before .before .before .before .before .before .before .args .s .now)) _ _ (c .before .before .before .before .if1 .taken) _ _ (c .before .before .put .ensures)
