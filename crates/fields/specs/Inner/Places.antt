@@ -37,6 +37,10 @@ pub record EndIfWhole (s : List ℕ) (p e : ℕ) : Type 0 where
 unfoldable pub longAt : List ℕ → ℕ → Bool
 longAt s p = ltb (p + 4) (length s)
 
+-- The field at p has the tag.
+abbrev pub tagIs : ℕ → List ℕ → ℕ → Bool
+tagIs tag s p = eqb (byteAt s p) tag
+
 -- The contents of the field at p.
 abbrev pub contentsAt : List ℕ → ℕ → List ℕ
 contentsAt s p = take (pairAt s (p + 1)) (drop (p + 3) s)
