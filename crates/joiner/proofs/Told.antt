@@ -23,7 +23,7 @@ use Rattle.translation.specs.Inner.Items.{itemAt, IsClause}
 use Rattle.translation.specs.Inner.ItemIndex.{mappedAt}
 use Rattle.translation.proofs.Items.{clause-is, holds-items}
 use Rattle.translation.proofs.IndexedItems.{mapped-is}
-use Rattle.translation.proofs.Coded.{code-cut}
+use Rattle.translation.proofs.Whole.{code-cut}
 use Rattle.translation.proofs.Found.{cut, cut-is}
 use Rattle.translation.proofs.Fitting.{clause-code}
 use Rattle.emitter.specs.Inner.Stands.{Wrote}

@@ -1,5 +1,5 @@
 -- The chain of tests of `checkTranslation`: a law for each return of the functions of the check.
-use Prim.Native.Nat.{ℕ, _+_, _-_, _≤_}
+use Prim.Native.Nat.{ℕ, _+_, _≤_}
 use mathlib.Core.Path.{_≡_, refl, sym, _∙_}
 use mathlib.Core.Bool.{Bool, true, false, _||_}
 use mathlib.Core.List.{List}
@@ -24,16 +24,11 @@ use Rattle.translation.specs.WellFormed.{mappingFits, clausesFit, codesF
 use Rattle.translation.specs.Operations.{checkTranslation}
 use Rattle.translation.specs.Inner.Parts.{Parted}
 use Rattle.translation.specs.Inner.Pieces.{Pieces, inOrder}
-use Rattle.translation.specs.Inner.ItemIndex.{Ready, Prepared}
 use Rattle.translation.proofs.Codec.{parts-in, both-short, translation-parts}
 use Rattle.translation.proofs.Found.{cut, cut-is, rest-is}
 use Rattle.translation.proofs.Cuts.{parted-pieces, accepted-short}
-use Rattle.translation.proofs.IndexedItems.{kinds-of}
 
--- check_prepared
-pub ready : {s is t it b ib : List ℕ} {f : Translation} → Prepared s is t it b ib f → Ready s t it b ib f
-ready z = record { source = z .source .entries; target = z .target; body = kinds-of (z .body) }
-
+-- check_indexed
 module _ (f : Translation) {o : Outcome} (x : Bool) (ex : x ≡ mappingFits f) where
   pub formed-mapping : x ≡ false → o ≡ Refused Why.Mapping → o ≡ checked (wellFormed f)
   unfolding wellFormed
@@ -53,7 +48,7 @@ module _ (f : Translation) {o : Outcome} (x : Bool) (ex : x ≡ mappingFits f) w
       unfolding wellFormed
       formed-all h i = cc
 
--- check_pieces
+-- check_parts
 module _ (f : Translation) {o : Outcome} (x : Bool) (ex : x ≡ allRising f) where
   pub order-refused : x ≡ false → o ≡ Refused Why.Order → o ≡ checked (inOrder f)
   order-refused h i = cc

@@ -17,8 +17,7 @@ use Rattle.fields.proofs.Places.{places-done, places-next, pass-done, pass-next
 use Rattle.language.specs.Inner.Entries.{entryWhole, markClass, markClasses, resultMarked, classKinds, resultsMeet, resultIsClass}
 use Rattle.translation.specs.Inner.Items.{itemWhole, longAt}
 use Rattle.translation.specs.Inner.Pairs.{tagIs, Classed}
-use Rattle.translation.proofs.Marked.{entry-kind}
-use Rattle.translation.proofs.Beside.{item-long, production-here}
+use Rattle.translation.proofs.Whole.{entry-kind, item-long, production-here}
 
 -- Whole entries and items have their first five bytes.
 pub entries-long : (s : List ℕ) → all (entryWhole s) (places s) ≡ true → all (longAt s) (places s) ≡ true

@@ -1,25 +1,22 @@
 -- The table of the kinds in a language: a law for each turn of the functions on kinds, and what the table says.
-use Prim.Native.Nat.{ℕ, zero, suc, _+_, _-_, _<_, _≤_}
+use Prim.Native.Nat.{ℕ, _+_, _<_, _≤_}
 use mathlib.Core.Path.{_≡_, refl, sym, ap, _∙_}
-use mathlib.Core.Logic.{⊎-elim}
 use mathlib.Core.Bool.{Bool, true, false, _||_}
 use mathlib.Core.List.{List, [], _∷_}
 use mathlib.Core.Option.{some}
-use native.Mathlib.Omega.{arith}
 use lib.ListN.{length, getD, set, replicate, length-set, length-replicate, getD-replicate}
 use lib.Seq.{slice, getD-set-same, getD-set-other}
 use lib.Dec.{eqb}
-use borrow.Author.Tests.{eq-eqb, ne-eqb, eqb-true, eqb-false, ltb-true}
-use Rattle.fields.specs.Lists.{all, any}
+use borrow.Author.Tests.{eq-eqb, ne-eqb, eqb-true, eqb-false}
+use Rattle.fields.specs.Lists.{any}
 use Rattle.fields.specs.Inner.Places.{fieldEnd, placesFrom, places}
 use Rattle.fields.proofs.Truth.{by-test}
-use Rattle.fields.proofs.Lists.{all-true, part-done, part-next}
-use Rattle.fields.proofs.Places.{pass-done, pass-next, every-here}
+use Rattle.fields.proofs.Lists.{part-done, part-next}
+use Rattle.fields.proofs.Places.{pass-done, pass-next}
 use Rattle.language.specs.Language.{Language, mentions, isIn}
-use Rattle.language.specs.LanguageFile.{isKind, entriesOf}
-use Rattle.language.specs.Inner.Entries.{entryWhole, entryAt, IsProduction}
-use Rattle.language.proofs.Facts.{entry-facts}
-use Rattle.reader.specs.Inner.Positions.{mentionsAt, KindsIn}
+use Rattle.language.specs.LanguageFile.{entriesOf}
+use Rattle.language.specs.Inner.Entries.{entryAt}
+use Rattle.reader.specs.Inner.Positions.{mentionsAt}
 use Rattle.reader.proofs.Members.{in-is}
 use Rattle.translation.specs.Inner.Tests.{markAll, mentionedAt, markEntries}
 
@@ -43,44 +40,6 @@ module _ (s : List ℕ) (p : ℕ) (kinds more : List Bool) (em : more ≡ set ki
       → x ≡ markAll kinds (mentionedAt s p)
   unfolding markAll mentionedAt
   entry-production h ee ex = cc (ne-eqb _ _ h)
-
--- The kinds of a part.
-part-kinds : (m : ℕ) (s : List ℕ) (q e : ℕ) → e - q ≡ m → e ≤ length s → all isKind (slice q e s) ≡ true → KindsIn s q e
-part-kinds zero s q e y h a x i j = absurd (omega arith)
-part-kinds (suc m) s q e y h a x i j =
-    let w = all-true isKind (getD s q 0) (slice (q + 1) e s) (part-next (all isKind) s q e true a (omega arith) h) in
-    by-test (eqb x q)
-    (λ d. let z : x ≡ q = eqb-true _ _ d in (omega arith, rw z (ltb-true _ _ (w .0))))
-    (λ d. let z : x ≡ q → ⊥ = eqb-false _ _ d in part-kinds m s (q + 1) e (omega arith) h (w .1) x (omega arith) j)
-
--- The kinds of a production's arguments.
-pub arguments-in : (s : List ℕ) (q e : ℕ) → IsProduction s q → e ≡ fieldEnd s q → KindsIn s (q + 5) e × (e ≤ q + 5 + 8) × (q + 5 ≤ e) × (e ≤ length s)
-unfolding fieldEnd
-arguments-in s q e w ee =
-    let a = w .two in
-    let b = w .ten in
-    let c = w .fits in
-    (rw ee (part-kinds _ s (q + 5) (fieldEnd s q) refl (w .fits) (w .arguments)), omega arith, omega arith, omega arith)
-
--- A whole entry starts with its result or kind.
-pub entry-kind : (s : List ℕ) (p : ℕ) → entryWhole s p ≡ true → (p + 4 < length s) × (getD s (p + 3) 0 < 32)
-unfolding fieldEnd
-entry-kind s p w =
-    ⊎-elim
-    (λ c. let a = c .fits in let b = c .size in (omega arith, c .kind))
-    (λ c. let a = c .fits in let b = c .two in (omega arith, c .kind))
-    (entry-facts s p w)
-
-pub entry-other : (s : List ℕ) (p : ℕ) → entryWhole s p ≡ true → (getD s p 0 ≡ 0x11 → ⊥) → IsProduction s p
-entry-other s p w h = ⊎-elim (λ c. absurd (h (c .tag))) (λ c. c) (entry-facts s p w)
-
--- A walk over whole entries: the one at p, and those after it.
-module _ (s : List ℕ) (p : ℕ) (whole : all (entryWhole s) (placesFrom s p) ≡ true) (e : ℕ) (ee : e ≡ fieldEnd s p) (here : p < length s) where
-  pub entry-here : entryWhole s p ≡ true
-  entry-here = every-here (entryWhole s) s p whole here .0
-
-  pub entries-on : all (entryWhole s) (placesFrom s e) ≡ true
-  entries-on = rw ee (every-here (entryWhole s) s p whole here .1)
 
 -- mark_entries
 module _ (s : List ℕ) (p : ℕ) (kinds x : List Bool) (inv : markEntries s kinds (placesFrom s p) ≡ x) where

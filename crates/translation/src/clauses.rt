@@ -1,54 +1,47 @@
-// The clauses: each source production has one, and there is no other.
+// Source productions and clauses side by side: both stand by rising key, so that each clause is found beside its
+// production.
 ghost use mathlib.Core.Path.{_≡_};
-ghost use Prim.Native.Nat.{_≤_};
-ghost use lib.ListN.{length};
+ghost use mathlib.Core.Bool.{true};
+ghost use Rattle.fields.specs.Inner.Places.{placesFrom};
 ghost use Rattle.fields.specs.Lists.{all};
-ghost use Rattle.fields.specs.Inner.Places.{places};
-ghost use Rattle.reader.specs.Inner.Index.{Indexed};
-ghost use Rattle.translation.specs.Translation.{Translation};
-ghost use Rattle.translation.specs.WellFormed.{clausesFit};
-ghost use Rattle.translation.specs.Inner.ItemIndex.{IndexedItems};
-ghost use Rattle.translation.specs.Inner.Tests.{knownAt};
-use fields::bytes::byte_at;
+ghost use Rattle.language.specs.Inner.Entries.{entryWhole};
+ghost use Rattle.translation.specs.Inner.Items.{itemWhole};
+ghost use Rattle.translation.specs.Inner.Matching.{Skipped, keysMatch};
+use super::walk::whole_end;
+use super::walk::whole_key;
 use fields::walk::field_end;
-use fields::walk::key_at;
 
-// The entry at p is of the first tag, or its key stands in the index.
-pub fn known_at(s: &[u8], p: usize, first: u8, index: &[u16]) -> bool
-    requires { ⌜ p ≤ length (now s) ⌝ }
-    ensures { λ r. ⌜ r ≡ knownAt first (now (s .entry)) (now (index .entry)) p ⌝ }
-{
-    if byte_at(s, p) == first {
-        return true;
-    }
-    let key = key_at(s, p, first);
-    if index.len() <= key {
-        return false;
-    }
-    index[key] != 0
-}
-
-// Each entry that is not of the first tag has its key in the index.
-fn keys_known(s: &[u8], first: u8, index: &[u16]) -> bool
-    ensures { λ r. ⌜ r ≡ all (knownAt first (now (s .entry)) (now (index .entry))) (places (now (s .entry))) ⌝ }
+// The place of the first field that is not of the tag.
+pub fn skip(s: &[u8], tag: u8) -> usize
+    ensures { λ r. ⌜ Skipped tag (now (s .entry)) r ⌝ }
 {
     let mut p = 0;
     while p < s.len() {
-        if !known_at(s, p, first, index) {
-            return false;
+        if s[p] != tag {
+            return p;
         }
         p = field_end(s, p);
     }
-    true
+    p
 }
 
-// Each source production has a clause, and each clause a source production.
-pub fn clauses_fit(source: &[u8], sources: &[u16], body: &[u8], items: &[u16]) -> bool
-    ensures { λ r. ⌜ ((f : Translation) → Indexed (now (sources .entry)) (now (source .entry)) (f .source)
-        → IndexedItems (now (items .entry)) (now (body .entry)) (f .body) → r ≡ clausesFit f) ⌝ }
+// The productions from q on and the clauses from p on have the same keys, one for one.
+pub fn clauses_match(source: &[u8], q: usize, body: &[u8], p: usize) -> bool
+    requires { ⌜ (all (entryWhole (now source)) (placesFrom (now source) q) ≡ true) × (all (itemWhole (now body)) (placesFrom (now body) p) ≡ true) ⌝ }
+    ensures { λ r. ⌜ r ≡ keysMatch (now (source .entry)) q (now (body .entry)) p ⌝ }
 {
-    if !keys_known(source, 0x11, items) {
-        return false;
+    let mut from = q;
+    let mut to = p;
+    while to < body.len() {
+        if source.len() <= from {
+            return false; // a clause too many
+        }
+        let key = whole_key(source, from, 0x11);
+        if whole_key(body, to, 0x22) != key {
+            return false;
+        }
+        from = whole_end(source, from);
+        to = whole_end(body, to);
     }
-    keys_known(body, 0x22, sources)
+    source.len() <= from
 }

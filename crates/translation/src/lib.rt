@@ -8,6 +8,5 @@ pub mod index;
 pub mod kinds;
 pub mod mapping;
 pub mod order;
-pub mod pairs;
 pub mod parts;
 pub mod walk;

@@ -1,15 +1,13 @@
 -- The tests of "well formed" by place, looked up through tables and indexes.
--- `proofs/Mappings.antt`, `proofs/Known.antt` and `proofs/Coded.antt` show that they are those of `wellFormed`.
+-- `proofs/Mappings.antt` and `proofs/Coded.antt` show that they are those of `wellFormed`.
 use Prim.Native.Nat.{ℕ, _+_}
 use mathlib.Core.Bool.{Bool, true, false, cond, not, _&&_, Bool·beq}
-use mathlib.Core.List.{List, [], _∷_, map}
-use mathlib.Core.Option.{Option·getD}
+use mathlib.Core.List.{List, [], _∷_}
 use lib.ListN.{getD, set}
 use lib.Seq.{slice}
 use lib.Dec.{eqb}
 use Rattle.fields.specs.Fields.{byteAt, pairAt}
-use Rattle.fields.specs.Inner.Places.{fieldEnd, keyAt}
-use Rattle.reader.specs.Inner.Index.{argumentsBefore}
+use Rattle.fields.specs.Inner.Places.{fieldEnd}
 use Rattle.reader.specs.declared.node.Read.{Read}
 use Rattle.reader.specs.declared.node.Read.the-variants.{End, Deep, Broken}
 use Rattle.translation.specs.Inner.ItemIndex.{mappedAt}
@@ -46,14 +44,6 @@ sameRange s p t place =
 unfoldable pub keptAt : List ℕ → List ℕ → List ℕ → List ℕ → List ℕ → ℕ → Bool
 keptAt s t it b ib p =
     cond (eqb (byteAt s p) 0x11) (sameRange s p t (getD it (mappedAt b ib (byteAt s (p + 3))) 0)) true
-
--- The entry at p is of the first tag, or its key stands in the index.
-unfoldable pub knownAt : ℕ → List ℕ → List ℕ → ℕ → Bool
-knownAt first s index p = cond (eqb (byteAt s p) first) true (not (eqb (getD index (keyAt first s p) 0) 0))
-
--- The kinds that the arguments of the production in s before `place` map to.
-unfoldable pub mappedBefore : List ℕ → ℕ → List ℕ → List ℕ → List ℕ
-mappedBefore s place b ib = map (mappedAt b ib) (Option·getD (argumentsBefore s place) [])
 
 -- What was read ends at n.
 abbrev pub endsAt : Read → ℕ → Bool

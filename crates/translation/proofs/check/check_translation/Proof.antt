@@ -7,7 +7,7 @@ use Rattle.translation.proofs.check.check_translation.Tie as tie
 use Rattle.translation.proofs.check.check_translation.Reads as reads
 use Rattle.translation.proofs.check.check_translation.Lts as lts
 use Rattle.fields.proofs.outcome.refuse.Reads as refuse-reads
-use Rattle.translation.proofs.check.check_pieces.Reads as check-pieces-reads
+use Rattle.translation.proofs.check.check_parts.Reads as check-parts-reads
 use Rattle.translation.proofs.parts.over_limit.Reads as over-limit-reads
 use Rattle.translation.proofs.parts.parts_of.Reads as parts-of-reads
 use Rattle.translation.proofs.parts.parts_whole.Reads as parts-whole-reads
@@ -21,38 +21,38 @@ returns-2 c = broken-refused _ _ (c .before .before .before .before .over-limit 
 parts-of-requires : tie.Need-parts-of-requires
 parts-of-requires c κs = parts-there _ _ (c .before .before .before .over-limit .ensures) (c .before .before .if1 .left) _ (c .before .parts-whole .ensures) (not-false _ (c .if2 .left))
 
-sub-check-pieces : tie.Need-sub-check-pieces
-sub-check-pieces c = let p = parts-there _ _ (c .before .before .before .before .over-limit .ensures) (c .before .before .before .if1 .left) _ (c .before .before .parts-whole .ensures) (not-false _ (c .before .if2 .left)) in let w = c .parts-of .ensures (p .0) (p .1) in omega (arith, w .source-past, w .target-past, w .inside)
+sub-check-parts : tie.Need-sub-check-parts
+sub-check-parts c = let p = parts-there _ _ (c .before .before .before .before .over-limit .ensures) (c .before .before .before .if1 .left) _ (c .before .before .parts-whole .ensures) (not-false _ (c .before .if2 .left)) in let w = c .parts-of .ensures (p .0) (p .1) in omega (arith, w .source-past, w .target-past, w .inside)
 
-part-check-pieces-start : tie.Need-part-check-pieces-start
-part-check-pieces-start c = let p = parts-there _ _ (c .before .before .before .before .over-limit .ensures) (c .before .before .before .if1 .left) _ (c .before .before .parts-whole .ensures) (not-false _ (c .before .if2 .left)) in let w = c .parts-of .ensures (p .0) (p .1) in omega (arith, w .source-past, w .target-past, w .inside)
+part-check-parts-start : tie.Need-part-check-parts-start
+part-check-parts-start c = let p = parts-there _ _ (c .before .before .before .before .over-limit .ensures) (c .before .before .before .if1 .left) _ (c .before .before .parts-whole .ensures) (not-false _ (c .before .if2 .left)) in let w = c .parts-of .ensures (p .0) (p .1) in omega (arith, w .source-past, w .target-past, w .inside)
 
-part-check-pieces-end : tie.Need-part-check-pieces-end
-part-check-pieces-end c = let p = parts-there _ _ (c .before .before .before .before .over-limit .ensures) (c .before .before .before .if1 .left) _ (c .before .before .parts-whole .ensures) (not-false _ (c .before .if2 .left)) in let w = c .parts-of .ensures (p .0) (p .1) in omega (arith, w .source-past, w .target-past, w .inside)
+part-check-parts-end : tie.Need-part-check-parts-end
+part-check-parts-end c = let p = parts-there _ _ (c .before .before .before .before .over-limit .ensures) (c .before .before .before .if1 .left) _ (c .before .before .parts-whole .ensures) (not-false _ (c .before .if2 .left)) in let w = c .parts-of .ensures (p .0) (p .1) in omega (arith, w .source-past, w .target-past, w .inside)
 
-add-check-pieces : tie.Need-add-check-pieces
-add-check-pieces c = let p = parts-there _ _ (c .before .before .before .before .before .over-limit .ensures) (c .before .before .before .before .if1 .left) _ (c .before .before .before .parts-whole .ensures) (not-false _ (c .before .before .if2 .left)) in let w = c .before .parts-of .ensures (p .0) (p .1) in omega (arith, w .source-past, w .target-past, w .inside)
+add-check-parts : tie.Need-add-check-parts
+add-check-parts c = let p = parts-there _ _ (c .before .before .before .before .before .over-limit .ensures) (c .before .before .before .before .if1 .left) _ (c .before .before .before .parts-whole .ensures) (not-false _ (c .before .before .if2 .left)) in let w = c .before .parts-of .ensures (p .0) (p .1) in omega (arith, w .source-past, w .target-past, w .inside)
 
-sub-check-pieces-2 : tie.Need-sub-check-pieces-2
-sub-check-pieces-2 c = let p = parts-there _ _ (c .before .before .before .before .before .over-limit .ensures) (c .before .before .before .before .if1 .left) _ (c .before .before .before .parts-whole .ensures) (not-false _ (c .before .before .if2 .left)) in let w = c .before .parts-of .ensures (p .0) (p .1) in omega (arith, w .source-past, w .target-past, w .inside)
+sub-check-parts-2 : tie.Need-sub-check-parts-2
+sub-check-parts-2 c = let p = parts-there _ _ (c .before .before .before .before .before .over-limit .ensures) (c .before .before .before .before .if1 .left) _ (c .before .before .before .parts-whole .ensures) (not-false _ (c .before .before .if2 .left)) in let w = c .before .parts-of .ensures (p .0) (p .1) in omega (arith, w .source-past, w .target-past, w .inside)
 
-part-check-pieces-start-2 : tie.Need-part-check-pieces-start-2
-part-check-pieces-start-2 c = let p = parts-there _ _ (c .before .before .before .before .before .over-limit .ensures) (c .before .before .before .before .if1 .left) _ (c .before .before .before .parts-whole .ensures) (not-false _ (c .before .before .if2 .left)) in let w = c .before .parts-of .ensures (p .0) (p .1) in omega (arith, w .source-past, w .target-past, w .inside)
+part-check-parts-start-2 : tie.Need-part-check-parts-start-2
+part-check-parts-start-2 c = let p = parts-there _ _ (c .before .before .before .before .before .over-limit .ensures) (c .before .before .before .before .if1 .left) _ (c .before .before .before .parts-whole .ensures) (not-false _ (c .before .before .if2 .left)) in let w = c .before .parts-of .ensures (p .0) (p .1) in omega (arith, w .source-past, w .target-past, w .inside)
 
-part-check-pieces-end-2 : tie.Need-part-check-pieces-end-2
-part-check-pieces-end-2 c = let p = parts-there _ _ (c .before .before .before .before .before .over-limit .ensures) (c .before .before .before .before .if1 .left) _ (c .before .before .before .parts-whole .ensures) (not-false _ (c .before .before .if2 .left)) in let w = c .before .parts-of .ensures (p .0) (p .1) in omega (arith, w .source-past, w .target-past, w .inside)
+part-check-parts-end-2 : tie.Need-part-check-parts-end-2
+part-check-parts-end-2 c = let p = parts-there _ _ (c .before .before .before .before .before .over-limit .ensures) (c .before .before .before .before .if1 .left) _ (c .before .before .before .parts-whole .ensures) (not-false _ (c .before .before .if2 .left)) in let w = c .before .parts-of .ensures (p .0) (p .1) in omega (arith, w .source-past, w .target-past, w .inside)
 
-sub-check-pieces-3 : tie.Need-sub-check-pieces-3
-sub-check-pieces-3 c = let p = parts-there _ _ (c .before .before .before .before .before .before .over-limit .ensures) (c .before .before .before .before .before .if1 .left) _ (c .before .before .before .before .parts-whole .ensures) (not-false _ (c .before .before .before .if2 .left)) in let w = c .before .before .parts-of .ensures (p .0) (p .1) in omega (arith, w .source-past, w .target-past, w .inside)
+sub-check-parts-3 : tie.Need-sub-check-parts-3
+sub-check-parts-3 c = let p = parts-there _ _ (c .before .before .before .before .before .before .over-limit .ensures) (c .before .before .before .before .before .if1 .left) _ (c .before .before .before .before .parts-whole .ensures) (not-false _ (c .before .before .before .if2 .left)) in let w = c .before .before .parts-of .ensures (p .0) (p .1) in omega (arith, w .source-past, w .target-past, w .inside)
 
-part-check-pieces-start-3 : tie.Need-part-check-pieces-start-3
-part-check-pieces-start-3 c = let p = parts-there _ _ (c .before .before .before .before .before .before .over-limit .ensures) (c .before .before .before .before .before .if1 .left) _ (c .before .before .before .before .parts-whole .ensures) (not-false _ (c .before .before .before .if2 .left)) in let w = c .before .before .parts-of .ensures (p .0) (p .1) in omega (arith, w .source-past, w .target-past, w .inside)
+part-check-parts-start-3 : tie.Need-part-check-parts-start-3
+part-check-parts-start-3 c = let p = parts-there _ _ (c .before .before .before .before .before .before .over-limit .ensures) (c .before .before .before .before .before .if1 .left) _ (c .before .before .before .before .parts-whole .ensures) (not-false _ (c .before .before .before .if2 .left)) in let w = c .before .before .parts-of .ensures (p .0) (p .1) in omega (arith, w .source-past, w .target-past, w .inside)
 
-check-pieces-requires : tie.Need-check-pieces-requires
-check-pieces-requires c κs = let p = parts-there _ _ (c .before .before .before .before .before .before .before .over-limit .ensures) (c .before .before .before .before .before .before .if1 .left) _ (c .before .before .before .before .before .parts-whole .ensures) (not-false _ (c .before .before .before .before .if2 .left)) in let w = c .before .before .before .parts-of .ensures (p .0) (p .1) in (p .0, pieces _ _ (c .before .before .before .before .before .before .before .over-limit .ensures) (c .before .before .before .before .before .before .if1 .left) _ _ (p .0) w (p .1))
+check-parts-requires : tie.Need-check-parts-requires
+check-parts-requires c κs = let p = parts-there _ _ (c .before .before .before .before .before .before .before .over-limit .ensures) (c .before .before .before .before .before .before .if1 .left) _ (c .before .before .before .before .before .parts-whole .ensures) (not-false _ (c .before .before .before .before .if2 .left)) in let w = c .before .before .before .parts-of .ensures (p .0) (p .1) in (p .0, pieces _ _ (c .before .before .before .before .before .before .before .over-limit .ensures) (c .before .before .before .before .before .before .if1 .left) _ _ (p .0) w (p .1))
 
 returns-3 : tie.Need-returns-3
-returns-3 c = let p = parts-there _ _ (c .before .before .before .before .before .before .before .before .over-limit .ensures) (c .before .before .before .before .before .before .before .if1 .left) _ (c .before .before .before .before .before .before .parts-whole .ensures) (not-false _ (c .before .before .before .before .before .if2 .left)) in let w = c .before .before .before .before .parts-of .ensures (p .0) (p .1) in pieces-checked _ _ (c .before .before .before .before .before .before .before .before .over-limit .ensures) (c .before .before .before .before .before .before .before .if1 .left) _ _ (p .0) w (p .1) (c .check-pieces .ensures (p .0) (pieces _ _ (c .before .before .before .before .before .before .before .before .over-limit .ensures) (c .before .before .before .before .before .before .before .if1 .left) _ _ (p .0) w (p .1)))
+returns-3 c = let p = parts-there _ _ (c .before .before .before .before .before .before .before .before .over-limit .ensures) (c .before .before .before .before .before .before .before .if1 .left) _ (c .before .before .before .before .before .before .parts-whole .ensures) (not-false _ (c .before .before .before .before .before .if2 .left)) in let w = c .before .before .before .before .parts-of .ensures (p .0) (p .1) in pieces-checked _ _ (c .before .before .before .before .before .before .before .before .over-limit .ensures) (c .before .before .before .before .before .before .before .if1 .left) _ _ (p .0) w (p .1) (c .check-parts .ensures (p .0) (pieces _ _ (c .before .before .before .before .before .before .before .before .over-limit .ensures) (c .before .before .before .before .before .before .before .if1 .left) _ _ (p .0) w (p .1)))
 
 pub check-translation-spec : {M : Type 1} → statement M
 check-translation-spec =
@@ -65,15 +65,15 @@ check-translation-spec =
     (λ c κs. search needs)
     returns-2
     parts-of-requires
-    sub-check-pieces
-    part-check-pieces-start
-    part-check-pieces-end
-    add-check-pieces
-    sub-check-pieces-2
-    part-check-pieces-start-2
-    part-check-pieces-end-2
-    sub-check-pieces-3
-    part-check-pieces-start-3
+    sub-check-parts
+    part-check-parts-start
+    part-check-parts-end
+    add-check-parts
+    sub-check-parts-2
+    part-check-parts-start-2
+    part-check-parts-end-2
+    sub-check-parts-3
+    part-check-parts-start-3
     (λ c. search needs)
-    check-pieces-requires
+    check-parts-requires
     returns-3)

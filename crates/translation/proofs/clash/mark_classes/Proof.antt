@@ -9,7 +9,7 @@ use Rattle.fields.specs.Lists.{all, any}
 use Rattle.fields.specs.Inner.Places.{placesFrom, places}
 use Rattle.fields.proofs.Places.{every-here}
 use Rattle.language.specs.Inner.Entries.{entryWhole, markClasses, resultMarked}
-use Rattle.translation.proofs.Marked.{entry-kind, entries-on}
+use Rattle.translation.proofs.Whole.{entry-kind, entries-on}
 use Rattle.translation.proofs.Classes.{RisesFrom, rises-start, rises-next, classed-done, classed-here, classes-next, results-next}
 use Rattle.translation.proofs.clash.mark_classes.Statement.{statement}
 use Rattle.translation.proofs.clash.mark_classes.Tie as tie

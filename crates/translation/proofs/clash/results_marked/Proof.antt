@@ -9,7 +9,7 @@ use Rattle.fields.specs.Inner.Places.{placesFrom}
 use Rattle.fields.proofs.Places.{every-here, some-done, some-stop, some-next}
 use Rattle.language.specs.Inner.Entries.{entryWhole, resultMarked}
 use Rattle.translation.specs.Inner.Pairs.{tagIs}
-use Rattle.translation.proofs.Marked.{entry-kind, entries-on}
+use Rattle.translation.proofs.Whole.{entry-kind, entries-on}
 use Rattle.translation.proofs.Classes.{result-is, tags-on}
 use Rattle.translation.proofs.clash.results_marked.Statement.{statement}
 use Rattle.translation.proofs.clash.results_marked.Tie as tie

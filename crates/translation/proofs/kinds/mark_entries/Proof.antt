@@ -9,7 +9,8 @@ use Rattle.fields.specs.Inner.Places.{placesFrom, places}
 use Rattle.fields.proofs.Places.{every-here}
 use Rattle.language.specs.Inner.Entries.{entryWhole}
 use Rattle.translation.specs.Inner.Tests.{markEntries}
-use Rattle.translation.proofs.Marked.{entries-marked, entries-mark, entry-kind, entries-on}
+use Rattle.translation.proofs.Marked.{entries-marked, entries-mark}
+use Rattle.translation.proofs.Whole.{entry-kind, entries-on}
 use Rattle.translation.proofs.kinds.mark_entries.Statement.{statement}
 use Rattle.translation.proofs.kinds.mark_entries.Tie as tie
 use Rattle.translation.proofs.kinds.mark_entries.Reads as reads

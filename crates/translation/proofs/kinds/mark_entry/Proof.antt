@@ -1,5 +1,6 @@
 use native.Mathlib.Omega.{arith}
-use Rattle.translation.proofs.Marked.{entry-class, entry-production, entry-kind, entry-other, arguments-in}
+use Rattle.translation.proofs.Marked.{entry-class, entry-production}
+use Rattle.translation.proofs.Whole.{entry-kind, entry-other, arguments-in}
 use borrow.Author.Needs.{needs}
 use Rattle.translation.proofs.kinds.mark_entry.Statement.{statement}
 use Rattle.translation.proofs.kinds.mark_entry.Tie as tie

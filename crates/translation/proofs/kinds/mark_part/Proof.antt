@@ -6,7 +6,7 @@ use lib.ListN.{length}
 use lib.Seq.{slice}
 use Rattle.reader.specs.Inner.Positions.{KindsIn}
 use Rattle.translation.specs.Inner.Tests.{markAll}
-use Rattle.translation.proofs.Coded.{kinds-here, kinds-on}
+use Rattle.translation.proofs.Whole.{kinds-here, kinds-on}
 use Rattle.translation.proofs.Marked.{part-marked, part-mark}
 use Rattle.translation.proofs.kinds.mark_part.Statement.{statement}
 use Rattle.translation.proofs.kinds.mark_part.Tie as tie

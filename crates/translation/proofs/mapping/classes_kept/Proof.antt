@@ -10,7 +10,7 @@ use Rattle.fields.specs.Inner.Places.{placesFrom, places}
 use Rattle.fields.proofs.Places.{every-here, every-done, every-stop, every-next}
 use Rattle.language.specs.Inner.Entries.{entryWhole}
 use Rattle.translation.specs.Inner.Tests.{keptAt}
-use Rattle.translation.proofs.Marked.{entry-kind, entries-on}
+use Rattle.translation.proofs.Whole.{entry-kind, entries-on}
 use Rattle.translation.proofs.mapping.classes_kept.Statement.{statement}
 use Rattle.translation.proofs.mapping.classes_kept.Tie as tie
 use Rattle.translation.proofs.mapping.classes_kept.Reads as reads

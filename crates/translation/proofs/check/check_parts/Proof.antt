@@ -2,12 +2,12 @@ use mathlib.Core.Path.{sym, _∙_}
 use borrow.Author.Tests.{not-true, not-false}
 use Rattle.translation.proofs.Chain.{order-refused, clash-refused, formed-next}
 use borrow.Author.Needs.{needs}
-use Rattle.translation.proofs.check.check_pieces.Statement.{statement}
-use Rattle.translation.proofs.check.check_pieces.Tie as tie
-use Rattle.translation.proofs.check.check_pieces.Reads as reads
-use Rattle.translation.proofs.check.check_pieces.Lts as lts
+use Rattle.translation.proofs.check.check_parts.Statement.{statement}
+use Rattle.translation.proofs.check.check_parts.Tie as tie
+use Rattle.translation.proofs.check.check_parts.Reads as reads
+use Rattle.translation.proofs.check.check_parts.Lts as lts
 use Rattle.fields.proofs.outcome.refuse.Reads as refuse-reads
-use Rattle.translation.proofs.check.check_formed.Reads as check-formed-reads
+use Rattle.translation.proofs.check.check_well_formed.Reads as check-well-formed-reads
 use Rattle.translation.proofs.order.in_order.Reads as in-order-reads
 use Rattle.translation.proofs.order.languages_clash.Reads as languages-clash-reads
 
@@ -23,14 +23,14 @@ languages-clash-requires c κs = (c .before .before .before .before .before .pre
 returns-2 : tie.Need-returns-2
 returns-2 c = λ f w. clash-refused f _ (c .before .before .before .before .in-order .ensures f w) (not-false _ (c .before .before .before .if1 .left)) _ (c .before .before .languages-clash .ensures f w) (c .before .if2 .taken) (c .refuse2 .ensures)
 
-check-formed-requires : tie.Need-check-formed-requires
-check-formed-requires c κs = c .before .before .before .before .before .before .before .pre
+check-well-formed-requires : tie.Need-check-well-formed-requires
+check-well-formed-requires c κs = (c .before .before .before .before .before .before .before .pre .0, c .before .before .before .before .before .before .before .pre .1, sym (c .before .before .before .in-order .ensures _ (c .before .before .before .before .before .before .before .pre .1)) ∙ not-false _ (c .before .before .if1 .left))
 
 returns-3 : tie.Need-returns-3
-returns-3 c = λ f w. formed-next f _ (c .before .before .before .before .in-order .ensures f w) (not-false _ (c .before .before .before .if1 .left)) _ (c .before .before .languages-clash .ensures f w) (c .before .if2 .left) (c .check-formed .ensures f w)
+returns-3 c = λ f w. formed-next f _ (c .before .before .before .before .in-order .ensures f w) (not-false _ (c .before .before .before .if1 .left)) _ (c .before .before .languages-clash .ensures f w) (c .before .if2 .left) (c .check-well-formed .ensures f w (sym (c .before .before .before .before .in-order .ensures f w) ∙ not-false _ (c .before .before .before .if1 .left)))
 
-pub check-pieces-spec : {M : Type 1} → statement M
-check-pieces-spec =
+pub check-parts-spec : {M : Type 1} → statement M
+check-parts-spec =
     tie.close
     (tie.spec
     in-order-requires
@@ -39,5 +39,5 @@ check-pieces-spec =
     languages-clash-requires
     (λ c κs. search needs)
     returns-2
-    check-formed-requires
+    check-well-formed-requires
     returns-3)

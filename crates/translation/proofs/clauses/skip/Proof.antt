@@ -1,16 +1,16 @@
 use borrow.Author.Needs.{needs}
 use Prim.Native.Nat.{_-_}
 use lib.ListN.{length}
-use Rattle.translation.specs.Inner.Pairs.{Skipped}
-use Rattle.translation.proofs.Beside.{skip-start, skip-next}
-use Rattle.translation.proofs.pairs.skip.Statement.{statement}
-use Rattle.translation.proofs.pairs.skip.Tie as tie
-use Rattle.translation.proofs.pairs.skip.Reads as reads
-use Rattle.translation.proofs.pairs.skip.Lts as lts
+use native.Mathlib.Omega.{arith}
+use Rattle.translation.proofs.Matching.{Passed, skip-start, skip-next, skip-stop}
+use Rattle.translation.proofs.clauses.skip.Statement.{statement}
+use Rattle.translation.proofs.clauses.skip.Tie as tie
+use Rattle.translation.proofs.clauses.skip.Reads as reads
+use Rattle.translation.proofs.clauses.skip.Lts as lts
 use Rattle.fields.proofs.walk.field_end.Reads as field-end-reads
 
 abbrev Inv-loop : tie.InvT-loop
-Inv-loop s tag p₀ p = Skipped tag s p
+Inv-loop s tag p₀ p = Passed tag s p
 
 abbrev μ-loop : tie.MeasureT-loop
 μ-loop s tag p₀ p = length s - p
@@ -19,13 +19,13 @@ loop-holds : tie.Need-loop-holds Inv-loop μ-loop
 loop-holds c = skip-start _ _
 
 returns : tie.Need-returns Inv-loop μ-loop
-returns c = c .before .before .before .loop .inv
+returns c = skip-stop _ _ _ (c .before .before .before .loop .inv) (λ h. c .if1 .taken)
 
 loop-again : tie.Need-loop-again Inv-loop μ-loop
 loop-again c = skip-next _ _ _ (c .before .before .before .before .loop .inv) (c .before .before .before .loop-test .taken) (c .before .if1 .left) _ (c .field-end .ensures .is)
 
 returns-2 : tie.Need-returns-2 Inv-loop μ-loop
-returns-2 c = c .before .loop .inv
+returns-2 c = skip-stop _ _ _ (c .before .loop .inv) (λ h t. omega (arith, h, c .loop-test .left))
 
 pub skip-spec : {M : Type 1} → statement M
 skip-spec =

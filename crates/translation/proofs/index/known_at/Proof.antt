@@ -1,9 +1,9 @@
-use Rattle.translation.proofs.Known.{known-first, known-in, known-out}
+use Rattle.translation.proofs.IndexedItems.{known-first, known-in, known-out}
 use borrow.Author.Needs.{needs}
-use Rattle.translation.proofs.clauses.known_at.Statement.{statement}
-use Rattle.translation.proofs.clauses.known_at.Tie as tie
-use Rattle.translation.proofs.clauses.known_at.Reads as reads
-use Rattle.translation.proofs.clauses.known_at.Lts as lts
+use Rattle.translation.proofs.index.known_at.Statement.{statement}
+use Rattle.translation.proofs.index.known_at.Tie as tie
+use Rattle.translation.proofs.index.known_at.Reads as reads
+use Rattle.translation.proofs.index.known_at.Lts as lts
 use Rattle.fields.proofs.bytes.byte_at.Reads as byte-at-reads
 use Rattle.fields.proofs.walk.key_at.Reads as key-at-reads
 

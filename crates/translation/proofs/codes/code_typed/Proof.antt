@@ -1,13 +1,13 @@
 use native.Mathlib.Omega.{arith}
 use mathlib.Core.Path.{refl}
-use Rattle.translation.proofs.Coded.{front-long, code-cut, result-kind}
-use Rattle.translation.proofs.Marked.{arguments-in}
-use Rattle.translation.proofs.Beside.{code-fits-beside}
+use Rattle.translation.proofs.Coded.{front-long}
+use Rattle.translation.proofs.Whole.{code-cut, result-kind, arguments-in}
+use Rattle.translation.proofs.Matching.{code-fits}
 use borrow.Author.Needs.{needs}
-use Rattle.translation.proofs.pairs.code_beside.Statement.{statement}
-use Rattle.translation.proofs.pairs.code_beside.Tie as tie
-use Rattle.translation.proofs.pairs.code_beside.Reads as reads
-use Rattle.translation.proofs.pairs.code_beside.Lts as lts
+use Rattle.translation.proofs.codes.code_typed.Statement.{statement}
+use Rattle.translation.proofs.codes.code_typed.Tie as tie
+use Rattle.translation.proofs.codes.code_typed.Reads as reads
+use Rattle.translation.proofs.codes.code_typed.Lts as lts
 use Rattle.translation.proofs.codes.code_reads.Reads as code-reads-reads
 use Rattle.translation.proofs.codes.map_part.Reads as map-part-reads
 use Rattle.translation.proofs.index.target_kind.Reads as target-kind-reads
@@ -41,10 +41,10 @@ code-reads-requires : tie.Need-code-reads-requires
 code-reads-requires c κs = let k = code-cut _ _ _ (c .before .before .before .before .before .before .before .before .before .before .before .before .pre .1 .1 .clause) (c .before .before .before .before .before .before .before .before .before .before .before .before .pre .0) in (k .0, k .1, c .before .target-kind .ensures .1, c .before .before .before .before .before .before .before .before .before .before .before .before .pre .1 .1 .ready .target .sound)
 
 returns : tie.Need-returns
-returns c = λ f z. code-fits-beside (c .before .before .before .before .before .before .before .before .before .before .before .before .before .args .source .now) (c .before .before .before .before .before .before .before .before .before .before .before .before .before .args .target .now) (c .before .before .before .before .before .before .before .before .before .before .before .before .before .args .targets .now) (c .before .before .before .before .before .before .before .before .before .before .before .before .before .args .body .now) (c .before .before .before .before .before .before .before .before .before .before .before .before .before .args .mapped .now) f _ _ z _ _ (c .before .before .before .before .before .before .before .whole-end .ensures .is) (c .before .before .before .before .before .before .before .before .before .before .before .before .before .pre .0) _ (c .before .before .before .before .before .map-part .ensures .0) _ (c .before .before .target-kind .ensures .0) _ (c .code-reads .ensures (f .target) (z .ready .target))
+returns c = λ f z. code-fits (c .before .before .before .before .before .before .before .before .before .before .before .before .before .args .source .now) (c .before .before .before .before .before .before .before .before .before .before .before .before .before .args .target .now) (c .before .before .before .before .before .before .before .before .before .before .before .before .before .args .targets .now) (c .before .before .before .before .before .before .before .before .before .before .before .before .before .args .body .now) (c .before .before .before .before .before .before .before .before .before .before .before .before .before .args .mapped .now) f _ _ z _ _ (c .before .before .before .before .before .before .before .whole-end .ensures .is) (c .before .before .before .before .before .before .before .before .before .before .before .before .before .pre .0) _ (c .before .before .before .before .before .map-part .ensures .0) _ (c .before .before .target-kind .ensures .0) _ (c .code-reads .ensures (f .target) (z .ready .target))
 
-pub code-beside-spec : {M : Type 1} → statement M
-code-beside-spec =
+pub code-typed-spec : {M : Type 1} → statement M
+code-typed-spec =
     tie.close
     (tie.spec
     whole-end-requires
