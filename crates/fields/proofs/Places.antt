@@ -1,15 +1,15 @@
 -- The walk by places, a turn at a time, and the passes of the code that go by it.
 use Prim.Native.Nat.{ℕ, zero, suc, _+_, _-_, _<_, _≤_}
 use mathlib.Core.Path.{_≡_, refl, sym, ap, _∙_}
-use mathlib.Core.Bool.{Bool, true, false}
+use mathlib.Core.Bool.{Bool, true, false, _&&_}
 use mathlib.Core.List.{List, [], _∷_}
 use native.Mathlib.Omega.{arith}
-use lib.ListN.{length}
+use lib.ListN.{length, getD}
 use lib.Dec.{leb}
 use borrow.Author.Tests.{le-leb, lt-leb, leb-true, leb-false, ltb-true}
 use Rattle.fields.specs.Lists.{all, any}
 use Rattle.fields.specs.Fields.{pairAt}
-use Rattle.fields.specs.Inner.Places.{fieldEnd, isWhole, WholeEnd, EndIfWhole, longAt, placesIn, placesFrom}
+use Rattle.fields.specs.Inner.Places.{fieldEnd, isWhole, WholeEnd, EndIfWhole, longAt, placesIn, placesFrom, tagsOrdered}
 use Rattle.fields.proofs.Truth.{by-test}
 use Rattle.fields.proofs.Lists.{all-stop, all-next, all-true, any-stop, any-next}
 
@@ -93,6 +93,27 @@ module _ (f : ℕ → Bool) (s : List ℕ) (p : ℕ) (x : Bool) where
 
       pub some-next : b ≡ false → any f (placesFrom s end) ≡ x
       some-next h = any-next f p _ (pass-next (any f) s p x inv end here ee) (sym eb ∙ h)
+
+-- A pass that asks whether every place passes the test, and whether the tags are in order.
+module _ (test : ℕ → Bool) (s : List ℕ) (last p : ℕ) (x : Bool) (inv : tagsOrdered test s last (placesFrom s p) ≡ x) where
+  pub ordered-done : length s ≤ p → true ≡ x
+  unfolding tagsOrdered
+  ordered-done h = pass-done (tagsOrdered test s last) s p x inv h
+
+  module _ (b : Bool) (eb : b ≡ test p) (end : ℕ) (ee : end ≡ fieldEnd s p) (here : p < length s) where
+    turn : ((b && leb last (getD s p 0)) && tagsOrdered test s (getD s p 0) (placesFrom s end)) ≡ x
+    unfolding tagsOrdered
+    turn = rw eb (pass-next (tagsOrdered test s last) s p x inv end here ee)
+
+    pub ordered-stop : b ≡ false → false ≡ x
+    ordered-stop h = rw h at turn
+
+    module _ (good : b ≡ true) (tag : ℕ) (et : tag ≡ getD s p 0) where
+      pub ordered-falls : tag < last → false ≡ x
+      ordered-falls h = rw (good, ← et, lt-leb last tag h) at turn
+
+      pub ordered-next : last ≤ tag → tagsOrdered test s tag (placesFrom s end) ≡ x
+      ordered-next h = rw (good, ← et, le-leb last tag h) at turn
 
 -- Where every place from p on passes, the one at p does, and every further one.
 pub every-here : (f : ℕ → Bool) (s : List ℕ) (p : ℕ) → all f (placesFrom s p) ≡ true → p < length s

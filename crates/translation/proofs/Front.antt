@@ -12,7 +12,7 @@ use lib.Dec.{leb}
 use borrow.Author.Tests.{le-leb, eq-eqb, ne-eqb, leb-true, eqb-true}
 use Rattle.fields.specs.Fields.{pairAt}
 use Rattle.fields.specs.Lists.{all}
-use Rattle.fields.specs.Inner.Places.{fieldEnd, placesFrom, keyAt}
+use Rattle.fields.specs.Inner.Places.{fieldEnd, placesFrom, keyAt, tagIs, tagsOrdered}
 use Rattle.fields.proofs.Truth.{and-both, both-and}
 use Rattle.fields.proofs.Lists.{all-true}
 use Rattle.fields.proofs.Places.{places-next}
@@ -21,7 +21,6 @@ use Rattle.translation.specs.Translation.{Body}
 use Rattle.translation.specs.TranslationFile.{bodyOf}
 use Rattle.translation.specs.Inner.Items.{itemWhole, itemsWhole, IsMapping}
 use Rattle.translation.specs.Inner.Tests.{reachesAt}
-use Rattle.translation.specs.Inner.Pairs.{tagIs}
 use Rattle.translation.proofs.Items.{item-facts, body-there}
 use Rattle.translation.proofs.IndexedItems.{mapping-key}
 
@@ -34,7 +33,7 @@ front-start s b e = body-there s ∙ rw e
 
 items-cons : (s : List ℕ) (last p : ℕ) (l : List ℕ) → itemsWhole s last (p ∷ l) ≡ true
     → (itemWhole s p ≡ true) × (last ≤ getD s p 0) × (itemsWhole s (getD s p 0) l ≡ true)
-unfolding itemsWhole
+unfolding tagsOrdered
 items-cons s last p l h =
     let u = and-both (itemWhole s p && leb last (getD s p 0)) (itemsWhole s (getD s p 0) l) h in
     let v = and-both (itemWhole s p) (leb last (getD s p 0)) (u .0) in
@@ -51,7 +50,7 @@ only-clauses s last (p ∷ l) h w =
 
 whole-cons : (s : List ℕ) (last p : ℕ) (l : List ℕ) → itemWhole s p ≡ true → last ≤ getD s p 0 → itemsWhole s (getD s p 0) l ≡ true
     → itemsWhole s last (p ∷ l) ≡ true
-unfolding itemsWhole
+unfolding tagsOrdered
 whole-cons s last p l a b c = both-and _ _ (both-and _ _ a (le-leb last (getD s p 0) b)) c
 
 reached : (s : List ℕ) (kinds : List Bool) (l : List ℕ) → all (tagIs 0x23 s) l ≡ true → all (reachesAt s kinds) l ≡ true

@@ -15,4 +15,3 @@ pub mod Coded
 pub mod Chain
 pub mod Matching
 pub mod Front
-pub mod Classes

@@ -13,7 +13,7 @@ use borrow.Author.Tests.{eq-eqb, ne-eqb, leb-true, leb-false, eqb-true, eqb-fals
 use Rattle.fields.specs.Lists.{all, isSome, sameNumbers}
 use Rattle.fields.specs.Fields.{pairAt}
 use Rattle.fields.specs.Keyed.{rising}
-use Rattle.fields.specs.Inner.Places.{fieldEnd, placesFrom, places, keyAt}
+use Rattle.fields.specs.Inner.Places.{fieldEnd, placesFrom, places, keyAt, tagIs}
 use Rattle.fields.proofs.Truth.{Mem, by-test, false-true, both-and, same-truth, all-mem, mem-all, mem-append, append-cases, mem-map, map-cases, numbers-equal, equal-numbers, some-is, is-some}
 use Rattle.fields.proofs.Lists.{all-true}
 use Rattle.fields.proofs.Keyed.{From, from-weaken, from-mem, is-rising, rising-ext}
@@ -31,7 +31,6 @@ use Rattle.translation.specs.Running.{mappedArguments, wholeCode}
 use Rattle.translation.specs.WellFormed.{hasClause, hasProduction, clausesFit, codeFits, codesFit}
 use Rattle.translation.specs.Inner.Items.{itemWhole, itemAt, IsClause}
 use Rattle.translation.specs.Inner.ItemIndex.{mappedAt, Ready}
-use Rattle.translation.specs.Inner.Pairs.{tagIs}
 use Rattle.translation.specs.Inner.Matching.{Skipped, keysMatch, Divided, Corresponding}
 use Rattle.translation.proofs.Codec.{rises-parts}
 use Rattle.translation.proofs.Fitting.{clause-tests}

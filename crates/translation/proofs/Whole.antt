@@ -8,10 +8,10 @@ use native.Mathlib.Omega.{arith}
 use lib.ListN.{length, getD}
 use lib.Seq.{slice}
 use lib.Dec.{eqb}
-use borrow.Author.Tests.{eq-eqb, eqb-true, eqb-false, ltb-true}
+use borrow.Author.Tests.{lt-ltb, eq-eqb, eqb-true, eqb-false, ltb-true}
 use Rattle.fields.specs.Lists.{all}
-use Rattle.fields.specs.Inner.Places.{fieldEnd, placesFrom, keyAt}
-use Rattle.fields.proofs.Truth.{by-test}
+use Rattle.fields.specs.Inner.Places.{fieldEnd, longAt, placesFrom, places, keyAt}
+use Rattle.fields.proofs.Truth.{by-test, all-mem, mem-all}
 use Rattle.fields.proofs.Lists.{all-true, part-next}
 use Rattle.fields.proofs.Places.{every-here}
 use Rattle.language.specs.LanguageFile.{isKind}
@@ -102,3 +102,8 @@ pub clause-here : (b : List ℕ) (p : ℕ) → itemWhole b p ≡ true → 32 ≤
 unfolding keyAt
 clause-here b p w h =
     ⊎-elim (λ c. let k = c .source in let e : keyAt 0x22 b p ≡ getD b (p + 3) 0 = cc (eq-eqb _ _ (c .tag)) in absurd (omega arith)) (λ c. c) (item-facts b p w)
+
+-- Whole items have their first five bytes.
+pub items-long : (s : List ℕ) → all (itemWhole s) (places s) ≡ true → all (longAt s) (places s) ≡ true
+unfolding longAt
+items-long s h = mem-all _ (places s) (λ p m. lt-ltb _ _ (item-long s p (all-mem (itemWhole s) (places s) h p m)))

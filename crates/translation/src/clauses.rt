@@ -7,9 +7,9 @@ ghost use Rattle.fields.specs.Lists.{all};
 ghost use Rattle.language.specs.Inner.Entries.{entryWhole};
 ghost use Rattle.translation.specs.Inner.Items.{itemWhole};
 ghost use Rattle.translation.specs.Inner.Matching.{Skipped, keysMatch};
-use super::walk::whole_end;
-use super::walk::whole_key;
 use fields::walk::field_end;
+use fields::walk::whole_end;
+use fields::walk::whole_key;
 
 // The place of the first field that is not of the tag.
 pub fn skip(s: &[u8], tag: u8) -> usize

@@ -18,7 +18,7 @@ ghost use Rattle.translation.specs.Inner.ItemIndex.{SoundKinds, mappedAt
 ghost use Rattle.translation.specs.Inner.Matching.{Corresponding, Matched};
 ghost use Rattle.translation.specs.Inner.Tests.{endsAt};
 use super::index::target_kind;
-use super::walk::whole_end;
+use fields::walk::whole_end;
 use reader::node::Read;
 use reader::node::Syntax;
 use reader::read::read;

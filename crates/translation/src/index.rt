@@ -7,10 +7,10 @@ ghost use Rattle.reader.specs.Inner.Index.{putAt};
 ghost use Rattle.translation.specs.Translation.{Body};
 ghost use Rattle.translation.specs.TranslationFile.{bodyOf};
 ghost use Rattle.translation.specs.Inner.ItemIndex.{SoundKinds, SoundItems, IndexedItems, IndexedKinds, mappedAt, knownAt};
-use super::walk::whole_end;
 use fields::bytes::byte_at;
 use fields::bytes::wide;
 use fields::walk::key_at;
+use fields::walk::whole_end;
 use reader::index::put_all;
 use reader::node::place_at;
 

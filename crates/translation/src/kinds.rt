@@ -9,8 +9,8 @@ ghost use Rattle.fields.specs.Inner.Places.{places, fieldEnd};
 ghost use Rattle.language.specs.Inner.Entries.{entryWhole};
 ghost use Rattle.reader.specs.Inner.Positions.{KindsIn};
 ghost use Rattle.translation.specs.Inner.Tests.{markAll, mentionedAt, markEntries};
-use super::walk::whole_end;
 use fields::bytes::wide;
+use fields::walk::whole_end;
 
 // Marks a kind in the table.
 fn mark(kinds: &mut [bool], kind: u8)

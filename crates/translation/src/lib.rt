@@ -1,7 +1,6 @@
 // Translations: their parts in bytes, and the check of a translation.
 pub mod body;
 pub mod check;
-pub mod clash;
 pub mod clauses;
 pub mod codes;
 pub mod index;
@@ -9,4 +8,3 @@ pub mod kinds;
 pub mod mapping;
 pub mod order;
 pub mod parts;
-pub mod walk;

@@ -15,10 +15,10 @@ ghost use Rattle.translation.specs.Inner.ItemIndex.{SoundKinds, Ready};
 ghost use Rattle.translation.specs.Inner.Tests.{mappedIf, reachesAt, sameRange, keptAt};
 use super::index::target_kind;
 use super::kinds::mark_entries;
-use super::walk::whole_end;
 use fields::bytes::byte_at;
 use fields::bytes::pair_at;
 use fields::bytes::wide;
+use fields::walk::whole_end;
 use reader::node::place_at;
 
 // A kind is mapped if it is marked, and only then.

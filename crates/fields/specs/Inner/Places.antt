@@ -62,6 +62,11 @@ placesFrom s p = placesIn (suc (length s)) s p
 abbrev pub places : List ℕ → List ℕ
 places s = placesFrom s 0
 
+-- The fields at places pass the test, and no tag is below the one before it.
+unfoldable pub tagsOrdered : (ℕ → Bool) → List ℕ → ℕ → List ℕ → Bool
+tagsOrdered test s last [] = true
+tagsOrdered test s last (p ∷ l) = (test p && leb last (byteAt s p)) && tagsOrdered test s (byteAt s p) l
+
 -- The key of the entry at p: the kind in a field of the leading tag, and the kind and the name in any other.
 unfoldable pub keyAt : ℕ → List ℕ → ℕ → ℕ
 keyAt leading s p = cond (eqb (byteAt s p) leading) (byteAt s (p + 3)) (32 + pairAt s (p + 3))

@@ -9,13 +9,12 @@ use lib.ListN.{length}
 use lib.Seq.{slice}
 use Rattle.fields.specs.Lists.{all, sameNumbers}
 use Rattle.fields.specs.Fields.{byteAt}
-use Rattle.fields.specs.Inner.Places.{fieldEnd, placesFrom, places, keyAt}
+use Rattle.fields.specs.Inner.Places.{fieldEnd, placesFrom, places, keyAt, tagIs}
 use Rattle.language.specs.Language.{argumentsOf}
 use Rattle.language.specs.Inner.Entries.{IsProduction}
 use Rattle.translation.specs.Translation.{Translation}
 use Rattle.translation.specs.Inner.Items.{IsClause}
 use Rattle.translation.specs.Inner.ItemIndex.{Ready}
-use Rattle.translation.specs.Inner.Pairs.{tagIs}
 
 -- Before p there are only fields of the tag, and the one at p is of another.
 pub record Skipped (tag : ℕ) (s : List ℕ) (p : ℕ) : Type 0 where

@@ -16,8 +16,8 @@ use Rattle.translation.proofs.clauses.clauses_match.Statement.{statemen
 use Rattle.translation.proofs.clauses.clauses_match.Tie as tie
 use Rattle.translation.proofs.clauses.clauses_match.Reads as reads
 use Rattle.translation.proofs.clauses.clauses_match.Lts as lts
-use Rattle.translation.proofs.walk.whole_end.Reads as whole-end-reads
-use Rattle.translation.proofs.walk.whole_key.Reads as whole-key-reads
+use Rattle.fields.proofs.walk.whole_end.Reads as whole-end-reads
+use Rattle.fields.proofs.walk.whole_key.Reads as whole-key-reads
 
 abbrev Inv-loop : tie.InvT-loop
 Inv-loop source q body p from₀ to₀ from to = (all (entryWhole source) (placesFrom source from) ≡ true) × (all (itemWhole body) (placesFrom body to) ≡ true) × (keysMatch source from body to ≡ keysMatch source q body p)

@@ -11,7 +11,7 @@ use Rattle.translation.proofs.codes.code_typed.Lts as lts
 use Rattle.translation.proofs.codes.code_reads.Reads as code-reads-reads
 use Rattle.translation.proofs.codes.map_part.Reads as map-part-reads
 use Rattle.translation.proofs.index.target_kind.Reads as target-kind-reads
-use Rattle.translation.proofs.walk.whole_end.Reads as whole-end-reads
+use Rattle.fields.proofs.walk.whole_end.Reads as whole-end-reads
 
 whole-end-requires : tie.Need-whole-end-requires
 whole-end-requires c κs = let k = arguments-in _ _ _ (c .before .before .before .before .before .pre .1 .1 .production) refl in omega (arith, k .2, k .3)

@@ -18,7 +18,7 @@ use Rattle.translation.proofs.codes.codes_typed.Tie as tie
 use Rattle.translation.proofs.codes.codes_typed.Reads as reads
 use Rattle.translation.proofs.codes.codes_typed.Lts as lts
 use Rattle.translation.proofs.codes.code_typed.Reads as code-typed-reads
-use Rattle.translation.proofs.walk.whole_end.Reads as whole-end-reads
+use Rattle.fields.proofs.walk.whole_end.Reads as whole-end-reads
 
 abbrev Inv-loop : tie.InvT-loop
 Inv-loop source q target targets body p mapped from₀ to₀ from to = Walk source body q p from to × ((f : Translation) → Matched source target targets body mapped f q p → all (λ x. codeFits f (itemAt body x)) (placesFrom body to) ≡ codesFit f)

@@ -16,7 +16,7 @@ use Rattle.translation.proofs.kinds.mark_entries.Tie as tie
 use Rattle.translation.proofs.kinds.mark_entries.Reads as reads
 use Rattle.translation.proofs.kinds.mark_entries.Lts as lts
 use Rattle.translation.proofs.kinds.mark_entry.Reads as mark-entry-reads
-use Rattle.translation.proofs.walk.whole_end.Reads as whole-end-reads
+use Rattle.fields.proofs.walk.whole_end.Reads as whole-end-reads
 
 abbrev Inv-loop : tie.InvT-loop
 Inv-loop s kinds₀ p₀ kinds p = (length kinds ≡ length kinds₀) × (all (entryWhole s) (placesFrom s p) ≡ true) × (markEntries s kinds (placesFrom s p) ≡ markEntries s kinds₀ (places s))

@@ -16,7 +16,7 @@ use Rattle.translation.proofs.mapping.classes_kept.Tie as tie
 use Rattle.translation.proofs.mapping.classes_kept.Reads as reads
 use Rattle.translation.proofs.mapping.classes_kept.Lts as lts
 use Rattle.translation.proofs.mapping.kept_at.Reads as kept-at-reads
-use Rattle.translation.proofs.walk.whole_end.Reads as whole-end-reads
+use Rattle.fields.proofs.walk.whole_end.Reads as whole-end-reads
 
 abbrev Inv-loop : tie.InvT-loop
 Inv-loop source target targets body items p₀ p = (all (entryWhole source) (placesFrom source p) ≡ true) × (all (keptAt source target targets body items) (placesFrom source p) ≡ all (keptAt source target targets body items) (places source))

@@ -14,7 +14,7 @@ use Rattle.translation.proofs.mapping.targets_marked.Tie as tie
 use Rattle.translation.proofs.mapping.targets_marked.Reads as reads
 use Rattle.translation.proofs.mapping.targets_marked.Lts as lts
 use Rattle.translation.proofs.mapping.reaches_at.Reads as reaches-at-reads
-use Rattle.translation.proofs.walk.whole_end.Reads as whole-end-reads
+use Rattle.fields.proofs.walk.whole_end.Reads as whole-end-reads
 
 abbrev Inv-loop : tie.InvT-loop
 Inv-loop s kinds p₀ p = Front s p × (all (reachesAt s kinds) (placesFrom s p) ≡ all (reachesAt s kinds) (places s))
