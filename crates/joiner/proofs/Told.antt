@@ -14,7 +14,7 @@ use Rattle.language.specs.Language.{Language}
 use Rattle.reader.specs.Code.{Code}
 use Rattle.reader.specs.Syntax as Meant
 use Rattle.reader.specs.declared.node.Syntax.the-variants as Syntaxes
-use Rattle.reader.proofs.Check.{zeros}
+use Rattle.reader.proofs.Lookup.{zeros}
 use Rattle.reader.proofs.Larger.{read-keeps, keeps}
 use Rattle.reader.proofs.Sound.{read-done}
 use Rattle.translation.specs.Translation.{Translation, clause, mapped}

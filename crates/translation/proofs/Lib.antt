@@ -9,9 +9,5 @@ pub mod Found
 pub mod Cuts
 pub mod Rising
 pub mod IndexedItems
-pub mod Marked
-pub mod Mappings
-pub mod Coded
-pub mod Chain
-pub mod Matching
+pub mod Accepted
 pub mod Front

@@ -46,15 +46,7 @@ arguments-in s q e w ee =
     let c = w .fits in
     (rw ee (part-kinds _ s (q + 5) (fieldEnd s q) refl (w .fits) (w .arguments)), omega arith, omega arith, omega arith)
 
--- A whole entry starts with its result or kind.
-pub entry-kind : (s : List ℕ) (p : ℕ) → entryWhole s p ≡ true → (p + 4 < length s) × (getD s (p + 3) 0 < 32)
-unfolding fieldEnd
-entry-kind s p w =
-    ⊎-elim
-    (λ c. let a = c .fits in let b = c .size in (omega arith, c .kind))
-    (λ c. let a = c .fits in let b = c .two in (omega arith, c .kind))
-    (entry-facts s p w)
-
+-- A whole entry that is no class is a production.
 pub entry-other : (s : List ℕ) (p : ℕ) → entryWhole s p ≡ true → (getD s p 0 ≡ 0x11 → ⊥) → IsProduction s p
 entry-other s p w h = ⊎-elim (λ c. absurd (h (c .tag))) (λ c. c) (entry-facts s p w)
 
@@ -92,12 +84,7 @@ module _ (s : List ℕ) (p : ℕ) (whole : all (itemWhole s) (placesFrom s p) �
   pub items-on : all (itemWhole s) (placesFrom s e) ≡ true
   items-on = rw ee (every-here (itemWhole s) s p whole here .1)
 
--- A whole entry, or item, with the key of a production.
-pub production-here : (s : List ℕ) (q : ℕ) → entryWhole s q ≡ true → 32 ≤ keyAt 0x11 s q → IsProduction s q
-unfolding keyAt
-production-here s q w h =
-    ⊎-elim (λ c. let k = c .kind in let e : keyAt 0x11 s q ≡ getD s (q + 3) 0 = cc (eq-eqb _ _ (c .tag)) in absurd (omega arith)) (λ c. c) (entry-facts s q w)
-
+-- A whole item with the key of a clause is one.
 pub clause-here : (b : List ℕ) (p : ℕ) → itemWhole b p ≡ true → 32 ≤ keyAt 0x22 b p → IsClause b p
 unfolding keyAt
 clause-here b p w h =

@@ -14,7 +14,7 @@ ghost use Rattle.translation.specs.WellFormed.{wellFormed};
 ghost use Rattle.operators.specs.Inner.Values.{Gives, translationBytes};
 use super::assemble::assemble;
 use fields::outcome::Outcome;
-use translation::check::check_well_formed;
+use wellformed::check::check_well_formed;
 
 // The translation of these parts: 5 to 7 where it is not well formed, then 11 where it exceeds a limit.
 pub fn make(source: &[u8], target: &[u8], body: &[u8], out: &mut [u8]) -> Outcome

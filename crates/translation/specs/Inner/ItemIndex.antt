@@ -11,10 +11,8 @@ use lib.Dec.{eqb}
 use Rattle.fields.specs.Fields.{byteAt, pairAt}
 use Rattle.fields.specs.Inner.Places.{fieldEnd, keyAt}
 use Rattle.language.specs.Language.{kindKey, productionKey}
-use Rattle.language.specs.LanguageFile.{entriesOf}
-use Rattle.reader.specs.Inner.Index.{Indexed}
-use Rattle.translation.specs.Translation.{Body, Translation, mappingOf, clauseOf}
-use Rattle.translation.specs.TranslationFile.{bodyOf, allRising}
+use Rattle.translation.specs.Translation.{Body, mappingOf, clauseOf}
+use Rattle.translation.specs.TranslationFile.{bodyOf}
 
 -- The target kind in the field before `place`.
 abbrev pub targetBefore : List ℕ → ℕ → Option ℕ
@@ -63,10 +61,3 @@ mappedAt s index k = cond (eqb (getD index k 0) 0) 0 (byteAt s (getD index k 0 +
 -- The entry at p is of the first tag, or its key stands in the index.
 unfoldable pub knownAt : ℕ → List ℕ → List ℕ → ℕ → Bool
 knownAt first s index p = cond (eqb (byteAt s p) first) true (not (eqb (getD index (keyAt first s p) 0) 0))
-
--- The three parts of f, whose keys rise: the target with its index, the body with that of its mappings.
-pub record Ready (s t it b ib : List ℕ) (f : Translation) : Type 0 where
-  pub source : entriesOf s ≡ some (f .source)
-  pub target : Indexed it t (f .target)
-  pub body : IndexedKinds ib b (f .body)
-  pub rises : allRising f ≡ true
