@@ -26,7 +26,7 @@ use Rattle.translation.specs.TranslationFile.{encodeTranslation, translationLim
 use Rattle.translation.specs.Operations.{checkTranslation}
 use Rattle.translation.specs.Inner.ItemIndex.{IndexedItems, mappedAt}
 use Rattle.translation.proofs.Codec.{itemWhole, rising-grouped, body-encode, WholeTranslation, translation-back}
-use Rattle.translation.proofs.Chain.{accepts}
+use Rattle.translation.proofs.Accepted.{accepts}
 use Rattle.translation.proofs.IndexedItems.{mapped-is}
 use Rattle.emitter.specs.Inner.Table.{Ready, Checked}
 use Rattle.operators.specs.Algebra.{joinFits, joined, translationJoin}

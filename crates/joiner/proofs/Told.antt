@@ -14,7 +14,7 @@ use Rattle.language.specs.Language.{Language}
 use Rattle.reader.specs.Code.{Code}
 use Rattle.reader.specs.Syntax as Meant
 use Rattle.reader.specs.declared.node.Syntax.the-variants as Syntaxes
-use Rattle.reader.proofs.Check.{zeros}
+use Rattle.reader.proofs.Lookup.{zeros}
 use Rattle.reader.proofs.Larger.{read-keeps, keeps}
 use Rattle.reader.proofs.Sound.{read-done}
 use Rattle.translation.specs.Translation.{Translation, clause, mapped}
@@ -23,7 +23,7 @@ use Rattle.translation.specs.Inner.Items.{itemAt, IsClause}
 use Rattle.translation.specs.Inner.ItemIndex.{mappedAt}
 use Rattle.translation.proofs.Items.{clause-is, holds-items}
 use Rattle.translation.proofs.IndexedItems.{mapped-is}
-use Rattle.translation.proofs.Coded.{code-cut}
+use Rattle.translation.proofs.Whole.{code-cut}
 use Rattle.translation.proofs.Found.{cut, cut-is}
 use Rattle.translation.proofs.Fitting.{clause-code}
 use Rattle.emitter.specs.Inner.Stands.{Wrote}

@@ -11,12 +11,12 @@ use borrow.Author.Tests.{le-leb, leb-true, eqb-true, le-ltb, ltb-false}
 use Rattle.fields.specs.Outcome.{Result, value, refuseIf, _>>=_}
 use Rattle.fields.specs.declared.outcome.Reason.the-variants.{TooLong, Order, Clash}
 use Rattle.fields.specs.Lists.{all, traverse}
-use Rattle.fields.specs.Fields.{Field, field, byteAt, pairAt, twoBytes, fieldsOf, encodeFields}
+use Rattle.fields.specs.Fields.{Field, field, byteAt, pairAt, twoBytes, fieldsOf, encodeFields, decodedIn}
 use Rattle.fields.specs.Keyed.{rising}
 use Rattle.fields.proofs.Truth.{none-some, and-both, both-and}
 use Rattle.fields.proofs.Codec.{Bytes, contentsOf, Codec, cond-some, refused-value, two-tags, front-two, fields-encode, fields-sound, fields-length, entries-encode, entries-whole, entries-length, entries-sound}
 use Rattle.language.specs.Language.{Entry, class, production, Language, entryKey, clashes}
-use Rattle.language.specs.LanguageFile.{isKind, classOf, productionOf, entryOf, entryField, entriesIn, entriesOf, encodeLanguage, languageLimit, whole, languageOf}
+use Rattle.language.specs.LanguageFile.{isKind, classOf, productionOf, entryOf, entryField, entriesOf, encodeLanguage, languageLimit, whole, languageOf}
 
 -- An entry that a file can hold: its kinds are kinds, low is at most high, and there are at most 8 arguments.
 unfoldable pub entryWhole : Entry → Bool
@@ -128,14 +128,14 @@ pub entryCodec : Codec entryOf entryField entryWhole
 entryCodec = record { reads = entry-reads; wholes = entry-wholes; sizes = entry-sizes; gives = entry-gives }
 
 -- The fields that entries are read from.
-entries-in : (o : Option (List Field)) (l : Language) → entriesIn o ≡ some l → (fs : List Field) × (o ≡ some fs) × (traverse entryOf fs ≡ some l)
+entries-in : (o : Option (List Field)) (l : Language) → decodedIn entryOf o ≡ some l → (fs : List Field) × (o ≡ some fs) × (traverse entryOf fs ≡ some l)
 entries-in none l e = none-some e
 entries-in (some fs) l e = (fs, refl, e)
 
 -- Whole entries that are written are read back.
 pub language-encode : (l : Language) → all entryWhole l ≡ true → entriesOf (encodeLanguage l) ≡ some l
 unfolding entriesOf encodeLanguage
-language-encode l h = ap entriesIn (fields-encode (map entryField l)) ∙ entries-encode entryCodec l h
+language-encode l h = ap (decodedIn entryOf) (fields-encode (map entryField l)) ∙ entries-encode entryCodec l h
 
 module _ (s : List ℕ) (l : Language) (e : entriesOf s ≡ some l) where
   -- The fields that the entries are read from.

@@ -5,7 +5,7 @@ use mathlib.Core.Bool.{true, cond}
 use mathlib.Core.List.{List, map}
 use mathlib.Core.Option.{none, some}
 use native.Mathlib.Omega.{arith}
-use lib.ListN.{length, getD, take, drop, length-take, length-drop}
+use lib.ListN.{length, getD, take, drop}
 use lib.Seq.{slice}
 use lib.Dec.{leb, eqb}
 use borrow.Author.Tests.{leb-true, eqb-true}
@@ -14,23 +14,16 @@ use Rattle.fields.specs.Fields.{pairAt}
 use Rattle.fields.specs.Inner.Places.{fieldEnd, isWhole, fieldAt, places}
 use Rattle.fields.proofs.Truth.{by-test}
 use Rattle.fields.proofs.Codec.{cond-some}
-use Rattle.fields.proofs.Lists.{all-and, there-if, part-is, part-past}
-use Rattle.fields.proofs.Split.{byte-in, pair-in, fields-at-places, traverse-at-places}
+use Rattle.fields.proofs.Lists.{there-if}
+use Rattle.fields.proofs.Split.{byte-in, pair-in, contents-length, contents-after, decoded-at-places}
 use Rattle.language.specs.Language.{class, production, Language}
 use Rattle.language.specs.LanguageFile.{classOf, productionOf, entryOf, entriesOf}
 use Rattle.language.specs.Inner.Entries.{sizeAt, classWhole, productionWhole, entryGood, entryWhole, entryAt, Holds}
 
--- The contents of the whole field at p.
+-- The whole field at p, whose contents are n bytes.
 module _ (s : List ℕ) (p n : ℕ) (en : n ≡ sizeAt s p) (fits : p + 3 + n ≤ length s) where
   long : length (take n (drop (p + 3) s)) ≡ n
-  long = simp (length-take, length-drop) (omega arith)
-
-  arguments : drop 2 (take n (drop (p + 3) s)) ≡ slice (p + 5) (fieldEnd s p) s
-  unfolding fieldEnd
-  arguments =
-      let h : p + 3 ≤ length s = omega arith in
-      let d : p + 3 + 2 ≡ p + 5 = omega arith in
-      cc (part-is s (p + 3) n h, part-past s (p + 3) (p + 3 + n) 2)
+  long = contents-length s p n en fits
 
   -- a class
   class-here : classOf (take n (drop (p + 3) s))
@@ -61,7 +54,7 @@ module _ (s : List ℕ) (p n : ℕ) (en : n ≡ sizeAt s p) (fits : p + 3 + n �
         long,
         byte-in s n (p + 3) 0 (p + 3) (omega arith) (omega arith),
         byte-in s n (p + 3) 1 (p + 4) (omega arith) (omega arith),
-        arguments,
+        contents-after s p n en fits,
       ))
       (λ e. cc long)
 
@@ -79,14 +72,7 @@ entry-at s p h = entry-here s p (sizeAt s p) refl (leb-true _ _ h)
 -- The entries of a file are those at its places, and are there if each is whole.
 pub entries-at-places : (s : List ℕ) → entriesOf s ≡ cond (all (entryWhole s) (places s)) (some (map (entryAt s) (places s))) none
 unfolding entriesOf entryWhole
-entries-at-places s =
-    by-test (all (isWhole s) (places s))
-    (λ h. cc (
-      fields-at-places s,
-      traverse-at-places entryOf (entryGood s) (entryAt s) s (entry-at s) (places s) h,
-      all-and (isWhole s) (entryGood s) (places s),
-    ))
-    (λ h. cc (fields-at-places s, all-and (isWhole s) (entryGood s) (places s)))
+entries-at-places s = decoded-at-places entryOf (entryGood s) (entryAt s) s (entry-at s)
 
 -- What `entries_whole` tests.
 pub entries-there : (s : List ℕ) → all (entryWhole s) (places s) ≡ isSome (entriesOf s)

@@ -7,8 +7,8 @@ use lib.ListN.{length, drop}
 use lib.Dec.{ltb, leb, eqb}
 use Rattle.fields.specs.Outcome.{Result, value, refused, refuseIf, _>>=_}
 use Rattle.fields.specs.declared.outcome.Reason.the-variants.{TooLong, Broken, Order, Clash}
-use Rattle.fields.specs.Lists.{all, traverse}
-use Rattle.fields.specs.Fields.{Field, field, byteAt, pairAt, twoBytes, fieldsOf, encodeFields}
+use Rattle.fields.specs.Lists.{all}
+use Rattle.fields.specs.Fields.{Field, field, byteAt, pairAt, twoBytes, fieldsOf, decodedIn, encodeFields}
 use Rattle.fields.specs.Keyed.{rising}
 use Rattle.language.specs.Language.{Entry, class, production, Language, entryKey, clashes}
 
@@ -39,14 +39,9 @@ unfoldable pub entryField : Entry → Field
 entryField (class k low high) = field 0x11 (k ∷ (twoBytes low ++ twoBytes high))
 entryField (production r p arguments) = field 0x12 (r ∷ p ∷ arguments)
 
--- The entries of a list of fields, and of bytes: none where one is broken.
-abbrev pub entriesIn : Option (List Field) → Option Language
-entriesIn none = none
-entriesIn (some fs) = traverse entryOf fs
-
--- The entries of a file.
+-- The entries of a file: none where a field is broken.
 unfoldable pub entriesOf : List ℕ → Option Language
-entriesOf s = entriesIn (fieldsOf s)
+entriesOf s = decodedIn entryOf (fieldsOf s)
 
 -- The bytes of a language.
 unfoldable pub encodeLanguage : Language → List ℕ

@@ -1,11 +1,11 @@
 // One pass over a tree that checks it and measures the result of its run.
 use crate::capped::add_share;
 use crate::table::count_in;
+use fields::bytes::pair_in;
 use fields::bytes::wide;
 use reader::ends::keep_end;
 use reader::node::Read;
 use reader::node::Syntax;
-use reader::node::pair_in;
 use reader::node::place_at;
 use reader::node::production_place;
 use reader::node::token;

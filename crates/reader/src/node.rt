@@ -1,11 +1,11 @@
 // What stands at one position: a leaf, or a production whose operands follow.
+use fields::bytes::pair_in;
 use fields::bytes::wide;
 ghost use mathlib.Core.Path.{_≡_};
 ghost use Prim.Native.Nat.{ℕ, _+_, _<_, _≤_};
 ghost use mathlib.Core.Bool.{cond};
 ghost use lib.Dec.{eqb};
 ghost use lib.ListN.{length, getD};
-ghost use Rattle.fields.specs.Fields.{pairAt};
 ghost use Rattle.reader.specs.Inner.Positions.{nameLength, productionPlace, tokenAt, nameAt, argumentIs, argumentAt, treeNode, codeNode, nodeAt, EndsBy, NodeIn};
 ghost use Rattle.reader.specs.Inner.Index.{Ready};
 
@@ -27,14 +27,6 @@ pub enum Read {
 pub enum Node {
     Leaf(Read),
     Operands(usize, usize, usize),
-}
-
-// The number in the two bytes at i.
-pub fn pair_in(s: &[u8], i: usize) -> usize
-    requires { ⌜ i + 1 < length (now s) ⌝ }
-    ensures { λ r. ⌜ (r ≡ pairAt (now (s .entry)) i) × (r < 65536) ⌝ }
-{
-    wide(s[i]) * 256 + wide(s[i + 1])
 }
 
 // What the index holds at i.

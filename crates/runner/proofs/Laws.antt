@@ -20,7 +20,7 @@ use Rattle.reader.specs.Code.{Code}
 use Rattle.reader.specs.Syntax as Meant
 use Rattle.reader.specs.Operations.{treeOf, wholeTree}
 use Rattle.reader.specs.declared.node.Syntax.the-variants.{Tree}
-use Rattle.reader.proofs.Check.{refused-not}
+use Rattle.translation.proofs.Accepted.{refused-not}
 use Rattle.reader.proofs.RoundTrip.{Apart}
 use Rattle.reader.proofs.Larger.{apart}
 use Rattle.reader.proofs.Sound.{read-done as right-done}

@@ -1,4 +1,5 @@
 // The operation run. It measures the result first and writes it only where it fits.
+use checks::translations::check_translation;
 use fields::outcome::Answer;
 use fields::outcome::Outcome;
 use fields::outcome::Reason;
@@ -9,7 +10,6 @@ use measure::measure::measure;
 use measure::prepare::prepare;
 use reader::kinds::is_in;
 use reader::node::Syntax;
-use translation::check::check_translation;
 use translation::parts::body_of;
 use translation::parts::source_of;
 use translation::parts::target_of;

@@ -82,7 +82,7 @@ mapping-tests f e =
     let s = and-both (all (reachesTarget f) (f .body)) (all (classKept f) (f .source)) (r .1) in
     (r .0, s .0, s .1)
 
-clause-tests : (f : Translation) → clausesFit f ≡ true → (all (hasClause f) (f .source) ≡ true) × (all (hasProduction f) (f .body) ≡ true)
+pub clause-tests : (f : Translation) → clausesFit f ≡ true → (all (hasClause f) (f .source) ≡ true) × (all (hasProduction f) (f .body) ≡ true)
 unfolding clausesFit
 clause-tests f e = and-both (all (hasClause f) (f .source)) (all (hasProduction f) (f .body)) e
 

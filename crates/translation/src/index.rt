@@ -6,9 +6,11 @@ ghost use lib.ListN.{length, getD};
 ghost use Rattle.reader.specs.Inner.Index.{putAt};
 ghost use Rattle.translation.specs.Translation.{Body};
 ghost use Rattle.translation.specs.TranslationFile.{bodyOf};
-ghost use Rattle.translation.specs.Inner.ItemIndex.{SoundKinds, SoundItems, IndexedItems, IndexedKinds, mappedAt};
-use super::walk::whole_end;
+ghost use Rattle.translation.specs.Inner.ItemIndex.{SoundKinds, SoundItems, IndexedItems, IndexedKinds, mappedAt, knownAt};
+use fields::bytes::byte_at;
 use fields::bytes::wide;
+use fields::walk::key_at;
+use fields::walk::whole_end;
 use reader::index::put_all;
 use reader::node::place_at;
 
@@ -76,4 +78,19 @@ pub fn map_kinds(body: &[u8], index: &[u16], mapped: &mut [u8])
         mapped[wide(kind)] = map_kind(body, index, kind);
         kind += 1;
     }
+}
+
+// The entry at p is of the first tag, or its key stands in the index.
+pub fn known_at(s: &[u8], p: usize, first: u8, index: &[u16]) -> bool
+    requires { ⌜ p ≤ length (now s) ⌝ }
+    ensures { λ r. ⌜ r ≡ knownAt first (now (s .entry)) (now (index .entry)) p ⌝ }
+{
+    if byte_at(s, p) == first {
+        return true;
+    }
+    let key = key_at(s, p, first);
+    if index.len() <= key {
+        return false;
+    }
+    index[key] != 0
 }

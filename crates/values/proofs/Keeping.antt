@@ -28,11 +28,10 @@ use Rattle.reader.specs.Inner.Index.{argumentsBefore, Indexed}
 use Rattle.translation.specs.Translation.{Item, mapping, clause, Body, Translation, itemKey}
 use Rattle.translation.specs.TranslationFile.{itemField, bodyOf, encodeTranslation}
 use Rattle.translation.specs.Inner.Items.{itemWhole, itemGood, itemAt, IsClause}
-use Rattle.translation.specs.Inner.Tests.{knownAt}
+use Rattle.translation.specs.Inner.ItemIndex.{knownAt}
 use Rattle.translation.proofs.Codec as Codec
 use Rattle.translation.proofs.Items.{item-facts, clause-is, holds-items}
-use Rattle.translation.proofs.IndexedItems.{clause-key}
-use Rattle.translation.proofs.Known.{there}
+use Rattle.translation.proofs.IndexedItems.{clause-key, there}
 use Rattle.operators.specs.declared.copy.Stored.{Stored}
 use Rattle.operators.specs.declared.copy.Stored.the-variants.{To, Full}
 use Rattle.operators.specs.Algebra.{isOf, languageWithout, translationWithout}

@@ -20,7 +20,7 @@ use Rattle.language.specs.Language.{Language}
 use Rattle.language.specs.LanguageFile.{languageOf}
 use Rattle.language.proofs.Codec.{language-good}
 use Rattle.translation.specs.Translation.{Body, Translation, itemKey}
-use Rattle.translation.specs.TranslationFile.{bodyOf}
+use Rattle.translation.specs.TranslationFile.{bodyOf, allRising}
 use Rattle.translation.specs.WellFormed.{wellFormed}
 use Rattle.translation.specs.Inner.Pieces.{Pieces}
 use Rattle.translation.proofs.Codec.{itemWhole, body-whole, body-sound}
@@ -53,6 +53,10 @@ module _ (s t x : List ℕ) (l m : Language) (b : Body) (es : languageOf s ≡ v
     target-short = language-short t m et;
     body-short = h;
   }
+
+  pub made-rises : rising itemKey b ≡ true → allRising (madeOf l m b) ≡ true
+  unfolding allRising
+  made-rises h = rw (language-good s l es .1 .rises, language-good t m et .1 .rises, h)
 
   module _ (o : Outcome) (eo : o ≡ checked (wellFormed (madeOf l m b))) where
     pub make-refused : (r : Reason) → o ≡ Refused r → (out : List ℕ) → Gives (translationBytes (wellFormed (madeOf l m b))) out out (Refused r)

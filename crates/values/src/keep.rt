@@ -23,7 +23,7 @@ use operators::copy::Stored;
 use operators::copy::put_if;
 use reader::index::build;
 use reader::kinds::is_in;
-use translation::clauses::known_at;
+use translation::index::known_at;
 
 // The item at p is of the language: its kind is in it, or its production.
 fn stays(body: &[u8], p: usize, source: &[u8], index: &[u16]) -> bool

@@ -14,7 +14,7 @@ ghost use Rattle.translation.specs.WellFormed.{wellFormed};
 ghost use Rattle.operators.specs.Inner.Values.{Gives, translationBytes};
 use super::assemble::assemble;
 use fields::outcome::Outcome;
-use translation::check::check_formed;
+use wellformed::check::check_well_formed;
 
 // The translation of these parts: 5 to 7 where it is not well formed, then 11 where it exceeds a limit.
 pub fn make(source: &[u8], target: &[u8], body: &[u8], out: &mut [u8]) -> Outcome
@@ -24,7 +24,7 @@ pub fn make(source: &[u8], target: &[u8], body: &[u8], out: &mut [u8]) -> Outcom
         → bodyOf (now (body .entry)) ≡ some b → rising itemKey b ≡ true
         → Gives (translationBytes (wellFormed (record { source = l; target = m; body = b }))) (now (out .entry)) (now (out .exit)) r) ⌝ }
 {
-    let answer = check_formed(source, target, body);
+    let answer = check_well_formed(source, target, body);
     let outcome = answer.outcome;
     if let Outcome::Refused(reason) = outcome {
         return Outcome::Refused(reason);

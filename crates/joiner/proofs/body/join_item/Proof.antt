@@ -1,4 +1,4 @@
-use Rattle.translation.proofs.Coded.{other-clause}
+use Rattle.translation.proofs.Whole.{other-clause}
 use Rattle.joiner.proofs.Turns.{item-mapping, item-stored}
 use borrow.Author.Needs.{needs}
 use Rattle.joiner.proofs.body.join_item.Statement.{statement}

@@ -8,7 +8,7 @@ use Rattle.fields.specs.Lists.{all, concatMap}
 use Rattle.fields.specs.Inner.Places.{placesFrom}
 use Rattle.translation.specs.Translation.{Translation}
 use Rattle.translation.specs.Inner.Items.{itemWhole}
-use Rattle.translation.proofs.Coded.{item-here, items-on}
+use Rattle.translation.proofs.Whole.{item-here, items-on}
 use Rattle.operators.specs.Inner.Parts.{Written}
 use Rattle.joiner.specs.Inner.Joining.{Joining, Maps, Reached, joinedField}
 use Rattle.joiner.proofs.Turns.{items-whole, items-start, items-done, items-full, items-next, reached-start, reached-next}

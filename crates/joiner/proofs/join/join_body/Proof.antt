@@ -1,7 +1,7 @@
 use mathlib.Core.Path.{refl}
 use native.Mathlib.Omega.{arith}
 use lib.ListN.{replicate}
-use Rattle.reader.proofs.Check.{zeros}
+use Rattle.reader.proofs.Lookup.{zeros}
 use Rattle.emitter.proofs.Tables.{begun}
 use Rattle.joiner.proofs.Joined.{body-items, body-within, source-within, spelt-checked, fitted-joining, fitted-maps}
 use borrow.Author.Needs.{needs}

@@ -4,7 +4,7 @@ use Rattle.joiner.proofs.join.measure.Statement.{statement}
 use Rattle.joiner.proofs.join.measure.Tie as tie
 use Rattle.joiner.proofs.join.measure.Reads as reads
 use Rattle.joiner.proofs.join.measure.Lts as lts
-use Rattle.translation.proofs.check.check_translation.Reads as check-translation-reads
+use Rattle.checks.proofs.translations.check_translation.Reads as check-translation-reads
 
 returns : tie.Need-returns
 returns c = measure-accepted _ _ _ (c .before .before .check-translation .ensures) (c .enum-told .given .1)

@@ -16,7 +16,7 @@ use Rattle.fields.proofs.bytes.wide.Reads as wide-reads
 use Rattle.measure.proofs.capped.add_share.Reads as add-share-reads
 use Rattle.measure.proofs.measure.leaf.Reads as leaf-reads
 use Rattle.measure.proofs.table.count_in.Reads as count-in-reads
-use Rattle.reader.proofs.node.pair_in.Reads as pair-in-reads
+use Rattle.fields.proofs.bytes.pair_in.Reads as pair-in-reads
 use Rattle.reader.proofs.node.place_at.Reads as place-at-reads
 use Rattle.reader.proofs.node.production_place.Reads as production-place-reads
 use Rattle.reader.proofs.node.token.Reads as token-reads

@@ -7,7 +7,7 @@ use Rattle.reader.proofs.node.name.Tie as tie
 use Rattle.reader.proofs.node.name.Reads as reads
 use Rattle.reader.proofs.node.name.Lts as lts
 use Rattle.fields.proofs.bytes.wide.Reads as wide-reads
-use Rattle.reader.proofs.node.pair_in.Reads as pair-in-reads
+use Rattle.fields.proofs.bytes.pair_in.Reads as pair-in-reads
 use Rattle.reader.proofs.node.place_at.Reads as place-at-reads
 
 returns : tie.Need-returns

@@ -1,5 +1,5 @@
 use mathlib.Core.Path.{refl}
-use Rattle.reader.proofs.Check.{zeros}
+use Rattle.reader.proofs.Lookup.{zeros}
 use Rattle.reducer.proofs.places.nothing.Statement.{statement}
 use Rattle.reducer.proofs.places.nothing.Tie as tie
 

@@ -14,7 +14,7 @@ use Rattle.translation.proofs.index.put_mappings.Reads as reads
 use Rattle.translation.proofs.index.put_mappings.Lts as lts
 use Rattle.fields.proofs.bytes.wide.Reads as wide-reads
 use Rattle.translation.proofs.index.put.Reads as put-reads
-use Rattle.translation.proofs.walk.whole_end.Reads as whole-end-reads
+use Rattle.fields.proofs.walk.whole_end.Reads as whole-end-reads
 
 abbrev Inv-loop : tie.InvT-loop
 Inv-loop body index₀ p₀ index p = (length index ≡ 32) × Front body p × (putAll 0x22 body index (placesFrom body p) ≡ putAll 0x22 body index₀ (places body))

@@ -1,5 +1,5 @@
 use mathlib.Core.Path.{refl}
-use Rattle.reader.proofs.Check.{zeros}
+use Rattle.reader.proofs.Lookup.{zeros}
 use Rattle.values.proofs.Given.{stored-room, stored-length}
 use Rattle.values.proofs.Keeping.{left-entries, left-body, left-target, kept-too-long, kept-given}
 use borrow.Author.Needs.{needs}
