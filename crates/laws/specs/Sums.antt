@@ -16,7 +16,7 @@ pub data Sum : Type 0 where
   alone : Term translations → Sum
   plus : Sum → Sum → Sum
 
--- The term that a sum is, and the terms that it is built from.
+-- The term that a sum is.
 unfoldable pub asTerm : Sum → Term translations
 asTerm (alone t) = t
 asTerm (plus a b) = sum (asTerm a) (asTerm b)

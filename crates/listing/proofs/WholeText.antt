@@ -6,16 +6,21 @@ use native.Mathlib.Omega.{arith}
 use lib.ListN.{length, take, drop, length-append}
 use lib.Seq.{take-append-seam, length-take-le}
 use Rattle.io.specs.Counts.{Counts}
-use Rattle.fields.specs.Outcome.{Result, value, refused, reasonNumber, numberOf, written, outputAfter}
+use Rattle.fields.specs.Outcome.{Result, value, refused, _>>=_, reasonNumber, numberOf, written, outputAfter}
 use Rattle.fields.specs.declared.outcome.Reason.{Reason}
 use Rattle.fields.specs.declared.outcome.Reason.the-variants.{TooLong, Broken, Order, Clash, Mapping, Clauses, Code, Term, Lent, Unbound, Limit, SumUnfit, JoinUnfit, Root, Tree, Levels, Output}
 use Rattle.fields.specs.declared.outcome.Outcome.{Outcome}
 use Rattle.fields.specs.declared.outcome.Outcome.the-variants.{Accepted, Refused}
-use Rattle.reducer.specs.Operations.{reduce, reduceBytes}
-use Rattle.listing.specs.Text.{acceptedWord, refusedWord, marked, firstLine, clauseLines, told}
-use Rattle.listing.specs.Listing.{textOf, listing}
+use Rattle.translation.specs.Translation.{Translation}
+use Rattle.translation.specs.TranslationFile.{encodeTranslation}
+use Rattle.reducer.specs.Evaluation.{constantsOf, nothingBound, evaluate}
+use Rattle.reducer.specs.Operations.{Ready, ready, work, reduceBytes, reduce}
+use Rattle.listing.specs.Text.{acceptedWord, refusedWord, marked, firstLine}
+use Rattle.listing.specs.Listing.{reduced, textOf, listing}
+use Rattle.listing.specs.Inner.Walk.{clauseLines, outcomeText}
 use Rattle.listing.specs.Inner.Putting.{Puts}
 use Rattle.listing.proofs.Putting.{puts-then}
+use Rattle.listing.proofs.Walk.{clause-lines}
 
 -- A reason's number is small.
 small : (r : Reason) → reasonNumber r < 18
@@ -53,25 +58,41 @@ clauses-fit n at output line o o′ h k a x t = omega (arith, length-take-le n o
 
 -- `put_outcome`: accepted, and refused
 module _ (outcome : Outcome) (output o : List ℕ) where
-  pub told-accepted : (n : ℕ) → outcome ≡ Accepted n → (o′ o″ : List ℕ) (p q r : ℕ)
-      → Puts (firstLine acceptedWord n) o o′ p q → Puts (clauseLines (take n output)) o′ o″ q r → Puts (told outcome output) o o″ p r
-  told-accepted n e o′ o″ p q r x y = subst (λ (t : Outcome). Puts (told t output) o o″ p r) (sym e) (puts-then _ _ _ _ _ _ _ _ x y)
+  pub text-accepted : (n : ℕ) → outcome ≡ Accepted n → (o′ o″ : List ℕ) (p q r : ℕ)
+      → Puts (firstLine acceptedWord n) o o′ p q → Puts (clauseLines (take n output)) o′ o″ q r → Puts (outcomeText outcome output) o o″ p r
+  text-accepted n e o′ o″ p q r x y = subst (λ (t : Outcome). Puts (outcomeText t output) o o″ p r) (sym e) (puts-then _ _ _ _ _ _ _ _ x y)
 
-  pub told-refused : (reason : Reason) → outcome ≡ Refused reason → (n : ℕ) → n ≡ numberOf outcome → (o′ : List ℕ) (p r : ℕ)
-      → Puts (firstLine refusedWord n) o o′ p r → Puts (told outcome output) o o′ p r
-  told-refused reason e n k o′ p r x =
+  pub text-refused : (reason : Reason) → outcome ≡ Refused reason → (n : ℕ) → n ≡ numberOf outcome → (o′ : List ℕ) (p r : ℕ)
+      → Puts (firstLine refusedWord n) o o′ p r → Puts (outcomeText outcome output) o o′ p r
+  text-refused reason e n k o′ p r x =
       let m : n ≡ reasonNumber reason = k ∙ ap numberOf e in
       let y : Puts (firstLine refusedWord (reasonNumber reason)) o o′ p r = subst (λ (j : ℕ). Puts (firstLine refusedWord j) o o′ p r) m x in
-      subst (λ (t : Outcome). Puts (told t output) o o′ p r) (sym e) y
+      subst (λ (t : Outcome). Puts (outcomeText t output) o o′ p r) (sym e) y
 
--- The length of what is accepted lies within the output, and the text is that of the result.
+-- The length of what is accepted lies within the output.
 within : (output : List ℕ) (n : ℕ) (result : Result (List ℕ)) → written result ≡ Accepted n → n ≤ length (outputAfter output result)
 within output n (value bytes) e = let k : length bytes ≡ n = cc in omega (arith, length-append bytes (drop (length bytes) output))
 within output n (refused r) e = let z : _≡_ {A = ℕ} 0 1 = cc in absurd (omega arith)
 
-same-text : (output : List ℕ) (result : Result (List ℕ)) → told (written result) (outputAfter output result) ≡ textOf result
+-- The bytes of a translation that may be refused.
+abbrev bytesOf : Result Translation → Result (List ℕ)
+bytesOf result = result >>= λ f. value (encodeTranslation f)
+
+-- Reduce writes the bytes of the translation that the pack is reduced to.
+reduced-bytes : (pack : List ℕ) → reduceBytes pack 65536 4096 ≡ bytesOf (reduced pack)
+unfolding reduceBytes work reduced
+reduced-bytes pack = step (ready pack 65536 4096)
+  where
+    step : (r : Result Ready) → (r >>= work) ≡ bytesOf (r >>= λ x. evaluate (constantsOf (x .pack)) nothingBound (x .term))
+    step (value x) = refl
+    step (refused q) = refl
+
+-- The text from the outcome and the output is that of the translation.
+same-text : (output : List ℕ) (result : Result Translation) → outcomeText (written (bytesOf result)) (outputAfter output (bytesOf result)) ≡ textOf result
 unfolding textOf
-same-text output (value bytes) = ap (λ (l : List ℕ). firstLine acceptedWord (length bytes) ++ clauseLines l) (take-append-seam bytes (drop (length bytes) output))
+same-text output (value f) =
+    let bytes = encodeTranslation f in
+    ap (λ (l : List ℕ). firstLine acceptedWord (length bytes) ++ l) (ap clauseLines (take-append-seam bytes (drop (length bytes) output)) ∙ clause-lines f)
 same-text output (refused r) = refl
 
 -- `list`
@@ -84,9 +105,11 @@ module _ (pack workspace output : List ℕ) (outcome : Outcome) (after : List �
       let h : n ≤ length (outputAfter output result) = within output n result (sym eo ∙ e) in
       subst (λ (l : List ℕ). n ≤ length l) (sym ea) h
 
-  pub text-is : 65536 ≡ length workspace → 4096 ≡ length output → told outcome after ≡ listing pack
+  pub text-is : 65536 ≡ length workspace → 4096 ≡ length output → outcomeText outcome after ≡ listing pack
   unfolding reduce listing
-  text-is w o = rw (eo, ea, w, o) (same-text output (reduceBytes pack (length workspace) (length output)))
+  text-is w o =
+      let e : reduceBytes pack (length workspace) (length output) ≡ bytesOf (reduced pack) = rw (sym w, sym o) (reduced-bytes pack) in
+      rw (eo, ea, e) (same-text output (reduced pack))
 
 -- What is put from the start on stands at the start.
 pub counts : (v u o o′ : List ℕ) (r : ℕ) → Puts v o o′ 0 r → v ≡ u → (Counts r o′) × (take r o′ ≡ u)
