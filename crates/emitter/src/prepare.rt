@@ -1,4 +1,10 @@
 // Filling the table that a run looks things up in.
+use crate::table::BODY;
+use crate::table::INDEX;
+use crate::table::ITEMS;
+use crate::table::SOURCE;
+use crate::table::SPANS;
+use crate::table::TABLE;
 use fields::bytes::byte_at;
 use fields::bytes::pair_at;
 use fields::bytes::wide;
@@ -23,7 +29,7 @@ fn put_index(s: &[u8], first: u8, a: usize, table: &mut [u16])
     requires { ⌜ (length (now s) ≤ 32768) × (a + 8224 ≤ length (now table)) ⌝ }
     ensures { λ r. ⌜ now (table .exit) ≡ spliced (now (table .entry)) a (putAll first (now (s .entry)) (take 8224 (drop a (now (table .entry)))) (places (now (s .entry)))) ⌝ }
 {
-    put_all(s, first, &mut table[a..a + 8224]);
+    put_all(s, first, &mut table[a..a + INDEX]);
 }
 
 // Puts bytes into the table, from a position on.
@@ -43,9 +49,9 @@ fn fill(source: &[u8], body: &[u8], table: &mut [u16])
     requires { ⌜ (length (now source) ≤ 1024) × (length (now body) ≤ 4096) × Begun (now source) (now table) ⌝ }
     ensures { λ r. ⌜ Filled (now (source .entry)) (now (body .entry)) (now (table .exit)) ⌝ }
 {
-    put_index(body, 0x22, 8224, table);
-    put_bytes(source, 16448, table);
-    put_bytes(body, 17472, table);
+    put_index(body, 0x22, ITEMS, table);
+    put_bytes(source, SOURCE, table);
+    put_bytes(body, BODY, table);
 }
 
 // Where the field of a production of the target stands, and one more.
@@ -61,7 +67,7 @@ fn set_span(table: &mut [u16], at: usize, end: usize)
     requires { ⌜ (length (now table) ≡ 25664) × (at < 4096) × (end < 65536) ⌝ }
     ensures { λ r. ⌜ now (table .exit) ≡ set (now (table .entry)) (21568 + at) end ⌝ }
 {
-    table[21568 + at] = end as u16;
+    table[SPANS + at] = end as u16;
 }
 
 // Keeps where the code of a kind at a position of the body ends, and where each production's code in it does, and answers
@@ -112,7 +118,7 @@ fn mapped_in(body: &[u8], table: &[u16], kind: u8) -> u8
     requires { ⌜ length (now table) ≡ 25664 ⌝ }
     ensures { λ r. ⌜ r ≡ mappedIn (now (body .entry)) (now (table .entry)) kind ⌝ }
 {
-    let place = table[8224 + wide(kind)] as usize;
+    let place = table[ITEMS + wide(kind)] as usize;
     if place == 0 {
         return 0;
     }
@@ -154,14 +160,14 @@ fn fill_all(source: &[u8], target: &[u8], body: &[u8], table: &mut [u16])
     ensures { λ r. ⌜ ((f : Translation) → Checked (now (source .entry)) (now (target .entry)) (now (body .entry)) f → Ready (now (table .exit)) f) ⌝ }
 {
     fill(source, body, table);
-    let mut places = [0u16; 8224];
+    let mut places = [0u16; INDEX];
     build(target, &mut places);
     span_all(target, &places, body, table);
 }
 
 // Fills the table of a translation that was accepted, by the bytes of its source, target and body. The index of the source
 // stands in the table, and it is all zero besides.
-pub fn prepare(source: &[u8], target: &[u8], body: &[u8], table: &mut [u16; 25664])
+pub fn prepare(source: &[u8], target: &[u8], body: &[u8], table: &mut [u16; TABLE])
     requires { ⌜ Begun (now source) (now table) × ((f : Translation) × Checked (now source) (now target) (now body) f) ⌝ }
     ensures { λ r. ⌜ ((f : Translation) → Checked (now (source .entry)) (now (target .entry)) (now (body .entry)) f → Ready (now (table .exit)) f) ⌝ }
 {

@@ -35,6 +35,10 @@ bodyByte t c = getD t (17472 + c) 0
 abbrev pub spanEntry : List ℕ → ℕ → ℕ
 spanEntry t c = getD t (21568 + c) 0
 
+-- Where the clause ends whose field has its length at `place`.
+abbrev pub clauseEnd : List ℕ → ℕ → ℕ
+clauseEnd t place = place + 2 + (bodyByte t place * 256 + bodyByte t (place + 1))
+
 -- The kinds ks stand in the source from q on.
 pub record KindsAt (t : List ℕ) (q : ℕ) (ks : List ℕ) : Type 0 where
   pub inside : q + length ks ≤ 1024
