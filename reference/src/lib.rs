@@ -25,7 +25,6 @@ pub mod generate;
 pub mod laws;
 #[cfg(feature = "library")]
 pub mod library;
-#[cfg(feature = "library")]
 pub mod stack;
 
 pub use language::check_language;

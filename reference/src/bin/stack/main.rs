@@ -5,16 +5,18 @@
 
 #![forbid(unsafe_code)]
 
+mod mixed;
 mod packs;
 mod shapes;
 
+use mixed::Mixed;
 use reference::call::{Answer, Buffers, Call};
 use reference::generate::{
     language_file, long_run_case, reduce_case, run_case, translation_file, tree_case, Random,
     ReduceCase, RunCase, TreeCase,
 };
 use reference::library::STACK_BYTES;
-use reference::stack::{on_painted_stack, Stack};
+use reference::stack::{on_large_stack, LargeStack};
 use shapes::{shapes, Detour, Order, Shape, Size, ROOT, TREE_LEVELS};
 use std::process::ExitCode;
 
@@ -57,7 +59,7 @@ struct Request {
 
 /// Trees of one shape, with their names; some are one level too deep.
 fn trees(shape: &Shape) -> Vec<(String, Vec<u8>)> {
-    let mut detours = vec![Detour::None];
+    let mut detours = vec![Detour::None, Detour::Token];
     if shape.size != Size::Lean {
         let levels = [1, TREE_LEVELS / 2, TREE_LEVELS - 5];
         detours.extend(levels.map(Detour::LongBefore));
@@ -124,15 +126,22 @@ fn run_cases() -> Vec<Case> {
     cases.collect()
 }
 
+/// A run by random codes of 16 levels on a random tree of 64.
+fn mixed_run(random: &mut Random) -> RunCase {
+    let mixed = Mixed::new(random);
+    let (translation, tree) = (mixed.translation(random), mixed.tree(random));
+    RunCase { translation, root: ROOT, tree, output: OUTPUT }
+}
+
 /// A reduction with the least room.
-fn reduction(name: String, pack: Vec<u8>) -> Case {
-    let case = ReduceCase { pack, workspace: WORKSPACE, output: REDUCED };
-    Case { name, call: Call::Reduce(case) }
+fn packed(pack: Vec<u8>) -> Call {
+    Call::Reduce(ReduceCase { pack, workspace: WORKSPACE, output: REDUCED })
 }
 
 /// Reductions of terms of 12 levels.
 fn reduce_cases() -> Vec<Case> {
-    packs::fixed_packs().into_iter().map(|(name, pack)| reduction(name, pack)).collect()
+    let packs = packs::fixed_packs().into_iter();
+    packs.map(|(name, pack)| Case { name, call: packed(pack) }).collect()
 }
 
 /// So many random calls, made one by one.
@@ -153,21 +162,22 @@ fn all_cases(seed: u64) -> Vec<Vec<Case>> {
     let translation = random(most, "random", |r| Call::CheckTranslation(translation_file(r)));
     let tree = random(most, "random", |r| Call::CheckTree(tree_case(r)));
     let reduce = random(most, "random", |r| Call::Reduce(reduce_case(r)));
-    let mixed =
-        random(most, "mixed signs", |r| reduction(String::new(), packs::mixed_pack(r)).call);
+    let signs = random(most, "random signs", |r| packed(packs::shape_pack(r)));
+    let mixed = random(most, "random signs and codes", |r| packed(packs::mixed_pack(r)));
     let run = random(most, "random", |r| Call::Run(run_case(r)));
+    let deep = random(most, "random codes", |r| Call::Run(mixed_run(r)));
     let long = random(LONG_CASES, "long tree", |r| Call::Run(long_run_case(r).case));
     vec![
         language_cases().into_iter().chain(language).collect(),
         translation_cases().into_iter().chain(translation).collect(),
         tree_cases().into_iter().chain(tree).collect(),
-        reduce_cases().into_iter().chain(reduce).chain(mixed).collect(),
-        run_cases().into_iter().chain(run).chain(long).collect(),
+        reduce_cases().into_iter().chain(reduce).chain(signs).chain(mixed).collect(),
+        run_cases().into_iter().chain(run).chain(deep).chain(long).collect(),
     ]
 }
 
 /// Calls the library, and gives the bytes of stack with what it answered and left.
-fn measured(stack: &mut Stack, call: &Call) -> (usize, Answer, Buffers) {
+fn measured(stack: &LargeStack, call: &Call) -> (usize, Answer, Buffers) {
     let (mut buffers, mut answer) = (call.buffers(), Answer { number: 0, length: 0 });
     let used = stack.bytes_used(&mut || answer = call.by_library(&mut buffers));
     (used, answer, buffers)
@@ -175,7 +185,7 @@ fn measured(stack: &mut Stack, call: &Call) -> (usize, Answer, Buffers) {
 
 impl Finding {
     /// Measures a case, and compares the answer with the reference's.
-    fn add(&mut self, stack: &mut Stack, case: &Case, list: bool) {
+    fn add(&mut self, stack: &LargeStack, case: &Case, list: bool) {
         let mut buffers = case.call.buffers();
         let expected = case.call.by_reference(&mut buffers);
         let (used, found, left) = measured(stack, &case.call);
@@ -193,7 +203,7 @@ impl Finding {
 }
 
 /// Measures all cases of one operation and prints the most that it needed.
-fn measure_all(stack: &mut Stack, cases: &[Case], list: bool) -> Finding {
+fn measure_all(stack: &LargeStack, cases: &[Case], list: bool) -> Finding {
     let mut finding = Finding::default();
     cases.iter().for_each(|case| finding.add(stack, case, list));
     let operation = cases.first().map_or("", |case| case.call.operation());
@@ -231,7 +241,7 @@ fn main() -> ExitCode {
     let mut failed = usize::from(!header_agrees());
     let mut passed = 1 - failed;
     for cases in all_cases(seed) {
-        let finding = on_painted_stack(|stack| measure_all(stack, &cases, list));
+        let finding = on_large_stack(|stack| measure_all(stack, &cases, list));
         passed += finding.cases - finding.failed;
         failed += finding.failed;
     }

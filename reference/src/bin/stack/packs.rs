@@ -1,11 +1,16 @@
 //! Packs whose terms have 12 levels: signs around a bottom, in all ways.
 
+use crate::mixed::Mixed;
 use crate::shapes::{Order, Shape, Size};
 use reference::files::pack;
 use reference::generate::Random;
 
 /// The most levels of a term.
 const TERM_LEVELS: usize = 12;
+
+/// Terms name so many bodies, one of which is flat.
+const BODIES: usize = 5;
+const FLAT_BODY: usize = 1;
 
 /// Binds variable 0 to the deep translation, then the other variable 0 to its language.
 const BINDINGS: &[u8] = &[0x57, 0, 0x50, 0x40, 0, 0x40, 0, 0, 0x56, 0, 0x40, 0];
@@ -264,10 +269,24 @@ pub fn fixed_packs() -> Vec<NamedPack> {
     single.chain(languages).chain(pairs).chain(full).collect()
 }
 
-/// A pack with random steps around a random bottom.
-pub fn mixed_pack(random: &mut Random) -> Vec<u8> {
+/// A random term of 12 levels.
+fn random_term(random: &mut Random) -> Vec<u8> {
+    let bottom = &BOTTOMS[random.below(BOTTOMS.len())];
+    bottom.under(|| &STEPS[random.below(STEPS.len())])
+}
+
+/// A pack with a random term over a shape.
+pub fn shape_pack(random: &mut Random) -> Vec<u8> {
     let shapes = shapes();
     let shape = &shapes[random.below(shapes.len())];
-    let bottom = &BOTTOMS[random.below(BOTTOMS.len())];
-    pack_of(shape, &bottom.under(|| &STEPS[random.below(STEPS.len())]))
+    pack_of(shape, &random_term(random))
+}
+
+/// A pack with a random term over random bodies.
+pub fn mixed_pack(random: &mut Random) -> Vec<u8> {
+    let mixed = Mixed::new(random);
+    let deep = |_| mixed.body(random);
+    let mut bodies: Vec<Vec<u8>> = (0..BODIES).map(deep).collect();
+    bodies[FLAT_BODY] = mixed.flat_body();
+    pack(&[mixed.language(), vec![]], &bodies, &random_term(random))
 }

@@ -3,30 +3,32 @@
 use reference::files::{class, clause, mapping, production, translation};
 
 /// The kind of all productions, and that of the tokens.
-const KIND: u8 = 1;
-const TOKEN_KIND: u8 = 2;
+pub const KIND: u8 = 1;
+pub const TOKEN_KIND: u8 = 2;
 pub const ROOT: u32 = KIND as u32;
 
-/// Names of productions; a name from 1 to 8 has so many arguments.
-const LEAF: u8 = 0;
+/// Names of productions; a name from 1 to 8 has so many arguments. The code of the deep leaf
+/// has 16 levels, so that the last level of a tree passes through them too.
+pub const LEAF: u8 = 0;
 const TOKEN: u8 = 9;
 const PAIR: u8 = 10;
 const EIGHT: u8 = 11;
 const TWICE: u8 = 12;
+const DEEP_LEAF: u8 = 13;
 const FIRST_FILLER: u8 = 0x40;
 
 /// Signs of a code.
-const NODE: u8 = 1;
+pub const NODE: u8 = 1;
 const ARGUMENT: u8 = 3;
 
 /// The most levels of a code and of a tree.
-const CODE_LEVELS: usize = 16;
+pub const CODE_LEVELS: usize = 16;
 pub const TREE_LEVELS: usize = 64;
 
 /// The most bytes of a language and of a translation, and the most arguments.
 const LANGUAGE_BYTES: usize = 1024;
 const TRANSLATION_BYTES: usize = 4096;
-const MOST_ARGUMENTS: usize = 8;
+pub const MOST_ARGUMENTS: usize = 8;
 
 /// How a code of 16 levels uses the arguments beside the one that its deepest level uses.
 #[derive(Clone, Copy, Debug, PartialEq, Eq)]
@@ -85,10 +87,12 @@ pub struct Shape {
     pub size: Size,
 }
 
-/// What stands at some level of a tree instead of the nested production.
+/// What stands at some level of a tree instead of the nested production or the deep leaf.
 #[derive(Clone, Copy, Debug)]
 pub enum Detour {
     None,
+    /// The last level is a token.
+    Token,
     /// A pair with a long subtree before or after the deep one.
     LongBefore(usize),
     LongAfter(usize),
@@ -119,12 +123,12 @@ pub fn shapes(size: Size) -> Vec<Shape> {
 }
 
 /// A code that is an argument.
-fn argument(number: u8) -> Vec<u8> {
+pub fn argument(number: u8) -> Vec<u8> {
     vec![ARGUMENT, number]
 }
 
 /// A production with all its arguments in order: a code of two levels.
-fn kept(name: u8, count: u8) -> Vec<u8> {
+pub fn kept(name: u8, count: u8) -> Vec<u8> {
     let arguments = (1..=count).flat_map(argument);
     [NODE, name].into_iter().chain(arguments).collect()
 }
@@ -175,7 +179,7 @@ impl Shape {
         match self.order {
             Order::Dropped => self.around(CODE_LEVELS - 1, used),
             Order::Alone => used,
-            Order::Constant => self.around(CODE_LEVELS - 1, kept(LEAF, 0)),
+            Order::Constant => self.around(CODE_LEVELS - 1, kept(DEEP_LEAF, 0)),
             Order::TooDeep => self.around(CODE_LEVELS, used),
             Order::High | Order::HighReversed => {
                 let others = self.arguments(|&number| number != self.used);
@@ -196,6 +200,7 @@ impl Shape {
         if self.size != Size::Lean {
             names.extend([(PAIR, kinds(2)), (EIGHT, kinds(8)), (TWICE, kinds(1))]);
         }
+        names.push((DEEP_LEAF, vec![]));
         names
     }
 
@@ -241,6 +246,7 @@ impl Shape {
             LEAF | EIGHT => kept(name, count),
             TOKEN if self.size == Size::Lean => kept(name, count),
             TOKEN | PAIR => deep(kept(name, count)),
+            DEEP_LEAF => self.around(CODE_LEVELS - 1, kept(LEAF, 0)),
             TWICE => deep([vec![NODE, PAIR], argument(1), argument(1)].concat()),
             _ => self.deep_code(),
         }
@@ -282,10 +288,13 @@ impl Shape {
         translation(&self.language(), &self.language(), &self.body())
     }
 
-    /// A tree with one token, on the last of so many levels.
+    /// A tree of exactly so many levels.
     pub fn tree(&self, levels: usize, detour: Detour) -> Vec<u8> {
-        let bottom = vec![TOKEN, 0, 5];
-        (1..levels - 1).rev().fold(bottom, |below, level| self.level(level, detour, below))
+        let (bottom, above) = match detour {
+            Detour::Token => (vec![TOKEN, 0, 5], levels - 2),
+            _ => (vec![DEEP_LEAF], levels - 1),
+        };
+        (1..=above).rev().fold(bottom, |below, level| self.level(level, detour, below))
     }
 
     /// One level of a tree over the one below it.
