@@ -38,6 +38,9 @@ extern "C" {
     ) -> u32;
 }
 
+/// The most bytes of stack that a call uses: ALGEBRA_STACK_BYTES of the header.
+pub const STACK_BYTES: usize = 327_680;
+
 /// Seconds and nanoseconds, as the clock gives them.
 #[repr(C)]
 struct ClockTime {
