@@ -17,7 +17,7 @@ use Rattle.operators.specs.Algebra.{languagesFit, languageUnion, languageSum, l
 use Rattle.operators.specs.Limits.{codeIsDeep, languageExceeds, translationExceeds}
 use Rattle.pack.specs.Terms.{languageSign, translationSign, readSign, readTerm, scoped}
 use Rattle.pack.specs.Pack.{partOf, inGroups, packWith, packIn, packParts, packOf, termOf}
-use Rattle.reducer.specs.Evaluation.{evaluate}
+use Rattle.signs.specs.Evaluation.{evaluate}
 use Rattle.reducer.specs.Operations.{ready, work, reduceBytes}
 use Rattle.laws.specs.Examples.{holds, rows}
 

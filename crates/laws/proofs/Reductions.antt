@@ -16,12 +16,12 @@ use Rattle.translation.specs.Translation.{Translation}
 use Rattle.translation.specs.TranslationFile.{encodeTranslation}
 use Rattle.pack.specs.Terms.{Sort, translations, Term, writeTerm, termLevels, readTerm, scoped}
 use Rattle.pack.specs.Pack.{Pack, packOf, packLimit, termLimit, termOf}
-use Rattle.reducer.specs.Evaluation.{constantsOf, nothingBound, evaluate}
+use Rattle.signs.specs.Evaluation.{constantsOf, nothingBound, evaluate}
 use Rattle.reducer.specs.Operations.{ready, work, reduceBytes}
 use Rattle.pack.proofs.TermCodec.{read-write, read-sound}
 use Rattle.pack.proofs.PackCodec.{pack-term, pack-short, pack-good}
-use Rattle.reducer.proofs.Evaluated.{step-value, value-inj, GoodConstants}
-use Rattle.reducer.proofs.Readied.{whole-term, ready-value}
+use Rattle.evaluator.proofs.Evaluated.{step-value, value-inj, GoodConstants}
+use Rattle.reducer.proofs.Operation.{whole-term, ready-value}
 use Rattle.laws.specs.Packed.{packed, putOut}
 
 -- No refusal has the number 0.

@@ -32,12 +32,12 @@ use Rattle.translation.proofs.Fitting.{refuse-value, fit-carries}
 use Rattle.pack.specs.Terms.{Term, translations, join, writeTerm}
 use Rattle.operators.specs.Algebra.{joinFits, joined, translationJoin}
 use Rattle.operators.specs.Limits.{translationExceeds}
-use Rattle.reducer.specs.Evaluation.{Constants, constantsOf, nothingBound, limited, evaluate}
+use Rattle.signs.specs.Evaluation.{Constants, constantsOf, nothingBound, limited, evaluate}
 use Rattle.reducer.specs.Operations.{reduceBytes, reduce}
 use Rattle.pack.proofs.PackCodec.{pack-term, pack-short}
 use Rattle.operators.proofs.Proper.{Sound, GoodTranslation, good-back}
 use Rattle.operators.proofs.JoinSound.{target-larger, join-lies, join-runs}
-use Rattle.reducer.proofs.Evaluated.{step-value, value-inj, limited-value, translation-join, within, nothing-good, evaluate-good}
+use Rattle.evaluator.proofs.Evaluated.{step-value, value-inj, limited-value, translation-join, within, nothing-good, evaluate-good}
 use Rattle.laws.specs.Packed.{packed, putOut}
 use Rattle.laws.specs.Runs.{Legal, mapsTo, targetIn, ReducesTo, OfTree, of-root, of-bytes, of-levels, SameRun, RunsOfJoin, LawOfRuns}
 use Rattle.laws.proofs.Levels.{law-of-levels}

@@ -12,11 +12,11 @@ use Rattle.translation.specs.Translation.{Translation}
 use Rattle.pack.specs.Terms.{Term, translations, sum, scoped}
 use Rattle.operators.specs.Algebra.{translationsFit, translationUnion, translationSum}
 use Rattle.operators.specs.Limits.{translationExceeds}
-use Rattle.reducer.specs.Evaluation.{Constants, constantsOf, nothingBound, limited, evaluate}
+use Rattle.signs.specs.Evaluation.{Constants, constantsOf, nothingBound, limited, evaluate}
 use Rattle.reducer.specs.Operations.{reduceBytes, reduce}
 use Rattle.operators.proofs.Proper.{GoodTranslation}
 use Rattle.operators.proofs.SumSound.{fit-translations, translations-fit, sound-union}
-use Rattle.reducer.proofs.Evaluated.{step-value, value-inj, limited-value, translation-sum, GoodConstants, nothing-good, evaluate-good}
+use Rattle.evaluator.proofs.Evaluated.{step-value, value-inj, limited-value, translation-sum, GoodConstants, nothing-good, evaluate-good}
 use Rattle.laws.specs.Packed.{packed}
 use Rattle.laws.specs.Sums.{Sum, alone, plus, asTerm, builtFrom, In, SumOver, WithinLimits, LawOfSums}
 use Rattle.laws.proofs.Reductions.{accepted-value, value-accepted, put-out, reduction, reduction-good, reduce-other}

@@ -10,7 +10,7 @@ use Rattle.fields.specs.declared.outcome.Reason.the-variants.{Lent}
 use Rattle.translation.specs.TranslationFile.{encodeTranslation}
 use Rattle.pack.specs.Terms.{Term, translations}
 use Rattle.pack.specs.Pack.{Pack, packOf, termOf}
-use Rattle.reducer.specs.Evaluation.{constantsOf, evaluate, nothingBound}
+use Rattle.signs.specs.Evaluation.{constantsOf, evaluate, nothingBound}
 
 -- What is ready to be worked out: a pack and its term.
 pub record Ready : Type 0 where
