@@ -13,7 +13,7 @@ use Rattle.fields.specs.declared.outcome.Outcome.{Outcome}
 use Rattle.fields.specs.declared.outcome.Outcome.the-variants.{Accepted, Refused}
 use Rattle.translation.specs.Translation.{Translation}
 use Rattle.translation.specs.TranslationFile.{encodeTranslation}
-use Rattle.reducer.specs.Evaluation.{constantsOf, nothingBound, evaluate}
+use Rattle.signs.specs.Evaluation.{constantsOf, nothingBound, evaluate}
 use Rattle.reducer.specs.Operations.{Ready, ready, work, reduceBytes, reduce}
 use Rattle.listing.specs.Text.{acceptedWord, refusedWord, marked, firstLine}
 use Rattle.listing.specs.Listing.{reduced, textOf, listing}

@@ -6,7 +6,7 @@ use Rattle.fields.specs.Lists.{concatMap}
 use Rattle.fields.specs.Outcome.{Result, value, refused, _>>=_, reasonNumber}
 use Rattle.translation.specs.Translation.{Translation}
 use Rattle.translation.specs.TranslationFile.{encodeTranslation}
-use Rattle.reducer.specs.Evaluation.{constantsOf, nothingBound, evaluate}
+use Rattle.signs.specs.Evaluation.{constantsOf, nothingBound, evaluate}
 use Rattle.reducer.specs.Operations.{ready}
 use Rattle.listing.specs.Text.{acceptedWord, refusedWord, firstLine, itemLine}
 
