@@ -8,12 +8,14 @@ use lib.ListN.{length}
 use lib.Dec.{eqb}
 use borrow.Author.Tests.{ne-eqb}
 use Rattle.fields.specs.Lists.{all, sameNumbers}
-use Rattle.fields.specs.Keyed.{agree}
-use Rattle.fields.specs.Inner.Places.{fieldEnd, keyAt}
-use Rattle.fields.proofs.Truth.{mem-all}
+use Rattle.fields.specs.Keyed.{agree, rising}
+use Rattle.fields.specs.Inner.Places.{fieldEnd, isWhole, places, keyAt}
+use Rattle.fields.proofs.Truth.{and-both, all-mem, mem-all}
+use Rattle.fields.proofs.Lists.{rising-map}
 use Rattle.fields.proofs.Keyed.{From, from-mem}
-use Rattle.language.specs.Inner.Entries.{resultsMeet}
-use Rattle.operators.specs.Inner.Parts.{Part, partKey, samePart, pieceAt, partAt, partsFrom, partsClash, agrees, fitTogether}
+use Rattle.language.specs.Inner.Entries.{entryGood, entryWhole, RisingEntries, resultsMeet}
+use Rattle.language.proofs.Facts.{entries-long}
+use Rattle.operators.specs.Inner.Parts.{Part, partKey, samePart, pieceAt, partAt, partsFrom, Sorted, partsClash, agrees, fitTogether}
 use Rattle.operators.proofs.Walks.{parts-done, parts-next, clash-other, clash-same}
 use Rattle.operators.proofs.Linear.{all-alike}
 use Rattle.operators.proofs.Turns.{Rest, rest-next, here-rises}
@@ -134,17 +136,27 @@ module _ (first : ℕ) (a b : List ℕ) (p q : ℕ) (h : Agreeing first a b p q)
           pub agree-same : x ≡ true → (e : ℕ) → e ≡ fieldEnd b q → Agreeing first a b p e
           agree-same d = pass (omega arith) (sym clash-is ∙ ap not d)
 
--- `languages_fit`: x and y say whether a class of one is a result of the other
-module _ (a b : List ℕ) (x : Bool) (ex : x ≡ resultsMeet a b) where
-  pub fit-left : x ≡ true → false ≡ fitTogether a b
+-- Whole entries whose keys rise are sorted fields.
+pub entries-sorted : (s : List ℕ) → RisingEntries s → Sorted 0x11 s
+unfolding rising partsFrom partAt entryWhole
+entries-sorted s h = record {
+  long = entries-long s (h .whole);
+  whole = mem-all (isWhole s) (places s) (λ p m. and-both (isWhole s p) (entryGood s p) (all-mem (entryWhole s) (places s) (h .whole) p m) .0);
+  rises = rising-map partKey (partAt 0x11 s) (keyAt 0x11 s) (λ p. refl) 0 (places s) ∙ h .rises;
+}
+
+-- `languages_fit`: x says whether a class of one is a result of the other
+module _ (a b : List ℕ) (x : Bool) (ex : x ≡ (resultsMeet a b || resultsMeet b a)) where
+  clashing : fitTogether a b ≡ (not x && agrees 0x11 a b)
   unfolding fitTogether
-  fit-left h = cc
+  clashing = rw ex (by-or (resultsMeet a b) (resultsMeet b a) (agrees 0x11 a b))
+    where
+      by-or : (p q r : Bool) → (not p && (not q && r)) ≡ (not (p || q) && r)
+      by-or true q r = refl
+      by-or false q r = refl
 
-  module _ (none : x ≡ false) (y : Bool) (ey : y ≡ resultsMeet b a) where
-    pub fit-right : y ≡ true → false ≡ fitTogether a b
-    unfolding fitTogether
-    fit-right h = cc
+  pub fit-clash : x ≡ true → false ≡ fitTogether a b
+  fit-clash h = sym (clashing ∙ rw h)
 
-    pub fit-agree : y ≡ false → (z : Bool) → z ≡ agrees 0x11 a b → z ≡ fitTogether a b
-    unfolding fitTogether
-    fit-agree h z ez = cc
+  pub fit-agree : x ≡ false → (z : Bool) → z ≡ agrees 0x11 a b → z ≡ fitTogether a b
+  fit-agree h z ez = ez ∙ sym (clashing ∙ rw h)

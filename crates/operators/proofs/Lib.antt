@@ -2,13 +2,10 @@ pub mod Proper
 pub mod SumSound
 pub mod JoinSound
 pub mod IdentitySound
-pub mod Splices
 pub mod Walks
-pub mod Heads
 pub mod Linear
 pub mod Turns
 pub mod Mapped
 pub mod Agreeing
 pub mod Prefixes
-pub mod Classless
 pub mod Encoded

@@ -19,7 +19,7 @@ use Rattle.fields.proofs.Truth.{and-both, equal-numbers}
 use Rattle.fields.proofs.Keyed.{From, is-rising}
 use Rattle.fields.proofs.Places.{end-past, places-done}
 use Rattle.operators.specs.Inner.Parts.{Part, partKey, samePart, bytesOf, pieceAt, partAt, partsFrom, parts, WholeFrom, Sorted, Alike, Shared, partsClash, agrees, liesWithin, united, removed}
-use Rattle.operators.proofs.Splices.{slice-join}
+use Rattle.fields.proofs.Splices.{slice-join}
 use Rattle.operators.proofs.Walks.{parts-done, parts-next, whole-next}
 use Rattle.operators.proofs.Linear.{union-same, within-same, without-same}
 use Rattle.operators.proofs.Turns.{Rest, Going, Merging, progress-start, bytes-append, bytes-cons, bytes-none, all-bytes}
@@ -128,7 +128,9 @@ shared-step first a b p n h w k e q g = shared-on first a b p n h w k (rw q at g
 -- the files are the same
 whole-end : (s : List ℕ) → WholeFrom s (length s)
 unfolding all
-whole-end s = record { inside = omega arith; whole = rw (places-done s (length s) (omega arith)) }
+whole-end s =
+    let e = places-done s (length s) (omega arith) in
+    record { inside = omega arith; long = rw e; whole = rw e }
 
 pub shared-all : (first : ℕ) (a b : List ℕ) (n : ℕ) → WholeFrom a 0 → Alike a b n → length a ≡ n → length b ≡ n → Shared first a b n
 shared-all first a b n u w la lb =

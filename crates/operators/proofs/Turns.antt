@@ -11,14 +11,15 @@ use borrow.Author.Tests.{ltb-true, ltb-false, leb-true, leb-false}
 use Rattle.fields.specs.Lists.{all, keep, concatMap}
 use Rattle.fields.specs.Keyed.{union, within, without}
 use Rattle.fields.specs.Inner.Places.{fieldEnd, keyAt}
+use Rattle.fields.specs.Inner.Writing.{Inside, Written, Stores}
 use Rattle.fields.proofs.Truth.{by-test}
 use Rattle.fields.proofs.Codec.{concat-append}
 use Rattle.fields.proofs.Keyed.{From, is-rising}
 use Rattle.fields.proofs.Places.{end-past}
-use Rattle.operators.specs.declared.copy.Stored.{Stored}
-use Rattle.operators.specs.declared.copy.Stored.the-variants.{To, Full}
-use Rattle.operators.specs.Inner.Parts.{Part, partKey, samePart, bytesOf, pieceAt, partAt, partsFrom, parts, WholeAt, WholeFrom, Sorted, lower, seek, SoughtAt, leads, united, Inside, Written, Stores}
-use Rattle.operators.proofs.Splices.{slice-join, nothing-spliced, written-then}
+use Rattle.fields.specs.declared.copy.Stored.{Stored}
+use Rattle.fields.specs.declared.copy.Stored.the-variants.{To, Full}
+use Rattle.operators.specs.Inner.Parts.{Part, partKey, samePart, bytesOf, pieceAt, partAt, partsFrom, parts, WholeAt, WholeFrom, Sorted, lower, seek, SoughtAt, leads, united}
+use Rattle.fields.proofs.Splices.{slice-join, nothing-spliced, written-then}
 use Rattle.operators.proofs.Walks.{parts-done, parts-next, whole-here, whole-next}
 use Rattle.operators.proofs.Linear.{union-none, union-low, union-same, union-nothing, union-high, without-turn, within-turn, seek-from}
 
@@ -81,7 +82,7 @@ pub record Rest (first : ℕ) (s : List ℕ) (p : ℕ) : Type 0 where
 
 pub rest-start : (first : ℕ) (s : List ℕ) → Sorted first s → Rest first s 0
 rest-start first s h = record {
-  from = record { inside = omega arith; whole = h .whole };
+  from = record { inside = omega arith; long = h .long; whole = h .whole };
   least = 0;
   rises = is-rising partKey (parts first s) (h .rises);
 }

@@ -9,12 +9,12 @@ use lib.ListN.{length, getD}
 use lib.Seq.{slice, slice-empty, length-slice}
 use borrow.Author.Tests.{lt-ltb, le-ltb, eq-eqb, ne-eqb, leb-true}
 use Rattle.fields.specs.Lists.{concatMap, sameNumbers}
-use Rattle.fields.specs.Inner.Places.{fieldEnd, isWhole, keyAt}
+use Rattle.fields.specs.Inner.Places.{fieldEnd, isWhole, longAt, keyAt}
 use Rattle.fields.proofs.Truth.{numbers-equal, refuted}
 use Rattle.fields.proofs.Lists.{part-done, part-next}
-use Rattle.fields.proofs.Places.{end-past, places-done, places-next, every-here}
+use Rattle.fields.proofs.Places.{end-past, places-done, places-next, every-here, long-here}
 use Rattle.operators.specs.Inner.Parts.{Part, samePart, bytesOf, pieceAt, partAt, partsFrom, WholeAt, WholeFrom, lower, seek, SoughtAt, leads, partsClash}
-use Rattle.operators.proofs.Splices.{slice-join}
+use Rattle.fields.proofs.Splices.{slice-join}
 
 -- The fields from p on: at the end, and at a field.
 module _ (first : ℕ) (s : List ℕ) (p : ℕ) where
@@ -26,21 +26,31 @@ module _ (first : ℕ) (s : List ℕ) (p : ℕ) where
   unfolding partsFrom
   parts-next h = rw (places-next s p h)
 
--- The first three bytes of a whole field are there.
-pub head-whole : (s : List ℕ) (p : ℕ) → WholeAt s p → p + 3 ≤ length s
-head-whole s p w = omega (arith, end-past s p, w .fits)
+-- The length bytes of a whole field are there.
+pub head-whole : (s : List ℕ) (p : ℕ) → WholeAt s p → p + 2 < length s
+head-whole s p w = omega (arith, w .long)
 
 -- Where all fields from p on are whole, the one at p is, and all further ones.
 module _ (s : List ℕ) (p : ℕ) (w : WholeFrom s p) (here : p < length s) where
   pub whole-here : WholeAt s p
   unfolding isWhole
-  whole-here = record { inside = here; fits = leb-true _ _ (every-here (isWhole s) s p (w .whole) here .0) }
+  whole-here = record {
+    long = long-here s p (every-here (longAt s) s p (w .long) here .0);
+    fits = leb-true _ _ (every-here (isWhole s) s p (w .whole) here .0);
+  }
 
-  pub head-here : p + 3 ≤ length s
+  pub head-here : p + 2 < length s
   head-here = head-whole s p whole-here
 
+  pub key-here : p + 4 < length s
+  key-here = whole-here .long
+
   pub whole-next : (e : ℕ) → e ≡ fieldEnd s p → WholeFrom s e
-  whole-next e q = rw q (record { inside = whole-here .fits; whole = every-here (isWhole s) s p (w .whole) here .1 })
+  whole-next e q = rw q (record {
+    inside = whole-here .fits;
+    long = every-here (longAt s) s p (w .long) here .1;
+    whole = every-here (isWhole s) s p (w .whole) here .1;
+  })
 
 -- A field whose key is below k is passed; at any other the search ends.
 module _ (k : ℕ) (a : Part) (l : List Part) where

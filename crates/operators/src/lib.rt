@@ -1,7 +1,5 @@
-// The signs' values on languages and translations: their definitions and laws, and the operators on bytes.
-pub mod copy;
+// The values of the signs on languages and translations: their definitions and laws, and the operators on bytes.
 pub mod fit;
-pub mod head;
 pub mod meet;
 pub mod merge;
 pub mod prefix;

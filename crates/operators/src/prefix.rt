@@ -3,7 +3,7 @@ ghost use mathlib.Core.Path.{_≡_};
 ghost use mathlib.Core.Bool.{true};
 ghost use Prim.Native.Nat.{ℕ, _+_};
 ghost use Rattle.operators.specs.Inner.Parts.{Alike, Shared, WholeFrom};
-use super::head::end_of;
+use fields::walk::whole_end;
 
 // Sixteen more bytes from n on are the same in both.
 fn alike_on(a: &[u8], b: &[u8], n: usize) -> bool
@@ -67,7 +67,7 @@ pub fn shared(a: &[u8], b: &[u8]) -> usize
     }
     let mut p = 0;
     while p + 5 <= n {
-        let e = end_of(a, p);
+        let e = whole_end(a, p);
         if n < e {
             return p;
         }

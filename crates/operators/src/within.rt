@@ -1,44 +1,44 @@
 // Whether one file of rising fields lies within another, and whether two agree.
 ghost use mathlib.Core.Path.{_≡_};
 ghost use Rattle.operators.specs.Inner.Parts.{Sorted, liesWithin, agrees};
-use super::head::end_of;
-use super::head::key_of;
 use super::meet::same_field;
 use super::meet::seek;
 use super::meet::stands_at;
 use super::prefix::shared;
+use fields::walk::whole_end;
+use fields::walk::whole_key;
 
 // Every field of a stands in b.
-pub fn lies_within(a: &[u8], b: &[u8], first: u8) -> bool
-    requires { ⌜ Sorted first (now a) × Sorted first (now b) ⌝ }
-    ensures { λ r. ⌜ r ≡ liesWithin first (now (a .entry)) (now (b .entry)) ⌝ }
+pub fn lies_within(a: &[u8], b: &[u8], leading_tag: u8) -> bool
+    requires { ⌜ Sorted «leading_tag» (now a) × Sorted «leading_tag» (now b) ⌝ }
+    ensures { λ r. ⌜ r ≡ liesWithin «leading_tag» (now (a .entry)) (now (b .entry)) ⌝ }
 {
     let start = shared(a, b);
     let mut p = start;
     let mut q = start;
     while p < a.len() {
-        q = seek(b, q, key_of(a, p, first), first);
-        if !stands_at(a, p, b, q, first) {
+        q = seek(b, q, whole_key(a, p, leading_tag), leading_tag);
+        if !stands_at(a, p, b, q, leading_tag) {
             return false;
         }
-        p = end_of(a, p);
+        p = whole_end(a, p);
     }
     true
 }
 
 // Fields of one key are the same in a and in b. Keys rise in both, so both are gone through once.
-pub fn agree(a: &[u8], b: &[u8], first: u8) -> bool
-    requires { ⌜ Sorted first (now a) × Sorted first (now b) ⌝ }
-    ensures { λ r. ⌜ r ≡ agrees first (now (a .entry)) (now (b .entry)) ⌝ }
+pub fn agree(a: &[u8], b: &[u8], leading_tag: u8) -> bool
+    requires { ⌜ Sorted «leading_tag» (now a) × Sorted «leading_tag» (now b) ⌝ }
+    ensures { λ r. ⌜ r ≡ agrees «leading_tag» (now (a .entry)) (now (b .entry)) ⌝ }
 {
     let start = shared(a, b);
     let mut same = true;
     let mut p = start;
     let mut q = start;
     'clash: while p < a.len() {
-        let key = key_of(a, p, first);
+        let key = whole_key(a, p, leading_tag);
         while q < b.len() {
-            let other = key_of(b, q, first);
+            let other = whole_key(b, q, leading_tag);
             if key < other {
                 break;
             }
@@ -48,9 +48,9 @@ pub fn agree(a: &[u8], b: &[u8], first: u8) -> bool
                     break 'clash;
                 }
             }
-            q = end_of(b, q);
+            q = whole_end(b, q);
         }
-        p = end_of(a, p);
+        p = whole_end(a, p);
     }
     same
 }

@@ -19,7 +19,6 @@ use fields::bytes::byte_at;
 use fields::bytes::pair_at;
 use fields::bytes::wide;
 use fields::walk::whole_end;
-use fields::walk::whole_end;
 use reader::node::place_at;
 use translation::index::target_kind;
 

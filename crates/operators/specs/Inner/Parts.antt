@@ -4,15 +4,13 @@ use Prim.Native.Nat.{ℕ, _+_, _<_, _≤_}
 use mathlib.Core.Path.{_≡_}
 use mathlib.Core.Bool.{Bool, true, false, cond, not, _&&_}
 use mathlib.Core.List.{List, [], _∷_, _++_, map}
-use lib.ListN.{length, take, drop}
+use lib.ListN.{length, take}
 use lib.Seq.{slice}
 use lib.Dec.{ltb, eqb}
 use Rattle.fields.specs.Lists.{all, concatMap, sameNumbers}
 use Rattle.fields.specs.Keyed.{rising, union, without, within, agree}
-use Rattle.fields.specs.Inner.Places.{fieldEnd, isWhole, placesFrom, keyAt}
+use Rattle.fields.specs.Inner.Places.{fieldEnd, isWhole, longAt, placesFrom, keyAt}
 use Rattle.language.specs.Inner.Entries.{resultsMeet}
-use Rattle.operators.specs.declared.copy.Stored.{Stored}
-use Rattle.operators.specs.declared.copy.Stored.the-variants.{To, Full}
 
 -- A field: its key, and all its bytes.
 pub record Part : Type 0 where
@@ -45,18 +43,20 @@ partsFrom first s p = map (partAt first s) (placesFrom s p)
 abbrev pub parts : ℕ → List ℕ → List Part
 parts first s = partsFrom first s 0
 
--- There is a field at p, and it is whole.
+-- There is a whole field at p, and its key is in its first five bytes.
 pub record WholeAt (s : List ℕ) (p : ℕ) : Type 0 where
-  pub inside : p < length s
+  pub long : p + 4 < length s
   pub fits : fieldEnd s p ≤ length s
 
--- p is in the file, and the fields from p on are whole.
+-- p is in the file, and from p on there are such fields.
 pub record WholeFrom (s : List ℕ) (p : ℕ) : Type 0 where
   pub inside : p ≤ length s
+  pub long : all (longAt s) (placesFrom s p) ≡ true
   pub whole : all (isWhole s) (placesFrom s p) ≡ true
 
--- The file is whole fields, and their keys rise.
+-- The file is such fields, and their keys rise.
 pub record Sorted (first : ℕ) (s : List ℕ) : Type 0 where
+  pub long : all (longAt s) (placesFrom s 0) ≡ true
   pub whole : all (isWhole s) (placesFrom s 0) ≡ true
   pub rises : rising partKey (parts first s) ≡ true
 
@@ -119,23 +119,3 @@ agrees first a b = agree partKey samePart (parts first a) (parts first b)
 -- Two languages fit together: no class of one is a result of the other, and entries of one key are the same.
 unfoldable pub fitTogether : List ℕ → List ℕ → Bool
 fitTogether a b = not (resultsMeet a b) && (not (resultsMeet b a) && agrees 0x11 a b)
-
--- There are bytes from p up to e.
-pub record Inside (s : List ℕ) (p e : ℕ) : Type 0 where
-  pub rise : p ≤ e
-  pub fits : e ≤ length s
-
--- o with v written from n on.
-unfoldable pub spliced : List ℕ → ℕ → List ℕ → List ℕ
-spliced o n v = take n o ++ (v ++ drop (n + length v) o)
-
--- v stands from n up to m in what was the output o.
-pub record Written (v o o′ : List ℕ) (n m : ℕ) : Type 0 where
-  pub end : m ≡ n + length v
-  pub fits : m ≤ length o
-  pub bytes : o′ ≡ spliced o n v
-
--- The answer r, where v is to be written from n on over the output o, and o′ is left.
-pub record Stores (v o o′ : List ℕ) (n : ℕ) (r : Stored) : Type 0 where
-  pub done : (m : ℕ) → r ≡ To m → Written v o o′ n m
-  pub full : r ≡ Full → length o < n + length v

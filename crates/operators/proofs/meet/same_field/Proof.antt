@@ -15,11 +15,11 @@ Inv-loop a p b q n i₀ i = sameNumbers (slice (p + i) (fieldEnd a p) a) (slice 
 abbrev μ-loop : tie.MeasureT-loop
 μ-loop a p b q n i₀ i = n - i
 
-end-of-requires : tie.Need-end-of-requires Inv-loop μ-loop
-end-of-requires c κs = head-whole _ _ (c .before .before .pre .0)
+whole-end-requires : tie.Need-whole-end-requires Inv-loop μ-loop
+whole-end-requires c κs = head-whole _ _ (c .before .before .pre .0)
 
-end-of-requires-2 : tie.Need-end-of-requires-2 Inv-loop μ-loop
-end-of-requires-2 c κs = head-whole _ _ (c .before .before .before .pre .1)
+whole-end-requires-2 : tie.Need-whole-end-requires-2 Inv-loop μ-loop
+whole-end-requires-2 c κs = head-whole _ _ (c .before .before .before .pre .1)
 
 returns : tie.Need-returns Inv-loop μ-loop
 returns c = same-long (c .before .before .before .before .before .args .a .now) (c .before .before .before .before .before .args .b .now) (c .before .before .before .before .before .args .p) _ (c .before .before .before .before .before .args .q) _ (c .before .before .before .before .before .pre .0 .fits) (c .before .before .before .before .before .pre .1 .fits) (λ z. c .if1 .taken (omega arith))
@@ -42,9 +42,9 @@ same-field-spec =
     (tie.spec
     Inv-loop
     μ-loop
-    end-of-requires
+    whole-end-requires
     (λ c. search needs)
-    end-of-requires-2
+    whole-end-requires-2
     (λ c. search needs)
     returns
     loop-holds

@@ -3,7 +3,7 @@ use Prim.Native.Nat.{_-_}
 use lib.ListN.{length}
 use Rattle.fields.specs.Keyed.{without}
 use Rattle.operators.specs.Inner.Parts.{samePart, removed}
-use Rattle.operators.proofs.Walks.{whole-here, head-here}
+use Rattle.operators.proofs.Walks.{whole-here, head-here, key-here}
 use Rattle.operators.proofs.Turns.{Going, rest-start, remove-turn, remove-end, progress-on, progress-full, progress-done, rest-next, rest-sought, field-inside, going-room}
 use Rattle.operators.proofs.Prefixes.{shared-remove}
 use Rattle.operators.proofs.merge.remove.Statement.{statement}
@@ -21,11 +21,11 @@ shared-requires c κs = (rest-start _ _ (c .before .before .before .pre .0) .fro
 loop-holds : tie.Need-loop-holds Inv-loop μ-loop
 loop-holds c = shared-remove _ _ _ _ (c .before .before .before .before .pre) (c .shared .ensures _) _
 
-key-of-requires : tie.Need-key-of-requires Inv-loop μ-loop
-key-of-requires c κs = head-here _ _ (c .before .loop .inv .left .from) (c .loop-test .taken)
+whole-key-requires : tie.Need-whole-key-requires Inv-loop μ-loop
+whole-key-requires c κs = key-here _ _ (c .before .loop .inv .left .from) (c .loop-test .taken)
 
-end-of-requires : tie.Need-end-of-requires Inv-loop μ-loop
-end-of-requires c κs = head-here _ _ (c .before .before .before .before .loop .inv .left .from) (c .before .before .before .loop-test .taken)
+whole-end-requires : tie.Need-whole-end-requires Inv-loop μ-loop
+whole-end-requires c κs = head-here _ _ (c .before .before .before .before .loop .inv .left .from) (c .before .before .before .loop-test .taken)
 
 seek-requires : tie.Need-seek-requires Inv-loop μ-loop
 seek-requires c κs = c .before .before .loop .inv .right .from
@@ -34,16 +34,16 @@ stands-at-requires : tie.Need-stands-at-requires Inv-loop μ-loop
 stands-at-requires c κs = (whole-here _ _ (c .before .before .before .loop .inv .left .from) (c .before .before .loop-test .taken), c .seek .ensures .from)
 
 put-if-requires : tie.Need-put-if-requires Inv-loop μ-loop
-put-if-requires c κs = (field-inside _ _ _ (c .before .before .before .before .before .before .loop .inv .left) (c .before .before .before .before .before .loop-test .taken) _ (c .before .end-of .ensures .is), going-room _ _ _ _ _ _ _ _ _ _ (c .before .before .before .before .before .before .loop .inv))
+put-if-requires c κs = (field-inside _ _ _ (c .before .before .before .before .before .before .loop .inv .left) (c .before .before .before .before .before .loop-test .taken) _ (c .before .whole-end .ensures .is), going-room _ _ _ _ _ _ _ _ _ _ (c .before .before .before .before .before .before .loop .inv))
 
 returns : tie.Need-returns Inv-loop μ-loop
-returns c = progress-full _ _ _ _ _ (c .before .before .before .before .before .before .before .before .before .before .before .loop .inv .progress) _ _ (remove-turn (c .before .before .before .before .before .before .before .before .before .before .before .before .before .before .before .before .args .first) (c .before .before .before .before .before .before .before .before .before .before .before .before .before .before .before .before .args .a .now) (c .before .before .before .before .before .before .before .before .before .before .before .before .before .before .before .before .args .b .now) (c .before .before .before .before .before .before .before .before .before .before .before .loop .p) (c .before .before .before .before .before .before .before .before .before .before .before .loop .q) (c .before .before .before .before .before .before .before .before .before .before .before .loop .inv .left) (c .before .before .before .before .before .before .before .before .before .before .before .loop .inv .right) (c .before .before .before .before .before .before .before .before .before .before .loop-test .taken) _ (c .before .before .before .before .before .before .before .before .before .key-of .ensures) _ (c .before .before .before .before .before .before .before .before .seek .ensures) _ (c .before .before .before .before .before .before .end-of .ensures .is) _ (c .before .before .before .before .before .before .before .stands-at .ensures)) _ _ (c .before .before .before .before .put-if .ensures) (c .enum-told .given .1)
+returns c = progress-full _ _ _ _ _ (c .before .before .before .before .before .before .before .before .before .before .before .loop .inv .progress) _ _ (remove-turn (c .before .before .before .before .before .before .before .before .before .before .before .before .before .before .before .before .args .leading-tag) (c .before .before .before .before .before .before .before .before .before .before .before .before .before .before .before .before .args .a .now) (c .before .before .before .before .before .before .before .before .before .before .before .before .before .before .before .before .args .b .now) (c .before .before .before .before .before .before .before .before .before .before .before .loop .p) (c .before .before .before .before .before .before .before .before .before .before .before .loop .q) (c .before .before .before .before .before .before .before .before .before .before .before .loop .inv .left) (c .before .before .before .before .before .before .before .before .before .before .before .loop .inv .right) (c .before .before .before .before .before .before .before .before .before .before .loop-test .taken) _ (c .before .before .before .before .before .before .before .before .before .whole-key .ensures .0) _ (c .before .before .before .before .before .before .before .before .seek .ensures) _ (c .before .before .before .before .before .before .whole-end .ensures .is) _ (c .before .before .before .before .before .before .before .stands-at .ensures)) _ _ (c .before .before .before .before .put-if .ensures) (c .enum-told .given .1)
 
 loop-again : tie.Need-loop-again Inv-loop μ-loop
-loop-again c = record { progress = progress-on _ _ _ _ _ (c .before .before .before .before .before .before .before .before .before .before .before .before .loop .inv .progress) _ _ (remove-turn (c .before .before .before .before .before .before .before .before .before .before .before .before .before .before .before .before .before .args .first) (c .before .before .before .before .before .before .before .before .before .before .before .before .before .before .before .before .before .args .a .now) (c .before .before .before .before .before .before .before .before .before .before .before .before .before .before .before .before .before .args .b .now) (c .before .before .before .before .before .before .before .before .before .before .before .before .loop .p) (c .before .before .before .before .before .before .before .before .before .before .before .before .loop .q) (c .before .before .before .before .before .before .before .before .before .before .before .before .loop .inv .left) (c .before .before .before .before .before .before .before .before .before .before .before .before .loop .inv .right) (c .before .before .before .before .before .before .before .before .before .before .before .loop-test .taken) _ (c .before .before .before .before .before .before .before .before .before .before .key-of .ensures) _ (c .before .before .before .before .before .before .before .before .before .seek .ensures) _ (c .before .before .before .before .before .before .before .end-of .ensures .is) _ (c .before .before .before .before .before .before .before .before .stands-at .ensures)) _ _ (c .before .before .before .before .before .put-if .ensures) _ (c .before .m .given .1) (c .before .before .before .before .before .put-if .kept .1 .1 .1 .1 .0); left = rest-next _ _ _ (c .before .before .before .before .before .before .before .before .before .before .before .before .loop .inv .left) (c .before .before .before .before .before .before .before .before .before .before .before .loop-test .taken) _ (c .before .before .before .before .before .before .before .end-of .ensures .is); right = rest-sought _ _ _ _ _ (c .before .before .before .before .before .before .before .before .before .before .before .before .loop .inv .right) (c .before .before .before .before .before .before .before .before .before .seek .ensures) }
+loop-again c = record { progress = progress-on _ _ _ _ _ (c .before .before .before .before .before .before .before .before .before .before .before .before .loop .inv .progress) _ _ (remove-turn (c .before .before .before .before .before .before .before .before .before .before .before .before .before .before .before .before .before .args .leading-tag) (c .before .before .before .before .before .before .before .before .before .before .before .before .before .before .before .before .before .args .a .now) (c .before .before .before .before .before .before .before .before .before .before .before .before .before .before .before .before .before .args .b .now) (c .before .before .before .before .before .before .before .before .before .before .before .before .loop .p) (c .before .before .before .before .before .before .before .before .before .before .before .before .loop .q) (c .before .before .before .before .before .before .before .before .before .before .before .before .loop .inv .left) (c .before .before .before .before .before .before .before .before .before .before .before .before .loop .inv .right) (c .before .before .before .before .before .before .before .before .before .before .before .loop-test .taken) _ (c .before .before .before .before .before .before .before .before .before .before .whole-key .ensures .0) _ (c .before .before .before .before .before .before .before .before .before .seek .ensures) _ (c .before .before .before .before .before .before .before .whole-end .ensures .is) _ (c .before .before .before .before .before .before .before .before .stands-at .ensures)) _ _ (c .before .before .before .before .before .put-if .ensures) _ (c .before .m .given .1) (c .before .before .before .before .before .put-if .kept .1 .1 .1 .1 .0); left = rest-next _ _ _ (c .before .before .before .before .before .before .before .before .before .before .before .before .loop .inv .left) (c .before .before .before .before .before .before .before .before .before .before .before .loop-test .taken) _ (c .before .before .before .before .before .before .before .whole-end .ensures .is); right = rest-sought _ _ _ _ _ (c .before .before .before .before .before .before .before .before .before .before .before .before .loop .inv .right) (c .before .before .before .before .before .before .before .before .before .seek .ensures) }
 
 returns-2 : tie.Need-returns-2 Inv-loop μ-loop
-returns-2 c = progress-done _ _ _ _ _ (c .before .loop .inv .progress) (remove-end (c .before .before .before .before .before .before .args .first) (c .before .before .before .before .before .before .args .a .now) (c .before .before .before .before .before .before .args .b .now) (c .before .loop .p) (c .before .loop .q) (c .loop-test .left))
+returns-2 c = progress-done _ _ _ _ _ (c .before .loop .inv .progress) (remove-end (c .before .before .before .before .before .before .args .leading-tag) (c .before .before .before .before .before .before .args .a .now) (c .before .before .before .before .before .before .args .b .now) (c .before .loop .p) (c .before .loop .q) (c .loop-test .left))
 
 pub remove-spec : {M : Type 1} → statement M
 remove-spec =
@@ -53,10 +53,10 @@ remove-spec =
     μ-loop
     shared-requires
     loop-holds
-    key-of-requires
+    whole-key-requires
     seek-requires
     stands-at-requires
-    end-of-requires
+    whole-end-requires
     put-if-requires
     (λ c. search needs)
     (λ c. search needs)

@@ -21,17 +21,17 @@ loop-holds c = (omega arith, λ first. shared-start first _ _ (c .before .before
 add-loop : tie.Need-add-loop Inv-loop μ-loop
 add-loop c = record { fits = omega (arith, c .loop .inv .0, c .before .before .alike .ensures .left, c .before .before .before .before .before .good .0 .1) }
 
-end-of-requires : tie.Need-end-of-requires Inv-loop μ-loop
-end-of-requires c κs = omega (arith, c .loop-test .taken, c .before .before .before .alike .ensures .left)
+whole-end-requires : tie.Need-whole-end-requires Inv-loop μ-loop
+whole-end-requires c κs = omega (arith, c .loop-test .taken, c .before .before .before .alike .ensures .left)
 
 returns-2 : tie.Need-returns-2 Inv-loop μ-loop
 returns-2 c = c .before .before .before .loop .inv .1
 
 loop-less : tie.Need-loop-less Inv-loop μ-loop
-loop-less c = omega (arith, c .before .end-of .ensures .past, c .if3 .left)
+loop-less c = omega (arith, c .before .whole-end .ensures .past, c .if3 .left)
 
 loop-again : tie.Need-loop-again Inv-loop μ-loop
-loop-again c = (c .if3 .left, λ first. shared-step first _ _ _ _ (c .before .before .before .loop .inv .1 first) (c .before .before .before .before .before .alike .ensures) (c .before .before .loop-test .taken) _ (c .before .end-of .ensures .is) (c .if3 .left))
+loop-again c = (c .if3 .left, λ first. shared-step first _ _ _ _ (c .before .before .before .loop .inv .1 first) (c .before .before .before .before .before .alike .ensures) (c .before .before .loop-test .taken) _ (c .before .whole-end .ensures .is) (c .if3 .left))
 
 returns-3 : tie.Need-returns-3 Inv-loop μ-loop
 returns-3 c = c .before .loop .inv .1
@@ -46,7 +46,7 @@ shared-spec =
     returns
     loop-holds
     add-loop
-    end-of-requires
+    whole-end-requires
     returns-2
     loop-less
     loop-again
