@@ -154,7 +154,7 @@ fn span_all(target: &[u8], places: &[u16], body: &[u8], table: &mut [u16])
     }
 }
 
-// The same as `prepare`, for a table of that length.
+// Fills the table of a translation that was accepted, where it is lent as a slice.
 fn fill_all(source: &[u8], target: &[u8], body: &[u8], table: &mut [u16])
     requires { ⌜ Begun (now source) (now table) × ((f : Translation) × Checked (now source) (now target) (now body) f) ⌝ }
     ensures { λ r. ⌜ ((f : Translation) → Checked (now (source .entry)) (now (target .entry)) (now (body .entry)) f → Ready (now (table .exit)) f) ⌝ }
