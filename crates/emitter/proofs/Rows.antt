@@ -1,6 +1,6 @@
 -- Laws of codes in a row that are put out, each argument replaced by its run.
 use Prim.Native.Nat.{ℕ, zero, suc, _+_, _-_, _*_, _/_, _%_, _≤_, _<_}
-use mathlib.Core.Path.{_≡_, refl, sym, ap, subst, _∙_}
+use mathlib.Core.Path.{_≡_, refl, sym, ap, _∙_}
 use mathlib.Core.Logic.{_⊎_, inl, inr, ⊎-elim}
 use mathlib.Core.Bool.{true, false, not}
 use mathlib.Core.List.{List, [], _∷_, _++_, append-assoc, append-nil}
@@ -11,21 +11,20 @@ use lib.Seq.{slice, getD-set-same, getD-set-other}
 use lib.Dec.{eqb}
 use borrow.Author.Tests.{eqb-true, eqb-false, eq-eqb, ne-eqb}
 use Rattle.fields.proofs.Truth.{none-some, false-true, by-test}
-use Rattle.language.specs.Language.{Language, Range, rangeOf, argumentsOf, productionKey}
+use Rattle.language.specs.Language.{Language, Range, rangeOf, argumentsOf}
 use Rattle.reader.specs.Code as Terms
 use Rattle.reader.specs.Code.{node, token, argument, Codes, nil, cons, levels, levelsAll}
 use Rattle.reader.specs.Typing.{Typed, TypedAll, typed-node, typed-token, typed-argument, typed-nil, typed-cons}
-use Rattle.reader.specs.Syntax as Forms
 use Rattle.reader.specs.Syntax.{sign, write, writeAll, code}
 use Rattle.reader.specs.declared.node.Syntax.{Syntax}
 use Rattle.reader.specs.declared.node.Syntax.the-variants.{Tree, Code}
 use Rattle.reader.specs.Inner.Positions.{syntaxOf, nameLength}
 use Rattle.translation.specs.Translation.{Translation, mapped}
-use Rattle.translation.specs.Running.{nth, operand, substitute, substituteAll, run, runAll, mappedArguments, clausesOf, transform}
+use Rattle.translation.specs.Running.{nth, operand, substitute, run, runAll, mappedArguments, clausesOf, transform}
 use Rattle.translation.proofs.Fitting.{mapped-arguments}
 use Rattle.emitter.specs.Inner.Stands.{Stands, Wrote}
 use Rattle.emitter.specs.Inner.Table.{indexEntry, clauseEntry, sourceByte, bodyByte, spanEntry, clauseEnd, SpansAt, SpansAllAt, Production, Clause, Ready}
-use Rattle.emitter.specs.Inner.Runs.{bytesOf, allBytes, front, Given, Term, Node, Row, Right, Same, FindAsks, LastAsks, treeLevel, RowAsks, ArgumentAsks, TermAsks, NodeAt, NodeAsks, Started, leafAt, leafLength, signLength, knownStart, rowBytes}
+use Rattle.emitter.specs.Inner.Runs.{bytesOf, allBytes, front, Given, Term, Node, Row, Same, FindAsks, LastAsks, treeLevel, RowAsks, ArgumentAsks, TermAsks, NodeAt, NodeAsks, Started, leafAt, leafLength, signLength, knownStart, rowBytes}
 use Rattle.emitter.proofs.Standing.{stands-head, stands-both, wrote-none, wrote-past, wrote-then}
 
 get-inside : (r : List ℕ) (i k : ℕ) → getElem? r i ≡ some k → i < length r
@@ -725,18 +724,12 @@ module _ {x : Syntax} {t input : List ℕ} {at k : ℕ} {f : Translation} {given
   pub name-inside : at + signLength x < length input
   name-inside = is-node .inside
 
-  pub name-room : at + nameLength x ≤ length input
-  name-room = let i = is-node .stands .inside in omega arith
-
   name-some : 0 < nameLength x
   name-some = by x
     where
       by : (x : Syntax) → 0 < nameLength x
       by Tree = omega arith
       by Code = omega arith
-
-  pub kind-below : k < 32
-  kind-below = a .term .kind
 
   module _ {name n : ℕ} (es : n ≡ signLength x) (en : name ≡ getD input (at + n) 0) (small : name < 256) where
     is-name : name ≡ is-node .name
@@ -884,13 +877,7 @@ FindGives x t input ends before after j e =
 
 -- last_end
 module _ {x : Syntax} {t input ends state : List ℕ} {f : Translation} {given : List ℕ} {ts : Codes} {ks : List ℕ} (a : LastAsks x t input ends state f given ts ks) where
-  pub last-place : (3 ≤ getD state 9 0) × (getD state 9 0 - 3 < 1024)
-  last-place = let h = a .from in let i = a .asks .node .kinds .inside in (h, omega arith)
-
   module _ {n : ℕ} (en : n ≡ sourceByte t (getD state 9 0 - 3)) where
-    pub last-count : (2 ≤ n) × (n - 2 ≤ 8)
-    last-count = let c = a .count in let h = a .asks .node .few in (omega arith, omega arith)
-
     last-number : n - 2 ≡ length ks
     last-number = let c = a .count in omega arith
 
@@ -1031,9 +1018,6 @@ module _ {x : Syntax} {t input ends : List ℕ} {deep k : ℕ} {f : Translation}
         let b : bytesOf x (transform f u) ≡ slice 0 (0 + n) input =
         transform-run ∙ (ap (bytesOf x) (term-tells .1 is .1) ∙ sym (stands-slice input 0 n (bytesOf x u) term-long (a .term .stands))) in
         rw b w
-
-  pub term-deep : deep ≤ 64
-  term-deep = a .most
 
   module _ (is : leafAt x t k input 0 ≡ false) where
     pub term-asks : NodeAsks x t input ends 0 k (treeLevel * deep) f given u

@@ -48,15 +48,6 @@ stands-both b at v w h =
     sym (drop-drop (length v) at b) ∙ (ap (drop (length v)) d ∙ (ap (λ (n : ℕ). drop n (v ++ (w ++ drop (at + length (v ++ w)) b))) (sym (add-zero (length v))) ∙ drop-append-add v (w ++ drop (at + length (v ++ w)) b) 0)) in
     (drop-stands b at v _ (omega arith) d, drop-stands b (at + length v) w _ (omega arith) e)
 
-pub both-stand : (b : List ℕ) (at : ℕ) (v w : List ℕ) → Stands b at v → Stands b (at + length v) w → Stands b at (v ++ w)
-both-stand b at v w h i =
-    let k = h .inside in
-    drop-stands b at (v ++ w) (drop (at + length v + length w) b) (omega arith)
-    (stands-drop b at v h ∙ (ap (λ (l : List ℕ). v ++ l) (stands-drop b (at + length v) w i) ∙ sym (append-assoc v w _)))
-
-pub none-stands : (b : List ℕ) (at : ℕ) → at ≤ length b → Stands b at []
-none-stands b at h = drop-stands b at [] (drop at b) h refl
-
 opened : (o : List ℕ) (pos : ℕ) (v : List ℕ) → spliced o pos v ≡ take pos o ++ (v ++ drop (pos + length v) o)
 unfolding spliced
 opened o pos v = refl

@@ -19,7 +19,6 @@ use fields::bytes::wide;
 use reader::node::Syntax;
 use reader::node::name_length;
 ghost use mathlib.Core.Path.{_≡_};
-ghost use mathlib.Core.Bool.{false};
 ghost use mathlib.Core.List.{List};
 ghost use Prim.Native.Nat.{ℕ, _+_, _<_, _≤_};
 ghost use lib.ListN.{length, set, replicate};
@@ -54,8 +53,8 @@ fn start_node(
     clause_at(table, key)
 }
 
-// The run of the production of a kind that stands at a position of the input: the code of its clause. The name of the code's
-// root is put first. Where the production's tree ends is kept in the node above, whose argument j it is.
+// The run of a production of a kind whose tree stands at a position of the input: the code of its clause, each argument
+// replaced by its run. Where the tree ends is kept in the node above it, as the end of argument j.
 fn run_node(
     table: &[u16; TABLE],
     input: &[u8],
@@ -142,8 +141,8 @@ fn run_argument(
     )
 }
 
-// Codes in a row, from a position in the body up to another, each argument replaced by its run. What each call needs again
-// stands last among the parameters: those are passed in memory, which keeps what a call takes of the stack small.
+// Codes in a row, from a position in the body up to another, each argument replaced by its run. What is used again after a
+// call stands last among the parameters: the last ones are passed on the stack, and need no second place there.
 fn run_codes(
     table: &[u16; TABLE],
     input: &[u8],

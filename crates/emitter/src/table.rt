@@ -1,7 +1,7 @@
 // The table that a run looks things up in: its length, where its parts start, and what stands in them.
 ghost use mathlib.Core.Path.{_≡_};
 ghost use Prim.Native.Nat.{_+_, _<_};
-ghost use Rattle.emitter.specs.Inner.Table.{indexEntry, clauseEntry, sourceByte, bodyByte, spanEntry, clauseEnd};
+ghost use Rattle.emitter.specs.Inner.Table.{indexLength, indexEntry, clauseEntry, sourceByte, bodyByte, spanEntry, clauseEnd};
 
 // How many entries an index has.
 pub const INDEX: usize = 8224;
@@ -30,7 +30,7 @@ fn wide(x: u16) -> usize
 
 // What the index of the source holds under a key.
 pub fn index_at(table: &[u16; TABLE], key: usize) -> usize
-    requires { ⌜ key < 8224 ⌝ }
+    requires { ⌜ key < indexLength ⌝ }
     ensures { λ r. ⌜ (r ≡ indexEntry (now (table .entry)) key) × (r < 65536) ⌝ }
 {
     wide(table[key])
@@ -38,7 +38,7 @@ pub fn index_at(table: &[u16; TABLE], key: usize) -> usize
 
 // What the index of the body's items holds under a key.
 pub fn clause_at(table: &[u16; TABLE], key: usize) -> usize
-    requires { ⌜ key < 8224 ⌝ }
+    requires { ⌜ key < indexLength ⌝ }
     ensures { λ r. ⌜ (r ≡ clauseEntry (now (table .entry)) key) × (r < 65536) ⌝ }
 {
     wide(table[ITEMS + key])

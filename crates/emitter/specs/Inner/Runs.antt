@@ -19,7 +19,7 @@ use Rattle.reader.specs.Inner.Ends.{Kept}
 use Rattle.translation.specs.Translation.{Translation}
 use Rattle.translation.specs.Running.{clausesOf, substitute, substituteAll, run, runAll}
 use Rattle.emitter.specs.Inner.Stands.{Stands}
-use Rattle.emitter.specs.Inner.Table.{indexEntry, sourceByte, bodyByte, KindsAt, SpansAllAt, Clause, Ready}
+use Rattle.emitter.specs.Inner.Table.{bodyStart, indexEntry, sourceByte, bodyByte, KindsAt, SpansAllAt, Clause, Ready}
 
 -- The bytes of a code or of codes in the syntax of the input.
 abbrev pub bytesOf : Syntax → Terms.Code → List ℕ
@@ -59,7 +59,7 @@ pub record Node (x : Syntax) (t input node : List ℕ) (l : Language) (given : L
 -- The codes cs stand in the body from `at` up to `stop`; they may use as many arguments as r has kinds.
 pub record Row (t : List ℕ) (at stop : ℕ) (l : Language) (r : List ℕ) (cs : Codes) (js : List ℕ) : Type 0 where
   pub typed : TypedAll l r cs js
-  pub stands : Stands t (17472 + at) (writeAll code cs)
+  pub stands : Stands t (bodyStart + at) (writeAll code cs)
   pub spans : SpansAllAt t at cs
   pub ends : stop ≡ at + length (writeAll code cs)
   pub inside : stop ≤ 4096

@@ -11,39 +11,21 @@ use Rattle.emitter.proofs.run.run_node.Reads as run-node-reads
 use Rattle.emitter.proofs.skip.is_leaf.Reads as is-leaf-reads
 use Rattle.emitter.proofs.skip.leaf_length.Reads as leaf-length-reads
 
--- src/run.rt:184:8
 is-leaf-requires : tie.Need-is-leaf-requires
 is-leaf-requires c κs = term-below (c .before .before .before .pre .1 .3)
 
--- src/run.rt:185:35
 leaf-length-requires : tie.Need-leaf-length-requires
 leaf-length-requires c κs = term-below (c .before .before .before .before .before .pre .1 .3) .1
 
--- src/run.rt:185:9
 put-leaf-requires : tie.Need-put-leaf-requires
 put-leaf-requires c κs = (c .before .leaf-length .ensures .1, c .before .leaf-length .ensures .2, term-room (c .before .before .before .before .before .before .before .pre .1 .3) (sym (c .before .before .before .is-leaf .ensures) ∙ c .before .before .if1 .taken) (c .before .leaf-length .ensures .0), c .before .before .before .before .before .before .before .pre .0)
 
--- src/run.rt:185:9
-same-length : tie.Need-same-length
-same-length c = search needs
-
--- src/run.rt:185:9
 returns : tie.Need-returns
 returns c = λ f given u a. term-leaf a (sym (c .before .before .before .before .before .before .is-leaf .ensures) ∙ c .before .before .before .before .before .if1 .taken) (c .before .before .before .before .leaf-length .ensures .0) (c .before .before .put-leaf .ensures)
 
--- src/run.rt:188:16
-mul-left : tie.Need-mul-left
-mul-left c = search needs
-
--- src/run.rt:189:5
 run-node-requires : tie.Need-run-node-requires
 run-node-requires c κs = (c .before .before .before .before .before .before .before .pre .0, omega arith, (c .before .before .before .before .before .before .before .pre .1 .0, c .before .before .before .before .before .before .before .pre .1 .1, c .before .before .before .before .before .before .before .pre .1 .2, term-asks (c .before .before .before .before .before .before .before .pre .1 .3) (sym (c .before .before .before .is-leaf .ensures) ∙ c .before .before .if1 .left)))
 
--- src/run.rt:169:1
-same-length-2 : tie.Need-same-length-2
-same-length-2 c = search needs
-
--- src/run.rt:169:1
 returns-2 : tie.Need-returns-2
 returns-2 c = λ f given u a. term-gives a (c .before .before .run-node .ensures f given u (term-asks a (sym (c .before .before .before .before .before .before .is-leaf .ensures) ∙ c .before .before .before .before .before .if1 .left)) .0)
 
@@ -54,9 +36,9 @@ run-spec =
     is-leaf-requires
     leaf-length-requires
     put-leaf-requires
-    same-length
+    (λ c. search needs)
     returns
-    mul-left
+    (λ c. search needs)
     run-node-requires
-    same-length-2
+    (λ c. search needs)
     returns-2)

@@ -11,63 +11,9 @@ use Rattle.emitter.proofs.table.index_at.Reads as index-at-reads
 use Rattle.fields.proofs.bytes.wide.Reads as wide-reads
 use Rattle.reader.proofs.node.name_length.Reads as name-length-reads
 
--- src/run.rt:51:21
-mul-key : tie.Need-mul-key
-mul-key c = search needs
-
--- src/run.rt:51:50
-sign-length-requires : tie.Need-sign-length-requires
-sign-length-requires c κs = search needs
-
--- src/run.rt:51:45
-add-wide : tie.Need-add-wide
-add-wide c = search needs
-
--- src/run.rt:51:39
 shared-slice-read-wide : tie.Need-shared-slice-read-wide
 shared-slice-read-wide c = omega (arith, name-inside (c .before .before .before .pre .1 .3), c .before .sign-length .ensures .0)
 
--- src/run.rt:51:34
-wide-requires : tie.Need-wide-requires
-wide-requires c κs = search needs
-
--- src/run.rt:51:21
-add-key : tie.Need-add-key
-add-key c = search needs
-
--- src/run.rt:51:15
-add-key-2 : tie.Need-add-key-2
-add-key-2 c = search needs
-
--- src/run.rt:52:15
-index-at-requires : tie.Need-index-at-requires
-index-at-requires c κs = search needs
-
--- src/run.rt:52:15
-add-node : tie.Need-add-node
-add-node c = search needs
-
--- src/run.rt:52:5
-element-write-node : tie.Need-element-write-node
-element-write-node c = search needs
-
--- src/run.rt:53:20
-name-length-requires : tie.Need-name-length-requires
-name-length-requires c κs = search needs
-
--- src/run.rt:53:15
-add-node-2 : tie.Need-add-node-2
-add-node-2 c = search needs
-
--- src/run.rt:53:5
-element-write-node-2 : tie.Need-element-write-node-2
-element-write-node-2 c = search needs
-
--- src/run.rt:54:5
-clause-at-requires : tie.Need-clause-at-requires
-clause-at-requires c κs = search needs
-
--- src/run.rt:39:1
 returns : tie.Need-returns
 returns c = λ f given u a. started a (c .before .before .before .before .before .sign-length .ensures .0) (c .before .before .before .wide .ensures .0) (c .before .before .before .wide .ensures .1) (c .before .before .index-at .ensures .0) (c .clause-at .ensures .0) (c .before .name-length .ensures .0) (c .before .before .before .before .before .before .before .pre .0)
 
@@ -75,18 +21,18 @@ pub start-node-spec : {M : Type 1} → statement M
 start-node-spec =
     tie.close
     (tie.spec
-    mul-key
-    sign-length-requires
-    add-wide
+    (λ c. search needs)
+    (λ c κs. search needs)
+    (λ c. search needs)
     shared-slice-read-wide
-    wide-requires
-    add-key
-    add-key-2
-    index-at-requires
-    add-node
-    element-write-node
-    name-length-requires
-    add-node-2
-    element-write-node-2
-    clause-at-requires
+    (λ c κs. search needs)
+    (λ c. search needs)
+    (λ c. search needs)
+    (λ c κs. search needs)
+    (λ c. search needs)
+    (λ c. search needs)
+    (λ c κs. search needs)
+    (λ c. search needs)
+    (λ c. search needs)
+    (λ c κs. search needs)
     returns)
