@@ -1,5 +1,8 @@
 //! A safe wrapper over the C interface of the static library `algebra`, and over the clock
 //! that the benchmark needs from the C library of the system.
+//!
+//! Of what the header asks of callers, slices see to all but one thing: `STACK_BYTES` of stack
+//! must be left. Threads of the standard library have more than that when they start.
 #![allow(unsafe_code)]
 
 use std::time::Duration;

@@ -1,7 +1,7 @@
 //! Packs whose terms have 12 levels: signs around a bottom, in all ways.
 
 use crate::mixed::Mixed;
-use crate::shapes::{Order, Shape, Size};
+use crate::shapes::{shapes, Order, Shape, Size};
 use reference::files::pack;
 use reference::generate::Random;
 
@@ -9,7 +9,7 @@ use reference::generate::Random;
 const TERM_LEVELS: usize = 12;
 
 /// Terms name so many bodies, one of which is flat.
-const BODIES: usize = 5;
+const BODIES: usize = 6;
 const FLAT_BODY: usize = 1;
 
 /// Binds variable 0 to the deep translation, then the other variable 0 to its language.
@@ -62,6 +62,10 @@ const STEPS: [Step; 22] = [
     step("55 (43 . (44 X))", 3, &[0x55, 0x43, 0x40, 0, 0x44], &[]),
 ];
 
+/// The places of a join and of a let among the steps.
+const JOIN: usize = 0;
+const LET: usize = 13;
+
 /// Steps from language terms to language terms.
 const LANGUAGE_STEPS: [Step; 8] = [
     step("42 L .", 1, &[0x42], &[0x40, 1]),
@@ -87,7 +91,7 @@ const fn bottom(name: &'static str, levels: usize, bound: bool, term: &'static [
     Bottom { name, levels, bound, term }
 }
 
-const BOTTOMS: [Bottom; 18] = [
+const BOTTOMS: [Bottom; 20] = [
     bottom("deep body", 2, false, &[0x50, 0x40, 0, 0x40, 0, 0]),
     bottom("flat body", 2, false, &[0x50, 0x40, 0, 0x40, 0, 1]),
     bottom("identity", 2, false, &[0x55, 0x40, 0]),
@@ -114,7 +118,19 @@ const BOTTOMS: [Bottom; 18] = [
         false,
         &[0x54, 0x50, 0x40, 0, 0x40, 0, 0, 0x50, 0x40, 0, 0x40, 0, 3],
     ),
+    bottom(
+        "join, mate second",
+        3,
+        false,
+        &[0x54, 0x50, 0x40, 0, 0x40, 0, 0, 0x50, 0x40, 0, 0x40, 0, 5],
+    ),
     bottom("deep join of variables", 2, true, &[0x54, 0x51, 0, 0x51, 0]),
+    bottom(
+        "join of variables",
+        3,
+        true,
+        &[0x57, 2, 0x50, 0x40, 0, 0x40, 0, 3, 0x54, 0x51, 0, 0x51, 2],
+    ),
     bottom("sum of variables", 2, true, &[0x53, 0x51, 0, 0x51, 0]),
     bottom("without, of variables", 2, true, &[0x52, 0x51, 0, 0x41, 0]),
     bottom("body, of variables", 2, true, &[0x50, 0x41, 0, 0x41, 0, 0]),
@@ -123,8 +139,9 @@ const BOTTOMS: [Bottom; 18] = [
     bottom("join with an identity", 3, true, &[0x54, 0x55, 0x41, 0, 0x51, 0]),
 ];
 
-/// The bottoms whose joins recur the most: at the last level but two, and but one.
-const DEEP_JOINS: [&Bottom; 2] = [&BOTTOMS[3], &BOTTOMS[11]];
+/// The bottoms whose joins recur the most.
+const DEEP_JOINS: [&str; 4] =
+    ["join, constant second", "join, mate second", "deep join of variables", "join of variables"];
 
 /// Language terms at the bottom.
 const LANGUAGE_BOTTOMS: [Bottom; 4] = [
@@ -141,6 +158,13 @@ const LANGUAGE_BOTTOMS: [Bottom; 4] = [
 
 /// The sign around a language term.
 const IDENTITY: u8 = 0x55;
+
+/// Languages and bodies that terms name.
+struct Stock {
+    name: String,
+    languages: [Vec<u8>; 2],
+    bodies: [Vec<u8>; BODIES],
+}
 
 /// A name with the bytes of a pack.
 pub type NamedPack = (String, Vec<u8>);
@@ -161,7 +185,7 @@ fn filled(bottom: &[u8], mut room: usize, mut next: impl FnMut() -> &'static Ste
 /// A step of depth 1 of the same sort as one that is too deep.
 fn next_smaller(step: &Step) -> &'static Step {
     match step.before[0] {
-        0x50.. => &STEPS[0],
+        0x50.. => &STEPS[JOIN],
         _ => &LANGUAGE_STEPS[0],
     }
 }
@@ -180,16 +204,56 @@ impl Bottom {
     }
 }
 
-/// The pack with a term over the languages and bodies of a shape.
-fn pack_of(shape: &Shape, term: &[u8]) -> Vec<u8> {
-    let with = |order| Shape { order, ..*shape }.body();
-    let others = [Order::Alone, Order::Constant, Order::TooDeep].map(with);
-    let bodies = [&[shape.body(), shape.flat_body()], &others[..]].concat();
-    pack(&[shape.language(), vec![]], &bodies, term)
+impl Stock {
+    /// The languages and bodies of a shape.
+    ///
+    /// As second operands of a join, the constant body and the last one, its mate, have their
+    /// deep operands where the deep body looks for them.
+    fn of(shape: &Shape) -> Stock {
+        let mate = Shape { place: shape.used, ..*shape };
+        let bodies = [
+            shape.body(),
+            shape.flat_body(),
+            Shape { order: Order::Alone, ..*shape }.body(),
+            Shape { order: Order::Constant, ..mate }.body(),
+            Shape { order: Order::TooDeep, ..*shape }.body(),
+            mate.body(),
+        ];
+        Stock { name: format!("{shape:?}"), languages: [shape.language(), vec![]], bodies }
+    }
+
+    /// Random bodies, but for the flat one, over a random language.
+    fn random(random: &mut Random) -> Stock {
+        let mixed = Mixed::new(random);
+        let mut bodies = std::array::from_fn(|_| mixed.body(random));
+        bodies[FLAT_BODY] = mixed.flat_body();
+        Stock { name: String::new(), languages: [mixed.language(), vec![]], bodies }
+    }
+
+    /// The pack with a term.
+    fn pack(&self, term: &[u8]) -> Vec<u8> {
+        pack(&self.languages, &self.bodies, term)
+    }
+
+    /// The pack with a term, named by the term and the stock.
+    fn named(&self, name: &str, term: &[u8]) -> NamedPack {
+        (format!("{name}, {}", self.name), self.pack(term))
+    }
+
+    /// One step again and again around a bottom.
+    fn repeated(&self, step: &'static Step, bottom: &Bottom) -> NamedPack {
+        let name = format!("{} around {}", step.name, bottom.name);
+        self.named(&name, &bottom.under(|| step))
+    }
+}
+
+/// The bottoms with deep joins.
+fn deep_joins() -> impl Iterator<Item = &'static Bottom> {
+    BOTTOMS.iter().filter(|bottom| DEEP_JOINS.contains(&bottom.name))
 }
 
 /// Shapes that differ in what a join may need: arguments, places, orders, sizes.
-pub fn shapes() -> Vec<Shape> {
+fn chosen_shapes() -> Vec<Shape> {
     let shape = |count, place, used, order, size| Shape { count, place, used, order, size };
     vec![
         shape(1, 1, 1, Order::Dropped, Size::Lean),
@@ -204,56 +268,56 @@ pub fn shapes() -> Vec<Shape> {
 }
 
 /// One step again and again around each bottom.
-fn single_steps(shape: &Shape) -> Vec<NamedPack> {
-    let mut packs = Vec::new();
-    for step in &STEPS {
-        for bottom in &BOTTOMS {
-            let name = format!("{} around {}, {shape:?}", step.name, bottom.name);
-            packs.push((name, pack_of(shape, &bottom.under(|| step))));
-        }
-    }
-    packs
+fn single_steps(stock: &Stock) -> Vec<NamedPack> {
+    let one = |step| BOTTOMS.iter().map(move |bottom| stock.repeated(step, bottom));
+    STEPS.iter().flat_map(one).collect()
 }
 
 /// The identity of a language term: one step again and again around each bottom.
-fn language_steps(shape: &Shape) -> Vec<NamedPack> {
+fn language_steps(stock: &Stock) -> Vec<NamedPack> {
     let mut packs = Vec::new();
     for step in &LANGUAGE_STEPS {
         for bottom in &LANGUAGE_BOTTOMS {
-            let name = format!("55 of {} around {}, {shape:?}", step.name, bottom.name);
+            let name = format!("55 of {} around {}", step.name, bottom.name);
             let term = filled(bottom.term, TERM_LEVELS - 1 - bottom.levels, || step);
-            packs.push((name, pack_of(shape, &[&[IDENTITY], &term[..]].concat())));
+            packs.push(stock.named(&name, &[&[IDENTITY], &term[..]].concat()));
         }
     }
     packs
 }
 
-/// Any two steps by turns around the deep joins.
-fn step_pairs(shape: &Shape) -> Vec<NamedPack> {
+/// Joins or lets around the deep joins of every lean shape.
+fn joins_of_all_shapes() -> Vec<NamedPack> {
+    let mut packs = Vec::new();
+    for stock in shapes(Size::Lean).iter().map(Stock::of) {
+        for bottom in deep_joins() {
+            packs.extend([JOIN, LET].map(|step| stock.repeated(&STEPS[step], bottom)));
+        }
+    }
+    packs
+}
+
+/// Any two steps by turns around every second of the deep joins.
+fn step_pairs(stock: &Stock) -> Vec<NamedPack> {
     let mut packs = Vec::new();
     for (outer, inner) in STEPS.iter().flat_map(|one| STEPS.iter().map(move |other| (one, other))) {
-        for bottom in DEEP_JOINS {
-            let (one, other, around) = (outer.name, inner.name, bottom.name);
-            let name = format!("{one} and {other} around {around}, {shape:?}");
-            packs.push((name, pack_of(shape, &bottom.under_two(outer, inner))));
+        for bottom in deep_joins().step_by(2) {
+            let name = format!("{} and {} around {}", outer.name, inner.name, bottom.name);
+            packs.push(stock.named(&name, &bottom.under_two(outer, inner)));
         }
     }
     packs
 }
 
 /// Signs 53 or 54 whose operands are both as deep as can be.
-fn full_terms(shape: &Shape) -> Vec<NamedPack> {
+fn full_terms(stock: &Stock) -> Vec<NamedPack> {
     let mut packs = Vec::new();
     for (sign, name) in [(0x53, "sums"), (0x54, "joins")] {
-        for leaf in [&[0x51, 0][..], &[0x51, 1]] {
+        for (leaf, of) in [([0x51, 0], "deep bodies"), ([0x51, 1], "identities")] {
             let levels = TERM_LEVELS - BINDING_LEVELS - 2;
             let full = (0..levels).fold(leaf.to_vec(), |t, _| [&[sign], &t[..], &t].concat());
-            let flat = [0x57, 1, 0x55, 0x40, 0];
-            let term = [BINDINGS, &flat, &full].concat();
-            packs.push((
-                format!("{name} on both sides, {leaf:?}, {shape:?}"),
-                pack_of(shape, &term),
-            ));
+            let term = [BINDINGS, &[0x57, 1, 0x55, 0x40, 0], &full].concat();
+            packs.push(stock.named(&format!("{name} of {of} on both sides"), &term));
         }
     }
     packs
@@ -261,12 +325,13 @@ fn full_terms(shape: &Shape) -> Vec<NamedPack> {
 
 /// All packs by construction.
 pub fn fixed_packs() -> Vec<NamedPack> {
-    let shapes = shapes();
-    let single = shapes.iter().flat_map(single_steps);
-    let languages = shapes.iter().flat_map(language_steps);
-    let pairs = shapes.iter().take(1).flat_map(step_pairs);
-    let full = shapes.iter().flat_map(full_terms);
-    single.chain(languages).chain(pairs).chain(full).collect()
+    let stocks: Vec<Stock> = chosen_shapes().iter().map(Stock::of).collect();
+    let single = stocks.iter().flat_map(single_steps);
+    let languages = stocks.iter().flat_map(language_steps);
+    let pairs = stocks.iter().take(1).flat_map(step_pairs);
+    let full = stocks.iter().flat_map(full_terms);
+    let joins = joins_of_all_shapes();
+    single.chain(languages).chain(pairs).chain(full).chain(joins).collect()
 }
 
 /// A random term of 12 levels.
@@ -277,16 +342,12 @@ fn random_term(random: &mut Random) -> Vec<u8> {
 
 /// A pack with a random term over a shape.
 pub fn shape_pack(random: &mut Random) -> Vec<u8> {
-    let shapes = shapes();
+    let shapes = chosen_shapes();
     let shape = &shapes[random.below(shapes.len())];
-    pack_of(shape, &random_term(random))
+    Stock::of(shape).pack(&random_term(random))
 }
 
 /// A pack with a random term over random bodies.
 pub fn mixed_pack(random: &mut Random) -> Vec<u8> {
-    let mixed = Mixed::new(random);
-    let deep = |_| mixed.body(random);
-    let mut bodies: Vec<Vec<u8>> = (0..BODIES).map(deep).collect();
-    bodies[FLAT_BODY] = mixed.flat_body();
-    pack(&[mixed.language(), vec![]], &bodies, &random_term(random))
+    Stock::random(random).pack(&random_term(random))
 }
