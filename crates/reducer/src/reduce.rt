@@ -2,12 +2,12 @@
 use crate::places::nothing;
 use crate::terms::translation_term;
 use crate::worked::Worked;
+use fields::copy::put;
 use fields::outcome::Answer;
 use fields::outcome::Outcome;
 use fields::outcome::Reason;
 use fields::outcome::accept;
 use fields::outcome::refuse;
-use operators::copy::put;
 use pack::check::check_pack;
 use pack::parts::term_start;
 use pack::term::check_term;

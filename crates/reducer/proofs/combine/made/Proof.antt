@@ -1,7 +1,7 @@
 use Rattle.pack.specs.Terms.{languages}
 use Rattle.translation.specs.TranslationFile.{bodyOf}
 use Rattle.language.specs.LanguageFile.{languageOf}
-use Rattle.operators.proofs.Splices.{slice-is}
+use Rattle.fields.proofs.Splices.{slice-is}
 use mathlib.Core.Path.{refl, ap, sym, _∙_}
 use native.Mathlib.Omega.{arith}
 use Rattle.reducer.proofs.Copying.{value-as, front, body-part, body-short}
