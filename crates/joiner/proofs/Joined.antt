@@ -31,9 +31,10 @@ use Rattle.translation.proofs.IndexedItems.{mapped-is}
 use Rattle.emitter.specs.Inner.Table.{Ready, Checked}
 use Rattle.operators.specs.Algebra.{joinFits, joined, translationJoin}
 use Rattle.operators.specs.Limits.{codeIsDeep, languageExceeds, translationExceeds}
-use Rattle.operators.specs.declared.copy.Stored.{Stored}
-use Rattle.operators.specs.declared.copy.Stored.the-variants.{Full}
-use Rattle.operators.specs.Inner.Parts.{Stores, liesWithin}
+use Rattle.fields.specs.declared.copy.Stored.{Stored}
+use Rattle.fields.specs.declared.copy.Stored.the-variants.{Full}
+use Rattle.fields.specs.Inner.Writing.{Stores}
+use Rattle.operators.specs.Inner.Parts.{liesWithin}
 use Rattle.operators.specs.Inner.Values.{Gives, translationBytes}
 use Rattle.operators.proofs.Proper.{Sound, GoodTranslation, formed-sound, good-back}
 use Rattle.operators.proofs.JoinSound.{body-rises, join-whole, sound-join}

@@ -8,8 +8,8 @@ use lib.Seq.{sets-eq, take-append-le, take-take, drop-at, length-take-le}
 use Rattle.emitter.specs.Inner.Stands as Standing
 use Rattle.emitter.specs.Inner.Stands.{Wrote}
 use Rattle.emitter.proofs.Standing.{wrote-long}
-use Rattle.operators.specs.declared.copy.Stored.the-variants.{To, Full}
-use Rattle.operators.specs.Inner.Parts.{spliced, Stores}
+use Rattle.fields.specs.declared.copy.Stored.the-variants.{To, Full}
+use Rattle.fields.specs.Inner.Writing.{spliced, Stores}
 
 -- put_head
 module _ (o : List ℕ) (n : ℕ) (fits : n + 5 ≤ length o) where

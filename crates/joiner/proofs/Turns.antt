@@ -16,10 +16,10 @@ use Rattle.translation.specs.TranslationFile.{itemField}
 use Rattle.translation.specs.Inner.Items.{itemWhole, itemAt, IsMapping, IsClause}
 use Rattle.translation.proofs.Items.{item-facts, mapping-is, clause-is, holds-items}
 use Rattle.operators.specs.Algebra.{joinItem, joined}
-use Rattle.operators.specs.declared.copy.Stored.{Stored}
-use Rattle.operators.specs.declared.copy.Stored.the-variants.{To, Full}
-use Rattle.operators.specs.Inner.Parts.{spliced, Written, Stores}
-use Rattle.operators.proofs.Splices.{nothing-spliced, written-then}
+use Rattle.fields.specs.declared.copy.Stored.{Stored}
+use Rattle.fields.specs.declared.copy.Stored.the-variants.{To, Full}
+use Rattle.fields.specs.Inner.Writing.{spliced, Written, Stores}
+use Rattle.fields.proofs.Splices.{nothing-spliced, written-then}
 use Rattle.joiner.specs.Inner.Joining.{Joining, Maps, Reached, head, joinedCode, joinedField, joinedBody}
 use Rattle.joiner.proofs.Splices.{head-before, head-full, stored-to, stored-full}
 

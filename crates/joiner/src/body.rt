@@ -6,13 +6,13 @@ ghost use lib.ListN.{length, getD};
 ghost use Rattle.fields.specs.Inner.Places.{EndsAt, fieldEnd};
 ghost use Rattle.translation.specs.Translation.{Translation};
 ghost use Rattle.translation.specs.Inner.Items.{itemWhole, IsMapping, IsClause};
-ghost use Rattle.operators.specs.Inner.Parts.{spliced, Stores};
+ghost use Rattle.fields.specs.Inner.Writing.{spliced, Stores};
 ghost use Rattle.joiner.specs.Inner.Joining.{Joining, Maps, Reached, head, joinedCode, joinedField, joinedBody};
 use emitter::run::run;
 use fields::bytes::byte_at;
 use fields::bytes::wide;
+use fields::copy::Stored;
 use fields::walk::field_end;
-use operators::copy::Stored;
 use reader::node::Syntax;
 use translation::index::map_kind;
 

@@ -9,6 +9,8 @@ use super::parts::term_start;
 use super::signs::first_operand;
 use super::signs::has_number;
 use super::signs::second_operand;
+use super::whole::BODY;
+use super::whole::LANGUAGE;
 use super::whole::count_tag;
 use fields::bytes::byte_at;
 use fields::bytes::wide;
@@ -16,6 +18,9 @@ use fields::outcome::Answer;
 use fields::outcome::Reason;
 use fields::outcome::accept;
 use fields::outcome::refuse;
+
+// A term has at most so many levels.
+const TERM_LEVELS: usize = 12;
 
 // The position after what was read; or bytes that are no such term.
 pub enum Read {
@@ -104,9 +109,9 @@ pub fn check_term(pack: &[u8]) -> Answer
     ensures { λ r. ⌜ ((p : Pack) → packOf (now (pack .entry)) ≡ value p → r .outcome ≡ checked (termOf p)) ⌝ }
 {
     let start = term_start(pack);
-    let languages = count_tag(pack, 0x30);
-    let bodies = count_tag(pack, 0x31);
-    let Read::End(e) = term_end(2, pack, start, languages, bodies, 12) else {
+    let languages = count_tag(pack, LANGUAGE);
+    let bodies = count_tag(pack, BODY);
+    let Read::End(e) = term_end(2, pack, start, languages, bodies, TERM_LEVELS) else {
         return refuse(Reason::Term);
     };
     if e != pack.len() {

@@ -18,8 +18,8 @@ use Rattle.fields.proofs.Truth.{or-false, true-not}
 use Rattle.fields.proofs.Codec.{refused-value}
 use Rattle.translation.specs.Translation.{Translation}
 use Rattle.translation.proofs.Fitting.{refuse-value}
-use Rattle.operators.specs.Inner.Parts.{Stores, spliced}
-use Rattle.operators.specs.declared.copy.Stored.{Stored}
+use Rattle.fields.specs.Inner.Writing.{Stores, spliced}
+use Rattle.fields.specs.declared.copy.Stored.{Stored}
 use Rattle.pack.specs.Terms.{Term, translations, Parse, readTerm, scoped}
 use Rattle.pack.specs.Pack.{Pack, packOf, termOf, wholeTerm, termLimit}
 use Rattle.signs.specs.declared.places.Places.{Places}

@@ -1,11 +1,11 @@
 // The operation reduce (paper 01, "Operations and their refusals").
 use evaluator::terms::translation_term;
+use fields::copy::put;
 use fields::outcome::Answer;
 use fields::outcome::Outcome;
 use fields::outcome::Reason;
 use fields::outcome::accept;
 use fields::outcome::refuse;
-use operators::copy::put;
 use pack::check::check_pack;
 use pack::parts::term_start;
 use pack::term::check_term;

@@ -12,11 +12,11 @@ use Rattle.fields.specs.declared.outcome.Outcome.{Outcome}
 use Rattle.fields.specs.declared.outcome.Outcome.the-variants as Outcomes
 use Rattle.fields.specs.declared.outcome.Reason.the-variants.{Unbound}
 use Rattle.fields.proofs.Codec.{refused-value}
-use Rattle.operators.specs.Inner.Parts.{Stores, spliced}
-use Rattle.operators.specs.declared.copy.Stored.{Stored}
-use Rattle.operators.specs.declared.copy.Stored.the-variants as Storeds
+use Rattle.fields.specs.Inner.Writing.{Stores, spliced}
+use Rattle.fields.specs.declared.copy.Stored.{Stored}
+use Rattle.fields.specs.declared.copy.Stored.the-variants as Storeds
 use Rattle.operators.specs.Inner.Values as Written
-use Rattle.operators.proofs.Splices.{slice-is}
+use Rattle.fields.proofs.Splices.{slice-is}
 use Rattle.fields.specs.Keyed.{rising}
 use Rattle.translation.specs.Translation.{Body, itemKey}
 use Rattle.translation.specs.TranslationFile.{bodyOf}

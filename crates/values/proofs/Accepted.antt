@@ -30,8 +30,8 @@ use Rattle.translation.proofs.Cuts.{pieces-in}
 use Rattle.operators.specs.Limits.{isDeep, codeIsDeep, languageExceeds, translationExceeds}
 use Rattle.operators.specs.Inner.Values.{languageBytes, translationBytes, Gives}
 use Rattle.operators.proofs.Proper.{Proper, Sound, GoodTranslation, formed-sound}
-use Rattle.operators.specs.declared.copy.Stored.{Stored}
-use Rattle.operators.specs.Inner.Parts.{Stores}
+use Rattle.fields.specs.declared.copy.Stored.{Stored}
+use Rattle.fields.specs.Inner.Writing.{Stores}
 use Rattle.values.specs.Inner.Assembled.{assembled, limited}
 use Rattle.values.proofs.Given.{assembled-is, stored-gives, slice-whole}
 

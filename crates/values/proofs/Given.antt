@@ -19,9 +19,9 @@ use Rattle.fields.proofs.Codec.{refused-value}
 use Rattle.language.specs.LanguageFile.{encodeLanguage}
 use Rattle.translation.specs.Translation.{Translation}
 use Rattle.translation.specs.TranslationFile.{itemField, translationFields, encodeTranslation}
-use Rattle.operators.specs.declared.copy.Stored.{Stored}
-use Rattle.operators.specs.declared.copy.Stored.the-variants.{To, Full}
-use Rattle.operators.specs.Inner.Parts.{spliced, Written, Stores}
+use Rattle.fields.specs.declared.copy.Stored.{Stored}
+use Rattle.fields.specs.declared.copy.Stored.the-variants.{To, Full}
+use Rattle.fields.specs.Inner.Writing.{spliced, Written, Stores}
 use Rattle.operators.specs.Inner.Values.{Gives}
 use Rattle.operators.proofs.Turns.{Progress, progress-start, progress-on, progress-full, progress-last}
 use Rattle.values.specs.Inner.Assembled.{assembled, limited}

@@ -32,10 +32,11 @@ use Rattle.translation.specs.Inner.ItemIndex.{knownAt}
 use Rattle.translation.proofs.Codec as Codec
 use Rattle.translation.proofs.Items.{item-facts, clause-is, holds-items}
 use Rattle.translation.proofs.IndexedItems.{clause-key, there}
-use Rattle.operators.specs.declared.copy.Stored.{Stored}
-use Rattle.operators.specs.declared.copy.Stored.the-variants.{To, Full}
+use Rattle.fields.specs.declared.copy.Stored.{Stored}
+use Rattle.fields.specs.declared.copy.Stored.the-variants.{To, Full}
 use Rattle.operators.specs.Algebra.{isOf, languageWithout, translationWithout}
-use Rattle.operators.specs.Inner.Parts.{Part, pieceAt, partAt, partsFrom, Inside, Stores}
+use Rattle.fields.specs.Inner.Writing.{Inside, Stores}
+use Rattle.operators.specs.Inner.Parts.{Part, pieceAt, partAt, partsFrom}
 use Rattle.operators.specs.Inner.Values.{translationBytes, Gives}
 use Rattle.operators.proofs.Proper.{GoodTranslation}
 use Rattle.operators.proofs.SumSound.{proper-without, sound-without}

@@ -11,12 +11,14 @@ use Rattle.fields.specs.declared.outcome.Reason.the-variants.{SumUnfit}
 use Rattle.fields.specs.Fields.{byteAt}
 use Rattle.language.specs.Language.{Language}
 use Rattle.language.specs.LanguageFile.{encodeLanguage, languageOf}
+use Rattle.language.specs.Inner.Entries.{RisingEntries}
 use Rattle.language.proofs.Codec.{language-good}
-use Rattle.operators.specs.declared.copy.Stored.{Stored}
+use Rattle.fields.specs.declared.copy.Stored.{Stored}
 use Rattle.operators.specs.Algebra.{languagesFit, languageUnion, languageSum, languageWithout}
-use Rattle.operators.specs.Inner.Parts.{Sorted, Stores, united, removed, fitTogether}
+use Rattle.fields.specs.Inner.Writing.{Stores}
+use Rattle.operators.specs.Inner.Parts.{Sorted, united, removed, fitTogether}
 use Rattle.operators.specs.Inner.Values.{languageBytes, Gives}
-use Rattle.operators.proofs.Encoded.{sorted-language, united-languages, removed-language, languages-fit}
+use Rattle.operators.proofs.Encoded.{sorted-language, rising-language, united-languages, removed-language, languages-fit}
 use Rattle.values.specs.Inner.Assembled.{limited}
 use Rattle.values.proofs.Given.{gives-refused}
 use Rattle.values.proofs.Accepted.{language-written, language-copied}
@@ -24,6 +26,12 @@ use Rattle.values.proofs.Accepted.{language-written, language-copied}
 -- The fields of an accepted language rise.
 pub language-sorted : (a : List ℕ) (l : Language) → languageOf a ≡ value l → ((i : ℕ) → byteAt a i < 256) → Sorted 0x11 a
 language-sorted a l e h = subst (Sorted 0x11) (sym (language-written a l e h)) (sorted-language l l (language-good a l e .1 .rises))
+
+-- An accepted language is whole entries whose keys rise.
+pub language-rises : (a : List ℕ) (l : Language) → languageOf a ≡ value l → ((i : ℕ) → byteAt a i < 256) → RisingEntries a
+language-rises a l e h =
+    let g = language-good a l e .1 in
+    subst RisingEntries (sym (language-written a l e h)) (rising-language l (g .whole) (g .rises))
 
 module _ (a b : List ℕ) (h : (i : ℕ) → byteAt a i < 256) (k : (i : ℕ) → byteAt b i < 256) (l m : Language)
     (e : languageOf a ≡ value l) (d : languageOf b ≡ value m) where

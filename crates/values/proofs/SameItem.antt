@@ -30,14 +30,14 @@ use Rattle.reader.proofs.Members.{entries-whole}
 use Rattle.translation.specs.Translation.{mapping, Body}
 use Rattle.translation.specs.TranslationFile.{itemField}
 use Rattle.translation.specs.WellFormed.{kinds}
-use Rattle.operators.specs.declared.copy.Stored.{Stored}
-use Rattle.operators.specs.declared.copy.Stored.the-variants.{To, Full}
+use Rattle.fields.specs.declared.copy.Stored.{Stored}
+use Rattle.fields.specs.declared.copy.Stored.the-variants.{To, Full}
 use Rattle.operators.specs.Algebra.{argumentsFrom, identityClause, identityOf}
-use Rattle.operators.specs.Inner.Parts.{Stores}
+use Rattle.fields.specs.Inner.Writing.{Stores}
 use Rattle.operators.specs.Inner.Values.{translationBytes, Gives}
 use Rattle.operators.proofs.Proper.{good-proper}
 use Rattle.operators.proofs.IdentitySound.{sound-identity}
-use Rattle.operators.proofs.Splices.{put-unwanted, both-full, both-then}
+use Rattle.fields.proofs.Splices.{put-unwanted, both-full, both-then}
 use Rattle.operators.proofs.Turns.{Progress, progress-start}
 use Rattle.values.specs.Inner.Assembled.{assembled}
 use Rattle.values.specs.Inner.Kept.{writtenFrom}

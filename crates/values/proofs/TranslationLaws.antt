@@ -16,17 +16,19 @@ use Rattle.fields.proofs.Truth.{mem-all}
 use Rattle.fields.proofs.Keyed.{rising-is}
 use Rattle.language.specs.Language.{Language, entryKey}
 use Rattle.language.specs.LanguageFile.{encodeLanguage, languageOf}
+use Rattle.language.specs.Inner.Entries.{RisingEntries}
 use Rattle.language.proofs.Codec.{entryWhole}
 use Rattle.translation.specs.Translation.{Translation, itemKey, sameItem}
 use Rattle.translation.specs.TranslationFile.{itemField, encodeTranslation, translationOf}
 use Rattle.translation.specs.Inner.Parts.{sourceIn, targetIn, bodyIn}
-use Rattle.operators.specs.declared.copy.Stored.{Stored}
-use Rattle.operators.specs.declared.copy.Stored.the-variants.{To, Full}
+use Rattle.fields.specs.declared.copy.Stored.{Stored}
+use Rattle.fields.specs.declared.copy.Stored.the-variants.{To, Full}
 use Rattle.operators.specs.Algebra.{languagesFit, languageWithout, translationsFit, translationUnion, translationSum, translationWithout}
-use Rattle.operators.specs.Inner.Parts.{Sorted, Stores, united, removed, agrees, fitTogether}
+use Rattle.fields.specs.Inner.Writing.{Stores}
+use Rattle.operators.specs.Inner.Parts.{Sorted, united, removed, agrees, fitTogether}
 use Rattle.operators.specs.Inner.Values.{translationBytes, Gives}
 use Rattle.operators.proofs.Proper.{GoodTranslation}
-use Rattle.operators.proofs.Encoded.{bodyBytes, sorted-language, united-languages, removed-language, languages-fit, sorted-body, united-bodies, bodies-agree}
+use Rattle.operators.proofs.Encoded.{bodyBytes, sorted-language, rising-language, united-languages, removed-language, languages-fit, sorted-body, united-bodies, bodies-agree}
 use Rattle.operators.proofs.SumSound.{fit-translations, sound-union}
 use Rattle.values.specs.Inner.Assembled.{assembled}
 use Rattle.values.specs.Inner.Spelt.{Spelt}
@@ -57,6 +59,16 @@ module _ (s t b : List ℕ) (f : Translation) (w : Spelt s t b f) where
 
   pub body-sorted : Sorted 0x22 b
   body-sorted = subst (Sorted 0x22) (sym (w .body)) (sorted-body (f .body) (f .body) (rising-is itemKey (f .body) (spelt-good .sound .rises)))
+
+  pub source-rises : RisingEntries s
+  source-rises =
+      let g = spelt-good .sound .source in
+      subst RisingEntries (sym (w .source)) (rising-language (f .source) (mem-all entryWhole (f .source) (g .whole)) (rising-is entryKey (f .source) (g .rises)))
+
+  pub target-rises : RisingEntries t
+  target-rises =
+      let g = spelt-good .sound .target in
+      subst RisingEntries (sym (w .target)) (rising-language (f .target) (mem-all entryWhole (f .target) (g .whole)) (rising-is entryKey (f .target) (g .rises)))
 
 -- Sums
 module _ (s t x u v y : List ℕ) (f g : Translation) (p : Spelt s t x f) (q : Spelt u v y g) where

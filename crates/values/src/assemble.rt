@@ -5,15 +5,15 @@ ghost use lib.Dec.{ltb};
 ghost use Rattle.fields.specs.Fields.{field, encodeField};
 ghost use Rattle.fields.specs.Outcome.{value, refuseIf};
 ghost use Rattle.fields.specs.declared.outcome.Reason.the-variants.{Limit};
-ghost use Rattle.operators.specs.Inner.Parts.{Stores};
+ghost use Rattle.fields.specs.Inner.Writing.{Stores};
 ghost use Rattle.operators.specs.Inner.Values.{Gives};
 ghost use Rattle.values.specs.Inner.Assembled.{assembled};
 use super::limit::limited;
+use fields::copy::Stored;
+use fields::copy::put;
+use fields::copy::put_both;
 use fields::outcome::Outcome;
 use fields::outcome::Reason;
-use operators::copy::Stored;
-use operators::copy::put;
-use operators::copy::put_both;
 
 // A field of this tag with the bytes s as its contents, into the output from n on.
 fn put_field(tag: u8, s: &[u8], out: &mut [u8], n: usize) -> Stored

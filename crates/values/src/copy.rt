@@ -9,8 +9,8 @@ ghost use Rattle.translation.specs.Translation.{Translation};
 ghost use Rattle.translation.specs.TranslationFile.{translationOf};
 ghost use Rattle.operators.specs.Inner.Values.{Gives, languageBytes, translationBytes};
 use super::limit::limited;
+use fields::copy::put;
 use fields::outcome::Outcome;
-use operators::copy::put;
 use translation::parts::source_of;
 use translation::parts::target_of;
 

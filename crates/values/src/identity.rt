@@ -10,18 +10,18 @@ ghost use Rattle.language.specs.Language.{Language};
 ghost use Rattle.language.specs.LanguageFile.{entriesOf, languageOf};
 ghost use Rattle.language.specs.Inner.Entries.{entryWhole};
 ghost use Rattle.operators.specs.Algebra.{identityOf};
-ghost use Rattle.operators.specs.Inner.Parts.{Stores};
+ghost use Rattle.fields.specs.Inner.Writing.{Stores};
 ghost use Rattle.operators.specs.Inner.Values.{Gives, translationBytes};
 ghost use Rattle.values.specs.Inner.Kept.{writtenFrom};
 ghost use Rattle.values.specs.Inner.SameItems.{kindItem, kindItems, clauseItem};
 use super::assemble::assemble;
 use fields::bytes::byte_at;
+use fields::copy::Stored;
+use fields::copy::put_both;
+use fields::copy::put_if;
 use fields::outcome::Outcome;
 use fields::outcome::Reason;
 use fields::walk::field_end;
-use operators::copy::Stored;
-use operators::copy::put_both;
-use operators::copy::put_if;
 use reader::kinds::is_in;
 
 // The mapping of a kind to itself, where the kind is in the language.

@@ -1,9 +1,9 @@
 // What an operator answers once its value is written.
 ghost use mathlib.Core.Path.{_≡_};
 ghost use Rattle.values.specs.Inner.Assembled.{limited};
+use fields::copy::Stored;
 use fields::outcome::Outcome;
 use fields::outcome::Reason;
-use operators::copy::Stored;
 
 // The length of what was written from the start of an output, or 11 where it is over the limit or did not fit.
 pub fn limited(stored: Stored, limit: usize) -> Outcome

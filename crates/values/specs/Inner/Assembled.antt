@@ -7,8 +7,8 @@ use Rattle.fields.specs.Fields.{field, encodeField}
 use Rattle.fields.specs.declared.outcome.Outcome.{Outcome}
 use Rattle.fields.specs.declared.outcome.Outcome.the-variants.{Accepted, Refused}
 use Rattle.fields.specs.declared.outcome.Reason.the-variants.{Limit}
-use Rattle.operators.specs.declared.copy.Stored.{Stored}
-use Rattle.operators.specs.declared.copy.Stored.the-variants.{To, Full}
+use Rattle.fields.specs.declared.copy.Stored.{Stored}
+use Rattle.fields.specs.declared.copy.Stored.the-variants.{To, Full}
 
 -- Field 20 with the source, field 21 with the target, then the body.
 unfoldable pub assembled : List ℕ → List ℕ → List ℕ → List ℕ

@@ -1,6 +1,6 @@
 use Rattle.signs.proofs.Copying.{body-part, body-short}
 use mathlib.Core.Path.{ap, sym, _∙_}
-use Rattle.operators.proofs.Splices.{slice-is}
+use Rattle.fields.proofs.Splices.{slice-is}
 use Rattle.translation.specs.TranslationFile.{bodyOf}
 use borrow.Author.Needs.{needs}
 use Rattle.signs.proofs.apply.make_numbered.Statement.{statement}

@@ -1,6 +1,6 @@
 use Rattle.pack.specs.Terms.{languages, translations}
 use Rattle.signs.specs.Inner.Sorts.{sortOf}
-use Rattle.operators.proofs.Splices.{slice-is}
+use Rattle.fields.proofs.Splices.{slice-is}
 use mathlib.Core.Path.{ap}
 use native.Mathlib.Omega.{arith}
 use Rattle.signs.proofs.Copying.{value-as, copied-as}

@@ -1,12 +1,12 @@
 use native.Mathlib.Omega.{arith}
 use borrow.Author.Tests.{not-true, not-false}
-use Rattle.values.proofs.LanguageLaws.{language-sorted, sum-unfit, sum-given}
+use Rattle.values.proofs.LanguageLaws.{language-sorted, sum-unfit, sum-given, language-rises}
 use borrow.Author.Needs.{needs}
 use Rattle.values.proofs.languages.sum.Statement.{statement}
 use Rattle.values.proofs.languages.sum.Tie as tie
 
 languages-fit-requires : tie.Need-languages-fit-requires
-languages-fit-requires c κs = (language-sorted _ (c .before .before .before .pre .0 .0) (c .before .before .before .pre .0 .1) (λ i. omega (arith, c .before .before .shared-slice-known .given i)), language-sorted _ (c .before .before .before .pre .1 .0) (c .before .before .before .pre .1 .1) (λ i. omega (arith, c .before .shared-slice-known2 .given i)))
+languages-fit-requires c κs = (language-rises _ (c .before .before .before .pre .0 .0) (c .before .before .before .pre .0 .1) (λ i. omega (arith, c .before .before .shared-slice-known .given i)), language-rises _ (c .before .before .before .pre .1 .0) (c .before .before .before .pre .1 .1) (λ i. omega (arith, c .before .shared-slice-known2 .given i)))
 
 returns : tie.Need-returns
 returns c = λ l m e d. sum-unfit _ _ (λ i. omega (arith, c .before .before .before .before .shared-slice-known .given i)) (λ i. omega (arith, c .before .before .before .shared-slice-known2 .given i)) l m e d _ (c .before .languages-fit .ensures) (not-true _ (c .if1 .taken)) _
