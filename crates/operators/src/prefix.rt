@@ -57,7 +57,7 @@ fn alike(a: &[u8], b: &[u8]) -> usize
 // and bytes are among the first bytes that are.
 pub fn shared(a: &[u8], b: &[u8]) -> usize
     requires { ⌜ WholeFrom (now a) 0 × WholeFrom (now b) 0 ⌝ }
-    ensures { λ r. ⌜ ((first : ℕ) → Shared first (now (a .entry)) (now (b .entry)) r) ⌝ }
+    ensures { λ r. ⌜ ((leading : ℕ) → Shared leading (now (a .entry)) (now (b .entry)) r) ⌝ }
 {
     let n = alike(a, b);
     if a.len() == n {

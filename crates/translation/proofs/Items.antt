@@ -6,70 +6,51 @@ use mathlib.Core.Bool.{Bool, true, false, cond, not, _&&_, _||_}
 use mathlib.Core.List.{List, [], _∷_, map}
 use mathlib.Core.Option.{Option, none, some}
 use native.Mathlib.Omega.{arith}
-use lib.ListN.{length, getD, take, drop}
+use lib.ListN.{length, getD}
 use lib.Seq.{slice}
 use lib.Dec.{ltb, leb, eqb}
 use borrow.Author.Tests.{lt-ltb, le-ltb, le-leb, lt-leb, eq-eqb, ne-eqb, leb-true, ltb-true, eqb-true}
 use Rattle.fields.specs.Lists.{all, isSome}
 use Rattle.fields.specs.Fields.{Field, pairAt, fieldsOf, decodedIn}
 use Rattle.fields.specs.Keyed.{rising}
-use Rattle.fields.specs.Inner.Places.{fieldEnd, isWhole, WholeEnd, fieldAt, places, tagsOrdered, keyAt}
+use Rattle.fields.specs.Inner.Places.{fieldEnd, isWhole, WholeEnd, contentsAt, fieldAt, places, tagsOrdered, keyAt}
 use Rattle.fields.proofs.Truth.{by-test, false-true, and-both}
 use Rattle.fields.proofs.Codec.{cond-some}
 use Rattle.fields.proofs.Lists.{there-if, rising-map}
 use Rattle.fields.proofs.Places.{end-whole}
-use Rattle.fields.proofs.Split.{byte-in, contents-length, contents-after, decoded-at-places}
+use Rattle.fields.proofs.Split.{contents-length, contents-first, contents-second, contents-after, two-tags, decoded-at-places}
 use Rattle.language.specs.LanguageFile.{isKind}
 use Rattle.language.specs.Inner.Entries.{sizeAt}
 use Rattle.translation.specs.Translation.{mapping, clause, Body, itemKey}
 use Rattle.translation.specs.TranslationFile.{mappingField, clauseField, itemOf, isClause, grouped, inGroups, itemsIn, bodyIn, bodyOf}
 use Rattle.translation.specs.Inner.Items.{mappingWhole, clauseWhole, itemGood, itemWhole, itemAt, IsMapping, IsClause, itemsWhole, HoldsItems}
 
--- The whole field at p, whose contents are n bytes.
-module _ (s : List ℕ) (p n : ℕ) (en : n ≡ sizeAt s p) (fits : p + 3 + n ≤ length s) where
-  long : length (take n (drop (p + 3) s)) ≡ n
-  long = contents-length s p n en fits
-
+-- The whole field at p.
+module _ (s : List ℕ) (p : ℕ) (w : isWhole s p ≡ true) where
   -- a mapping
-  mapping-here : mappingField (take n (drop (p + 3) s)) ≡ cond (mappingWhole s p) (some (mapping (getD s (p + 3) 0) (getD s (p + 4) 0))) none
+  mapping-here : mappingField (contentsAt s p) ≡ cond (mappingWhole s p) (some (mapping (getD s (p + 3) 0) (getD s (p + 4) 0))) none
   unfolding mappingField mappingWhole
   mapping-here =
-      by-test (eqb n 2)
+      by-test (eqb (sizeAt s p) 2)
       (λ e.
-      let h : n ≡ 2 = eqb-true n 2 e in
-      cc (
-        long,
-        byte-in s n (p + 3) 0 (p + 3) (omega arith) (omega arith),
-        byte-in s n (p + 3) 1 (p + 4) (omega arith) (omega arith),
-      ))
-      (λ e. cc long)
+      let h : sizeAt s p ≡ 2 = eqb-true _ _ e in
+      cc (contents-length s p w, contents-first s p w (omega arith), contents-second s p w (omega arith)))
+      (λ e. cc (contents-length s p w))
 
   -- a clause
-  clause-here : clauseField (take n (drop (p + 3) s))
+  clause-here : clauseField (contentsAt s p)
       ≡ cond (clauseWhole s p) (some (clause (getD s (p + 3) 0) (getD s (p + 4) 0) (slice (p + 5) (fieldEnd s p) s))) none
   unfolding clauseField clauseWhole
   clause-here =
-      by-test (leb 2 n)
+      by-test (leb 2 (sizeAt s p))
       (λ e.
-      let h : 2 ≤ n = leb-true 2 n e in
-      cc (
-        long,
-        byte-in s n (p + 3) 0 (p + 3) (omega arith) (omega arith),
-        byte-in s n (p + 3) 1 (p + 4) (omega arith) (omega arith),
-        contents-after s p n en fits,
-      ))
-      (λ e. cc long)
+      let h : 2 ≤ sizeAt s p = leb-true _ _ e in
+      cc (contents-length s p w, contents-first s p w (omega arith), contents-second s p w h, contents-after s p w))
+      (λ e. cc (contents-length s p w))
 
   item-here : itemOf (fieldAt s p) ≡ cond (itemGood s p) (some (itemAt s p)) none
   unfolding itemOf fieldAt itemGood itemAt
-  item-here =
-      by-test (eqb (getD s p 0) 0x22)
-      (λ e. cc mapping-here)
-      (λ e. by-test (eqb (getD s p 0) 0x23) (λ d. cc clause-here) (λ d. cc))
-
-item-at : (s : List ℕ) (p : ℕ) → isWhole s p ≡ true → itemOf (fieldAt s p) ≡ cond (itemGood s p) (some (itemAt s p)) none
-unfolding isWhole fieldEnd
-item-at s p h = item-here s p (sizeAt s p) refl (leb-true _ _ h)
+  item-here = two-tags (eqb (getD s p 0) 0x22) (eqb (getD s p 0) 0x23) _ _ _ _ mapping-here clause-here
 
 module _ (s : List ℕ) (p : ℕ) where
   mapping-facts : isWhole s p ≡ true → getD s p 0 ≡ 0x22 → mappingWhole s p ≡ true → IsMapping s p
@@ -166,7 +147,7 @@ pub items-at-places : (s : List ℕ) → bodyOf s ≡ cond (itemsWhole s 0x22 (p
 unfolding bodyOf itemWhole
 items-at-places s =
     body-in (fieldsOf s)
-    ∙ (ap inGroups (decoded-at-places itemOf (itemGood s) (itemAt s) s (item-at s))
+    ∙ (ap inGroups (decoded-at-places itemOf (itemGood s) (itemAt s) s (item-here s))
     ∙ (in-groups (all (itemWhole s) (places s)) (map (itemAt s) (places s))
     ∙ rw (groups-at s 0x22 (places s) (inl refl))))
 

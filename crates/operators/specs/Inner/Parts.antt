@@ -32,16 +32,16 @@ bytesOf = concatMap (λ a. a .bytes)
 abbrev pub pieceAt : List ℕ → ℕ → List ℕ
 pieceAt s p = slice p (fieldEnd s p) s
 
--- The field at p, where `first` is the tag of the fields that come first.
+-- The field at p, where `leading` is the tag of the fields that come first.
 unfoldable pub partAt : ℕ → List ℕ → ℕ → Part
-partAt first s p = record { key = keyAt first s p; bytes = pieceAt s p }
+partAt leading s p = record { key = keyAt leading s p; bytes = pieceAt s p }
 
 -- The fields from p on, and all fields.
 unfoldable pub partsFrom : ℕ → List ℕ → ℕ → List Part
-partsFrom first s p = map (partAt first s) (placesFrom s p)
+partsFrom leading s p = map (partAt leading s) (placesFrom s p)
 
 abbrev pub parts : ℕ → List ℕ → List Part
-parts first s = partsFrom first s 0
+parts leading s = partsFrom leading s 0
 
 -- There is a whole field at p, and its key is in its first five bytes.
 pub record WholeAt (s : List ℕ) (p : ℕ) : Type 0 where
@@ -55,10 +55,10 @@ pub record WholeFrom (s : List ℕ) (p : ℕ) : Type 0 where
   pub whole : all (isWhole s) (placesFrom s p) ≡ true
 
 -- The file is such fields, and their keys rise.
-pub record Sorted (first : ℕ) (s : List ℕ) : Type 0 where
+pub record Sorted (leading : ℕ) (s : List ℕ) : Type 0 where
   pub long : all (longAt s) (placesFrom s 0) ≡ true
   pub whole : all (isWhole s) (placesFrom s 0) ≡ true
-  pub rises : rising partKey (parts first s) ≡ true
+  pub rises : rising partKey (parts leading s) ≡ true
 
 -- The fields with a key below k that come first, and what comes after them.
 unfoldable pub lower : ℕ → List Part → List Part
@@ -70,9 +70,9 @@ seek k [] = []
 seek k (a ∷ l) = cond (ltb (a .key) k) (seek k l) (a ∷ l)
 
 -- r is where the first field from p on stands whose key is k or more, or the end of the file.
-pub record SoughtAt (first : ℕ) (s : List ℕ) (p k r : ℕ) : Type 0 where
-  pub rest : partsFrom first s r ≡ seek k (partsFrom first s p)
-  pub skipped : slice p r s ≡ bytesOf (lower k (partsFrom first s p))
+pub record SoughtAt (leading : ℕ) (s : List ℕ) (p k r : ℕ) : Type 0 where
+  pub rest : partsFrom leading s r ≡ seek k (partsFrom leading s p)
+  pub skipped : slice p r s ≡ bytesOf (lower k (partsFrom leading s p))
   pub past : p ≤ r
   pub from : WholeFrom s r
 
@@ -83,10 +83,10 @@ pub record Alike (a b : List ℕ) (n : ℕ) : Type 0 where
   pub same : take n a ≡ take n b
 
 -- Both files begin with the same fields, and the last of them ends at r.
-pub record Shared (first : ℕ) (a b : List ℕ) (r : ℕ) : Type 0 where
+pub record Shared (leading : ℕ) (a b : List ℕ) (r : ℕ) : Type 0 where
   pub fields : List Part
-  pub left : parts first a ≡ fields ++ partsFrom first a r
-  pub right : parts first b ≡ fields ++ partsFrom first b r
+  pub left : parts leading a ≡ fields ++ partsFrom leading a r
+  pub right : parts leading b ≡ fields ++ partsFrom leading b r
   pub bytes : slice 0 r a ≡ bytesOf fields
   pub leftFrom : WholeFrom a r
   pub rightFrom : WholeFrom b r
@@ -102,19 +102,19 @@ partsClash a b = eqb (a .key) (b .key) && not (sameNumbers (a .bytes) (b .bytes)
 
 -- The union of two files, by key.
 unfoldable pub united : ℕ → List ℕ → List ℕ → List ℕ
-united first a b = bytesOf (union partKey (parts first a) (parts first b))
+united leading a b = bytesOf (union partKey (parts leading a) (parts leading b))
 
 -- The first file without the fields of the second.
 unfoldable pub removed : ℕ → List ℕ → List ℕ → List ℕ
-removed first a b = bytesOf (without samePart (parts first a) (parts first b))
+removed leading a b = bytesOf (without samePart (parts leading a) (parts leading b))
 
 -- Every field of the first file stands in the second.
 unfoldable pub liesWithin : ℕ → List ℕ → List ℕ → Bool
-liesWithin first a b = within samePart (parts first a) (parts first b)
+liesWithin leading a b = within samePart (parts leading a) (parts leading b)
 
 -- Fields of one key are the same in both files.
 unfoldable pub agrees : ℕ → List ℕ → List ℕ → Bool
-agrees first a b = agree partKey samePart (parts first a) (parts first b)
+agrees leading a b = agree partKey samePart (parts leading a) (parts leading b)
 
 -- Two languages fit together: no class of one is a result of the other, and entries of one key are the same.
 unfoldable pub fitTogether : List ℕ → List ℕ → Bool
