@@ -5,7 +5,7 @@ use mathlib.Core.Bool.{Bool, true, false, not, _||_}
 use mathlib.Core.List.{List, [], _∷_, _++_}
 use mathlib.Core.Option.{none, some}
 use native.Mathlib.Omega.{arith}
-use lib.ListN.{length, take, drop, getD, replicate}
+use lib.ListN.{length, take, drop, getD, replicate, length-take}
 use lib.Seq.{slice, length-take-le}
 use lib.Dec.{ltb}
 use borrow.Author.Tests.{ltb-false}
@@ -109,6 +109,16 @@ pub work-says : {pack workspace after out filled : List ℕ} {places : Places} {
     → Says translations (evaluate (constantsOf (d .pack)) nothingBound (d .term)) pack [] filled w
 work-says {pack} {workspace} {places = places} d e t q h l g = g .says (work-ground pack workspace places (d .pack) e h l) (work-stands (d .pack) (d .term) _ q t)
 
+-- What is written, where it has room.
+pub write-done : {v output after : List ℕ} {r : Stored} → Stores v output after 0 r → length v ≤ length output → after ≡ outputAfter output (value v)
+unfolding spliced
+write-done {v} {output} {after} {r} s h =
+    let z : 0 + length v ≡ length v = omega arith in
+    saves v output after 0 r s (omega arith) ∙ ap (λ (i : ℕ). v ++ drop i output) z
+
+pub short-take : (n m : ℕ) (v : List ℕ) → n ≤ m → length (take n v) ≤ m
+short-take n m v h = rw (length-take n v) (omega arith)
+
 -- What is delivered where it is refused, and where it is not.
 module _ (o : Result Translation) (bytes rest buffer : List ℕ) {w : Evaluated} (says : Says translations o bytes rest buffer w) where
   pub deliver-refused : (output : List ℕ) {z : Reason} {q : Outcome} → w ≡ Evaluateds.Refused z → q ≡ Refused z → (q ≡ written (fileOf o)) × (output ≡ outputAfter output (fileOf o))
@@ -116,23 +126,20 @@ module _ (o : Result Translation) (bytes rest buffer : List ℕ) {w : Evaluated}
       let h = subst (Says translations o bytes rest buffer) e says in
       (d ∙ sym (ap (λ (x : Result Translation). written (fileOf x)) h), sym (ap (λ (x : Result Translation). outputAfter output (fileOf x)) h))
 
-  pub deliver-inside : {n end : ℕ} → w ≡ Evaluateds.To n end → n ≤ length buffer
-  deliver-inside e = let h = subst (Says translations o bytes rest buffer) e says in h .0 .inside
+  pub deliver-left : {n end : ℕ} → w ≡ Evaluateds.To n end → Left translations o buffer n
+  deliver-left e = subst (Says translations o bytes rest buffer) e says .0
 
-  pub deliver-done : (output after : List ℕ) {n end : ℕ} {q : Outcome} {r : Stored} → w ≡ Evaluateds.To n end → 4096 ≤ length output → Stores (slice 0 n buffer) output after 0 r
-      → q ≡ Accepted n → (q ≡ written (fileOf o)) × (after ≡ outputAfter output (fileOf o))
-  unfolding spliced
-  deliver-done output after {n} {end} {q} {r} e room s d =
-      let h : Left translations o buffer n = subst (Says translations o bytes rest buffer) e says .0 in
+  pub deliver-done : (output after : List ℕ) {n end : ℕ} {q : Outcome} → w ≡ Evaluateds.To n end → (q ≡ Accepted n) × (after ≡ outputAfter output (value (take n buffer)))
+      → (q ≡ written (fileOf o)) × (after ≡ outputAfter output (fileOf o))
+  deliver-done output after {n} e d =
+      let h = deliver-left e in
       let l : length (take n buffer) ≡ n = length-take-le n buffer (h .inside) in
-      let f : fileOf o ≡ value (take n buffer) = ap fileOf (h .comes) ∙ ap value (sym (h .bytes)) in
-      let z : 0 + length (take n buffer) ≡ length (take n buffer) = omega arith in
-      let a : after ≡ take n buffer ++ drop (0 + length (take n buffer)) output = saves (take n buffer) output after 0 r s (omega (arith, h .short)) in (
-        d ∙ (ap Accepted (sym l) ∙ sym (ap written f)),
-        a ∙ (ap (λ (k : ℕ). take n buffer ++ drop k output) z ∙ sym (ap (outputAfter output) f)),
+      let f : fileOf o ≡ value (take n buffer) = ap fileOf (h .comes) ∙ ap value (sym (h .bytes)) in (
+        d .0 ∙ (ap Accepted (sym l) ∙ sym (ap written f)),
+        d .1 ∙ sym (ap (outputAfter output) f),
       )
 
--- The operation, refused before terms are worked out, and after.
+-- The operation, refused before terms are evaluated, and after.
 module _ (s w o : List ℕ) where
   abbrev pub Is : Outcome → List ℕ → List ℕ → Type 0
   Is q output workspace = (q ≡ reduce s w o .outcome) × (output ≡ reduce s w o .output) × (workspace ≡ reduce s w o .workspace)

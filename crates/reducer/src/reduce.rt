@@ -14,8 +14,9 @@ use signs::places::nothing;
 ghost use mathlib.Core.Path.{_≡_};
 ghost use mathlib.Core.List.{List, []};
 ghost use Prim.Native.Nat.{ℕ, _≤_};
-ghost use lib.ListN.{length, replicate};
+ghost use lib.ListN.{length, take, replicate};
 ghost use Rattle.fields.specs.Outcome.{Result, value, checked, written, outputAfter};
+ghost use Rattle.fields.specs.declared.outcome.Outcome.the-variants.{Accepted};
 ghost use Rattle.translation.specs.Translation.{Translation};
 ghost use Rattle.pack.specs.Terms.{translations};
 ghost use Rattle.pack.specs.Pack.{packOf, termOf};
@@ -67,6 +68,15 @@ fn work(pack: &[u8], workspace: &mut [u8], buffer: &mut [u8]) -> Evaluated
     translation_term(pack, start, TERM_LEVELS, nothing(), workspace, 0, buffer)
 }
 
+// Writes the first n bytes to the output, and accepts that length.
+fn write(bytes: &[u8], n: usize, output: &mut [u8]) -> Answer
+    requires { ⌜ (n ≤ length (now bytes)) × (n ≤ length (now output)) ⌝ }
+    ensures { λ r. ⌜ (r .outcome ≡ Accepted n) × (now (output .exit) ≡ outputAfter (now (output .entry)) (value (take n (now (bytes .entry))))) ⌝ }
+{
+    put(bytes, 0, n, output, 0);
+    accept(n)
+}
+
 // The value, written to the output, which changes only where it is accepted.
 fn deliver(evaluated: Evaluated, buffer: &[u8], output: &mut [u8]) -> Answer
     requires { ⌜ ((o : Result Translation) × ((bytes : List ℕ) × ((rest : List ℕ) × Says translations o bytes rest (now buffer) evaluated))) × (4096 ≤ length (now output)) ⌝ }
@@ -75,10 +85,7 @@ fn deliver(evaluated: Evaluated, buffer: &[u8], output: &mut [u8]) -> Answer
 {
     match evaluated {
         Evaluated::Refused(reason) => refuse(reason),
-        Evaluated::To(n, _) => {
-            put(buffer, 0, n, output, 0);
-            accept(n)
-        }
+        Evaluated::To(n, _) => write(buffer, n, output),
     }
 }
 
