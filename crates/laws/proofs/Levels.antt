@@ -2,22 +2,22 @@
 use Prim.Native.Nat.{ℕ, zero, suc, _+_, _<_}
 use mathlib.Core.Path.{_≡_, refl, sym, _∙_}
 use mathlib.Core.Logic.{⊎-elim}
-use mathlib.Core.Bool.{Bool, true, false, not, _&&_}
+use mathlib.Core.Bool.{true, false, not}
 use mathlib.Core.List.{List, [], _++_}
 use mathlib.Core.Option.{some}
 use native.Mathlib.Omega.{arith}
 use borrow.Author.Tests.{eq-eqb}
 use Rattle.fields.specs.Lists.{any, isSome}
-use Rattle.fields.proofs.Truth.{Mem, and-both, not-true, not-both, none-some, mem-any, is-some}
+use Rattle.fields.proofs.Truth.{and-both, not-true, not-both, none-some, mem-any, is-some}
 use Rattle.language.specs.Language.{Language, production, rangeOf, argumentsOf, resultIs, isIn, isUndefined, clashes}
 use Rattle.language.proofs.Lookup.{arguments-mem}
 use Rattle.reader.specs.Code.{Code, levels}
 use Rattle.reader.specs.Typing.{kindAt, Typed, typed-node, typed-token, typed-argument}
-use Rattle.reader.specs.Syntax.{Syntax, done, deep, read, write, tree, code}
+use Rattle.reader.specs.Syntax.{Syntax, deep, read, write, tree, code}
 use Rattle.reader.proofs.RoundTrip.{Written, as-tree, as-code, round}
 use Rattle.reader.proofs.Sound.{read-done, more-levels}
 use Rattle.reader.proofs.Larger.{apart}
-use Rattle.laws.specs.Levels.{argumentsIn, ReadsByLevels, LawOfLevels, NoTree, UndefinedHasNoTree}
+use Rattle.laws.specs.Levels.{argumentsIn, LawOfLevels, UndefinedHasNoTree}
 
 -- Either syntax can write the arguments that it has.
 can-write : (x : Syntax) (kinds : List ℕ) → Written x (argumentsIn x kinds)

@@ -2,14 +2,14 @@
 use Prim.Native.Nat.{ℕ, _+_, _<_, _≤_}
 use mathlib.Core.Path.{_≡_, refl, sym, ap, _∙_}
 use mathlib.Core.Bool.{Bool, true, false, cond, _&&_}
-use mathlib.Core.List.{List, [], _∷_, _++_, map}
+use mathlib.Core.List.{List, [], _∷_, map}
 use native.Mathlib.Omega.{arith}
 use lib.ListN.{length, drop, length-drop}
 use lib.Seq.{length-take-le}
 use lib.Dec.{leb, eqb}
 use borrow.Author.Tests.{le-leb, lt-leb, leb-true, leb-false}
 use Rattle.fields.specs.Lists.{all, concatMap}
-use Rattle.fields.specs.Fields.{Field, field, byteAt, pairAt, encodeFields}
+use Rattle.fields.specs.Fields.{Field, field, pairAt}
 use Rattle.fields.specs.Inner.Places.{fieldEnd, isWhole, contentsAt, fieldAt, places}
 use Rattle.fields.proofs.Truth.{by-test}
 use Rattle.fields.proofs.Lists.{all-true}
@@ -24,6 +24,7 @@ use Rattle.listing.specs.Inner.Walk.{contentsLine, isClause, lineAt, cla
 abbrev fieldLine : Field → List ℕ
 fieldLine (field tag c) = cond (eqb tag 0x23 && leb 2 (length c)) (contentsLine c) []
 
+-- Nothing is added to a test by one that holds.
 and-true : (b : Bool) → (b && true) ≡ b
 and-true true = refl
 and-true false = refl
@@ -54,6 +55,7 @@ module _ (s : List ℕ) (p : ℕ) (whole : isWhole s p ≡ true) where
   unfolding lineAt isClause fieldAt
   line-is = rw (two-is, whole, and-true (leb 2 (length (contentsAt s p))))
 
+-- The places of whole fields add what the fields add.
 lines-are : (s l : List ℕ) → all (isWhole s) l ≡ true → concatMap (lineAt s) l ≡ concatMap fieldLine (map (fieldAt s) l)
 unfolding concatMap
 lines-are s [] h = refl

@@ -79,7 +79,7 @@ abbrev bytesOf : Result Translation → Result (List ℕ)
 bytesOf result = result >>= λ f. value (encodeTranslation f)
 
 -- Reduce writes the bytes of the translation that the pack is reduced to.
-reduced-bytes : (pack : List ℕ) → reduceBytes pack 65536 4096 ≡ bytesOf (reduced pack)
+pub reduced-bytes : (pack : List ℕ) → reduceBytes pack 65536 4096 ≡ bytesOf (reduced pack)
 unfolding reduceBytes work reduced
 reduced-bytes pack = step (ready pack 65536 4096)
   where

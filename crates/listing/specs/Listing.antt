@@ -10,7 +10,8 @@ use Rattle.signs.specs.Evaluation.{constantsOf, nothingBound, evaluate}
 use Rattle.reducer.specs.Operations.{ready}
 use Rattle.listing.specs.Text.{acceptedWord, refusedWord, firstLine, itemLine}
 
--- The translation that a pack is reduced to with a workspace of 65,536 and an output of 4,096 bytes, or why not.
+-- The translation that a pack is reduced to with a workspace of 65,536 and an output of 4,096 bytes, or why not:
+-- reduce writes its bytes (`proofs/WholeText.antt`: `reduced-bytes`).
 unfoldable pub reduced : List ℕ → Result Translation
 reduced pack = ready pack 65536 4096 >>= λ r. evaluate (constantsOf (r .pack)) nothingBound (r .term)
 
