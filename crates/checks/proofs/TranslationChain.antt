@@ -30,11 +30,11 @@ use Rattle.translation.proofs.Cuts.{parted-pieces}
 
 -- check_parts
 module _ (f : Translation) {o : Outcome} (x : Bool) (ex : x ≡ allRising f) where
-  pub order-refused : x ≡ false → o ≡ Refused Why.Order → o ≡ checked (inOrder f)
+  pub order-refused : x ≡ false → o ≡ Refused Why.OutOfOrder → o ≡ checked (inOrder f)
   order-refused h i = cc
 
   module _ (xt : x ≡ true) (y : Bool) (ey : y ≡ (clashes (f .source) (f .source) || clashes (f .target) (f .target))) where
-    pub clash-refused : y ≡ true → o ≡ Refused Why.Clash → o ≡ checked (inOrder f)
+    pub clash-refused : y ≡ true → o ≡ Refused Why.ClassIsResult → o ≡ checked (inOrder f)
     clash-refused h i = cc
 
     pub formed-next : y ≡ false → o ≡ checked (wellFormed f) → o ≡ checked (inOrder f)
@@ -52,11 +52,11 @@ module _ (s : List ℕ) (over : Bool) (eo : over ≡ (ltb translationLimit (leng
     chain = cc
 
     module _ (there : Bool) (et : there ≡ isSome (partsOf s)) where
-      absent : (p : Option Translation) → partsOf s ≡ p → isSome p ≡ false → checked (whole (partsOf s) >>= inOrder) ≡ Refused Why.Broken
+      absent : (p : Option Translation) → partsOf s ≡ p → isSome p ≡ false → checked (whole (partsOf s) >>= inOrder) ≡ Refused Why.BrokenField
       absent none e h = rw e
       absent (some f) e h = false-true (sym h)
 
-      pub broken-refused : {o : Outcome} → there ≡ false → o ≡ Refused Why.Broken → o ≡ checkTranslation s
+      pub broken-refused : {o : Outcome} → there ≡ false → o ≡ Refused Why.BrokenField → o ≡ checkTranslation s
       broken-refused h i = i ∙ sym (chain ∙ absent (partsOf s) refl (sym et ∙ h))
 
       pub parts-there : there ≡ true → (f : Translation) × (partsOf s ≡ some f)

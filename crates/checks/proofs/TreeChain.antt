@@ -35,13 +35,13 @@ module _ (n : ℕ) {f : Read} {o : Outcome} where
   pub whole-all : {e : ℕ} → f ≡ End e → e ≡ n → o ≡ Accepted 0 → o ≡ wholeAt f n
   whole-all {e} y h i = cc (eq-eqb e n h)
 
-  pub whole-more : {e : ℕ} → f ≡ End e → (e ≡ n → ⊥) → o ≡ Refused Why.Tree → o ≡ wholeAt f n
+  pub whole-more : {e : ℕ} → f ≡ End e → (e ≡ n → ⊥) → o ≡ Refused Why.IllegalTree → o ≡ wholeAt f n
   whole-more {e} y h i = cc (ne-eqb e n h)
 
-  pub whole-deep : f ≡ Deep → o ≡ Refused Why.Levels → o ≡ wholeAt f n
+  pub whole-deep : f ≡ Deep → o ≡ Refused Why.TooDeep → o ≡ wholeAt f n
   whole-deep y i = cc
 
-  pub whole-broken : f ≡ Broken → o ≡ Refused Why.Tree → o ≡ wholeAt f n
+  pub whole-broken : f ≡ Broken → o ≡ Refused Why.IllegalTree → o ≡ wholeAt f n
   whole-broken y i = cc
 
 -- What was read is a whole tree where nothing is left.
@@ -66,7 +66,7 @@ module _ (b : List ℕ) (g : Meant.Read C.Code) where
 
 -- check_kind
 module _ (b : List ℕ) (k : ℕ) (l : Language) {r : Bool} (er : r ≡ isIn l k) {o : Outcome} where
-  pub kind-out : r ≡ false → o ≡ Refused Why.Root → o ≡ checked (treeOf l k b)
+  pub kind-out : r ≡ false → o ≡ Refused Why.UnknownRoot → o ≡ checked (treeOf l k b)
   unfolding treeOf
   kind-out h i = cc
 
@@ -92,13 +92,13 @@ module _ (s : List ℕ) {o : Outcome} (eo : o ≡ checkLanguage s) where
     accepts-last l h e =
         by-test (rising entryKey l)
         (λ i. by-test (clashes l l)
-        (λ j. refused-not {n = n} {r = Why.Clash} (cc (le-ltb 1024 (length s) h)))
+        (λ j. refused-not {n = n} {r = Why.ClassIsResult} (cc (le-ltb 1024 (length s) h)))
         (λ j. record { language = l; is = cc (le-ltb 1024 (length s) h); entries = e; short = h }))
-        (λ i. refused-not {n = n} {r = Why.Order} (cc (le-ltb 1024 (length s) h)))
+        (λ i. refused-not {n = n} {r = Why.OutOfOrder} (cc (le-ltb 1024 (length s) h)))
 
     accepts-entries : (m : Option Language) → length s ≤ 1024 → entriesOf s ≡ m → Accepts s
     unfolding checkLanguage languageOf
-    accepts-entries none h e = refused-not {n = n} {r = Why.Broken} (cc (le-ltb 1024 (length s) h))
+    accepts-entries none h e = refused-not {n = n} {r = Why.BrokenField} (cc (le-ltb 1024 (length s) h))
     accepts-entries (some l) h e = accepts-last l h e
 
     pub accepts : Accepts s
@@ -114,7 +114,7 @@ module _ (s : List ℕ) {o : Outcome} (eo : o ≡ checkLanguage s) where
       unfolding checkTree
       kind-checked h = let a = accepts in rw (a .is) (h (a .language) (a .entries))
 
-      pub root-past : 31 < root → out ≡ Refused Why.Root → out ≡ checkTree s root b
+      pub root-past : 31 < root → out ≡ Refused Why.UnknownRoot → out ≡ checkTree s root b
       root-past h i =
           kind-checked (λ l e. by-test (isIn l root)
           (λ j. absurd (not-below h (in-below s root l e j)))

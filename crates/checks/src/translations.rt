@@ -22,10 +22,10 @@ fn check_parts(source: &[u8], target: &[u8], body: &[u8]) -> Answer
         → r .outcome ≡ checked (inOrder f)) ⌝ }
 {
     if !in_order(source, target, body) {
-        return refuse(Reason::Order);
+        return refuse(Reason::OutOfOrder);
     }
     if languages_clash(source, target, body) {
-        return refuse(Reason::Clash);
+        return refuse(Reason::ClassIsResult);
     }
     check_well_formed(source, target, body)
 }
@@ -38,7 +38,7 @@ pub fn check_translation(translation: &[u8]) -> Answer
         return refuse(Reason::TooLong);
     }
     if !parts_whole(translation) {
-        return refuse(Reason::Broken);
+        return refuse(Reason::BrokenField);
     }
     let parts = parts_of(translation);
     let a = parts.source_end;

@@ -29,11 +29,11 @@ fn whole_tree(read: Read, length: usize) -> Answer
             if e == length {
                 accept(0)
             } else {
-                refuse(Reason::Tree)
+                refuse(Reason::IllegalTree)
             }
         }
-        Read::Deep => refuse(Reason::Levels),
-        Read::Broken => refuse(Reason::Tree),
+        Read::Deep => refuse(Reason::TooDeep),
+        Read::Broken => refuse(Reason::IllegalTree),
     }
 }
 
@@ -43,7 +43,7 @@ fn check_kind(language: &[u8], kind: u8, tree: &[u8]) -> Answer
     ensures { λ r. ⌜ ((l : Language) → entriesOf (now (language .entry)) ≡ some l → r .outcome ≡ checked (treeOf l kind (now (tree .entry)))) ⌝ }
 {
     if !is_in(language, kind) {
-        return refuse(Reason::Root);
+        return refuse(Reason::UnknownRoot);
     }
     let mut index = [0u16; 8224];
     build(language, &mut index);
@@ -63,7 +63,7 @@ pub fn check_tree(language: &[u8], root: u32, tree: &[u8]) -> Answer
         return refuse(reason);
     }
     if 31 < root {
-        return refuse(Reason::Root);
+        return refuse(Reason::UnknownRoot);
     }
     check_kind(language, root as u8, tree)
 }

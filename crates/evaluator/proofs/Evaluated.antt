@@ -10,7 +10,7 @@ use borrow.Author.Tests.{ltb-false}
 use Rattle.fields.specs.Lists.{any}
 use Rattle.fields.specs.Outcome.{Result, value, refused, _>>=_}
 use Rattle.fields.specs.declared.outcome.Reason.{Reason}
-use Rattle.fields.specs.declared.outcome.Reason.the-variants.{SumUnfit, JoinUnfit, Limit, Unbound, Term as TermRefused}
+use Rattle.fields.specs.declared.outcome.Reason.the-variants.{SumUnfit, JoinUnfit, ValueTooLarge, UnboundVariable, IllegalTerm as TermRefused}
 use Rattle.fields.proofs.Truth.{Mem, none-some, some-inj, or-false, true-not, all-mem, any-false}
 use Rattle.fields.proofs.Codec.{Each, refused-value}
 use Rattle.fields.proofs.Keyed.{is-rising}
@@ -22,7 +22,7 @@ use Rattle.translation.specs.TranslationFile.{encodeTranslation, translationLim
 use Rattle.translation.specs.WellFormed.{wellFormed}
 use Rattle.translation.proofs.Codec.{itemWhole, GoodBody}
 use Rattle.translation.proofs.Fitting.{refuse-value}
-use Rattle.operators.specs.Algebra.{languagesFit, languageUnion, languageSum, translationsFit, translationUnion, translationSum, joinFits, joined, translationJoin}
+use Rattle.operators.specs.Operators.{languagesFit, languageUnion, languageSum, translationsFit, translationUnion, translationSum, joinFits, joined, translationJoin}
 use Rattle.operators.specs.Limits.{codeIsDeep, languageExceeds, translationExceeds}
 use Rattle.pack.specs.Terms.{Sort, languages, translations, Term, constant, sourceOf, targetOf, make, join, identity, variable, without, sum, bind}
 use Rattle.signs.specs.Evaluation.{Constants, Value, Environment, nothingBound, bound, there, exceeds, limited, sumOf, withoutOf, evaluate}
@@ -44,7 +44,7 @@ there-step r none f e = refused-value e
 there-step r (some a) f e = (a, refl, e)
 
 pub limited-value : (s : Sort) (v w : Value s) → limited s v ≡ value w → (exceeds s v ≡ false) × (v ≡ w)
-limited-value s v w e = let r = refuse-value (exceeds s v) Limit (value v) e in (r .0, value-inj (r .1))
+limited-value s v w e = let r = refuse-value (exceeds s v) ValueTooLarge (value v) e in (r .0, value-inj (r .1))
 
 -- A good value of each sort.
 abbrev pub Good : (s : Sort) → Value s → Type 0
@@ -194,7 +194,7 @@ evaluate-good p gp e ge (identity x) v q =
     let a = step-value (evaluate p e x) _ q in
     limited-good translations _ v (a .2) (λ d. sound-identity (a .0) (good-proper (a .0) (evaluate-good p gp e ge x (a .0) (a .1))))
 evaluate-good p gp e ge (variable {s} n) v q =
-    let a = there-step Unbound (e s n) (limited s) q in
+    let a = there-step UnboundVariable (e s n) (limited s) q in
     limited-good s (a .0) v (a .2) (λ x. good-fair s (a .0) (ge s n (a .0) (a .1)))
 evaluate-good p gp e ge (without {s} x y) v q =
     let a = step-value (evaluate p e x) _ q in

@@ -11,7 +11,7 @@ use lib.Seq.{slice, take-take}
 use Rattle.fields.specs.Outcome.{Result, value, refused, refuseIf, _>>=_, written}
 use Rattle.fields.specs.declared.outcome.Outcome.{Outcome}
 use Rattle.fields.specs.declared.outcome.Reason.{Reason}
-use Rattle.fields.specs.declared.outcome.Reason.the-variants.{Limit, Unbound}
+use Rattle.fields.specs.declared.outcome.Reason.the-variants.{ValueTooLarge, UnboundVariable}
 use Rattle.fields.specs.declared.outcome.Reason.the-variants as Reasons
 use Rattle.fields.proofs.Truth.{none-some, by-test}
 use Rattle.language.specs.Language.{Language}
@@ -72,12 +72,12 @@ wrote-says s (refused w) o pack rest out filled end r x e back d =
 wrote-says s (value v) o pack rest out filled end r x e back d =
     by-test (exceeds s v)
     (λ t.
-    let z : bytesOf s (value v) ≡ refused Limit = ap (λ (b : Bool). refuseIf b Limit (value (encodeAs s v))) t in
+    let z : bytesOf s (value v) ≡ refused ValueTooLarge = ap (λ (b : Bool). refuseIf b ValueTooLarge (value (encodeAs s v))) t in
     subst (Says s o pack rest filled) (sym (x .answer ∙ ap (λ (y : Outcome). finished y end) (x .gives .outcome ∙ ap written z)))
-    (sym e ∙ ap (λ (b : Bool). refuseIf b Limit (value v)) t))
+    (sym e ∙ ap (λ (b : Bool). refuseIf b ValueTooLarge (value v)) t))
     (λ t.
-    let z : bytesOf s (value v) ≡ value (encodeAs s v) = ap (λ (b : Bool). refuseIf b Limit (value (encodeAs s v))) t in
-    let c : o ≡ value v = sym e ∙ ap (λ (b : Bool). refuseIf b Limit (value v)) t in
+    let z : bytesOf s (value v) ≡ value (encodeAs s v) = ap (λ (b : Bool). refuseIf b ValueTooLarge (value (encodeAs s v))) t in
+    let c : o ≡ value v = sym e ∙ ap (λ (b : Bool). refuseIf b ValueTooLarge (value v)) t in
     let b = x .gives .bytes (encodeAs s v) z in
     subst (Says s o pack rest filled) (sym (x .answer ∙ ap (λ (y : Outcome). finished y end) (x .gives .outcome ∙ ap written z))) (
       record {
@@ -366,7 +366,7 @@ module _ (pack : List ℕ) {places : Places} {store : List ℕ} {top : ℕ} (at 
     says = λ g x.
         let z = constant-stands (g .pack) pack at levels x pos (b .1) in
         wrote-says languages (value (z .1 .0)) _ pack (x .rest) out filled (at + 2) y (h (g .pack) (z .1 .0) (g .packed) (z .1 .1))
-        (sym (ap (evaluate (constantsOf (g .pack)) (g .environment)) (z .0 .is) ∙ ap (λ (q : Option Language). there Reasons.Term q >>= limited languages) (z .1 .1)))
+        (sym (ap (evaluate (constantsOf (g .pack)) (g .environment)) (z .0 .is) ∙ ap (λ (q : Option Language). there Reasons.IllegalTerm q >>= limited languages) (z .1 .1)))
         (λ v q. evaluated-reads g (x .term) v q) (record { inside = z .0 .inside; next = z .0 .next });
     kept = kept-same store top;
     long = let z = constant-asks b a in h (z .0 .0) (z .0 .2 .0) (z .0 .1) (z .0 .2 .1) .gives .long;
@@ -380,13 +380,13 @@ module _ (pack : List ℕ) {places : Places} {store : List ℕ} {top : ℕ} (at 
       ((a .ground .environment, a .ground .held), z .1, z .0 .inside)
 
   pub variable-gives : (s : Sort) {out filled : List ℕ} {y : Evaluated} → getD pack at 0 ≡ signed s 0x41 0x51 → Asks s pack places store top at levels
-      → ((e : Environment) → Held e places (take top store) → Wrote s (there Unbound (e s (getD pack (at + 1) 0))) out filled (at + 2) y)
+      → ((e : Environment) → Held e places (take top store) → Wrote s (there UnboundVariable (e s (getD pack (at + 1) 0))) out filled (at + 2) y)
       → Gives s pack places store store top at levels out filled y
   unfolding evaluate
   variable-gives s {out} {filled} {y} e a h = record {
     says = λ g x.
         let z = variable-stands (g .pack) s pack at levels x pos e in
-        wrote-says s (there Unbound (g .environment s (getD pack (at + 1) 0))) _ pack (x .rest) out filled (at + 2) y (h (g .environment) (g .held))
+        wrote-says s (there UnboundVariable (g .environment s (getD pack (at + 1) 0))) _ pack (x .rest) out filled (at + 2) y (h (g .environment) (g .held))
         (sym (ap (evaluate (constantsOf (g .pack)) (g .environment)) (z .0 .is)))
         (λ v q. evaluated-reads g (x .term) v q) (record { inside = z .0 .inside; next = z .0 .next });
     kept = kept-same store top;
@@ -466,7 +466,7 @@ module _ (pack : List ℕ) {places : Places} {store : List ℕ} {top : ℕ} (at 
             })
             (sym (ap (evaluate (constantsOf (g .pack)) (g .environment)) (t .terms .is)
             ∙ (steps-value (evaluate (constantsOf (g .pack)) (g .environment) (t .terms .first .term)) (evaluate (constantsOf (g .pack)) (g .environment) (t .terms .second .term)) _ (k .0 .held) (k .1 .held) (k .0 .comes) (k .1 .comes)
-            ∙ ap (λ (o : Option Body). there Reasons.Term o >>= λ b. wellFormed (record { source = k .0 .held; target = k .1 .held; body = b }) >>= limited translations) (t .body .1))))
+            ∙ ap (λ (o : Option Body). there Reasons.IllegalTerm o >>= λ b. wellFormed (record { source = k .0 .held; target = k .1 .held; body = b }) >>= limited translations) (t .body .1))))
             (λ v w. evaluated-reads g (x .term) v w)
             (record { inside = omega (arith, f .0); next = f .2 });
         kept = given .kept;
@@ -476,7 +476,7 @@ module _ (pack : List ℕ) {places : Places} {store : List ℕ} {top : ℕ} (at 
 -- The limit at a let never refuses: its value was tested at the sign of the inner term.
 limited-same : (s : Sort) (q : Result (Value s)) → ((v : Value s) → q ≡ value v → exceeds s v ≡ false) → (q >>= limited s) ≡ q
 limited-same s (refused r) h = refl
-limited-same s (value v) h = ap (λ (b : Bool). refuseIf b Limit (value v)) (h v refl)
+limited-same s (value v) h = ap (λ (b : Bool). refuseIf b ValueTooLarge (value v)) (h v refl)
 
 module _ (pack : List ℕ) {places : Places} {store : List ℕ} {top : ℕ} (at : ℕ) {levels : ℕ} (r s : Sort) (pos : 0 < levels) (sign : getD pack at 0 ≡ bindSign r s) where
   bound-of : (g : Ground pack places store top levels) (x : Stands (g .pack) s (drop at pack) levels) → Bound (g .pack) r s pack at (levels - 1) (x .term) (x .rest)

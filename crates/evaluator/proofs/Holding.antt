@@ -10,7 +10,7 @@ use lib.Seq.{slice, take-append-le, take-all, take-take, drop-at, length-take-le
 use lib.Dec.{eqb}
 use borrow.Author.Tests.{eqb-true, eqb-false}
 use Rattle.fields.specs.Outcome.{Result, value}
-use Rattle.fields.specs.declared.outcome.Reason.the-variants.{Unbound, Term as TermRefused}
+use Rattle.fields.specs.declared.outcome.Reason.the-variants.{UnboundVariable, IllegalTerm as TermRefused}
 use Rattle.fields.proofs.Truth.{none-some, some-inj, all-mem}
 use Rattle.fields.proofs.Keyed.{is-rising}
 use Rattle.language.proofs.Codec.{language-good, language-back}
@@ -18,7 +18,7 @@ use Rattle.translation.specs.Translation.{Translation, itemKey}
 use Rattle.translation.specs.TranslationFile.{translationOf}
 use Rattle.translation.proofs.Codec.{itemWhole, rises-parts, translation-whole}
 use Rattle.translation.specs.WellFormed.{wellFormed}
-use Rattle.operators.specs.Algebra.{translationJoin}
+use Rattle.operators.specs.Operators.{translationJoin}
 use Rattle.operators.proofs.Proper.{good-proper, formed-sound, GoodTranslation, good-back}
 use Rattle.pack.specs.Terms.{Sort, languages, translations, Term, constant, sourceOf, targetOf, make, join, identity, variable, without, sum, bind}
 use Rattle.pack.proofs.PackCodec.{pack-good}
@@ -82,7 +82,7 @@ evaluate-within c e (join x y) v q =
     let f = step-value (translationJoin (a .0) (b .0)) (limited translations) (b .2) in
     last translations (f .0) v (f .2)
 evaluate-within c e (identity x) v q = let a = step-value (evaluate c e x) _ q in last translations _ v (a .2)
-evaluate-within c e (variable {s} n) v q = let a = step-value (there Unbound (e s n)) (limited s) q in last s (a .0) v (a .2)
+evaluate-within c e (variable {s} n) v q = let a = step-value (there UnboundVariable (e s n)) (limited s) q in last s (a .0) v (a .2)
 evaluate-within c e (without {s} x y) v q =
     let a = step-value (evaluate c e x) _ q in
     let b = step-value (evaluate c e y) _ (a .2) in

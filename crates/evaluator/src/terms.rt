@@ -232,7 +232,7 @@ fn term_by_form(
         Form::Two(o) => binary_term(o, pack, at, levels, places, store, top, out),
         Form::Make => make_term(pack, at, levels, places, store, top, out),
         Form::Let(bound) => let_term(bound, sort, pack, at, levels, places, store, top, out),
-        Form::Unknown => Evaluated::Refused(Reason::Term),
+        Form::Unknown => Evaluated::Refused(Reason::IllegalTerm),
     }
 }
 
@@ -251,7 +251,7 @@ fn language_term(
         (now (out .entry)) (now (out .exit)) r ⌝ }
 {
     if levels == 0 {
-        return Evaluated::Refused(Reason::Term);
+        return Evaluated::Refused(Reason::IllegalTerm);
     }
     let form = language_form(byte_at(pack, at));
     term_by_form(
@@ -282,7 +282,7 @@ pub fn translation_term(
         (now (out .entry)) (now (out .exit)) r ⌝ }
 {
     if levels == 0 {
-        return Evaluated::Refused(Reason::Term);
+        return Evaluated::Refused(Reason::IllegalTerm);
     }
     let form = translation_form(byte_at(pack, at));
     term_by_form(

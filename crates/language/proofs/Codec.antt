@@ -9,7 +9,7 @@ use lib.ListN.{length, drop, length-drop}
 use lib.Dec.{ltb, leb}
 use borrow.Author.Tests.{le-leb, leb-true, eqb-true, le-ltb, ltb-false}
 use Rattle.fields.specs.Outcome.{Result, value, refuseIf, _>>=_}
-use Rattle.fields.specs.declared.outcome.Reason.the-variants.{TooLong, Order, Clash}
+use Rattle.fields.specs.declared.outcome.Reason.the-variants.{TooLong, OutOfOrder, ClassIsResult}
 use Rattle.fields.specs.Lists.{all, traverse}
 use Rattle.fields.specs.Fields.{Field, field, byteAt, pairAt, twoBytes, fieldsOf, encodeFields, decodedIn}
 use Rattle.fields.specs.Keyed.{rising}
@@ -172,8 +172,8 @@ abbrev pub opened : {A B : Type 0} → Bool → Option A → (A → Bool) → (A
 opened long file rises clash rest =
     refuseIf long TooLong
     (whole file >>= λ a.
-    refuseIf (not (rises a)) Order
-    (refuseIf (clash a) Clash
+    refuseIf (not (rises a)) OutOfOrder
+    (refuseIf (clash a) ClassIsResult
     (rest a)))
 
 -- A file that is opened: it is not too long, not broken, in order, and without a clash.
@@ -187,7 +187,7 @@ pub record Opened {A B : Type 0} (long : Bool) (file : Option A) (rises clash : 
 
 module _ {A B : Type 0} (rises clash : A → Bool) (rest : A → Result B) where
   -- A file that was read, with both tests at hand.
-  open-held : (a : A) (b : B) (p q : Bool) → rises a ≡ p → clash a ≡ q → refuseIf (not p) Order (refuseIf q Clash (rest a)) ≡ value b
+  open-held : (a : A) (b : B) (p q : Bool) → rises a ≡ p → clash a ≡ q → refuseIf (not p) OutOfOrder (refuseIf q ClassIsResult (rest a)) ≡ value b
       → Opened false (some a) rises clash rest b
   open-held a b false q r c e = refused-value e
   open-held a b true true r c e = refused-value e

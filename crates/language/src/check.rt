@@ -21,13 +21,13 @@ pub fn check_language(language: &[u8]) -> Answer
         return refuse(Reason::TooLong);
     }
     if !entries_whole(language) {
-        return refuse(Reason::Broken);
+        return refuse(Reason::BrokenField);
     }
     if !keys_rise(language, CLASS) {
-        return refuse(Reason::Order);
+        return refuse(Reason::OutOfOrder);
     }
     if result_is_class(language) {
-        return refuse(Reason::Clash);
+        return refuse(Reason::ClassIsResult);
     }
     accept(0)
 }

@@ -11,7 +11,7 @@ use borrow.Author.Tests.{ltb-true, ltb-false}
 use Rattle.fields.specs.Outcome.{Result, value, refused, _>>=_, refuseIf, reasonNumber, numberOf, written, outputAfter}
 use Rattle.fields.specs.Fields.{Field}
 use Rattle.fields.specs.declared.outcome.Reason.{Reason}
-use Rattle.fields.specs.declared.outcome.Reason.the-variants.{Root, Tree, Levels, Output}
+use Rattle.fields.specs.declared.outcome.Reason.the-variants.{UnknownRoot, IllegalTree, TooDeep, OutputTooShort}
 use Rattle.fields.specs.declared.outcome.Outcome.the-variants.{Accepted, Refused}
 use Rattle.fields.proofs.Truth.{by-test, true-not}
 use Rattle.fields.proofs.Codec.{refused-value}
@@ -30,7 +30,7 @@ use Rattle.translation.specs.Operations.{fitted, runBytes, runTree}
 use Rattle.translation.proofs.Preserved.{typed-run}
 use Rattle.translation.proofs.Fitting.{refuse-value, fit-carries}
 use Rattle.pack.specs.Terms.{Term, translations, join, writeTerm}
-use Rattle.operators.specs.Algebra.{joinFits, joined, translationJoin}
+use Rattle.operators.specs.Operators.{joinFits, joined, translationJoin}
 use Rattle.operators.specs.Limits.{translationExceeds}
 use Rattle.signs.specs.Evaluation.{Constants, constantsOf, nothingBound, limited, evaluate}
 use Rattle.reducer.specs.Operations.{reduceBytes, reduce}
@@ -58,7 +58,7 @@ whole-done broken t e = refused-value e
 tree-typed : (l : Language) (k : ℕ) (bytes : List ℕ) (t : Code) → treeOf l k bytes ≡ value t → Typed l [] t k × (isIn l k ≡ true)
 unfolding treeOf
 tree-typed l k bytes t e =
-    let r = refuse-value (not (isIn l k)) Root (wholeTree (read tree l [] treeLevels k bytes)) e in
+    let r = refuse-value (not (isIn l k)) UnknownRoot (wholeTree (read tree l [] treeLevels k bytes)) e in
     (read-done tree l [] treeLevels k bytes t [] (whole-done _ t (r .1)) .0, true-not (isIn l k) (r .0))
 
 -- A tree that was read, of a kind that is in the language.
@@ -68,7 +68,7 @@ tree-of l k bytes o i e = rw (i, e)
 
 -- A written tree is read back, or is too deep to be handed in.
 written-tree : (l : Language) (k : ℕ) (t : Code) → clashes l l ≡ false → isIn l k ≡ true → Typed l [] t k
-    → (treeOf l k (write tree t) ≡ refused Levels) ⊎ (treeOf l k (write tree t) ≡ value t)
+    → (treeOf l k (write tree t) ≡ refused TooDeep) ⊎ (treeOf l k (write tree t) ≡ value t)
 written-tree l k t apart i h =
     let r = law-of-levels l apart tree [] t k h treeLevels [] in
     let whole : read tree l [] treeLevels k (write tree t) ≡ read tree l [] treeLevels k (write tree t ++ [])
@@ -92,23 +92,23 @@ operand-runs f bytes p root input room = rw (operand-opens f bytes p)
 
 -- A result that fits.
 fitted-value : (room : ℕ) (bytes result : List ℕ) → fitted room bytes ≡ value result → bytes ≡ result
-fitted-value room bytes result e = value-inj (refuse-value (ltb room (length bytes)) Output (value bytes) e .1)
+fitted-value room bytes result e = value-inj (refuse-value (ltb room (length bytes)) OutputTooShort (value bytes) e .1)
 
 -- The number of a result.
 abbrev numbered : Result (List ℕ) → ℕ
 numbered r = numberOf (written r)
 
 -- What does not fit is not refused because of the tree.
-fitted-refused : (over : Bool) (bytes : List ℕ) (r : Reason) → OfTree r → refuseIf over Output (value bytes) ≡ refused r → ⊥
+fitted-refused : (over : Bool) (bytes : List ℕ) (r : Reason) → OfTree r → refuseIf over OutputTooShort (value bytes) ≡ refused r → ⊥
 fitted-refused over bytes r k e = clash over r k (ap numbered e)
   where
-    clash : (over : Bool) (r : Reason) → OfTree r → numbered (refuseIf over Output (value bytes)) ≡ reasonNumber r → ⊥
-    clash true Root of-root n = omega arith
-    clash false Root of-root n = omega arith
-    clash true Tree of-bytes n = omega arith
-    clash false Tree of-bytes n = omega arith
-    clash true Levels of-levels n = omega arith
-    clash false Levels of-levels n = omega arith
+    clash : (over : Bool) (r : Reason) → OfTree r → numbered (refuseIf over OutputTooShort (value bytes)) ≡ reasonNumber r → ⊥
+    clash true UnknownRoot of-root n = omega arith
+    clash false UnknownRoot of-root n = omega arith
+    clash true IllegalTree of-bytes n = omega arith
+    clash false IllegalTree of-bytes n = omega arith
+    clash true TooDeep of-levels n = omega arith
+    clash false TooDeep of-levels n = omega arith
 
 -- A refusal that comes of the first step comes whatever the next step is.
 first-refused : (o : Result Code) (next other : Code → Result (List ℕ)) (r : Reason) → ((t : Code) → next t ≡ refused r → ⊥)
@@ -142,7 +142,7 @@ module _ (f g j : Translation) (F G J : List ℕ) (pf : Operand f F) (pg : Opera
     (runs : (t : Code) (k : ℕ) → Typed (g .source) [] t k → transform j t ≡ transform f (transform g t)) where
   -- The join's run and the second run come to the same.
   same-runs : (root : ℕ) (bytes middle : List ℕ) (room space : ℕ) → runBytes G root bytes room ≡ value middle
-      → (runBytes F (mapped (g .body) root) middle space ≡ refused Levels → ⊥)
+      → (runBytes F (mapped (g .body) root) middle space ≡ refused TooDeep → ⊥)
       → runBytes J root bytes space ≡ runBytes F (mapped (g .body) root) middle space
   same-runs root bytes middle room space e shallow =
       let a = step-value (treeOf (g .source) root bytes) (λ t. fitted room (write tree (transform g t))) (sym (operand-runs g G pg root bytes room) ∙ e) in
@@ -162,7 +162,7 @@ module _ (f g j : Translation) (F G J : List ℕ) (pf : Operand f F) (pg : Opera
       ∙ (ap (λ (b : List ℕ). treeOf (f .source) (mapped (g .body) root) b >>= λ x. fitted space (write tree (transform f x))) (sym m)
       ∙ ap (λ (z : Result Code). z >>= λ x. fitted space (write tree (transform f x))) q) in
       ⊎-elim
-      (λ q. absurd (shallow (second-run (refused Levels) q)))
+      (λ q. absurd (shallow (second-run (refused TooDeep) q)))
       (λ q. join-run ∙ sym (second-run (value (transform g t)) q))
       (written-tree (f .source) (mapped (g .body) root) (transform g t) (none-clashes (f .source) (f .source) (pf .good .sound .source .apart))
       (lies root (h .1)) (typed-on (transform g t) (mapped (g .body) root) u))
@@ -254,7 +254,7 @@ source-is f g = refl
 module _ (f g : Translation) (F G J : List ℕ) (pf : Operand f F) (pg : Operand g G) (pj : Operand (joined f g) J)
     (fits : joinFits f g ≡ true) (exceeds : translationExceeds (joined f g) ≡ false) where
   join-same : (root : ℕ) (bytes middle : List ℕ) (room space : ℕ) → runBytes G root bytes room ≡ value middle
-      → (runBytes F (mapped (g .body) root) middle space ≡ refused Levels → ⊥)
+      → (runBytes F (mapped (g .body) root) middle space ≡ refused TooDeep → ⊥)
       → runBytes J root bytes space ≡ runBytes F (mapped (g .body) root) middle space
   join-same =
       let sf = pf .good .sound in
@@ -285,7 +285,7 @@ module _ (f g : Translation) (F G J : List ℕ) (pf : Operand f F) (pg : Operand
             let v = accepted-value one z in
             let m : one ≡ value middle = v .1 ∙ ap value (sym (put-out a one (v .0) (v .1))) in
             same-run J F bytes middle root (mapped (g .body) root) b c n
-            (join-same root bytes middle (length a) (length b) m (λ q. shallow (refused-written two Levels q)));
+            (join-same root bytes middle (length a) (length b) m (λ q. shallow (refused-written two TooDeep q)));
       }
 
 -- The law of runs.

@@ -16,9 +16,9 @@ use Rattle.language.specs.Language.{Language, entryKey}
 use Rattle.language.specs.LanguageFile.{entryField, encodeLanguage, languageLimit}
 use Rattle.translation.specs.Translation.{Translation, itemKey}
 use Rattle.translation.specs.TranslationFile.{itemField, translationFields, encodeTranslation, translationLimit}
-use Rattle.operators.specs.Algebra.{languageUnion, translationUnion}
+use Rattle.operators.specs.Operators.{languageUnion, translationUnion}
 use Rattle.operators.specs.Limits.{codeIsDeep, languageExceeds, translationExceeds}
-use Rattle.values.proofs.Accepted.{code-shallow}
+use Rattle.operators.proofs.Accepted.{code-shallow}
 use Rattle.operators.proofs.Proper.{Proper, Sound, GoodTranslation}
 use Rattle.operators.proofs.SumSound.{LanguagesFit, TranslationsFit, union-covers}
 

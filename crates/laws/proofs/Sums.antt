@@ -10,7 +10,7 @@ use Rattle.fields.specs.Fields.{Field}
 use Rattle.fields.proofs.Truth.{and-both, both-and, mem-append, append-cases}
 use Rattle.translation.specs.Translation.{Translation}
 use Rattle.pack.specs.Terms.{Term, translations, sum, scoped}
-use Rattle.operators.specs.Algebra.{translationsFit, translationUnion, translationSum}
+use Rattle.operators.specs.Operators.{translationsFit, translationUnion, translationSum}
 use Rattle.operators.specs.Limits.{translationExceeds}
 use Rattle.signs.specs.Evaluation.{Constants, constantsOf, nothingBound, limited, evaluate}
 use Rattle.reducer.specs.Operations.{reduceBytes, reduce}

@@ -7,7 +7,7 @@ use Rattle.fields.specs.Outcome.{Result, value, refused, numberOf}
 use Rattle.fields.specs.Fields.{Field}
 use Rattle.fields.specs.declared.outcome.Outcome.the-variants.{Refused}
 use Rattle.fields.specs.declared.outcome.Reason.{Reason}
-use Rattle.fields.specs.declared.outcome.Reason.the-variants.{Root, Tree, Levels}
+use Rattle.fields.specs.declared.outcome.Reason.the-variants.{UnknownRoot, IllegalTree, TooDeep}
 use Rattle.language.specs.Language.{Language}
 use Rattle.reader.specs.Code.{Code}
 use Rattle.reader.specs.Typing.{Typed}
@@ -41,9 +41,9 @@ ReducesTo pack workspace output bytes =
 
 -- The reasons to refuse a tree: its root (14), its bytes (15), its levels (16).
 pub data OfTree : Reason → Type 0 where
-  of-root : OfTree Root
-  of-bytes : OfTree Tree
-  of-levels : OfTree Levels
+  of-root : OfTree UnknownRoot
+  of-bytes : OfTree IllegalTree
+  of-levels : OfTree TooDeep
 
 -- Two runs give the same number and length, and that many equal first bytes.
 pub record SameRun (x y : Ran) : Type 0 where
@@ -59,7 +59,7 @@ pub record RunsOfJoin (first second joined : Ran) (b c : List ℕ) (target : Lan
   pub refused : (reason : Reason) → OfTree reason → first .outcome ≡ Refused reason → joined .outcome ≡ Refused reason
   -- Where the first run is accepted and the second does not refuse the middle tree as too deep, the join's run and the
   -- second give the same with equally long outputs, also where that is 17.
-  pub agrees : numberOf (first .outcome) ≡ 0 → (second .outcome ≡ Refused Levels → ⊥) → length c ≡ length b
+  pub agrees : numberOf (first .outcome) ≡ 0 → (second .outcome ≡ Refused TooDeep → ⊥) → length c ≡ length b
       → SameRun joined second
 
 -- The law. The first translation is the join's second operand, g; f runs after it. Each of the three is what the pack

@@ -8,7 +8,7 @@ use lib.Seq.{take-append-seam, length-take-le}
 use Rattle.io.specs.Counts.{Counts}
 use Rattle.fields.specs.Outcome.{Result, value, refused, _>>=_, reasonNumber, numberOf, written, outputAfter}
 use Rattle.fields.specs.declared.outcome.Reason.{Reason}
-use Rattle.fields.specs.declared.outcome.Reason.the-variants.{TooLong, Broken, Order, Clash, Mapping, Clauses, Code, Term, Lent, Unbound, Limit, SumUnfit, JoinUnfit, Root, Tree, Levels, Output}
+use Rattle.fields.specs.declared.outcome.Reason.the-variants.{TooLong, BrokenField, OutOfOrder, ClassIsResult, WrongMapping, WrongClauses, IllegalCode, IllegalTerm, BuffersTooShort, UnboundVariable, ValueTooLarge, SumUnfit, JoinUnfit, UnknownRoot, IllegalTree, TooDeep, OutputTooShort}
 use Rattle.fields.specs.declared.outcome.Outcome.{Outcome}
 use Rattle.fields.specs.declared.outcome.Outcome.the-variants.{Accepted, Refused}
 use Rattle.translation.specs.Translation.{Translation}
@@ -25,22 +25,22 @@ use Rattle.listing.proofs.Walk.{clause-lines}
 -- A reason's number is small.
 small : (r : Reason) → reasonNumber r < 18
 small TooLong = omega arith
-small Broken = omega arith
-small Order = omega arith
-small Clash = omega arith
-small Mapping = omega arith
-small Clauses = omega arith
-small Code = omega arith
-small Term = omega arith
-small Lent = omega arith
-small Unbound = omega arith
-small Limit = omega arith
+small BrokenField = omega arith
+small OutOfOrder = omega arith
+small ClassIsResult = omega arith
+small WrongMapping = omega arith
+small WrongClauses = omega arith
+small IllegalCode = omega arith
+small IllegalTerm = omega arith
+small BuffersTooShort = omega arith
+small UnboundVariable = omega arith
+small ValueTooLarge = omega arith
 small SumUnfit = omega arith
 small JoinUnfit = omega arith
-small Root = omega arith
-small Tree = omega arith
-small Levels = omega arith
-small Output = omega arith
+small UnknownRoot = omega arith
+small IllegalTree = omega arith
+small TooDeep = omega arith
+small OutputTooShort = omega arith
 
 pub number-small : (o : Outcome) → numberOf o < 18
 number-small (Accepted n) = omega arith

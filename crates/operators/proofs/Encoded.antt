@@ -28,10 +28,10 @@ use Rattle.language.proofs.Lookup as Entries
 use Rattle.translation.specs.Translation.{Item, mapping, clause, Body, itemKey, sameItem}
 use Rattle.translation.specs.TranslationFile.{itemField}
 use Rattle.translation.proofs.Lookup as Items
-use Rattle.operators.specs.Algebra.{languagesFit, languageUnion, languageWithout}
-use Rattle.operators.specs.Inner.Parts.{Part, partKey, samePart, bytesOf, pieceAt, partAt, partsFrom, parts, Sorted, united, removed, liesWithin, agrees, fitTogether}
+use Rattle.operators.specs.Operators.{languagesFit, languageUnion, languageWithout}
+use Rattle.merging.specs.Inner.Parts.{Part, partKey, samePart, bytesOf, pieceAt, partAt, partsFrom, parts, Sorted, united, removed, liesWithin, agrees, fitTogether}
 use Rattle.fields.proofs.Splices.{slice-is}
-use Rattle.operators.proofs.Walks.{parts-done, parts-next}
+use Rattle.merging.proofs.Walks.{parts-done, parts-next}
 use Rattle.operators.proofs.Mapped.{union-mapped, within-mapped, without-mapped, agree-mapped}
 
 -- The key of a field, and the field by key and bytes.

@@ -1,6 +1,9 @@
-// The values of the signs on languages and translations: their definitions and laws, and the operators on bytes.
-pub mod fit;
-pub mod meet;
-pub mod merge;
-pub mod prefix;
-pub mod within;
+// The operators of the signs on bytes: copies, sums, "without", identities, and translations made of their parts.
+pub mod assemble;
+pub mod copy;
+pub mod identity;
+pub mod keep;
+pub mod languages;
+pub mod limit;
+pub mod make;
+pub mod translations;

@@ -225,12 +225,12 @@ module _ (s : List ℕ) (over : Bool) (eo : over ≡ (ltb packLimit (length s) |
   over-refused h i = cc
 
   module _ (within : over ≡ false) (there : Bool) (et : there ≡ isSome (packParts s)) where
-    absent : (p : Option Pack) → packParts s ≡ p → isSome p ≡ false → checked (packOf s) ≡ Refused Why.Broken
+    absent : (p : Option Pack) → packParts s ≡ p → isSome p ≡ false → checked (packOf s) ≡ Refused Why.BrokenField
     unfolding packOf
     absent none e h = cc
     absent (some p) e h = false-true (sym h)
 
-    pub broken-refused : {o : Outcome} → there ≡ false → o ≡ Refused Why.Broken → o ≡ checked (packOf s)
+    pub broken-refused : {o : Outcome} → there ≡ false → o ≡ Refused Why.BrokenField → o ≡ checked (packOf s)
     broken-refused h i = i ∙ sym (absent (packParts s) refl (sym et ∙ h))
 
     module _ (whole-is : there ≡ true) where
@@ -243,7 +243,7 @@ module _ (s : List ℕ) (over : Bool) (eo : over ≡ (ltb packLimit (length s) |
       pub each-whole : all (partWhole s) (places s) ≡ true
       each-whole = holds .parts
 
-      opened : (p : Pack) → packParts s ≡ some p → packOf s ≡ refuseIf (not (packRises p)) Why.Order (refuseIf (packClashes p) Why.Clash (value p))
+      opened : (p : Pack) → packParts s ≡ some p → packOf s ≡ refuseIf (not (packRises p)) Why.OutOfOrder (refuseIf (packClashes p) Why.ClassIsResult (value p))
       unfolding packOf
       opened p e = rw (sym eo ∙ within, e)
 
@@ -255,15 +255,15 @@ module _ (s : List ℕ) (over : Bool) (eo : over ≡ (ltb packLimit (length s) |
       unfolding tagged
       clash-all = let h = holds in clash-places s (places s) (h .parts) ∙ rw (h .languages)
 
-      chain : checked (packOf s) ≡ checked (refuseIf (not (all (risesAt s) (places s))) Why.Order (refuseIf (any (clashAt s) (places s)) Why.Clash (value (held .0))))
+      chain : checked (packOf s) ≡ checked (refuseIf (not (all (risesAt s) (places s))) Why.OutOfOrder (refuseIf (any (clashAt s) (places s)) Why.ClassIsResult (value (held .0))))
       chain = rw (rise-is, clash-all) (ap checked (opened (held .0) (held .1)))
 
       module _ (rise : Bool) (er : rise ≡ all (risesAt s) (places s)) where
-        pub order-refused : {o : Outcome} → rise ≡ false → o ≡ Refused Why.Order → o ≡ checked (packOf s)
+        pub order-refused : {o : Outcome} → rise ≡ false → o ≡ Refused Why.OutOfOrder → o ≡ checked (packOf s)
         order-refused h i = i ∙ sym (chain ∙ rw (← er, h))
 
         module _ (rises : rise ≡ true) (both : Bool) (eb : both ≡ any (clashAt s) (places s)) where
-          pub clash-refused : {o : Outcome} → both ≡ true → o ≡ Refused Why.Clash → o ≡ checked (packOf s)
+          pub clash-refused : {o : Outcome} → both ≡ true → o ≡ Refused Why.ClassIsResult → o ≡ checked (packOf s)
           clash-refused h i = i ∙ sym (chain ∙ rw (← er, rises, ← eb, h))
 
           pub pack-accepted : {o : Outcome} → both ≡ false → o ≡ Accepted 0 → o ≡ checked (packOf s)

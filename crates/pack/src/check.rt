@@ -39,13 +39,13 @@ pub fn check_pack(pack: &[u8]) -> Answer
         return refuse(Reason::TooLong);
     }
     if !parts_whole(pack) {
-        return refuse(Reason::Broken);
+        return refuse(Reason::BrokenField);
     }
     if !in_order(pack) {
-        return refuse(Reason::Order);
+        return refuse(Reason::OutOfOrder);
     }
     if languages_clash(pack) {
-        return refuse(Reason::Clash);
+        return refuse(Reason::ClassIsResult);
     }
     accept(0)
 }

@@ -112,10 +112,10 @@ pub fn check_term(pack: &[u8]) -> Answer
     let languages = count_tag(pack, LANGUAGE);
     let bodies = count_tag(pack, BODY);
     let Read::End(e) = term_end(2, pack, start, languages, bodies, TERM_LEVELS) else {
-        return refuse(Reason::Term);
+        return refuse(Reason::IllegalTerm);
     };
     if e != pack.len() {
-        return refuse(Reason::Term);
+        return refuse(Reason::IllegalTerm);
     }
     accept(0)
 }

@@ -13,7 +13,7 @@ use Rattle.fields.specs.Outcome.{Result, value, refused, refuseIf, _>>=_, check
 use Rattle.fields.specs.declared.outcome.Outcome.{Outcome}
 use Rattle.fields.specs.declared.outcome.Outcome.the-variants.{Accepted, Refused}
 use Rattle.fields.specs.declared.outcome.Reason.{Reason}
-use Rattle.fields.specs.declared.outcome.Reason.the-variants.{Lent, Term as TermRefused}
+use Rattle.fields.specs.declared.outcome.Reason.the-variants.{BuffersTooShort, IllegalTerm as TermRefused}
 use Rattle.fields.proofs.Truth.{or-false, true-not}
 use Rattle.fields.proofs.Codec.{refused-value}
 use Rattle.translation.specs.Translation.{Translation}
@@ -50,7 +50,7 @@ unfolding ready
 ready-value bytes w o r e =
     let a = step-value (packOf bytes) _ e in
     let b = step-value (termOf (a .0)) _ (a .2) in
-    let c = refuse-value (ltb w 65536 || ltb o 4096) Lent _ (b .2) in
+    let c = refuse-value (ltb w 65536 || ltb o 4096) BuffersTooShort _ (b .2) in
     let q : record { pack = a .0; term = b .0 } ≡ r = value-inj (c .1) in
     subst (λ (x : Ready). (packOf bytes ≡ value (x .pack)) × (termOf (x .pack) ≡ value (x .term)) × ((ltb w 65536 || ltb o 4096) ≡ false)) q (a .1, b .1, c .0)
 
@@ -77,7 +77,7 @@ module _ (s : List ℕ) (w o : ℕ) where
 
     -- The room is, or is not, enough.
     pub ready-room : {t : Term translations} {q : Outcome} → termOf p ≡ value t → (b : Bool) → (ltb w 65536 || ltb o 4096) ≡ b
-        → q ≡ checked {A = Ready} (refuseIf b Lent (value (record { pack = p; term = t }))) → q ≡ checked (ready s w o)
+        → q ≡ checked {A = Ready} (refuseIf b BuffersTooShort (value (record { pack = p; term = t }))) → q ≡ checked (ready s w o)
     unfolding ready
     ready-room e b d h = rw (opens, e, d) h
 

@@ -48,10 +48,10 @@ fn ready(pack: &[u8], workspace: usize, output: usize) -> Answer
         return read;
     };
     if workspace < WORKSPACE {
-        return refuse(Reason::Lent);
+        return refuse(Reason::BuffersTooShort);
     }
     if output < OUTPUT {
-        return refuse(Reason::Lent);
+        return refuse(Reason::BuffersTooShort);
     }
     accept(0)
 }

@@ -101,7 +101,7 @@ answer-same {o = o} e h = record { answer = h .answer ∙ sym (ap written e); le
 
 -- run_parts
 module _ (f : Translation) (k room : ℕ) (b o : List ℕ) {r : Bool} (er : r ≡ isIn (f .source) k) where
-  pub kind-out : {out : Outcome} → r ≡ false → out ≡ Refused Why.Root → Answers (runOf f k b room) o o out
+  pub kind-out : {out : Outcome} → r ≡ false → out ≡ Refused Why.UnknownRoot → Answers (runOf f k b room) o o out
   unfolding runOf treeOf
   kind-out h i = answer-refused (rw (← er, h)) i
 
@@ -111,17 +111,17 @@ module _ (f : Translation) (k room : ℕ) (b o : List ℕ) {r : Bool} (er : r �
     by-read e = rw (← er, there, e)
 
     module _ (m : Measured) (em : sizedAt b m ≡ sizedOf (room + 1) f (treeRead f k b)) where
-      pub tree-deep : {out : Outcome} → m ≡ Deep → out ≡ Refused Why.Levels → Answers (runOf f k b room) o o out
+      pub tree-deep : {out : Outcome} → m ≡ Deep → out ≡ Refused Why.TooDeep → Answers (runOf f k b room) o o out
       tree-deep y i = answer-refused (by-read (sized-deep f (room + 1) (treeRead f k b) (sym em ∙ ap (sizedAt b) y))) i
 
-      pub tree-broken : {out : Outcome} → m ≡ Broken → out ≡ Refused Why.Tree → Answers (runOf f k b room) o o out
+      pub tree-broken : {out : Outcome} → m ≡ Broken → out ≡ Refused Why.IllegalTree → Answers (runOf f k b room) o o out
       tree-broken y i = answer-refused (by-read (sized-broken f (room + 1) (treeRead f k b) (sym em ∙ ap (sizedAt b) y))) i
 
       module _ (e n : ℕ) (y : m ≡ End e n) where
         read-done : (a : Code) × (treeRead f k b ≡ Meant.done a (drop e b)) × (n ≡ capped (room + 1) (size (transform f a)))
         read-done = sized-done f (room + 1) (treeRead f k b) (drop e b) n (sym em ∙ ap (sizedAt b) y)
 
-        pub tree-more : {out : Outcome} → EndsIn (length b) (room + 1) m → (e ≡ length b → ⊥) → out ≡ Refused Why.Tree → Answers (runOf f k b room) o o out
+        pub tree-more : {out : Outcome} → EndsIn (length b) (room + 1) m → (e ≡ length b → ⊥) → out ≡ Refused Why.IllegalTree → Answers (runOf f k b room) o o out
         tree-more w h i =
             let x : EndsIn (length b) (room + 1) (End e n) = rw y at w in
             let l = x .0 in
@@ -139,7 +139,7 @@ module _ (f : Translation) (k room : ℕ) (b o : List ℕ) {r : Bool} (er : r �
           fitted-is : (c : Bool) → ltb room n ≡ c → ltb room (size (transform f (read-done .0))) ≡ c
           fitted-is c h = sym (over-room room (size (transform f (read-done .0)))) ∙ (ap (ltb room) (sym (read-done .2)) ∙ h)
 
-          pub tree-long : {out : Outcome} → room < n → out ≡ Refused Why.Output → Answers (runOf f k b room) o o out
+          pub tree-long : {out : Outcome} → room < n → out ≡ Refused Why.OutputTooShort → Answers (runOf f k b room) o o out
           tree-long h i = answer-refused (by-read read-all ∙ rw (fitted-is true (lt-ltb room n h))) i
 
           pub tree-fits : {out : Outcome} {after : List ℕ} → n ≤ room
@@ -170,7 +170,7 @@ module _ (s : List ℕ) (root : ℕ) (b o : List ℕ) where
     unfolding runBytes runOf
     run-accepted after h = run-is out after (answer-same (rw e) h)
 
-    pub root-past : 31 < root → out ≡ Refused Why.Root → AsRun s root b o o out
+    pub root-past : 31 < root → out ≡ Refused Why.UnknownRoot → AsRun s root b o o out
     root-past h i =
         let w = translation-whole s f e .0 in
         run-accepted o (by-test (isIn (f .source) root)

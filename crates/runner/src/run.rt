@@ -69,7 +69,7 @@ fn write_tree(
     emitter::prepare::prepare(source, target, body, table);
     let p = emitter::run::run(Syntax::Tree, table, tree, ends, kind, 64, output, 0);
     if output.len() < p {
-        return refuse(Reason::Output);
+        return refuse(Reason::OutputTooShort);
     }
     accept(p)
 }
@@ -90,7 +90,7 @@ fn run_kept(
         → Answers (runOf f kind (now (tree .entry)) (length (now (output .entry)))) (now (output .entry)) (now (output .exit)) (r .outcome)) ⌝ }
 {
     if !is_in(source, kind) {
-        return refuse(Reason::Root);
+        return refuse(Reason::UnknownRoot);
     }
     let mut table = [0u16; 25664];
     let mut counts = [0u16; 1024];
@@ -99,15 +99,15 @@ fn run_kept(
     match measure(source, &table, &counts, kind, tree, 0, 64, room + 1, ends) {
         Measured::End(e, n) => {
             if e != tree.len() {
-                return refuse(Reason::Tree);
+                return refuse(Reason::IllegalTree);
             }
             if room < n {
-                return refuse(Reason::Output);
+                return refuse(Reason::OutputTooShort);
             }
             write_tree(source, target, body, &mut table, kind, tree, ends, output)
         }
-        Measured::Deep => refuse(Reason::Levels),
-        Measured::Broken => refuse(Reason::Tree),
+        Measured::Deep => refuse(Reason::TooDeep),
+        Measured::Broken => refuse(Reason::IllegalTree),
     }
 }
 
@@ -143,7 +143,7 @@ pub fn run(translation: &[u8], root: u32, tree: &[u8], output: &mut [u8]) -> Ans
         return refuse(reason);
     }
     if 31 < root {
-        return refuse(Reason::Root);
+        return refuse(Reason::UnknownRoot);
     }
     run_parts(
         source_of(translation),

@@ -10,7 +10,7 @@ use lib.Seq.{slice, length-slice, paste, take-paste, take-take, take-at, drop-at
 use Rattle.fields.specs.Outcome.{value, refused}
 use Rattle.fields.specs.declared.outcome.Outcome.{Outcome}
 use Rattle.fields.specs.declared.outcome.Outcome.the-variants as Outcomes
-use Rattle.fields.specs.declared.outcome.Reason.the-variants.{Unbound}
+use Rattle.fields.specs.declared.outcome.Reason.the-variants.{UnboundVariable}
 use Rattle.fields.proofs.Codec.{refused-value}
 use Rattle.fields.specs.Inner.Writing.{Stores, spliced}
 use Rattle.fields.specs.declared.copy.Stored.{Stored}
@@ -89,12 +89,12 @@ module _ (e : Environment) (places : Places) (store : List ℕ) (top : ℕ) (s :
   at-slot = slot ∙ ap (slotOf s) same
 
   -- A variable that is not bound.
-  pub variable-none : {out : List ℕ} {end : ℕ} → start ≡ 0 → Wrote s (there Unbound (e s v)) out out end (Refused Unbound)
+  pub variable-none : {out : List ℕ} {end : ℕ} → start ≡ 0 → Wrote s (there UnboundVariable (e s v)) out out end (Refused UnboundVariable)
   variable-none {out} z =
       let n : e s v ≡ none = holds-none s (e s v) _ _ (take top store) (h .bound s v small) (ap (λ (j : ℕ). getD (places .starts) j 0) (sym at-slot) ∙ (sym begins ∙ z)) in
-      let b : bytesOf s (there Unbound (e s v)) ≡ refused Unbound = ap (λ (o : Option (Value s)). bytesOf s (there Unbound o)) n in
+      let b : bytesOf s (there UnboundVariable (e s v)) ≡ refused UnboundVariable = ap (λ (o : Option (Value s)). bytesOf s (there UnboundVariable o)) n in
       record {
-        outcome = Outcomes.Refused Unbound;
+        outcome = Outcomes.Refused UnboundVariable;
         gives = record { outcome = rw b refl; long = refl; bytes = λ c d. refused-value (sym b ∙ d) };
         answer = refl;
       }
@@ -135,12 +135,12 @@ module _ (e : Environment) (places : Places) (store : List ℕ) (top : ℕ) (s :
 
   pub variable-wrote : {out filled : List ℕ} {end next : ℕ} {q : Outcome} {y : Evaluated} → (start ≡ 0 → ⊥) → end ≡ getD (places .ends) i 0
       → ((x : Value s) → valueIn s (slice (start - 1) end store) ≡ value x → Written.Gives (bytesOf s (value x)) out filled q) → y ≡ finished q next
-      → Wrote s (there Unbound (e s v)) out filled next y
+      → Wrote s (there UnboundVariable (e s v)) out filled next y
   variable-wrote {out} {filled} {q = q} z ends g d =
       let k = variable-some z ends in
       record {
         outcome = q;
-        gives = subst (λ (o : Option (Value s)). Written.Gives (bytesOf s (there Unbound o)) out filled q) (sym (k .1)) (g (k .0) (k .4));
+        gives = subst (λ (o : Option (Value s)). Written.Gives (bytesOf s (there UnboundVariable o)) out filled q) (sym (k .1)) (g (k .0) (k .4));
         answer = d;
       }
 

@@ -8,12 +8,12 @@ use lib.ListN.{getElem?}
 use lib.Dec.{eqb}
 use Rattle.fields.specs.Outcome.{Result, value, refused, refuseIf, _>>=_}
 use Rattle.fields.specs.declared.outcome.Reason.{Reason}
-use Rattle.fields.specs.declared.outcome.Reason.the-variants.{Unbound, Limit, Term as TermRefused}
+use Rattle.fields.specs.declared.outcome.Reason.the-variants.{UnboundVariable, ValueTooLarge, IllegalTerm as TermRefused}
 use Rattle.language.specs.Language.{Language}
 use Rattle.translation.specs.Translation.{Body, Translation}
 use Rattle.translation.specs.WellFormed.{wellFormed}
 use Rattle.operators.specs.Limits.{languageExceeds, translationExceeds}
-use Rattle.operators.specs.Algebra.{languageSum, languageWithout, translationSum, translationWithout, translationJoin, identityOf}
+use Rattle.operators.specs.Operators.{languageSum, languageWithout, translationSum, translationWithout, translationJoin, identityOf}
 use Rattle.pack.specs.Terms.{Sort, languages, translations, Term, constant, sourceOf, targetOf, make, join, identity, variable, without, sum, bind}
 use Rattle.pack.specs.Pack.{Pack}
 
@@ -58,7 +58,7 @@ exceeds translations f = translationExceeds f
 
 -- A value, or 11 where it exceeds a limit.
 abbrev pub limited : (s : Sort) → Value s → Result (Value s)
-limited s v = refuseIf (exceeds s v) Limit (value v)
+limited s v = refuseIf (exceeds s v) ValueTooLarge (value v)
 
 -- The sum of each sort.
 abbrev pub sumOf : (s : Sort) → Value s → Value s → Result (Value s)
@@ -83,7 +83,7 @@ evaluate c e (make x y n) =
 evaluate c e (join x y) =
     evaluate c e x >>= λ f. evaluate c e y >>= λ g. translationJoin f g >>= limited translations
 evaluate c e (identity x) = evaluate c e x >>= λ l. limited translations (identityOf l)
-evaluate c e (variable {s} v) = there Unbound (e s v) >>= limited s
+evaluate c e (variable {s} v) = there UnboundVariable (e s v) >>= limited s
 evaluate c e (without {s} x y) =
     evaluate c e x >>= λ v. evaluate c e y >>= λ l. limited s (withoutOf s v l)
 evaluate c e (sum {s} x y) =

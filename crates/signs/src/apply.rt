@@ -2,10 +2,10 @@
 use crate::sorts::Binary;
 use crate::sorts::Unary;
 use fields::outcome::Outcome;
-use joiner::join::join;
+use joining::join::join;
+use operators::identity::identity;
+use operators::make::make;
 use pack::parts::body_at;
-use values::identity::identity;
-use values::make::make;
 ghost use Prim.Native.Nat.{_≤_};
 ghost use lib.ListN.{length};
 ghost use lib.Seq.{slice};
@@ -24,8 +24,8 @@ fn apply_one(operator: Unary, a: &[u8], out: &mut [u8]) -> Outcome
     ensures { λ r. ⌜ AppliedOne operator (now (a .entry)) (now (out .entry)) (now (out .exit)) r ⌝ }
 {
     match operator {
-        Unary::Source => values::copy::source(a, out),
-        Unary::Target => values::copy::target(a, out),
+        Unary::Source => operators::copy::source(a, out),
+        Unary::Target => operators::copy::target(a, out),
         Unary::Identity => identity(a, out),
     }
 }
@@ -36,10 +36,10 @@ fn apply_two(operator: Binary, a: &[u8], b: &[u8], out: &mut [u8]) -> Outcome
     ensures { λ r. ⌜ AppliedTwo operator (now (a .entry)) (now (b .entry)) (now (out .entry)) (now (out .exit)) r ⌝ }
 {
     match operator {
-        Binary::LanguageWithout => values::languages::without(a, b, out),
-        Binary::LanguageSum => values::languages::sum(a, b, out),
-        Binary::TranslationWithout => values::translations::without(a, b, out),
-        Binary::TranslationSum => values::translations::sum(a, b, out),
+        Binary::LanguageWithout => operators::languages::without(a, b, out),
+        Binary::LanguageSum => operators::languages::sum(a, b, out),
+        Binary::TranslationWithout => operators::translations::without(a, b, out),
+        Binary::TranslationSum => operators::translations::sum(a, b, out),
         Binary::Join => join(a, b, out),
     }
 }

@@ -18,7 +18,7 @@ ghost use Prim.Native.Nat.{_+_, _<_, _≤_};
 ghost use lib.ListN.{length, take, getD, getElem?};
 ghost use lib.Seq.{slice};
 ghost use Rattle.fields.specs.Outcome.{value};
-ghost use Rattle.fields.specs.declared.outcome.Reason.the-variants.{Unbound};
+ghost use Rattle.fields.specs.declared.outcome.Reason.the-variants.{UnboundVariable};
 ghost use Rattle.language.specs.Language.{Language};
 ghost use Rattle.pack.specs.Terms.{languages};
 ghost use Rattle.pack.specs.Pack.{Pack, packOf};
@@ -43,8 +43,8 @@ pub fn copy(sort: Sort, bytes: &[u8], start: usize, end: usize, out: &mut [u8]) 
         → Written.Gives (bytesOf (sortOf sort) (value v)) (now (out .entry)) (now (out .exit)) r) ⌝ }
 {
     match sort {
-        Sort::Language => values::copy::language(&bytes[start..end], out),
-        Sort::Translation => values::copy::translation(&bytes[start..end], out),
+        Sort::Language => operators::copy::language(&bytes[start..end], out),
+        Sort::Translation => operators::copy::translation(&bytes[start..end], out),
     }
 }
 
@@ -75,12 +75,12 @@ pub fn variable(
     requires { ⌜ ((e : Environment) × Held e places (take top (now store))) × (getD (now pack) (at + 1) 0 < 16)
         × (at + 2 ≤ length (now pack)) × (4096 ≤ length (now out)) ⌝ }
     ensures { λ r. ⌜ ((e : Environment) → Held e places (take top (now (store .entry)))
-        → Wrote (sortOf sort) (there Unbound (e (sortOf sort) (getD (now (pack .entry)) (at + 1) 0))) (now (out .entry)) (now (out .exit)) (at + 2) r) ⌝ }
+        → Wrote (sortOf sort) (there UnboundVariable (e (sortOf sort) (getD (now (pack .entry)) (at + 1) 0))) (now (out .entry)) (now (out .exit)) (at + 2) r) ⌝ }
 {
     let number = slot(sort, wide(byte_at(pack, at + 1)));
     let start = start_of(places, number);
     if start == 0 {
-        return Evaluated::Refused(Reason::Unbound);
+        return Evaluated::Refused(Reason::UnboundVariable);
     }
     let end = end_of(places, number);
     finish(copy(sort, store, start - 1, end, out), at + 2)

@@ -9,17 +9,17 @@ use Rattle.translation.specs.Translation.{Translation}
 use Rattle.translation.specs.WellFormed.{mappingFits, clausesFit, codesFit, wellFormed}
 
 module _ (f : Translation) {o : Outcome} (x : Bool) (ex : x ≡ mappingFits f) where
-  pub formed-mapping : x ≡ false → o ≡ Refused Why.Mapping → o ≡ checked (wellFormed f)
+  pub formed-mapping : x ≡ false → o ≡ Refused Why.WrongMapping → o ≡ checked (wellFormed f)
   unfolding wellFormed
   formed-mapping h i = cc
 
   module _ (xt : x ≡ true) (y : Bool) (ey : y ≡ clausesFit f) where
-    pub formed-clauses : y ≡ false → o ≡ Refused Why.Clauses → o ≡ checked (wellFormed f)
+    pub formed-clauses : y ≡ false → o ≡ Refused Why.WrongClauses → o ≡ checked (wellFormed f)
     unfolding wellFormed
     formed-clauses h i = cc
 
     module _ (yt : y ≡ true) (z : Bool) (ez : z ≡ codesFit f) where
-      pub formed-codes : z ≡ false → o ≡ Refused Why.Code → o ≡ checked (wellFormed f)
+      pub formed-codes : z ≡ false → o ≡ Refused Why.IllegalCode → o ≡ checked (wellFormed f)
       unfolding wellFormed
       formed-codes h i = cc
 

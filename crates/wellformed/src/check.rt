@@ -31,15 +31,15 @@ fn check_indexed(
         → r .outcome ≡ checked (wellFormed f)) ⌝ }
 {
     if !mapping_fits(source, target, targets, body, mapped) {
-        return refuse(Reason::Mapping);
+        return refuse(Reason::WrongMapping);
     }
     let q = skip(source, 0x11);
     let p = skip(body, 0x22);
     if !clauses_match(source, q, body, p) {
-        return refuse(Reason::Clauses);
+        return refuse(Reason::WrongClauses);
     }
     if !codes_typed(source, q, target, targets, body, p, mapped) {
-        return refuse(Reason::Code);
+        return refuse(Reason::IllegalCode);
     }
     accept(0)
 }

@@ -5,7 +5,7 @@ use lib.Dec.{eqb}
 use Rattle.fields.specs.Outcome.{Result, refuseIf}
 use Rattle.fields.specs.declared.outcome.Outcome.{Outcome}
 use Rattle.fields.specs.declared.outcome.Outcome.the-variants.{Accepted, Refused}
-use Rattle.fields.specs.declared.outcome.Reason.the-variants.{Order, Clash, Tree, Levels}
+use Rattle.fields.specs.declared.outcome.Reason.the-variants.{OutOfOrder, ClassIsResult, IllegalTree, TooDeep}
 use Rattle.language.specs.Language.{clashes}
 use Rattle.reader.specs.declared.node.Read.{Read}
 use Rattle.reader.specs.declared.node.Read.the-variants.{End, Deep, Broken}
@@ -15,13 +15,13 @@ use Rattle.translation.specs.WellFormed.{wellFormed}
 
 -- What a whole tree comes to, where the bytes are n long.
 abbrev pub wholeAt : Read → ℕ → Outcome
-wholeAt (End e) n = cond (eqb e n) (Accepted 0) (Refused Tree)
-wholeAt Deep n = Refused Levels
-wholeAt Broken n = Refused Tree
+wholeAt (End e) n = cond (eqb e n) (Accepted 0) (Refused IllegalTree)
+wholeAt Deep n = Refused TooDeep
+wholeAt Broken n = Refused IllegalTree
 
 -- What is asked of a translation that is whole: 3 to 7, the last links of the chain of `translationOf`.
 abbrev pub inOrder : Translation → Result Translation
 inOrder f =
-    refuseIf (not (allRising f)) Order
-    (refuseIf (clashes (f .source) (f .source) || clashes (f .target) (f .target)) Clash
+    refuseIf (not (allRising f)) OutOfOrder
+    (refuseIf (clashes (f .source) (f .source) || clashes (f .target) (f .target)) ClassIsResult
     (wellFormed f))

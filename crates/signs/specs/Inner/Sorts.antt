@@ -2,10 +2,10 @@
 use Prim.Native.Nat.{ℕ}
 use mathlib.Core.List.{List}
 use Rattle.fields.specs.Outcome.{Result, value, refuseIf, _>>=_}
-use Rattle.fields.specs.declared.outcome.Reason.the-variants.{Limit}
+use Rattle.fields.specs.declared.outcome.Reason.the-variants.{ValueTooLarge}
 use Rattle.language.specs.LanguageFile.{encodeLanguage, languageOf}
 use Rattle.translation.specs.TranslationFile.{encodeTranslation, translationOf}
-use Rattle.operators.specs.Algebra.{languageSum, languageWithout, translationSum, translationWithout, translationJoin, identityOf}
+use Rattle.operators.specs.Operators.{languageSum, languageWithout, translationSum, translationWithout, translationJoin, identityOf}
 use Rattle.pack.specs.Terms.{Sort, languages, translations, Term, sourceOf, targetOf, identity, join, without, sum}
 use Rattle.signs.specs.declared.sorts.Sort as Told
 use Rattle.signs.specs.declared.sorts.Sort.the-variants.{Language, Translation}
@@ -32,7 +32,7 @@ valueIn translations b = translationOf b
 
 -- The bytes of what a sign comes to, or 11 where it exceeds a limit.
 abbrev pub bytesOf : (s : Sort) → Result (Value s) → Result (List ℕ)
-bytesOf s r = r >>= λ v. refuseIf (exceeds s v) Limit (value (encodeAs s v))
+bytesOf s r = r >>= λ v. refuseIf (exceeds s v) ValueTooLarge (value (encodeAs s v))
 
 -- The sort of the first operand of an operator on two, and of what it gives.
 abbrev pub firstSort : Binary → Sort

@@ -5,9 +5,9 @@ use Rattle.signs.proofs.apply.apply_one.Statement.{statement}
 use Rattle.signs.proofs.apply.apply_one.Tie as tie
 use Rattle.signs.proofs.apply.apply_one.Reads as reads
 use Rattle.signs.proofs.apply.apply_one.Lts as lts
-use Rattle.values.proofs.copy.source.Reads as source-reads
-use Rattle.values.proofs.copy.target.Reads as target-reads
-use Rattle.values.proofs.identity.identity.Reads as identity-reads
+use Rattle.operators.proofs.copy.source.Reads as source-reads
+use Rattle.operators.proofs.copy.target.Reads as target-reads
+use Rattle.operators.proofs.identity.identity.Reads as identity-reads
 
 source-requires : tie.Need-source-requires
 source-requires c κs = (one-asks _ (c .before .enum-told .given .1) (c .before .before .before .before .before .pre .0), omega (arith, c .before .before .before .before .before .pre .1))

@@ -5,11 +5,11 @@ use Rattle.signs.proofs.apply.apply_two.Statement.{statement}
 use Rattle.signs.proofs.apply.apply_two.Tie as tie
 use Rattle.signs.proofs.apply.apply_two.Reads as reads
 use Rattle.signs.proofs.apply.apply_two.Lts as lts
-use Rattle.joiner.proofs.join.join.Reads as join-reads
-use Rattle.values.proofs.languages.sum.Reads as languages-sum-reads
-use Rattle.values.proofs.languages.without.Reads as languages-without-reads
-use Rattle.values.proofs.translations.sum.Reads as translations-sum-reads
-use Rattle.values.proofs.translations.without.Reads as translations-without-reads
+use Rattle.joining.proofs.join.join.Reads as join-reads
+use Rattle.operators.proofs.languages.sum.Reads as languages-sum-reads
+use Rattle.operators.proofs.languages.without.Reads as languages-without-reads
+use Rattle.operators.proofs.translations.sum.Reads as translations-sum-reads
+use Rattle.operators.proofs.translations.without.Reads as translations-without-reads
 
 without-requires : tie.Need-without-requires
 without-requires c κs = let k = two-asks _ _ (c .before .enum-told .given .1) (c .before .before .before .before .before .before .pre .0) in (k .0, k .1, omega (arith, c .before .before .before .before .before .before .pre .1))
