@@ -9,7 +9,8 @@ use Rattle.reader.specs.Syntax.{sign}
 use Rattle.reader.specs.Inner.Positions.{syntaxOf}
 use Rattle.reader.specs.declared.node.Syntax.{Syntax}
 use Rattle.reader.specs.declared.node.Syntax.the-variants.{Tree, Code}
-use Rattle.emitter.specs.Inner.Stands.{spliced, Wrote}
+use Rattle.fields.specs.Inner.Writing.{spliced}
+use Rattle.emitter.specs.Inner.Stands.{Wrote}
 
 -- Bytes stored one behind the other are put in.
 stored : (o : List ℕ) (pos : ℕ) (v : List ℕ) → pos + length v ≤ length o → sets o pos v ≡ spliced o pos v

@@ -10,7 +10,9 @@ use lib.Seq.{take-all, take-take, take-at, take-append-seam, drop-append-add, dr
 use borrow.Author.Tests.{leb-true, leb-false}
 use Rattle.fields.proofs.Truth.{by-test}
 use Rattle.fields.proofs.Split.{front}
-use Rattle.emitter.specs.Inner.Stands.{Stands, spliced, Kept, Wrote}
+use Rattle.fields.specs.Inner.Writing.{spliced}
+use Rattle.fields.proofs.Splices.{opened, splice-splice, length-spliced, nothing-spliced}
+use Rattle.emitter.specs.Inner.Stands.{Stands, Kept, Wrote}
 
 -- What stands at a position, and what follows it.
 pub stands-drop : (b : List ℕ) (at : ℕ) (v : List ℕ) → Stands b at v → drop at b ≡ v ++ drop (at + length v) b
@@ -48,41 +50,12 @@ stands-both b at v w h =
     sym (drop-drop (length v) at b) ∙ (ap (drop (length v)) d ∙ (ap (λ (n : ℕ). drop n (v ++ (w ++ drop (at + length (v ++ w)) b))) (sym (add-zero (length v))) ∙ drop-append-add v (w ++ drop (at + length (v ++ w)) b) 0)) in
     (drop-stands b at v _ (omega arith) d, drop-stands b (at + length v) w _ (omega arith) e)
 
-opened : (o : List ℕ) (pos : ℕ) (v : List ℕ) → spliced o pos v ≡ take pos o ++ (v ++ drop (pos + length v) o)
-unfolding spliced
-opened o pos v = refl
-
--- What is put in behind v.
-module _ (o : List ℕ) (pos : ℕ) (v : List ℕ) (fits : pos + length v ≤ length o) where
-  head-length : length (take pos o ++ v) ≡ pos + length v
-  head-length = simp (length-append, length-take-le pos o (omega arith))
-
-  as-head : spliced o pos v ≡ (take pos o ++ v) ++ drop (pos + length v) o
-  as-head = opened o pos v ∙ sym (append-assoc (take pos o) v (drop (pos + length v) o))
-
-  pub splice-splice : (u : List ℕ) → spliced (spliced o pos v) (pos + length v) u ≡ spliced o pos (v ++ u)
-  splice-splice u =
-      let d : List ℕ = drop (pos + length v) o in
-      let t : take (pos + length v) (spliced o pos v) ≡ take pos o ++ v =
-      rw as-head (take-at (take pos o ++ v) d (pos + length v) head-length) in
-      let w : drop (pos + length v + length u) (spliced o pos v) ≡ drop (pos + length v + length u) o =
-      rw as-head (ap (λ (k : ℕ). drop (k + length u) ((take pos o ++ v) ++ d)) (sym head-length)
-      ∙ drop-append-add (take pos o ++ v) d (length u) ∙ drop-drop (length u) (pos + length v) o) in
-      rw (opened (spliced o pos v) (pos + length v) u, t, w, opened o pos (v ++ u), length-append v u, ← add-assoc pos (length v) (length u))
-      (simp append-assoc)
-
-  pub length-spliced : length (spliced o pos v) ≡ length o
-  length-spliced =
-      rw (as-head, length-append (take pos o ++ v) (drop (pos + length v) o), head-length, length-drop) (omega arith)
-
-  pub kept-spliced : Kept o (spliced o pos v) pos
-  kept-spliced = record {
-    long = length-spliced;
-    front = rw (opened o pos v) (take-at (take pos o) _ pos (length-take-le pos o (omega arith)));
-  }
-
-pub nothing-spliced : (o : List ℕ) (pos : ℕ) → o ≡ spliced o pos []
-nothing-spliced o pos = rw (opened o pos [], add-zero pos) (sym (take-append-drop pos o))
+-- What is put in at a position keeps what stands before it.
+pub kept-spliced : (o : List ℕ) (pos : ℕ) (v : List ℕ) → pos + length v ≤ length o → Kept o (spliced o pos v) pos
+kept-spliced o pos v fits = record {
+  long = length-spliced o pos v fits;
+  front = rw (opened o pos v) (take-at (take pos o) _ pos (length-take-le pos o (omega arith)));
+}
 
 -- Nothing is put in.
 pub wrote-none : (o : List ℕ) (pos : ℕ) → Wrote [] o o pos pos

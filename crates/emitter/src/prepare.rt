@@ -20,7 +20,7 @@ ghost use Rattle.language.specs.Language.{Language, productionKey};
 ghost use Rattle.reader.specs.Code.{Code};
 ghost use Rattle.reader.specs.Inner.Index.{Sound, Indexed, putAll};
 ghost use Rattle.translation.specs.Translation.{Translation};
-ghost use Rattle.emitter.specs.Inner.Stands.{spliced};
+ghost use Rattle.fields.specs.Inner.Writing.{spliced};
 ghost use Rattle.emitter.specs.Inner.Table.{indexLength, tableLength, itemsStart, spansStart, Checked, Ready};
 ghost use Rattle.emitter.specs.Inner.Filling.{Begun, Built, Filled, mappedIn, CodeAsks, Spanned, FieldAsks, FieldSpanned, AllSpanned};
 

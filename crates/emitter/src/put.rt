@@ -1,4 +1,5 @@
 // Bytes that are put into the output. A position past its end says that they do not fit.
+use fields::copy::put;
 use reader::node::Syntax;
 ghost use mathlib.Core.List.{[], _∷_, _++_};
 ghost use Prim.Native.Nat.{_+_, _≤_};
@@ -71,5 +72,17 @@ pub fn put_leaf(input: &[u8], at: usize, n: usize, output: &mut [u8], pos: usize
     if n == 3 {
         output[pos + 2] = input[at + 2];
     }
+    pos + n
+}
+
+// Copies n bytes of the input.
+pub fn put_part(input: &[u8], at: usize, n: usize, output: &mut [u8], pos: usize) -> usize
+    requires { ⌜ (at + n ≤ length (now input)) × (pos ≤ length (now output)) ⌝ }
+    ensures { λ r. ⌜ Wrote (slice at (at + n) (now (input .entry))) (now (output .entry)) (now (output .exit)) pos r ⌝ }
+{
+    if output.len() - pos < n {
+        return pos + n;
+    }
+    put(input, at, at + n, output, pos);
     pos + n
 }

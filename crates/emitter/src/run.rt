@@ -1,6 +1,7 @@
 // The run of a translation: it calls itself on argument trees and on inner codes, and the levels left fall at each call.
 use crate::put::put_leaf;
 use crate::put::put_name;
+use crate::put::put_part;
 use crate::put::put_token;
 use crate::skip::is_leaf;
 use crate::skip::leaf_length;
@@ -203,8 +204,10 @@ pub fn run(
         → Wrote (bytesOf syntax (transform f u)) (now (output .entry)) (now (output .exit)) pos r) ⌝ }
 {
     let k = kind as usize;
-    if is_leaf(syntax, table, k, input, 0) {
-        return put_leaf(input, 0, leaf_length(syntax, input, 0), output, pos);
+    let is_whole = is_leaf(syntax, table, k, input, 0);
+    if is_whole {
+        let n = leaf_length(syntax, input, 0);
+        return put_part(input, 0, n, output, pos);
     }
     let mut above = [0usize; 10];
     let left = TREE_LEVEL * deep;

@@ -29,7 +29,8 @@ slice-join s p q e h k f =
     let j : p ≤ e = omega arith in
     cc (slice-is s p q h i, slice-is s q e k f, slice-is s p e j f, take-add (q - p) (e - q) (drop p s), drop-drop (q - p) p s)
 
-opened : (o : List ℕ) (n : ℕ) (v : List ℕ) → spliced o n v ≡ take n o ++ (v ++ drop (n + length v) o)
+-- What a splice is.
+pub opened : (o : List ℕ) (n : ℕ) (v : List ℕ) → spliced o n v ≡ take n o ++ (v ++ drop (n + length v) o)
 unfolding spliced
 opened o n v = refl
 
@@ -48,6 +49,9 @@ module _ (o : List ℕ) (n : ℕ) (v : List ℕ) (fits : n + length v ≤ length
       let d : drop (n + length v + length u) (spliced o n v) ≡ drop (n + length v + length u) o =
       rw as-head (ap (λ (k : ℕ). drop (k + length u) ((take n o ++ v) ++ rest)) (sym head-length) ∙ drop-append-add (take n o ++ v) rest (length u) ∙ drop-drop (length u) (n + length v) o) in
       rw (opened (spliced o n v) (n + length v) u, t, d, opened o n (v ++ u), length-append v u, ← add-assoc n (length v) (length u)) (simp append-assoc)
+
+  pub length-spliced : length (spliced o n v) ≡ length o
+  length-spliced = rw (as-head, length-append (take n o ++ v) (drop (n + length v) o), head-length, length-drop) (omega arith)
 
 -- Nothing written.
 pub nothing-spliced : (o : List ℕ) (n : ℕ) → o ≡ spliced o n []

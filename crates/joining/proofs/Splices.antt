@@ -5,7 +5,6 @@ use mathlib.Core.List.{List, [], _∷_, _++_, append-assoc}
 use native.Mathlib.Omega.{arith}
 use lib.ListN.{length, take, drop, set, length-append}
 use lib.Seq.{sets-eq, take-append-le, take-take, drop-at, length-take-le}
-use Rattle.emitter.specs.Inner.Stands as Standing
 use Rattle.emitter.specs.Inner.Stands.{Wrote}
 use Rattle.emitter.proofs.Standing.{wrote-long}
 use Rattle.fields.specs.declared.copy.Stored.the-variants.{To, Full}
@@ -56,15 +55,11 @@ stored-full v o o′ n h = record {
 
 -- What the emitter put in.
 module _ (v o o′ : List ℕ) (n m : ℕ) (w : Wrote v o o′ n m) where
-  same-spliced : Standing.spliced o n v ≡ spliced o n v
-  unfolding Standing.spliced spliced
-  same-spliced = refl
-
   pub wrote-to : m ≤ length o′ → Stores v o o′ n (To m)
   wrote-to h =
       let l = wrote-long v o o′ n m w in
       let x = w .fits (omega arith) in
-      stored-to v o o′ n m (x .0) (omega arith) (x .1 ∙ same-spliced)
+      stored-to v o o′ n m (x .0) (omega arith) (x .1)
 
   pub wrote-over : length o′ < m → Stores v o o′ n Full
   wrote-over h =

@@ -39,7 +39,8 @@ use Rattle.measure.specs.Inner.Sizes.{size, capped}
 use Rattle.measure.specs.Inner.Measuring.{EndsIn, sizedAt, sizedOf}
 use Rattle.measure.proofs.Sizes.{over-room, within-room}
 use Rattle.measure.proofs.Meaning.{sized-done, sized-deep, sized-broken}
-use Rattle.emitter.specs.Inner.Stands.{spliced, Wrote}
+use Rattle.fields.specs.Inner.Writing.{spliced}
+use Rattle.emitter.specs.Inner.Stands.{Wrote}
 use Rattle.emitter.specs.Inner.Table.{Ready, Checked}
 use Rattle.emitter.specs.Inner.Runs.{Right, TermAsks}
 use Rattle.emitter.proofs.Standing.{drop-stands, wrote-long}

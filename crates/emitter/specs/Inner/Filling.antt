@@ -15,7 +15,8 @@ use Rattle.reader.specs.Syntax.{write, code}
 use Rattle.reader.specs.Inner.Index.{Indexed, putAll}
 use Rattle.translation.specs.Translation.{Translation}
 use Rattle.translation.specs.Running.{clausesOf}
-use Rattle.emitter.specs.Inner.Stands.{Stands, spliced}
+use Rattle.fields.specs.Inner.Writing.{spliced}
+use Rattle.emitter.specs.Inner.Stands.{Stands}
 use Rattle.emitter.specs.Inner.Table.{indexLength, tableLength, itemsStart, spansStart, clauseEntry, sourceByte, bodyByte, SpansAt}
 
 -- The index of the source s stands in the table t, which is all zero besides.
