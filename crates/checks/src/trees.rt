@@ -14,6 +14,7 @@ use fields::outcome::Reason;
 use fields::outcome::accept;
 use fields::outcome::refuse;
 use language::check::check_language;
+use reader::index::INDEX;
 use reader::index::build;
 use reader::kinds::is_in;
 use reader::node::Read;
@@ -45,7 +46,7 @@ fn check_kind(language: &[u8], kind: u8, tree: &[u8]) -> Answer
     if !is_in(language, kind) {
         return refuse(Reason::UnknownRoot);
     }
-    let mut index = [0u16; 8224];
+    let mut index = [0u16; INDEX];
     build(language, &mut index);
     whole_tree(
         read(Syntax::Tree, language, &index, &[], kind, tree, 0, 64),

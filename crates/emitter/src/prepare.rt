@@ -1,14 +1,14 @@
 // Filling the table that a run looks things up in.
 use crate::table::BODY;
-use crate::table::INDEX;
 use crate::table::ITEMS;
 use crate::table::SOURCE;
 use crate::table::SPANS;
-use crate::table::TABLE;
 use fields::bytes::byte_at;
 use fields::bytes::pair_at;
 use fields::bytes::wide;
 use fields::walk::field_end;
+use reader::index::INDEX;
+use reader::index::TABLE;
 use reader::index::build;
 use reader::index::put_all;
 ghost use mathlib.Core.Path.{_≡_};
@@ -21,7 +21,8 @@ ghost use Rattle.reader.specs.Code.{Code};
 ghost use Rattle.reader.specs.Inner.Index.{Sound, Indexed, putAll};
 ghost use Rattle.translation.specs.Translation.{Translation};
 ghost use Rattle.fields.specs.Inner.Writing.{spliced};
-ghost use Rattle.emitter.specs.Inner.Table.{indexLength, tableLength, itemsStart, spansStart, Checked, Ready};
+ghost use Rattle.reader.specs.Inner.Index.{indexLength, tableLength};
+ghost use Rattle.emitter.specs.Inner.Table.{itemsStart, spansStart, Checked, Ready};
 ghost use Rattle.emitter.specs.Inner.Filling.{Begun, Built, Filled, mappedIn, CodeAsks, Spanned, FieldAsks, FieldSpanned, AllSpanned};
 
 // Puts the index of a file into the table, from a position on where it is all zero. Its first entries have the tag `first`.

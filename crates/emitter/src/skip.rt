@@ -1,8 +1,8 @@
 // Stepping over a term of the input, without a call for each node: what is still to be read after the operands of a node is
 // kept on a stack.
-use crate::table::TABLE;
 use crate::table::index_at;
 use crate::table::source_at;
+use reader::index::TABLE;
 use reader::node::Syntax;
 use reader::node::name_length;
 ghost use mathlib.Core.Path.{_≡_};

@@ -1,8 +1,8 @@
 // Where the arguments of a node start and end.
 use crate::skip::skip;
-use crate::table::TABLE;
 use crate::table::source_at;
 use reader::ends::known_end;
+use reader::index::TABLE;
 use reader::node::Syntax;
 ghost use mathlib.Core.Path.{_≡_};
 ghost use mathlib.Core.List.{List};

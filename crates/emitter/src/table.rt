@@ -1,13 +1,9 @@
 // The table that a run looks things up in: its length, where its parts start, and what stands in them.
 ghost use mathlib.Core.Path.{_≡_};
 ghost use Prim.Native.Nat.{_+_, _<_};
-ghost use Rattle.emitter.specs.Inner.Table.{indexLength, indexEntry, clauseEntry, sourceByte, bodyByte, spanEntry, clauseEnd};
-
-// How many entries an index has.
-pub const INDEX: usize = 8224;
-
-// How many numbers the table has. The index of the source stands first.
-pub const TABLE: usize = 25664;
+ghost use Rattle.reader.specs.Inner.Index.{indexLength};
+ghost use Rattle.emitter.specs.Inner.Table.{indexEntry, clauseEntry, sourceByte, bodyByte, spanEntry, clauseEnd};
+use reader::index::TABLE;
 
 // Where the index of the body's items starts.
 pub const ITEMS: usize = 8224;

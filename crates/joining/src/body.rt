@@ -13,6 +13,7 @@ use fields::bytes::byte_at;
 use fields::bytes::wide;
 use fields::copy::Stored;
 use fields::walk::field_end;
+use reader::index::TABLE;
 use reader::node::Syntax;
 use translation::index::map_kind;
 
@@ -44,7 +45,7 @@ fn join_mapping(mapped: &[u8], second_body: &[u8], p: usize, out: &mut [u8], n: 
 
 // The code of the clause at p of the second's body, which ends at e, run through the first with its arguments kept.
 fn join_code(
-    table: &[u16; 25664],
+    table: &[u16; TABLE],
     second_body: &[u8],
     second_items: &[u16],
     p: usize,
@@ -77,7 +78,7 @@ fn join_code(
 // The clause at p of the second's body, which ends at e, joined: its code is put in first, and then what stands before
 // it.
 fn join_clause(
-    table: &[u16; 25664],
+    table: &[u16; TABLE],
     second_body: &[u8],
     second_items: &[u16],
     p: usize,
@@ -103,7 +104,7 @@ fn join_clause(
 
 // The item at p of the second's body, which ends at e, joined.
 fn join_item(
-    table: &[u16; 25664],
+    table: &[u16; TABLE],
     mapped: &[u8],
     second_body: &[u8],
     second_items: &[u16],
@@ -124,7 +125,7 @@ fn join_item(
 
 // The body of the join of the first translation after the second.
 pub fn join_items(
-    table: &[u16; 25664],
+    table: &[u16; TABLE],
     mapped: &[u8],
     second_body: &[u8],
     second_items: &[u16],

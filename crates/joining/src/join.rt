@@ -22,6 +22,8 @@ use fields::outcome::Outcome;
 use fields::outcome::Reason;
 use merging::within::lies_within;
 use operators::assemble::assemble;
+use reader::index::INDEX;
+use reader::index::TABLE;
 use reader::index::put_all;
 use translation::index::build_items;
 use translation::index::map_kinds;
@@ -42,14 +44,14 @@ fn join_body(
     ensures { λ r. ⌜ ((f g : Translation) (u : List ℕ) → Fitted (now («first_source» .entry)) (now («first_target» .entry)) (now («first_body» .entry)) u (now («second_body» .entry)) f g
         → Stores (joinedBody f g) (now (out .entry)) (now (out .exit)) 0 r) ⌝ }
 {
-    let mut table = [0u16; 25664];
-    put_all(first_source, 0x11, &mut table[..8224]);
+    let mut table = [0u16; TABLE];
+    put_all(first_source, 0x11, &mut table[..INDEX]);
     prepare(first_source, first_target, first_body, &mut table);
-    let mut clauses = [0u16; 8224];
+    let mut clauses = [0u16; INDEX];
     build_items(first_body, &mut clauses);
     let mut mapped = [0u8; 32];
     map_kinds(first_body, &clauses, &mut mapped);
-    let mut items = [0u16; 8224];
+    let mut items = [0u16; INDEX];
     build_items(second_body, &mut items);
     join_items(&table, &mapped, second_body, &items, out)
 }

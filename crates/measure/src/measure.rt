@@ -4,6 +4,7 @@ use crate::table::count_in;
 use fields::bytes::pair_in;
 use fields::bytes::wide;
 use reader::ends::keep_end;
+use reader::index::TABLE;
 use reader::node::Read;
 use reader::node::Syntax;
 use reader::node::place_at;
@@ -50,7 +51,7 @@ fn leaf(read: Read, weight: usize, sum: usize, top: usize) -> Step
 // What stands where a tree of the kind begins, and its own bytes as often as it counts, on top of a sum.
 fn step_at(
     source: &[u8],
-    index: &[u16; 25664],
+    index: &[u16; TABLE],
     counts: &[u16; 1024],
     kind: u8,
     weight: usize,
@@ -83,7 +84,7 @@ fn step_at(
 // fourth stands where the operand of each row starts; where it ends is kept. The index is the front of a longer table.
 fn measure_rows(
     source: &[u8],
-    index: &[u16; 25664],
+    index: &[u16; TABLE],
     counts: &[u16; 1024],
     from: usize,
     stop: usize,
@@ -153,7 +154,7 @@ fn measure_rows(
 // The tree of the kind at a position, read as the source has it, and the length of its run up to a top.
 pub fn measure(
     source: &[u8],
-    index: &[u16; 25664],
+    index: &[u16; TABLE],
     counts: &[u16; 1024],
     kind: u8,
     tree: &[u8],

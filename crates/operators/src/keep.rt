@@ -21,6 +21,7 @@ use fields::copy::put_if;
 use fields::outcome::Outcome;
 use fields::outcome::Reason;
 use fields::walk::field_end;
+use reader::index::INDEX;
 use reader::index::build;
 use reader::kinds::is_in;
 use translation::index::known_at;
@@ -62,7 +63,7 @@ pub fn keep_parts(source: &[u8], target: &[u8], body: &[u8], out: &mut [u8]) -> 
     ensures { λ r. ⌜ ((f : Translation) (m : Language) → Left (now (source .entry)) (now (target .entry)) (now (body .entry)) f m
         → Gives (translationBytes (value (translationWithout f m))) (now (out .entry)) (now (out .exit)) r) ⌝ }
 {
-    let mut index = [0u16; 8224];
+    let mut index = [0u16; INDEX];
     build(source, &mut index);
     let mut kept = [0u8; 4096];
     let Stored::To(k) = keep_items(body, source, &index, &mut kept) else {

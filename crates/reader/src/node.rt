@@ -7,7 +7,7 @@ ghost use mathlib.Core.Bool.{cond};
 ghost use lib.Dec.{eqb};
 ghost use lib.ListN.{length, getD};
 ghost use Rattle.reader.specs.Inner.Positions.{nameLength, productionPlace, tokenAt, nameAt, argumentIs, argumentAt, treeNode, codeNode, nodeAt, EndsBy, NodeIn};
-ghost use Rattle.reader.specs.Inner.Index.{Ready};
+ghost use Rattle.reader.specs.Inner.Index.{Ready, indexLength};
 
 // Trees are written without signs, codes with them.
 pub enum Syntax {
@@ -49,7 +49,7 @@ pub fn name_length(syntax: Syntax) -> usize
 
 // The place of the production of the kind whose name stands at a position of a tree, or 0.
 fn name_place(index: &[u16], kind: u8, bytes: &[u8], at: usize) -> usize
-    requires { ⌜ (8224 ≤ length (now index)) × (kind < 32) ⌝ }
+    requires { ⌜ (indexLength ≤ length (now index)) × (kind < 32) ⌝ }
     ensures { λ r. ⌜ r ≡ productionPlace Syntax.Tree (now (index .entry)) kind (now (bytes .entry)) at ⌝ }
 {
     if bytes.len() <= at {
@@ -68,7 +68,7 @@ pub fn production_place(
     bytes: &[u8],
     at: usize,
 ) -> usize
-    requires { ⌜ (8224 ≤ length (now index)) × (kind < 32) × (at ≤ length (now bytes)) ⌝ }
+    requires { ⌜ (indexLength ≤ length (now index)) × (kind < 32) × (at ≤ length (now bytes)) ⌝ }
     ensures { λ r. ⌜ r ≡ cond (eqb class 0) (productionPlace syntax (now (index .entry)) kind (now (bytes .entry)) at) 0 ⌝ }
 {
     if class != 0 {

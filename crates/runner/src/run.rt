@@ -8,6 +8,8 @@ use fields::outcome::refuse;
 use measure::measure::Measured;
 use measure::measure::measure;
 use measure::prepare::prepare;
+use reader::index::INDEX;
+use reader::index::TABLE;
 use reader::kinds::is_in;
 use reader::node::Syntax;
 use translation::parts::body_of;
@@ -30,7 +32,7 @@ ghost use Rattle.translation.specs.TranslationFile.{bodyOf, allRising};
 ghost use Rattle.translation.specs.WellFormed.{wellFormed};
 ghost use Rattle.measure.specs.Inner.Measuring.{Counted};
 ghost use Rattle.reader.specs.declared.node.Syntax.the-variants.{Tree};
-ghost use Rattle.reader.specs.Inner.Index.{Indexed};
+ghost use Rattle.reader.specs.Inner.Index.{Indexed, tableLength};
 ghost use Rattle.emitter.specs.Inner.Table.{Checked};
 ghost use Rattle.emitter.specs.Inner.Filling.{Begun};
 ghost use Rattle.emitter.specs.Inner.Runs.{Right};
@@ -39,7 +41,7 @@ ghost use Rattle.runner.specs.Inner.Runs.{runOf, Answers};
 // Puts the index of the source into the front of the table of a run, and what the body's clauses count into another. Both
 // are all zero before.
 fn begin(source: &[u8], body: &[u8], table: &mut [u16], counts: &mut [u16])
-    requires { ⌜ (length (now source) ≤ 1024) × (length (now body) ≤ 4096) × (length (now table) ≡ 25664) × ((j : ℕ) → getD (now table) j 0 ≡ 0)
+    requires { ⌜ (length (now source) ≤ 1024) × (length (now body) ≤ 4096) × (length (now table) ≡ tableLength) × ((j : ℕ) → getD (now table) j 0 ≡ 0)
         × (length (now counts) ≡ 1024) × ((j : ℕ) → getD (now counts) j 0 ≡ 0)
         × ((f : Translation) × (entriesOf (now source) ≡ some (f .source)) × (bodyOf (now body) ≡ some (f .body))) ⌝ }
     ensures begun { λ r. ⌜ Begun (now (source .entry)) (now (table .exit)) ⌝ }
@@ -47,7 +49,7 @@ fn begin(source: &[u8], body: &[u8], table: &mut [u16], counts: &mut [u16])
         → allRising f ≡ true → wellFormed f ≡ value f
         → Indexed (now (table .exit)) (now (source .entry)) (f .source) × Counted (now (counts .exit)) (now (table .exit)) f) ⌝ }
 {
-    prepare(source, body, &mut table[..8224], counts);
+    prepare(source, body, &mut table[..INDEX], counts);
 }
 
 // Writes the run of a legal tree whose result fits into the output.
@@ -55,7 +57,7 @@ fn write_tree(
     source: &[u8],
     target: &[u8],
     body: &[u8],
-    table: &mut [u16; 25664],
+    table: &mut [u16; TABLE],
     kind: u8,
     tree: &[u8],
     ends: &[u32],
@@ -92,7 +94,7 @@ fn run_kept(
     if !is_in(source, kind) {
         return refuse(Reason::UnknownRoot);
     }
-    let mut table = [0u16; 25664];
+    let mut table = [0u16; TABLE];
     let mut counts = [0u16; 1024];
     begin(source, body, &mut table, &mut counts);
     let room = output.len();

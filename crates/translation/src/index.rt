@@ -3,7 +3,7 @@ ghost use mathlib.Core.Path.{_≡_};
 ghost use mathlib.Core.Option.{some};
 ghost use Prim.Native.Nat.{ℕ, _<_, _≤_};
 ghost use lib.ListN.{length, getD};
-ghost use Rattle.reader.specs.Inner.Index.{putAt};
+ghost use Rattle.reader.specs.Inner.Index.{putAt, indexLength};
 ghost use Rattle.translation.specs.Translation.{Body};
 ghost use Rattle.translation.specs.TranslationFile.{bodyOf};
 ghost use Rattle.translation.specs.Inner.ItemIndex.{SoundKinds, SoundItems, IndexedItems, IndexedKinds, mappedAt, knownAt};
@@ -16,7 +16,7 @@ use reader::node::place_at;
 
 // Builds the index of a body in an index that is all zero.
 pub fn build_items(body: &[u8], index: &mut [u16])
-    requires { ⌜ (length (now body) ≤ 32768) × (length (now index) ≡ 8224) × ((j : ℕ) → getD (now index) j 0 ≡ 0) ⌝ }
+    requires { ⌜ (length (now body) ≤ 32768) × (length (now index) ≡ indexLength) × ((j : ℕ) → getD (now index) j 0 ≡ 0) ⌝ }
     ensures { λ r. ⌜ ((b : Body) → bodyOf (now (body .entry)) ≡ some b → IndexedItems (now (index .exit)) (now (body .entry)) b) ⌝ }
 {
     put_all(body, 0x22, index);

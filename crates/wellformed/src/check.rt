@@ -15,6 +15,7 @@ use fields::outcome::Answer;
 use fields::outcome::Reason;
 use fields::outcome::accept;
 use fields::outcome::refuse;
+use reader::index::INDEX;
 use reader::index::build;
 use translation::index::put_mappings;
 
@@ -50,7 +51,7 @@ pub fn check_well_formed(source: &[u8], target: &[u8], body: &[u8]) -> Answer
     ensures { λ r. ⌜ ((f : Translation) → Pieces (now (source .entry)) (now (target .entry)) (now (body .entry)) f → allRising f ≡ true
         → r .outcome ≡ checked (wellFormed f)) ⌝ }
 {
-    let mut targets = [0u16; 8224];
+    let mut targets = [0u16; INDEX];
     build(target, &mut targets);
     let mut mapped = [0u16; 32];
     put_mappings(body, &mut mapped);

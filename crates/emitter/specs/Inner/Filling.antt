@@ -17,7 +17,8 @@ use Rattle.translation.specs.Translation.{Translation}
 use Rattle.translation.specs.Running.{clausesOf}
 use Rattle.fields.specs.Inner.Writing.{spliced}
 use Rattle.emitter.specs.Inner.Stands.{Stands}
-use Rattle.emitter.specs.Inner.Table.{indexLength, tableLength, itemsStart, spansStart, clauseEntry, sourceByte, bodyByte, SpansAt}
+use Rattle.reader.specs.Inner.Index.{indexLength, tableLength}
+use Rattle.emitter.specs.Inner.Table.{itemsStart, spansStart, clauseEntry, sourceByte, bodyByte, SpansAt}
 
 -- The index of the source s stands in the table t, which is all zero besides.
 pub record Begun (s t : List ℕ) : Type 0 where

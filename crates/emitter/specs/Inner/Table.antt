@@ -10,20 +10,13 @@ use Rattle.language.specs.Language.{Range, rangeOf, argumentsOf, productionKey}
 use Rattle.reader.specs.Code.{Code, node, token, argument, Codes, nil, cons, levels}
 use Rattle.reader.specs.Typing.{Typed}
 use Rattle.reader.specs.Syntax.{write, code}
+use Rattle.reader.specs.Inner.Index.{tableLength}
 use Rattle.translation.specs.Translation.{Translation, mapped}
 use Rattle.translation.specs.Running.{mappedArguments, clausesOf}
 use Rattle.fields.specs.Outcome.{value}
 use Rattle.translation.specs.TranslationFile.{translationOf}
 use Rattle.translation.specs.Inner.Pieces.{Pieces}
 use Rattle.emitter.specs.Inner.Stands.{Stands}
-
--- How many entries an index has.
-abbrev pub indexLength : ℕ
-indexLength = 8224
-
--- How many numbers the table has.
-abbrev pub tableLength : ℕ
-tableLength = 25664
 
 -- Where the index of the body's items starts.
 abbrev pub itemsStart : ℕ

@@ -13,6 +13,7 @@ use Rattle.fields.specs.Inner.Places.{fieldEnd, keyAt}
 use Rattle.language.specs.Language.{kindKey, productionKey}
 use Rattle.translation.specs.Translation.{Body, mappingOf, clauseOf}
 use Rattle.translation.specs.TranslationFile.{bodyOf}
+use Rattle.reader.specs.Inner.Index.{indexLength}
 
 -- The target kind in the field before `place`.
 abbrev pub targetBefore : List ℕ → ℕ → Option ℕ
@@ -26,7 +27,7 @@ codeBefore s (suc p) = some (slice (p + 5) (fieldEnd s p) s)
 
 -- What a lookup may rely on: each place is that of a whole field.
 pub record SoundItems (index s : List ℕ) : Type 0 where
-  pub long : length index ≡ 8224
+  pub long : length index ≡ indexLength
   pub short : length s ≤ 32768
   pub target : (k : ℕ) → k < 32 → 0 < getD index (kindKey k) 0
       → (getD index (kindKey k) 0 + 3 < length s) × (byteAt s (getD index (kindKey k) 0 + 3) < 32)
