@@ -9,7 +9,9 @@ use Rattle.reader.specs.Syntax.{sign}
 use Rattle.reader.specs.Inner.Positions.{syntaxOf}
 use Rattle.reader.specs.declared.node.Syntax.{Syntax}
 use Rattle.reader.specs.declared.node.Syntax.the-variants.{Tree, Code}
-use Rattle.fields.specs.Inner.Writing.{spliced}
+use Rattle.fields.specs.declared.copy.Stored.{Stored}
+use Rattle.fields.specs.declared.copy.Stored.the-variants.{To, Full}
+use Rattle.fields.specs.Inner.Writing.{spliced, Stores}
 use Rattle.emitter.specs.Inner.Stands.{Wrote}
 
 -- Bytes stored one behind the other are put in.
@@ -110,3 +112,14 @@ module _ (b : List ℕ) (at n : ℕ) (o : List ℕ) (pos : ℕ) (there : at + n 
   leaf-three {after} h e a =
       rw (slice-three b at n there e)
       (wrote-stored (getD b at 0 ∷ getD b (at + 1) 0 ∷ getD b (at + 2) 0 ∷ []) o after pos (pos + n) (omega arith) (a ∙ three-stored o pos _ _ _) (omega arith))
+
+  -- put_part
+  pub part-put : {after : List ℕ} → n ≤ length o - pos → (r : Stored) → Stores (slice at (at + n) b) o after pos r
+      → Wrote (slice at (at + n) b) o after pos (pos + n)
+  part-put h (To m) s =
+      let w = s .done m refl in
+      let l = length-slice at (at + n) b there in
+      record { fits = λ j. (omega (arith, l), w .bytes); full = λ j. absurd (omega (arith, l)) }
+  part-put h Full s =
+      let f = s .full refl in
+      absurd (omega (arith, f, length-slice at (at + n) b there))

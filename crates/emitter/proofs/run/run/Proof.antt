@@ -6,7 +6,7 @@ use Rattle.emitter.proofs.run.run.Statement.{statement}
 use Rattle.emitter.proofs.run.run.Tie as tie
 use Rattle.emitter.proofs.run.run.Reads as reads
 use Rattle.emitter.proofs.run.run.Lts as lts
-use Rattle.emitter.proofs.put.put_leaf.Reads as put-leaf-reads
+use Rattle.emitter.proofs.put.put_part.Reads as put-part-reads
 use Rattle.emitter.proofs.run.run_node.Reads as run-node-reads
 use Rattle.emitter.proofs.skip.is_leaf.Reads as is-leaf-reads
 use Rattle.emitter.proofs.skip.leaf_length.Reads as leaf-length-reads
@@ -17,11 +17,11 @@ is-leaf-requires c κs = term-below (c .before .before .before .pre .1 .3)
 leaf-length-requires : tie.Need-leaf-length-requires
 leaf-length-requires c κs = term-below (c .before .before .before .before .before .pre .1 .3) .1
 
-put-leaf-requires : tie.Need-put-leaf-requires
-put-leaf-requires c κs = (c .before .leaf-length .ensures .1, c .before .leaf-length .ensures .2, term-room (c .before .before .before .before .before .before .before .pre .1 .3) (sym (c .before .before .before .is-leaf .ensures) ∙ c .before .before .if1 .taken) (c .before .leaf-length .ensures .0), c .before .before .before .before .before .before .before .pre .0)
+put-part-requires : tie.Need-put-part-requires
+put-part-requires c κs = (term-room (c .before .before .before .before .before .before .before .pre .1 .3) (sym (c .before .before .before .is-leaf .ensures) ∙ c .before .before .if1 .taken) (c .before .leaf-length .ensures .0), c .before .before .before .before .before .before .before .pre .0)
 
 returns : tie.Need-returns
-returns c = λ f given u a. term-leaf a (sym (c .before .before .before .before .before .before .is-leaf .ensures) ∙ c .before .before .before .before .before .if1 .taken) (c .before .before .before .before .leaf-length .ensures .0) (c .before .before .put-leaf .ensures)
+returns c = λ f given u a. term-leaf a (sym (c .before .before .before .before .before .before .is-leaf .ensures) ∙ c .before .before .before .before .before .if1 .taken) (c .before .before .before .before .leaf-length .ensures .0) (c .before .before .put-part .ensures)
 
 run-node-requires : tie.Need-run-node-requires
 run-node-requires c κs = (c .before .before .before .before .before .before .before .pre .0, omega arith, (c .before .before .before .before .before .before .before .pre .1 .0, c .before .before .before .before .before .before .before .pre .1 .1, c .before .before .before .before .before .before .before .pre .1 .2, term-asks (c .before .before .before .before .before .before .before .pre .1 .3) (sym (c .before .before .before .is-leaf .ensures) ∙ c .before .before .if1 .left)))
@@ -35,7 +35,7 @@ run-spec =
     (tie.spec
     is-leaf-requires
     leaf-length-requires
-    put-leaf-requires
+    put-part-requires
     (λ c. search needs)
     returns
     (λ c. search needs)
