@@ -133,11 +133,11 @@ fn without_parts(source: &[u8], target: &[u8], body: &[u8], b: &[u8], out: &mut 
     ensures { λ r. ⌜ ((f : Translation) (m : Language) → EncodedParts (now (source .entry)) (now (target .entry)) (now (body .entry)) f → languageOf (now (b .entry)) ≡ value m
         → Gives (translationBytes (value (translationWithout f m))) (now (out .entry)) (now (out .exit)) r) ⌝ }
 {
-    let mut source = [0u8; 1024];
-    let Stored::To(i) = remove(source, b, 0x11, &mut source) else {
+    let mut rest = [0u8; 1024];
+    let Stored::To(i) = remove(source, b, 0x11, &mut rest) else {
         return Outcome::Refused(Reason::ValueTooLarge);
     };
-    keep_parts(&source[..i], target, body, out)
+    keep_parts(&rest[..i], target, body, out)
 }
 
 // A translation without the entries of a language in its source; clauses and mappings no longer in it go.

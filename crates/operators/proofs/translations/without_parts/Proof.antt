@@ -13,8 +13,8 @@ remove-requires c κs = (source-sorted _ _ _ _ (c .before .before .before .befor
 returns : tie.Need-returns
 returns c = λ f m p e. left-too-long _ _ _ _ f m p e (λ i. omega (arith, c .before .before .before .before .before .before .shared-slice-known4 .given i)) _ _ _ refl (c .before .before .before .remove .ensures) _ (c .enum-told .given .1)
 
-array-share-prefix-source : tie.Need-array-share-prefix-source
-array-share-prefix-source c = stored-room _ _ _ _ _ (c .before .before .before .before .remove .ensures) (c .before .i .given .1) (c .before .before .before .before .remove .kept .1 .1 .1 .0)
+array-share-prefix-rest : tie.Need-array-share-prefix-rest
+array-share-prefix-rest c = stored-room _ _ _ _ _ (c .before .before .before .before .remove .ensures) (c .before .i .given .1) (c .before .before .before .before .remove .kept .1 .1 .1 .0)
 
 slice-aggregate-keep-parts : tie.Need-slice-aggregate-keep-parts
 slice-aggregate-keep-parts c = stored-length _ _ _ _ _ (c .before .before .before .before .before .remove .ensures) (c .before .before .i .given .1) (c .before .before .before .before .before .remove .kept .1 .1 .1 .0)
@@ -34,7 +34,7 @@ without-parts-spec =
     (λ c. search needs)
     (λ c. search needs)
     returns
-    array-share-prefix-source
+    array-share-prefix-rest
     slice-aggregate-keep-parts
     keep-parts-requires
     (λ c. search needs)
