@@ -87,7 +87,7 @@ module _ (s : List ℕ) (p tag : ℕ) (table : List Bool) (et : tag ≡ getD s p
 module _ (s : List ℕ) (p : ℕ) (t : List ℕ) (place : ℕ) where
   pub range-none : place ≡ 0 → false ≡ rangeKept s p t place
   unfolding rangeKept
-  range-none h = cc (eq-eqb place 0 h)
+  range-none h = cc
 
   pub range-there : (place ≡ 0 → ⊥) → (x : Bool) → x ≡ rangeWithin (classRange s p) (classRange t (place - 1)) → x ≡ rangeKept s p t place
   unfolding rangeKept

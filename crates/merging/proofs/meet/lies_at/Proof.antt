@@ -1,3 +1,7 @@
+use native.Mathlib.Omega.{arith}
+use Rattle.merging.specs.Inner.Parts.{partWithin}
+use Rattle.merging.proofs.Walks.{whole-here, key-here, stands-end}
+use Rattle.merging.proofs.Containing.{lies-other, lies-range, lies-same}
 use borrow.Author.Needs.{needs}
 use Rattle.merging.proofs.meet.lies_at.Statement.{statement}
 use Rattle.merging.proofs.meet.lies_at.Tie as tie
@@ -8,52 +12,34 @@ use Rattle.fields.proofs.walk.whole_key.Reads as whole-key-reads
 use Rattle.language.proofs.range.range_within.Reads as range-within-reads
 use Rattle.merging.proofs.meet.same_field.Reads as same-field-reads
 
--- src/meet.rt:67:9
 returns : tie.Need-returns
-returns c = ?
+returns c = stands-end 0x11 (c .before .before .before .args .a .now) (c .before .before .before .args .p) (c .before .before .before .args .b .now) (c .before .before .before .args .q) partWithin (c .if1 .taken)
 
--- src/meet.rt:69:9
-whole-key-requires : tie.Need-whole-key-requires
-whole-key-requires c κs = search needs
-
--- src/meet.rt:70:15
 whole-key-requires-2 : tie.Need-whole-key-requires-2
-whole-key-requires-2 c κs = ?
+whole-key-requires-2 c κs = key-here _ _ (c .before .before .before .before .pre .1) (c .before .if1 .left)
 
--- src/meet.rt:71:9
 returns-2 : tie.Need-returns-2
-returns-2 c = ?
+returns-2 c = lies-other (c .before .before .before .before .before .before .args .a .now) (c .before .before .before .before .before .before .args .p) (c .before .before .before .before .before .before .args .b .now) (c .before .before .before .before .before .before .args .q) (c .before .before .before .if1 .left) _ _ (c .before .before .whole-key .ensures .0) (c .before .whole-key2 .ensures .0) (c .if2 .taken)
 
--- src/meet.rt:73:14
-wide-requires : tie.Need-wide-requires
-wide-requires c κs = search needs
-
--- src/meet.rt:74:9
-range-within-requires : tie.Need-range-within-requires
-range-within-requires c κs = search needs
-
--- src/meet.rt:74:9
 returns-3 : tie.Need-returns-3
-returns-3 c = ?
+returns-3 c = lies-range (c .before .before .before .before .before .before .before .before .before .args .a .now) (c .before .before .before .before .before .before .before .before .before .args .p) (c .before .before .before .before .before .before .before .before .before .args .b .now) (c .before .before .before .before .before .before .before .before .before .args .q) (c .before .before .before .before .before .before .if1 .left) _ _ (c .before .before .before .before .before .whole-key .ensures .0) (c .before .before .before .before .whole-key2 .ensures .0) (c .before .before .before .if2 .left) (omega (arith, c .before .if3 .taken, c .before .before .wide .ensures .0)) (c .before .before .before .before .before .before .before .before .before .pre .0) (c .before .before .before .before .before .before .before .before .before .pre .1) (c .before .before .before .before .before .before .before .before .before .pre .2) (c .before .before .before .before .before .before .before .before .before .pre .3) _ (c .range-within .ensures)
 
--- src/meet.rt:76:5
 same-field-requires : tie.Need-same-field-requires
-same-field-requires c κs = ?
+same-field-requires c κs = (c .before .before .before .before .before .before .before .before .pre .0, whole-here _ _ (c .before .before .before .before .before .before .before .before .pre .1) (c .before .before .before .before .before .if1 .left))
 
--- src/meet.rt:62:1
 returns-4 : tie.Need-returns-4
-returns-4 c = ?
+returns-4 c = lies-same (c .before .before .before .before .before .before .before .before .before .args .a .now) (c .before .before .before .before .before .before .before .before .before .args .p) (c .before .before .before .before .before .before .before .before .before .args .b .now) (c .before .before .before .before .before .before .before .before .before .args .q) (c .before .before .before .before .before .before .if1 .left) _ _ (c .before .before .before .before .before .whole-key .ensures .0) (c .before .before .before .before .whole-key2 .ensures .0) (c .before .before .before .if2 .left) (omega (arith, c .before .if3 .left, c .before .before .wide .ensures .0)) _ (c .same-field .ensures)
 
 pub lies-at-spec : {M : Type 1} → statement M
 lies-at-spec =
     tie.close
     (tie.spec
     returns
-    whole-key-requires
+    (λ c κs. search needs)
     whole-key-requires-2
     returns-2
-    wide-requires
-    range-within-requires
+    (λ c κs. search needs)
+    (λ c κs. search needs)
     returns-3
     same-field-requires
     returns-4)

@@ -1,3 +1,11 @@
+use borrow.Author.Needs.{needs}
+use Prim.Native.Nat.{_-_}
+use lib.ListN.{length}
+use borrow.Author.Tests.{not-true, not-false}
+use Rattle.merging.proofs.Walks.{head-here, key-here}
+use Rattle.merging.proofs.Turns.{rest-start}
+use Rattle.merging.proofs.Prefixes.{shared-within}
+use Rattle.merging.proofs.Containing.{Containing, containing-end, containing-meets, containing-stop, containing-on}
 use Rattle.merging.proofs.within.lies_within.Statement.{statement}
 use Rattle.merging.proofs.within.lies_within.Tie as tie
 use Rattle.merging.proofs.within.lies_within.Reads as reads
@@ -9,50 +17,37 @@ use Rattle.merging.proofs.meet.seek.Reads as seek-reads
 use Rattle.merging.proofs.prefix.shared.Reads as shared-reads
 
 abbrev Inv-loop : tie.InvT-loop
-Inv-loop a b start p₀ q₀ p q = ?
+Inv-loop a b start p₀ q₀ p q = Containing a b p q
 
 abbrev μ-loop : tie.MeasureT-loop
-μ-loop a b start p₀ q₀ p q = ?
+μ-loop a b start p₀ q₀ p q = length a - p
 
--- src/within.rt:17:9
 shared-requires : tie.Need-shared-requires Inv-loop μ-loop
-shared-requires c κs = ?
+shared-requires c κs = (rest-start _ _ (c .before .before .pre .0 .sorted) .from, rest-start _ _ (c .before .before .pre .1 .sorted) .from)
 
--- src/within.rt:20:5
 loop-holds : tie.Need-loop-holds Inv-loop μ-loop
-loop-holds c = ?
+loop-holds c = shared-within _ _ _ (c .before .before .before .pre) (c .shared .ensures _)
 
--- src/within.rt:21:24
 whole-key-requires : tie.Need-whole-key-requires Inv-loop μ-loop
-whole-key-requires c κs = ?
+whole-key-requires c κs = key-here _ _ (c .before .loop .inv .left .from) (c .loop-test .taken)
 
--- src/within.rt:21:9
 seek-requires : tie.Need-seek-requires Inv-loop μ-loop
-seek-requires c κs = ?
+seek-requires c κs = c .before .before .loop .inv .right .from
 
--- src/within.rt:22:13
 lies-at-requires : tie.Need-lies-at-requires Inv-loop μ-loop
-lies-at-requires c κs = ?
+lies-at-requires c κs = containing-meets _ _ _ _ (c .before .before .before .loop .inv) (c .before .before .loop-test .taken) _ (c .before .whole-key .ensures .0) _ (c .seek .ensures)
 
--- src/within.rt:23:13
 returns : tie.Need-returns Inv-loop μ-loop
-returns c = ?
+returns c = containing-stop _ _ _ _ (c .before .before .before .before .before .loop .inv) (c .before .before .before .before .loop-test .taken) _ (c .before .before .before .whole-key .ensures .0) _ (c .before .before .seek .ensures) _ (c .before .lies-at .ensures) (not-true _ (c .if1 .taken))
 
--- src/within.rt:25:9
 whole-end-requires : tie.Need-whole-end-requires Inv-loop μ-loop
-whole-end-requires c κs = ?
+whole-end-requires c κs = head-here _ _ (c .before .before .before .before .before .loop .inv .left .from) (c .before .before .before .before .loop-test .taken)
 
--- src/within.rt:20:5
-loop-less : tie.Need-loop-less Inv-loop μ-loop
-loop-less c = ?
-
--- src/within.rt:20:5
 loop-again : tie.Need-loop-again Inv-loop μ-loop
-loop-again c = ?
+loop-again c = containing-on _ _ _ _ (c .before .before .before .before .before .before .loop .inv) (c .before .before .before .before .before .loop-test .taken) _ (c .before .before .before .before .whole-key .ensures .0) _ (c .before .before .before .seek .ensures) _ (c .before .before .lies-at .ensures) (not-false _ (c .before .if1 .left)) _ (c .whole-end .ensures .is)
 
--- src/within.rt:13:1
 returns-2 : tie.Need-returns-2 Inv-loop μ-loop
-returns-2 c = ?
+returns-2 c = containing-end _ _ _ _ (c .before .loop .inv) (c .loop-test .left)
 
 pub lies-within-spec : {M : Type 1} → statement M
 lies-within-spec =
@@ -67,6 +62,6 @@ lies-within-spec =
     lies-at-requires
     returns
     whole-end-requires
-    loop-less
+    (λ c. search needs)
     loop-again
     returns-2)
