@@ -3,7 +3,7 @@ ghost use mathlib.Core.Path.{_≡_};
 ghost use mathlib.Core.Bool.{true};
 ghost use Rattle.fields.specs.Lists.{all, sameNumbers};
 ghost use Rattle.merging.specs.Inner.Parts.{WholeAt, WholeFrom, SoughtAt, pieceAt, samePart, partWithin, classLong, partAt, partsFrom, leads};
-use fields::bytes::wide;
+use fields::bytes::to_usize;
 use fields::walk::whole_end;
 use fields::walk::whole_key;
 use language::entries::CLASS;
@@ -70,7 +70,7 @@ pub fn lies_at(a: &[u8], p: usize, b: &[u8], q: usize) -> bool
     if key != whole_key(b, q, CLASS) {
         return false;
     }
-    if key < wide(KINDS) {
+    if key < to_usize(KINDS) {
         return range_within(a, p, b, q);
     }
     same_field(a, p, b, q)
