@@ -1,16 +1,34 @@
-/* The C interface of the static library algebra.
+/* The C interface of the static library algebra: three checks, reduce and run.
  *
  * Each function returns the number of the answer: 0 for accepted, otherwise the number of
  * the refusal. Where there is a length it is stored through the last pointer; a refusal
- * stores 0 and leaves the output unchanged. A slice is a pointer and a length; the pointer
- * must be valid for that many bytes, and must not be null even if the length is 0.
+ * stores 0 and leaves the output unchanged.
  *
- * The library has all five operations declared here: three checks, reduce and run. */
+ * What is asked of the caller, and not checked:
+ *
+ * - A slice is a pointer and a length. The pointer is valid for that many bytes: for reading,
+ *   or for reading and writing if it is an output or a workspace. If the length is 0 nothing
+ *   is read or written through the pointer, and it may be null; otherwise it must not be.
+ * - The pointer called length is never null: it points to a uint64_t that can be written.
+ * - An output, a workspace and the length overlap neither an input nor each other. Inputs may
+ *   overlap each other. While a call is at work no other thread writes its inputs, or reads or
+ *   writes its output, workspace and length.
+ * - When a function is called, at least ALGEBRA_STACK_BYTES bytes of stack are left to it. The
+ *   stack is bounded since all depths are (64 levels of a tree, 16 of a code, 12 of a term);
+ *   the figure is measured, on inputs built to be the worst.
+ *
+ * Nothing else is asked: every content of the inputs, every length and every root has an
+ * answer. The library has no global state, allocates nothing, and calls only memcpy, memset,
+ * memmove and memcmp. What a call answers depends on its arguments alone, and any number of
+ * threads may call at the same time. */
 #ifndef ALGEBRA_H
 #define ALGEBRA_H
 
 #include <stddef.h>
 #include <stdint.h>
+
+/* A call needs at most so many bytes of stack. */
+#define ALGEBRA_STACK_BYTES 327680
 
 #ifdef __cplusplus
 extern "C" {

@@ -18,10 +18,14 @@ mod term;
 mod translation;
 mod tree;
 
+pub mod call;
+pub mod examples;
+pub mod files;
 pub mod generate;
 pub mod laws;
 #[cfg(feature = "library")]
 pub mod library;
+pub mod stack;
 
 pub use language::check_language;
 pub use outcome::{Outcome, Refusal};

@@ -1,5 +1,8 @@
 //! A safe wrapper over the C interface of the static library `algebra`, and over the clock
 //! that the benchmark needs from the C library of the system.
+//!
+//! Of what the header asks of callers, slices see to all but one thing: `STACK_BYTES` of stack
+//! must be left. Threads of the standard library have more than that when they start.
 #![allow(unsafe_code)]
 
 use std::time::Duration;
@@ -37,6 +40,9 @@ extern "C" {
         length: *mut u64,
     ) -> u32;
 }
+
+/// The most bytes of stack that a call uses: ALGEBRA_STACK_BYTES of the header.
+pub const STACK_BYTES: usize = 327_680;
 
 /// Seconds and nanoseconds, as the clock gives them.
 #[repr(C)]

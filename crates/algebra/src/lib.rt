@@ -5,14 +5,14 @@ ghost use Rattle.language.specs.Operations.{checkLanguage};
 ghost use Rattle.reader.specs.Operations.{checkTree};
 ghost use Rattle.translation.specs.Operations.{checkTranslation, runTree};
 ghost use Rattle.reducer.specs.Operations as Reducing;
+use checks::translations::check_translation;
+use checks::trees::check_tree;
 use fields::outcome::Answer;
 use fields::outcome::length_of;
 use fields::outcome::number;
 use language::check::check_language;
-use reader::tree::check_tree;
 use reducer::reduce::reduce;
 use runner::run::run;
-use translation::check::check_translation;
 
 // The number of an answer.
 fn number_of(answer: Answer) -> u32

@@ -6,10 +6,13 @@ use native.Mathlib.Omega.{arith}
 use lib.ListN.{length, getD, take, drop, set, length-set}
 use lib.Seq.{sets, sets-eq, slice, slice-empty, length-slice, drop-cons, getD-take, length-take-le}
 use Rattle.reader.specs.Syntax.{sign}
-use Rattle.reader.specs.Inner.Positions.{syntaxOf, nameLength}
+use Rattle.reader.specs.Inner.Positions.{syntaxOf}
 use Rattle.reader.specs.declared.node.Syntax.{Syntax}
 use Rattle.reader.specs.declared.node.Syntax.the-variants.{Tree, Code}
-use Rattle.emitter.specs.Inner.Stands.{spliced, Wrote}
+use Rattle.fields.specs.declared.copy.Stored.{Stored}
+use Rattle.fields.specs.declared.copy.Stored.the-variants.{To, Full}
+use Rattle.fields.specs.Inner.Writing.{spliced, Stores}
+use Rattle.emitter.specs.Inner.Stands.{Wrote}
 
 -- Bytes stored one behind the other are put in.
 stored : (o : List ℕ) (pos : ℕ) (v : List ℕ) → pos + length v ≤ length o → sets o pos v ≡ spliced o pos v
@@ -45,42 +48,26 @@ pub in-two : (l : List ℕ) (i a k b j : ℕ) → j < length l → j < length (s
 in-two l i a k b j h = in-set (set l i a) k b j (in-set l i a j h)
 
 -- put_name
-module _ (x : Syntax) (p : ℕ) (o : List ℕ) (pos : ℕ) {n : ℕ} (e : n ≡ nameLength x) (inside : pos ≤ length o) where
-  pub name-full : length o - pos < n → Wrote (sign (syntaxOf x) 1 ++ p ∷ []) o o pos (length o + 1)
-  name-full h = wrote-nothing _ o pos _ (past x e) (omega arith)
-    where
-      past : (y : Syntax) → n ≡ nameLength y → length o < pos + length (sign (syntaxOf y) 1 ++ p ∷ [])
-      past Tree d = omega arith
-      past Code d = omega arith
+module _ (x : Syntax) (name : ℕ) (o : List ℕ) (pos : ℕ) (inside : pos ≤ length o) where
+  pub name-tree-full : length o - pos < 1 → x ≡ Tree → Wrote (sign (syntaxOf x) 1 ++ name ∷ []) o o pos (pos + 1)
+  name-tree-full h t = rw t (wrote-nothing (name ∷ []) o pos (pos + 1) (omega arith) (omega arith))
 
-  pub name-tree : {after : List ℕ} → n ≤ length o - pos → x ≡ Tree → after ≡ set o pos p → Wrote (sign (syntaxOf x) 1 ++ p ∷ []) o after pos (pos + n)
-  name-tree {after} h t a =
-      let d : n ≡ 1 = e ∙ ap nameLength t in
-      rw t (wrote-stored (p ∷ []) o after pos (pos + n) (omega arith) a (omega arith))
+  pub name-code-full : length o - pos < 2 → x ≡ Code → Wrote (sign (syntaxOf x) 1 ++ name ∷ []) o o pos (pos + 2)
+  name-code-full h t = rw t (wrote-nothing (1 ∷ name ∷ []) o pos (pos + 2) (omega arith) (omega arith))
 
-  pub name-code : {after : List ℕ} → n ≤ length o - pos → x ≡ Code → after ≡ set (set o pos 1) (pos + 1) p → Wrote (sign (syntaxOf x) 1 ++ p ∷ []) o after pos (pos + n)
-  name-code {after} h t a =
-      let d : n ≡ 2 = e ∙ ap nameLength t in
-      rw t (wrote-stored (1 ∷ p ∷ []) o after pos (pos + n) (omega arith) (a ∙ two-stored o pos 1 p) (omega arith))
+  pub name-tree : 1 ≤ length o - pos → x ≡ Tree → Wrote (sign (syntaxOf x) 1 ++ name ∷ []) o (set o pos name) pos (pos + 1)
+  name-tree h t = rw t (wrote-stored (name ∷ []) o _ pos (pos + 1) (omega arith) refl refl)
 
-  -- A name fits, with its sign too.
-  pub name-room : n ≤ length o - pos → pos < length o
-  name-room h = room x e
-    where
-      room : (y : Syntax) → n ≡ nameLength y → pos < length o
-      room Tree d = omega arith
-      room Code d = omega arith
-
-  pub sign-room : n ≤ length o - pos → x ≡ Code → pos + 1 < length o
-  sign-room h t = let d : n ≡ 2 = e ∙ ap nameLength t in omega arith
+  pub name-code : 2 ≤ length o - pos → x ≡ Code → Wrote (sign (syntaxOf x) 1 ++ name ∷ []) o (set (set o pos 1) (pos + 1) name) pos (pos + 2)
+  name-code h t = rw t (wrote-stored (1 ∷ name ∷ []) o _ pos (pos + 2) (omega arith) (two-stored o pos 1 name) refl)
 
 -- put_token
 module _ (x : Syntax) (high low : ℕ) (o : List ℕ) (pos : ℕ) (inside : pos ≤ length o) where
-  pub token-tree-full : length o - pos < 2 → x ≡ Tree → Wrote (sign (syntaxOf x) 2 ++ high ∷ low ∷ []) o o pos (length o + 1)
-  token-tree-full h t = rw t (wrote-nothing (high ∷ low ∷ []) o pos (length o + 1) (omega arith) (omega arith))
+  pub token-tree-full : length o - pos < 2 → x ≡ Tree → Wrote (sign (syntaxOf x) 2 ++ high ∷ low ∷ []) o o pos (pos + 2)
+  token-tree-full h t = rw t (wrote-nothing (high ∷ low ∷ []) o pos (pos + 2) (omega arith) (omega arith))
 
-  pub token-code-full : length o - pos < 3 → x ≡ Code → Wrote (sign (syntaxOf x) 2 ++ high ∷ low ∷ []) o o pos (length o + 1)
-  token-code-full h t = rw t (wrote-nothing (2 ∷ high ∷ low ∷ []) o pos (length o + 1) (omega arith) (omega arith))
+  pub token-code-full : length o - pos < 3 → x ≡ Code → Wrote (sign (syntaxOf x) 2 ++ high ∷ low ∷ []) o o pos (pos + 3)
+  token-code-full h t = rw t (wrote-nothing (2 ∷ high ∷ low ∷ []) o pos (pos + 3) (omega arith) (omega arith))
 
   pub token-tree : 2 ≤ length o - pos → x ≡ Tree → Wrote (sign (syntaxOf x) 2 ++ high ∷ low ∷ []) o (set (set o pos high) (pos + 1) low) pos (pos + 2)
   token-tree h t = rw t (wrote-stored (high ∷ low ∷ []) o _ pos (pos + 2) (omega arith) (two-stored o pos high low) refl)
@@ -110,8 +97,8 @@ slice-three b at n h e =
     (slice-more b (at + 2) (at + n) (at + n) (omega arith) (omega arith) h ∙ ap (λ (l : List ℕ). getD b (at + 2) 0 ∷ l) (slice-empty (at + n) b)))
 
 module _ (b : List ℕ) (at n : ℕ) (o : List ℕ) (pos : ℕ) (there : at + n ≤ length b) (inside : pos ≤ length o) where
-  pub leaf-full : length o - pos < n → Wrote (slice at (at + n) b) o o pos (length o + 1)
-  leaf-full h = wrote-nothing _ o pos _ (omega (arith, length-slice at (at + n) b there)) (omega arith)
+  pub leaf-full : length o - pos < n → Wrote (slice at (at + n) b) o o pos (pos + n)
+  leaf-full h = wrote-nothing _ o pos (pos + n) (omega (arith, length-slice at (at + n) b there)) (omega arith)
 
   pub leaf-two : {after : List ℕ} → n ≤ length o - pos → n ≡ 2
       → after ≡ set (set o pos (getD b at 0)) (pos + 1) (getD b (at + 1) 0) → Wrote (slice at (at + n) b) o after pos (pos + n)
@@ -125,3 +112,14 @@ module _ (b : List ℕ) (at n : ℕ) (o : List ℕ) (pos : ℕ) (there : at + n 
   leaf-three {after} h e a =
       rw (slice-three b at n there e)
       (wrote-stored (getD b at 0 ∷ getD b (at + 1) 0 ∷ getD b (at + 2) 0 ∷ []) o after pos (pos + n) (omega arith) (a ∙ three-stored o pos _ _ _) (omega arith))
+
+  -- put_part
+  pub part-put : {after : List ℕ} → n ≤ length o - pos → (r : Stored) → Stores (slice at (at + n) b) o after pos r
+      → Wrote (slice at (at + n) b) o after pos (pos + n)
+  part-put h (To m) s =
+      let w = s .done m refl in
+      let l = length-slice at (at + n) b there in
+      record { fits = λ j. (omega (arith, l), w .bytes); full = λ j. absurd (omega (arith, l)) }
+  part-put h Full s =
+      let f = s .full refl in
+      absurd (omega (arith, f, length-slice at (at + n) b there))

@@ -1,6 +1,6 @@
 -- Laws of codes in a row that are put out, each argument replaced by its run.
 use Prim.Native.Nat.{ℕ, zero, suc, _+_, _-_, _*_, _/_, _%_, _≤_, _<_}
-use mathlib.Core.Path.{_≡_, refl, sym, ap, subst, _∙_}
+use mathlib.Core.Path.{_≡_, refl, sym, ap, _∙_}
 use mathlib.Core.Logic.{_⊎_, inl, inr, ⊎-elim}
 use mathlib.Core.Bool.{true, false, not}
 use mathlib.Core.List.{List, [], _∷_, _++_, append-assoc, append-nil}
@@ -11,22 +11,21 @@ use lib.Seq.{slice, getD-set-same, getD-set-other}
 use lib.Dec.{eqb}
 use borrow.Author.Tests.{eqb-true, eqb-false, eq-eqb, ne-eqb}
 use Rattle.fields.proofs.Truth.{none-some, false-true, by-test}
-use Rattle.language.specs.Language.{Language, Range, rangeOf, argumentsOf, productionKey}
+use Rattle.language.specs.Language.{Language, Range, rangeOf, argumentsOf}
 use Rattle.reader.specs.Code as Terms
 use Rattle.reader.specs.Code.{node, token, argument, Codes, nil, cons, levels, levelsAll}
 use Rattle.reader.specs.Typing.{Typed, TypedAll, typed-node, typed-token, typed-argument, typed-nil, typed-cons}
-use Rattle.reader.specs.Syntax as Forms
 use Rattle.reader.specs.Syntax.{sign, write, writeAll, code}
 use Rattle.reader.specs.declared.node.Syntax.{Syntax}
 use Rattle.reader.specs.declared.node.Syntax.the-variants.{Tree, Code}
 use Rattle.reader.specs.Inner.Positions.{syntaxOf, nameLength}
 use Rattle.translation.specs.Translation.{Translation, mapped}
-use Rattle.translation.specs.Running.{nth, operand, substitute, substituteAll, run, runAll, mappedArguments, clausesOf, transform}
+use Rattle.translation.specs.Running.{nth, operand, substitute, run, runAll, mappedArguments, clausesOf, transform}
 use Rattle.translation.proofs.Fitting.{mapped-arguments}
 use Rattle.emitter.specs.Inner.Stands.{Stands, Wrote}
-use Rattle.emitter.specs.Inner.Table.{indexEntry, clauseEntry, sourceByte, bodyByte, spanEntry, SpansAt, SpansAllAt, Production, Clause, Ready}
-use Rattle.emitter.specs.Inner.Runs.{bytesOf, allBytes, front, Given, Term, Node, Row, Right, Same, FindAsks, RowAsks, ArgumentAsks, TermAsks, leafAt, leafLength, signLength, knownStart, rowBytes}
-use Rattle.emitter.proofs.Standing.{stands-head, stands-both, both-stand, wrote-none, wrote-then, wrote-full}
+use Rattle.emitter.specs.Inner.Table.{indexEntry, clauseEntry, sourceByte, bodyByte, spanEntry, clauseEnd, SpansAt, SpansAllAt, Production, Clause, Ready}
+use Rattle.emitter.specs.Inner.Runs.{bytesOf, allBytes, front, Given, Term, Node, Row, Same, FindAsks, LastAsks, treeLevel, RowAsks, ArgumentAsks, TermAsks, NodeAt, NodeAsks, Started, leafAt, leafLength, signLength, knownStart, rowBytes}
+use Rattle.emitter.proofs.Standing.{stands-head, stands-both, wrote-none, wrote-past, wrote-then}
 
 get-inside : (r : List ℕ) (i k : ℕ) → getElem? r i ≡ some k → i < length r
 get-inside [] i k e = none-some e
@@ -36,58 +35,6 @@ get-inside (x ∷ r) (suc i) k e = let h = get-inside r i k e in omega arith
 -- The same, at a position written in another way.
 moved : (b : List ℕ) {at to : ℕ} (v : List ℕ) → at ≡ to → Stands b at v → Stands b to v
 moved b v e h = rw e at h
-
--- Codes and others behind them.
-unfoldable appended : Codes → Codes → Codes
-appended nil us = us
-appended (cons a ts) us = cons a (appended ts us)
-
-typed-appended : {l : Language} {r : List ℕ} {ts us : Codes} {ks js : List ℕ} → TypedAll l r ts ks → TypedAll l r us js → TypedAll l r (appended ts us) (ks ++ js)
-unfolding appended
-typed-appended typed-nil h = h
-typed-appended (typed-cons a hs) h = typed-cons a (typed-appended hs h)
-
-write-appended : (s : Forms.Syntax) (ts us : Codes) → writeAll s (appended ts us) ≡ writeAll s ts ++ writeAll s us
-unfolding appended write
-write-appended s nil us = refl
-write-appended s (cons a ts) us =
-    ap (λ (v : List ℕ). write s a ++ v) (write-appended s ts us) ∙ sym (append-assoc (write s a) (writeAll s ts) (writeAll s us))
-
-spans-moved : (t : List ℕ) {at to : ℕ} (us : Codes) → at ≡ to → SpansAllAt t at us → SpansAllAt t to us
-spans-moved t us e h = rw e at h
-
-spans-appended : (t : List ℕ) (c : ℕ) (ts us : Codes) → SpansAllAt t c ts → SpansAllAt t (c + length (writeAll code ts)) us → SpansAllAt t c (appended ts us)
-unfolding appended write SpansAt
-spans-appended t c nil us h k = spans-moved t us (omega arith) k
-spans-appended t c (cons a ts) us h k =
-    let la = length-append (write code a) (writeAll code ts) in
-    (h .0, spans-appended t (c + length (write code a)) ts us (h .1) (spans-moved t us (omega arith) k))
-
-levels-appended : (n : ℕ) (ts us : Codes) → levelsAll ts ≤ n → levelsAll us ≤ n → levelsAll (appended ts us) ≤ n
-unfolding appended levels
-levels-appended n nil us h k = k
-levels-appended n (cons a ts) us h k = let i = levels-appended n ts us (omega arith) k in omega arith
-
-substitute-appended : (s ts us : Codes) → substituteAll s (appended ts us) ≡ appended (substituteAll s ts) (substituteAll s us)
-unfolding appended substitute
-substitute-appended s nil us = refl
-substitute-appended s (cons a ts) us = ap (cons (substitute s a)) (substitute-appended s ts us)
-
--- A row and another that stands behind it are one row.
-row-appended : (t : List ℕ) (at mid stop : ℕ) (l : Language) (r : List ℕ) (ts us : Codes) {ks js : List ℕ} → Row t at mid l r ts ks → Row t mid stop l r us js
-    → ((i : ℕ) → at ≤ i → i < stop → bodyByte t i < 256) → Row t at stop l r (appended ts us) (ks ++ js)
-row-appended t at mid stop l r ts us h g n =
-    let e = h .ends in
-    let d = g .ends in
-    let la = length-append (writeAll code ts) (writeAll code us) in
-    record {
-      typed = typed-appended (h .typed) (g .typed);
-      stands = rw (write-appended code ts us) (both-stand t (17472 + at) (writeAll code ts) (writeAll code us) (h .stands) (moved t (writeAll code us) (omega arith) (g .stands)));
-      spans = spans-appended t at ts us (h .spans) (spans-moved t us e (g .spans));
-      ends = rw (write-appended code ts us) (omega arith);
-      inside = g .inside;
-      narrow = n;
-    }
 
 -- What follows the first code of a row.
 module _ (t : List ℕ) (c stop : ℕ) (l : Language) (r : List ℕ) where
@@ -269,9 +216,6 @@ module _ (x : Syntax) (f : Translation) (ts : Codes) where
       by Tree = refl
       by Code = refl
 
-  row-behind : (is us : Codes) → rowBytes x f ts (appended is us) ≡ rowBytes x f ts is ++ rowBytes x f ts us
-  row-behind is us = ap (allBytes x) (substitute-appended (runAll (clausesOf f) ts) is us) ∙ write-appended (syntaxOf x) _ _
-
   pub row-nil : rowBytes x f ts nil ≡ []
   unfolding write substitute
   row-nil = refl
@@ -281,10 +225,10 @@ module _ (x : Syntax) (f : Translation) (ts : Codes) where
   row-one a = append-nil (bytesOf x (substitute (runAll (clausesOf f) ts) a))
 
 -- A row that is partly put out: what is left of it, and what was put out so far.
-pub record Going (x : Syntax) (t input ends before state : List ℕ) (deep c stop left : ℕ) (f : Translation) (given : List ℕ) (ts : Codes) (ks r : List ℕ) (cs : Codes) (o mid : List ℕ) (pos p : ℕ) : Type 0 where
+pub record Going (x : Syntax) (t input ends before state : List ℕ) (c stop left : ℕ) (f : Translation) (given : List ℕ) (ts : Codes) (ks r : List ℕ) (cs : Codes) (o mid : List ℕ) (pos p : ℕ) : Type 0 where
   pub rest : Codes
   pub kinds : List ℕ
-  pub asks : RowAsks x t input ends state deep c stop left f given ts ks r rest kinds
+  pub asks : RowAsks x t input ends state c stop left f given ts ks r rest kinds
   pub same : Same before state
   pub goes : (after : List ℕ) (e : ℕ) → Wrote (rowBytes x f ts rest) mid after p e → Wrote (rowBytes x f ts cs) o after pos e
 
@@ -295,44 +239,55 @@ pub same-then : {a b c : List ℕ} → Same a b → Same b c → Same a c
 same-then h g = record { from = g .from ∙ h .from; start = g .start ∙ h .start }
 
 -- What an argument that was put out gives.
-abbrev pub ArgumentGives : (x : Syntax) (t input ends before after : List ℕ) (deep j : ℕ) (o end : List ℕ) (pos e : ℕ) → Type 0
-ArgumentGives x t input ends before after deep j o end pos e =
-    (f : Translation) (given : List ℕ) (ts : Codes) (ks : List ℕ) → ArgumentAsks x t input ends before deep j f given ts ks
+abbrev pub ArgumentGives : (x : Syntax) (t input ends before after : List ℕ) (left j : ℕ) (o end : List ℕ) (pos e : ℕ) → Type 0
+ArgumentGives x t input ends before after left j o end pos e =
+    (f : Translation) (given : List ℕ) (ts : Codes) (ks : List ℕ) → ArgumentAsks x t input ends before left j f given ts ks
     → Wrote (bytesOf x (nth (runAll (clausesOf f) ts) j)) o end pos e × Node x t input after (f .source) given ts ks × Same before after
 
 -- What a row that was put out gives.
-abbrev pub RowGives : (x : Syntax) (t input ends before after : List ℕ) (deep at stop n : ℕ) (o end : List ℕ) (pos e : ℕ) → Type 0
-RowGives x t input ends before after deep at stop n o end pos e =
-    (f : Translation) (given : List ℕ) (ts : Codes) (ks r : List ℕ) (cs : Codes) (js : List ℕ) → RowAsks x t input ends before deep at stop n f given ts ks r cs js
+abbrev pub RowGives : (x : Syntax) (t input ends before after : List ℕ) (at stop left : ℕ) (o end : List ℕ) (pos e : ℕ) → Type 0
+RowGives x t input ends before after at stop left o end pos e =
+    (f : Translation) (given : List ℕ) (ts : Codes) (ks r : List ℕ) (cs : Codes) (js : List ℕ) → RowAsks x t input ends before at stop left f given ts ks r cs js
     → Wrote (rowBytes x f ts cs) o end pos e × Node x t input after (f .source) given ts ks × Same before after
 
 -- What is known of a row in the middle, whatever it is a row of.
-abbrev pub RowHeld : (x : Syntax) (t input ends before state : List ℕ) (deep at stop n c left : ℕ) (o mid : List ℕ) (pos p : ℕ) → Type 0
-RowHeld x t input ends before state deep at stop n c left o mid pos p =
-    (f : Translation) (given : List ℕ) (ts : Codes) (ks r : List ℕ) (cs : Codes) (js : List ℕ) → RowAsks x t input ends before deep at stop n f given ts ks r cs js
-    → Going x t input ends before state deep c stop left f given ts ks r cs o mid pos p
+abbrev pub RowHeld : (x : Syntax) (t input ends before state : List ℕ) (at stop left c : ℕ) (o mid : List ℕ) (pos p : ℕ) → Type 0
+RowHeld x t input ends before state at stop left c o mid pos p =
+    (f : Translation) (given : List ℕ) (ts : Codes) (ks r : List ℕ) (cs : Codes) (js : List ℕ) → RowAsks x t input ends before at stop left f given ts ks r cs js
+    → Going x t input ends before state c stop left f given ts ks r cs o mid pos p
 
-pub going-start : (x : Syntax) (t input ends state : List ℕ) (deep at stop n : ℕ) (o : List ℕ) (pos : ℕ)
-    → RowHeld x t input ends state state deep at stop n at n o o pos pos
-going-start x t input ends state deep at stop n o pos f given ts ks r cs js a =
+-- What is asked for a row, of some translation.
+abbrev pub RowAsked : (x : Syntax) (t input ends before : List ℕ) (at stop left : ℕ) → Type 0
+RowAsked x t input ends before at stop left =
+    (f : Translation) × (given : List ℕ) × (ts : Codes) × (ks r : List ℕ) × (cs : Codes) × (js : List ℕ) × RowAsks x t input ends before at stop left f given ts ks r cs js
+
+pub asked : {x : Syntax} {t input ends before state : List ℕ} {at stop left c : ℕ} {o mid : List ℕ} {pos p : ℕ}
+    → RowHeld x t input ends before state at stop left c o mid pos p → (w : RowAsked x t input ends before at stop left)
+    → Going x t input ends before state c stop left (w .0) (w .1) (w .2) (w .3) (w .4) (w .5) o mid pos p
+asked h w = h (w .0) (w .1) (w .2) (w .3) (w .4) (w .5) (w .6) (w .7)
+
+pub going-start : (x : Syntax) (t input ends state : List ℕ) (at stop left : ℕ) (o : List ℕ) (pos : ℕ)
+    → RowHeld x t input ends state state at stop left at o o pos pos
+going-start x t input ends state at stop left o pos f given ts ks r cs js a =
     record { rest = cs; kinds = js; asks = a; same = same-self state; goes = λ after e w. w }
 
-module _ (x : Syntax) (t input ends before state : List ℕ) (deep c stop left : ℕ) (f : Translation) (given : List ℕ) (ts : Codes) (ks r : List ℕ) (cs : Codes) (o mid : List ℕ) (pos p : ℕ)
-    (g : Going x t input ends before state deep c stop left f given ts ks r cs o mid pos p) where
+module _ {x : Syntax} {t input ends before state : List ℕ} {c stop left : ℕ} {f : Translation} {given : List ℕ} {ts : Codes} {ks r : List ℕ} {cs : Codes} {o mid : List ℕ} {pos p : ℕ}
+    (g : Going x t input ends before state c stop left f given ts ks r cs o mid pos p) where
   -- At the end of the row.
-  pub going-end : stop ≤ c → p ≤ length mid → Wrote (rowBytes x f ts cs) o mid pos p × Node x t input state (f .source) given ts ks × Same before state
-  going-end h i =
+  pub going-end : stop ≤ c → Wrote (rowBytes x f ts cs) o mid pos p × Node x t input state (f .source) given ts ks × Same before state
+  going-end h =
       let e = row-empty t c stop (f .target) r (g .rest) (g .asks .row) h in
-      let w : Wrote (rowBytes x f ts (g .rest)) mid mid p p = rw (e, row-nil x f ts) (wrote-none mid p i) in
+      let w : Wrote (rowBytes x f ts (g .rest)) mid mid p p = rw (e, row-nil x f ts) (wrote-none mid p) in
       (g .goes mid p w, g .asks .node, g .same)
 
-  -- Bytes v are put out, and what follows them is to be put out.
-  module _ (v w : List ℕ) (is : rowBytes x f ts (g .rest) ≡ v ++ w) (end : List ℕ) (e : ℕ) (h : Wrote v mid end p e) where
-    pub goes-full : length mid < e → Wrote (rowBytes x f ts cs) o end pos e
-    goes-full i = g .goes end e (rw is (wrote-full v w mid end p e h i))
+  -- Past the end of the output.
+  pub going-full : length mid < p → Wrote (rowBytes x f ts cs) o mid pos p × Node x t input state (f .source) given ts ks × Same before state
+  going-full h = (g .goes mid p (wrote-past (rowBytes x f ts (g .rest)) mid p h), g .asks .node, g .same)
 
-    pub goes-on : e ≤ length mid → (after : List ℕ) (d : ℕ) → Wrote w end after e d → Wrote (rowBytes x f ts cs) o after pos d
-    goes-on i after d k = g .goes after d (rw is (wrote-then v w mid end after p e d h i k))
+  -- Bytes v were put out, and what follows them is to be put out.
+  goes-on : (v w : List ℕ) → rowBytes x f ts (g .rest) ≡ v ++ w → (end : List ℕ) (e : ℕ) → Wrote v mid end p e
+      → (after : List ℕ) (d : ℕ) → Wrote w end after e d → Wrote (rowBytes x f ts cs) o after pos d
+  goes-on v w is end e h after d k = g .goes after d (rw is (wrote-then v w mid end after p e d h k))
 
   module _ (more : c < stop) where
     nexts : Next t c stop (f .target) r (g .rest)
@@ -345,70 +300,65 @@ module _ (x : Syntax) (t input ends before state : List ℕ) (deep c stop left :
     next-below = let i = g .asks .row .inside in let j = row-two t c stop (f .target) r (g .rest) (g .asks .row) more in omega arith
 
     -- Bytes of the body are bytes.
-    pub next-narrow : (b i : ℕ) → b ≡ bodyByte t i → c ≤ i → i < stop → b < 256
-    next-narrow b i e h k = let n = g .asks .row .narrow i h k in omega arith
+    pub next-narrow : {b i : ℕ} → b ≡ bodyByte t i → c ≤ i → i < stop → b < 256
+    next-narrow {b} {i} e h k = let n = g .asks .row .narrow i h k in omega arith
 
     -- The rest of the row, behind its next code.
     onward : (state′ : List ℕ) (c′ : ℕ) (us : Codes) (js : List ℕ) → Node x t input state′ (f .source) given ts ks → Row t c′ stop (f .target) r us js
-        → levelsAll us ≤ left → RowAsks x t input ends state′ deep c′ stop left f given ts ks r us js
+        → treeLevel * levelsAll ts + levelsAll us ≤ left → RowAsks x t input ends state′ c′ stop left f given ts ks r us js
     onward state′ c′ us js n w h = record {
       table = g .asks .table;
       kept = g .asks .kept;
       node = n;
       row = w;
       numbers = g .asks .numbers;
-      levels = g .asks .levels;
       most = g .asks .most;
-      within = h;
+      levels = h;
     }
 
-    levels-behind : (a : Terms.Code) (us : Codes) → g .rest ≡ cons a us → (levels a ≤ left) × (levelsAll us ≤ left)
+    levels-behind : (a : Terms.Code) (us : Codes) → g .rest ≡ cons a us
+        → (treeLevel * levelsAll ts + levels a ≤ left) × (treeLevel * levelsAll ts + levelsAll us ≤ left)
     unfolding levels
     levels-behind a us e =
-        let h : levelsAll (cons a us) ≤ left = rw e at (g .asks .within) in
+        let h : treeLevel * levelsAll ts + levelsAll (cons a us) ≤ left = rw e at (g .asks .levels) in
         (omega arith, omega arith)
 
     -- The next code is an argument.
-    module _ (number : ℕ) (en : number ≡ bodyByte t (c + 1)) (is : bodyByte t c ≡ 3) where
+    module _ {number : ℕ} (en : number ≡ bodyByte t (c + 1)) (is : bodyByte t c ≡ 3) where
       numbered : Numbered t c stop (f .target) r (g .rest)
       numbered = nexts .1 is
 
       from-zero : number - 1 ≡ numbered .number
       from-zero = let b = numbered .byte in omega arith
 
-      pub argument-some : 0 < number
-      argument-some = let b = numbered .byte in omega arith
+      pub argument-some : (0 < number) × (treeLevel * levelsAll ts < left)
+      unfolding levels
+      argument-some = let b = numbered .byte in let h = levels-behind _ (numbered .rest) (numbered .is) .0 in (omega arith, omega arith)
 
-      pub argument-asks : ArgumentAsks x t input ends state deep (number - 1) f given ts ks
+      pub argument-asks : ArgumentAsks x t input ends state (left - 1) (number - 1) f given ts ks
       argument-asks = record {
         table = g .asks .table;
         kept = g .asks .kept;
         node = g .asks .node;
-        levels = g .asks .levels;
         most = g .asks .most;
+        levels = let h = argument-some .1 in omega arith;
         number = let i = numbered .inside in let n = g .asks .numbers in let z = from-zero in omega arith;
       }
 
       bytes-number : rowBytes x f ts (g .rest) ≡ bytesOf x (nth (runAll (clausesOf f) ts) (number - 1)) ++ rowBytes x f ts (numbered .rest)
       bytes-number = ap (rowBytes x f ts) (numbered .is) ∙ rw from-zero (row-argument x f ts (numbered .number) (numbered .rest))
 
-      module _ (after end : List ℕ) (e : ℕ) (gives : ArgumentGives x t input ends state after deep (number - 1) mid end p e) where
-        given-argument : Wrote (bytesOf x (nth (runAll (clausesOf f) ts) (number - 1))) mid end p e × Node x t input after (f .source) given ts ks × Same state after
-        given-argument = gives f given ts ks argument-asks
-
-        pub argument-full : length mid < e → Wrote (rowBytes x f ts cs) o end pos e × Node x t input after (f .source) given ts ks × Same before after
-        argument-full h =
-            (goes-full _ (rowBytes x f ts (numbered .rest)) bytes-number end e (given-argument .0) h, given-argument .1, same-then (g .same) (given-argument .2))
-
-        pub argument-turn : e ≤ length mid → Going x t input ends before after deep (c + 2) stop left f given ts ks r cs o end pos e
-        argument-turn h = record {
-          rest = numbered .rest;
-          kinds = numbered .kinds;
-          asks = onward after (c + 2) (numbered .rest) (numbered .kinds) (given-argument .1) (numbered .row)
-              (levels-behind _ (numbered .rest) (numbered .is) .1);
-          same = same-then (g .same) (given-argument .2);
-          goes = goes-on _ (rowBytes x f ts (numbered .rest)) bytes-number end e (given-argument .0) h;
-        }
+      pub argument-turn : {after end : List ℕ} {e : ℕ} → ArgumentGives x t input ends state after (left - 1) (number - 1) mid end p e
+          → Going x t input ends before after (c + 2) stop left f given ts ks r cs o end pos e
+      argument-turn {after} {end} {e} gives =
+          let w = gives f given ts ks argument-asks in
+          record {
+            rest = numbered .rest;
+            kinds = numbered .kinds;
+            asks = onward after (c + 2) (numbered .rest) (numbered .kinds) (w .1) (numbered .row) (levels-behind _ (numbered .rest) (numbered .is) .1);
+            same = same-then (g .same) (w .2);
+            goes = goes-on _ (rowBytes x f ts (numbered .rest)) bytes-number end e (w .0);
+          }
 
     -- The next code is a token.
     module _ (not-name : bodyByte t c ≡ 1 → ⊥) (not-argument : bodyByte t c ≡ 3 → ⊥) where
@@ -421,120 +371,98 @@ module _ (x : Syntax) (t input ends before state : List ℕ) (deep c stop left :
       pub token-room : c + 2 < 4096
       token-room = let i = g .asks .row .inside in let w = valued .room in omega arith
 
-      module _ (high low : ℕ) (eh : high ≡ bodyByte t (c + 1)) (el : low ≡ bodyByte t (c + 2)) where
+      module _ {high low : ℕ} (eh : high ≡ bodyByte t (c + 1)) (el : low ≡ bodyByte t (c + 2)) where
         bytes-token : rowBytes x f ts (g .rest) ≡ (sign (syntaxOf x) 2 ++ high ∷ low ∷ []) ++ rowBytes x f ts (valued .rest)
         bytes-token = ap (rowBytes x f ts) (valued .is) ∙ row-token x f ts (valued .value) high low (valued .rest) (eh ∙ valued .high) (el ∙ valued .low)
 
-        module _ (end : List ℕ) (e : ℕ) (w : Wrote (sign (syntaxOf x) 2 ++ high ∷ low ∷ []) mid end p e) where
-          pub token-full : length mid < e → Wrote (rowBytes x f ts cs) o end pos e × Node x t input state (f .source) given ts ks × Same before state
-          token-full h = (goes-full _ (rowBytes x f ts (valued .rest)) bytes-token end e w h, g .asks .node, g .same)
-
-          pub token-turn : e ≤ length mid → Going x t input ends before state deep (c + 3) stop left f given ts ks r cs o end pos e
-          token-turn h = record {
-            rest = valued .rest;
-            kinds = valued .kinds;
-            asks = onward state (c + 3) (valued .rest) (valued .kinds) (g .asks .node) (valued .row) (levels-behind _ (valued .rest) (valued .is) .1);
-            same = g .same;
-            goes = goes-on _ (rowBytes x f ts (valued .rest)) bytes-token end e w h;
-          }
+        pub token-turn : {end : List ℕ} {e : ℕ} → Wrote (sign (syntaxOf x) 2 ++ high ∷ low ∷ []) mid end p e
+            → Going x t input ends before state (c + 3) stop left f given ts ks r cs o end pos e
+        token-turn {end} {e} w = record {
+          rest = valued .rest;
+          kinds = valued .kinds;
+          asks = onward state (c + 3) (valued .rest) (valued .kinds) (g .asks .node) (valued .row) (levels-behind _ (valued .rest) (valued .is) .1);
+          same = g .same;
+          goes = goes-on _ (rowBytes x f ts (valued .rest)) bytes-token end e w;
+        }
 
     -- The next code is a production.
     module _ (is : bodyByte t c ≡ 1) where
-      pub named : Named t c stop (f .target) r (g .rest)
+      named : Named t c stop (f .target) r (g .rest)
       named = nexts .0 is
 
+      pub named-room : (c + 2 ≤ spanEntry t c) × (spanEntry t c ≤ stop)
+      named-room = (named .ends, named .room)
+
+      inner-levels : treeLevel * levelsAll ts + suc (levelsAll (named .inner)) ≤ left
+      unfolding levels
+      inner-levels = levels-behind _ (named .rest) (named .is) .0
+
       pub named-some : 0 < left
-      unfolding levels
-      named-some = let h = levels-behind _ (named .rest) (named .is) .0 in omega arith
+      named-some = let h = inner-levels in omega arith
 
-      pub named-room : (c + 2 ≤ spanEntry t c) × (spanEntry t c ≤ stop) × (stop ≤ 4096)
-      named-room = (named .ends, named .room, g .asks .row .inside)
+      pub named-asks : {fin : ℕ} → fin ≡ spanEntry t c
+          → (us : Codes) × (js : List ℕ) × RowAsks x t input ends state (c + 2) fin (left - 1) f given ts ks r us js
+      named-asks q = rw q (
+        named .inner,
+        named .innerKinds,
+        record {
+          table = g .asks .table;
+          kept = g .asks .kept;
+          node = g .asks .node;
+          row = named .row;
+          numbers = g .asks .numbers;
+          most = g .asks .most;
+          levels = let h = inner-levels in omega arith;
+        },
+      )
 
-      inner-levels : levelsAll (named .inner) ≤ left - 1
-      unfolding levels
-      inner-levels = let h = levels-behind _ (named .rest) (named .is) .0 in omega arith
-
-      pub named-asks : RowAsks x t input ends state deep (c + 2) (spanEntry t c) (left - 1) f given ts ks r (named .inner) (named .innerKinds)
-      named-asks = record {
-        table = g .asks .table;
-        kept = g .asks .kept;
-        node = g .asks .node;
-        row = named .row;
-        numbers = g .asks .numbers;
-        levels = g .asks .levels;
-        most = g .asks .most;
-        within = inner-levels;
-      }
-
-      pub named-asks-at : (fin : ℕ) → fin ≡ spanEntry t c → RowAsks x t input ends state deep (c + 2) fin (left - 1) f given ts ks r (named .inner) (named .innerKinds)
-      named-asks-at fin q = rw q named-asks
-
-      module _ (name : ℕ) (en : name ≡ bodyByte t (c + 1)) (end : List ℕ) (e : ℕ) (w : Wrote (sign (syntaxOf x) 1 ++ name ∷ []) mid end p e) where
-        rest-bytes : List ℕ
-        rest-bytes = rowBytes x f ts (named .inner) ++ rowBytes x f ts (named .rest)
-
-        bytes-name : rowBytes x f ts (g .rest) ≡ (sign (syntaxOf x) 1 ++ name ∷ []) ++ rest-bytes
-        unfolding rest-bytes
+      module _ {name : ℕ} (en : name ≡ bodyByte t (c + 1)) {end : List ℕ} {e : ℕ} (w : Wrote (sign (syntaxOf x) 1 ++ name ∷ []) mid end p e) where
+        bytes-name : rowBytes x f ts (g .rest) ≡ (sign (syntaxOf x) 1 ++ name ∷ []) ++ (rowBytes x f ts (named .inner) ++ rowBytes x f ts (named .rest))
         bytes-name =
             ap (rowBytes x f ts) (named .is) ∙ rw (en, named .byte) (row-node x f ts (named .kind) (named .name) (named .inner) (named .rest))
 
-        pub named-full : length mid < e → Wrote (rowBytes x f ts cs) o end pos e × Node x t input state (f .source) given ts ks × Same before state
-        named-full h = (goes-full _ rest-bytes bytes-name end e w h, g .asks .node, g .same)
+        -- Nothing is behind it: its inner codes are what is left.
+        pub named-last : spanEntry t c ≡ stop → Going x t input ends before state (c + 2) stop left f given ts ks r cs o end pos e
+        named-last q =
+            let z = row-empty t (spanEntry t c) stop (f .target) r (named .rest) (named .behind) (omega arith) in
+            let y : rowBytes x f ts (named .inner) ++ rowBytes x f ts (named .rest) ≡ rowBytes x f ts (named .inner) =
+            ap (λ (us : Codes). rowBytes x f ts (named .inner) ++ rowBytes x f ts us) z ∙ rw (row-nil x f ts) (append-nil (rowBytes x f ts (named .inner))) in
+            let h = inner-levels in
+            record {
+              rest = named .inner;
+              kinds = named .innerKinds;
+              asks = onward state (c + 2) (named .inner) (named .innerKinds) (g .asks .node) (rw q at (named .row)) (omega arith);
+              same = g .same;
+              goes = λ after d k. goes-on _ _ bytes-name end e w after d (rw y k);
+            }
 
-        module _ (fits : e ≤ length mid) where
-          -- Nothing is behind it.
-          pub named-last : spanEntry t c ≡ stop → Going x t input ends before state deep (c + 2) stop (left - 1) f given ts ks r cs o end pos e
-          unfolding rest-bytes
-          named-last q =
-              let z = row-empty t (spanEntry t c) stop (f .target) r (named .rest) (named .behind) (omega arith) in
-              let y : rest-bytes ≡ rowBytes x f ts (named .inner) =
-              ap (λ (us : Codes). rowBytes x f ts (named .inner) ++ rowBytes x f ts us) z ∙ rw (row-nil x f ts) (append-nil (rowBytes x f ts (named .inner))) in
-              record {
-                rest = named .inner;
-                kinds = named .innerKinds;
-                asks = rw q at named-asks;
-                same = g .same;
-                goes = λ after d k. goes-on _ rest-bytes bytes-name end e w fits after d (rw y k);
-              }
-
-          -- Its inner codes are to be put out next, and then what is behind it.
-          pub named-goes : Going x t input ends before state deep (c + 2) stop left f given ts ks r cs o end pos e
-          unfolding rest-bytes
-          named-goes =
-              let i = inner-levels in
-              let y : rest-bytes ≡ rowBytes x f ts (appended (named .inner) (named .rest)) = sym (row-behind x f ts (named .inner) (named .rest)) in
-              record {
-                rest = appended (named .inner) (named .rest);
-                kinds = named .innerKinds ++ named .kinds;
-                asks = onward state (c + 2) (appended (named .inner) (named .rest)) (named .innerKinds ++ named .kinds) (g .asks .node)
-                    (row-appended t (c + 2) (spanEntry t c) stop (f .target) r (named .inner) (named .rest) (named .row) (named .behind) λ m a b. g .asks .row .narrow m (omega arith) b)
-                    (levels-appended left (named .inner) (named .rest) (omega arith) (levels-behind _ (named .rest) (named .is) .1));
-                same = g .same;
-                goes = λ after d k. goes-on _ rest-bytes bytes-name end e w fits after d (rw y k);
-              }
-
-          -- Its inner codes were put out.
-          module _ (fin : ℕ) (ef : fin ≡ spanEntry t c) (after last : List ℕ) (d : ℕ) (gives : RowGives x t input ends state after deep (c + 2) fin (left - 1) end last e d) where
-            given-row : Wrote (rowBytes x f ts (named .inner)) end last e d × Node x t input after (f .source) given ts ks × Same state after
-            given-row = gives f given ts ks r (named .inner) (named .innerKinds) (named-asks-at fin ef)
-
-            pub inner-full : length end < d → Wrote (rowBytes x f ts cs) o last pos d × Node x t input after (f .source) given ts ks × Same before after
-            unfolding rest-bytes
-            inner-full h = (
-              goes-on _ rest-bytes bytes-name end e w fits last d (wrote-full _ (rowBytes x f ts (named .rest)) end last e d (given-row .0) h),
-              given-row .1,
-              same-then (g .same) (given-row .2),
-            )
-
-            pub inner-turn : d ≤ length end → Going x t input ends before after deep fin stop left f given ts ks r cs o last pos d
-            unfolding rest-bytes
-            inner-turn h = rw ef record {
+        -- Its inner codes were put out.
+        pub inner-turn : {fin : ℕ} → fin ≡ spanEntry t c → {after last : List ℕ} {d : ℕ} → RowGives x t input ends state after (c + 2) fin (left - 1) end last e d
+            → Going x t input ends before after fin stop left f given ts ks r cs o last pos d
+        unfolding named-asks
+        inner-turn {fin} ef {after} {last} {d} gives =
+            let v = gives f given ts ks r _ _ (named-asks ef .2) in
+            rw ef record {
               rest = named .rest;
               kinds = named .kinds;
-              asks = onward after (spanEntry t c) (named .rest) (named .kinds) (given-row .1) (named .behind) (levels-behind _ (named .rest) (named .is) .1);
-              same = same-then (g .same) (given-row .2);
-              goes = λ far m k. goes-on _ rest-bytes bytes-name end e w fits far m (wrote-then _ (rowBytes x f ts (named .rest)) end last far e d m (given-row .0) h k);
+              asks = onward after (spanEntry t c) (named .rest) (named .kinds) (v .1) (named .behind) (levels-behind _ (named .rest) (named .is) .1);
+              same = same-then (g .same) (v .2);
+              goes = λ far m k. goes-on _ _ bytes-name end e w far m (wrote-then _ (rowBytes x f ts (named .rest)) end last far e d m (v .0) k);
             }
+
+-- The end of a production's code that is alone in its row.
+cons-tail : {a b : Terms.Code} {us vs : Codes} → cons a us ≡ cons b vs → us ≡ vs
+cons-tail e = cc
+
+pub root-span : (t : List ℕ) (c stop : ℕ) (l : Language) (r : List ℕ) (a : Terms.Code) (js : List ℕ) → Row t c stop l r (cons a nil) js → c < stop → bodyByte t c ≡ 1
+    → spanEntry t c ≡ stop
+unfolding write
+root-span t c stop l r a js w more is =
+    let n = next t c stop l r w more .0 is in
+    let z : nil ≡ n .rest = cons-tail (n .is) in
+    let e = n .behind .ends in
+    let k : length (writeAll code (n .rest)) ≡ 0 = rw (← z) refl in
+    omega arith
 
 -- A byte of what stands at a position.
 pub stands-nth : (b : List ℕ) (at : ℕ) (v : List ℕ) (i : ℕ) → Stands b at v → i < length v → getD b (at + i) 0 ≡ getD v i 0
@@ -629,8 +557,8 @@ module _ (x : Syntax) (t input state : List ℕ) (l : Language) (given : List �
         ap (λ (n : ℕ). getD t n 0) e ∙ stands-nth t (16448 + getD state 9 0) ks j (h .kinds .stands) i
 
     -- Where the argument ends is kept.
-    pub learnt : (e : ℕ) → e ≡ startOf x state ts j + length (bytesOf x (nth ts j)) → Node x t input (set state (j + 1) e) l given ts ks × Same state (set state (j + 1) e)
-    learnt e q =
+    pub end-kept : (e : ℕ) → e ≡ startOf x state ts j + length (bytesOf x (nth ts j)) → Node x t input (set state (j + 1) e) l given ts ks × Same state (set state (j + 1) e)
+    end-kept e q =
         let f = h .few in
         let nine : getD (set state (j + 1) e) 9 0 ≡ getD state 9 0 = getD-set-other state (j + 1) 9 e 0 (λ z. omega arith) in
         let first : getD (set state (j + 1) e) 0 0 ≡ getD state 0 0 = getD-set-other state (j + 1) 0 e 0 (λ z. omega arith) in (
@@ -779,23 +707,22 @@ pub record Fresh (state : List ℕ) (from start : ℕ) : Type 0 where
   pub starts : getD state 0 0 ≡ start
   pub none : (j : ℕ) → j < 8 → getD state (j + 1) 0 ≡ 0
 
--- The run of a production's term, in the terms of the code.
-module _ (x : Syntax) (t : List ℕ) (f : Translation) (given input : List ℕ) (at : ℕ) (u : Terms.Code) (k : ℕ) (table : Given x t f given) (kind : k < 32)
-    (n : IsNode x f given input at u k) (name : ℕ) (en : name ≡ getD input (at + signLength x) 0) (small : name < 256) where
-  is-name : name ≡ n .name
-  is-name = en ∙ n .byte
+-- A new node.
+pub fresh : (from start : ℕ) → Fresh (set (set (replicate 10 0) 9 from) 0 start) from start
+fresh from start = record { long = refl; kinds = refl; starts = refl; none = by }
+  where
+    by : (j : ℕ) → j < 8 → getD (set (set (replicate 10 0) 9 from) 0 start) (j + 1) 0 ≡ 0
+    by j h =
+        getD-set-other (set (replicate 10 0) 9 from) 0 (j + 1) start 0 (λ z. omega arith)
+        ∙ (getD-set-other (replicate 10 0) 9 (j + 1) from 0 (λ z. omega arith) ∙ getD-replicate 10 (j + 1) 0 0 (omega arith))
 
-  there : argumentsOf (f .source) k name ≡ some (n .kinds)
-  there = rw is-name (n .there)
+-- start_node: the production whose name stands at a position.
+module _ {x : Syntax} {t input : List ℕ} {at k : ℕ} {f : Translation} {given : List ℕ} {u : Terms.Code} (a : NodeAt x t input at k f given u) where
+  is-node : IsNode x f given input at u k
+  is-node = tells x t f given input at u k (a .table) (a .term) .2 (a .inner)
 
-  pub key-below : 32 + (k * 256 + name) < 8224
-  key-below = omega arith
-
-  production : Production t (indexEntry t (productionKey k name)) (n .kinds)
-  production = table .ready .production k name (n .kinds) kind small there
-
-  clause : Clause t (clauseEntry t (productionKey k name)) (clausesOf f k name)
-  clause = table .ready .clause k name (n .kinds) kind small there
+  pub name-inside : at + signLength x < length input
+  name-inside = is-node .inside
 
   name-some : 0 < nameLength x
   name-some = by x
@@ -804,112 +731,143 @@ module _ (x : Syntax) (t : List ℕ) (f : Translation) (given input : List ℕ) 
       by Tree = omega arith
       by Code = omega arith
 
-  pub node-levels : (deep : ℕ) → levels u ≤ deep → (0 < deep) × (levelsAll (n .operands) ≤ deep - 1)
-  unfolding levels
-  node-levels deep h = let w : levels (node k (n .name) (n .operands)) ≤ deep = rw (n .is) at h in (omega arith, omega arith)
+  module _ {name n : ℕ} (es : n ≡ signLength x) (en : name ≡ getD input (at + n) 0) (small : name < 256) where
+    is-name : name ≡ is-node .name
+    is-name = en ∙ (ap (λ (i : ℕ). getD input (at + i) 0) es ∙ is-node .byte)
 
-  module _ (place from : ℕ) (ep : place ≡ indexEntry t (32 + (k * 256 + name))) (ec : from ≡ clauseEntry t (32 + (k * 256 + name))) where
-    at-place : Production t place (n .kinds)
-    at-place = rw ep production
+    there : argumentsOf (f .source) k name ≡ some (is-node .kinds)
+    there = rw is-name (is-node .there)
 
-    at-clause : Clause t from (clausesOf f k name)
-    at-clause = rw ec clause
-
-    pub place-room : place + 4 ≤ 1024
-    place-room = let i = at-place .kinds .inside in omega arith
-
-    pub place-count : (m : ℕ) → m ≡ sourceByte t (place + 1) → (2 ≤ m) × (m - 2 ≡ length (n .kinds)) × (m - 2 ≤ 8)
-    place-count m e = let i = at-place .count in let h = at-place .few in (omega arith, omega arith, omega arith)
-
-    pub clause-room : from + 4 ≤ 4096
-    clause-room = let i = at-clause .inside in omega arith
-
-    module _ (b d : ℕ) (eb : b ≡ bodyByte t from) (ed : d ≡ bodyByte t (from + 1)) where
-      pub clause-size : from + 2 + (b * 256 + d) ≡ from + 4 + length (write code (clausesOf f k name))
-      clause-size =
-          let s = at-clause .size in
-          let q : b * 256 + d ≡ 2 + length (write code (clausesOf f k name)) = rw (eb, ed) s in
-          omega arith
-
-      clause-row : Row t (from + 4) (from + 2 + (b * 256 + d)) (f .target) (mappedArguments f k name) (cons (clausesOf f k name) nil) (mapped (f .body) k ∷ [])
-      unfolding write SpansAt
-      clause-row =
-          let z = append-nil (write code (clausesOf f k name)) in
-          record {
-            typed = typed-cons (table .ready .typed k name (n .kinds) kind small there) typed-nil;
-            stands = rw z (at-clause .stands);
-            spans = (at-clause .spans, tt);
-            ends = rw z clause-size;
-            inside = let i = at-clause .inside in let e = clause-size in omega arith;
-            narrow = λ m h k. let e = clause-size in at-clause .narrow m h (omega arith);
-          }
-
-      numbers : length (mappedArguments f k name) ≡ length (n .kinds)
-      numbers = ap length (mapped-arguments f k name (n .kinds) there) ∙ length-map (n .kinds) (mapped (f .body))
-
-      module _ (state : List ℕ) (fresh : Fresh state (place + 4) (at + nameLength x)) where
-        fresh-node : Node x t input state (f .source) given (n .operands) (n .kinds)
-        fresh-node = record {
-          long = fresh .long;
-          kinds = rw (fresh .kinds) (at-place .kinds);
-          few = at-place .few;
-          typed = n .typed;
-          stands = rw (fresh .starts) (n .stands);
-          some = rw (fresh .starts) (let i = name-some in omega arith);
-          known = λ j h. inl (fresh .none j h);
+    pub started : {place from m : ℕ} {before : List ℕ} → place ≡ indexEntry t (32 + (k * 256 + name)) → from ≡ clauseEntry t (32 + (k * 256 + name)) → m ≡ nameLength x
+        → before ≡ replicate 10 0 → Started x t input (set (set before 9 (place + 4)) 0 (at + m)) at from f given u
+    unfolding levels run
+    started {place} {from} {m} {before} ep ec em eb =
+        let i = is-node in
+        let production : Production t place (i .kinds) = rw ep (a .table .ready .production k name (i .kinds) (a .term .kind) small there) in
+        let clause : Clause t from (clausesOf f k name) = rw ec (a .table .ready .clause k name (i .kinds) (a .term .kind) small there) in
+        let new : Fresh (set (set before 9 (place + 4)) 0 (at + m)) (place + 4) (at + nameLength x) = rw (eb, ← em) (fresh (place + 4) (at + m)) in
+        let count = production .count in
+        let back : place + 4 - 3 ≡ place + 1 = omega arith in
+        let long = i .long in
+        let first = new .starts in
+        record {
+          operands = i .operands;
+          kinds = i .kinds;
+          arguments = mappedArguments f k name;
+          body = clausesOf f k name;
+          result = mapped (f .body) k;
+          node = record {
+            long = new .long;
+            kinds = rw (new .kinds) (production .kinds);
+            few = production .few;
+            typed = i .typed;
+            stands = rw first (i .stands);
+            some = rw first (let s = name-some in omega arith);
+            known = λ j h. inl (new .none j h);
+          };
+          clause = clause;
+          typed = a .table .ready .typed k name (i .kinds) (a .term .kind) small there;
+          numbers = ap length (mapped-arguments f k name (i .kinds) there) ∙ length-map (i .kinds) (mapped (f .body));
+          runs = ap (run (clausesOf f)) (i .is) ∙ ap (λ (n : ℕ). substitute (runAll (clausesOf f) (i .operands)) (clausesOf f k n)) (sym is-name);
+          deep = ap levels (i .is);
+          ends = omega arith;
+          from = rw (new .kinds) (omega arith);
+          count = rw (new .kinds, back) count;
         }
 
-        module _ (deep : ℕ) (less : levels u ≤ deep) (most : deep ≤ 64) (ends : List ℕ) (kept : Right x ends input (f .source) given) where
-          pub clause-asks : RowAsks x t input ends state (deep - 1) (from + 4) (from + 2 + (b * 256 + d)) 16 f given (n .operands) (n .kinds)
-              (mappedArguments f k name) (cons (clausesOf f k name) nil) (mapped (f .body) k ∷ [])
-          unfolding levels
-          clause-asks = record {
-            table = table;
-            kept = kept;
-            node = fresh-node;
-            row = clause-row;
-            numbers = numbers;
-            levels = node-levels deep less .1;
-            most = omega arith;
-            within = let h = at-clause .within in omega arith;
-          }
+-- run_node: the code of a clause.
+module _ {x : Syntax} {t input ends state : List ℕ} {at k left place stop : ℕ} {f : Translation} {given : List ℕ} {u : Terms.Code}
+    (a : NodeAsks x t input ends at k left f given u) (s : Started x t input state at place f given u) (es : stop ≡ clauseEnd t place) where
+  pub node-some : 0 < left
+  node-some = let l = a .levels in let d = s .deep in omega arith
 
-          module _ (after o end : List ℕ) (pos e : ℕ) (gives : RowGives x t input ends state after (deep - 1) (from + 4) (from + 2 + (b * 256 + d)) 16 o end pos e) where
-            given-clause : Wrote (rowBytes x f (n .operands) (cons (clausesOf f k name) nil)) o end pos e × Node x t input after (f .source) given (n .operands) (n .kinds) × Same state after
-            given-clause = gives f given (n .operands) (n .kinds) (mappedArguments f k name) (cons (clausesOf f k name) nil) (mapped (f .body) k ∷ []) clause-asks
+  clause-size : stop ≡ place + 4 + length (write code (s .body))
+  clause-size = let z = s .clause .size in omega arith
 
-            run-is : rowBytes x f (n .operands) (cons (clausesOf f k name) nil) ≡ bytesOf x (run (clausesOf f) u)
-            unfolding run
-            run-is =
-                let q : clausesOf f k name ≡ clausesOf f k (n .name) = ap (clausesOf f k) is-name in
-                row-one x f (n .operands) (clausesOf f k name)
-                ∙ (ap (λ (a : Terms.Code). bytesOf x (substitute (runAll (clausesOf f) (n .operands)) a)) q
-                ∙ ap (λ (a : Terms.Code). bytesOf x (run (clausesOf f) a)) (sym (n .is)))
+  code-some : (c : Terms.Code) → 0 < length (write code c)
+  unfolding write
+  code-some (node k p ts) = omega arith
+  code-some (token v) = omega arith
+  code-some (argument i) = omega arith
 
-            pub node-wrote : Wrote (bytesOf x (run (clausesOf f) u)) o end pos e
-            node-wrote = rw (← run-is) (given-clause .0)
+  pub clause-more : place + 4 < stop
+  clause-more = let z = clause-size in let y = code-some (s .body) in omega arith
 
-            pub node-after : Node x t input after (f .source) given (n .operands) (n .kinds)
-            node-after = given-clause .1
+  clause-row : Row t (place + 4) stop (f .target) (s .arguments) (cons (s .body) nil) (s .result ∷ [])
+  unfolding write SpansAt
+  clause-row =
+      let z = append-nil (write code (s .body)) in
+      let e = clause-size in
+      let i = s .clause .inside in
+      record {
+        typed = typed-cons (s .typed) typed-nil;
+        stands = rw z (s .clause .stands);
+        spans = (s .clause .spans, tt);
+        ends = rw z e;
+        inside = omega arith;
+        narrow = λ m h y. s .clause .narrow m h (omega arith);
+      }
 
-            -- Where the term ends: at the end of its last argument.
-            pub node-find : (m : ℕ) → m ≡ sourceByte t (place + 1) → FindAsks x t input ends after (m - 2) f given (n .operands) (n .kinds)
-            node-find m em =
-                let c = place-count m em in
-                let l = node-levels deep less in
-                record { table = table; kept = kept; node = node-after; levels = omega (arith, l .1); number = omega (arith, c .1) }
+  clause-asks : RowAsks x t input ends state (place + 4) stop (left - 1) f given (s .operands) (s .kinds) (s .arguments) (cons (s .body) nil) (s .result ∷ [])
+  unfolding levels
+  clause-asks = record {
+    table = a .there .table;
+    kept = a .kept;
+    node = s .node;
+    row = clause-row;
+    numbers = s .numbers;
+    most = let m = a .most in let d = s .deep in omega arith;
+    levels = let l = a .levels in let d = s .deep in let w = s .clause .within in omega arith;
+  }
 
-            pub node-end : (m : ℕ) → m ≡ sourceByte t (place + 1) → startOf x after (n .operands) (m - 2) ≡ at + length (bytesOf x u)
-            node-end m em =
-                let c = place-count m em in
-                let s = given-clause .2 .start ∙ fresh .starts in
-                let l = n .long in
-                rw (c .1) (last-end x t input after (f .source) given (n .operands) (n .kinds) node-after ∙ omega (arith, s))
+  -- The clause's code, of which so much is put out.
+  abbrev pub NodeGoing : ℕ → List ℕ → List ℕ → ℕ → ℕ → Type 0
+  NodeGoing c o mid pos p =
+      Going x t input ends state state c stop (left - 1) f given (s .operands) (s .kinds) (s .arguments) (cons (s .body) nil) o mid pos p
 
-            pub node-known : (m : ℕ) → m ≡ sourceByte t (place + 1) → (knownStart after (m - 2) ≡ 0 → ⊥) → knownStart after (m - 2) ≡ at + length (bytesOf x u)
-            node-known m em h =
-                let c = place-count m em in
-                known-start x t input after (f .source) given (n .operands) (n .kinds) node-after (m - 2) (omega (arith, c .1)) h ∙ node-end m em
+  pub node-going : (o : List ℕ) (pos : ℕ) → NodeGoing (place + 4) o o pos pos
+  node-going o pos = going-start x t input ends state (place + 4) stop (left - 1) o pos f given _ _ _ _ _ clause-asks
+
+  pub root-narrow : {b : ℕ} → b ≡ bodyByte t (place + 4 + 1) → b < 256
+  root-narrow e = let g = node-going [] 0 in next-narrow g clause-more e (omega arith) (next-two g clause-more)
+
+  pub root-room : place + 4 + 1 < 4096
+  root-room = next-below (node-going [] 0) clause-more
+
+  pub root-going : {o mid : List ℕ} {pos p name : ℕ} → bodyByte t (place + 4) ≡ 1 → name ≡ bodyByte t (place + 4 + 1) → Wrote (sign (syntaxOf x) 1 ++ name ∷ []) o mid pos p
+      → NodeGoing (place + 4 + 2) o mid pos p
+  root-going {o} {pos = pos} is en w =
+      named-last (node-going o pos) clause-more is en w
+      (root-span t (place + 4) stop (f .target) (s .arguments) (s .body) (s .result ∷ []) clause-row clause-more is)
+
+  -- The same, written in another way.
+  pub going-as : {c c′ : ℕ} {o mid mid′ : List ℕ} {pos p p′ : ℕ} → mid ≡ mid′ → c ≡ c′ → p ≡ p′ → NodeGoing c′ o mid′ pos p′ → NodeGoing c o mid pos p
+  going-as em ec ep g = rw (em, ec, ep) g
+
+  run-is : rowBytes x f (s .operands) (cons (s .body) nil) ≡ bytesOf x (run (clausesOf f) u)
+  run-is = row-one x f (s .operands) (s .body) ∙ ap (bytesOf x) (sym (s .runs))
+
+  -- Its codes were put out.
+  module _ {c : ℕ} {o mid : List ℕ} {pos p : ℕ} (g : NodeGoing c o mid pos p) {after end : List ℕ} {e : ℕ} (gives : RowGives x t input ends state after c stop (left - 1) mid end p e) where
+    given-codes : Wrote (rowBytes x f (s .operands) (g .rest)) mid end p e × Node x t input after (f .source) given (s .operands) (s .kinds) × Same state after
+    given-codes = gives f given _ _ _ _ _ (g .asks)
+
+    pub node-wrote : Wrote (bytesOf x (run (clausesOf f) u)) o end pos e
+    node-wrote = rw (← run-is) (g .goes end e (given-codes .0))
+
+    pub last-asks : LastAsks x t input ends after f given (s .operands) (s .kinds)
+    last-asks =
+        let z = given-codes .2 .from in
+        let m = a .most in
+        let d = s .deep in
+        record {
+          asks = record { table = a .there .table; kept = a .kept; node = given-codes .1; levels = omega arith; number = omega arith };
+          from = rw z (s .from);
+          count = rw z (s .count);
+        }
+
+    pub node-end : {r : ℕ} → r ≡ getD after 0 0 + length (allBytes x (s .operands)) → r ≡ at + length (bytesOf x u)
+    node-end e′ = let z = given-codes .2 .start in let y = s .ends in omega arith
 
 -- What finding the start of an argument gives.
 abbrev pub FindGives : (x : Syntax) (t input ends before after : List ℕ) (j e : ℕ) → Type 0
@@ -917,22 +875,45 @@ FindGives x t input ends before after j e =
     (f : Translation) (given : List ℕ) (ts : Codes) (ks : List ℕ) → FindAsks x t input ends before j f given ts ks
     → (e ≡ getD before 0 0 + length (allBytes x (front j ts))) × Node x t input after (f .source) given ts ks × Same before after
 
+-- last_end
+module _ {x : Syntax} {t input ends state : List ℕ} {f : Translation} {given : List ℕ} {ts : Codes} {ks : List ℕ} (a : LastAsks x t input ends state f given ts ks) where
+  module _ {n : ℕ} (en : n ≡ sourceByte t (getD state 9 0 - 3)) where
+    last-number : n - 2 ≡ length ks
+    last-number = let c = a .count in omega arith
+
+    pub last-find : FindAsks x t input ends state (n - 2) f given ts ks
+    last-find = rw last-number (a .asks)
+
+    pub last-known : {e : ℕ} → e ≡ knownStart state (n - 2) → (e ≡ 0 → ⊥) → e ≡ getD state 0 0 + length (allBytes x ts)
+    last-known ee h =
+        let c = last-number in
+        ee ∙ (known-start x t input state (f .source) given ts ks (a .asks .node) (n - 2) (omega arith) (λ z. h (ee ∙ z))
+        ∙ (ap (startOf x state ts) last-number ∙ last-end x t input state (f .source) given ts ks (a .asks .node)))
+
+    pub last-found : {after : List ℕ} {e : ℕ} → FindGives x t input ends state after (n - 2) e → e ≡ getD state 0 0 + length (allBytes x ts)
+    last-found gives =
+        gives f given ts ks last-find .0 ∙ (ap (startOf x state ts) last-number ∙ last-end x t input state (f .source) given ts ks (a .asks .node))
+
 -- The start of argument j is found.
 pub record Found (x : Syntax) (t input before state : List ℕ) (j at : ℕ) (f : Translation) (given : List ℕ) (ts : Codes) (ks : List ℕ) : Type 0 where
   pub node : Node x t input state (f .source) given ts ks
   pub same : Same before state
   pub start : at ≡ startOf x state ts j
 
-module _ (x : Syntax) (t input ends before : List ℕ) (deep j : ℕ) (f : Translation) (given : List ℕ) (ts : Codes) (ks : List ℕ) (a : ArgumentAsks x t input ends before deep j f given ts ks) where
+-- What the run of a production's term gives.
+abbrev pub NodeGives : (x : Syntax) (t input ends before after : List ℕ) (at k left j : ℕ) (o end : List ℕ) (pos e : ℕ) → Type 0
+NodeGives x t input ends before after at k left j o end pos e =
+    (f : Translation) (given : List ℕ) (u : Terms.Code) → NodeAsks x t input ends at k left f given u
+    → Wrote (bytesOf x (run (clausesOf f) u)) o end pos e × (after ≡ set before (j + 1) (at + length (bytesOf x u)))
+
+module _ {x : Syntax} {t input ends before : List ℕ} {left j : ℕ} {f : Translation} {given : List ℕ} {ts : Codes} {ks : List ℕ} (a : ArgumentAsks x t input ends before left j f given ts ks) where
   pub find-asks : FindAsks x t input ends before j f given ts ks
   find-asks =
-      let l = a .levels in
-      let m = a .most in
       let n = a .number in
-      record { table = a .table; kept = a .kept; node = a .node; levels = omega arith; number = omega arith }
+      record { table = a .table; kept = a .kept; node = a .node; levels = a .most; number = omega arith }
 
-  pub found-known : (state : List ℕ) (at k : ℕ) → k ≡ knownStart before j → (k ≡ 0 → ⊥) → state ≡ before → at ≡ k → Found x t input before state j at f given ts ks
-  found-known state at k e h es ea =
+  pub found-known : {state : List ℕ} {at k : ℕ} → k ≡ knownStart before j → (k ≡ 0 → ⊥) → state ≡ before → at ≡ k → Found x t input before state j at f given ts ks
+  found-known e h es ea =
       let n = a .number in
       rw es record {
         node = a .node;
@@ -940,8 +921,8 @@ module _ (x : Syntax) (t input ends before : List ℕ) (deep j : ℕ) (f : Trans
         start = ea ∙ (e ∙ known-start x t input before (f .source) given ts ks (a .node) j (omega arith) (λ z. h (e ∙ z)));
       }
 
-  pub found-find : (state after : List ℕ) (at k : ℕ) → FindGives x t input ends before after j k → state ≡ after → at ≡ k → Found x t input before state j at f given ts ks
-  found-find state after at k gives es ea =
+  pub found-find : {state after : List ℕ} {at k : ℕ} → FindGives x t input ends before after j k → state ≡ after → at ≡ k → Found x t input before state j at f given ts ks
+  found-find gives es ea =
       let w = gives f given ts ks find-asks in
       rw es record {
         node = w .1;
@@ -950,7 +931,7 @@ module _ (x : Syntax) (t input ends before : List ℕ) (deep j : ℕ) (f : Trans
       }
 
   -- The term that starts there.
-  module _ (state : List ℕ) (at : ℕ) (d : Found x t input before state j at f given ts ks) (kind : ℕ) (ek : kind ≡ sourceByte t (getD state 9 0 + j)) where
+  module _ {state : List ℕ} {at : ℕ} (d : Found x t input before state j at f given ts ks) {kind : ℕ} (ek : kind ≡ sourceByte t (getD state 9 0 + j)) where
     found-term : Term x input at (f .source) given (nth ts j) kind
     found-term =
         let q : kind ≡ getD ks j 0 = ek ∙ argument-kind x t input state (f .source) given ts ks (d .node) j (a .number) in
@@ -962,123 +943,59 @@ module _ (x : Syntax) (t input ends before : List ℕ) (deep j : ℕ) (f : Trans
     pub found-below : (kind < 32) × (at < length input)
     found-below = (found-term .kind, found-tells .0)
 
-    found-levels : levels (nth ts j) ≤ deep
-    found-levels =
-        let l = argument-levels x t input state (f .source) given ts ks (d .node) j (a .number) in
-        let m = a .levels in
-        omega arith
+    found-levels : levels (nth ts j) ≤ levelsAll ts
+    found-levels = argument-levels x t input state (f .source) given ts ks (d .node) j (a .number)
 
     found-run : bytesOf x (nth (runAll (clausesOf f) ts) j) ≡ bytesOf x (run (clausesOf f) (nth ts j))
     found-run = ap (bytesOf x) (nth-run x (f .source) given f j (d .node .typed) (a .number))
 
-    found-learnt : (e : ℕ) → e ≡ at + length (bytesOf x (nth ts j)) → Node x t input (set state (j + 1) e) (f .source) given ts ks × Same before (set state (j + 1) e)
-    found-learnt e q =
-        let w = learnt x t input state (f .source) given ts ks (d .node) j (a .number) e (q ∙ ap (λ (n : ℕ). n + length (bytesOf x (nth ts j))) (d .start)) in
+    found-kept : (e : ℕ) → e ≡ at + length (bytesOf x (nth ts j)) → Node x t input (set state (j + 1) e) (f .source) given ts ks × Same before (set state (j + 1) e)
+    found-kept e q =
+        let w = end-kept x t input state (f .source) given ts ks (d .node) j (a .number) e (q ∙ ap (λ (n : ℕ). n + length (bytesOf x (nth ts j))) (d .start)) in
         (w .0, same-then (d .same) (w .1))
 
     -- A leaf.
-    module _ (is : leafAt x t kind input at ≡ true) (n : ℕ) (en : n ≡ leafLength x input at) where
+    module _ (is : leafAt x t kind input at ≡ true) {n : ℕ} (en : n ≡ leafLength x input at) where
       leaf-long : n ≡ length (bytesOf x (nth ts j))
       leaf-long = en ∙ found-tells .1 is .0
 
       pub leaf-room : at + n ≤ length input
       leaf-room = let i = found-term .stands .inside in let l = leaf-long in omega arith
 
-      pub leaf-gives : (o end : List ℕ) (pos e : ℕ) → Wrote (slice at (at + n) input) o end pos e
+      pub leaf-gives : {o end : List ℕ} {pos e : ℕ} → Wrote (slice at (at + n) input) o end pos e
           → Wrote (bytesOf x (nth (runAll (clausesOf f) ts) j)) o end pos e × Node x t input (set state (j + 1) (at + n)) (f .source) given ts ks × Same before (set state (j + 1) (at + n))
-      leaf-gives o end pos e w =
-          let l = found-learnt (at + n) (ap (λ (m : ℕ). at + m) leaf-long) in
+      leaf-gives w =
+          let l = found-kept (at + n) (ap (λ (m : ℕ). at + m) leaf-long) in
           let b : bytesOf x (nth (runAll (clausesOf f) ts) j) ≡ slice at (at + n) input =
           found-run ∙ (ap (bytesOf x) (found-tells .1 is .1) ∙ sym (stands-slice input at n (bytesOf x (nth ts j)) leaf-long (found-term .stands))) in
           (rw b w, l .0, l .1)
 
     -- A production.
     module _ (is : leafAt x t kind input at ≡ false) where
-      found-node : IsNode x f given input at (nth ts j) kind
-      found-node = found-tells .2 is
+      some-levels : 0 < levels (nth ts j)
+      unfolding levels
+      some-levels = let n = found-tells .2 is .is in let z : levels (nth ts j) ≡ suc (levelsAll (found-tells .2 is .operands)) = rw n refl in omega arith
 
-      pub name-inside : at + signLength x < length input
-      name-inside = found-node .inside
+      pub found-some : 0 < left
+      found-some = let l = a .levels in let m = found-levels in let z = some-levels in omega arith
 
-      pub name-room : at + nameLength x ≤ length input
-      name-room = let i = found-node .stands .inside in omega arith
+      pub found-asks : NodeAsks x t input ends at kind (left - 1) f given (nth ts j)
+      found-asks =
+          let l = a .levels in
+          let m = found-levels in
+          let h = a .most in
+          let z = found-some in
+          record { there = record { table = a .table; term = found-term; inner = is }; kept = a .kept; most = omega arith; levels = omega arith }
 
-      module _ (name : ℕ) (en : name ≡ getD input (at + signLength x) 0) (small : name < 256) where
-        pub found-key : 32 + (kind * 256 + name) < 8224
-        found-key = key-below x t f given input at (nth ts j) kind (a .table) (found-term .kind) found-node name en small
-
-        module _ (place from : ℕ) (ep : place ≡ indexEntry t (32 + (kind * 256 + name))) (ec : from ≡ clauseEntry t (32 + (kind * 256 + name))) where
-          pub found-clause : from + 4 ≤ 4096
-          found-clause = clause-room x t f given input at (nth ts j) kind (a .table) (found-term .kind) found-node name en small place from ep ec
-
-          pub found-place : place + 4 ≤ 1024
-          found-place = place-room x t f given input at (nth ts j) kind (a .table) (found-term .kind) found-node name en small place from ep ec
-
-          pub found-count : (m : ℕ) → m ≡ sourceByte t (place + 1) → (2 ≤ m) × (m - 2 ≤ 8)
-          found-count m em =
-              let w = place-count x t f given input at (nth ts j) kind (a .table) (found-term .kind) found-node name en small place from ep ec m em in
-              (w .0, w .2)
-
-          pub found-deep : 0 < deep
-          found-deep = node-levels x t f given input at (nth ts j) kind (a .table) (found-term .kind) found-node name en small deep found-levels .0
-
-          module _ (b c : ℕ) (eb : b ≡ bodyByte t from) (ed : c ≡ bodyByte t (from + 1)) (inner : List ℕ) (fresh : Fresh inner (place + 4) (at + nameLength x)) where
-            pub found-asks : (ts′ : Codes) × (ks′ r : List ℕ) × (cs : Codes) × (js : List ℕ) × RowAsks x t input ends inner (deep - 1) (from + 4) (from + 2 + (b * 256 + c)) 16 f given ts′ ks′ r cs js
-            found-asks = (
-              found-node .operands,
-              found-node .kinds,
-              mappedArguments f kind name,
-              cons (clausesOf f kind name) nil,
-              mapped (f .body) kind ∷ [],
-              clause-asks x t f given input at (nth ts j) kind (a .table) (found-term .kind) found-node name en small place from ep ec b c eb ed inner fresh deep found-levels (a .most) ends (a .kept),
-            )
-
-            module _ (after o end : List ℕ) (pos e : ℕ) (gives : RowGives x t input ends inner after (deep - 1) (from + 4) (from + 2 + (b * 256 + c)) 16 o end pos e) where
-              found-wrote : Wrote (bytesOf x (nth (runAll (clausesOf f) ts) j)) o end pos e
-              found-wrote =
-                  rw found-run (node-wrote x t f given input at (nth ts j) kind (a .table) (found-term .kind) found-node name en small place from ep ec b c eb ed inner fresh deep found-levels (a .most) ends (a .kept) after o end pos e gives)
-
-              module _ (m : ℕ) (em : m ≡ sourceByte t (place + 1)) where
-                pub last-asks : (ts′ : Codes) × (ks′ : List ℕ) × FindAsks x t input ends after (m - 2) f given ts′ ks′
-                last-asks = (
-                  found-node .operands,
-                  found-node .kinds,
-                  node-find x t f given input at (nth ts j) kind (a .table) (found-term .kind) found-node name en small place from ep ec b c eb ed inner fresh deep found-levels (a .most) ends (a .kept) after o end pos e gives m em,
-                )
-
-                last-end-is : startOf x after (found-node .operands) (m - 2) ≡ at + length (bytesOf x (nth ts j))
-                last-end-is = node-end x t f given input at (nth ts j) kind (a .table) (found-term .kind) found-node name en small place from ep ec b c eb ed inner fresh deep found-levels (a .most) ends (a .kept) after o end pos e gives m em
-
-                pub last-known : (fin k : ℕ) → k ≡ knownStart after (m - 2) → (k ≡ 0 → ⊥) → fin ≡ k → fin ≡ at + length (bytesOf x (nth ts j))
-                last-known fin k ek h ef =
-                    ef ∙ (ek ∙ node-known x t f given input at (nth ts j) kind (a .table) (found-term .kind) found-node name en small place from ep ec b c eb ed inner fresh deep found-levels (a .most) ends (a .kept) after o end pos e gives m em (λ z. h (ek ∙ z)))
-
-                pub last-find : (fin k : ℕ) (after′ : List ℕ) → FindGives x t input ends after after′ (m - 2) k → fin ≡ k → fin ≡ at + length (bytesOf x (nth ts j))
-                unfolding found-node last-asks
-                last-find fin k after′ finds ef = ef ∙ (finds f given (found-node .operands) (found-node .kinds) (last-asks .2) .0 ∙ last-end-is)
-
-                pub found-done : (fin : ℕ) → fin ≡ at + length (bytesOf x (nth ts j))
-                    → Wrote (bytesOf x (nth (runAll (clausesOf f) ts) j)) o end pos e × Node x t input (set state (j + 1) fin) (f .source) given ts ks × Same before (set state (j + 1) fin)
-                found-done fin q = let l = found-learnt fin q in (found-wrote, l .0, l .1)
-
--- A new node.
-pub fresh : (from start : ℕ) → Fresh (set (set (replicate 10 0) 9 from) 0 start) from start
-fresh from start = record { long = refl; kinds = refl; starts = refl; none = by }
-  where
-    by : (j : ℕ) → j < 8 → getD (set (set (replicate 10 0) 9 from) 0 start) (j + 1) 0 ≡ 0
-    by j h =
-        getD-set-other (set (replicate 10 0) 9 from) 0 (j + 1) start 0 (λ z. omega arith)
-        ∙ (getD-set-other (replicate 10 0) 9 (j + 1) from 0 (λ z. omega arith) ∙ getD-replicate 10 (j + 1) 0 0 (omega arith))
-
-pub fresh-at : (from start start′ : ℕ) → start ≡ start′ → Fresh (set (set (replicate 10 0) 9 from) 0 start) from start′
-fresh-at from start start′ e = subst (λ (n : ℕ). Fresh (set (set (replicate 10 0) 9 from) 0 start) from n) e (fresh from start)
-
--- A byte behind a sign.
-pub behind-sign : (input : List ℕ) (at name n m : ℕ) → name ≡ getD input (at + n) 0 → n ≡ m → name ≡ getD input (at + m) 0
-behind-sign input at name n m e q = e ∙ ap (λ (i : ℕ). getD input (at + i) 0) q
+      pub found-gives : {after o end : List ℕ} {pos e : ℕ} → NodeGives x t input ends state after at kind (left - 1) j o end pos e
+          → Wrote (bytesOf x (nth (runAll (clausesOf f) ts) j)) o end pos e × Node x t input after (f .source) given ts ks × Same before after
+      found-gives gives =
+          let w = gives f given (nth ts j) found-asks in
+          let l = found-kept (at + length (bytesOf x (nth ts j))) refl in
+          (rw found-run (w .0), rw (w .1) (l .0), rw (w .1) (l .1))
 
 -- The run of a whole term.
-module _ (x : Syntax) (t input ends : List ℕ) (deep k : ℕ) (f : Translation) (given : List ℕ) (u : Terms.Code) (a : TermAsks x t input ends deep k f given u) where
+module _ {x : Syntax} {t input ends : List ℕ} {deep k : ℕ} {f : Translation} {given : List ℕ} {u : Terms.Code} (a : TermAsks x t input ends deep k f given u) where
   term-tells : (0 < length input) × (leafAt x t k input 0 ≡ true → IsLeaf x f input 0 u) × (leafAt x t k input 0 ≡ false → IsNode x f given input 0 u k)
   term-tells = tells x t f given input 0 u k (a .table) (a .term)
 
@@ -1089,55 +1006,25 @@ module _ (x : Syntax) (t input ends : List ℕ) (deep k : ℕ) (f : Translation)
   unfolding transform
   transform-run = refl
 
-  module _ (is : leafAt x t k input 0 ≡ true) (n : ℕ) (en : n ≡ leafLength x input 0) where
+  module _ (is : leafAt x t k input 0 ≡ true) {n : ℕ} (en : n ≡ leafLength x input 0) where
     term-long : n ≡ length (bytesOf x u)
     term-long = en ∙ term-tells .1 is .0
 
     pub term-room : 0 + n ≤ length input
     term-room = let i = a .term .stands .inside in let l = term-long in omega arith
 
-    pub term-leaf : (o end : List ℕ) (pos e : ℕ) → Wrote (slice 0 (0 + n) input) o end pos e → Wrote (bytesOf x (transform f u)) o end pos e
-    term-leaf o end pos e w =
+    pub term-leaf : {o end : List ℕ} {pos e : ℕ} → Wrote (slice 0 (0 + n) input) o end pos e → Wrote (bytesOf x (transform f u)) o end pos e
+    term-leaf w =
         let b : bytesOf x (transform f u) ≡ slice 0 (0 + n) input =
         transform-run ∙ (ap (bytesOf x) (term-tells .1 is .1) ∙ sym (stands-slice input 0 n (bytesOf x u) term-long (a .term .stands))) in
         rw b w
 
   module _ (is : leafAt x t k input 0 ≡ false) where
-    term-node : IsNode x f given input 0 u k
-    term-node = term-tells .2 is
+    pub term-asks : NodeAsks x t input ends 0 k (treeLevel * deep) f given u
+    term-asks =
+        let l = a .levels in
+        let m = a .most in
+        record { there = record { table = a .table; term = a .term; inner = is }; kept = a .kept; most = omega arith; levels = omega arith }
 
-    pub term-inside : (n : ℕ) → n ≡ signLength x → n < length input
-    term-inside n e = let i = term-node .inside in omega arith
-
-    module _ (n name : ℕ) (es : n ≡ signLength x) (en : name ≡ getD input n 0) (small : name < 256) where
-      term-name : name ≡ getD input (0 + signLength x) 0
-      term-name = let z : n ≡ 0 + signLength x = omega arith in en ∙ ap (λ (i : ℕ). getD input i 0) z
-
-      pub term-key : 32 + (k * 256 + name) < 8224
-      term-key = key-below x t f given input 0 u k (a .table) (a .term .kind) term-node name term-name small
-
-      pub term-deep : 0 < deep
-      term-deep = node-levels x t f given input 0 u k (a .table) (a .term .kind) term-node name term-name small deep (a .levels) .0
-
-      module _ (place from : ℕ) (ep : place ≡ indexEntry t (32 + (k * 256 + name))) (ec : from ≡ clauseEntry t (32 + (k * 256 + name))) where
-        pub term-clause : from + 4 ≤ 4096
-        term-clause = clause-room x t f given input 0 u k (a .table) (a .term .kind) term-node name term-name small place from ep ec
-
-        module _ (b c : ℕ) (eb : b ≡ bodyByte t from) (ed : c ≡ bodyByte t (from + 1)) (inner : List ℕ) (made : Fresh inner (place + 4) (0 + nameLength x)) where
-          pub term-asks : (ts : Codes) × (ks r : List ℕ) × (cs : Codes) × (js : List ℕ) × RowAsks x t input ends inner (deep - 1) (from + 4) (from + 2 + (b * 256 + c)) 16 f given ts ks r cs js
-          term-asks = (
-            term-node .operands,
-            term-node .kinds,
-            mappedArguments f k name,
-            cons (clausesOf f k name) nil,
-            mapped (f .body) k ∷ [],
-            clause-asks x t f given input 0 u k (a .table) (a .term .kind) term-node name term-name small place from ep ec b c eb ed inner made deep (a .levels) (a .most) ends (a .kept),
-          )
-
-          pub term-gives : (after o end : List ℕ) (pos e : ℕ) → RowGives x t input ends inner after (deep - 1) (from + 4) (from + 2 + (b * 256 + c)) 16 o end pos e
-              → Wrote (bytesOf x (transform f u)) o end pos e
-          term-gives after o end pos e gives =
-              rw transform-run (node-wrote x t f given input 0 u k (a .table) (a .term .kind) term-node name term-name small place from ep ec b c eb ed inner made deep (a .levels) (a .most) ends (a .kept) after o end pos e gives)
-
-pub fresh-first : (from n m : ℕ) → n ≡ m → Fresh (set (set (replicate 10 0) 9 from) 0 n) from (0 + m)
-fresh-first from n m e = let z : n ≡ 0 + m = omega arith in fresh-at from n (0 + m) z
+  pub term-gives : {o end : List ℕ} {pos e : ℕ} → Wrote (bytesOf x (run (clausesOf f) u)) o end pos e → Wrote (bytesOf x (transform f u)) o end pos e
+  term-gives w = rw transform-run w

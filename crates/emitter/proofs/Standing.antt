@@ -6,11 +6,13 @@ use native.Mathlib.Nat.{add-assoc, add-zero}
 use native.Mathlib.Omega.{arith}
 use lib.ListN.{length, getD, take, drop, length-append, length-drop, take-append-drop}
 use lib.Dec.{leb}
-use lib.Seq.{take-take, take-at, take-append-seam, drop-append-add, drop-drop, length-take-le}
+use lib.Seq.{take-all, take-take, take-at, take-append-seam, drop-append-add, drop-drop, length-take-le}
 use borrow.Author.Tests.{leb-true, leb-false}
 use Rattle.fields.proofs.Truth.{by-test}
 use Rattle.fields.proofs.Split.{front}
-use Rattle.emitter.specs.Inner.Stands.{Stands, spliced, Kept, Wrote}
+use Rattle.fields.specs.Inner.Writing.{spliced}
+use Rattle.fields.proofs.Splices.{opened, splice-splice, length-spliced, nothing-spliced}
+use Rattle.emitter.specs.Inner.Stands.{Stands, Kept, Wrote}
 
 -- What stands at a position, and what follows it.
 pub stands-drop : (b : List ℕ) (at : ℕ) (v : List ℕ) → Stands b at v → drop at b ≡ v ++ drop (at + length v) b
@@ -48,54 +50,20 @@ stands-both b at v w h =
     sym (drop-drop (length v) at b) ∙ (ap (drop (length v)) d ∙ (ap (λ (n : ℕ). drop n (v ++ (w ++ drop (at + length (v ++ w)) b))) (sym (add-zero (length v))) ∙ drop-append-add v (w ++ drop (at + length (v ++ w)) b) 0)) in
     (drop-stands b at v _ (omega arith) d, drop-stands b (at + length v) w _ (omega arith) e)
 
-pub both-stand : (b : List ℕ) (at : ℕ) (v w : List ℕ) → Stands b at v → Stands b (at + length v) w → Stands b at (v ++ w)
-both-stand b at v w h i =
-    let k = h .inside in
-    drop-stands b at (v ++ w) (drop (at + length v + length w) b) (omega arith)
-    (stands-drop b at v h ∙ (ap (λ (l : List ℕ). v ++ l) (stands-drop b (at + length v) w i) ∙ sym (append-assoc v w _)))
-
-pub none-stands : (b : List ℕ) (at : ℕ) → at ≤ length b → Stands b at []
-none-stands b at h = drop-stands b at [] (drop at b) h refl
-
-opened : (o : List ℕ) (pos : ℕ) (v : List ℕ) → spliced o pos v ≡ take pos o ++ (v ++ drop (pos + length v) o)
-unfolding spliced
-opened o pos v = refl
-
--- What is put in behind v.
-module _ (o : List ℕ) (pos : ℕ) (v : List ℕ) (fits : pos + length v ≤ length o) where
-  head-length : length (take pos o ++ v) ≡ pos + length v
-  head-length = simp (length-append, length-take-le pos o (omega arith))
-
-  as-head : spliced o pos v ≡ (take pos o ++ v) ++ drop (pos + length v) o
-  as-head = opened o pos v ∙ sym (append-assoc (take pos o) v (drop (pos + length v) o))
-
-  pub splice-splice : (u : List ℕ) → spliced (spliced o pos v) (pos + length v) u ≡ spliced o pos (v ++ u)
-  splice-splice u =
-      let d : List ℕ = drop (pos + length v) o in
-      let t : take (pos + length v) (spliced o pos v) ≡ take pos o ++ v =
-      rw as-head (take-at (take pos o ++ v) d (pos + length v) head-length) in
-      let w : drop (pos + length v + length u) (spliced o pos v) ≡ drop (pos + length v + length u) o =
-      rw as-head (ap (λ (k : ℕ). drop (k + length u) ((take pos o ++ v) ++ d)) (sym head-length)
-      ∙ drop-append-add (take pos o ++ v) d (length u) ∙ drop-drop (length u) (pos + length v) o) in
-      rw (opened (spliced o pos v) (pos + length v) u, t, w, opened o pos (v ++ u), length-append v u, ← add-assoc pos (length v) (length u))
-      (simp append-assoc)
-
-  pub length-spliced : length (spliced o pos v) ≡ length o
-  length-spliced =
-      rw (as-head, length-append (take pos o ++ v) (drop (pos + length v) o), head-length, length-drop) (omega arith)
-
-  pub kept-spliced : Kept o (spliced o pos v) pos
-  kept-spliced = record {
-    long = length-spliced;
-    front = rw (opened o pos v) (take-at (take pos o) _ pos (length-take-le pos o (omega arith)));
-  }
-
-pub nothing-spliced : (o : List ℕ) (pos : ℕ) → o ≡ spliced o pos []
-nothing-spliced o pos = rw (opened o pos [], add-zero pos) (sym (take-append-drop pos o))
+-- What is put in at a position keeps what stands before it.
+pub kept-spliced : (o : List ℕ) (pos : ℕ) (v : List ℕ) → pos + length v ≤ length o → Kept o (spliced o pos v) pos
+kept-spliced o pos v fits = record {
+  long = length-spliced o pos v fits;
+  front = rw (opened o pos v) (take-at (take pos o) _ pos (length-take-le pos o (omega arith)));
+}
 
 -- Nothing is put in.
-pub wrote-none : (o : List ℕ) (pos : ℕ) → pos ≤ length o → Wrote [] o o pos pos
-wrote-none o pos h = record { fits = λ i. (omega arith, nothing-spliced o pos); full = λ i. absurd (omega arith) }
+pub wrote-none : (o : List ℕ) (pos : ℕ) → Wrote [] o o pos pos
+wrote-none o pos = record { fits = λ i. (omega arith, nothing-spliced o pos); full = λ i. (omega arith, record { long = refl; front = refl }) }
+
+-- Nothing is put in from a position past the output.
+pub wrote-past : (v o : List ℕ) (pos : ℕ) → length o < pos → Wrote v o o pos pos
+wrote-past v o pos h = record { fits = λ i. absurd (omega arith); full = λ i. (omega arith, record { long = refl; front = refl }) }
 
 -- The output is as long as before, whatever was answered.
 pub wrote-long : (v o after : List ℕ) (pos r : ℕ) → Wrote v o after pos r → length after ≡ length o
@@ -107,36 +75,41 @@ wrote-long v o after pos r h =
     f' : (r ≡ pos + length v) × (after ≡ spliced o pos v) → r ≤ length o → length after ≡ length o
     f' f i = ap length (f .1) ∙ length-spliced o pos v (omega (arith, f .0))
 
--- Bytes w are put in behind v.
-pub wrote-then : (v w o m after : List ℕ) (pos p r : ℕ) → Wrote v o m pos p → p ≤ length o → Wrote w m after p r → Wrote (v ++ w) o after pos r
-wrote-then v w o m after pos p r h i k =
-    let f = h .fits i in
-    let room : pos + length v ≤ length o = omega (arith, f .0) in
-    let l : length m ≡ length o = ap length (f .1) ∙ length-spliced o pos v room in
-    let a = length-append v w in
-    record {
-      fits = λ j.
-          let g = k .fits (omega arith) in
-          (omega (arith, g .0, f .0), g .1 ∙ (ap (λ (n : ℕ). spliced m n w) (f .0) ∙ (ap (λ (n : List ℕ). spliced n (pos + length v) w) (f .1) ∙ splice-splice o pos v room w)));
-      full = λ j.
-          let g = k .full (omega arith) in
-          (omega (arith, g .0, f .0), record { long = g .1 .long ∙ l; front = kept-front (g .1) });
-    }
-  where
-    kept-front : Kept m after p → take pos after ≡ take pos o
-    kept-front z =
-        let f = h .fits i in
-        let room : pos + length v ≤ length o = omega (arith, f .0) in
-        let le : pos ≤ p = omega (arith, f .0) in
-        let low : take pos after ≡ take pos m = take-less pos p after m le (z .front) in
-        low ∙ (ap (take pos) (f .1) ∙ kept-spliced o pos v room .front)
-      where
-        take-less : (n k : ℕ) (a b : List ℕ) → n ≤ k → take k a ≡ take k b → take n a ≡ take n b
-        take-less n k a b le e = sym (take-take n k a le) ∙ (ap (take n) e ∙ take-take n k b le)
+take-less : (n k : ℕ) (a b : List ℕ) → n ≤ k → take k a ≡ take k b → take n a ≡ take n b
+take-less n k a b le e = sym (take-take n k a le) ∙ (ap (take n) e ∙ take-take n k b le)
 
--- What does not fit does not fit with more behind it.
-pub wrote-full : (v w o m : List ℕ) (pos p : ℕ) → Wrote v o m pos p → length o < p → Wrote (v ++ w) o m pos p
-wrote-full v w o m pos p h i =
-    let g = h .full i in
-    let a = length-append v w in
-    record { fits = λ j. absurd (omega arith); full = λ j. (omega (arith, g .0), g .1) }
+-- Bytes w are put in behind v.
+module _ (v w o m after : List ℕ) (pos p r : ℕ) (h : Wrote v o m pos p) (k : Wrote w m after p r) where
+  then-fits : p ≤ length o → Wrote (v ++ w) o after pos r
+  then-fits i =
+      let f = h .fits i in
+      let room : pos + length v ≤ length o = omega (arith, f .0) in
+      let l : length m ≡ length o = ap length (f .1) ∙ length-spliced o pos v room in
+      let a = length-append v w in
+      record {
+        fits = λ j.
+            let g = k .fits (omega arith) in
+            (omega (arith, g .0, f .0), g .1 ∙ (ap (λ (n : ℕ). spliced m n w) (f .0) ∙ (ap (λ (n : List ℕ). spliced n (pos + length v) w) (f .1) ∙ splice-splice o pos v room w)));
+        full = λ j.
+            let g = k .full (omega arith) in
+            let low : take pos after ≡ take pos m = take-less pos p after m (omega (arith, f .0)) (g .1 .front) in
+            (omega (arith, g .0, f .0), record { long = g .1 .long ∙ l; front = low ∙ (ap (take pos) (f .1) ∙ kept-spliced o pos v room .front) });
+      }
+
+  -- What does not fit does not fit with more behind it.
+  then-full : length o < p → Wrote (v ++ w) o after pos r
+  then-full i =
+      let g = h .full i in
+      let l = g .1 .long in
+      let a = length-append v w in
+      record {
+        fits = λ j. let d = k .fits (omega arith) in absurd (omega (arith, d .0));
+        full = λ j.
+            let d = k .full (omega arith) in
+            let n = d .1 .long in
+            let same : after ≡ m = sym (take-all p after (omega arith)) ∙ (d .1 .front ∙ take-all p m (omega arith)) in
+            (omega (arith, g .0), record { long = n ∙ l; front = ap (take pos) same ∙ g .1 .front });
+      }
+
+  pub wrote-then : Wrote (v ++ w) o after pos r
+  wrote-then = by-test (leb p (length o)) (λ t. then-fits (leb-true _ _ t)) (λ t. then-full (leb-false _ _ t))

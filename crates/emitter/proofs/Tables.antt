@@ -31,14 +31,11 @@ use Rattle.reader.proofs.Placed.{puts-length, puts-place, found}
 use Rattle.language.specs.Language.{Range, argumentsOf, productionKey}
 use Rattle.emitter.specs.Inner.Filling.{Begun, Filled, mappedIn, AllSpanned}
 use lib.Seq.{slice, length-slice, ext-getD, take-suc, take-all, drop-drop, set-split, length-take-le, getD-take, getD-drop, getD-append-add}
-use Rattle.emitter.specs.Inner.Stands.{Stands, spliced}
-use Rattle.emitter.proofs.Standing.{splice-splice, length-spliced}
+use Rattle.fields.specs.Inner.Writing.{spliced}
+use Rattle.fields.proofs.Splices.{opened, splice-splice, length-spliced}
+use Rattle.emitter.specs.Inner.Stands.{Stands}
 
 -- What is put in at a position, and what stands where then.
-spliced-is : (o : List ℕ) (pos : ℕ) (v : List ℕ) → spliced o pos v ≡ take pos o ++ (v ++ drop (pos + length v) o)
-unfolding spliced
-spliced-is o pos v = refl
-
 -- put_index
 pub index-put : (first : ℕ) (s o : List ℕ) (a k : ℕ) (v w : List ℕ) → a + 8224 ≤ length o → k ≡ 8224 → w ≡ take k (drop a o) → v ≡ putAll first s w (places s)
     → take a o ++ (v ++ drop k (drop a o)) ≡ spliced o a (putAll first s (take 8224 (drop a o)) (places s))
@@ -46,7 +43,7 @@ index-put first s o a k v w h ek ew ev =
     let d = length-drop a o in
     let l : length (putAll first s (take 8224 (drop a o)) (places s)) ≡ 8224 =
     puts-length first s (places s) (take 8224 (drop a o)) ∙ length-take-le 8224 (drop a o) (omega arith) in
-    rw (ev, ew, ek, spliced-is o a (putAll first s (take 8224 (drop a o)) (places s)), l, drop-drop 8224 a o)
+    rw (ev, ew, ek, opened o a (putAll first s (take 8224 (drop a o)) (places s)), l, drop-drop 8224 a o)
 
 pub sub-self : (a : ℕ) → a + 8224 - a ≡ 8224
 sub-self a = omega arith
@@ -55,7 +52,7 @@ sub-self a = omega arith
 one-put : (o : List ℕ) (pos v : ℕ) → pos < length o → set o pos v ≡ spliced o pos (v ∷ [])
 one-put o pos v h =
     let n : pos + 1 ≡ suc pos = add-one pos in
-    set-split o pos v h ∙ rw (spliced-is o pos (v ∷ []), n)
+    set-split o pos v h ∙ rw (opened o pos (v ∷ []), n)
 
 pub byte-put : (s o after : List ℕ) (a i v : ℕ) → after ≡ spliced o a (take i s) → i < length s → a + length s ≤ length o → v ≡ getD s i 0
     → set after (a + i) v ≡ spliced o a (take (i + 1) s)
@@ -91,12 +88,12 @@ module _ (o : List ℕ) (pos : ℕ) (v : List ℕ) (fits : pos + length v ≤ le
 
   get-below : (j : ℕ) → j < pos → getD (spliced o pos v) j 0 ≡ getD o j 0
   get-below j h =
-      rw (spliced-is o pos v)
+      rw (opened o pos v)
       (List·getD-append (take pos o) (v ++ drop (pos + length v) o) 0 j (rw front-long h) ∙ getD-take pos o j 0 h)
 
   get-from : (j : ℕ) → getD (spliced o pos v) (pos + j) 0 ≡ getD (v ++ drop (pos + length v) o) j 0
   get-from j =
-      rw (spliced-is o pos v)
+      rw (opened o pos v)
       (ap (λ (n : ℕ). getD (take pos o ++ (v ++ drop (pos + length v) o)) (n + j) 0) (sym front-long) ∙ getD-append-add (take pos o) (v ++ drop (pos + length v) o) j 0)
 
   get-in : (j : ℕ) → j < length v → getD (spliced o pos v) (pos + j) 0 ≡ getD v j 0
@@ -133,7 +130,7 @@ module _ (s o : List ℕ) (long : length o ≡ 25664) where
     zeros = o;
     long = long;
     zero = clear;
-    is = rw (e, spliced-is o 0 (putAll 0x11 s (take 8224 o) (places s)), front-index-long);
+    is = rw (e, opened o 0 (putAll 0x11 s (take 8224 o) (places s)), front-index-long);
   }
 
 -- A table in which the index of the source stands.

@@ -1,8 +1,14 @@
 // Filling the table that a run looks things up in.
+use crate::table::BODY;
+use crate::table::ITEMS;
+use crate::table::SOURCE;
+use crate::table::SPANS;
 use fields::bytes::byte_at;
 use fields::bytes::pair_at;
-use fields::bytes::wide;
+use fields::bytes::to_usize;
 use fields::walk::field_end;
+use reader::index::INDEX;
+use reader::index::TABLE;
 use reader::index::build;
 use reader::index::put_all;
 ghost use mathlib.Core.Path.{_≡_};
@@ -14,16 +20,17 @@ ghost use Rattle.language.specs.Language.{Language, productionKey};
 ghost use Rattle.reader.specs.Code.{Code};
 ghost use Rattle.reader.specs.Inner.Index.{Sound, Indexed, putAll};
 ghost use Rattle.translation.specs.Translation.{Translation};
-ghost use Rattle.emitter.specs.Inner.Stands.{spliced};
-ghost use Rattle.emitter.specs.Inner.Table.{Checked, Ready};
+ghost use Rattle.fields.specs.Inner.Writing.{spliced};
+ghost use Rattle.reader.specs.Inner.Index.{indexLength, tableLength};
+ghost use Rattle.emitter.specs.Inner.Table.{itemsStart, spansStart, Checked, Ready};
 ghost use Rattle.emitter.specs.Inner.Filling.{Begun, Built, Filled, mappedIn, CodeAsks, Spanned, FieldAsks, FieldSpanned, AllSpanned};
 
 // Puts the index of a file into the table, from a position on where it is all zero. Its first entries have the tag `first`.
 fn put_index(s: &[u8], first: u8, a: usize, table: &mut [u16])
-    requires { ⌜ (length (now s) ≤ 32768) × (a + 8224 ≤ length (now table)) ⌝ }
-    ensures { λ r. ⌜ now (table .exit) ≡ spliced (now (table .entry)) a (putAll first (now (s .entry)) (take 8224 (drop a (now (table .entry)))) (places (now (s .entry)))) ⌝ }
+    requires { ⌜ (length (now s) ≤ 32768) × (a + indexLength ≤ length (now table)) ⌝ }
+    ensures { λ r. ⌜ now (table .exit) ≡ spliced (now (table .entry)) a (putAll first (now (s .entry)) (take indexLength (drop a (now (table .entry)))) (places (now (s .entry)))) ⌝ }
 {
-    put_all(s, first, &mut table[a..a + 8224]);
+    put_all(s, first, &mut table[a..a + INDEX]);
 }
 
 // Puts bytes into the table, from a position on.
@@ -43,25 +50,25 @@ fn fill(source: &[u8], body: &[u8], table: &mut [u16])
     requires { ⌜ (length (now source) ≤ 1024) × (length (now body) ≤ 4096) × Begun (now source) (now table) ⌝ }
     ensures { λ r. ⌜ Filled (now (source .entry)) (now (body .entry)) (now (table .exit)) ⌝ }
 {
-    put_index(body, 0x22, 8224, table);
-    put_bytes(source, 16448, table);
-    put_bytes(body, 17472, table);
+    put_index(body, 0x22, ITEMS, table);
+    put_bytes(source, SOURCE, table);
+    put_bytes(body, BODY, table);
 }
 
 // Where the field of a production of the target stands, and one more.
 fn place_of(places: &[u16], kind: u8, name: u8) -> usize
-    requires { ⌜ (8224 ≤ length (now places)) × (kind < 32) ⌝ }
+    requires { ⌜ (indexLength ≤ length (now places)) × (kind < 32) ⌝ }
     ensures { λ r. ⌜ (r ≡ getD (now (places .entry)) (productionKey kind name) 0) × (r < 65536) ⌝ }
 {
-    places[32 + (wide(kind) * 256 + wide(name))] as usize
+    places[32 + (to_usize(kind) * 256 + to_usize(name))] as usize
 }
 
 // Keeps where the production's code at a position of the body ends.
 fn set_span(table: &mut [u16], at: usize, end: usize)
-    requires { ⌜ (length (now table) ≡ 25664) × (at < 4096) × (end < 65536) ⌝ }
-    ensures { λ r. ⌜ now (table .exit) ≡ set (now (table .entry)) (21568 + at) end ⌝ }
+    requires { ⌜ (length (now table) ≡ tableLength) × (at < 4096) × (end < 65536) ⌝ }
+    ensures { λ r. ⌜ now (table .exit) ≡ set (now (table .entry)) (spansStart + at) end ⌝ }
 {
-    table[21568 + at] = end as u16;
+    table[SPANS + at] = end as u16;
 }
 
 // Keeps where the code of a kind at a position of the body ends, and where each production's code in it does, and answers
@@ -75,7 +82,7 @@ fn span_code(
     levels: usize,
     table: &mut [u16],
 ) -> usize
-    requires { ⌜ Sound (now places) (now target) × (kind < 32) × (length (now body) ≤ 4096) × (at ≤ 4100) × (length (now table) ≡ 25664) ⌝ }
+    requires { ⌜ Sound (now places) (now target) × (kind < 32) × (length (now body) ≤ 4096) × (at ≤ 4100) × (length (now table) ≡ tableLength) ⌝ }
     ensures { λ r. ⌜ (r ≤ 4100) × ((l : Language) (given : List ℕ) (a : Code) → CodeAsks (now (target .entry)) (now (places .entry)) (now (body .entry)) kind at levels l given a
         → Spanned (now (table .entry)) (now (table .exit)) at a r) ⌝ }
 {
@@ -109,10 +116,10 @@ fn span_code(
 
 // The kind that a kind maps to, by the table; 0 where it is not mapped.
 fn mapped_in(body: &[u8], table: &[u16], kind: u8) -> u8
-    requires { ⌜ length (now table) ≡ 25664 ⌝ }
+    requires { ⌜ length (now table) ≡ tableLength ⌝ }
     ensures { λ r. ⌜ r ≡ mappedIn (now (body .entry)) (now (table .entry)) kind ⌝ }
 {
-    let place = table[8224 + wide(kind)] as usize;
+    let place = table[ITEMS + to_usize(kind)] as usize;
     if place == 0 {
         return 0;
     }
@@ -121,7 +128,7 @@ fn mapped_in(body: &[u8], table: &[u16], kind: u8) -> u8
 
 // Keeps the spans of the code in the field of the body at a position, where it is a clause.
 fn span_field(target: &[u8], places: &[u16], body: &[u8], p: usize, table: &mut [u16])
-    requires { ⌜ Sound (now places) (now target) × (length (now body) ≤ 4096) × (p < length (now body)) × (length (now table) ≡ 25664) ⌝ }
+    requires { ⌜ Sound (now places) (now target) × (length (now body) ≤ 4096) × (p < length (now body)) × (length (now table) ≡ tableLength) ⌝ }
     ensures { λ r. ⌜ ((l : Language) (given : List ℕ) (a : Code) → FieldAsks (now (target .entry)) (now (places .entry)) (now (body .entry)) p (now (table .entry)) l given a
         → FieldSpanned (now (body .entry)) p (now (table .entry)) (now (table .exit)) a) ⌝ }
 {
@@ -137,9 +144,9 @@ fn span_field(target: &[u8], places: &[u16], body: &[u8], p: usize, table: &mut 
 
 // Keeps the spans of the codes of all clauses.
 fn span_all(target: &[u8], places: &[u16], body: &[u8], table: &mut [u16])
-    requires { ⌜ Sound (now places) (now target) × (length (now body) ≤ 4096) × (length (now table) ≡ 25664) ⌝ }
+    requires { ⌜ Sound (now places) (now target) × (length (now body) ≤ 4096) × (length (now table) ≡ tableLength) ⌝ }
     ensures { λ r. ⌜ ((s : List ℕ) (f : Translation) → Checked s (now (target .entry)) (now (body .entry)) f → Indexed (now (places .entry)) (now (target .entry)) (f .target)
-        → Built 0x22 (now (body .entry)) (now (table .entry)) 8224 → AllSpanned (now (table .entry)) (now (table .exit)) f) ⌝ }
+        → Built 0x22 (now (body .entry)) (now (table .entry)) itemsStart → AllSpanned (now (table .entry)) (now (table .exit)) f) ⌝ }
 {
     let mut p = 0;
     while p < body.len() {
@@ -148,20 +155,20 @@ fn span_all(target: &[u8], places: &[u16], body: &[u8], table: &mut [u16])
     }
 }
 
-// The same as `prepare`, for a table of that length.
+// Fills the table of a translation that was accepted, where it is lent as a slice.
 fn fill_all(source: &[u8], target: &[u8], body: &[u8], table: &mut [u16])
     requires { ⌜ Begun (now source) (now table) × ((f : Translation) × Checked (now source) (now target) (now body) f) ⌝ }
     ensures { λ r. ⌜ ((f : Translation) → Checked (now (source .entry)) (now (target .entry)) (now (body .entry)) f → Ready (now (table .exit)) f) ⌝ }
 {
     fill(source, body, table);
-    let mut places = [0u16; 8224];
+    let mut places = [0u16; INDEX];
     build(target, &mut places);
     span_all(target, &places, body, table);
 }
 
 // Fills the table of a translation that was accepted, by the bytes of its source, target and body. The index of the source
 // stands in the table, and it is all zero besides.
-pub fn prepare(source: &[u8], target: &[u8], body: &[u8], table: &mut [u16; 25664])
+pub fn prepare(source: &[u8], target: &[u8], body: &[u8], table: &mut [u16; TABLE])
     requires { ⌜ Begun (now source) (now table) × ((f : Translation) × Checked (now source) (now target) (now body) f) ⌝ }
     ensures { λ r. ⌜ ((f : Translation) → Checked (now (source .entry)) (now (target .entry)) (now (body .entry)) f → Ready (now (table .exit)) f) ⌝ }
 {

@@ -1,6 +1,6 @@
 // Bytes that are put into the output. A position past its end says that they do not fit.
+use fields::copy::put;
 use reader::node::Syntax;
-use reader::node::name_length;
 ghost use mathlib.Core.List.{[], _∷_, _++_};
 ghost use Prim.Native.Nat.{_+_, _≤_};
 ghost use lib.ListN.{length};
@@ -14,20 +14,23 @@ pub fn put_name(syntax: Syntax, name: u8, output: &mut [u8], pos: usize) -> usiz
     requires { ⌜ pos ≤ length (now output) ⌝ }
     ensures { λ r. ⌜ Wrote (sign (syntaxOf syntax) 1 ++ name ∷ []) (now (output .entry)) (now (output .exit)) pos r ⌝ }
 {
-    let n = name_length(syntax);
-    if output.len() - pos < n {
-        return output.len() + 1;
-    }
     match syntax {
         Syntax::Tree => {
+            if output.len() - pos < 1 {
+                return pos + 1;
+            }
             output[pos] = name;
+            pos + 1
         }
         Syntax::Code => {
+            if output.len() - pos < 2 {
+                return pos + 2;
+            }
             output[pos] = 1;
             output[pos + 1] = name;
+            pos + 2
         }
     }
-    pos + n
 }
 
 // Puts two bytes, a token's, with its sign in a code.
@@ -38,7 +41,7 @@ pub fn put_token(syntax: Syntax, high: u8, low: u8, output: &mut [u8], pos: usiz
     match syntax {
         Syntax::Tree => {
             if output.len() - pos < 2 {
-                return output.len() + 1;
+                return pos + 2;
             }
             output[pos] = high;
             output[pos + 1] = low;
@@ -46,7 +49,7 @@ pub fn put_token(syntax: Syntax, high: u8, low: u8, output: &mut [u8], pos: usiz
         }
         Syntax::Code => {
             if output.len() - pos < 3 {
-                return output.len() + 1;
+                return pos + 3;
             }
             output[pos] = 2;
             output[pos + 1] = high;
@@ -62,12 +65,24 @@ pub fn put_leaf(input: &[u8], at: usize, n: usize, output: &mut [u8], pos: usize
     ensures { λ r. ⌜ Wrote (slice at (at + n) (now (input .entry))) (now (output .entry)) (now (output .exit)) pos r ⌝ }
 {
     if output.len() - pos < n {
-        return output.len() + 1;
+        return pos + n;
     }
     output[pos] = input[at];
     output[pos + 1] = input[at + 1];
     if n == 3 {
         output[pos + 2] = input[at + 2];
     }
+    pos + n
+}
+
+// Copies n bytes of the input.
+pub fn put_part(input: &[u8], at: usize, n: usize, output: &mut [u8], pos: usize) -> usize
+    requires { ⌜ (at + n ≤ length (now input)) × (pos ≤ length (now output)) ⌝ }
+    ensures { λ r. ⌜ Wrote (slice at (at + n) (now (input .entry))) (now (output .entry)) (now (output .exit)) pos r ⌝ }
+{
+    if output.len() - pos < n {
+        return pos + n;
+    }
+    put(input, at, at + n, output, pos);
     pos + n
 }

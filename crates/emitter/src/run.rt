@@ -1,44 +1,118 @@
-// The run: it calls itself on the arguments of a node and on the inner codes of its clause, with fewer levels left.
+// The run of a translation: it calls itself on argument trees and on inner codes, and the levels left fall at each call.
 use crate::put::put_leaf;
 use crate::put::put_name;
+use crate::put::put_part;
 use crate::put::put_token;
 use crate::skip::is_leaf;
 use crate::skip::leaf_length;
 use crate::skip::sign_length;
 use crate::starts::find;
 use crate::starts::known;
+use crate::starts::last_end;
 use crate::table::body_at;
 use crate::table::clause_at;
+use crate::table::clause_end;
 use crate::table::index_at;
 use crate::table::source_at;
 use crate::table::span_at;
-use fields::bytes::wide;
+use fields::bytes::to_usize;
+use reader::index::TABLE;
 use reader::node::Syntax;
 use reader::node::name_length;
 ghost use mathlib.Core.Path.{_≡_};
 ghost use mathlib.Core.List.{List};
-ghost use Prim.Native.Nat.{ℕ, _+_, _≤_};
-ghost use lib.ListN.{length};
+ghost use Prim.Native.Nat.{ℕ, _+_, _<_, _≤_};
+ghost use lib.ListN.{length, set, replicate};
 ghost use Rattle.reader.specs.Code.{Code, Codes};
 ghost use Rattle.translation.specs.Translation.{Translation};
+ghost use Rattle.translation.specs.Running as Running;
 ghost use Rattle.translation.specs.Running.{nth, runAll, clausesOf, transform};
 ghost use Rattle.emitter.specs.Inner.Stands.{Wrote};
-ghost use Rattle.emitter.specs.Inner.Runs.{bytesOf, rowBytes, Node, Same, RowAsks, ArgumentAsks, TermAsks};
+ghost use Rattle.emitter.specs.Inner.Runs.{bytesOf, rowBytes, Node, Same, NodeAt, Started, NodeAsks, RowAsks, ArgumentAsks, TermAsks};
 
-// The run of argument j of a node, counted from 0: a leaf stays itself, a production becomes the code of its clause.
-fn run_argument(
+// The levels that a level of a tree takes: one for the call on the argument, one for the call on its node, and 16 for its
+// clause's code.
+const TREE_LEVEL: usize = 18;
+
+// Sets a node, all zero before, to the production of a kind that stands at a position of the input, and answers the place of
+// its clause.
+fn start_node(
     syntax: Syntax,
-    table: &[u16; 25664],
+    table: &[u16; TABLE],
+    input: &[u8],
+    kind: usize,
+    at: usize,
+    node: &mut [usize; 10],
+) -> usize
+    requires { ⌜ (now node ≡ replicate 10 0) × ((f : Translation) × (given : List ℕ) × (u : Code) × NodeAt syntax (now table) (now input) at kind f given u) ⌝ }
+    ensures { λ r. ⌜ ((f : Translation) (given : List ℕ) (u : Code) → NodeAt syntax (now (table .entry)) (now (input .entry)) at kind f given u
+        → Started syntax (now (table .entry)) (now (input .entry)) (now (node .exit)) at r f given u) ⌝ }
+{
+    let key = 32 + (kind * 256 + to_usize(input[at + sign_length(syntax)]));
+    node[9] = index_at(table, key) + 4;
+    node[0] = at + name_length(syntax);
+    clause_at(table, key)
+}
+
+// The run of a production of a kind whose tree stands at a position of the input: the code of its clause, each argument
+// replaced by its run. Where the tree ends is kept in the node above it, as the end of argument j.
+fn run_node(
+    table: &[u16; TABLE],
     input: &[u8],
     ends: &[u32],
-    node: &mut [usize; 10],
-    deep: usize,
-    j: usize,
     output: &mut [u8],
     pos: usize,
+    at: usize,
+    kind: usize,
+    left: usize,
+    above: &mut [usize; 10],
+    j: usize,
+    syntax: Syntax,
 ) -> usize
-    requires { ⌜ (pos ≤ length (now output)) × ((f : Translation) × (given : List ℕ) × (ts : Codes) × (ks : List ℕ) × ArgumentAsks syntax (now table) (now input) (now ends) (now node) deep j f given ts ks) ⌝ }
-    ensures { λ r. ⌜ ((f : Translation) (given : List ℕ) (ts : Codes) (ks : List ℕ) → ArgumentAsks syntax (now (table .entry)) (now (input .entry)) (now (ends .entry)) (now (node .entry)) deep j f given ts ks
+    requires { ⌜ (pos ≤ length (now output)) × (j < 8) × ((f : Translation) × (given : List ℕ) × (u : Code) × NodeAsks syntax (now table) (now input) (now ends) at kind left f given u) ⌝ }
+    ensures { λ r. ⌜ ((f : Translation) (given : List ℕ) (u : Code) → NodeAsks syntax (now (table .entry)) (now (input .entry)) (now (ends .entry)) at kind left f given u
+        → Wrote (bytesOf syntax (Running.run (clausesOf f) u)) (now (output .entry)) (now (output .exit)) pos r
+        × (now (above .exit) ≡ set (now (above .entry)) (j + 1) (at + length (bytesOf syntax u)))) ⌝ }
+{
+    let mut node = [0usize; 10];
+    let place = start_node(syntax, table, input, kind, at, &mut node);
+    let stop = clause_end(table, place);
+    let mut c = place + 4;
+    let mut p = pos;
+    if body_at(table, c) == 1 {
+        p = put_name(syntax, body_at(table, c + 1) as u8, output, pos);
+        c += 2;
+    }
+    p = run_codes(
+        table,
+        input,
+        ends,
+        output,
+        p,
+        c,
+        stop,
+        left - 1,
+        &mut node,
+        syntax,
+    );
+    above[j + 1] = last_end(syntax, table, input, ends, &mut node);
+    p
+}
+
+// The run of argument j of a node, counted from 0: a leaf stays itself.
+fn run_argument(
+    table: &[u16; TABLE],
+    input: &[u8],
+    ends: &[u32],
+    output: &mut [u8],
+    pos: usize,
+    left: usize,
+    node: &mut [usize; 10],
+    j: usize,
+    syntax: Syntax,
+) -> usize
+    requires { ⌜ (pos ≤ length (now output)) × ((f : Translation) × (given : List ℕ) × (ts : Codes) × (ks : List ℕ) × ArgumentAsks syntax (now table) (now input) (now ends) (now node) left j f given ts ks) ⌝ }
+    ensures { λ r. ⌜ ((f : Translation) (given : List ℕ) (ts : Codes) (ks : List ℕ) → ArgumentAsks syntax (now (table .entry)) (now (input .entry)) (now (ends .entry)) (now (node .entry)) left j f given ts ks
         → Wrote (bytesOf syntax (nth (runAll (clausesOf f) ts) j)) (now (output .entry)) (now (output .exit)) pos r
         × Node syntax (now (table .entry)) (now (input .entry)) (now (node .exit)) (f .source) given ts ks
         × Same (now (node .entry)) (now (node .exit))) ⌝ }
@@ -53,115 +127,61 @@ fn run_argument(
         node[j + 1] = at + n;
         return put_leaf(input, at, n, output, pos);
     }
-    let key = 32 + (kind * 256 + wide(input[at + sign_length(syntax)]));
-    let place = index_at(table, key);
-    let clause = clause_at(table, key);
-    let stop = clause + 2 + (body_at(table, clause) * 256 + body_at(table, clause + 1));
-    let mut inner = [0usize; 10];
-    inner[9] = place + 4;
-    inner[0] = at + name_length(syntax);
-    let p = run_row(
-        syntax,
+    run_node(
         table,
         input,
         ends,
-        &mut inner,
-        deep - 1,
-        clause + 4,
-        stop,
-        16,
         output,
         pos,
-    );
-    let n = source_at(table, place + 1) - 2;
-    let mut end = known(&inner, n);
-    if end == 0 {
-        end = find(syntax, table, input, ends, &mut inner, n);
-    }
-    node[j + 1] = end;
-    p
+        at,
+        kind,
+        left - 1,
+        node,
+        j,
+        syntax,
+    )
 }
 
-// Codes in a row, from a position in the body up to another, each argument replaced by its run. Inner codes of the last one,
-// and those that begin with a leaf, are gone on with in the loop; for others it calls itself with one level fewer.
-fn run_row(
-    syntax: Syntax,
-    table: &[u16; 25664],
+// Codes in a row, from a position in the body up to another, each argument replaced by its run. What is used again after a
+// call stands last among the parameters: the last ones are passed on the stack, and need no second place there.
+fn run_codes(
+    table: &[u16; TABLE],
     input: &[u8],
     ends: &[u32],
-    node: &mut [usize; 10],
-    deep: usize,
-    at: usize,
-    stop: usize,
-    levels: usize,
     output: &mut [u8],
     pos: usize,
+    at: usize,
+    stop: usize,
+    left: usize,
+    node: &mut [usize; 10],
+    syntax: Syntax,
 ) -> usize
-    requires { ⌜ (pos ≤ length (now output)) × ((f : Translation) × (given : List ℕ) × (ts : Codes) × (ks r : List ℕ) × (cs : Codes) × (js : List ℕ) × RowAsks syntax (now table) (now input) (now ends) (now node) deep at stop levels f given ts ks r cs js) ⌝ }
-    ensures { λ o. ⌜ ((f : Translation) (given : List ℕ) (ts : Codes) (ks r : List ℕ) (cs : Codes) (js : List ℕ) → RowAsks syntax (now (table .entry)) (now (input .entry)) (now (ends .entry)) (now (node .entry)) deep at stop levels f given ts ks r cs js
+    requires { ⌜ ((f : Translation) × (given : List ℕ) × (ts : Codes) × (ks r : List ℕ) × (cs : Codes) × (js : List ℕ) × RowAsks syntax (now table) (now input) (now ends) (now node) at stop left f given ts ks r cs js) ⌝ }
+    ensures { λ o. ⌜ ((f : Translation) (given : List ℕ) (ts : Codes) (ks r : List ℕ) (cs : Codes) (js : List ℕ) → RowAsks syntax (now (table .entry)) (now (input .entry)) (now (ends .entry)) (now (node .entry)) at stop left f given ts ks r cs js
         → Wrote (rowBytes syntax f ts cs) (now (output .entry)) (now (output .exit)) pos o
         × Node syntax (now (table .entry)) (now (input .entry)) (now (node .exit)) (f .source) given ts ks
         × Same (now (node .entry)) (now (node .exit))) ⌝ }
 {
     let mut c = at;
     let mut p = pos;
-    let mut left = levels;
     while c < stop {
+        if output.len() < p {
+            return p;
+        }
         let sign = body_at(table, c);
         if sign == 3 {
-            let number = body_at(table, c + 1);
-            p = run_argument(
-                syntax,
-                table,
-                input,
-                ends,
-                node,
-                deep,
-                number - 1,
-                output,
-                p,
-            );
-            if output.len() < p {
-                return p;
-            }
+            let j = body_at(table, c + 1) - 1;
+            p = run_argument(table, input, ends, output, p, left - 1, node, j, syntax);
             c += 2;
         } else if sign == 1 {
             p = put_name(syntax, body_at(table, c + 1) as u8, output, p);
-            if output.len() < p {
-                return p;
-            }
-            let end = span_at(table, c);
-            c += 2;
-            if end == stop {
-                left -= 1;
-            } else if c < end {
-                if body_at(table, c) == 1 {
-                    p = run_row(
-                        syntax,
-                        table,
-                        input,
-                        ends,
-                        node,
-                        deep,
-                        c,
-                        end,
-                        left - 1,
-                        output,
-                        p,
-                    );
-                    if output.len() < p {
-                        return p;
-                    }
-                    c = end;
-                }
-            }
+            let a = c + 2;
+            c = span_at(table, c);
+            p = run_codes(table, input, ends, output, p, a, c, left - 1, node, syntax);
         } else {
             let high = body_at(table, c + 1) as u8;
             let low = body_at(table, c + 2) as u8;
             p = put_token(syntax, high, low, output, p);
-            if output.len() < p {
-                return p;
-            }
             c += 3;
         }
     }
@@ -171,7 +191,7 @@ fn run_row(
 // The run of the term of a kind that the input starts with.
 pub fn run(
     syntax: Syntax,
-    table: &[u16; 25664],
+    table: &[u16; TABLE],
     input: &[u8],
     ends: &[u32],
     kind: u8,
@@ -184,26 +204,24 @@ pub fn run(
         → Wrote (bytesOf syntax (transform f u)) (now (output .entry)) (now (output .exit)) pos r) ⌝ }
 {
     let k = kind as usize;
-    if is_leaf(syntax, table, k, input, 0) {
-        return put_leaf(input, 0, leaf_length(syntax, input, 0), output, pos);
+    let is_whole = is_leaf(syntax, table, k, input, 0);
+    if is_whole {
+        let n = leaf_length(syntax, input, 0);
+        return put_part(input, 0, n, output, pos);
     }
-    let key = 32 + (k * 256 + wide(input[sign_length(syntax)]));
-    let clause = clause_at(table, key);
-    let stop = clause + 2 + (body_at(table, clause) * 256 + body_at(table, clause + 1));
-    let mut node = [0usize; 10];
-    node[9] = index_at(table, key) + 4;
-    node[0] = name_length(syntax);
-    run_row(
-        syntax,
+    let mut above = [0usize; 10];
+    let left = TREE_LEVEL * deep;
+    run_node(
         table,
         input,
         ends,
-        &mut node,
-        deep - 1,
-        clause + 4,
-        stop,
-        16,
         output,
         pos,
+        0,
+        k,
+        left,
+        &mut above,
+        0,
+        syntax,
     )
 }

@@ -2,6 +2,7 @@
 // kept on a stack.
 use crate::table::index_at;
 use crate::table::source_at;
+use reader::index::TABLE;
 use reader::node::Syntax;
 use reader::node::name_length;
 ghost use mathlib.Core.Path.{_≡_};
@@ -23,7 +24,7 @@ pub fn sign_length(syntax: Syntax) -> usize
 }
 
 // Whether a leaf stands at a position, where a term of the kind is to be.
-pub fn is_leaf(syntax: Syntax, table: &[u16; 25664], kind: usize, input: &[u8], at: usize) -> bool
+pub fn is_leaf(syntax: Syntax, table: &[u16; TABLE], kind: usize, input: &[u8], at: usize) -> bool
     requires { ⌜ (kind < 32) × (at < length (now input)) ⌝ }
     ensures { λ r. ⌜ r ≡ leafAt syntax (now (table .entry)) kind (now (input .entry)) at ⌝ }
 {
@@ -45,7 +46,7 @@ pub fn leaf_length(syntax: Syntax, input: &[u8], at: usize) -> usize
 }
 
 // Where the term ends that starts at a position and whose kind stands in the source at q.
-pub fn skip(syntax: Syntax, table: &[u16; 25664], input: &[u8], from: usize, at: usize) -> usize
+pub fn skip(syntax: Syntax, table: &[u16; TABLE], input: &[u8], from: usize, at: usize) -> usize
     requires { ⌜ ((f : Translation) × (given : List ℕ) × (u : Code) × (k : ℕ) × SkipAsks syntax (now table) (now input) from at f given u k) ⌝ }
     ensures { λ r. ⌜ ((f : Translation) (given : List ℕ) (u : Code) (k : ℕ) → SkipAsks syntax (now (table .entry)) (now (input .entry)) from at f given u k
         → r ≡ at + length (bytesOf syntax u)) ⌝ }

@@ -1,7 +1,8 @@
-// Where the arguments of a node start: learnt on the way.
+// Where the arguments of a node start and end.
 use crate::skip::skip;
 use crate::table::source_at;
 use reader::ends::known_end;
+use reader::index::TABLE;
 use reader::node::Syntax;
 ghost use mathlib.Core.Path.{_≡_};
 ghost use mathlib.Core.List.{List};
@@ -9,7 +10,7 @@ ghost use Prim.Native.Nat.{ℕ, _+_, _≤_};
 ghost use lib.ListN.{length, getD};
 ghost use Rattle.reader.specs.Code.{Code, Codes};
 ghost use Rattle.translation.specs.Translation.{Translation};
-ghost use Rattle.emitter.specs.Inner.Runs.{bytesOf, allBytes, front, Right, Node, Same, SkipAsks, FindAsks, knownStart};
+ghost use Rattle.emitter.specs.Inner.Runs.{bytesOf, allBytes, front, Right, Node, Same, SkipAsks, FindAsks, LastAsks, knownStart};
 
 // Where argument j starts by what is known of the node; 0 where it is not known.
 pub fn known(node: &[usize; 10], j: usize) -> usize
@@ -23,7 +24,7 @@ pub fn known(node: &[usize; 10], j: usize) -> usize
 // over it.
 fn end_of(
     syntax: Syntax,
-    table: &[u16; 25664],
+    table: &[u16; TABLE],
     input: &[u8],
     ends: &[u32],
     q: usize,
@@ -43,7 +44,7 @@ fn end_of(
 // Where argument j starts: the arguments before it whose end is not known are stepped over.
 pub fn find(
     syntax: Syntax,
-    table: &[u16; 25664],
+    table: &[u16; TABLE],
     input: &[u8],
     ends: &[u32],
     node: &mut [usize; 10],
@@ -68,4 +69,24 @@ pub fn find(
         i += 1;
     }
     p
+}
+
+// Where the last argument of a node ends. How many arguments it has stands before their kinds.
+pub fn last_end(
+    syntax: Syntax,
+    table: &[u16; TABLE],
+    input: &[u8],
+    ends: &[u32],
+    node: &mut [usize; 10],
+) -> usize
+    requires { ⌜ ((f : Translation) × (given : List ℕ) × (ts : Codes) × (ks : List ℕ) × LastAsks syntax (now table) (now input) (now ends) (now node) f given ts ks) ⌝ }
+    ensures { λ r. ⌜ ((f : Translation) (given : List ℕ) (ts : Codes) (ks : List ℕ) → LastAsks syntax (now (table .entry)) (now (input .entry)) (now (ends .entry)) (now (node .entry)) f given ts ks
+        → r ≡ getD (now (node .entry)) 0 0 + length (allBytes syntax ts)) ⌝ }
+{
+    let n = source_at(table, node[9] - 3) - 2;
+    let end = known(node, n);
+    if end != 0 {
+        return end;
+    }
+    find(syntax, table, input, ends, node, n)
 }

@@ -1,4 +1,4 @@
--- Keys by place, in the terms of the code: a law for each return of `key_at`, and for each turn of `keys_rise`.
+-- Keys by place, in the terms of the code: a law for each return of `key_at` and `whole_key`, and for each turn of `keys_rise`.
 use Prim.Native.Nat.{ℕ, _+_, _<_, _≤_}
 use mathlib.Core.Path.{_≡_, refl}
 use mathlib.Core.Bool.{Bool, true, false}

@@ -6,3 +6,4 @@ pub mod Over
 pub mod Truth
 pub mod Keyed
 pub mod Codec
+pub mod Splices

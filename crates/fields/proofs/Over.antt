@@ -11,7 +11,7 @@ use Rattle.fields.specs.Lists.{any}
 use Rattle.fields.specs.Fields.{pairAt, saysOver, hasOver}
 use Rattle.fields.specs.Inner.Places.{fieldEnd, placesIn, placesFrom, places, overAt}
 use Rattle.fields.proofs.Truth.{by-test}
-use Rattle.fields.proofs.Places.{end-past, in-done, in-next, in-past}
+use Rattle.fields.proofs.Places.{end-past, in-done, in-next, in-past, some-done, some-next}
 use Rattle.fields.proofs.Split.{front, size, rest}
 
 -- A turn of the walk that asks for a language over the limit.
@@ -93,12 +93,12 @@ module _ (first second limit tag n : ℕ) (s : List ℕ) (p : ℕ) where
   abbrev isEither : ℕ → Bool
   isEither t = eqb t first || eqb t second
 
-  pub over-short : length s < p + 3 → false ≡ overAt isEither limit s p
-  over-short h = sym (at-cut isEither limit s p h)
+  module _ (header : p + 2 < length s) (en : n ≡ pairAt s (p + 1)) where
+    there : p + 3 ≤ length s
+    there = omega arith
 
-  module _ (header : p + 3 ≤ length s) (en : n ≡ pairAt s (p + 1)) where
     pub over-within : n ≤ limit → false ≡ overAt isEither limit s p
-    over-within h = sym (at-header isEither limit s p header ∙ within (isEither (getD s p 0)) (rw (← en) (le-ltb limit n h)))
+    over-within h = sym (at-header isEither limit s p there ∙ within (isEither (getD s p 0)) (rw (← en) (le-ltb limit n h)))
       where
         within : (a : Bool) {b : Bool} → b ≡ false → (a && b) ≡ false
         within true e = e
@@ -106,7 +106,7 @@ module _ (first second limit tag n : ℕ) (s : List ℕ) (p : ℕ) where
 
     module _ (more : limit < n) (et : tag ≡ getD s p 0) where
       over-tag : isEither tag ≡ overAt isEither limit s p
-      over-tag = sym (at-header isEither limit s p header ∙ rw (← en, ← et, lt-ltb limit n more) (and-true (isEither tag)))
+      over-tag = sym (at-header isEither limit s p there ∙ rw (← en, ← et, lt-ltb limit n more) (and-true (isEither tag)))
         where
           and-true : (a : Bool) → (a && true) ≡ a
           and-true true = refl
@@ -117,3 +117,12 @@ module _ (first second limit tag n : ℕ) (s : List ℕ) (p : ℕ) where
 
       pub over-second : (tag ≡ first → ⊥) → eqb tag second ≡ overAt isEither limit s p
       over-second h = sym (rw (ne-eqb tag first h)) ∙ over-tag
+
+-- says_over: the first three bytes of the field at p are not there
+pub over-cut-off : (isLanguage : ℕ → Bool) (limit : ℕ) (s : List ℕ) (p : ℕ) (x : Bool)
+    → any (overAt isLanguage limit s) (placesFrom s p) ≡ x → p < length s → length s - p < 3 → false ≡ x
+over-cut-off isLanguage limit s p x inv here h =
+    let f = overAt isLanguage limit s in
+    let w : length s < p + 3 = omega arith in
+    let past : length s ≤ fieldEnd s p = omega (arith, end-past s p) in
+    some-done f s (fieldEnd s p) x (some-next f s p x inv false (sym (at-cut isLanguage limit s p w)) (fieldEnd s p) refl here refl) past

@@ -1,14 +1,15 @@
 -- The walk by places, a turn at a time, and the passes of the code that go by it.
 use Prim.Native.Nat.{ℕ, zero, suc, _+_, _-_, _<_, _≤_}
 use mathlib.Core.Path.{_≡_, refl, sym, ap, _∙_}
-use mathlib.Core.Bool.{Bool, true, false}
+use mathlib.Core.Bool.{Bool, true, false, _&&_}
 use mathlib.Core.List.{List, [], _∷_}
 use native.Mathlib.Omega.{arith}
-use lib.ListN.{length}
+use lib.ListN.{length, getD}
 use lib.Dec.{leb}
-use borrow.Author.Tests.{le-leb, lt-leb, leb-true, leb-false}
+use borrow.Author.Tests.{le-leb, lt-leb, leb-true, leb-false, ltb-true}
 use Rattle.fields.specs.Lists.{all, any}
-use Rattle.fields.specs.Inner.Places.{fieldEnd, placesIn, placesFrom}
+use Rattle.fields.specs.Fields.{pairAt}
+use Rattle.fields.specs.Inner.Places.{fieldEnd, isWhole, WholeEnd, EndIfWhole, longAt, placesIn, placesFrom, tagsOrdered}
 use Rattle.fields.proofs.Truth.{by-test}
 use Rattle.fields.proofs.Lists.{all-stop, all-next, all-true, any-stop, any-next}
 
@@ -93,7 +94,74 @@ module _ (f : ℕ → Bool) (s : List ℕ) (p : ℕ) (x : Bool) where
       pub some-next : b ≡ false → any f (placesFrom s end) ≡ x
       some-next h = any-next f p _ (pass-next (any f) s p x inv end here ee) (sym eb ∙ h)
 
+-- A pass that asks whether every place passes the test, and whether the tags are in order.
+module _ (test : ℕ → Bool) (s : List ℕ) (last p : ℕ) (x : Bool) (inv : tagsOrdered test s last (placesFrom s p) ≡ x) where
+  pub ordered-done : length s ≤ p → true ≡ x
+  unfolding tagsOrdered
+  ordered-done h = pass-done (tagsOrdered test s last) s p x inv h
+
+  module _ (b : Bool) (eb : b ≡ test p) (end : ℕ) (ee : end ≡ fieldEnd s p) (here : p < length s) where
+    turn : ((b && leb last (getD s p 0)) && tagsOrdered test s (getD s p 0) (placesFrom s end)) ≡ x
+    unfolding tagsOrdered
+    turn = rw eb (pass-next (tagsOrdered test s last) s p x inv end here ee)
+
+    pub ordered-stop : b ≡ false → false ≡ x
+    ordered-stop h = rw h at turn
+
+    module _ (good : b ≡ true) (tag : ℕ) (et : tag ≡ getD s p 0) where
+      pub ordered-falls : tag < last → false ≡ x
+      ordered-falls h = rw (good, ← et, lt-leb last tag h) at turn
+
+      pub ordered-next : last ≤ tag → tagsOrdered test s tag (placesFrom s end) ≡ x
+      ordered-next h = rw (good, ← et, le-leb last tag h) at turn
+
 -- Where every place from p on passes, the one at p does, and every further one.
 pub every-here : (f : ℕ → Bool) (s : List ℕ) (p : ℕ) → all f (placesFrom s p) ≡ true → p < length s
     → (f p ≡ true) × (all f (placesFrom s (fieldEnd s p)) ≡ true)
 every-here f s p inv here = all-true f p _ (pass-next (all f) s p true inv (fieldEnd s p) here refl)
+
+-- What holds at every place from p on holds at every place after p.
+pub every-after : (f : ℕ → Bool) (s : List ℕ) (p e : ℕ) → e ≡ fieldEnd s p → all f (placesFrom s p) ≡ true → p < length s
+    → all f (placesFrom s e) ≡ true
+every-after f s p e ee inv here = rw ee (every-here f s p inv here .1)
+
+-- The field at p: whole, or cut off.
+module _ (s : List ℕ) (p : ℕ) where
+  pub whole-end : isWhole s p ≡ true → (e : ℕ) → e ≡ fieldEnd s p → WholeEnd s p e
+  unfolding isWhole
+  whole-end w e ee = record { is = ee; past = rw ee (end-past s p); fits = rw ee (leb-true _ _ w) }
+
+  pub end-whole : (e : ℕ) → WholeEnd s p e → isWhole s p ≡ true
+  unfolding isWhole
+  end-whole e w = le-leb _ _ (rw (w .is) at (w .fits))
+
+  pub head-there : isWhole s p ≡ true → p + 2 < length s
+  head-there w = let d = whole-end w (fieldEnd s p) refl in omega (arith, d .past, d .fits)
+
+  -- The length of the contents, of the field's end.
+  pub size-of : (e : ℕ) → e ≡ fieldEnd s p → e - p - 3 ≡ pairAt s (p + 1)
+  unfolding fieldEnd
+  size-of e h = omega arith
+
+  -- The first five bytes are there.
+  pub long-here : longAt s p ≡ true → p + 4 < length s
+  unfolding longAt
+  long-here h = ltb-true _ _ h
+
+  -- end_if_whole
+  pub cut-head : length s < p + 3 → EndIfWhole s p 0
+  unfolding isWhole
+  cut-head h =
+      let k : length s < fieldEnd s p = omega (arith, end-past s p) in
+      record { cut = λ z. lt-leb _ _ k; whole = λ z. absurd (z refl) }
+
+  module _ (e : ℕ) (ee : e ≡ fieldEnd s p) where
+    pub cut-end : length s < e → EndIfWhole s p 0
+    unfolding isWhole
+    cut-end h = record { cut = λ z. lt-leb _ _ (rw ee at h); whole = λ z. absurd (z refl) }
+
+    pub end-inside : e ≤ length s → EndIfWhole s p e
+    end-inside h = record {
+      cut = λ z. absurd (omega (arith, end-past s p));
+      whole = λ z. record { is = ee; past = rw ee (end-past s p); fits = h };
+    }

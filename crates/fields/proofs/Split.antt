@@ -1,20 +1,20 @@
 -- The walk by places meets exactly the fields of `fieldsOf`.
 use Prim.Native.Nat.{ℕ, zero, suc, _+_, _-_, _<_, _≤_}
 use mathlib.Core.Path.{_≡_, refl, sym, ap, _∙_}
-use mathlib.Core.Bool.{Bool, true, cond}
+use mathlib.Core.Bool.{Bool, true, false, cond, _&&_}
 use mathlib.Core.List.{List, [], _∷_, map}
 use mathlib.Core.Option.{Option, none, some}
 use native.Mathlib.Omega.{arith}
 use native.Mathlib.Numerals.{add-one}
-use lib.ListN.{length, getD, take, drop, length-drop, drop-of-length-le}
-use lib.Seq.{drop-cons, drop-drop, getD-drop, getD-take}
+use lib.ListN.{length, getD, take, drop, length-take, length-drop, drop-of-length-le}
+use lib.Seq.{slice, drop-cons, drop-drop, getD-drop, getD-take}
 use lib.Dec.{leb}
 use borrow.Author.Tests.{le-leb, lt-leb, leb-true, leb-false}
 use Rattle.fields.specs.Lists.{all, traverse, before}
-use Rattle.fields.specs.Fields.{Field, pairAt, splitFields, fieldsOf}
-use Rattle.fields.specs.Inner.Places.{fieldEnd, isWhole, fieldAt, placesIn, placesFrom, places}
+use Rattle.fields.specs.Fields.{Field, pairAt, splitFields, fieldsOf, decodedIn}
+use Rattle.fields.specs.Inner.Places.{fieldEnd, isWhole, contentsAt, fieldAt, placesIn, placesFrom, places}
 use Rattle.fields.proofs.Truth.{by-test}
-use Rattle.fields.proofs.Lists.{before-conds, all-true}
+use Rattle.fields.proofs.Lists.{before-conds, all-true, all-and, part-is, part-past}
 use Rattle.fields.proofs.Places.{end-past, in-done, in-next, enough}
 
 -- A byte, and a pair, of a part.
@@ -128,13 +128,53 @@ module _ (s : List ℕ) (p : ℕ) where
     unfolding fieldsOf
     fields-cut h = split-cut s p (length (drop p s)) in-s h
 
--- What is read of each field is read at its place: ok and at say so of one field that is whole.
-module _ {E : Type 0} (of : Field → Option E) (ok : ℕ → Bool) (at : ℕ → E) (s : List ℕ)
-    (same : (p : ℕ) → isWhole s p ≡ true → of (fieldAt s p) ≡ cond (ok p) (some (at p)) none) where
-  pub traverse-at-places : (l : List ℕ) → all (isWhole s) l ≡ true
-      → traverse of (map (fieldAt s) l) ≡ cond (all ok l) (some (map at l)) none
+-- The contents of the whole field at p: their length, a number in them, their first two bytes, and what comes after those.
+module _ (s : List ℕ) (p : ℕ) (w : isWhole s p ≡ true) where
+  fits : p + 3 + pairAt s (p + 1) ≤ length s
+  unfolding isWhole fieldEnd
+  fits = leb-true _ _ w
+
+  pub contents-length : length (contentsAt s p) ≡ pairAt s (p + 1)
+  contents-length = let h = fits in simp (length-take, length-drop) (omega arith)
+
+  pub contents-pair : (i j : ℕ) → i + 1 < pairAt s (p + 1) → p + 3 + i ≡ j → pairAt (contentsAt s p) i ≡ pairAt s j
+  contents-pair i j = pair-in s (pairAt s (p + 1)) (p + 3) i j
+
+  pub contents-first : 1 ≤ pairAt s (p + 1) → getD (contentsAt s p) 0 0 ≡ getD s (p + 3) 0
+  contents-first h = byte-in s (pairAt s (p + 1)) (p + 3) 0 (p + 3) (omega arith) (omega arith)
+
+  pub contents-second : 2 ≤ pairAt s (p + 1) → getD (contentsAt s p) 1 0 ≡ getD s (p + 4) 0
+  contents-second h = byte-in s (pairAt s (p + 1)) (p + 3) 1 (p + 4) (omega arith) (omega arith)
+
+  pub contents-after : drop 2 (contentsAt s p) ≡ slice (p + 5) (fieldEnd s p) s
+  unfolding fieldEnd
+  contents-after =
+      let h : p + 3 ≤ length s = omega (arith, fits) in
+      let d : p + 3 + 2 ≡ p + 5 = omega arith in
+      cc (part-is s (p + 3) (pairAt s (p + 1)) h, part-past s (p + 3) (p + 3 + pairAt s (p + 1)) 2)
+
+-- A decoder of fields of two tags, from what it does for each: x says that the field has the one, y that it has the other.
+pub two-tags : {A : Type 0} (x y : Bool) {d e : Option A} (g k : Bool) (u v : A) → d ≡ cond g (some u) none → e ≡ cond k (some v) none
+    → cond x d (cond y e none) ≡ cond (cond x g (cond y k false)) (some (cond x u v)) none
+two-tags true y g k u v h j = h
+two-tags false true g k u v h j = j
+two-tags false false g k u v h j = refl
+
+-- What is decoded of each field is read at its place: ok and at say so of one field that is whole.
+module _ {E : Type 0} (decode : Field → Option E) (ok : ℕ → Bool) (at : ℕ → E) (s : List ℕ)
+    (same : (p : ℕ) → isWhole s p ≡ true → decode (fieldAt s p) ≡ cond (ok p) (some (at p)) none) where
+  traverse-at-places : (l : List ℕ) → all (isWhole s) l ≡ true
+      → traverse decode (map (fieldAt s) l) ≡ cond (all ok l) (some (map at l)) none
   unfolding traverse all
   traverse-at-places [] h = refl
   traverse-at-places (p ∷ l) h =
       let w = all-true (isWhole s) p l h in
       rw (same p (w .0), traverse-at-places l (w .1)) (before-conds (ok p) (all ok l) (at p) (map at l))
+
+  -- What is decoded of a file is there if each field is whole and decoded.
+  pub decoded-at-places : decodedIn decode (fieldsOf s)
+      ≡ cond (all (λ p. isWhole s p && ok p) (places s)) (some (map at (places s))) none
+  decoded-at-places =
+      by-test (all (isWhole s) (places s))
+      (λ h. cc (fields-at-places s, traverse-at-places (places s) h, all-and (isWhole s) ok (places s)))
+      (λ h. cc (fields-at-places s, all-and (isWhole s) ok (places s)))

@@ -6,7 +6,7 @@ use mathlib.Core.List.{List, [], _∷_, _++_}
 use mathlib.Core.Option.{Option, none, some}
 use lib.ListN.{length, getD, take, drop}
 use lib.Dec.{ltb, leb}
-use Rattle.fields.specs.Lists.{before, concatMap}
+use Rattle.fields.specs.Lists.{before, concatMap, traverse}
 
 -- A field: its tag and its contents.
 pub data Field : Type 0 where
@@ -45,6 +45,11 @@ splitFields (suc fuel) (tag ∷ r) =
 -- The same, with fuel for all bytes.
 unfoldable pub fieldsOf : List ℕ → Option (List Field)
 fieldsOf s = splitFields (suc (length s)) s
+
+-- What a decoder gives for each of the fields, where the fields are there and it gives something for each.
+abbrev pub decodedIn : {A : Type 0} → (Field → Option A) → Option (List Field) → Option (List A)
+decodedIn decode none = none
+decodedIn decode (some fs) = traverse decode fs
 
 -- A field whose tag is of a language, reached over whole fields of any tag, says in its length bytes that it is
 -- over the limit (paper 01, "Check a translation", last sentence). Its contents need not be whole.

@@ -4,29 +4,29 @@ use mathlib.Core.Bool.{Bool, true, false}
 use mathlib.Core.List.{List, _++_}
 use lib.ListN.{length, drop}
 use Rattle.fields.specs.declared.outcome.Reason.{Reason}
-use Rattle.fields.specs.declared.outcome.Reason.the-variants.{TooLong, Broken, Order, Clash, Mapping, Clauses, Code, Term, Lent, Unbound, Limit, SumUnfit, JoinUnfit, Root, Tree, Levels, Output}
+use Rattle.fields.specs.declared.outcome.Reason.the-variants.{TooLong, BrokenField, OutOfOrder, ClassIsResult, WrongMapping, WrongClauses, IllegalCode, IllegalTerm, BuffersTooShort, UnboundVariable, ValueTooLarge, SumUnfit, JoinUnfit, UnknownRoot, IllegalTree, TooDeep, OutputTooShort}
 use Rattle.fields.specs.declared.outcome.Outcome.{Outcome}
 use Rattle.fields.specs.declared.outcome.Outcome.the-variants.{Accepted, Refused}
 
 -- The number of each refusal.
 abbrev pub reasonNumber : Reason → ℕ
 reasonNumber TooLong = 1
-reasonNumber Broken = 2
-reasonNumber Order = 3
-reasonNumber Clash = 4
-reasonNumber Mapping = 5
-reasonNumber Clauses = 6
-reasonNumber Code = 7
-reasonNumber Term = 8
-reasonNumber Lent = 9
-reasonNumber Unbound = 10
-reasonNumber Limit = 11
+reasonNumber BrokenField = 2
+reasonNumber OutOfOrder = 3
+reasonNumber ClassIsResult = 4
+reasonNumber WrongMapping = 5
+reasonNumber WrongClauses = 6
+reasonNumber IllegalCode = 7
+reasonNumber IllegalTerm = 8
+reasonNumber BuffersTooShort = 9
+reasonNumber UnboundVariable = 10
+reasonNumber ValueTooLarge = 11
 reasonNumber SumUnfit = 12
 reasonNumber JoinUnfit = 13
-reasonNumber Root = 14
-reasonNumber Tree = 15
-reasonNumber Levels = 16
-reasonNumber Output = 17
+reasonNumber UnknownRoot = 14
+reasonNumber IllegalTree = 15
+reasonNumber TooDeep = 16
+reasonNumber OutputTooShort = 17
 
 -- The number that an outsider sees.
 abbrev pub numberOf : Outcome → ℕ

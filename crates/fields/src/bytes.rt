@@ -1,11 +1,11 @@
-// Bytes of a slice, read without a fault past its end.
+// The bytes of a slice, and the numbers that they hold.
 ghost use mathlib.Core.Path.{_≡_};
 ghost use Prim.Native.Nat.{_+_, _*_, _<_, _≤_};
 ghost use lib.ListN.{length, getD};
 ghost use Rattle.fields.specs.Fields.{pairAt};
 
 // A byte as a position or a length.
-pub fn wide(x: u8) -> usize
+pub fn to_usize(x: u8) -> usize
     ensures { λ r. ⌜ (r ≡ x) × (r < 256) ⌝ }
 {
     x as usize
@@ -18,10 +18,18 @@ pub fn byte_at(s: &[u8], i: usize) -> u8
     if i < s.len() { s[i] } else { 0 }
 }
 
-// The number in the two bytes at i, high byte first.
+// The number in the two bytes at i, high byte first; a byte past the end counts as 0.
 pub fn pair_at(s: &[u8], i: usize) -> usize
     requires { ⌜ i ≤ length (now s) + 16 ⌝ }
     ensures { λ r. ⌜ (r ≡ pairAt (now (s .entry)) i) × (r < 65536) ⌝ }
 {
-    wide(byte_at(s, i)) * 256 + wide(byte_at(s, i + 1))
+    to_usize(byte_at(s, i)) * 256 + to_usize(byte_at(s, i + 1))
+}
+
+// The same number, where both bytes are known to be there.
+pub fn pair_in(s: &[u8], i: usize) -> usize
+    requires { ⌜ i + 1 < length (now s) ⌝ }
+    ensures { λ r. ⌜ (r ≡ pairAt (now (s .entry)) i) × (r < 65536) ⌝ }
+{
+    to_usize(s[i]) * 256 + to_usize(s[i + 1])
 }

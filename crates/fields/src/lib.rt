@@ -1,4 +1,5 @@
-// The ground: why an operation refuses, what it answers, and the field format.
+// What all operations share: the reasons for a refusal, the answer, and the field format with its walks and copies.
 pub mod bytes;
+pub mod copy;
 pub mod outcome;
 pub mod walk;

@@ -1,15 +1,17 @@
 // The walk over the fields of a file, whatever their tags.
 ghost use mathlib.Core.Path.{_≡_};
-ghost use mathlib.Core.Bool.{_||_};
-ghost use Prim.Native.Nat.{_<_, _≤_};
+ghost use mathlib.Core.Bool.{true, _||_};
+ghost use Prim.Native.Nat.{_+_, _<_, _≤_};
 ghost use lib.Dec.{eqb};
 ghost use lib.ListN.{length};
 ghost use Rattle.fields.specs.Fields.{hasOver};
 ghost use Rattle.fields.specs.Keyed.{rising};
-ghost use Rattle.fields.specs.Inner.Places.{EndsAt, keyAt, places, overAt};
+ghost use Rattle.fields.specs.Lists.{all};
+ghost use Rattle.fields.specs.Inner.Places.{EndsAt, EndIfWhole, longAt, keyAt, places, overAt};
 use super::bytes::byte_at;
 use super::bytes::pair_at;
-use super::bytes::wide;
+use super::bytes::pair_in;
+use super::bytes::to_usize;
 
 // Where the field at p ends, by its length bytes. It is whole if that is not past the end of the file.
 pub fn field_end(s: &[u8], p: usize) -> usize
@@ -19,46 +21,79 @@ pub fn field_end(s: &[u8], p: usize) -> usize
     p + 3 + pair_at(s, p + 1)
 }
 
-// The key of the entry at p, in a file whose first entries have the tag `first`.
-pub fn key_at(s: &[u8], p: usize, first: u8) -> usize
-    requires { ⌜ p ≤ length (now s) ⌝ }
-    ensures { λ r. ⌜ (r ≡ keyAt first (now (s .entry)) p) × (r < 65568) ⌝ }
+// The same, where its length bytes are known to be there.
+pub fn whole_end(s: &[u8], p: usize) -> usize
+    requires { ⌜ p + 2 < length (now s) ⌝ }
+    ensures { λ r. ⌜ EndsAt (now (s .entry)) p r ⌝ }
 {
-    if byte_at(s, p) == first {
-        return wide(byte_at(s, p + 3));
+    p + 3 + pair_in(s, p + 1)
+}
+
+// Where the field at p ends if it is whole, and 0 if it is not.
+pub fn end_if_whole(s: &[u8], p: usize) -> usize
+    requires { ⌜ p ≤ length (now s) ⌝ }
+    ensures { λ r. ⌜ EndIfWhole (now (s .entry)) p r ⌝ }
+{
+    if s.len() - p < 3 {
+        return 0;
+    }
+    let e = whole_end(s, p);
+    if s.len() < e {
+        return 0;
+    }
+    e
+}
+
+// The key of the entry at p, in a file whose leading entries have the tag `leading_tag`.
+pub fn key_at(s: &[u8], p: usize, leading_tag: u8) -> usize
+    requires { ⌜ p ≤ length (now s) ⌝ }
+    ensures { λ r. ⌜ (r ≡ keyAt «leading_tag» (now (s .entry)) p) × (r < 65568) ⌝ }
+{
+    if byte_at(s, p) == leading_tag {
+        return to_usize(byte_at(s, p + 3));
     }
     32 + pair_at(s, p + 3)
 }
 
+// The same, where its first five bytes are known to be there.
+pub fn whole_key(s: &[u8], p: usize, leading_tag: u8) -> usize
+    requires { ⌜ p + 4 < length (now s) ⌝ }
+    ensures { λ r. ⌜ (r ≡ keyAt «leading_tag» (now (s .entry)) p) × (r < 65568) ⌝ }
+{
+    if s[p] == leading_tag {
+        return to_usize(s[p + 3]);
+    }
+    32 + pair_in(s, p + 3)
+}
+
 // The keys of the entries rise, and none comes twice.
-pub fn keys_rise(s: &[u8], first: u8) -> bool
-    ensures { λ r. ⌜ r ≡ rising (keyAt first (now (s .entry))) (places (now (s .entry))) ⌝ }
+pub fn keys_rise(s: &[u8], leading_tag: u8) -> bool
+    requires { ⌜ all (longAt (now s)) (places (now s)) ≡ true ⌝ }
+    ensures { λ r. ⌜ r ≡ rising (keyAt «leading_tag» (now (s .entry))) (places (now (s .entry))) ⌝ }
 {
     let mut least = 0;
     let mut p = 0;
     while p < s.len() {
-        let key = key_at(s, p, first);
+        let key = whole_key(s, p, leading_tag);
         if key < least {
             return false;
         }
         least = key + 1;
-        p = field_end(s, p);
+        p = whole_end(s, p);
     }
     true
 }
 
-// The field at p has one of the two tags, and says in its length bytes that it is over the limit.
+// The field at p, whose first three bytes are there, has one of the two tags and says in its length bytes that it is
+// over the limit.
 fn over_at(s: &[u8], p: usize, first: u8, second: u8, limit: usize) -> bool
-    requires { ⌜ p ≤ length (now s) ⌝ }
+    requires { ⌜ p + 2 < length (now s) ⌝ }
     ensures { λ r. ⌜ r ≡ overAt (λ tag. eqb tag first || eqb tag second) limit (now (s .entry)) p ⌝ }
 {
-    if s.len() < p + 3 {
+    if pair_in(s, p + 1) <= limit {
         return false;
     }
-    if pair_at(s, p + 1) <= limit {
-        return false;
-    }
-    let tag = byte_at(s, p);
+    let tag = s[p];
     if tag == first {
         return true;
     }
@@ -71,10 +106,13 @@ pub fn says_over(s: &[u8], first: u8, second: u8, limit: usize) -> bool
 {
     let mut p = 0;
     while p < s.len() {
+        if s.len() - p < 3 {
+            return false;
+        }
         if over_at(s, p, first, second, limit) {
             return true;
         }
-        p = field_end(s, p);
+        p = whole_end(s, p);
     }
     false
 }

@@ -7,7 +7,7 @@ use mathlib.Core.Option.{Option, none, some}
 use lib.ListN.{length}
 use borrow.Author.Tests.{lt-ltb, le-ltb}
 use Rattle.fields.specs.Outcome.{refuseIf, value, checked}
-use Rattle.fields.specs.declared.outcome.Reason.the-variants.{TooLong, Broken, Order, Clash}
+use Rattle.fields.specs.declared.outcome.Reason.the-variants.{TooLong, BrokenField, OutOfOrder, ClassIsResult}
 use Rattle.fields.specs.declared.outcome.Outcome.the-variants.{Accepted, Refused}
 use Rattle.fields.specs.Lists.{isSome}
 use Rattle.fields.specs.Keyed.{rising}
@@ -33,17 +33,17 @@ module _ (s : List ℕ) where
   too-long h = cc (lt-ltb 1024 (length s) h)
 
   module _ (short : length s ≤ 1024) (there-is : Bool) (et : there-is ≡ isSome (entriesOf s)) where
-    absent : (o : Option Language) → entriesOf s ≡ o → isSome o ≡ false → Refused Broken ≡ checkLanguage s
+    absent : (o : Option Language) → entriesOf s ≡ o → isSome o ≡ false → Refused BrokenField ≡ checkLanguage s
     unfolding checkLanguage languageOf
     absent none e h = cc (le-ltb 1024 (length s) short)
     absent (some l) e h = false-true (sym h)
 
-    pub broken : there-is ≡ false → Refused Broken ≡ checkLanguage s
+    pub broken : there-is ≡ false → Refused BrokenField ≡ checkLanguage s
     broken h = absent (entriesOf s) refl (sym et ∙ h)
 
     module _ (whole : there-is ≡ true) (rise : Bool) (er : rise ≡ rising (keyAt 0x11 s) (places s)) where
       rest : (l : Language) → entriesOf s ≡ some l
-          → checked (refuseIf (not rise) Order (refuseIf (resultIsClass s) Clash (value l))) ≡ checkLanguage s
+          → checked (refuseIf (not rise) OutOfOrder (refuseIf (resultIsClass s) ClassIsResult (value l))) ≡ checkLanguage s
       unfolding checkLanguage languageOf
       rest l e =
           let h = holds-entries s l e in
@@ -51,15 +51,15 @@ module _ (s : List ℕ) where
 
       -- what is left of the chain, for the entries that the file holds
       left : {A : Type 0}
-          → ((l : Language) → checked (refuseIf (not rise) Order (refuseIf (resultIsClass s) Clash (value l))) ≡ checkLanguage s → A)
+          → ((l : Language) → checked (refuseIf (not rise) OutOfOrder (refuseIf (resultIsClass s) ClassIsResult (value l))) ≡ checkLanguage s → A)
           → A
       left f = let r = some-is (entriesOf s) (sym et ∙ whole) in f (r .0) (rest (r .0) (r .1))
 
-      pub out-of-order : rise ≡ false → Refused Order ≡ checkLanguage s
+      pub out-of-order : rise ≡ false → Refused OutOfOrder ≡ checkLanguage s
       out-of-order h = left (λ l e. rw h at e)
 
       module _ (rises : rise ≡ true) (both : Bool) (eb : both ≡ resultIsClass s) where
-        pub clash : both ≡ true → Refused Clash ≡ checkLanguage s
+        pub clash : both ≡ true → Refused ClassIsResult ≡ checkLanguage s
         clash h = left (λ l e. rw (rises, ← eb, h) at e)
 
         pub accepted : both ≡ false → Accepted 0 ≡ checkLanguage s

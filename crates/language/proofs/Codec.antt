@@ -9,14 +9,14 @@ use lib.ListN.{length, drop, length-drop}
 use lib.Dec.{ltb, leb}
 use borrow.Author.Tests.{le-leb, leb-true, eqb-true, le-ltb, ltb-false}
 use Rattle.fields.specs.Outcome.{Result, value, refuseIf, _>>=_}
-use Rattle.fields.specs.declared.outcome.Reason.the-variants.{TooLong, Order, Clash}
+use Rattle.fields.specs.declared.outcome.Reason.the-variants.{TooLong, OutOfOrder, ClassIsResult}
 use Rattle.fields.specs.Lists.{all, traverse}
-use Rattle.fields.specs.Fields.{Field, field, byteAt, pairAt, twoBytes, fieldsOf, encodeFields}
+use Rattle.fields.specs.Fields.{Field, field, byteAt, pairAt, twoBytes, fieldsOf, encodeFields, decodedIn}
 use Rattle.fields.specs.Keyed.{rising}
 use Rattle.fields.proofs.Truth.{none-some, and-both, both-and}
 use Rattle.fields.proofs.Codec.{Bytes, contentsOf, Codec, cond-some, refused-value, two-tags, front-two, fields-encode, fields-sound, fields-length, entries-encode, entries-whole, entries-length, entries-sound}
 use Rattle.language.specs.Language.{Entry, class, production, Language, entryKey, clashes}
-use Rattle.language.specs.LanguageFile.{isKind, classOf, productionOf, entryOf, entryField, entriesIn, entriesOf, encodeLanguage, languageLimit, whole, languageOf}
+use Rattle.language.specs.LanguageFile.{isKind, classOf, productionOf, entryOf, entryField, entriesOf, encodeLanguage, languageLimit, whole, languageOf}
 
 -- An entry that a file can hold: its kinds are kinds, low is at most high, and there are at most 8 arguments.
 unfoldable pub entryWhole : Entry → Bool
@@ -128,14 +128,14 @@ pub entryCodec : Codec entryOf entryField entryWhole
 entryCodec = record { reads = entry-reads; wholes = entry-wholes; sizes = entry-sizes; gives = entry-gives }
 
 -- The fields that entries are read from.
-entries-in : (o : Option (List Field)) (l : Language) → entriesIn o ≡ some l → (fs : List Field) × (o ≡ some fs) × (traverse entryOf fs ≡ some l)
+entries-in : (o : Option (List Field)) (l : Language) → decodedIn entryOf o ≡ some l → (fs : List Field) × (o ≡ some fs) × (traverse entryOf fs ≡ some l)
 entries-in none l e = none-some e
 entries-in (some fs) l e = (fs, refl, e)
 
 -- Whole entries that are written are read back.
 pub language-encode : (l : Language) → all entryWhole l ≡ true → entriesOf (encodeLanguage l) ≡ some l
 unfolding entriesOf encodeLanguage
-language-encode l h = ap entriesIn (fields-encode (map entryField l)) ∙ entries-encode entryCodec l h
+language-encode l h = ap (decodedIn entryOf) (fields-encode (map entryField l)) ∙ entries-encode entryCodec l h
 
 module _ (s : List ℕ) (l : Language) (e : entriesOf s ≡ some l) where
   -- The fields that the entries are read from.
@@ -172,8 +172,8 @@ abbrev pub opened : {A B : Type 0} → Bool → Option A → (A → Bool) → (A
 opened long file rises clash rest =
     refuseIf long TooLong
     (whole file >>= λ a.
-    refuseIf (not (rises a)) Order
-    (refuseIf (clash a) Clash
+    refuseIf (not (rises a)) OutOfOrder
+    (refuseIf (clash a) ClassIsResult
     (rest a)))
 
 -- A file that is opened: it is not too long, not broken, in order, and without a clash.
@@ -187,7 +187,7 @@ pub record Opened {A B : Type 0} (long : Bool) (file : Option A) (rises clash : 
 
 module _ {A B : Type 0} (rises clash : A → Bool) (rest : A → Result B) where
   -- A file that was read, with both tests at hand.
-  open-held : (a : A) (b : B) (p q : Bool) → rises a ≡ p → clash a ≡ q → refuseIf (not p) Order (refuseIf q Clash (rest a)) ≡ value b
+  open-held : (a : A) (b : B) (p q : Bool) → rises a ≡ p → clash a ≡ q → refuseIf (not p) OutOfOrder (refuseIf q ClassIsResult (rest a)) ≡ value b
       → Opened false (some a) rises clash rest b
   open-held a b false q r c e = refused-value e
   open-held a b true true r c e = refused-value e

@@ -1,17 +1,18 @@
 -- What is known of a whole entry: which of the two it is, its key, and the entry itself.
-use Prim.Native.Nat.{ℕ, _+_}
+use Prim.Native.Nat.{ℕ, _+_, _<_, _≤_}
 use mathlib.Core.Path.{_≡_}
-use mathlib.Core.Logic.{_⊎_, inl, inr}
+use mathlib.Core.Logic.{_⊎_, inl, inr, ⊎-elim}
 use mathlib.Core.Bool.{true}
 use mathlib.Core.List.{List}
 use native.Mathlib.Omega.{arith}
-use lib.ListN.{getD}
+use lib.ListN.{length, getD}
 use lib.Seq.{slice}
 use lib.Dec.{eqb}
-use borrow.Author.Tests.{eq-eqb, leb-true, ltb-true, eqb-true}
+use borrow.Author.Tests.{eq-eqb, lt-ltb, leb-true, ltb-true, eqb-true}
+use Rattle.fields.specs.Lists.{all}
 use Rattle.fields.specs.Fields.{pairAt}
-use Rattle.fields.specs.Inner.Places.{fieldEnd, isWhole, keyAt}
-use Rattle.fields.proofs.Truth.{by-test, false-true, and-both}
+use Rattle.fields.specs.Inner.Places.{fieldEnd, isWhole, longAt, places, keyAt}
+use Rattle.fields.proofs.Truth.{by-test, false-true, and-both, all-mem, mem-all}
 use Rattle.language.specs.Language.{class, production, entryKey}
 use Rattle.language.specs.Inner.Entries.{classWhole, productionWhole, entryGood, entryWhole, entryAt, IsClass, IsProduction}
 
@@ -68,3 +69,26 @@ module _ (s : List ℕ) (p : ℕ) where
   key-is =
       let d : p + 3 + 1 ≡ p + 4 = omega arith in
       by-test (eqb (getD s p 0) 0x11) (λ e. cc) (λ e. cc)
+
+  -- A whole entry starts with its kind or result, and has its first five bytes.
+  pub entry-kind : entryWhole s p ≡ true → (p + 4 < length s) × (getD s (p + 3) 0 < 32)
+  unfolding fieldEnd
+  entry-kind w =
+      ⊎-elim
+      (λ c. let a = c .fits in let b = c .size in (omega arith, c .kind))
+      (λ c. let a = c .fits in let b = c .two in (omega arith, c .kind))
+      (entry-facts w)
+
+  -- A whole entry with the key of a production is one.
+  pub production-here : entryWhole s p ≡ true → 32 ≤ keyAt 0x11 s p → IsProduction s p
+  unfolding keyAt
+  production-here w h =
+      ⊎-elim
+      (λ c. let k = c .kind in let e : keyAt 0x11 s p ≡ getD s (p + 3) 0 = cc (eq-eqb _ _ (c .tag)) in absurd (omega arith))
+      (λ c. c)
+      (entry-facts w)
+
+-- Whole entries have their first five bytes.
+pub entries-long : (s : List ℕ) → all (entryWhole s) (places s) ≡ true → all (longAt s) (places s) ≡ true
+unfolding longAt
+entries-long s h = mem-all _ (places s) (λ p m. lt-ltb _ _ (entry-kind s p (all-mem (entryWhole s) (places s) h p m) .0))

@@ -1,92 +1,63 @@
 -- The entries by place are the entries of `entriesOf`.
 use Prim.Native.Nat.{ℕ, _+_, _≤_}
-use mathlib.Core.Path.{_≡_, refl, sym, ap, _∙_}
+use mathlib.Core.Path.{_≡_, sym, ap, _∙_}
 use mathlib.Core.Bool.{true, cond}
 use mathlib.Core.List.{List, map}
 use mathlib.Core.Option.{none, some}
 use native.Mathlib.Omega.{arith}
-use lib.ListN.{length, getD, take, drop, length-take, length-drop}
+use lib.ListN.{getD}
 use lib.Seq.{slice}
 use lib.Dec.{leb, eqb}
 use borrow.Author.Tests.{leb-true, eqb-true}
 use Rattle.fields.specs.Lists.{all, isSome}
 use Rattle.fields.specs.Fields.{pairAt}
-use Rattle.fields.specs.Inner.Places.{fieldEnd, isWhole, fieldAt, places}
+use Rattle.fields.specs.Inner.Places.{fieldEnd, isWhole, contentsAt, fieldAt, places}
 use Rattle.fields.proofs.Truth.{by-test}
 use Rattle.fields.proofs.Codec.{cond-some}
-use Rattle.fields.proofs.Lists.{all-and, there-if, part-is, part-past}
-use Rattle.fields.proofs.Split.{byte-in, pair-in, fields-at-places, traverse-at-places}
+use Rattle.fields.proofs.Lists.{there-if}
+use Rattle.fields.proofs.Split.{contents-length, contents-pair, contents-first, contents-second, contents-after, two-tags, decoded-at-places}
 use Rattle.language.specs.Language.{class, production, Language}
 use Rattle.language.specs.LanguageFile.{classOf, productionOf, entryOf, entriesOf}
 use Rattle.language.specs.Inner.Entries.{sizeAt, classWhole, productionWhole, entryGood, entryWhole, entryAt, Holds}
 
--- The contents of the whole field at p.
-module _ (s : List ℕ) (p n : ℕ) (en : n ≡ sizeAt s p) (fits : p + 3 + n ≤ length s) where
-  long : length (take n (drop (p + 3) s)) ≡ n
-  long = simp (length-take, length-drop) (omega arith)
-
-  arguments : drop 2 (take n (drop (p + 3) s)) ≡ slice (p + 5) (fieldEnd s p) s
-  unfolding fieldEnd
-  arguments =
-      let h : p + 3 ≤ length s = omega arith in
-      let d : p + 3 + 2 ≡ p + 5 = omega arith in
-      cc (part-is s (p + 3) n h, part-past s (p + 3) (p + 3 + n) 2)
-
+-- The whole field at p.
+module _ (s : List ℕ) (p : ℕ) (w : isWhole s p ≡ true) where
   -- a class
-  class-here : classOf (take n (drop (p + 3) s))
+  class-here : classOf (contentsAt s p)
       ≡ cond (classWhole s p) (some (class (getD s (p + 3) 0) (pairAt s (p + 4)) (pairAt s (p + 6)))) none
   unfolding classOf classWhole
   class-here =
-      by-test (eqb n 5)
+      by-test (eqb (sizeAt s p) 5)
       (λ e.
-      let h : n ≡ 5 = eqb-true n 5 e in
+      let h : sizeAt s p ≡ 5 = eqb-true _ _ e in
       cc (
-        long,
-        byte-in s n (p + 3) 0 (p + 3) (omega arith) (omega arith),
-        pair-in s n (p + 3) 1 (p + 4) (omega arith) (omega arith),
-        pair-in s n (p + 3) 3 (p + 6) (omega arith) (omega arith),
+        contents-length s p w,
+        contents-first s p w (omega arith),
+        contents-pair s p w 1 (p + 4) (omega arith) (omega arith),
+        contents-pair s p w 3 (p + 6) (omega arith) (omega arith),
       ))
-      (λ e. cc long)
+      (λ e. cc (contents-length s p w))
 
   -- a production
-  production-here : productionOf (take n (drop (p + 3) s))
+  production-here : productionOf (contentsAt s p)
       ≡ cond (productionWhole s p)
       (some (production (getD s (p + 3) 0) (getD s (p + 4) 0) (slice (p + 5) (fieldEnd s p) s))) none
   unfolding productionOf productionWhole
   production-here =
-      by-test (leb 2 n)
+      by-test (leb 2 (sizeAt s p))
       (λ e.
-      let h : 2 ≤ n = leb-true 2 n e in
-      cc (
-        long,
-        byte-in s n (p + 3) 0 (p + 3) (omega arith) (omega arith),
-        byte-in s n (p + 3) 1 (p + 4) (omega arith) (omega arith),
-        arguments,
-      ))
-      (λ e. cc long)
+      let h : 2 ≤ sizeAt s p = leb-true _ _ e in
+      cc (contents-length s p w, contents-first s p w (omega arith), contents-second s p w h, contents-after s p w))
+      (λ e. cc (contents-length s p w))
 
   entry-here : entryOf (fieldAt s p) ≡ cond (entryGood s p) (some (entryAt s p)) none
   unfolding entryOf fieldAt entryGood entryAt
-  entry-here =
-      by-test (eqb (getD s p 0) 0x11)
-      (λ e. cc class-here)
-      (λ e. by-test (eqb (getD s p 0) 0x12) (λ d. cc production-here) (λ d. cc))
-
-entry-at : (s : List ℕ) (p : ℕ) → isWhole s p ≡ true → entryOf (fieldAt s p) ≡ cond (entryGood s p) (some (entryAt s p)) none
-unfolding isWhole fieldEnd
-entry-at s p h = entry-here s p (sizeAt s p) refl (leb-true _ _ h)
+  entry-here = two-tags (eqb (getD s p 0) 0x11) (eqb (getD s p 0) 0x12) _ _ _ _ class-here production-here
 
 -- The entries of a file are those at its places, and are there if each is whole.
 pub entries-at-places : (s : List ℕ) → entriesOf s ≡ cond (all (entryWhole s) (places s)) (some (map (entryAt s) (places s))) none
 unfolding entriesOf entryWhole
-entries-at-places s =
-    by-test (all (isWhole s) (places s))
-    (λ h. cc (
-      fields-at-places s,
-      traverse-at-places entryOf (entryGood s) (entryAt s) s (entry-at s) (places s) h,
-      all-and (isWhole s) (entryGood s) (places s),
-    ))
-    (λ h. cc (fields-at-places s, all-and (isWhole s) (entryGood s) (places s)))
+entries-at-places s = decoded-at-places entryOf (entryGood s) (entryAt s) s (entry-here s)
 
 -- What `entries_whole` tests.
 pub entries-there : (s : List ℕ) → all (entryWhole s) (places s) ≡ isSome (entriesOf s)

@@ -1,7 +1,7 @@
 pub mod Holds
 pub mod Returns
-pub mod Marks
 pub mod Facts
+pub mod Classes
 pub mod Clashes
 pub mod Chain
 pub mod Lookup

@@ -1,17 +1,17 @@
 -- A law for each return, and for each turn of a loop, of the functions on entries.
-use Prim.Native.Nat.{ℕ, _+_, _-_, _<_, _≤_}
+use Prim.Native.Nat.{ℕ, _+_, _<_, _≤_}
 use mathlib.Core.Path.{_≡_}
 use mathlib.Core.Bool.{Bool, true, false}
 use mathlib.Core.List.{List}
-use native.Mathlib.Omega.{arith}
 use lib.ListN.{length, getD}
 use lib.Seq.{slice}
 use lib.Dec.{leb}
 use borrow.Author.Tests.{lt-ltb, le-ltb, le-leb, lt-leb, eq-eqb, ne-eqb}
 use Rattle.fields.specs.Lists.{all}
 use Rattle.fields.specs.Fields.{pairAt}
-use Rattle.fields.specs.Inner.Places.{fieldEnd, isWhole}
+use Rattle.fields.specs.Inner.Places.{fieldEnd, isWhole, WholeEnd}
 use Rattle.fields.proofs.Lists.{all-stop, all-next, part-done, part-next}
+use Rattle.fields.proofs.Places.{end-whole}
 use Rattle.language.specs.LanguageFile.{isKind}
 use Rattle.language.specs.Inner.Entries.{sizeAt, classWhole, productionWhole, entryGood, entryWhole}
 
@@ -58,26 +58,27 @@ module _ (s : List ℕ) (p n k : ℕ) (en : n ≡ sizeAt s p) (ek : k ≡ getD s
   unfolding productionWhole fieldEnd
   production-kinds h j i x ex = cc (le-leb 2 n h, le-leb n 10 j, lt-ltb k 32 i)
 
--- entry_whole
-module _ (s : List ℕ) (p e tag : ℕ) (x : Bool) (ee : e ≡ fieldEnd s p) where
-  pub entry-cut : length s < e → false ≡ entryWhole s p
-  unfolding entryWhole isWhole
-  entry-cut h = cc (lt-leb e (length s) h)
+-- entry_good
+module _ (s : List ℕ) (p tag : ℕ) (et : tag ≡ getD s p 0) where
+  pub good-class : tag ≡ 0x11 → (x : Bool) → x ≡ classWhole s p → x ≡ entryGood s p
+  unfolding entryGood
+  good-class h x ex = cc (eq-eqb tag 0x11 h)
 
-  module _ (et : tag ≡ getD s p 0) (fits : e ≤ length s) where
-    pub entry-class : tag ≡ 0x11 → x ≡ classWhole s p → x ≡ entryWhole s p
-    unfolding entryWhole isWhole entryGood
-    entry-class h ex = cc (le-leb e (length s) fits, eq-eqb tag 0x11 h)
+  module _ (other : tag ≡ 0x11 → ⊥) where
+    pub good-production : tag ≡ 0x12 → (x : Bool) → x ≡ productionWhole s p → x ≡ entryGood s p
+    unfolding entryGood
+    good-production h x ex = cc (ne-eqb tag 0x11 other, eq-eqb tag 0x12 h)
 
-    pub entry-production : (tag ≡ 0x11 → ⊥) → tag ≡ 0x12 → x ≡ productionWhole s p → x ≡ entryWhole s p
-    unfolding entryWhole isWhole entryGood
-    entry-production k h ex = cc (le-leb e (length s) fits, ne-eqb tag 0x11 k, eq-eqb tag 0x12 h)
+    pub good-neither : (tag ≡ 0x12 → ⊥) → false ≡ entryGood s p
+    unfolding entryGood
+    good-neither h = cc (ne-eqb tag 0x11 other, ne-eqb tag 0x12 h)
 
-    pub entry-other : (tag ≡ 0x11 → ⊥) → (tag ≡ 0x12 → ⊥) → false ≡ entryWhole s p
-    unfolding entryWhole isWhole entryGood
-    entry-other k h = cc (le-leb e (length s) fits, ne-eqb tag 0x11 k, ne-eqb tag 0x12 h)
+-- entries_whole
+module _ (s : List ℕ) (p : ℕ) where
+  pub entry-cut : isWhole s p ≡ false → false ≡ entryWhole s p
+  unfolding entryWhole
+  entry-cut h = rw h
 
--- the length of the contents, of the field's end
-pub size-of : (s : List ℕ) (p e : ℕ) → e ≡ fieldEnd s p → e - p - 3 ≡ sizeAt s p
-unfolding fieldEnd
-size-of s p e h = omega arith
+  pub entry-is : (e : ℕ) → WholeEnd s p e → (x : Bool) → x ≡ entryGood s p → x ≡ entryWhole s p
+  unfolding entryWhole
+  entry-is e w x ex = rw (end-whole s p e w) ex

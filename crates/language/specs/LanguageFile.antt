@@ -6,9 +6,9 @@ use mathlib.Core.Option.{Option, none, some}
 use lib.ListN.{length, drop}
 use lib.Dec.{ltb, leb, eqb}
 use Rattle.fields.specs.Outcome.{Result, value, refused, refuseIf, _>>=_}
-use Rattle.fields.specs.declared.outcome.Reason.the-variants.{TooLong, Broken, Order, Clash}
-use Rattle.fields.specs.Lists.{all, traverse}
-use Rattle.fields.specs.Fields.{Field, field, byteAt, pairAt, twoBytes, fieldsOf, encodeFields}
+use Rattle.fields.specs.declared.outcome.Reason.the-variants.{TooLong, BrokenField, OutOfOrder, ClassIsResult}
+use Rattle.fields.specs.Lists.{all}
+use Rattle.fields.specs.Fields.{Field, field, byteAt, pairAt, twoBytes, fieldsOf, decodedIn, encodeFields}
 use Rattle.fields.specs.Keyed.{rising}
 use Rattle.language.specs.Language.{Entry, class, production, Language, entryKey, clashes}
 
@@ -39,14 +39,9 @@ unfoldable pub entryField : Entry → Field
 entryField (class k low high) = field 0x11 (k ∷ (twoBytes low ++ twoBytes high))
 entryField (production r p arguments) = field 0x12 (r ∷ p ∷ arguments)
 
--- The entries of a list of fields, and of bytes: none where one is broken.
-abbrev pub entriesIn : Option (List Field) → Option Language
-entriesIn none = none
-entriesIn (some fs) = traverse entryOf fs
-
--- The entries of a file.
+-- The entries of a file: none where a field is broken.
 unfoldable pub entriesOf : List ℕ → Option Language
-entriesOf s = entriesIn (fieldsOf s)
+entriesOf s = decodedIn entryOf (fieldsOf s)
 
 -- The bytes of a language.
 unfoldable pub encodeLanguage : Language → List ℕ
@@ -56,9 +51,9 @@ encodeLanguage l = encodeFields (mathlib.Core.List.map entryField l)
 abbrev pub languageLimit : ℕ
 languageLimit = 1024
 
--- What is asked of the entries of a file, or the refusal Broken where they are none.
+-- What is asked of the entries of a file, or the refusal BrokenField where they are none.
 abbrev pub whole : {A : Type 0} → Option A → Result A
-whole none = refused Broken
+whole none = refused BrokenField
 whole (some a) = value a
 
 -- The language that a file holds: 1, 2, 3 or 4, the lowest, where it holds none.
@@ -66,6 +61,6 @@ unfoldable pub languageOf : List ℕ → Result Language
 languageOf s =
     refuseIf (ltb languageLimit (length s)) TooLong
     (whole (entriesOf s) >>= λ l.
-    refuseIf (not (rising entryKey l)) Order
-    (refuseIf (clashes l l) Clash
+    refuseIf (not (rising entryKey l)) OutOfOrder
+    (refuseIf (clashes l l) ClassIsResult
     (value l)))

@@ -2,6 +2,7 @@
 ghost use mathlib.Core.Path.{_≡_};
 ghost use Rattle.language.specs.Operations.{checkLanguage};
 use super::clash::result_is_class;
+use super::entries::CLASS;
 use super::entries::entries_whole;
 use fields::outcome::Answer;
 use fields::outcome::Reason;
@@ -9,21 +10,24 @@ use fields::outcome::accept;
 use fields::outcome::refuse;
 use fields::walk::keys_rise;
 
+// A language has at most so many bytes.
+pub const LANGUAGE_LIMIT: usize = 1024;
+
 // Check a language: the lowest refusal of 1 to 4 that applies, or accepted.
 pub fn check_language(language: &[u8]) -> Answer
     ensures { λ r. ⌜ r .outcome ≡ checkLanguage (now (language .entry)) ⌝ }
 {
-    if 1024 < language.len() {
+    if LANGUAGE_LIMIT < language.len() {
         return refuse(Reason::TooLong);
     }
     if !entries_whole(language) {
-        return refuse(Reason::Broken);
+        return refuse(Reason::BrokenField);
     }
-    if !keys_rise(language, 0x11) {
-        return refuse(Reason::Order);
+    if !keys_rise(language, CLASS) {
+        return refuse(Reason::OutOfOrder);
     }
     if result_is_class(language) {
-        return refuse(Reason::Clash);
+        return refuse(Reason::ClassIsResult);
     }
     accept(0)
 }

@@ -1,73 +1,71 @@
-// No kind is both a class and a result.
+// Kinds that are both a class and a result, in files of whole entries whose keys rise, so that the classes come first.
 ghost use mathlib.Core.Path.{_≡_};
-ghost use Prim.Native.Nat.{_≤_};
+ghost use mathlib.Core.Bool.{true, _||_};
 ghost use lib.ListN.{length};
-ghost use Rattle.fields.specs.Inner.Places.{places};
-ghost use Rattle.language.specs.Inner.Entries.{markClass, markClasses, resultMarked, resultsMeet, resultIsClass};
-use fields::bytes::byte_at;
-use fields::bytes::wide;
-use fields::walk::field_end;
+ghost use Rattle.fields.specs.Lists.{all, any};
+ghost use Rattle.fields.specs.Inner.Places.{placesFrom, tagIs};
+ghost use Rattle.language.specs.Inner.Entries.{entryWhole, RisingEntries, Classed, resultMarked, resultsMeet, resultIsClass};
+use super::entries::CLASS;
+use fields::bytes::to_usize;
+use fields::walk::whole_end;
 
-// Marks the class at p, if there is one, in the table of kinds. A kind past the table is left out.
-fn mark_class(s: &[u8], p: usize, kinds: &mut [bool])
-    requires { ⌜ p ≤ length (now s) ⌝ }
-    ensures { λ r. ⌜ now (kinds .exit) ≡ markClass (now (s .entry)) (now (kinds .entry)) p ⌝ }
-{
-    if byte_at(s, p) != 0x11 {
-        return;
-    }
-    let kind = wide(byte_at(s, p + 3));
-    if kinds.len() <= kind {
-        return;
-    }
-    kinds[kind] = true;
-}
-
-// Marks every class in the table of kinds.
-fn mark_classes(s: &[u8], kinds: &mut [bool])
-    ensures { λ r. ⌜ now (kinds .exit) ≡ markClasses (now (s .entry)) (now (kinds .entry)) (places (now (s .entry))) ⌝ }
+// Marks the classes in a table of kinds, and says where the productions start.
+fn mark_classes(s: &[u8], kinds: &mut [bool]) -> usize
+    requires { ⌜ RisingEntries (now s) × (length (now kinds) ≡ 32) ⌝ }
+    ensures { λ r. ⌜ Classed (now (s .entry)) (now (kinds .entry)) (now (kinds .exit)) r ⌝ }
 {
     let mut p = 0;
     while p < s.len() {
-        mark_class(s, p, kinds);
-        p = field_end(s, p);
+        if s[p] != CLASS {
+            return p;
+        }
+        kinds[to_usize(s[p + 3])] = true;
+        p = whole_end(s, p);
     }
+    p
 }
 
-// The entry at p is a production whose result is marked in the table.
-fn result_marked(s: &[u8], p: usize, kinds: &[bool]) -> bool
-    requires { ⌜ p ≤ length (now s) ⌝ }
-    ensures { λ r. ⌜ r ≡ resultMarked (now (s .entry)) (now (kinds .entry)) p ⌝ }
+// The result of some production from q on is marked in the table.
+fn results_marked(s: &[u8], q: usize, kinds: &[bool]) -> bool
+    requires { ⌜ (all (entryWhole (now s)) (placesFrom (now s) q) ≡ true) × (all (tagIs 0x12 (now s)) (placesFrom (now s) q) ≡ true) × (length (now kinds) ≡ 32) ⌝ }
+    ensures { λ r. ⌜ r ≡ any (resultMarked (now (s .entry)) (now (kinds .entry))) (placesFrom (now (s .entry)) q) ⌝ }
 {
-    if byte_at(s, p) != 0x12 {
-        return false;
-    }
-    let result = wide(byte_at(s, p + 3));
-    if kinds.len() <= result {
-        return false;
-    }
-    kinds[result]
-}
-
-// Some class of s is a result of t.
-pub fn results_meet(s: &[u8], t: &[u8]) -> bool
-    ensures { λ r. ⌜ r ≡ resultsMeet (now (s .entry)) (now (t .entry)) ⌝ }
-{
-    let mut kinds = [false; 32];
-    mark_classes(s, &mut kinds);
-    let mut p = 0;
-    while p < t.len() {
-        if result_marked(t, p, &kinds) {
+    let mut p = q;
+    while p < s.len() {
+        if kinds[to_usize(s[p + 3])] {
             return true;
         }
-        p = field_end(t, p);
+        p = whole_end(s, p);
     }
     false
 }
 
 // Some result is a class.
 pub fn result_is_class(s: &[u8]) -> bool
+    requires { ⌜ RisingEntries (now s) ⌝ }
     ensures { λ r. ⌜ r ≡ resultIsClass (now (s .entry)) ⌝ }
 {
-    results_meet(s, s)
+    let mut kinds = [false; 32];
+    let p = mark_classes(s, &mut kinds);
+    results_marked(s, p, &kinds)
+}
+
+// Some class of one language is a result of the other. Where the productions start at 0 there is no class.
+pub fn clash_between(a: &[u8], b: &[u8]) -> bool
+    requires { ⌜ RisingEntries (now a) × RisingEntries (now b) ⌝ }
+    ensures { λ r. ⌜ r ≡ resultsMeet (now (a .entry)) (now (b .entry)) || resultsMeet (now (b .entry)) (now (a .entry)) ⌝ }
+{
+    let mut kinds = [false; 32];
+    let p = mark_classes(a, &mut kinds);
+    let mut others = [false; 32];
+    let q = mark_classes(b, &mut others);
+    if p != 0 {
+        if results_marked(b, q, &kinds) {
+            return true;
+        }
+    }
+    if q == 0 {
+        return false;
+    }
+    results_marked(a, p, &others)
 }

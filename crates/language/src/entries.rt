@@ -4,12 +4,20 @@ ghost use Prim.Native.Nat.{_+_, _≤_};
 ghost use lib.ListN.{length};
 ghost use lib.Seq.{slice};
 ghost use Rattle.fields.specs.Lists.{all, isSome};
-ghost use Rattle.fields.specs.Inner.Places.{EndsAt};
+ghost use Rattle.fields.specs.Inner.Places.{WholeEnd};
 ghost use Rattle.language.specs.LanguageFile.{isKind, entriesOf};
-ghost use Rattle.language.specs.Inner.Entries.{sizeAt, classWhole, productionWhole, entryWhole};
-use fields::bytes::byte_at;
-use fields::bytes::pair_at;
-use fields::walk::field_end;
+ghost use Rattle.language.specs.Inner.Entries.{sizeAt, classWhole, productionWhole, entryGood};
+use fields::bytes::pair_in;
+use fields::walk::end_if_whole;
+
+// The tag of a token class.
+pub const CLASS: u8 = 0x11;
+
+// The tag of a production.
+pub const PRODUCTION: u8 = 0x12;
+
+// Kinds are the numbers below this one.
+pub const KINDS: u8 = 32;
 
 // The bytes from p up to e are kinds.
 fn kinds_only(s: &[u8], p: usize, e: usize) -> bool
@@ -18,7 +26,7 @@ fn kinds_only(s: &[u8], p: usize, e: usize) -> bool
 {
     let mut q = p;
     while q < e {
-        if 32 <= s[q] {
+        if KINDS <= s[q] {
             return false;
         }
         q += 1;
@@ -26,22 +34,21 @@ fn kinds_only(s: &[u8], p: usize, e: usize) -> bool
     true
 }
 
-// The contents of the field at p, n bytes, are those of a class: kind, low, high.
+// The contents of the whole field at p, n bytes, are those of a class: kind, low, high.
 fn class_whole(s: &[u8], p: usize, n: usize) -> bool
-    requires { ⌜ (p ≤ length (now s)) × (n ≡ sizeAt (now s) p) ⌝ }
+    requires { ⌜ (p + 3 + n ≤ length (now s)) × (n ≡ sizeAt (now s) p) ⌝ }
     ensures { λ r. ⌜ r ≡ classWhole (now (s .entry)) p ⌝ }
 {
     if n != 5 {
         return false;
     }
-    let kind = byte_at(s, p + 3);
-    if 32 <= kind {
+    if KINDS <= s[p + 3] {
         return false;
     }
-    pair_at(s, p + 4) <= pair_at(s, p + 6)
+    pair_in(s, p + 4) <= pair_in(s, p + 6)
 }
 
-// The contents of the field at p, n bytes, are those of a production: result, name, up to eight arguments.
+// The contents of the whole field at p, n bytes, are those of a production: result, name, up to eight arguments.
 fn production_whole(s: &[u8], p: usize, n: usize) -> bool
     requires { ⌜ (p + 3 + n ≤ length (now s)) × (n ≡ sizeAt (now s) p) ⌝ }
     ensures { λ r. ⌜ r ≡ productionWhole (now (s .entry)) p ⌝ }
@@ -52,27 +59,23 @@ fn production_whole(s: &[u8], p: usize, n: usize) -> bool
     if 10 < n {
         return false;
     }
-    let result = byte_at(s, p + 3);
-    if 32 <= result {
+    if KINDS <= s[p + 3] {
         return false;
     }
     kinds_only(s, p + 5, p + 3 + n)
 }
 
-// The field at p, which says that it ends at e, is whole and an entry.
-fn entry_whole(s: &[u8], p: usize, e: usize) -> bool
-    requires { ⌜ EndsAt (now s) p e ⌝ }
-    ensures { λ r. ⌜ r ≡ entryWhole (now (s .entry)) p ⌝ }
+// The whole field at p, which ends at e, is an entry.
+fn entry_good(s: &[u8], p: usize, e: usize) -> bool
+    requires { ⌜ WholeEnd (now s) p e ⌝ }
+    ensures { λ r. ⌜ r ≡ entryGood (now (s .entry)) p ⌝ }
 {
-    if s.len() < e {
-        return false;
-    }
     let n = e - p - 3;
-    let tag = byte_at(s, p);
-    if tag == 0x11 {
+    let tag = s[p];
+    if tag == CLASS {
         return class_whole(s, p, n);
     }
-    if tag == 0x12 {
+    if tag == PRODUCTION {
         return production_whole(s, p, n);
     }
     false
@@ -84,8 +87,11 @@ pub fn entries_whole(s: &[u8]) -> bool
 {
     let mut p = 0;
     while p < s.len() {
-        let e = field_end(s, p);
-        if !entry_whole(s, p, e) {
+        let e = end_if_whole(s, p);
+        if e == 0 {
+            return false;
+        }
+        if !entry_good(s, p, e) {
             return false;
         }
         p = e;

@@ -13,11 +13,11 @@ use Rattle.translation.specs.Running.{nth, operand, substitute, run, mappedArgu
 use Rattle.translation.specs.WellFormed.{kinds, kindsMapped, reachesTarget, classKept, mappingFits, hasClause, hasProduction, clausesFit, codeFits, codesFit, wellFormed}
 use Rattle.translation.specs.TranslationFile.{mappingField, clauseField, itemOf, itemField, grouped, itemsIn, bodyOf, partsIn, partsOf, translationFields, encodeTranslation, allRising, translationOf}
 use Rattle.translation.specs.Operations.{runBytes}
-use Rattle.operators.specs.Algebra.{languagesFit, languageUnion, languageSum, languageWithout, translationsFit, translationUnion, translationSum, joinFits, joinItem, joined, translationJoin, argumentsFrom, identityClause, identityOf}
+use Rattle.operators.specs.Operators.{languagesFit, languageUnion, languageSum, languageWithout, translationsFit, translationUnion, translationSum, joinFits, joinItem, joined, translationJoin, argumentsFrom, identityClause, identityOf}
 use Rattle.operators.specs.Limits.{codeIsDeep, languageExceeds, translationExceeds}
 use Rattle.pack.specs.Terms.{languageSign, translationSign, readSign, readTerm, scoped}
 use Rattle.pack.specs.Pack.{partOf, inGroups, packWith, packIn, packParts, packOf, termOf}
-use Rattle.reducer.specs.Evaluation.{evaluate}
+use Rattle.signs.specs.Evaluation.{evaluate}
 use Rattle.reducer.specs.Operations.{ready, work, reduceBytes}
 use Rattle.laws.specs.Examples.{holds, rows}
 

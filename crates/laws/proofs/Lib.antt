@@ -1,3 +1,4 @@
+pub mod Levels
 pub mod Reductions
 pub mod Runs
 pub mod Subsets

@@ -11,38 +11,38 @@ use lib.Dec.{ltb}
 use Rattle.fields.specs.Outcome.{Result, value, refused, reasonNumber, numberOf, written, outputAfter}
 use Rattle.fields.specs.Fields.{Field}
 use Rattle.fields.specs.declared.outcome.Reason.{Reason}
-use Rattle.fields.specs.declared.outcome.Reason.the-variants.{TooLong, Broken, Order, Clash, Mapping, Clauses, Code, Term as TermRefused, Lent, Unbound, Limit, SumUnfit, JoinUnfit, Root, Tree, Levels, Output}
+use Rattle.fields.specs.declared.outcome.Reason.the-variants.{TooLong, BrokenField, OutOfOrder, ClassIsResult, WrongMapping, WrongClauses, IllegalCode, IllegalTerm as TermRefused, BuffersTooShort, UnboundVariable, ValueTooLarge, SumUnfit, JoinUnfit, UnknownRoot, IllegalTree, TooDeep, OutputTooShort}
 use Rattle.translation.specs.Translation.{Translation}
 use Rattle.translation.specs.TranslationFile.{encodeTranslation}
 use Rattle.pack.specs.Terms.{Sort, translations, Term, writeTerm, termLevels, readTerm, scoped}
 use Rattle.pack.specs.Pack.{Pack, packOf, packLimit, termLimit, termOf}
-use Rattle.reducer.specs.Evaluation.{constantsOf, nothingBound, evaluate}
+use Rattle.signs.specs.Evaluation.{constantsOf, nothingBound, evaluate}
 use Rattle.reducer.specs.Operations.{ready, work, reduceBytes}
 use Rattle.pack.proofs.TermCodec.{read-write, read-sound}
 use Rattle.pack.proofs.PackCodec.{pack-term, pack-short, pack-good}
-use Rattle.reducer.proofs.Evaluated.{step-value, value-inj, GoodConstants}
-use Rattle.reducer.proofs.Readied.{whole-term, ready-value}
+use Rattle.evaluator.proofs.Evaluated.{step-value, value-inj, GoodConstants}
+use Rattle.reducer.proofs.Operation.{whole-term, ready-value}
 use Rattle.laws.specs.Packed.{packed, putOut}
 
 -- No refusal has the number 0.
 reason-positive : (r : Reason) → reasonNumber r ≡ 0 → ⊥
 reason-positive TooLong e = omega arith
-reason-positive Broken e = omega arith
-reason-positive Order e = omega arith
-reason-positive Clash e = omega arith
-reason-positive Mapping e = omega arith
-reason-positive Clauses e = omega arith
-reason-positive Code e = omega arith
+reason-positive BrokenField e = omega arith
+reason-positive OutOfOrder e = omega arith
+reason-positive ClassIsResult e = omega arith
+reason-positive WrongMapping e = omega arith
+reason-positive WrongClauses e = omega arith
+reason-positive IllegalCode e = omega arith
 reason-positive TermRefused e = omega arith
-reason-positive Lent e = omega arith
-reason-positive Unbound e = omega arith
-reason-positive Limit e = omega arith
+reason-positive BuffersTooShort e = omega arith
+reason-positive UnboundVariable e = omega arith
+reason-positive ValueTooLarge e = omega arith
 reason-positive SumUnfit e = omega arith
 reason-positive JoinUnfit e = omega arith
-reason-positive Root e = omega arith
-reason-positive Tree e = omega arith
-reason-positive Levels e = omega arith
-reason-positive Output e = omega arith
+reason-positive UnknownRoot e = omega arith
+reason-positive IllegalTree e = omega arith
+reason-positive TooDeep e = omega arith
+reason-positive OutputTooShort e = omega arith
 
 -- The number 0 is a value.
 pub accepted-value : (r : Result (List ℕ)) → numberOf (written r) ≡ 0 → (bytes : List ℕ) × (r ≡ value bytes)

@@ -1,7 +1,7 @@
 -- Translations that lie in another: they fit, and their sum is no larger than it.
 use Prim.Native.Nat.{ℕ, suc, _+_, _≤_, _<_}
 use mathlib.Core.Path.{_≡_, refl, ap, subst}
-use mathlib.Core.Logic.{_⊎_, inl, inr, ⊎-elim}
+use mathlib.Core.Logic.{inl, inr, ⊎-elim}
 use mathlib.Core.Bool.{false}
 use mathlib.Core.List.{List, [], _∷_, map}
 use native.Mathlib.Omega.{arith}
@@ -16,9 +16,9 @@ use Rattle.language.specs.Language.{Language, entryKey}
 use Rattle.language.specs.LanguageFile.{entryField, encodeLanguage, languageLimit}
 use Rattle.translation.specs.Translation.{Translation, itemKey}
 use Rattle.translation.specs.TranslationFile.{itemField, translationFields, encodeTranslation, translationLimit}
-use Rattle.operators.specs.Algebra.{languageUnion, translationUnion}
+use Rattle.operators.specs.Operators.{languageUnion, translationUnion}
 use Rattle.operators.specs.Limits.{codeIsDeep, languageExceeds, translationExceeds}
-use Rattle.values.proofs.Accepted.{code-shallow}
+use Rattle.operators.proofs.Accepted.{code-shallow}
 use Rattle.operators.proofs.Proper.{Proper, Sound, GoodTranslation}
 use Rattle.operators.proofs.SumSound.{LanguagesFit, TranslationsFit, union-covers}
 

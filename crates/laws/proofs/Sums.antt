@@ -1,7 +1,7 @@
 -- The law of sums holds.
 use Prim.Native.Nat.{ℕ}
 use mathlib.Core.Path.{_≡_, refl, ap, sym, subst, _∙_}
-use mathlib.Core.Logic.{_⊎_, inl, inr, ⊎-elim}
+use mathlib.Core.Logic.{inl, inr, ⊎-elim}
 use mathlib.Core.Bool.{true, false}
 use mathlib.Core.List.{List}
 use lib.ListN.{length}
@@ -10,13 +10,13 @@ use Rattle.fields.specs.Fields.{Field}
 use Rattle.fields.proofs.Truth.{and-both, both-and, mem-append, append-cases}
 use Rattle.translation.specs.Translation.{Translation}
 use Rattle.pack.specs.Terms.{Term, translations, sum, scoped}
-use Rattle.operators.specs.Algebra.{translationsFit, translationUnion, translationSum}
+use Rattle.operators.specs.Operators.{translationsFit, translationUnion, translationSum}
 use Rattle.operators.specs.Limits.{translationExceeds}
-use Rattle.reducer.specs.Evaluation.{Constants, constantsOf, nothingBound, limited, evaluate}
+use Rattle.signs.specs.Evaluation.{Constants, constantsOf, nothingBound, limited, evaluate}
 use Rattle.reducer.specs.Operations.{reduceBytes, reduce}
 use Rattle.operators.proofs.Proper.{GoodTranslation}
 use Rattle.operators.proofs.SumSound.{fit-translations, translations-fit, sound-union}
-use Rattle.reducer.proofs.Evaluated.{step-value, value-inj, limited-value, translation-sum, GoodConstants, nothing-good, evaluate-good}
+use Rattle.evaluator.proofs.Evaluated.{step-value, value-inj, limited-value, translation-sum, GoodConstants, nothing-good, evaluate-good}
 use Rattle.laws.specs.Packed.{packed}
 use Rattle.laws.specs.Sums.{Sum, alone, plus, asTerm, builtFrom, In, SumOver, WithinLimits, LawOfSums}
 use Rattle.laws.proofs.Reductions.{accepted-value, value-accepted, put-out, reduction, reduction-good, reduce-other}
@@ -128,6 +128,6 @@ law-of-sums fields set a b p q la lb w w′ o o′ ew eo =
     record {
       left = λ e. let v = accepted-value x e in value-accepted y (v .0) (onward (v .0) (v .1));
       right = λ e. let v = accepted-value y e in value-accepted x (v .0) (back (v .0) (v .1));
-      length = λ e. let v = accepted-value x e in ap (λ (r : Result (List ℕ)). lengthOf (written r)) (v .1 ∙ sym (onward (v .0) (v .1)));
+      lengths = λ e. let v = accepted-value x e in ap (λ (r : Result (List ℕ)). lengthOf (written r)) (v .1 ∙ sym (onward (v .0) (v .1)));
       bytes = λ e. let v = accepted-value x e in put-out o x (v .0) (v .1) ∙ sym (put-out o′ y (v .0) (onward (v .0) (v .1)));
     }

@@ -7,11 +7,11 @@ use Rattle.fields.specs.declared.outcome.Outcome.the-variants.{Accepted}
 use Rattle.translation.specs.TranslationFile.{encodeTranslation, translationOf}
 use Rattle.translation.specs.Operations.{checkTranslation}
 use Rattle.operators.proofs.Proper.{good-back}
-use Rattle.reducer.specs.Evaluation.{constantsOf, nothingBound, evaluate}
+use Rattle.signs.specs.Evaluation.{constantsOf, nothingBound, evaluate}
 use Rattle.reducer.specs.Operations.{ready, work, reduceBytes}
 use Rattle.pack.proofs.PackCodec.{pack-good}
-use Rattle.reducer.proofs.Evaluated.{step-value, value-inj, GoodConstants, nothing-good, evaluate-good}
-use Rattle.reducer.proofs.Readied.{ready-value}
+use Rattle.evaluator.proofs.Evaluated.{step-value, value-inj, GoodConstants, nothing-good, evaluate-good}
+use Rattle.reducer.proofs.Operation.{ready-value}
 
 pub reduced-checked : (pack : List ℕ) (workspace output : ℕ) (bytes : List ℕ) → reduceBytes pack workspace output ≡ value bytes
     → checkTranslation bytes ≡ Accepted 0

@@ -57,6 +57,7 @@ rest =
     ∷ 0x23 ∷ 0 ∷ 8 ∷ 1 ∷ 2 ∷ 1 ∷ 2 ∷ 3 ∷ 1 ∷ 3 ∷ 2 ∷ 0x23 ∷ 0 ∷ 6 ∷ 1 ∷ 3 ∷ 1 ∷ 1 ∷ 3 ∷ 1 ∷ []
     )
 
+-- A term as field 32 of a pack.
 abbrev term : List ℕ → Field
 term bytes = field 0x32 bytes
 
@@ -64,13 +65,15 @@ term bytes = field 0x32 bytes
 abbrev sum : List ℕ
 sum = 0x53 ∷ 0x50 ∷ 0x40 ∷ 0 ∷ 0x40 ∷ 1 ∷ 0 ∷ 0x55 ∷ 0x40 ∷ 1 ∷ []
 
+-- The pack of 71 bytes, with that term.
 abbrev sumPack : List Field
 sumPack = k ∷ c ∷ twice ∷ term sum ∷ []
 
--- The same as the second operand of a join, whose first is the body `rest` from C to C.
+-- A pack with that sum as the second operand of a join, whose first is the body `rest` from C to C.
 abbrev joinPack : List Field
 joinPack = k ∷ c ∷ twice ∷ rest ∷ term (0x54 ∷ 0x50 ∷ 0x40 ∷ 1 ∷ 0x40 ∷ 1 ∷ 1 ∷ sum) ∷ []
 
+-- The translation from the empty language to itself, in bytes.
 abbrev empty : List ℕ
 empty = 0x20 ∷ 0 ∷ 0 ∷ 0x21 ∷ 0 ∷ 0 ∷ []
 

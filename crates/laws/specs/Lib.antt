@@ -1,4 +1,5 @@
 pub mod Packed
+pub mod Levels
 pub mod Runs
 pub mod Sums
 pub mod Examples

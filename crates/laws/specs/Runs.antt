@@ -1,4 +1,4 @@
--- The law of runs (paper 01, "Rules", last item, and point 3): a join's run equals the two runs in turn.
+-- The law of runs (paper 01, "Rules", last item, and point 3): what a join's run gives, beside the two runs in turn.
 use Prim.Native.Nat.{ℕ}
 use mathlib.Core.Path.{_≡_}
 use mathlib.Core.List.{List, []}
@@ -6,7 +6,8 @@ use lib.ListN.{length}
 use Rattle.fields.specs.Outcome.{Result, value, refused, numberOf}
 use Rattle.fields.specs.Fields.{Field}
 use Rattle.fields.specs.declared.outcome.Outcome.the-variants.{Refused}
-use Rattle.fields.specs.declared.outcome.Reason.the-variants.{Levels}
+use Rattle.fields.specs.declared.outcome.Reason.{Reason}
+use Rattle.fields.specs.declared.outcome.Reason.the-variants.{UnknownRoot, IllegalTree, TooDeep}
 use Rattle.language.specs.Language.{Language}
 use Rattle.reader.specs.Code.{Code}
 use Rattle.reader.specs.Typing.{Typed}
@@ -22,7 +23,7 @@ use Rattle.laws.specs.Packed.{packed, putOut}
 abbrev pub Legal : Language → ℕ → List ℕ → Type 0
 Legal l kind bytes = (t : Code) × Typed l [] t kind × (write tree t ≡ bytes)
 
--- The kind to which the translation in a file maps a kind, and the file's target language.
+-- The kind to which the translation in a file maps a kind.
 abbrev pub mapsTo : Result Translation → ℕ → ℕ
 mapsTo (value f) kind = mapped (f .body) kind
 mapsTo (refused r) kind = 0
@@ -38,28 +39,39 @@ ReducesTo pack workspace output bytes =
     let r = reduce pack workspace output in
     (numberOf (r .outcome) ≡ 0) × (putOut (r .outcome) (r .output) ≡ bytes)
 
--- What is said of the join's run beside the second run: number, length and that many first bytes are equal,
--- and where it is accepted the bytes are a legal tree of the kind in the join's target to which the join maps the root.
-pub record Agrees (joined second : Ran) (target : Language) (kind : ℕ) : Type 0 where
-  pub outcome : joined .outcome ≡ second .outcome
-  pub bytes : putOut (joined .outcome) (joined .output) ≡ putOut (second .outcome) (second .output)
+-- The reasons to refuse a tree: its root (14), its bytes (15), its levels (16).
+pub data OfTree : Reason → Type 0 where
+  of-root : OfTree UnknownRoot
+  of-bytes : OfTree IllegalTree
+  of-levels : OfTree TooDeep
+
+-- Two runs give the same number and length, and that many equal first bytes.
+pub record SameRun (x y : Ran) : Type 0 where
+  pub outcome : x .outcome ≡ y .outcome
+  pub bytes : putOut (x .outcome) (x .output) ≡ putOut (y .outcome) (y .output)
+
+-- What is said of three runs: of the first translation, of the second on exactly the bytes that the first put out,
+-- with output b, and of the join, with output c. The join maps the root to a kind of its target.
+pub record RunsOfJoin (first second joined : Ran) (b c : List ℕ) (target : Language) (kind : ℕ) : Type 0 where
+  -- Where the join's run is accepted, its bytes are a legal tree of that kind in that target.
   pub legal : numberOf (joined .outcome) ≡ 0 → Legal target kind (putOut (joined .outcome) (joined .output))
+  -- Where the first run refuses the tree, the join's run refuses it with the same number.
+  pub refused : (reason : Reason) → OfTree reason → first .outcome ≡ Refused reason → joined .outcome ≡ Refused reason
+  -- Where the first run is accepted and the second does not refuse the middle tree as too deep, the join's run and the
+  -- second give the same with equally long outputs, also where that is 17.
+  pub agrees : numberOf (first .outcome) ≡ 0 → (second .outcome ≡ Refused TooDeep → ⊥) → length c ≡ length b
+      → SameRun joined second
 
 -- The law. The first translation is the join's second operand, g; f runs after it. Each of the three is what the pack
--- reduces to with that term alone as field 32, with equally long workspaces and outputs. The first run is accepted, the
--- second reads exactly the bytes that it put out, and is not refused because that tree is too deep to be handed in.
+-- reduces to with that term alone as field 32, with any workspaces w and outputs o. The three runs have any outputs
+-- a, b and c.
 abbrev pub LawOfRuns : Type 0
 LawOfRuns =
-    (fields : List Field) (f g : Term translations) (w w₁ w₂ o o₁ o₂ : List ℕ)
-    → length w₁ ≡ length w → length w₂ ≡ length w → length o₁ ≡ length o → length o₂ ≡ length o
-    → (joined first second : List ℕ)
+    (fields : List Field) (f g : Term translations) (w w₁ w₂ o o₁ o₂ joined first second : List ℕ)
     → ReducesTo (packed fields (join f g)) w o joined
     → ReducesTo (packed fields g) w₁ o₁ first
     → ReducesTo (packed fields f) w₂ o₂ second
-    → (root : ℕ) (bytes middle a b c : List ℕ) → length c ≡ length b
-    → numberOf (runTree first root bytes a .outcome) ≡ 0
-    → putOut (runTree first root bytes a .outcome) (runTree first root bytes a .output) ≡ middle
-    → (runTree second (mapsTo (translationOf first) root) middle b .outcome ≡ Refused Levels → ⊥)
-    → Agrees
-    (runTree joined root bytes c) (runTree second (mapsTo (translationOf first) root) middle b)
-    (targetIn (translationOf joined)) (mapsTo (translationOf joined) root)
+    → (root : ℕ) (bytes a b c : List ℕ)
+    → let one = runTree first root bytes a in
+    let two = runTree second (mapsTo (translationOf first) root) (putOut (one .outcome) (one .output)) b in
+    RunsOfJoin one two (runTree joined root bytes c) b c (targetIn (translationOf joined)) (mapsTo (translationOf joined) root)

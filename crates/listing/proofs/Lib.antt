@@ -1,4 +1,5 @@
 pub mod Putting
 pub mod Decimal
 pub mod Lines
-pub mod Told
+pub mod Walk
+pub mod WholeText

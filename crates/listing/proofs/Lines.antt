@@ -12,7 +12,8 @@ use Rattle.fields.specs.Lists.{concatMap}
 use Rattle.fields.specs.Fields.{byteAt, pairAt}
 use Rattle.fields.specs.Inner.Places.{fieldEnd, isWhole, contentsAt, placesFrom}
 use Rattle.fields.proofs.Places.{pass-done, pass-next}
-use Rattle.listing.specs.Text.{marked, pairOf, clauseLine, isClause, lineAt, clauseLines}
+use Rattle.listing.specs.Text.{marked, pairOf, clauseLine}
+use Rattle.listing.specs.Inner.Walk.{contentsLine, isClause, lineAt, clauseLines}
 use Rattle.listing.specs.Inner.Putting.{Puts}
 use Rattle.listing.proofs.Putting.{puts-then, puts-nothing}
 
@@ -27,8 +28,8 @@ code-length clause = ap length (code-is clause) ∙ length-drop 2 clause
 pub puts-clause : (clause code : List ℕ) (a b : ℕ) (o o₁ o₂ o₃ o₄ : List ℕ) (p q r t u : ℕ)
     → a ≡ byteAt clause 0 → b ≡ byteAt clause 1 → code ≡ take (length clause - 2) (drop 2 clause)
     → Puts (marked a 46) o o₁ p q → Puts (marked b 32) o₁ o₂ q r → Puts (concatMap pairOf code) o₂ o₃ r t → Puts (10 ∷ []) o₃ o₄ t u
-    → Puts (clauseLine clause) o o₄ p u
-unfolding clauseLine
+    → Puts (contentsLine clause) o o₄ p u
+unfolding contentsLine clauseLine
 puts-clause clause code a b o o₁ o₂ o₃ o₄ p q r t u ea eb ec x y z w =
     subst (λ (l : List ℕ). Puts l o o₄ p u)
     (cc (ea, eb, ec, code-is clause))
@@ -77,7 +78,7 @@ module _ (s : List ℕ) (p end : ℕ) (ee : end ≡ fieldEnd s p) where
     unfolding isClause isWhole
     not-whole k = nothing (not-third (eqb (byteAt s p) 35) (leb (p + 5) (fieldEnd s p)) _ (lt-leb (fieldEnd s p) (length s) (omega arith)))
 
-  some-is : byteAt s p ≡ 35 → p + 5 ≤ end → end ≤ length s → clauseLine (contentsAt s p) ≡ lineAt s p
+  some-is : byteAt s p ≡ 35 → p + 5 ≤ end → end ≤ length s → contentsLine (contentsAt s p) ≡ lineAt s p
   unfolding lineAt isClause isWhole
   some-is a b c =
       let d : p + 5 ≤ fieldEnd s p = omega arith in
@@ -85,9 +86,9 @@ module _ (s : List ℕ) (p end : ℕ) (ee : end ≡ fieldEnd s p) where
       cc (eq-eqb (byteAt s p) 35 a, le-leb (p + 5) (fieldEnd s p) d, le-leb (fieldEnd s p) (length s) e)
 
   pub whole-clause : (tag : ℕ) → tag ≡ byteAt s p → tag ≡ 35 → p + 5 ≤ end → end ≤ length s
-      → (clause : List ℕ) → clause ≡ contentsAt s p → (o o′ : List ℕ) (at r : ℕ) → Puts (clauseLine clause) o o′ at r → Puts (lineAt s p) o o′ at r
+      → (clause : List ℕ) → clause ≡ contentsAt s p → (o o′ : List ℕ) (at r : ℕ) → Puts (contentsLine clause) o o′ at r → Puts (lineAt s p) o o′ at r
   whole-clause tag et a b c clause ec o o′ at r x =
-      subst (λ (l : List ℕ). Puts l o o′ at r) (ap clauseLine ec ∙ some-is (sym et ∙ a) b c) x
+      subst (λ (l : List ℕ). Puts l o o′ at r) (ap contentsLine ec ∙ some-is (sym et ∙ a) b c) x
 
 -- `put_clauses`: what is put from `at` on, with the lines of the fields from p on, is all lines
 abbrev pub Lines : List ℕ → List ℕ → List ℕ → ℕ → ℕ → ℕ → Type 0

@@ -4,12 +4,16 @@ use mathlib.Core.Path.{_≡_, refl, sym, ap, _∙_, subst}
 use mathlib.Core.List.{List, [], _∷_, _++_, append-assoc, append-nil}
 use native.Mathlib.Numerals.{add-one}
 use native.Mathlib.Omega.{arith}
-use lib.ListN.{length, take, set, getD, length-set, length-append}
+use lib.ListN.{length, take, set, getD, replicate, length-set, length-append, length-replicate}
 use lib.Seq.{take-suc, take-all, take-set-le, getD-set-same}
 use Rattle.fields.specs.Lists.{concatMap}
 use Rattle.fields.proofs.Codec.{concat-append}
 use Rattle.listing.specs.Text.{capital, pairOf, decimal, marked}
 use Rattle.listing.specs.Inner.Putting.{Puts}
+
+-- The length of a buffer of zeros, without counting them.
+pub zeros : (n : ℕ) → n ≡ length {A = ℕ} (replicate n 0)
+zeros n = sym (length-replicate {A = ℕ} n 0)
 
 -- One part behind another.
 pub puts-then : (v u o o′ o″ : List ℕ) (p q r : ℕ) → Puts v o o′ p q → Puts u o′ o″ q r → Puts (v ++ u) o o″ p r

@@ -1,1 +1,3 @@
+-- Definitions by position, in the shape of the code.
 pub mod Putting
+pub mod Walk

@@ -2,15 +2,24 @@
 use Prim.Native.Nat.{ℕ}
 use mathlib.Core.List.{List, _++_}
 use lib.ListN.{length}
-use Rattle.fields.specs.Outcome.{Result, value, refused, reasonNumber}
-use Rattle.reducer.specs.Operations.{reduceBytes}
-use Rattle.listing.specs.Text.{acceptedWord, refusedWord, firstLine, clauseLines}
+use Rattle.fields.specs.Lists.{concatMap}
+use Rattle.fields.specs.Outcome.{Result, value, refused, _>>=_, reasonNumber}
+use Rattle.translation.specs.Translation.{Translation}
+use Rattle.translation.specs.TranslationFile.{encodeTranslation}
+use Rattle.signs.specs.Evaluation.{constantsOf, nothingBound, evaluate}
+use Rattle.reducer.specs.Operations.{ready}
+use Rattle.listing.specs.Text.{acceptedWord, refusedWord, firstLine, itemLine}
 
--- `accepted` and the length, then the clauses of the translation; or `refused` and the number.
-unfoldable pub textOf : Result (List ℕ) → List ℕ
-textOf (value bytes) = firstLine acceptedWord (length bytes) ++ clauseLines bytes
+-- The translation that a pack is reduced to with a workspace of 65,536 and an output of 4,096 bytes, or why not:
+-- reduce writes its bytes (`proofs/WholeText.antt`: `reduced-bytes`).
+unfoldable pub reduced : List ℕ → Result Translation
+reduced pack = ready pack 65536 4096 >>= λ r. evaluate (constantsOf (r .pack)) nothingBound (r .term)
+
+-- `accepted` and the length of the translation, then its clauses; or `refused` and the number.
+unfoldable pub textOf : Result Translation → List ℕ
+textOf (value f) = firstLine acceptedWord (length (encodeTranslation f)) ++ concatMap itemLine (f .body)
 textOf (refused r) = firstLine refusedWord (reasonNumber r)
 
--- The text for a pack, which is reduced with a workspace of 65,536 and an output of 4,096 bytes.
+-- The text for a pack.
 unfoldable pub listing : List ℕ → List ℕ
-listing pack = textOf (reduceBytes pack 65536 4096)
+listing pack = textOf (reduced pack)

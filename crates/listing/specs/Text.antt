@@ -1,28 +1,25 @@
 -- What the listing program prints (paper 01, "Strap examples"), as bytes. Each line ends in byte 0A.
 use Prim.Native.Nat.{ℕ, _+_, _/_, _%_}
-use mathlib.Core.Bool.{Bool, cond, _&&_}
+use mathlib.Core.Bool.{cond}
 use mathlib.Core.List.{List, [], _∷_, _++_}
-use lib.ListN.{take, drop}
-use lib.Dec.{ltb, leb, eqb}
+use lib.Dec.{ltb}
 use Rattle.io.specs.Digits.{digits}
 use Rattle.fields.specs.Lists.{concatMap}
-use Rattle.fields.specs.Fields.{byteAt}
-use Rattle.fields.specs.Outcome.{reasonNumber}
-use Rattle.fields.specs.declared.outcome.Outcome.{Outcome}
-use Rattle.fields.specs.declared.outcome.Outcome.the-variants.{Accepted, Refused}
-use Rattle.fields.specs.Inner.Places.{fieldEnd, isWhole, contentsAt, places}
+use Rattle.translation.specs.Translation.{Item, mapping, clause}
 
--- The words that begin the first line, each ended by one space.
+-- The first word of what is accepted, ended by one space.
 abbrev pub acceptedWord : List ℕ
 acceptedWord = 97 ∷ 99 ∷ 99 ∷ 101 ∷ 112 ∷ 116 ∷ 101 ∷ 100 ∷ 32 ∷ []
 
+-- The first word of what is refused, ended by one space.
 abbrev pub refusedWord : List ℕ
 refusedWord = 114 ∷ 101 ∷ 102 ∷ 117 ∷ 115 ∷ 101 ∷ 100 ∷ 32 ∷ []
 
--- A number below 10,000 in decimal: as many digits as it needs.
+-- How many decimal digits a number below 10,000 needs.
 abbrev pub width : ℕ → ℕ
 width n = cond (ltb n 10) 1 (cond (ltb n 100) 2 (cond (ltb n 1000) 3 4))
 
+-- A number below 10,000 in decimal.
 unfoldable pub decimal : ℕ → List ℕ
 decimal n = digits 10 (width n) n
 
@@ -42,24 +39,11 @@ marked n mark = decimal n ++ (mark ∷ [])
 unfoldable pub firstLine : List ℕ → ℕ → List ℕ
 firstLine word n = word ++ marked n 10
 
--- The line of a clause, from the contents of its field: result, point, name, space, and the code in capitals.
-unfoldable pub clauseLine : List ℕ → List ℕ
-clauseLine clause =
-    marked (byteAt clause 0) 46 ++ (marked (byteAt clause 1) 32 ++ (concatMap pairOf (drop 2 clause) ++ (10 ∷ [])))
+-- The line of a clause: result, point, name, space, and its code in capitals.
+unfoldable pub clauseLine : ℕ → ℕ → List ℕ → List ℕ
+clauseLine result name code = marked result 46 ++ (marked name 32 ++ (concatMap pairOf code ++ (10 ∷ [])))
 
--- The field at p is a whole clause.
-unfoldable pub isClause : List ℕ → ℕ → Bool
-isClause s p = eqb (byteAt s p) 35 && (leb (p + 5) (fieldEnd s p) && isWhole s p)
-
--- What the field at p adds: a clause its line, another field nothing.
-unfoldable pub lineAt : List ℕ → ℕ → List ℕ
-lineAt s p = cond (isClause s p) (clauseLine (contentsAt s p)) []
-
--- The lines of the clauses of a translation, in order.
-unfoldable pub clauseLines : List ℕ → List ℕ
-clauseLines s = concatMap (lineAt s) (places s)
-
--- The whole text, from the outcome of reduce and the output that it leaves.
-abbrev pub told : Outcome → List ℕ → List ℕ
-told (Accepted n) output = firstLine acceptedWord n ++ clauseLines (take n output)
-told (Refused r) output = firstLine refusedWord (reasonNumber r)
+-- What an item of a translation's body adds: a clause its line, a mapping nothing.
+unfoldable pub itemLine : Item → List ℕ
+itemLine (mapping s t) = []
+itemLine (clause r p code) = clauseLine r p code

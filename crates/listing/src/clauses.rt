@@ -7,13 +7,13 @@ use fields::walk::field_end;
 ghost use Prim.Native.Nat.{_+_, _*_, _-_, _<_, _≤_};
 ghost use lib.ListN.{length};
 ghost use Rattle.fields.specs.Inner.Places.{EndsAt};
-ghost use Rattle.listing.specs.Text as Text;
+ghost use Rattle.listing.specs.Inner.Walk as Walk;
 ghost use Rattle.listing.specs.Inner.Putting.{Puts};
 
 // The line of a clause, from the contents of its field.
 fn put_clause(clause: &[u8], text: &mut [u8], at: usize) -> usize
     requires { ⌜ (2 ≤ length (now clause)) × (at + 2 * length (now clause) + 7 ≤ length (now text)) ⌝ }
-    ensures { λ r. ⌜ Puts (Text.clauseLine (now (clause .entry))) (now (text .entry)) (now (text .exit)) at r
+    ensures { λ r. ⌜ Puts (Walk.contentsLine (now (clause .entry))) (now (text .entry)) (now (text .exit)) at r
         × (r ≤ at + 2 * length (now (clause .entry)) + 7) ⌝ }
 {
     let name = put_number(byte_at(clause, 0) as u64, b'.', text, at);
@@ -25,7 +25,7 @@ fn put_clause(clause: &[u8], text: &mut [u8], at: usize) -> usize
 // What the field at p adds, which ends at `end`: a clause its line, another field nothing.
 fn put_field(s: &[u8], p: usize, end: usize, text: &mut [u8], at: usize) -> usize
     requires { ⌜ (p < length (now s)) × (EndsAt (now s) p end × (at + 3 * (length (now s) - p) ≤ length (now text))) ⌝ }
-    ensures { λ r. ⌜ Puts (Text.lineAt (now (s .entry)) p) (now (text .entry)) (now (text .exit)) at r
+    ensures { λ r. ⌜ Puts (Walk.lineAt (now (s .entry)) p) (now (text .entry)) (now (text .exit)) at r
         × (r + 3 * (length (now (s .entry)) - end) ≤ at + 3 * (length (now (s .entry)) - p)) ⌝ }
 {
     if byte_at(s, p) != 0x23 {
@@ -44,7 +44,7 @@ fn put_field(s: &[u8], p: usize, end: usize, text: &mut [u8], at: usize) -> usiz
 // The lines of the clauses of a translation, in order.
 pub fn put_clauses(s: &[u8], text: &mut [u8], at: usize) -> usize
     requires { ⌜ at + 3 * length (now s) ≤ length (now text) ⌝ }
-    ensures { λ r. ⌜ Puts (Text.clauseLines (now (s .entry))) (now (text .entry)) (now (text .exit)) at r ⌝ }
+    ensures { λ r. ⌜ Puts (Walk.clauseLines (now (s .entry))) (now (text .entry)) (now (text .exit)) at r ⌝ }
 {
     let mut to = at;
     let mut p = 0;

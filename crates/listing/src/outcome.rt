@@ -7,13 +7,14 @@ use fields::outcome::number;
 ghost use mathlib.Core.Path.{_≡_};
 ghost use Prim.Native.Nat.{ℕ, _+_, _<_, _≤_};
 ghost use lib.ListN.{length};
-ghost use Rattle.listing.specs.Text as Text;
+ghost use Rattle.listing.specs.Text.{firstLine};
+ghost use Rattle.listing.specs.Inner.Walk.{outcomeText};
 ghost use Rattle.listing.specs.Inner.Putting.{Puts};
 
 // The first line: a word and a number.
 fn put_first(word: &[u8], n: u64, text: &mut [u8]) -> usize
     requires { ⌜ (n < 10000) × (length (now word) + 5 ≤ length (now text)) ⌝ }
-    ensures { λ r. ⌜ Puts (Text.firstLine (now (word .entry)) n) (now (text .entry)) (now (text .exit)) 0 r × (r ≤ length (now (word .entry)) + 5) ⌝ }
+    ensures { λ r. ⌜ Puts (firstLine (now (word .entry)) n) (now (text .entry)) (now (text .exit)) 0 r × (r ≤ length (now (word .entry)) + 5) ⌝ }
 {
     let end = put_bytes(word, text, 0);
     put_number(n, b'\n', text, end)
@@ -22,7 +23,7 @@ fn put_first(word: &[u8], n: u64, text: &mut [u8]) -> usize
 // The whole text: the first line and, where it is accepted, a line for each clause of the output's translation.
 pub fn put_outcome(outcome: Outcome, output: &[u8], text: &mut [u8]) -> usize
     requires { ⌜ ((n : ℕ) → outcome ≡ Outcome.Accepted n → n ≤ length (now output)) × ((length (now output) ≤ 4096) × (12320 ≤ length (now text))) ⌝ }
-    ensures { λ r. ⌜ Puts (Text.told outcome (now (output .entry))) (now (text .entry)) (now (text .exit)) 0 r ⌝ }
+    ensures { λ r. ⌜ Puts (outcomeText outcome (now (output .entry))) (now (text .entry)) (now (text .exit)) 0 r ⌝ }
 {
     match outcome {
         Outcome::Accepted(length) => {

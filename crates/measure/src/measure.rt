@@ -1,11 +1,12 @@
 // One pass over a tree that checks it and measures the result of its run.
 use crate::capped::add_share;
 use crate::table::count_in;
-use fields::bytes::wide;
+use fields::bytes::pair_in;
+use fields::bytes::to_usize;
 use reader::ends::keep_end;
+use reader::index::TABLE;
 use reader::node::Read;
 use reader::node::Syntax;
-use reader::node::pair_in;
 use reader::node::place_at;
 use reader::node::production_place;
 use reader::node::token;
@@ -50,7 +51,7 @@ fn leaf(read: Read, weight: usize, sum: usize, top: usize) -> Step
 // What stands where a tree of the kind begins, and its own bytes as often as it counts, on top of a sum.
 fn step_at(
     source: &[u8],
-    index: &[u16; 25664],
+    index: &[u16; TABLE],
     counts: &[u16; 1024],
     kind: u8,
     weight: usize,
@@ -65,7 +66,7 @@ fn step_at(
     ensures within { λ r. ⌜ StepIn (now (source .entry)) (length (now (tree .entry))) top at r ⌝ }
     ensures decides { λ r. ⌜ Decides (now (source .entry)) (now (index .entry)) (now (tree .entry)) kind at r ⌝ }
 {
-    let class = place_at(index, wide(kind));
+    let class = place_at(index, to_usize(kind));
     let place = production_place(Syntax::Tree, index, class, kind, tree, at);
     if place == 0 {
         return leaf(token(source, class, tree, at), weight, sum, top);
@@ -83,7 +84,7 @@ fn step_at(
 // fourth stands where the operand of each row starts; where it ends is kept. The index is the front of a longer table.
 fn measure_rows(
     source: &[u8],
-    index: &[u16; 25664],
+    index: &[u16; TABLE],
     counts: &[u16; 1024],
     from: usize,
     stop: usize,
@@ -153,7 +154,7 @@ fn measure_rows(
 // The tree of the kind at a position, read as the source has it, and the length of its run up to a top.
 pub fn measure(
     source: &[u8],
-    index: &[u16; 25664],
+    index: &[u16; TABLE],
     counts: &[u16; 1024],
     kind: u8,
     tree: &[u8],

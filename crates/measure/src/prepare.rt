@@ -9,7 +9,7 @@ ghost use lib.ListN.{length, getD};
 ghost use Rattle.fields.specs.Outcome.{value};
 ghost use Rattle.language.specs.LanguageFile.{entriesOf};
 ghost use Rattle.fields.specs.Inner.Places.{places};
-ghost use Rattle.reader.specs.Inner.Index.{Indexed, putAll};
+ghost use Rattle.reader.specs.Inner.Index.{Indexed, putAll, indexLength};
 ghost use Rattle.translation.specs.Translation.{Translation};
 ghost use Rattle.translation.specs.TranslationFile.{bodyOf, allRising};
 ghost use Rattle.translation.specs.WellFormed.{wellFormed};
@@ -18,7 +18,7 @@ ghost use Rattle.measure.specs.Inner.Measuring.{Counted};
 // Builds the index of the source and, along its bytes, the counts of the body's clauses: what each code writes itself
 // and how often it uses each argument. Both tables are all zero before.
 pub fn prepare(source: &[u8], body: &[u8], index: &mut [u16], counts: &mut [u16])
-    requires { ⌜ (length (now source) ≤ 1024) × (length (now body) ≤ 4096) × (length (now index) ≡ 8224) × ((j : ℕ) → getD (now index) j 0 ≡ 0)
+    requires { ⌜ (length (now source) ≤ 1024) × (length (now body) ≤ 4096) × (length (now index) ≡ indexLength) × ((j : ℕ) → getD (now index) j 0 ≡ 0)
         × (length (now counts) ≡ 1024) × ((j : ℕ) → getD (now counts) j 0 ≡ 0)
         × ((f : Translation) × (entriesOf (now source) ≡ some (f .source)) × (bodyOf (now body) ≡ some (f .body))) ⌝ }
     ensures put { λ r. ⌜ now (index .exit) ≡ putAll 0x11 (now (source .entry)) (now (index .entry)) (places (now (source .entry))) ⌝ }

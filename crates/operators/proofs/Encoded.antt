@@ -5,31 +5,33 @@ use mathlib.Core.Bool.{Bool, true, cond}
 use mathlib.Core.List.{List, [], _∷_, _++_, map, append-assoc}
 use mathlib.Core.Option.{some}
 use native.Mathlib.Omega.{arith}
-use lib.ListN.{length, take, length-append, List·getD-append}
+use lib.ListN.{length, take, length-append, length-take, length-drop, List·getD-append}
 use lib.Seq.{take-append-seam, drop-append-seam, getD-append-add}
 use lib.Dec.{eqb}
-use borrow.Author.Tests.{eq-eqb}
+use borrow.Author.Tests.{lt-ltb, eq-eqb, leb-true}
 use Rattle.fields.specs.Lists.{all, concatMap, sameNumbers}
 use Rattle.fields.specs.Fields.{Field, field, byteAt, pairAt, encodeField, encodeFields, fieldsOf}
 use Rattle.fields.specs.Keyed.{union, within, without, agree, rising}
-use Rattle.fields.specs.Inner.Places.{fieldEnd, isWhole, keyAt, places}
+use Rattle.fields.specs.Inner.Places.{fieldEnd, isWhole, longAt, fieldAt, keyAt, places}
 use Rattle.fields.proofs.Truth.{and-both, both-and, same-truth, numbers-equal, equal-numbers}
 use Rattle.fields.proofs.Codec.{Each, contentsOf, cond-some, fields-encode, field-length}
-use Rattle.fields.proofs.Lists.{rising-map}
+use Rattle.fields.proofs.Lists.{all-true, rising-map}
 use Rattle.fields.proofs.Split.{fields-at-places}
 use Rattle.language.specs.Language.{Entry, class, production, Language, entryKey, sameEntry}
 use Rattle.language.specs.LanguageFile.{entryField, encodeLanguage}
+use Rattle.language.specs.Inner.Entries.{RisingEntries}
 use Rattle.language.proofs.Codec.{entryWhole, two-bytes, language-encode}
 use Rattle.language.proofs.Holds.{holds-entries}
+use Rattle.language.proofs.Chain.{rising-is}
 use Rattle.language.proofs.Clashes.{meet-is}
 use Rattle.language.proofs.Lookup as Entries
 use Rattle.translation.specs.Translation.{Item, mapping, clause, Body, itemKey, sameItem}
 use Rattle.translation.specs.TranslationFile.{itemField}
 use Rattle.translation.proofs.Lookup as Items
-use Rattle.operators.specs.Algebra.{languagesFit, languageUnion, languageWithout}
-use Rattle.operators.specs.Inner.Parts.{Part, partKey, samePart, bytesOf, pieceAt, partAt, partsFrom, parts, Sorted, united, removed, liesWithin, agrees, fitTogether}
-use Rattle.operators.proofs.Splices.{slice-is}
-use Rattle.operators.proofs.Walks.{parts-done, parts-next}
+use Rattle.operators.specs.Operators.{languagesFit, languageUnion, languageWithout}
+use Rattle.merging.specs.Inner.Parts.{Part, partKey, samePart, bytesOf, pieceAt, partAt, partsFrom, parts, Sorted, united, removed, liesWithin, agrees, fitTogether}
+use Rattle.fields.proofs.Splices.{slice-is}
+use Rattle.merging.proofs.Walks.{parts-done, parts-next}
 use Rattle.operators.proofs.Mapped.{union-mapped, within-mapped, without-mapped, agree-mapped}
 
 -- The key of a field, and the field by key and bytes.
@@ -116,6 +118,23 @@ parts-encode first fs h = parts-behind first [] fs h
 whole-encode : (fs : List Field) → all (isWhole (encodeFields fs)) (places (encodeFields fs)) ≡ true
 whole-encode fs = cond-some _ _ fs (sym (fields-at-places (encodeFields fs)) ∙ fields-encode fs) .0
 
+-- Every field that holds its key has its first five bytes.
+long-places : (s l : List ℕ) → all (isWhole s) l ≡ true → Each Long (map (fieldAt s) l) → all (longAt s) l ≡ true
+unfolding all isWhole longAt fieldEnd fieldAt
+long-places s [] h k = refl
+long-places s (p ∷ l) h k =
+    let w = all-true (isWhole s) p l h in
+    let f : p + 3 + pairAt s (p + 1) ≤ length s = leb-true _ _ (w .0) in
+    let n : 2 ≤ pairAt s (p + 1) = omega (arith, simp (length-take, length-drop) at (k .0)) in
+    let g : p + 4 < length s = omega arith in
+    both-and (longAt s p) (all (longAt s) l) (lt-ltb _ _ g) (long-places s l (w .1) (k .1))
+
+long-encode : (fs : List Field) → Each Long fs → all (longAt (encodeFields fs)) (places (encodeFields fs)) ≡ true
+long-encode fs h =
+    let s = encodeFields fs in
+    let w = cond-some _ _ fs (sym (fields-at-places s) ∙ fields-encode fs) in
+    long-places s (places s) (w .0) (rw (w .1) h)
+
 -- The bytes of mapped fields.
 bytes-map : (first : ℕ) (fs : List Field) → bytesOf (map (fieldPart first) fs) ≡ encodeFields fs
 unfolding bytesOf encodeFields concatMap
@@ -180,6 +199,7 @@ module _ {A : Type 0} {first : ℕ} {encode : A → Field} {key : A → ℕ} {al
   sorted-of : (l : List A) → rising key l ≡ true → Sorted first (written l)
   unfolding rising
   sorted-of l h = record {
+    long = long-encode (map encode l) (all-long l);
     whole = whole-encode (map encode l);
     rises = rw (entry-parts l) (rising-map partKey entryPart key (kept .keys) 0 l ∙ h);
   }
@@ -257,6 +277,12 @@ languages-fit l m h k =
     let a = holds-entries (encodeLanguage l) l (language-encode l h) in
     let b = holds-entries (encodeLanguage m) m (language-encode m k) in
     rw (meet-is _ _ l m a b, meet-is _ _ m l b a, languages-agree l m)
+
+-- A language that is written is whole entries whose keys rise.
+pub rising-language : (l : Language) → all entryWhole l ≡ true → rising entryKey l ≡ true → RisingEntries (encodeLanguage l)
+rising-language l h r =
+    let w = holds-entries (encodeLanguage l) l (language-encode l h) in
+    record { whole = w .whole; rises = rising-is (encodeLanguage l) l w ∙ r }
 
 -- Bodies.
 item-equal : (a b : Item) → itemField a ≡ itemField b → a ≡ b

@@ -24,7 +24,7 @@ use Rattle.translation.specs.WellFormed.{kinds}
 use Rattle.translation.proofs.Codec.{itemWhole}
 use Rattle.translation.proofs.Lookup.{mem-mapped}
 use Rattle.translation.proofs.Fitting.{Fitting, mapped-arguments}
-use Rattle.operators.specs.Algebra.{argumentsFrom, identityClause, identityOf}
+use Rattle.operators.specs.Operators.{argumentsFrom, identityClause, identityOf}
 use Rattle.operators.proofs.Proper.{Proper, proper-apart, proper-below, Sound}
 use Rattle.operators.proofs.JoinSound.{mapping-clause}
 

@@ -24,7 +24,7 @@ use Rattle.translation.proofs.Lookup.{mem-mapped}
 use Rattle.translation.proofs.Running.{chained, run-chained}
 use Rattle.translation.proofs.Preserved.{typed-run, run-alike}
 use Rattle.translation.proofs.Fitting.{Fitting, between, clause-code, mapped-arguments, fit-carries}
-use Rattle.operators.specs.Algebra.{joinFits, joinItem, joined}
+use Rattle.operators.specs.Operators.{joinFits, joinItem, joined}
 use Rattle.operators.specs.Limits.{isDeep, codeIsDeep}
 use Rattle.operators.proofs.Proper.{proper-apart, Sound}
 

@@ -17,7 +17,7 @@ use Rattle.translation.specs.Translation.{mapping, clause, Translation, itemKey
 use Rattle.translation.specs.Running.{readClause}
 use Rattle.translation.proofs.Lookup as Items
 use Rattle.translation.proofs.Fitting.{Fitting, between, clause-alike}
-use Rattle.operators.specs.Algebra.{languagesFit, languageUnion, languageWithout, translationsFit, translationUnion, isOf, translationWithout}
+use Rattle.operators.specs.Operators.{languagesFit, languageUnion, languageWithout, translationsFit, translationUnion, isOf, translationWithout}
 use Rattle.operators.proofs.Proper.{Proper, proper-keep, Sound}
 
 -- Languages that fit: entries agree by key, and no class of one is a result of the other.

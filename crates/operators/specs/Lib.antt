@@ -1,3 +1,3 @@
-pub mod Algebra
-pub mod Limits
 pub mod Inner
+pub mod Operators
+pub mod Limits

@@ -1,61 +1,51 @@
-// Writing into a lent output.
-ghost use mathlib.Core.Bool.{cond};
-ghost use mathlib.Core.List.{[], _++_};
+// Copies of accepted values: a language, a translation, its source and its target.
+ghost use mathlib.Core.Path.{_≡_};
 ghost use Prim.Native.Nat.{_≤_};
 ghost use lib.ListN.{length};
-ghost use lib.Seq.{slice};
-ghost use Rattle.operators.specs.Inner.Parts.{Inside, Stores};
+ghost use Rattle.fields.specs.Outcome.{value};
+ghost use Rattle.language.specs.Language.{Language};
+ghost use Rattle.language.specs.LanguageFile.{languageOf};
+ghost use Rattle.translation.specs.Translation.{Translation};
+ghost use Rattle.translation.specs.TranslationFile.{translationOf};
+ghost use Rattle.operators.specs.Inner.Values.{Gives, languageBytes, translationBytes};
+use super::limit::limited;
+use fields::copy::put;
+use fields::outcome::Outcome;
+use translation::parts::source_of;
+use translation::parts::target_of;
 
-// Where what was written ends, or that the output is too short for it.
-pub enum Stored {
-    To(usize),
-    Full,
+// The language itself.
+pub fn language(a: &[u8], out: &mut [u8]) -> Outcome
+    requires { ⌜ ((l : Language) × (languageOf (now a) ≡ value l)) × (1024 ≤ length (now out)) ⌝ }
+    ensures { λ r. ⌜ ((l : Language) → languageOf (now (a .entry)) ≡ value l
+        → Gives (languageBytes (value l)) (now (out .entry)) (now (out .exit)) r) ⌝ }
+{
+    limited(put(a, 0, a.len(), out, 0), 1024)
 }
 
-// Copies the bytes of s from p up to e into the output, from n on.
-pub fn put(s: &[u8], p: usize, e: usize, out: &mut [u8], n: usize) -> Stored
-    requires { ⌜ Inside (now s) p e × (n ≤ length (now out)) ⌝ }
-    ensures { λ r. ⌜ Stores (slice p e (now (s .entry))) (now (out .entry)) (now (out .exit)) n r ⌝ }
+// The translation itself.
+pub fn translation(a: &[u8], out: &mut [u8]) -> Outcome
+    requires { ⌜ ((f : Translation) × (translationOf (now a) ≡ value f)) × (4096 ≤ length (now out)) ⌝ }
+    ensures { λ r. ⌜ ((f : Translation) → translationOf (now (a .entry)) ≡ value f
+        → Gives (translationBytes (value f)) (now (out .entry)) (now (out .exit)) r) ⌝ }
 {
-    let size = e - p;
-    if out.len() - n < size {
-        return Stored::Full;
-    }
-    let mut i = 0;
-    while i < size {
-        out[n + i] = s[p + i];
-        i += 1;
-    }
-    Stored::To(n + size)
+    limited(put(a, 0, a.len(), out, 0), 4096)
 }
 
-// Copies the same if told to, and nothing if not.
-pub fn put_if(wanted: bool, s: &[u8], p: usize, e: usize, out: &mut [u8], n: usize) -> Stored
-    requires { ⌜ Inside (now s) p e × (n ≤ length (now out)) ⌝ }
-    ensures { λ r. ⌜ Stores (cond wanted (slice p e (now (s .entry))) []) (now (out .entry)) (now (out .exit)) n r ⌝ }
+// The source of a translation.
+pub fn source(a: &[u8], out: &mut [u8]) -> Outcome
+    requires { ⌜ ((f : Translation) × (translationOf (now a) ≡ value f)) × (1024 ≤ length (now out)) ⌝ }
+    ensures { λ r. ⌜ ((f : Translation) → translationOf (now (a .entry)) ≡ value f
+        → Gives (languageBytes (value (f .source))) (now (out .entry)) (now (out .exit)) r) ⌝ }
 {
-    if wanted {
-        return put(s, p, e, out, n);
-    }
-    Stored::To(n)
+    language(source_of(a), out)
 }
 
-// Copies the bytes of s from p up to e, and behind them those of t from q up to d.
-pub fn put_both(
-    s: &[u8],
-    p: usize,
-    e: usize,
-    t: &[u8],
-    q: usize,
-    d: usize,
-    out: &mut [u8],
-    n: usize,
-) -> Stored
-    requires { ⌜ Inside (now s) p e × (Inside (now t) q d × (n ≤ length (now out))) ⌝ }
-    ensures { λ r. ⌜ Stores (slice p e (now (s .entry)) ++ slice q d (now (t .entry))) (now (out .entry)) (now (out .exit)) n r ⌝ }
+// The target of a translation.
+pub fn target(a: &[u8], out: &mut [u8]) -> Outcome
+    requires { ⌜ ((f : Translation) × (translationOf (now a) ≡ value f)) × (1024 ≤ length (now out)) ⌝ }
+    ensures { λ r. ⌜ ((f : Translation) → translationOf (now (a .entry)) ≡ value f
+        → Gives (languageBytes (value (f .target))) (now (out .entry)) (now (out .exit)) r) ⌝ }
 {
-    let Stored::To(m) = put(s, p, e, out, n) else {
-        return Stored::Full;
-    };
-    put(t, q, d, out, m)
+    language(target_of(a), out)
 }

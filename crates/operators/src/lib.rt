@@ -1,8 +1,9 @@
-// The signs' values on languages and translations: their definitions and laws, and the operators on bytes.
+// The operators of the signs on bytes: copies, sums, "without", identities, and translations made of their parts.
+pub mod assemble;
 pub mod copy;
-pub mod fit;
-pub mod head;
-pub mod meet;
-pub mod merge;
-pub mod prefix;
-pub mod within;
+pub mod identity;
+pub mod keep;
+pub mod languages;
+pub mod limit;
+pub mod make;
+pub mod translations;

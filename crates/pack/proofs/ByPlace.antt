@@ -1,6 +1,6 @@
 -- The parts by place are the parts of `packParts`.
 use Prim.Native.Nat.{ℕ, _-_, _≤_}
-use mathlib.Core.Path.{_≡_, refl, sym, _∙_}
+use mathlib.Core.Path.{_≡_, refl, sym, ap, _∙_}
 use mathlib.Core.Bool.{Bool, true, false, cond, _&&_}
 use mathlib.Core.List.{List, [], _∷_, map}
 use mathlib.Core.Option.{Option, none, some}
@@ -9,17 +9,18 @@ use lib.ListN.{length, getD, length-map}
 use lib.Dec.{leb, eqb}
 use borrow.Author.Tests.{le-leb, lt-leb, leb-true, leb-false, eqb-true, ne-eqb}
 use Rattle.fields.specs.Lists.{all, isSome, keep, concatMap}
-use Rattle.fields.specs.Inner.Places.{isWhole, fieldAt, contentsAt, places}
+use Rattle.fields.specs.Fields.{Field, fieldsOf, decodedIn}
+use Rattle.fields.specs.Inner.Places.{isWhole, fieldAt, contentsAt, places, tagIs, tagsOrdered}
 use Rattle.fields.proofs.Truth.{by-test, and-both}
 use Rattle.fields.proofs.Codec.{cond-there}
 use Rattle.fields.proofs.Lists.{all-and, all-true}
-use Rattle.fields.proofs.Split.{fields-at-places, traverse-at-places}
+use Rattle.fields.proofs.Split.{decoded-at-places}
 use Rattle.language.specs.Language.{Language}
 use Rattle.language.specs.LanguageFile.{entriesOf}
 use Rattle.translation.specs.Translation.{Body}
 use Rattle.translation.specs.TranslationFile.{bodyOf}
-use Rattle.pack.specs.Pack.{Pack, Part, languagePart, bodyPart, languageIn, bodyIn, partOf, group, inGroups, asLanguage, asBody, asTerm, packWith, packIn, packInParts, packParts}
-use Rattle.pack.specs.Inner.Parts.{listIn, languageAt, bodyAt, partGood, partWhole, partAt, partsOrdered, isTag, tagged}
+use Rattle.pack.specs.Pack.{Pack, Part, languagePart, bodyPart, languageIn, bodyIn, partOf, group, inGroups, asLanguage, asBody, asTerm, packWith, packIn, packInParts, packInFields, packParts}
+use Rattle.pack.specs.Inner.Parts.{listIn, languageAt, bodyAt, partGood, partWhole, partAt, partsOrdered, tagged}
 use Rattle.pack.proofs.PackCodec.{pack-from}
 
 -- A language that is there, and a body.
@@ -45,19 +46,17 @@ in-parts : (a : Bool) (ps : List Part) → packInParts (cond a (some ps) none) �
 in-parts true ps = refl
 in-parts false ps = refl
 
+in-fields : (o : Option (List Field)) → packInFields o ≡ packInParts (decodedIn partOf o)
+in-fields none = refl
+in-fields (some fs) = refl
+
 -- The parts of a pack are those at its places, where each is whole.
 pub parts-at-places : (s : List ℕ) → packParts s ≡ cond (all (partWhole s) (places s)) (packIn (map (partAt s) (places s))) none
 unfolding packParts partWhole
 parts-at-places s =
-    let whole-is = all-and (isWhole s) (partGood s) (places s) in
-    by-test (all (isWhole s) (places s))
-    (λ h. cc (
-      fields-at-places s,
-      traverse-at-places partOf (partGood s) (partAt s) s (λ p w. part-here s p) (places s) h,
-      whole-is,
-      in-parts (all (partGood s) (places s)) (map (partAt s) (places s)),
-    ))
-    (λ h. cc (fields-at-places s, whole-is))
+    in-fields (fieldsOf s)
+    ∙ (ap packInParts (decoded-at-places partOf (partGood s) (partAt s) s (λ p w. part-here s p))
+    ∙ in-parts (all (partWhole s) (places s)) (map (partAt s) (places s)))
 
 pub good-of : (s : List ℕ) (p : ℕ) → partWhole s p ≡ true → partGood s p ≡ true
 unfolding partWhole
@@ -111,7 +110,7 @@ and-swap false false c = refl
 -- The tags do not fall where the parts stand in the order of their groups.
 pub ordered-is : (s : List ℕ) (last : ℕ) (l : List ℕ) → 0x30 ≤ last
     → partsOrdered s last l ≡ (all (partWhole s) l && inGroups (last - 0x30) (map (partAt s) l))
-unfolding partsOrdered all inGroups
+unfolding tagsOrdered all inGroups
 ordered-is s last [] h = refl
 ordered-is s last (p ∷ l) h =
     by-test (partWhole s p)
@@ -122,7 +121,7 @@ ordered-is s last (p ∷ l) h =
     (λ e. rw e)
 
 -- The languages, the bodies and the terms stand at the places of their tags.
-pub languages-are : (s l : List ℕ) → concatMap asLanguage (map (partAt s) l) ≡ map (languageAt s) (keep (isTag 0x30 s) l)
+pub languages-are : (s l : List ℕ) → concatMap asLanguage (map (partAt s) l) ≡ map (languageAt s) (keep (tagIs 0x30 s) l)
 unfolding concatMap keep partAt
 languages-are s [] = refl
 languages-are s (p ∷ l) =
@@ -130,7 +129,7 @@ languages-are s (p ∷ l) =
     (λ e. cc (languages-are s l))
     (λ e. by-test (eqb (getD s p 0) 0x31) (λ d. cc (languages-are s l)) (λ d. cc (languages-are s l)))
 
-pub bodies-are : (s l : List ℕ) → all (partWhole s) l ≡ true → concatMap asBody (map (partAt s) l) ≡ map (bodyAt s) (keep (isTag 0x31 s) l)
+pub bodies-are : (s l : List ℕ) → all (partWhole s) l ≡ true → concatMap asBody (map (partAt s) l) ≡ map (bodyAt s) (keep (tagIs 0x31 s) l)
 unfolding concatMap keep partAt
 bodies-are s [] h = refl
 bodies-are s (p ∷ l) h =
@@ -140,7 +139,7 @@ bodies-are s (p ∷ l) h =
     (λ d e i. cc (bodies-are s l (w .1)))
     (λ d f e. cc (bodies-are s l (w .1)))
 
-pub terms-are : (s l : List ℕ) → all (partWhole s) l ≡ true → concatMap asTerm (map (partAt s) l) ≡ map (contentsAt s) (keep (isTag 0x32 s) l)
+pub terms-are : (s l : List ℕ) → all (partWhole s) l ≡ true → concatMap asTerm (map (partAt s) l) ≡ map (contentsAt s) (keep (tagIs 0x32 s) l)
 unfolding concatMap keep partAt
 terms-are s [] h = refl
 terms-are s (p ∷ l) h =
@@ -186,9 +185,9 @@ parts-there s =
       languages-are s (places s),
       bodies-are s (places s) h,
       terms-are s (places s) h,
-      length-map (keep (isTag 0x30 s) (places s)) (languageAt s),
-      length-map (keep (isTag 0x31 s) (places s)) (bodyAt s),
-      length-map (keep (isTag 0x32 s) (places s)) (contentsAt s),
+      length-map (keep (tagIs 0x30 s) (places s)) (languageAt s),
+      length-map (keep (tagIs 0x31 s) (places s)) (bodyAt s),
+      length-map (keep (tagIs 0x32 s) (places s)) (contentsAt s),
     ))
     (λ g. cc (o, parts-at-places s)))
     (λ h. cc (ordered-is s 0x30 (places s) (omega arith), parts-at-places s))

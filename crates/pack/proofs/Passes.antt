@@ -7,7 +7,7 @@ use mathlib.Core.Option.{Option, none, some}
 use native.Mathlib.Omega.{arith}
 use lib.ListN.{length, getD, take, drop}
 use lib.Dec.{ltb, leb, eqb}
-use borrow.Author.Tests.{lt-ltb, le-ltb, le-leb, lt-leb, eq-eqb, ne-eqb, leb-true, eqb-true}
+use borrow.Author.Tests.{lt-ltb, le-ltb, le-leb, lt-leb, eq-eqb, ne-eqb, eqb-true}
 use Rattle.fields.specs.Lists.{all, any, isSome, keep}
 use Rattle.fields.specs.Fields.{pairAt, hasOver}
 use Rattle.fields.specs.Keyed.{rising}
@@ -15,33 +15,29 @@ use Rattle.fields.specs.Outcome.{value, refuseIf, checked}
 use Rattle.fields.specs.declared.outcome.Outcome.{Outcome}
 use Rattle.fields.specs.declared.outcome.Outcome.the-variants.{Accepted, Refused}
 use Rattle.fields.specs.declared.outcome.Reason.the-variants as Why
-use Rattle.fields.specs.Inner.Places.{fieldEnd, isWhole, contentsAt, placesFrom, places, keyAt}
+use Rattle.fields.specs.Inner.Places.{fieldEnd, isWhole, contentsAt, placesFrom, places, keyAt, tagIs, longAt, WholeEnd}
 use Rattle.fields.proofs.Truth.{false-true, and-both, some-is}
 use Rattle.fields.proofs.Lists.{all-true}
-use Rattle.fields.proofs.Places.{pass-done, pass-next, every-here}
+use Rattle.fields.proofs.Places.{pass-done, pass-next, end-whole}
 use Rattle.language.specs.Language.{entryKey, clashes}
 use Rattle.language.specs.LanguageFile.{entriesOf, languageLimit}
 use Rattle.language.specs.Inner.Entries.{entryWhole, resultsMeet}
+use Rattle.language.proofs.Facts.{entries-long}
 use Rattle.language.proofs.Holds.{entries-there, holds-entries}
 use Rattle.language.proofs.Chain.{rising-is}
 use Rattle.language.proofs.Clashes.{clash-is}
 use Rattle.translation.specs.Translation.{itemKey}
 use Rattle.translation.specs.TranslationFile.{bodyOf}
-use Rattle.translation.specs.Inner.Items.{longAt}
 use Rattle.translation.proofs.Items.{holds-items, rising-is as items-rise}
-use Rattle.translation.proofs.Classes.{entries-long, items-long}
+use Rattle.translation.proofs.Whole.{items-long}
 use Rattle.translation.proofs.Found.{cut}
 use Rattle.pack.specs.Pack.{Pack, packParts, packLimit, isLanguageTag, packOf}
-use Rattle.pack.specs.Inner.Parts.{languageAt, bodyAt, partGood, partWhole, partsOrdered, isTag, tagged, risesAt, clashAt}
+use Rattle.pack.specs.Inner.Parts.{languageAt, bodyAt, partGood, partWhole, partsOrdered, tagged, risesAt, clashAt}
 use Rattle.pack.proofs.PackCodec.{packRises, packClashes}
-use Rattle.pack.proofs.ByPlace.{good-of, part-cases, and-swap, and-join, parts-there, HoldsParts, holds-parts}
+use Rattle.pack.proofs.ByPlace.{good-of, part-cases, and-swap, and-join, parts-there, HoldsParts, holds-parts, ordered-is, wholes}
 
--- part_whole, rises_at and clash_at: the field at p ends at e
+-- part_good, rises_at and clash_at: the field at p ends at e
 module _ (s : List ℕ) (p e : ℕ) (ee : e ≡ fieldEnd s p) where
-  pub part-cut : length s < e → false ≡ partWhole s p
-  unfolding partWhole isWhole
-  part-cut h = cc (lt-leb e (length s) h)
-
   -- the bytes that are lent of it
   pub lent : cut s (p + 3) e ≡ contentsAt s p
   unfolding fieldEnd
@@ -50,18 +46,17 @@ module _ (s : List ℕ) (p e : ℕ) (ee : e ≡ fieldEnd s p) where
       ap (λ (n : ℕ). take n (drop (p + 3) s)) n
 
   module _ (tag : ℕ) (et : tag ≡ getD s p 0) (x : Bool) where
-    module _ (fits : e ≤ length s) where
-      pub part-language : tag ≡ 0x30 → x ≡ isSome (entriesOf (cut s (p + 3) e)) → x ≡ partWhole s p
-      unfolding partWhole isWhole partGood
-      part-language h ex = cc (lent, le-leb e (length s) fits, eq-eqb tag 0x30 h)
+    pub good-language : tag ≡ 0x30 → x ≡ isSome (entriesOf (cut s (p + 3) e)) → x ≡ partGood s p
+    unfolding partGood
+    good-language h ex = cc (lent, eq-eqb tag 0x30 h)
 
-      pub part-body : (tag ≡ 0x30 → ⊥) → tag ≡ 0x31 → x ≡ isSome (bodyOf (cut s (p + 3) e)) → x ≡ partWhole s p
-      unfolding partWhole isWhole partGood
-      part-body n h ex = cc (lent, le-leb e (length s) fits, ne-eqb tag 0x30 n, eq-eqb tag 0x31 h)
+    pub good-body : (tag ≡ 0x30 → ⊥) → tag ≡ 0x31 → x ≡ isSome (bodyOf (cut s (p + 3) e)) → x ≡ partGood s p
+    unfolding partGood
+    good-body n h ex = cc (lent, ne-eqb tag 0x30 n, eq-eqb tag 0x31 h)
 
-      pub part-term : (tag ≡ 0x30 → ⊥) → (tag ≡ 0x31 → ⊥) → eqb tag 0x32 ≡ partWhole s p
-      unfolding partWhole isWhole partGood
-      part-term n h = cc (le-leb e (length s) fits, ne-eqb tag 0x30 n, ne-eqb tag 0x31 h)
+    pub good-term : (tag ≡ 0x30 → ⊥) → (tag ≡ 0x31 → ⊥) → eqb tag 0x32 ≡ partGood s p
+    unfolding partGood
+    good-term n h = cc (ne-eqb tag 0x30 n, ne-eqb tag 0x31 h)
 
     pub rises-language : tag ≡ 0x30 → x ≡ rising (keyAt 0x11 (cut s (p + 3) e)) (places (cut s (p + 3) e)) → x ≡ risesAt s p
     unfolding risesAt
@@ -83,61 +78,47 @@ module _ (s : List ℕ) (p e : ℕ) (ee : e ≡ fieldEnd s p) where
     unfolding clashAt
     clash-language h ex = cc (lent, eq-eqb tag 0x30 h)
 
--- A field that is whole ends in the file, and what holds at each place holds after it.
-pub ends-in : (s : List ℕ) (p e : ℕ) → e ≡ fieldEnd s p → isWhole s p ≡ true → e ≤ length s
-unfolding isWhole
-ends-in s p e h w = rw h (leb-true (fieldEnd s p) (length s) w)
+-- A whole part is a whole field.
+module _ (s : List ℕ) (p : ℕ) where
+  pub part-whole : partWhole s p ≡ true → isWhole s p ≡ true
+  unfolding partWhole
+  part-whole w = and-both (isWhole s p) (partGood s p) w .0
 
-pub part-ends : (s : List ℕ) (p e : ℕ) → e ≡ fieldEnd s p → partWhole s p ≡ true → e ≤ length s
-unfolding partWhole
-part-ends s p e h w = ends-in s p e h (and-both (isWhole s p) (partGood s p) w .0)
+  -- parts_ordered
+  pub part-cut : isWhole s p ≡ false → false ≡ partWhole s p
+  unfolding partWhole
+  part-cut h = rw h
 
-pub whole-next : (f : ℕ → Bool) (s : List ℕ) (p e : ℕ) → e ≡ fieldEnd s p → all f (placesFrom s p) ≡ true → p < length s → all f (placesFrom s e) ≡ true
-whole-next f s p e h inv here = rw h (every-here f s p inv here .1)
+  pub part-is : (e : ℕ) → WholeEnd s p e → (x : Bool) → x ≡ partGood s p → x ≡ partWhole s p
+  unfolding partWhole
+  part-is e w x ex = rw (end-whole s p e w) ex
 
--- parts_ordered
-module _ (s : List ℕ) (last p : ℕ) (x : Bool) (inv : partsOrdered s last (placesFrom s p) ≡ x) where
-  pub ordered-done : length s ≤ p → true ≡ x
-  unfolding partsOrdered
-  ordered-done h = pass-done (partsOrdered s last) s p x inv h
-
-  module _ (b : Bool) (eb : b ≡ partWhole s p) (end : ℕ) (ee : end ≡ fieldEnd s p) (here : p < length s) where
-    turn : ((b && leb last (getD s p 0)) && partsOrdered s (getD s p 0) (placesFrom s end)) ≡ x
-    unfolding partsOrdered
-    turn = rw eb (pass-next (partsOrdered s last) s p x inv end here ee)
-
-    pub ordered-broken : b ≡ false → false ≡ x
-    ordered-broken h = rw h at turn
-
-    module _ (good : b ≡ true) (tag : ℕ) (et : tag ≡ getD s p 0) where
-      pub ordered-falls : tag < last → false ≡ x
-      ordered-falls h = rw (good, ← et, lt-leb last tag h) at turn
-
-      pub ordered-next : last ≤ tag → partsOrdered s tag (placesFrom s end) ≡ x
-      ordered-next h = rw (good, ← et, le-leb last tag h) at turn
+-- Parts in the order of their groups are whole fields.
+pub ordered-whole : (s : List ℕ) → partsOrdered s 0x30 (places s) ≡ true → all (isWhole s) (places s) ≡ true
+ordered-whole s h = wholes s (places s) (and-both _ _ (sym (ordered-is s 0x30 (places s) (omega arith)) ∙ h) .0)
 
 -- count_tag
-pub count-start : (tag : ℕ) (s : List ℕ) → 0 + length (keep (isTag tag s) (places s)) ≡ length (tagged tag s)
+pub count-start : (tag : ℕ) (s : List ℕ) → 0 + length (keep (tagIs tag s) (places s)) ≡ length (tagged tag s)
 unfolding tagged
 count-start tag s = omega arith
 
-module _ (tag : ℕ) (s : List ℕ) (p n x : ℕ) (inv : n + length (keep (isTag tag s) (placesFrom s p)) ≡ x) where
+module _ (tag : ℕ) (s : List ℕ) (p n x : ℕ) (inv : n + length (keep (tagIs tag s) (placesFrom s p)) ≡ x) where
   pub count-done : length s ≤ p → n ≡ x
   unfolding keep
-  count-done h = let e = pass-done (λ l. n + length (keep (isTag tag s) l)) s p x inv h in omega arith
+  count-done h = let e = pass-done (λ l. n + length (keep (tagIs tag s) l)) s p x inv h in omega arith
 
   module _ (end : ℕ) (ee : end ≡ fieldEnd s p) (here : p < length s) (t : ℕ) (et : t ≡ getD s p 0) where
-    pub count-here : t ≡ tag → n + 1 + length (keep (isTag tag s) (placesFrom s end)) ≡ x
+    pub count-here : t ≡ tag → n + 1 + length (keep (tagIs tag s) (placesFrom s end)) ≡ x
     unfolding keep
     count-here h =
-        let e = pass-next (λ l. n + length (keep (isTag tag s) l)) s p x inv end here ee in
+        let e = pass-next (λ l. n + length (keep (tagIs tag s) l)) s p x inv end here ee in
         let d = rw (← et, eq-eqb t tag h) at e in
         omega arith
 
-    pub count-other : (t ≡ tag → ⊥) → n + length (keep (isTag tag s) (placesFrom s end)) ≡ x
+    pub count-other : (t ≡ tag → ⊥) → n + length (keep (tagIs tag s) (placesFrom s end)) ≡ x
     unfolding keep
     count-other h =
-        let e = pass-next (λ l. n + length (keep (isTag tag s) l)) s p x inv end here ee in
+        let e = pass-next (λ l. n + length (keep (tagIs tag s) l)) s p x inv end here ee in
         rw (← et, ne-eqb t tag h) at e
 
 -- parts_whole
@@ -193,7 +174,7 @@ module _ (s : List ℕ) (p e : ℕ) (ee : e ≡ fieldEnd s p) (tag : ℕ) (et : 
 
 -- The keys of all languages and bodies rise where they do at each place.
 rises-places : (s l : List ℕ) → all (partWhole s) l ≡ true
-    → all (risesAt s) l ≡ (all (rising entryKey) (map (languageAt s) (keep (isTag 0x30 s) l)) && all (rising itemKey) (map (bodyAt s) (keep (isTag 0x31 s) l)))
+    → all (risesAt s) l ≡ (all (rising entryKey) (map (languageAt s) (keep (tagIs 0x30 s) l)) && all (rising itemKey) (map (bodyAt s) (keep (tagIs 0x31 s) l)))
 unfolding all keep risesAt
 rises-places s [] h = refl
 rises-places s (p ∷ l) h =
@@ -203,14 +184,14 @@ rises-places s (p ∷ l) h =
     (λ e i.
     let z : eqb (getD s p 0) 0x31 ≡ false = cc (eqb-true (getD s p 0) 0x30 e) in
     let r = rising-is (contentsAt s p) (languageAt s p) (holds-entries _ _ (language-is s p i)) in
-    cc (more, r, and-join (rising entryKey (languageAt s p)) (all (rising entryKey) (map (languageAt s) (keep (isTag 0x30 s) l))) (all (rising itemKey) (map (bodyAt s) (keep (isTag 0x31 s) l)))))
+    cc (more, r, and-join (rising entryKey (languageAt s p)) (all (rising entryKey) (map (languageAt s) (keep (tagIs 0x30 s) l))) (all (rising itemKey) (map (bodyAt s) (keep (tagIs 0x31 s) l)))))
     (λ d e i.
     let r = items-rise (contentsAt s p) (bodyAt s p) (holds-items _ _ (body-is s p i)) in
-    cc (more, r, and-swap (rising itemKey (bodyAt s p)) (all (rising entryKey) (map (languageAt s) (keep (isTag 0x30 s) l))) (all (rising itemKey) (map (bodyAt s) (keep (isTag 0x31 s) l)))))
+    cc (more, r, and-swap (rising itemKey (bodyAt s p)) (all (rising entryKey) (map (languageAt s) (keep (tagIs 0x30 s) l))) (all (rising itemKey) (map (bodyAt s) (keep (tagIs 0x31 s) l)))))
     (λ d f e. cc more)
 
 clash-places : (s l : List ℕ) → all (partWhole s) l ≡ true
-    → any (clashAt s) l ≡ any (λ m. clashes m m) (map (languageAt s) (keep (isTag 0x30 s) l))
+    → any (clashAt s) l ≡ any (λ m. clashes m m) (map (languageAt s) (keep (tagIs 0x30 s) l))
 unfolding any keep clashAt
 clash-places s [] h = refl
 clash-places s (p ∷ l) h =
@@ -244,12 +225,12 @@ module _ (s : List ℕ) (over : Bool) (eo : over ≡ (ltb packLimit (length s) |
   over-refused h i = cc
 
   module _ (within : over ≡ false) (there : Bool) (et : there ≡ isSome (packParts s)) where
-    absent : (p : Option Pack) → packParts s ≡ p → isSome p ≡ false → checked (packOf s) ≡ Refused Why.Broken
+    absent : (p : Option Pack) → packParts s ≡ p → isSome p ≡ false → checked (packOf s) ≡ Refused Why.BrokenField
     unfolding packOf
     absent none e h = cc
     absent (some p) e h = false-true (sym h)
 
-    pub broken-refused : {o : Outcome} → there ≡ false → o ≡ Refused Why.Broken → o ≡ checked (packOf s)
+    pub broken-refused : {o : Outcome} → there ≡ false → o ≡ Refused Why.BrokenField → o ≡ checked (packOf s)
     broken-refused h i = i ∙ sym (absent (packParts s) refl (sym et ∙ h))
 
     module _ (whole-is : there ≡ true) where
@@ -262,7 +243,7 @@ module _ (s : List ℕ) (over : Bool) (eo : over ≡ (ltb packLimit (length s) |
       pub each-whole : all (partWhole s) (places s) ≡ true
       each-whole = holds .parts
 
-      opened : (p : Pack) → packParts s ≡ some p → packOf s ≡ refuseIf (not (packRises p)) Why.Order (refuseIf (packClashes p) Why.Clash (value p))
+      opened : (p : Pack) → packParts s ≡ some p → packOf s ≡ refuseIf (not (packRises p)) Why.OutOfOrder (refuseIf (packClashes p) Why.ClassIsResult (value p))
       unfolding packOf
       opened p e = rw (sym eo ∙ within, e)
 
@@ -274,15 +255,15 @@ module _ (s : List ℕ) (over : Bool) (eo : over ≡ (ltb packLimit (length s) |
       unfolding tagged
       clash-all = let h = holds in clash-places s (places s) (h .parts) ∙ rw (h .languages)
 
-      chain : checked (packOf s) ≡ checked (refuseIf (not (all (risesAt s) (places s))) Why.Order (refuseIf (any (clashAt s) (places s)) Why.Clash (value (held .0))))
+      chain : checked (packOf s) ≡ checked (refuseIf (not (all (risesAt s) (places s))) Why.OutOfOrder (refuseIf (any (clashAt s) (places s)) Why.ClassIsResult (value (held .0))))
       chain = rw (rise-is, clash-all) (ap checked (opened (held .0) (held .1)))
 
       module _ (rise : Bool) (er : rise ≡ all (risesAt s) (places s)) where
-        pub order-refused : {o : Outcome} → rise ≡ false → o ≡ Refused Why.Order → o ≡ checked (packOf s)
+        pub order-refused : {o : Outcome} → rise ≡ false → o ≡ Refused Why.OutOfOrder → o ≡ checked (packOf s)
         order-refused h i = i ∙ sym (chain ∙ rw (← er, h))
 
         module _ (rises : rise ≡ true) (both : Bool) (eb : both ≡ any (clashAt s) (places s)) where
-          pub clash-refused : {o : Outcome} → both ≡ true → o ≡ Refused Why.Clash → o ≡ checked (packOf s)
+          pub clash-refused : {o : Outcome} → both ≡ true → o ≡ Refused Why.ClassIsResult → o ≡ checked (packOf s)
           clash-refused h i = i ∙ sym (chain ∙ rw (← er, rises, ← eb, h))
 
           pub pack-accepted : {o : Outcome} → both ≡ false → o ≡ Accepted 0 → o ≡ checked (packOf s)

@@ -241,9 +241,9 @@ end-in n r a e h = rw e at h
 
 -- check_term
 abbrev finish : Option (List ℕ) → Outcome
-finish none = Refused Why.Term
+finish none = Refused Why.IllegalTerm
 finish (some []) = Accepted 0
-finish (some (x ∷ s)) = Refused Why.Term
+finish (some (x ∷ s)) = Refused Why.IllegalTerm
 
 whole-finish : (l b : ℕ) (o : Parse (Term translations)) → checked (wholeTerm l b o) ≡ finish (inScope l b o)
 whole-finish l b none = refl
@@ -267,11 +267,11 @@ module _ (s : List ℕ) (p : Pack) (e : packOf s ≡ value p) (start l b : ℕ) 
       whole-finish (length (p .languages)) (length (p .bodies)) (readTerm 12 translations (p .term))
       ∙ rw (m, n, ← es) (ap finish (sym er))
 
-  pub term-refused : {o : Outcome} → r ≡ Broken → o ≡ Refused Why.Term → o ≡ checked (termOf p)
+  pub term-refused : {o : Outcome} → r ≡ Broken → o ≡ Refused Why.IllegalTerm → o ≡ checked (termOf p)
   term-refused h i = i ∙ sym (term-finish ∙ rw h)
 
   module _ (a : ℕ) (ea : r ≡ End a) where
-    pub term-left : {o : Outcome} → a ≤ length s → (a ≡ length s → ⊥) → o ≡ Refused Why.Term → o ≡ checked (termOf p)
+    pub term-left : {o : Outcome} → a ≤ length s → (a ≡ length s → ⊥) → o ≡ Refused Why.IllegalTerm → o ≡ checked (termOf p)
     term-left k h i = i ∙ sym (term-finish ∙ rw (ea, front s a (omega arith)))
 
     pub term-accepted : {o : Outcome} → a ≡ length s → o ≡ Accepted 0 → o ≡ checked (termOf p)

@@ -13,10 +13,10 @@ use Rattle.fields.specs.Lists.{all, keep}
 use Rattle.fields.specs.Fields.{pairAt}
 use Rattle.fields.specs.Keyed.{rising}
 use Rattle.fields.specs.Outcome.{value}
-use Rattle.fields.specs.Inner.Places.{fieldEnd, isWhole, contentsAt, placesIn, placesFrom, places}
+use Rattle.fields.specs.Inner.Places.{fieldEnd, isWhole, contentsAt, placesIn, placesFrom, places, tagIs, tagsOrdered}
 use Rattle.fields.proofs.Truth.{by-test, false-true, none-some, some-inj, and-both}
 use Rattle.fields.proofs.Lists.{all-true, part-is}
-use Rattle.fields.proofs.Places.{pass-done, pass-next, end-past, in-done, in-next}
+use Rattle.fields.proofs.Places.{pass-done, pass-next, end-past, in-done, in-next, whole-end}
 use Rattle.fields.proofs.Codec.{each-at}
 use Rattle.language.specs.Language.{Language}
 use Rattle.language.specs.LanguageFile.{entriesOf, languageOf}
@@ -25,50 +25,50 @@ use Rattle.translation.specs.Translation.{Body, itemKey}
 use Rattle.translation.specs.TranslationFile.{bodyOf}
 use Rattle.translation.proofs.Codec.{GoodBody}
 use Rattle.pack.specs.Pack.{Pack, packOf}
-use Rattle.pack.specs.Inner.Parts.{languageAt, bodyAt, partWhole, partsOrdered, isTag, tagged, StandsAt}
+use Rattle.pack.specs.Inner.Parts.{languageAt, bodyAt, partWhole, partsOrdered, tagged, StandsAt}
 use Rattle.pack.proofs.PackCodec.{pack-in, pack-good}
 use Rattle.pack.proofs.ByPlace.{part-cases, HoldsParts, holds-parts, wholes}
-use Rattle.pack.proofs.Passes.{language-is, body-is, ends-in}
+use Rattle.pack.proofs.Passes.{language-is, body-is, part-whole}
 
 -- field_place
-pub place-start : (tag : ℕ) (s : List ℕ) (number : ℕ) → getElem? (keep (isTag tag s) (places s)) number ≡ getElem? (tagged tag s) number
+pub place-start : (tag : ℕ) (s : List ℕ) (number : ℕ) → getElem? (keep (tagIs tag s) (places s)) number ≡ getElem? (tagged tag s) number
 unfolding tagged
 place-start tag s number = refl
 
-module _ (tag : ℕ) (s : List ℕ) (p left : ℕ) (x : Option ℕ) (inv : getElem? (keep (isTag tag s) (placesFrom s p)) left ≡ x) where
+module _ (tag : ℕ) (s : List ℕ) (p left : ℕ) (x : Option ℕ) (inv : getElem? (keep (tagIs tag s) (placesFrom s p)) left ≡ x) where
   pub place-none : {A : Type 0} → length s ≤ p → (q : ℕ) → x ≡ some q → A
   unfolding keep
-  place-none h q e = none-some (pass-done (λ l. getElem? (keep (isTag tag s) l) left) s p x inv h ∙ e)
+  place-none h q e = none-some (pass-done (λ l. getElem? (keep (tagIs tag s) l) left) s p x inv h ∙ e)
 
   module _ (end : ℕ) (ee : end ≡ fieldEnd s p) (here : p < length s) (t : ℕ) (et : t ≡ getD s p 0) where
-    turn : getElem? (keep (isTag tag s) (p ∷ placesFrom s end)) left ≡ x
-    turn = pass-next (λ l. getElem? (keep (isTag tag s) l) left) s p x inv end here ee
+    turn : getElem? (keep (tagIs tag s) (p ∷ placesFrom s end)) left ≡ x
+    turn = pass-next (λ l. getElem? (keep (tagIs tag s) l) left) s p x inv end here ee
 
-    pub place-other : (t ≡ tag → ⊥) → getElem? (keep (isTag tag s) (placesFrom s end)) left ≡ x
+    pub place-other : (t ≡ tag → ⊥) → getElem? (keep (tagIs tag s) (placesFrom s end)) left ≡ x
     unfolding keep
     place-other h = rw (← et, ne-eqb t tag h) at turn
 
     module _ (h : t ≡ tag) where
-      turn-here : getElem? (p ∷ keep (isTag tag s) (placesFrom s end)) left ≡ x
+      turn-here : getElem? (p ∷ keep (tagIs tag s) (placesFrom s end)) left ≡ x
       unfolding keep
       turn-here = rw (← et, eq-eqb t tag h) at turn
 
       pub place-here : left ≡ 0 → (q : ℕ) → x ≡ some q → p ≡ q
       place-here z q e = some-inj (rw z at turn-here ∙ e)
 
-      pub place-next : (left ≡ 0 → ⊥) → getElem? (keep (isTag tag s) (placesFrom s end)) (left - 1) ≡ x
+      pub place-next : (left ≡ 0 → ⊥) → getElem? (keep (tagIs tag s) (placesFrom s end)) (left - 1) ≡ x
       place-next n = go left n turn-here
         where
-          go : (m : ℕ) → (m ≡ 0 → ⊥) → getElem? (p ∷ keep (isTag tag s) (placesFrom s end)) m ≡ x → getElem? (keep (isTag tag s) (placesFrom s end)) (m - 1) ≡ x
+          go : (m : ℕ) → (m ≡ 0 → ⊥) → getElem? (p ∷ keep (tagIs tag s) (placesFrom s end)) m ≡ x → getElem? (keep (tagIs tag s) (placesFrom s end)) (m - 1) ≡ x
           go zero n e = absurd (n refl)
           go (suc m) n e = let d : suc m - 1 ≡ m = omega arith in rw d e
 
-pub stands-here : (tag : ℕ) (s : List ℕ) (p left number : ℕ) → getElem? (keep (isTag tag s) (placesFrom s p)) left ≡ getElem? (tagged tag s) number
+pub stands-here : (tag : ℕ) (s : List ℕ) (p left number : ℕ) → getElem? (keep (tagIs tag s) (placesFrom s p)) left ≡ getElem? (tagged tag s) number
     → (end : ℕ) → end ≡ fieldEnd s p → p < length s → (t : ℕ) → t ≡ getD s p 0 → t ≡ tag → left ≡ 0 → isWhole s p ≡ true
     → StandsAt tag s number (p + 3) end
 stands-here tag s p left number inv end ee here t et h z w = record {
   past = rw ee (end-past s p);
-  inside = ends-in s p end ee w;
+  inside = whole-end s p w end ee .fits;
   is = λ q e. let y = place-here tag s p left _ inv end ee here t et h z q e in (ap (λ (n : ℕ). n + 3) y, ee ∙ ap (fieldEnd s) y);
 }
 
@@ -106,13 +106,9 @@ module _ (s : List ℕ) (q a b : ℕ) (ea : a ≡ q + 3) (eb : b ≡ fieldEnd s 
   contents-stand : isWhole s q ≡ true → slice a b s ≡ contentsAt s q
   unfolding fieldEnd
   contents-stand w =
-      let n = ends-in s q b eb w in
+      let n = whole-end s q w b eb .fits in
       let m : q + 3 ≤ length s = omega (arith, eb) in
       rw (ea, eb) (sym (part-is s (q + 3) (pairAt s (q + 1)) m))
-
-part-is-whole : (s : List ℕ) (q : ℕ) → partWhole s q ≡ true → isWhole s q ≡ true
-unfolding partWhole
-part-is-whole s q h = and-both _ _ h .0
 
 -- language_at and body_at
 module _ (s : List ℕ) (number a b : ℕ) (p : Pack) (e : packOf s ≡ value p) where
@@ -121,9 +117,9 @@ module _ (s : List ℕ) (number a b : ℕ) (p : Pack) (e : packOf s ≡ value p)
   language-found w l g =
       let h = accepted-parts s p e in
       let (q, d, is) = mapped-at (languageAt s) (tagged 0x30 s) number l (rw (h .languages) g) in
-      let (tag, good) = kept-at (isTag 0x30 s) (partWhole s) (places s) number q (h .parts) d in
+      let (tag, good) = kept-at (tagIs 0x30 s) (partWhole s) (places s) number q (h .parts) d in
       let (ea, eb) = w .is q d in
-      let c : slice a b s ≡ contentsAt s q = contents-stand s q a b ea eb (part-is-whole s q good) in
+      let c : slice a b s ≡ contentsAt s q = contents-stand s q a b ea eb (part-whole s q good) in
       let j : entriesOf (contentsAt s q) ≡ some (languageAt s q) =
       part-cases s q good (λ t i. language-is s q i) (λ t u i. false-true (sym t ∙ tag)) (λ t u i. false-true (sym t ∙ tag)) in
       let i : entriesOf (slice a b s) ≡ some l = ap entriesOf c ∙ (j ∙ ap some is) in
@@ -137,9 +133,9 @@ module _ (s : List ℕ) (number a b : ℕ) (p : Pack) (e : packOf s ≡ value p)
   body-found w x g =
       let h = accepted-parts s p e in
       let (q, d, is) = mapped-at (bodyAt s) (tagged 0x31 s) number x (rw (h .bodies) g) in
-      let (tag, good) = kept-at (isTag 0x31 s) (partWhole s) (places s) number q (h .parts) d in
+      let (tag, good) = kept-at (tagIs 0x31 s) (partWhole s) (places s) number q (h .parts) d in
       let (ea, eb) = w .is q d in
-      let c : slice a b s ≡ contentsAt s q = contents-stand s q a b ea eb (part-is-whole s q good) in
+      let c : slice a b s ≡ contentsAt s q = contents-stand s q a b ea eb (part-whole s q good) in
       let n : eqb (getD s q 0) 0x30 ≡ true → ⊥ = λ t. omega (arith, eqb-true (getD s q 0) 0x30 t, eqb-true (getD s q 0) 0x31 tag) in
       let j : bodyOf (contentsAt s q) ≡ some (bodyAt s q) =
       part-cases s q good (λ t i. absurd (n t)) (λ t u i. body-is s q i) (λ t u i. false-true (sym u ∙ tag)) in (
@@ -149,7 +145,7 @@ module _ (s : List ℕ) (number a b : ℕ) (p : Pack) (e : packOf s ≡ value p)
 
 -- The term is the last field.
 abbrev terms : List ℕ → List ℕ → List ℕ
-terms s l = keep (isTag 0x32 s) l
+terms s l = keep (tagIs 0x32 s) l
 
 tag-term : (s : List ℕ) (p : ℕ) → partWhole s p ≡ true → leb 0x32 (getD s p 0) ≡ true → eqb (getD s p 0) 0x32 ≡ true
 tag-term s p h k =
@@ -160,7 +156,7 @@ tag-term s p h k =
     (λ d f e. e)
 
 none-after : (s : List ℕ) (l : List ℕ) → partsOrdered s 0x32 l ≡ true → terms s l ≡ [] → l ≡ []
-unfolding partsOrdered keep
+unfolding tagsOrdered keep
 none-after s [] h e = refl
 none-after s (p ∷ l) h e =
     let w = and-both (partWhole s p && leb 0x32 (getD s p 0)) (partsOrdered s (getD s p 0) l) h in
@@ -178,7 +174,7 @@ no-place (suc f) s p h e =
 
 term-last : (f : ℕ) (s : List ℕ) (last p q : ℕ) → length s - p < f → partsOrdered s last (placesIn f s p) ≡ true
     → terms s (placesIn f s p) ≡ q ∷ [] → length s ≤ fieldEnd s q
-unfolding partsOrdered keep
+unfolding tagsOrdered keep
 term-last zero s last p q h o e = absurd (omega arith)
 term-last (suc f) s last p q h o e =
     by-test (leb (length s) p)

@@ -6,7 +6,7 @@ use mathlib.Core.Option.{Option, none, some}
 use lib.ListN.{length}
 use lib.Dec.{ltb, leb, eqb}
 use Rattle.fields.specs.Outcome.{Result, value, refused, refuseIf, _>>=_}
-use Rattle.fields.specs.declared.outcome.Reason.the-variants.{TooLong, Order, Clash, Term}
+use Rattle.fields.specs.declared.outcome.Reason.the-variants.{TooLong, OutOfOrder, ClassIsResult, IllegalTerm}
 use Rattle.fields.specs.Lists.{all, any, traverse, concatMap}
 use Rattle.fields.specs.Fields.{Field, field, fieldsOf, hasOver}
 use Rattle.fields.specs.Keyed.{rising}
@@ -114,8 +114,8 @@ unfoldable pub packOf : List ℕ → Result Pack
 packOf s =
     refuseIf (ltb packLimit (length s) || hasOver isLanguageTag languageLimit s) TooLong
     (whole (packParts s) >>= λ p.
-    refuseIf (not (all (rising entryKey) (p .languages) && all (rising itemKey) (p .bodies))) Order
-    (refuseIf (any (λ l. clashes l l) (p .languages)) Clash
+    refuseIf (not (all (rising entryKey) (p .languages) && all (rising itemKey) (p .bodies))) OutOfOrder
+    (refuseIf (any (λ l. clashes l l) (p .languages)) ClassIsResult
     (value p)))
 
 -- At most 12 levels.
@@ -124,9 +124,9 @@ termLimit = 12
 
 -- Exactly one translation term, with nothing after it, whose constants are there and whose variables are 0 to 15.
 abbrev pub wholeTerm : ℕ → ℕ → Parse (Terms.Term translations) → Result (Terms.Term translations)
-wholeTerm l b none = refused Term
+wholeTerm l b none = refused IllegalTerm
 wholeTerm l b (some r) =
-    elim (r .1) [ [] ↦ refuseIf (not (scoped l b (r .0))) Term (value (r .0)) | x ∷ s ↦ refused Term ]
+    elim (r .1) [ [] ↦ refuseIf (not (scoped l b (r .0))) IllegalTerm (value (r .0)) | x ∷ s ↦ refused IllegalTerm ]
 
 -- The term of a pack, or 8.
 unfoldable pub termOf : Pack → Result (Terms.Term translations)

@@ -9,21 +9,26 @@ ghost use Rattle.language.specs.LanguageFile.{languageLimit};
 ghost use Rattle.pack.specs.Pack.{packLimit, isLanguageTag, packOf};
 use super::order::in_order;
 use super::order::languages_clash;
+use super::whole::LANGUAGE;
 use super::whole::parts_whole;
 use fields::outcome::Answer;
 use fields::outcome::Reason;
 use fields::outcome::accept;
 use fields::outcome::refuse;
 use fields::walk::says_over;
+use language::check::LANGUAGE_LIMIT;
+
+// A pack has at most so many bytes.
+pub const PACK_LIMIT: usize = 32768;
 
 // The file, or a language in it, is over its limit.
 fn over_limit(pack: &[u8]) -> bool
     ensures { λ r. ⌜ r ≡ ltb packLimit (length (now (pack .entry))) || hasOver isLanguageTag languageLimit (now (pack .entry)) ⌝ }
 {
-    if 32768 < pack.len() {
+    if PACK_LIMIT < pack.len() {
         return true;
     }
-    says_over(pack, 0x30, 0x30, 1024)
+    says_over(pack, LANGUAGE, LANGUAGE, LANGUAGE_LIMIT)
 }
 
 // Check a pack: the lowest refusal of 1 to 4 that applies, or accepted.
@@ -34,13 +39,13 @@ pub fn check_pack(pack: &[u8]) -> Answer
         return refuse(Reason::TooLong);
     }
     if !parts_whole(pack) {
-        return refuse(Reason::Broken);
+        return refuse(Reason::BrokenField);
     }
     if !in_order(pack) {
-        return refuse(Reason::Order);
+        return refuse(Reason::OutOfOrder);
     }
     if languages_clash(pack) {
-        return refuse(Reason::Clash);
+        return refuse(Reason::ClassIsResult);
     }
     accept(0)
 }

@@ -1,27 +1,28 @@
 // The order of the keys in a pack, and the clashes in its languages.
 ghost use mathlib.Core.Path.{_≡_};
 ghost use mathlib.Core.Bool.{true};
-ghost use Prim.Native.Nat.{_≤_};
-ghost use lib.ListN.{length};
 ghost use Rattle.fields.specs.Lists.{all, any};
-ghost use Rattle.fields.specs.Inner.Places.{EndsAt, places};
+ghost use Rattle.fields.specs.Inner.Places.{WholeEnd, places};
 ghost use Rattle.pack.specs.Inner.Parts.{partWhole, risesAt, clashAt};
-use fields::bytes::byte_at;
-use fields::walk::field_end;
-use translation::clash::class_results;
-use translation::walk::whole_rise;
+use super::whole::BODY;
+use super::whole::LANGUAGE;
+use fields::walk::keys_rise;
+use fields::walk::whole_end;
+use language::clash::result_is_class;
+use language::entries::CLASS;
+use translation::body::MAPPING;
 
 // The keys of the part at p, which ends at e, rise, if it is a language or a body.
 fn rises_at(s: &[u8], p: usize, e: usize) -> bool
-    requires { ⌜ EndsAt (now s) p e × (e ≤ length (now s)) × (partWhole (now s) p ≡ true) ⌝ }
+    requires { ⌜ WholeEnd (now s) p e × (partWhole (now s) p ≡ true) ⌝ }
     ensures { λ r. ⌜ r ≡ risesAt (now (s .entry)) p ⌝ }
 {
-    let tag = byte_at(s, p);
-    if tag == 0x30 {
-        return whole_rise(&s[p + 3..e], 0x11);
+    let tag = s[p];
+    if tag == LANGUAGE {
+        return keys_rise(&s[p + 3..e], CLASS);
     }
-    if tag == 0x31 {
-        return whole_rise(&s[p + 3..e], 0x22);
+    if tag == BODY {
+        return keys_rise(&s[p + 3..e], MAPPING);
     }
     true
 }
@@ -33,7 +34,7 @@ pub fn in_order(s: &[u8]) -> bool
 {
     let mut p = 0;
     while p < s.len() {
-        let e = field_end(s, p);
+        let e = whole_end(s, p);
         if !rises_at(s, p, e) {
             return false;
         }
@@ -44,13 +45,13 @@ pub fn in_order(s: &[u8]) -> bool
 
 // The part at p, which ends at e and whose keys rise, is a language in which a result is a class.
 fn clash_at(s: &[u8], p: usize, e: usize) -> bool
-    requires { ⌜ EndsAt (now s) p e × (e ≤ length (now s)) × (partWhole (now s) p ≡ true) × (risesAt (now s) p ≡ true) ⌝ }
+    requires { ⌜ WholeEnd (now s) p e × (partWhole (now s) p ≡ true) × (risesAt (now s) p ≡ true) ⌝ }
     ensures { λ r. ⌜ r ≡ clashAt (now (s .entry)) p ⌝ }
 {
-    if byte_at(s, p) != 0x30 {
+    if s[p] != LANGUAGE {
         return false;
     }
-    class_results(&s[p + 3..e])
+    result_is_class(&s[p + 3..e])
 }
 
 // In some language a result is a class.
@@ -60,7 +61,7 @@ pub fn languages_clash(s: &[u8]) -> bool
 {
     let mut p = 0;
     while p < s.len() {
-        let e = field_end(s, p);
+        let e = whole_end(s, p);
         if clash_at(s, p, e) {
             return true;
         }

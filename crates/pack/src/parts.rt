@@ -15,8 +15,10 @@ ghost use Rattle.translation.specs.Translation.{Body, itemKey};
 ghost use Rattle.translation.specs.TranslationFile.{bodyOf};
 ghost use Rattle.pack.specs.Pack.{Pack, packOf};
 ghost use Rattle.pack.specs.Inner.Parts.{StandsAt};
-use fields::bytes::byte_at;
-use fields::walk::field_end;
+use super::whole::BODY;
+use super::whole::LANGUAGE;
+use super::whole::TERM;
+use fields::walk::whole_end;
 
 // Where a part stands: from the start up to the end.
 pub struct Place {
@@ -32,8 +34,8 @@ fn field_place(s: &[u8], tag: u8, number: usize) -> Place
     let mut left = number;
     let mut p = 0;
     while p < s.len() {
-        let e = field_end(s, p);
-        if byte_at(s, p) == tag {
+        let e = whole_end(s, p);
+        if s[p] == tag {
             if left == 0 {
                 return Place {
                     start: p + 3,
@@ -52,7 +54,7 @@ pub fn term_start(pack: &[u8]) -> usize
     requires { ⌜ ((p : Pack) × (packOf (now pack) ≡ value p)) ⌝ }
     ensures { λ r. ⌜ (r ≤ length (now (pack .entry))) × ((p : Pack) → packOf (now (pack .entry)) ≡ value p → drop r (now (pack .entry)) ≡ p .term) ⌝ }
 {
-    let place = field_place(pack, 0x32, 0);
+    let place = field_place(pack, TERM, 0);
     place.start
 }
 
@@ -63,7 +65,7 @@ pub fn language_at(pack: &[u8], number: usize) -> Place
         × ((p : Pack) (l : Language) → packOf (now (pack .entry)) ≡ value p → getElem? (p .languages) number ≡ some l
         → languageOf (slice (r .start) (r .end) (now (pack .entry))) ≡ value l) ⌝ }
 {
-    field_place(pack, 0x30, number)
+    field_place(pack, LANGUAGE, number)
 }
 
 // Where the body (field 31) of this number stands.
@@ -73,5 +75,5 @@ pub fn body_at(pack: &[u8], number: usize) -> Place
         × ((p : Pack) (b : Body) → packOf (now (pack .entry)) ≡ value p → getElem? (p .bodies) number ≡ some b
         → (bodyOf (slice (r .start) (r .end) (now (pack .entry))) ≡ some b) × (rising itemKey b ≡ true)) ⌝ }
 {
-    field_place(pack, 0x31, number)
+    field_place(pack, BODY, number)
 }

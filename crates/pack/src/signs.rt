@@ -2,7 +2,7 @@
 ghost use mathlib.Core.Path.{_≡_};
 ghost use Prim.Native.Nat.{_≤_};
 ghost use Rattle.pack.specs.Inner.Signs.{hasNumber, signIndex, firstOperand, secondOperand};
-use fields::bytes::wide;
+use fields::bytes::to_usize;
 
 // 1 where a number follows the sign, or ends it, as b does at 50.
 pub const NUMBERS: [u8; 16] = [1, 1, 0, 0, 0, 0, 1, 1, 1, 1, 0, 0, 0, 0, 1, 1];
@@ -21,13 +21,13 @@ fn sign_index(sign: u8) -> usize
         return 16;
     }
     if sign < 0x48 {
-        return wide(sign) - 0x40;
+        return to_usize(sign) - 0x40;
     }
     if sign < 0x50 {
         return 16;
     }
     if sign < 0x58 {
-        return wide(sign) - 0x48;
+        return to_usize(sign) - 0x48;
     }
     16
 }

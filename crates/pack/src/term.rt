@@ -9,13 +9,18 @@ use super::parts::term_start;
 use super::signs::first_operand;
 use super::signs::has_number;
 use super::signs::second_operand;
+use super::whole::BODY;
+use super::whole::LANGUAGE;
 use super::whole::count_tag;
 use fields::bytes::byte_at;
-use fields::bytes::wide;
+use fields::bytes::to_usize;
 use fields::outcome::Answer;
 use fields::outcome::Reason;
 use fields::outcome::accept;
 use fields::outcome::refuse;
+
+// A term has at most so many levels.
+const TERM_LEVELS: usize = 12;
 
 // The position after what was read; or bytes that are no such term.
 pub enum Read {
@@ -30,7 +35,7 @@ fn number_end(s: &[u8], at: usize, limit: usize) -> Read
     if s.len() <= at {
         return Read::Broken;
     }
-    if limit <= wide(s[at]) {
+    if limit <= to_usize(s[at]) {
         return Read::Broken;
     }
     Read::End(at + 1)
@@ -104,13 +109,13 @@ pub fn check_term(pack: &[u8]) -> Answer
     ensures { λ r. ⌜ ((p : Pack) → packOf (now (pack .entry)) ≡ value p → r .outcome ≡ checked (termOf p)) ⌝ }
 {
     let start = term_start(pack);
-    let languages = count_tag(pack, 0x30);
-    let bodies = count_tag(pack, 0x31);
-    let Read::End(e) = term_end(2, pack, start, languages, bodies, 12) else {
-        return refuse(Reason::Term);
+    let languages = count_tag(pack, LANGUAGE);
+    let bodies = count_tag(pack, BODY);
+    let Read::End(e) = term_end(2, pack, start, languages, bodies, TERM_LEVELS) else {
+        return refuse(Reason::IllegalTerm);
     };
     if e != pack.len() {
-        return refuse(Reason::Term);
+        return refuse(Reason::IllegalTerm);
     }
     accept(0)
 }

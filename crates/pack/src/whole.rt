@@ -1,45 +1,58 @@
 // The parts of a pack: that each field is one, that they stand in their groups, and how many there are.
 ghost use mathlib.Core.Path.{_≡_};
+ghost use mathlib.Core.Bool.{true};
 ghost use lib.ListN.{length};
-ghost use Rattle.fields.specs.Lists.{isSome};
-ghost use Rattle.fields.specs.Inner.Places.{EndsAt, places};
+ghost use Rattle.fields.specs.Lists.{all, isSome};
+ghost use Rattle.fields.specs.Inner.Places.{WholeEnd, isWhole, places};
 ghost use Rattle.pack.specs.Pack.{packParts};
-ghost use Rattle.pack.specs.Inner.Parts.{partWhole, partsOrdered, tagged};
-use fields::bytes::byte_at;
-use fields::walk::field_end;
+ghost use Rattle.pack.specs.Inner.Parts.{partGood, partsOrdered, tagged};
+use fields::walk::end_if_whole;
+use fields::walk::whole_end;
 use language::entries::entries_whole;
 use translation::body::body_whole;
 
-// The field at p, which says that it ends at e, is whole and a part.
-fn part_whole(s: &[u8], p: usize, e: usize) -> bool
-    requires { ⌜ EndsAt (now s) p e ⌝ }
-    ensures { λ r. ⌜ r ≡ partWhole (now (s .entry)) p ⌝ }
+// The tag of a language in a pack.
+pub const LANGUAGE: u8 = 0x30;
+
+// The tag of a body.
+pub const BODY: u8 = 0x31;
+
+// The tag of the term.
+pub const TERM: u8 = 0x32;
+
+// There are at most so many languages, and so many bodies.
+const PARTS: usize = 32;
+
+// The whole field at p, which ends at e, is a part.
+fn part_good(s: &[u8], p: usize, e: usize) -> bool
+    requires { ⌜ WholeEnd (now s) p e ⌝ }
+    ensures { λ r. ⌜ r ≡ partGood (now (s .entry)) p ⌝ }
 {
-    if s.len() < e {
-        return false;
-    }
-    let tag = byte_at(s, p);
-    if tag == 0x30 {
+    let tag = s[p];
+    if tag == LANGUAGE {
         return entries_whole(&s[p + 3..e]);
     }
-    if tag == 0x31 {
+    if tag == BODY {
         return body_whole(&s[p + 3..e]);
     }
-    tag == 0x32
+    tag == TERM
 }
 
 // The file is whole parts, in the order of their groups.
 fn parts_ordered(s: &[u8]) -> bool
     ensures { λ r. ⌜ r ≡ partsOrdered (now (s .entry)) 0x30 (places (now (s .entry))) ⌝ }
 {
-    let mut last = 0x30;
+    let mut last = LANGUAGE;
     let mut p = 0;
     while p < s.len() {
-        let e = field_end(s, p);
-        if !part_whole(s, p, e) {
+        let e = end_if_whole(s, p);
+        if e == 0 {
             return false;
         }
-        let tag = byte_at(s, p);
+        if !part_good(s, p, e) {
+            return false;
+        }
+        let tag = s[p];
         if tag < last {
             return false;
         }
@@ -51,13 +64,14 @@ fn parts_ordered(s: &[u8]) -> bool
 
 // How many fields have this tag.
 pub fn count_tag(s: &[u8], tag: u8) -> usize
+    requires { ⌜ all (isWhole (now s)) (places (now s)) ≡ true ⌝ }
     ensures { λ r. ⌜ r ≡ length (tagged tag (now (s .entry))) ⌝ }
 {
     let mut n = 0;
     let mut p = 0;
     while p < s.len() {
-        let e = field_end(s, p);
-        if byte_at(s, p) == tag {
+        let e = whole_end(s, p);
+        if s[p] == tag {
             n += 1;
         }
         p = e;
@@ -72,11 +86,11 @@ pub fn parts_whole(s: &[u8]) -> bool
     if !parts_ordered(s) {
         return false;
     }
-    if 32 < count_tag(s, 0x30) {
+    if PARTS < count_tag(s, LANGUAGE) {
         return false;
     }
-    if 32 < count_tag(s, 0x31) {
+    if PARTS < count_tag(s, BODY) {
         return false;
     }
-    count_tag(s, 0x32) == 1
+    count_tag(s, TERM) == 1
 }

@@ -1,11 +1,11 @@
 -- The index that is built: the code's turns, and what a lookup through it gives.
-use Prim.Native.Nat.{ℕ, _+_, _-_, _<_, _≤_}
+use Prim.Native.Nat.{ℕ, _+_, _<_, _≤_}
 use mathlib.Core.Path.{_≡_, refl}
 use mathlib.Core.List.{List}
-use lib.ListN.{length, getD, set, length-set, List·getD-eq-default}
+use lib.ListN.{length, getD, set, replicate, length-set, getD-replicate, length-replicate, List·getD-eq-default}
 use lib.Seq.{set-out}
-use lib.Dec.{eqb}
-use borrow.Author.Tests.{eq-eqb, ne-eqb}
+use lib.Dec.{ltb, eqb}
+use borrow.Author.Tests.{eq-eqb, ne-eqb, ltb-true, ltb-false}
 use Rattle.fields.specs.Inner.Places.{fieldEnd, placesFrom, keyAt}
 use Rattle.fields.proofs.Truth.{by-test}
 use Rattle.fields.proofs.Places.{pass-done, pass-next}
@@ -39,3 +39,10 @@ module _ (first : ℕ) (s : List ℕ) (p : ℕ) (index x : List ℕ) (inv : putA
       → putAll first s more (placesFrom s end) ≡ x
   unfolding putAll
   puts-next more key v end em ek ev ee here = rw (em, ek, ev) (pass-next (putAll first s index) s p x inv end here ee)
+
+-- A fresh array.
+pub zeros : (n j : ℕ) → _≡_ {A = ℕ} (getD (replicate n 0) j 0) 0
+zeros n j =
+    by-test (ltb j n)
+    (λ e. getD-replicate n j 0 0 (ltb-true _ _ e))
+    (λ e. List·getD-eq-default {A = ℕ} (replicate n 0) 0 {n = j} (rw length-replicate (ltb-false _ _ e)))

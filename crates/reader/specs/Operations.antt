@@ -4,7 +4,7 @@ use mathlib.Core.Bool.{not}
 use mathlib.Core.List.{List, [], _∷_}
 use Rattle.fields.specs.Outcome.{Result, value, refused, refuseIf, _>>=_, checked}
 use Rattle.fields.specs.declared.outcome.Outcome.{Outcome}
-use Rattle.fields.specs.declared.outcome.Reason.the-variants.{Root, Tree, Levels}
+use Rattle.fields.specs.declared.outcome.Reason.the-variants.{UnknownRoot, IllegalTree, TooDeep}
 use Rattle.language.specs.Language.{Language, isIn}
 use Rattle.language.specs.LanguageFile.{languageOf}
 use Rattle.reader.specs.Code.{Code}
@@ -17,13 +17,13 @@ treeLevels = 64
 -- What was read, with nothing after it: 16 and 15 in reading order, last 15 for leftover bytes.
 abbrev pub wholeTree : Read Code → Result Code
 wholeTree (done t []) = value t
-wholeTree (done t (b ∷ s)) = refused Tree
-wholeTree deep = refused Levels
-wholeTree broken = refused Tree
+wholeTree (done t (b ∷ s)) = refused IllegalTree
+wholeTree deep = refused TooDeep
+wholeTree broken = refused IllegalTree
 
 -- The legal tree of kind root that the bytes are: 14, 15 or 16 where they are none.
 unfoldable pub treeOf : Language → ℕ → List ℕ → Result Code
-treeOf l root bytes = refuseIf (not (isIn l root)) Root (wholeTree (read tree l [] treeLevels root bytes))
+treeOf l root bytes = refuseIf (not (isIn l root)) UnknownRoot (wholeTree (read tree l [] treeLevels root bytes))
 
 -- Check a tree: 1 to 4 for the language, then 14 to 16.
 unfoldable pub checkTree : List ℕ → ℕ → List ℕ → Outcome

@@ -8,7 +8,13 @@ ghost use Rattle.fields.specs.Inner.Places.{places};
 ghost use mathlib.Core.Option.{some};
 ghost use Rattle.language.specs.Language.{Language};
 ghost use Rattle.language.specs.LanguageFile.{entriesOf};
-ghost use Rattle.reader.specs.Inner.Index.{putAt, putAll, Indexed};
+ghost use Rattle.reader.specs.Inner.Index.{putAt, putAll, Indexed, indexLength};
+
+// How many numbers an index has: one for each kind, and one for each production.
+pub const INDEX: usize = 8224;
+
+// How many numbers the table of a run has; the index of the source stands first in it.
+pub const TABLE: usize = 25664;
 
 // Puts a value at a key that has none yet.
 fn put(index: &mut [u16], key: usize, value: u16)
@@ -37,7 +43,7 @@ pub fn put_all(s: &[u8], first: u8, index: &mut [u16])
 
 // Builds the index of a language in an index that is all zero.
 pub fn build(language: &[u8], index: &mut [u16])
-    requires { ⌜ (length (now language) ≤ 1024) × (length (now index) ≡ 8224) × ((j : ℕ) → getD (now index) j 0 ≡ 0) ⌝ }
+    requires { ⌜ (length (now language) ≤ 1024) × (length (now index) ≡ indexLength) × ((j : ℕ) → getD (now index) j 0 ≡ 0) ⌝ }
     ensures { λ r. ⌜ ((l : Language) → entriesOf (now (language .entry)) ≡ some l → Indexed (now (index .exit)) (now (language .entry)) l) ⌝ }
 {
     put_all(language, 0x11, index);

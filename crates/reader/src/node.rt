@@ -1,13 +1,13 @@
 // What stands at one position: a leaf, or a production whose operands follow.
-use fields::bytes::wide;
+use fields::bytes::pair_in;
+use fields::bytes::to_usize;
 ghost use mathlib.Core.Path.{_≡_};
 ghost use Prim.Native.Nat.{ℕ, _+_, _<_, _≤_};
 ghost use mathlib.Core.Bool.{cond};
 ghost use lib.Dec.{eqb};
 ghost use lib.ListN.{length, getD};
-ghost use Rattle.fields.specs.Fields.{pairAt};
 ghost use Rattle.reader.specs.Inner.Positions.{nameLength, productionPlace, tokenAt, nameAt, argumentIs, argumentAt, treeNode, codeNode, nodeAt, EndsBy, NodeIn};
-ghost use Rattle.reader.specs.Inner.Index.{Ready};
+ghost use Rattle.reader.specs.Inner.Index.{Ready, indexLength};
 
 // Trees are written without signs, codes with them.
 pub enum Syntax {
@@ -27,14 +27,6 @@ pub enum Read {
 pub enum Node {
     Leaf(Read),
     Operands(usize, usize, usize),
-}
-
-// The number in the two bytes at i.
-pub fn pair_in(s: &[u8], i: usize) -> usize
-    requires { ⌜ i + 1 < length (now s) ⌝ }
-    ensures { λ r. ⌜ (r ≡ pairAt (now (s .entry)) i) × (r < 65536) ⌝ }
-{
-    wide(s[i]) * 256 + wide(s[i + 1])
 }
 
 // What the index holds at i.
@@ -57,13 +49,13 @@ pub fn name_length(syntax: Syntax) -> usize
 
 // The place of the production of the kind whose name stands at a position of a tree, or 0.
 fn name_place(index: &[u16], kind: u8, bytes: &[u8], at: usize) -> usize
-    requires { ⌜ (8224 ≤ length (now index)) × (kind < 32) ⌝ }
+    requires { ⌜ (indexLength ≤ length (now index)) × (kind < 32) ⌝ }
     ensures { λ r. ⌜ r ≡ productionPlace Syntax.Tree (now (index .entry)) kind (now (bytes .entry)) at ⌝ }
 {
     if bytes.len() <= at {
         return 0;
     }
-    place_at(index, 32 + (wide(kind) * 256 + wide(bytes[at])))
+    place_at(index, 32 + (to_usize(kind) * 256 + to_usize(bytes[at])))
 }
 
 // The place of the production of the kind whose name stands at a position; 0 if there is none, or if a token of a class
@@ -76,7 +68,7 @@ pub fn production_place(
     bytes: &[u8],
     at: usize,
 ) -> usize
-    requires { ⌜ (8224 ≤ length (now index)) × (kind < 32) × (at ≤ length (now bytes)) ⌝ }
+    requires { ⌜ (indexLength ≤ length (now index)) × (kind < 32) × (at ≤ length (now bytes)) ⌝ }
     ensures { λ r. ⌜ r ≡ cond (eqb class 0) (productionPlace syntax (now (index .entry)) kind (now (bytes .entry)) at) 0 ⌝ }
 {
     if class != 0 {
@@ -125,7 +117,7 @@ fn name(language: &[u8], index: &[u16], kind: u8, bytes: &[u8], at: usize) -> No
     if bytes.len() <= at {
         return Node::Leaf(Read::Broken);
     }
-    let place = place_at(index, 32 + (wide(kind) * 256 + wide(bytes[at])));
+    let place = place_at(index, 32 + (to_usize(kind) * 256 + to_usize(bytes[at])));
     if place == 0 {
         return Node::Leaf(Read::Broken);
     }
@@ -153,7 +145,7 @@ fn argument(arguments: &[u8], kind: u8, bytes: &[u8], at: usize) -> Read
     if bytes.len() <= at {
         return Read::Broken;
     }
-    if argument_is(arguments, kind, wide(bytes[at])) {
+    if argument_is(arguments, kind, to_usize(bytes[at])) {
         return Read::End(at + 1);
     }
     Read::Broken
@@ -164,7 +156,7 @@ fn tree_node(language: &[u8], index: &[u16], kind: u8, bytes: &[u8], at: usize) 
     requires { ⌜ Ready (now index) (now language) kind (now bytes) at ⌝ }
     ensures { λ r. ⌜ (r ≡ treeNode (now (language .entry)) (now (index .entry)) kind (now (bytes .entry)) at) × NodeIn (now (language .entry)) (now (bytes .entry)) r ⌝ }
 {
-    let place = place_at(index, wide(kind));
+    let place = place_at(index, to_usize(kind));
     if place == 0 {
         return name(language, index, kind, bytes, at);
     }
@@ -191,7 +183,7 @@ fn code_node(
         return name(language, index, kind, bytes, at + 1);
     }
     if sign == 2 {
-        return Node::Leaf(token(language, place_at(index, wide(kind)), bytes, at + 1));
+        return Node::Leaf(token(language, place_at(index, to_usize(kind)), bytes, at + 1));
     }
     if sign == 3 {
         return Node::Leaf(argument(arguments, kind, bytes, at + 1));

@@ -1,6 +1,1 @@
-pub mod Evaluated
-pub mod Standing
-pub mod Holding
-pub mod Giving
-pub mod Copying
-pub mod Readied
+pub mod Operation

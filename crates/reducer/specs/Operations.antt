@@ -6,11 +6,11 @@ use lib.ListN.{length, replicate}
 use lib.Dec.{ltb}
 use Rattle.fields.specs.Outcome.{Result, value, refused, refuseIf, _>>=_, written, outputAfter}
 use Rattle.fields.specs.declared.outcome.Outcome.{Outcome}
-use Rattle.fields.specs.declared.outcome.Reason.the-variants.{Lent}
+use Rattle.fields.specs.declared.outcome.Reason.the-variants.{BuffersTooShort}
 use Rattle.translation.specs.TranslationFile.{encodeTranslation}
 use Rattle.pack.specs.Terms.{Term, translations}
 use Rattle.pack.specs.Pack.{Pack, packOf, termOf}
-use Rattle.reducer.specs.Evaluation.{constantsOf, evaluate, nothingBound}
+use Rattle.signs.specs.Evaluation.{constantsOf, evaluate, nothingBound}
 
 -- What is ready to be worked out: a pack and its term.
 pub record Ready : Type 0 where
@@ -22,7 +22,7 @@ unfoldable pub ready : List ℕ → ℕ → ℕ → Result Ready
 ready bytes workspace output =
     packOf bytes >>= λ p.
     termOf p >>= λ t.
-    refuseIf (ltb workspace 65536 || ltb output 4096) Lent
+    refuseIf (ltb workspace 65536 || ltb output 4096) BuffersTooShort
     (value (record { pack = p; term = t }))
 
 -- The bytes of the one translation that the term comes to.

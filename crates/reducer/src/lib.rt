@@ -1,8 +1,2 @@
-// The working out of terms and the operation reduce.
-pub mod combine;
-pub mod leaves;
-pub mod places;
+// The operation reduce.
 pub mod reduce;
-pub mod signs;
-pub mod terms;
-pub mod worked;

@@ -1,28 +1,37 @@
 // The operation reduce (paper 01, "Operations and their refusals").
-use crate::places::nothing;
-use crate::terms::translation_term;
-use crate::worked::Worked;
+use evaluator::terms::translation_term;
+use fields::copy::put;
 use fields::outcome::Answer;
 use fields::outcome::Outcome;
 use fields::outcome::Reason;
 use fields::outcome::accept;
 use fields::outcome::refuse;
-use operators::copy::put;
 use pack::check::check_pack;
 use pack::parts::term_start;
 use pack::term::check_term;
+use signs::evaluated::Evaluated;
+use signs::places::nothing;
 ghost use mathlib.Core.Path.{_≡_};
 ghost use mathlib.Core.List.{List, []};
 ghost use Prim.Native.Nat.{ℕ, _≤_};
-ghost use lib.ListN.{length, replicate};
+ghost use lib.ListN.{length, take, replicate};
 ghost use Rattle.fields.specs.Outcome.{Result, value, checked, written, outputAfter};
+ghost use Rattle.fields.specs.declared.outcome.Outcome.the-variants.{Accepted};
 ghost use Rattle.translation.specs.Translation.{Translation};
 ghost use Rattle.pack.specs.Terms.{translations};
 ghost use Rattle.pack.specs.Pack.{packOf, termOf};
-ghost use Rattle.reducer.specs.Evaluation.{constantsOf, evaluate, nothingBound};
+ghost use Rattle.signs.specs.Evaluation.{constantsOf, evaluate, nothingBound};
 ghost use Rattle.reducer.specs.Operations as Operations;
 ghost use Rattle.reducer.specs.Operations.{Ready};
-ghost use Rattle.reducer.specs.Inner.Reducing.{Says, fileOf};
+ghost use Rattle.reducer.specs.Inner.Delivery.{fileOf};
+ghost use Rattle.evaluator.specs.Inner.Reducing.{Says};
+
+// The least workspace and output, and the most levels of a term.
+const WORKSPACE: usize = 65536;
+
+const OUTPUT: usize = 4096;
+
+const TERM_LEVELS: usize = 12;
 
 // 1 to 4, 8 and 9: the pack, its term, and the lent room.
 fn ready(pack: &[u8], workspace: usize, output: usize) -> Answer
@@ -38,39 +47,45 @@ fn ready(pack: &[u8], workspace: usize, output: usize) -> Answer
     let Outcome::Accepted(_) = outcome else {
         return read;
     };
-    if workspace < 65536 {
-        return refuse(Reason::Lent);
+    if workspace < WORKSPACE {
+        return refuse(Reason::BuffersTooShort);
     }
-    if output < 4096 {
-        return refuse(Reason::Lent);
+    if output < OUTPUT {
+        return refuse(Reason::BuffersTooShort);
     }
     accept(0)
 }
 
-// The term of a pack, worked out over the workspace into the buffer.
-fn work(pack: &[u8], workspace: &mut [u8], buffer: &mut [u8]) -> Worked
+// The term of a pack, evaluated over the workspace into the buffer.
+fn work(pack: &[u8], workspace: &mut [u8], buffer: &mut [u8]) -> Evaluated
     requires { ⌜ ((d : Ready) × (packOf (now pack) ≡ value (d .pack)) × (termOf (d .pack) ≡ value (d .term)))
         × (65536 ≤ length (now workspace)) × (4096 ≤ length (now buffer)) ⌝ }
     ensures { λ r. ⌜ ((d : Ready) → packOf (now (pack .entry)) ≡ value (d .pack) → termOf (d .pack) ≡ value (d .term)
-        → Says translations (evaluate (constantsOf (d .pack)) nothingBound (d .term)) (d .pack .term) [] (now (buffer .exit)) r)
+        → Says translations (evaluate (constantsOf (d .pack)) nothingBound (d .term)) (now (pack .entry)) [] (now (buffer .exit)) r)
         × (length (now (workspace .exit)) ≡ length (now (workspace .entry))) ⌝ }
 {
     let start = term_start(pack);
-    translation_term(pack, &pack[start..], 0, 12, nothing(), workspace, 0, buffer)
+    translation_term(pack, start, TERM_LEVELS, nothing(), workspace, 0, buffer)
 }
 
-// What was worked out, written to the output, which changes only where it is accepted.
-fn deliver(worked: Worked, buffer: &[u8], output: &mut [u8]) -> Answer
-    requires { ⌜ ((o : Result Translation) × ((term : List ℕ) × ((rest : List ℕ) × Says translations o term rest (now buffer) worked))) × (4096 ≤ length (now output)) ⌝ }
-    ensures { λ r. ⌜ ((o : Result Translation) (term rest : List ℕ) → Says translations o term rest (now (buffer .entry)) worked
+// Writes the first n bytes to the output, and accepts that length.
+fn write(bytes: &[u8], n: usize, output: &mut [u8]) -> Answer
+    requires { ⌜ (n ≤ length (now bytes)) × (n ≤ length (now output)) ⌝ }
+    ensures { λ r. ⌜ (r .outcome ≡ Accepted n) × (now (output .exit) ≡ outputAfter (now (output .entry)) (value (take n (now (bytes .entry))))) ⌝ }
+{
+    put(bytes, 0, n, output, 0);
+    accept(n)
+}
+
+// The value, written to the output, which changes only where it is accepted.
+fn deliver(evaluated: Evaluated, buffer: &[u8], output: &mut [u8]) -> Answer
+    requires { ⌜ ((o : Result Translation) × ((bytes : List ℕ) × ((rest : List ℕ) × Says translations o bytes rest (now buffer) evaluated))) × (4096 ≤ length (now output)) ⌝ }
+    ensures { λ r. ⌜ ((o : Result Translation) (bytes rest : List ℕ) → Says translations o bytes rest (now (buffer .entry)) evaluated
         → (r .outcome ≡ written (fileOf o)) × (now (output .exit) ≡ outputAfter (now (output .entry)) (fileOf o))) ⌝ }
 {
-    match worked {
-        Worked::Refused(reason) => refuse(reason),
-        Worked::To(n, _) => {
-            put(buffer, 0, n, output, 0);
-            accept(n)
-        }
+    match evaluated {
+        Evaluated::Refused(reason) => refuse(reason),
+        Evaluated::To(n, _) => write(buffer, n, output),
     }
 }
 
@@ -91,14 +106,14 @@ pub fn reduce(pack: &[u8], workspace: &mut [u8], output: &mut [u8]) -> Answer
         × (now (output .exit) ≡ Operations.reduce (now (pack .entry)) (now (workspace .entry)) (now (output .entry)) .output)
         × (now (workspace .exit) ≡ Operations.reduce (now (pack .entry)) (now (workspace .entry)) (now (output .entry)) .workspace) ⌝ }
 {
-    let readied = ready(pack, workspace.len(), output.len());
-    let outcome = readied.outcome;
+    let checked = ready(pack, workspace.len(), output.len());
+    let outcome = checked.outcome;
     match outcome {
-        Outcome::Refused(_) => readied,
+        Outcome::Refused(_) => checked,
         Outcome::Accepted(_) => {
-            let mut buffer = [0u8; 4096];
-            let worked = work(pack, workspace, &mut buffer);
-            let answer = deliver(worked, &buffer, output);
+            let mut buffer = [0u8; OUTPUT];
+            let evaluated = work(pack, workspace, &mut buffer);
+            let answer = deliver(evaluated, &buffer, output);
             clear(workspace);
             answer
         }

@@ -20,7 +20,7 @@ use Rattle.reader.specs.Code.{Code}
 use Rattle.reader.specs.Syntax as Meant
 use Rattle.reader.specs.Operations.{treeOf, wholeTree}
 use Rattle.reader.specs.declared.node.Syntax.the-variants.{Tree}
-use Rattle.reader.proofs.Check.{refused-not}
+use Rattle.translation.proofs.Accepted.{refused-not}
 use Rattle.reader.proofs.RoundTrip.{Apart}
 use Rattle.reader.proofs.Larger.{apart}
 use Rattle.reader.proofs.Sound.{read-done as right-done}
@@ -39,7 +39,8 @@ use Rattle.measure.specs.Inner.Sizes.{size, capped}
 use Rattle.measure.specs.Inner.Measuring.{EndsIn, sizedAt, sizedOf}
 use Rattle.measure.proofs.Sizes.{over-room, within-room}
 use Rattle.measure.proofs.Meaning.{sized-done, sized-deep, sized-broken}
-use Rattle.emitter.specs.Inner.Stands.{spliced, Wrote}
+use Rattle.fields.specs.Inner.Writing.{spliced}
+use Rattle.emitter.specs.Inner.Stands.{Wrote}
 use Rattle.emitter.specs.Inner.Table.{Ready, Checked}
 use Rattle.emitter.specs.Inner.Runs.{Right, TermAsks}
 use Rattle.emitter.proofs.Standing.{drop-stands, wrote-long}
@@ -101,7 +102,7 @@ answer-same {o = o} e h = record { answer = h .answer ∙ sym (ap written e); le
 
 -- run_parts
 module _ (f : Translation) (k room : ℕ) (b o : List ℕ) {r : Bool} (er : r ≡ isIn (f .source) k) where
-  pub kind-out : {out : Outcome} → r ≡ false → out ≡ Refused Why.Root → Answers (runOf f k b room) o o out
+  pub kind-out : {out : Outcome} → r ≡ false → out ≡ Refused Why.UnknownRoot → Answers (runOf f k b room) o o out
   unfolding runOf treeOf
   kind-out h i = answer-refused (rw (← er, h)) i
 
@@ -111,17 +112,17 @@ module _ (f : Translation) (k room : ℕ) (b o : List ℕ) {r : Bool} (er : r �
     by-read e = rw (← er, there, e)
 
     module _ (m : Measured) (em : sizedAt b m ≡ sizedOf (room + 1) f (treeRead f k b)) where
-      pub tree-deep : {out : Outcome} → m ≡ Deep → out ≡ Refused Why.Levels → Answers (runOf f k b room) o o out
+      pub tree-deep : {out : Outcome} → m ≡ Deep → out ≡ Refused Why.TooDeep → Answers (runOf f k b room) o o out
       tree-deep y i = answer-refused (by-read (sized-deep f (room + 1) (treeRead f k b) (sym em ∙ ap (sizedAt b) y))) i
 
-      pub tree-broken : {out : Outcome} → m ≡ Broken → out ≡ Refused Why.Tree → Answers (runOf f k b room) o o out
+      pub tree-broken : {out : Outcome} → m ≡ Broken → out ≡ Refused Why.IllegalTree → Answers (runOf f k b room) o o out
       tree-broken y i = answer-refused (by-read (sized-broken f (room + 1) (treeRead f k b) (sym em ∙ ap (sizedAt b) y))) i
 
       module _ (e n : ℕ) (y : m ≡ End e n) where
         read-done : (a : Code) × (treeRead f k b ≡ Meant.done a (drop e b)) × (n ≡ capped (room + 1) (size (transform f a)))
         read-done = sized-done f (room + 1) (treeRead f k b) (drop e b) n (sym em ∙ ap (sizedAt b) y)
 
-        pub tree-more : {out : Outcome} → EndsIn (length b) (room + 1) m → (e ≡ length b → ⊥) → out ≡ Refused Why.Tree → Answers (runOf f k b room) o o out
+        pub tree-more : {out : Outcome} → EndsIn (length b) (room + 1) m → (e ≡ length b → ⊥) → out ≡ Refused Why.IllegalTree → Answers (runOf f k b room) o o out
         tree-more w h i =
             let x : EndsIn (length b) (room + 1) (End e n) = rw y at w in
             let l = x .0 in
@@ -139,7 +140,7 @@ module _ (f : Translation) (k room : ℕ) (b o : List ℕ) {r : Bool} (er : r �
           fitted-is : (c : Bool) → ltb room n ≡ c → ltb room (size (transform f (read-done .0))) ≡ c
           fitted-is c h = sym (over-room room (size (transform f (read-done .0)))) ∙ (ap (ltb room) (sym (read-done .2)) ∙ h)
 
-          pub tree-long : {out : Outcome} → room < n → out ≡ Refused Why.Output → Answers (runOf f k b room) o o out
+          pub tree-long : {out : Outcome} → room < n → out ≡ Refused Why.OutputTooShort → Answers (runOf f k b room) o o out
           tree-long h i = answer-refused (by-read read-all ∙ rw (fitted-is true (lt-ltb room n h))) i
 
           pub tree-fits : {out : Outcome} {after : List ℕ} → n ≤ room
@@ -170,7 +171,7 @@ module _ (s : List ℕ) (root : ℕ) (b o : List ℕ) where
     unfolding runBytes runOf
     run-accepted after h = run-is out after (answer-same (rw e) h)
 
-    pub root-past : 31 < root → out ≡ Refused Why.Root → AsRun s root b o o out
+    pub root-past : 31 < root → out ≡ Refused Why.UnknownRoot → AsRun s root b o o out
     root-past h i =
         let w = translation-whole s f e .0 in
         run-accepted o (by-test (isIn (f .source) root)

@@ -1,4 +1,5 @@
 // The operation run. It measures the result first and writes it only where it fits.
+use checks::translations::check_translation;
 use fields::outcome::Answer;
 use fields::outcome::Outcome;
 use fields::outcome::Reason;
@@ -7,9 +8,10 @@ use fields::outcome::refuse;
 use measure::measure::Measured;
 use measure::measure::measure;
 use measure::prepare::prepare;
+use reader::index::INDEX;
+use reader::index::TABLE;
 use reader::kinds::is_in;
 use reader::node::Syntax;
-use translation::check::check_translation;
 use translation::parts::body_of;
 use translation::parts::source_of;
 use translation::parts::target_of;
@@ -30,7 +32,7 @@ ghost use Rattle.translation.specs.TranslationFile.{bodyOf, allRising};
 ghost use Rattle.translation.specs.WellFormed.{wellFormed};
 ghost use Rattle.measure.specs.Inner.Measuring.{Counted};
 ghost use Rattle.reader.specs.declared.node.Syntax.the-variants.{Tree};
-ghost use Rattle.reader.specs.Inner.Index.{Indexed};
+ghost use Rattle.reader.specs.Inner.Index.{Indexed, tableLength};
 ghost use Rattle.emitter.specs.Inner.Table.{Checked};
 ghost use Rattle.emitter.specs.Inner.Filling.{Begun};
 ghost use Rattle.emitter.specs.Inner.Runs.{Right};
@@ -39,7 +41,7 @@ ghost use Rattle.runner.specs.Inner.Runs.{runOf, Answers};
 // Puts the index of the source into the front of the table of a run, and what the body's clauses count into another. Both
 // are all zero before.
 fn begin(source: &[u8], body: &[u8], table: &mut [u16], counts: &mut [u16])
-    requires { ⌜ (length (now source) ≤ 1024) × (length (now body) ≤ 4096) × (length (now table) ≡ 25664) × ((j : ℕ) → getD (now table) j 0 ≡ 0)
+    requires { ⌜ (length (now source) ≤ 1024) × (length (now body) ≤ 4096) × (length (now table) ≡ tableLength) × ((j : ℕ) → getD (now table) j 0 ≡ 0)
         × (length (now counts) ≡ 1024) × ((j : ℕ) → getD (now counts) j 0 ≡ 0)
         × ((f : Translation) × (entriesOf (now source) ≡ some (f .source)) × (bodyOf (now body) ≡ some (f .body))) ⌝ }
     ensures begun { λ r. ⌜ Begun (now (source .entry)) (now (table .exit)) ⌝ }
@@ -47,7 +49,7 @@ fn begin(source: &[u8], body: &[u8], table: &mut [u16], counts: &mut [u16])
         → allRising f ≡ true → wellFormed f ≡ value f
         → Indexed (now (table .exit)) (now (source .entry)) (f .source) × Counted (now (counts .exit)) (now (table .exit)) f) ⌝ }
 {
-    prepare(source, body, &mut table[..8224], counts);
+    prepare(source, body, &mut table[..INDEX], counts);
 }
 
 // Writes the run of a legal tree whose result fits into the output.
@@ -55,7 +57,7 @@ fn write_tree(
     source: &[u8],
     target: &[u8],
     body: &[u8],
-    table: &mut [u16; 25664],
+    table: &mut [u16; TABLE],
     kind: u8,
     tree: &[u8],
     ends: &[u32],
@@ -69,7 +71,7 @@ fn write_tree(
     emitter::prepare::prepare(source, target, body, table);
     let p = emitter::run::run(Syntax::Tree, table, tree, ends, kind, 64, output, 0);
     if output.len() < p {
-        return refuse(Reason::Output);
+        return refuse(Reason::OutputTooShort);
     }
     accept(p)
 }
@@ -90,24 +92,24 @@ fn run_kept(
         → Answers (runOf f kind (now (tree .entry)) (length (now (output .entry)))) (now (output .entry)) (now (output .exit)) (r .outcome)) ⌝ }
 {
     if !is_in(source, kind) {
-        return refuse(Reason::Root);
+        return refuse(Reason::UnknownRoot);
     }
-    let mut table = [0u16; 25664];
+    let mut table = [0u16; TABLE];
     let mut counts = [0u16; 1024];
     begin(source, body, &mut table, &mut counts);
     let room = output.len();
     match measure(source, &table, &counts, kind, tree, 0, 64, room + 1, ends) {
         Measured::End(e, n) => {
             if e != tree.len() {
-                return refuse(Reason::Tree);
+                return refuse(Reason::IllegalTree);
             }
             if room < n {
-                return refuse(Reason::Output);
+                return refuse(Reason::OutputTooShort);
             }
             write_tree(source, target, body, &mut table, kind, tree, ends, output)
         }
-        Measured::Deep => refuse(Reason::Levels),
-        Measured::Broken => refuse(Reason::Tree),
+        Measured::Deep => refuse(Reason::TooDeep),
+        Measured::Broken => refuse(Reason::IllegalTree),
     }
 }
 
@@ -143,7 +145,7 @@ pub fn run(translation: &[u8], root: u32, tree: &[u8], output: &mut [u8]) -> Ans
         return refuse(reason);
     }
     if 31 < root {
-        return refuse(Reason::Root);
+        return refuse(Reason::UnknownRoot);
     }
     run_parts(
         source_of(translation),

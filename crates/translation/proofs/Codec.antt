@@ -9,7 +9,7 @@ use lib.ListN.{length, drop, drop-of-length-le}
 use lib.Dec.{ltb, leb, eqb}
 use borrow.Author.Tests.{le-leb, leb-true, eqb-true, le-ltb, ltb-true, ltb-false}
 use Rattle.fields.specs.Outcome.{value, refuseIf}
-use Rattle.fields.specs.declared.outcome.Reason.the-variants.{Mapping, Clauses, Code}
+use Rattle.fields.specs.declared.outcome.Reason.the-variants.{WrongMapping, WrongClauses, IllegalCode}
 use Rattle.fields.specs.Lists.{all, traverse}
 use Rattle.fields.specs.Fields.{Field, field, byteAt, fieldsOf, encodeFields, hasOver}
 use Rattle.fields.specs.Keyed.{rising, risingFrom}
@@ -342,7 +342,7 @@ well-same : (f g : Translation) → wellFormed f ≡ value g → f ≡ g
 unfolding wellFormed
 well-same f g e = go (mappingFits f) (clausesFit f) (codesFit f) e
   where
-    go : (a b c : Bool) → refuseIf (not a) Mapping (refuseIf (not b) Clauses (refuseIf (not c) Code (value f))) ≡ value g → f ≡ g
+    go : (a b c : Bool) → refuseIf (not a) WrongMapping (refuseIf (not b) WrongClauses (refuseIf (not c) IllegalCode (value f))) ≡ value g → f ≡ g
     go false b c e = refused-value e
     go true false c e = refused-value e
     go true true false e = refused-value e

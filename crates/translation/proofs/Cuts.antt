@@ -1,5 +1,5 @@
 -- The parts of a translation that was accepted: where they are cut out, and what they hold.
-use Prim.Native.Nat.{ℕ, _+_, _≤_}
+use Prim.Native.Nat.{ℕ, _+_, _<_, _≤_}
 use mathlib.Core.Path.{_≡_, refl, _∙_}
 use mathlib.Core.List.{List}
 use native.Mathlib.Omega.{arith}
@@ -14,7 +14,7 @@ use Rattle.translation.specs.TranslationFile.{translationOf}
 use Rattle.translation.specs.Inner.Parts.{Parted, sourceIn, targetIn, bodyIn}
 use Rattle.translation.specs.Inner.Pieces.{Pieces}
 use Rattle.translation.proofs.Codec.{translation-parts, translation-whole, translation-length}
-use Rattle.translation.proofs.Found.{parted, cut, cut-is, rest-is}
+use Rattle.translation.proofs.Found.{heads-in, parted, cut, cut-is, rest-is}
 
 -- Parts that are within the limits.
 pub parted-pieces : (s : List ℕ) (a b : ℕ) (f : Translation) → Parted s a b f
@@ -47,6 +47,9 @@ module _ (s : List ℕ) (h : (f : Translation) × (translationOf s ≡ value f))
 
   pub source-at : (3 ≤ a) × (a ≤ length s)
   source-at = let w = parts-at (fieldEnd s a) refl in (w .source-past, omega (arith, w .target-past, w .inside))
+
+  pub heads-at : (0 + 2 < length s) × (a + 2 < length s)
+  heads-at = heads-in s a ea (h .0, translation-parts s (h .0) (h .1))
 
   pub source-cut : cut s 3 a ≡ sourceIn s
   unfolding sourceIn

@@ -11,7 +11,7 @@ use borrow.Author.Tests.{eqb-true, eq-eqb}
 use Rattle.fields.specs.Lists.{all, isSome}
 use Rattle.fields.specs.Outcome.{Result, value, refuseIf}
 use Rattle.fields.specs.declared.outcome.Reason.{Reason}
-use Rattle.fields.specs.declared.outcome.Reason.the-variants.{Mapping, Clauses, Code as CodeRefused}
+use Rattle.fields.specs.declared.outcome.Reason.the-variants.{WrongMapping, WrongClauses, IllegalCode as CodeRefused}
 use Rattle.fields.proofs.Truth.{Mem, none-some, some-inj, false-true, and-both, both-and, same-truth, all-mem, mem-all, some-is, is-some, mem-count, true-not}
 use Rattle.fields.proofs.Keyed.{Rising}
 use Rattle.fields.proofs.Codec.{refused-value}
@@ -82,7 +82,7 @@ mapping-tests f e =
     let s = and-both (all (reachesTarget f) (f .body)) (all (classKept f) (f .source)) (r .1) in
     (r .0, s .0, s .1)
 
-clause-tests : (f : Translation) → clausesFit f ≡ true → (all (hasClause f) (f .source) ≡ true) × (all (hasProduction f) (f .body) ≡ true)
+pub clause-tests : (f : Translation) → clausesFit f ≡ true → (all (hasClause f) (f .source) ≡ true) × (all (hasProduction f) (f .body) ≡ true)
 unfolding clausesFit
 clause-tests f e = and-both (all (hasClause f) (f .source)) (all (hasProduction f) (f .body)) e
 
@@ -174,8 +174,8 @@ refuse-value false r o e = (refl, e)
 pub formed-fits : (f g : Translation) → KindsBelow f → Rising itemKey (f .body) → wellFormed f ≡ value g → Fitting f × (f ≡ g)
 unfolding wellFormed
 formed-fits f g below rises e =
-    let a = refuse-value (not (mappingFits f)) Mapping _ e in
-    let b = refuse-value (not (clausesFit f)) Clauses _ (a .1) in
+    let a = refuse-value (not (mappingFits f)) WrongMapping _ e in
+    let b = refuse-value (not (clausesFit f)) WrongClauses _ (a .1) in
     let c = refuse-value (not (codesFit f)) CodeRefused _ (b .1) in
     (tests-fit f below rises (true-not _ (a .0)) (true-not _ (b .0)) (true-not _ (c .0)), value-inj (c .1))
   where

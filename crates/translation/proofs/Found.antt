@@ -11,10 +11,10 @@ use lib.Dec.{ltb, leb, eqb}
 use borrow.Author.Tests.{lt-ltb, le-ltb, le-leb, lt-leb, eq-eqb, ne-eqb, leb-true, leb-false, eqb-true, eqb-false}
 use Rattle.fields.specs.Lists.{before, isSome}
 use Rattle.fields.specs.Fields.{Field, field, pairAt, fieldsOf, hasOver}
-use Rattle.fields.specs.Inner.Places.{fieldEnd, isWhole, fieldAt, contentsAt}
+use Rattle.fields.specs.Inner.Places.{fieldEnd, isWhole, WholeEnd, fieldAt, contentsAt}
 use Rattle.fields.proofs.Truth.{by-test, none-some}
 use Rattle.fields.proofs.Lists.{part-is}
-use Rattle.fields.proofs.Places.{end-past}
+use Rattle.fields.proofs.Places.{end-past, end-whole}
 use Rattle.fields.proofs.Split.{fields-done, fields-next, fields-cut}
 use Rattle.language.specs.Language.{Language}
 use Rattle.language.specs.LanguageFile.{entriesOf}
@@ -160,8 +160,13 @@ found s f e =
 
 -- What `parts_of` answers.
 module _ (s : List ℕ) (a : ℕ) (ea : a ≡ fieldEnd s 0) where
-  pub source-in : (f : Translation) × (partsOf s ≡ some f) → a ≤ length s
-  source-in h = rw ea (found s (h .0) (h .1) .first .fits)
+  -- the first three bytes of both fields are there
+  pub heads-in : (f : Translation) × (partsOf s ≡ some f) → (0 + 2 < length s) × (a + 2 < length s)
+  heads-in h =
+      let w = found s (h .0) (h .1) in
+      let x : 0 + 3 ≤ fieldEnd s 0 = end-past s 0 in
+      let y : fieldEnd s 0 + 3 ≤ fieldEnd s (fieldEnd s 0) = end-past s (fieldEnd s 0) in
+      (omega (arith, w .first .fits), omega (arith, w .second .fits, ea))
 
   pub parted : (b : ℕ) → b ≡ fieldEnd s a → (f : Translation) → partsOf s ≡ some f → Parted s a b f
   parted b eb f e =
@@ -199,19 +204,19 @@ pub rest-is : (s : List ℕ) (b : ℕ) → cut s b (length s) ≡ drop b s
 rest-is s b = take-all (length s - b) (drop b s) (rw length-drop (omega arith))
 
 -- part_end
-module _ (tag : ℕ) (s : List ℕ) (p k e : ℕ) (ek : k ≡ getD s p 0) where
-  pub part-other : (k ≡ tag → ⊥) → 0 ≡ partEnd tag s p
+module _ (tag : ℕ) (s : List ℕ) (p : ℕ) where
+  pub part-cut : isWhole s p ≡ false → 0 ≡ partEnd tag s p
   unfolding partEnd
-  part-other h = cc (ne-eqb k tag h)
+  part-cut h = by-test (eqb (getD s p 0) tag) (λ e. cc) (λ e. cc)
 
-  module _ (here : k ≡ tag) (ee : e ≡ fieldEnd s p) where
-    pub part-cut : length s < e → 0 ≡ partEnd tag s p
-    unfolding partEnd isWhole
-    part-cut h = cc (eq-eqb k tag here, lt-leb e (length s) h)
+  module _ (k : ℕ) (ek : k ≡ getD s p 0) where
+    pub part-other : (k ≡ tag → ⊥) → 0 ≡ partEnd tag s p
+    unfolding partEnd
+    part-other h = cc (ne-eqb k tag h)
 
-    pub part-whole : e ≤ length s → e ≡ partEnd tag s p
-    unfolding partEnd isWhole
-    part-whole h = cc (eq-eqb k tag here, le-leb e (length s) h)
+    pub part-whole : k ≡ tag → (e : ℕ) → WholeEnd s p e → e ≡ partEnd tag s p
+    unfolding partEnd
+    part-whole here e w = cc (eq-eqb k tag here, end-whole s p e w, w .is)
 
 -- parts_whole
 module _ (s : List ℕ) (a : ℕ) (ea : a ≡ partEnd 0x20 s 0) where

@@ -2,7 +2,7 @@
 use Prim.Native.Nat.{ℕ, _+_, _<_, _≤_}
 use mathlib.Core.Path.{_≡_, refl, sym, _∙_}
 use mathlib.Core.Logic.{⊎-elim}
-use mathlib.Core.Bool.{Bool, true, _&&_}
+use mathlib.Core.Bool.{true, _&&_}
 use mathlib.Core.List.{List, [], _∷_}
 use mathlib.Core.Option.{some}
 use native.Mathlib.Omega.{arith}
@@ -12,7 +12,7 @@ use lib.Dec.{leb}
 use borrow.Author.Tests.{le-leb, eq-eqb, ne-eqb, leb-true, eqb-true}
 use Rattle.fields.specs.Fields.{pairAt}
 use Rattle.fields.specs.Lists.{all}
-use Rattle.fields.specs.Inner.Places.{fieldEnd, placesFrom, keyAt}
+use Rattle.fields.specs.Inner.Places.{fieldEnd, placesFrom, keyAt, tagIs, tagsOrdered}
 use Rattle.fields.proofs.Truth.{and-both, both-and}
 use Rattle.fields.proofs.Lists.{all-true}
 use Rattle.fields.proofs.Places.{places-next}
@@ -20,8 +20,6 @@ use Rattle.reader.specs.Inner.Index.{putAt, putAll}
 use Rattle.translation.specs.Translation.{Body}
 use Rattle.translation.specs.TranslationFile.{bodyOf}
 use Rattle.translation.specs.Inner.Items.{itemWhole, itemsWhole, IsMapping}
-use Rattle.translation.specs.Inner.Tests.{reachesAt}
-use Rattle.translation.specs.Inner.Pairs.{tagIs}
 use Rattle.translation.proofs.Items.{item-facts, body-there}
 use Rattle.translation.proofs.IndexedItems.{mapping-key}
 
@@ -34,7 +32,7 @@ front-start s b e = body-there s ∙ rw e
 
 items-cons : (s : List ℕ) (last p : ℕ) (l : List ℕ) → itemsWhole s last (p ∷ l) ≡ true
     → (itemWhole s p ≡ true) × (last ≤ getD s p 0) × (itemsWhole s (getD s p 0) l ≡ true)
-unfolding itemsWhole
+unfolding tagsOrdered
 items-cons s last p l h =
     let u = and-both (itemWhole s p && leb last (getD s p 0)) (itemsWhole s (getD s p 0) l) h in
     let v = and-both (itemWhole s p) (leb last (getD s p 0)) (u .0) in
@@ -51,16 +49,8 @@ only-clauses s last (p ∷ l) h w =
 
 whole-cons : (s : List ℕ) (last p : ℕ) (l : List ℕ) → itemWhole s p ≡ true → last ≤ getD s p 0 → itemsWhole s (getD s p 0) l ≡ true
     → itemsWhole s last (p ∷ l) ≡ true
-unfolding itemsWhole
+unfolding tagsOrdered
 whole-cons s last p l a b c = both-and _ _ (both-and _ _ a (le-leb last (getD s p 0) b)) c
-
-reached : (s : List ℕ) (kinds : List Bool) (l : List ℕ) → all (tagIs 0x23 s) l ≡ true → all (reachesAt s kinds) l ≡ true
-unfolding all reachesAt
-reached s kinds [] h = refl
-reached s kinds (p ∷ l) h =
-    let w = all-true (tagIs 0x23 s) p l h in
-    let n : getD s p 0 ≡ 0x22 → ⊥ = λ y. omega (arith, y, eqb-true (getD s p 0) 0x23 (w .0)) in
-    rw (ne-eqb _ _ n) (reached s kinds l (w .1))
 
 unput : (s index l : List ℕ) → length index ≡ 32 → all (tagIs 0x23 s) l ≡ true → putAll 0x22 s index l ≡ index
 unfolding putAll putAt keyAt
@@ -83,7 +73,7 @@ module _ (s : List ℕ) (p : ℕ) (w : Front s p) (here : p < length s) where
     pub front-next : (e : ℕ) → e ≡ fieldEnd s p → Front s e
     front-next e ee = rw (ee, ← tag) (turn .2)
 
-  front-clauses : (getD s p 0 ≡ 0x22 → ⊥) → all (tagIs 0x23 s) (placesFrom s p) ≡ true
+  pub front-clauses : (getD s p 0 ≡ 0x22 → ⊥) → all (tagIs 0x23 s) (placesFrom s p) ≡ true
   front-clauses h =
       let t : getD s p 0 ≡ 0x23 = ⊎-elim (λ m. absurd (h (m .tag))) (λ c. c .tag) (item-facts s p (turn .0)) in
       rw (places-next s p here)
@@ -91,10 +81,6 @@ module _ (s : List ℕ) (p : ℕ) (w : Front s p) (here : p < length s) where
     where
       first : getD s p 0 ≡ 0x23 → itemsWhole s 0x23 (p ∷ placesFrom s (fieldEnd s p)) ≡ true
       first t = whole-cons s 0x23 p (placesFrom s (fieldEnd s p)) (turn .0) (omega (arith, t)) (turn .2)
-
-  -- targets_marked: clauses are left alone
-  pub front-reached : (kinds : List Bool) (x : Bool) → all (reachesAt s kinds) (placesFrom s p) ≡ x → (getD s p 0 ≡ 0x22 → ⊥) → true ≡ x
-  front-reached kinds x inv h = sym (reached s kinds (placesFrom s p) (front-clauses h)) ∙ inv
 
   -- put_mappings: a clause has no place in the table
   pub front-put : (index x : List ℕ) → length index ≡ 32 → putAll 0x22 s index (placesFrom s p) ≡ x → (getD s p 0 ≡ 0x22 → ⊥) → index ≡ x

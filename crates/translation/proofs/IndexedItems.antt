@@ -1,9 +1,9 @@
 -- The index that was built is the index of the body: what is looked up through it is what stands in the body.
-use Prim.Native.Nat.{ℕ, zero, suc, _+_, _-_, _<_, _≤_}
+use Prim.Native.Nat.{ℕ, zero, suc, _+_, _<_, _≤_}
 use mathlib.Core.Path.{_≡_, refl, sym, ap, _∙_}
 use mathlib.Core.List.{List}
-use mathlib.Core.Bool.{true}
-use mathlib.Core.Option.{some, Option·getD}
+use mathlib.Core.Bool.{true, false, not}
+use mathlib.Core.Option.{Option, none, some, Option·getD}
 use native.Mathlib.Omega.{arith}
 use native.Mathlib.Numerals.{add-one}
 use lib.ListN.{List·getD-eq-default, set, length, getD}
@@ -11,7 +11,7 @@ use lib.Seq.{slice, getD-set-same, getD-set-other}
 use lib.Dec.{ltb, eqb}
 use borrow.Author.Tests.{eq-eqb, ne-eqb, eqb-true, eqb-false, ltb-true, ltb-false}
 use Rattle.fields.specs.Fields.{pairAt}
-use Rattle.fields.specs.Lists.{first}
+use Rattle.fields.specs.Lists.{first, isSome}
 use Rattle.fields.specs.Inner.Places.{fieldEnd, places, keyAt}
 use Rattle.fields.proofs.Truth.{by-test}
 use Rattle.language.specs.Language.{kindKey, productionKey}
@@ -20,7 +20,7 @@ use Rattle.reader.proofs.Placed.{placeOf, puts-length, puts-place, found, Group
 use Rattle.translation.specs.Translation.{Body, targetAt, mappingOf, codeAt, clauseOf, mapped}
 use Rattle.translation.specs.TranslationFile.{bodyOf}
 use Rattle.translation.specs.Inner.Items.{itemWhole, itemAt, IsMapping, IsClause, HoldsItems}
-use Rattle.translation.specs.Inner.ItemIndex.{targetBefore, codeBefore, SoundKinds, SoundItems, IndexedItems, IndexedKinds, mappedAt}
+use Rattle.translation.specs.Inner.ItemIndex.{targetBefore, codeBefore, SoundKinds, SoundItems, IndexedItems, IndexedKinds, mappedAt, knownAt}
 use Rattle.translation.proofs.Items.{item-facts, mapping-is, clause-is, holds-items}
 
 -- Keys of whole items.
@@ -194,3 +194,23 @@ mapped-below s index table z l m k =
     by-test (ltb k 32)
     (λ d. let h : k < 32 = ltb-true k 32 d in rw (m k h) (mapped-kind s index (kinds-sound z) k h))
     (λ d. let h : length table ≤ k = omega (arith, ltb-false k 32 d) in rw (List·getD-eq-default table 0 h) (omega arith))
+
+-- known_at
+module _ (first : ℕ) (s index : List ℕ) (p tag : ℕ) (et : tag ≡ getD s p 0) where
+  pub known-first : tag ≡ first → true ≡ knownAt first s index p
+  unfolding knownAt
+  known-first h = cc (eq-eqb tag first h)
+
+  module _ (other : tag ≡ first → ⊥) (key : ℕ) (ek : key ≡ keyAt first s p) where
+    pub known-in : not (eqb (getD index key 0) 0) ≡ knownAt first s index p
+    unfolding knownAt
+    known-in = cc (ne-eqb tag first other)
+
+    pub known-out : length index ≤ key → false ≡ knownAt first s index p
+    known-out h = sym (rw (List·getD-eq-default {A = ℕ} index 0 {n = key} h)) ∙ known-in
+
+-- A place is there if it is not 0.
+pub there : {A : Type 0} (before : ℕ → Option A) → before 0 ≡ none → ((p : ℕ) → isSome (before (suc p)) ≡ true)
+    → (place : ℕ) → not (eqb place 0) ≡ isSome (before place)
+there before empty full zero = rw empty
+there before empty full (suc p) = rw (ne-eqb (suc p) 0 (λ h. omega arith)) (sym (full p))

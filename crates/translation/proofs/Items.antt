@@ -1,82 +1,56 @@
 -- The items by place are the items of `bodyOf`, and a law for each return of the functions on items.
-use Prim.Native.Nat.{ℕ, _+_, _-_, _<_, _≤_}
+use Prim.Native.Nat.{ℕ, _+_, _<_, _≤_}
 use mathlib.Core.Path.{_≡_, refl, sym, ap, _∙_}
 use mathlib.Core.Logic.{_⊎_, inl, inr, ⊎-elim}
 use mathlib.Core.Bool.{Bool, true, false, cond, not, _&&_, _||_}
 use mathlib.Core.List.{List, [], _∷_, map}
-use mathlib.Core.Option.{none, some}
+use mathlib.Core.Option.{Option, none, some}
 use native.Mathlib.Omega.{arith}
-use lib.ListN.{length, getD, take, drop, length-take, length-drop}
+use lib.ListN.{length, getD}
 use lib.Seq.{slice}
 use lib.Dec.{ltb, leb, eqb}
 use borrow.Author.Tests.{lt-ltb, le-ltb, le-leb, lt-leb, eq-eqb, ne-eqb, leb-true, ltb-true, eqb-true}
 use Rattle.fields.specs.Lists.{all, isSome}
-use Rattle.fields.specs.Fields.{pairAt}
+use Rattle.fields.specs.Fields.{Field, pairAt, fieldsOf, decodedIn}
 use Rattle.fields.specs.Keyed.{rising}
-use Rattle.fields.specs.Inner.Places.{fieldEnd, isWhole, fieldAt, placesFrom, places, keyAt}
+use Rattle.fields.specs.Inner.Places.{fieldEnd, isWhole, WholeEnd, contentsAt, fieldAt, places, tagsOrdered, keyAt}
 use Rattle.fields.proofs.Truth.{by-test, false-true, and-both}
 use Rattle.fields.proofs.Codec.{cond-some}
-use Rattle.fields.proofs.Lists.{all-and, there-if, part-is, part-past, rising-map}
-use Rattle.fields.proofs.Places.{pass-done, pass-next}
-use Rattle.fields.proofs.Split.{byte-in, fields-at-places, traverse-at-places}
+use Rattle.fields.proofs.Lists.{there-if, rising-map}
+use Rattle.fields.proofs.Places.{end-whole}
+use Rattle.fields.proofs.Split.{contents-length, contents-first, contents-second, contents-after, two-tags, decoded-at-places}
 use Rattle.language.specs.LanguageFile.{isKind}
 use Rattle.language.specs.Inner.Entries.{sizeAt}
 use Rattle.translation.specs.Translation.{mapping, clause, Body, itemKey}
-use Rattle.translation.specs.TranslationFile.{mappingField, clauseField, itemOf, isClause, grouped, inGroups, itemsIn, bodyOf}
+use Rattle.translation.specs.TranslationFile.{mappingField, clauseField, itemOf, isClause, grouped, inGroups, itemsIn, bodyIn, bodyOf}
 use Rattle.translation.specs.Inner.Items.{mappingWhole, clauseWhole, itemGood, itemWhole, itemAt, IsMapping, IsClause, itemsWhole, HoldsItems}
 
--- The contents of the whole field at p.
-module _ (s : List ℕ) (p n : ℕ) (en : n ≡ sizeAt s p) (fits : p + 3 + n ≤ length s) where
-  long : length (take n (drop (p + 3) s)) ≡ n
-  long = simp (length-take, length-drop) (omega arith)
-
-  code : drop 2 (take n (drop (p + 3) s)) ≡ slice (p + 5) (fieldEnd s p) s
-  unfolding fieldEnd
-  code =
-      let h : p + 3 ≤ length s = omega arith in
-      let d : p + 3 + 2 ≡ p + 5 = omega arith in
-      cc (part-is s (p + 3) n h, part-past s (p + 3) (p + 3 + n) 2)
-
+-- The whole field at p.
+module _ (s : List ℕ) (p : ℕ) (w : isWhole s p ≡ true) where
   -- a mapping
-  mapping-here : mappingField (take n (drop (p + 3) s)) ≡ cond (mappingWhole s p) (some (mapping (getD s (p + 3) 0) (getD s (p + 4) 0))) none
+  mapping-here : mappingField (contentsAt s p) ≡ cond (mappingWhole s p) (some (mapping (getD s (p + 3) 0) (getD s (p + 4) 0))) none
   unfolding mappingField mappingWhole
   mapping-here =
-      by-test (eqb n 2)
+      by-test (eqb (sizeAt s p) 2)
       (λ e.
-      let h : n ≡ 2 = eqb-true n 2 e in
-      cc (
-        long,
-        byte-in s n (p + 3) 0 (p + 3) (omega arith) (omega arith),
-        byte-in s n (p + 3) 1 (p + 4) (omega arith) (omega arith),
-      ))
-      (λ e. cc long)
+      let h : sizeAt s p ≡ 2 = eqb-true _ _ e in
+      cc (contents-length s p w, contents-first s p w (omega arith), contents-second s p w (omega arith)))
+      (λ e. cc (contents-length s p w))
 
   -- a clause
-  clause-here : clauseField (take n (drop (p + 3) s))
+  clause-here : clauseField (contentsAt s p)
       ≡ cond (clauseWhole s p) (some (clause (getD s (p + 3) 0) (getD s (p + 4) 0) (slice (p + 5) (fieldEnd s p) s))) none
   unfolding clauseField clauseWhole
   clause-here =
-      by-test (leb 2 n)
+      by-test (leb 2 (sizeAt s p))
       (λ e.
-      let h : 2 ≤ n = leb-true 2 n e in
-      cc (
-        long,
-        byte-in s n (p + 3) 0 (p + 3) (omega arith) (omega arith),
-        byte-in s n (p + 3) 1 (p + 4) (omega arith) (omega arith),
-        code,
-      ))
-      (λ e. cc long)
+      let h : 2 ≤ sizeAt s p = leb-true _ _ e in
+      cc (contents-length s p w, contents-first s p w (omega arith), contents-second s p w h, contents-after s p w))
+      (λ e. cc (contents-length s p w))
 
   item-here : itemOf (fieldAt s p) ≡ cond (itemGood s p) (some (itemAt s p)) none
   unfolding itemOf fieldAt itemGood itemAt
-  item-here =
-      by-test (eqb (getD s p 0) 0x22)
-      (λ e. cc mapping-here)
-      (λ e. by-test (eqb (getD s p 0) 0x23) (λ d. cc clause-here) (λ d. cc))
-
-item-at : (s : List ℕ) (p : ℕ) → isWhole s p ≡ true → itemOf (fieldAt s p) ≡ cond (itemGood s p) (some (itemAt s p)) none
-unfolding isWhole fieldEnd
-item-at s p h = item-here s p (sizeAt s p) refl (leb-true _ _ h)
+  item-here = two-tags (eqb (getD s p 0) 0x22) (eqb (getD s p 0) 0x23) _ _ _ _ mapping-here clause-here
 
 module _ (s : List ℕ) (p : ℕ) where
   mapping-facts : isWhole s p ≡ true → getD s p 0 ≡ 0x22 → mappingWhole s p ≡ true → IsMapping s p
@@ -146,7 +120,7 @@ tag-order a b (inr h) (inr k) = rw (h, k)
 
 groups-at : (s : List ℕ) (last : ℕ) (l : List ℕ) → isItemTag last
     → itemsWhole s last l ≡ (all (itemWhole s) l && grouped (pastTag last) (map (itemAt s) l))
-unfolding itemsWhole all grouped
+unfolding tagsOrdered all grouped
 groups-at s last [] h = refl
 groups-at s last (p ∷ l) h =
     by-test (itemWhole s p)
@@ -163,21 +137,19 @@ in-groups : (a : Bool) (b : Body) → inGroups (cond a (some b) none) ≡ cond (
 in-groups true b = refl
 in-groups false b = refl
 
+body-in : (o : Option (List Field)) → bodyIn o ≡ inGroups (decodedIn itemOf o)
+unfolding itemsIn
+body-in none = refl
+body-in (some fs) = refl
+
 -- The items of a body are those at its places, and are there if each is whole and in its group.
 pub items-at-places : (s : List ℕ) → bodyOf s ≡ cond (itemsWhole s 0x22 (places s)) (some (map (itemAt s) (places s))) none
-unfolding bodyOf itemsIn itemWhole
+unfolding bodyOf itemWhole
 items-at-places s =
-    let whole-is = all-and (isWhole s) (itemGood s) (places s) in
-    let g = groups-at s 0x22 (places s) (inl refl) in
-    by-test (all (isWhole s) (places s))
-    (λ h. cc (
-      fields-at-places s,
-      traverse-at-places itemOf (itemGood s) (itemAt s) s (item-at s) (places s) h,
-      whole-is,
-      in-groups (all (itemGood s) (places s)) (map (itemAt s) (places s)),
-      g,
-    ))
-    (λ h. cc (fields-at-places s, whole-is, g))
+    body-in (fieldsOf s)
+    ∙ (ap inGroups (decoded-at-places itemOf (itemGood s) (itemAt s) s (item-here s))
+    ∙ (in-groups (all (itemWhole s) (places s)) (map (itemAt s) (places s))
+    ∙ rw (groups-at s 0x22 (places s) (inl refl))))
 
 -- What `body_whole` tests.
 pub body-there : (s : List ℕ) → itemsWhole s 0x22 (places s) ≡ isSome (bodyOf s)
@@ -217,42 +189,27 @@ module _ (s : List ℕ) (p n k : ℕ) (en : n ≡ sizeAt s p) (ek : k ≡ getD s
   unfolding clauseWhole
   clause-result h = cc (le-leb 2 n h)
 
--- item_whole
-module _ (s : List ℕ) (p e tag : ℕ) (x : Bool) (ee : e ≡ fieldEnd s p) where
-  pub item-cut : length s < e → false ≡ itemWhole s p
-  unfolding itemWhole isWhole
-  item-cut h = cc (lt-leb e (length s) h)
+-- item_good
+module _ (s : List ℕ) (p tag : ℕ) (et : tag ≡ getD s p 0) where
+  pub good-mapping : tag ≡ 0x22 → (x : Bool) → x ≡ mappingWhole s p → x ≡ itemGood s p
+  unfolding itemGood
+  good-mapping h x ex = cc (eq-eqb tag 0x22 h)
 
-  module _ (et : tag ≡ getD s p 0) (fits : e ≤ length s) where
-    pub item-mapping : tag ≡ 0x22 → x ≡ mappingWhole s p → x ≡ itemWhole s p
-    unfolding itemWhole isWhole itemGood
-    item-mapping h ex = cc (le-leb e (length s) fits, eq-eqb tag 0x22 h)
+  module _ (other : tag ≡ 0x22 → ⊥) where
+    pub good-clause : tag ≡ 0x23 → (x : Bool) → x ≡ clauseWhole s p → x ≡ itemGood s p
+    unfolding itemGood
+    good-clause h x ex = cc (ne-eqb tag 0x22 other, eq-eqb tag 0x23 h)
 
-    pub item-clause : (tag ≡ 0x22 → ⊥) → tag ≡ 0x23 → x ≡ clauseWhole s p → x ≡ itemWhole s p
-    unfolding itemWhole isWhole itemGood
-    item-clause k h ex = cc (le-leb e (length s) fits, ne-eqb tag 0x22 k, eq-eqb tag 0x23 h)
-
-    pub item-other : (tag ≡ 0x22 → ⊥) → (tag ≡ 0x23 → ⊥) → false ≡ itemWhole s p
-    unfolding itemWhole isWhole itemGood
-    item-other k h = cc (le-leb e (length s) fits, ne-eqb tag 0x22 k, ne-eqb tag 0x23 h)
+    pub good-neither : (tag ≡ 0x23 → ⊥) → false ≡ itemGood s p
+    unfolding itemGood
+    good-neither h = cc (ne-eqb tag 0x22 other, ne-eqb tag 0x23 h)
 
 -- body_whole
-module _ (s : List ℕ) (last p : ℕ) (x : Bool) (inv : itemsWhole s last (placesFrom s p) ≡ x) where
-  pub body-done : length s ≤ p → true ≡ x
-  unfolding itemsWhole
-  body-done h = pass-done (itemsWhole s last) s p x inv h
+module _ (s : List ℕ) (p : ℕ) where
+  pub item-cut : isWhole s p ≡ false → false ≡ itemWhole s p
+  unfolding itemWhole
+  item-cut h = rw h
 
-  module _ (b : Bool) (eb : b ≡ itemWhole s p) (end : ℕ) (ee : end ≡ fieldEnd s p) (here : p < length s) where
-    turn : ((b && leb last (getD s p 0)) && itemsWhole s (getD s p 0) (placesFrom s end)) ≡ x
-    unfolding itemsWhole
-    turn = rw eb (pass-next (itemsWhole s last) s p x inv end here ee)
-
-    pub body-broken : b ≡ false → false ≡ x
-    body-broken h = rw h at turn
-
-    module _ (good : b ≡ true) (tag : ℕ) (et : tag ≡ getD s p 0) where
-      pub body-group : tag < last → false ≡ x
-      body-group h = rw (good, ← et, lt-leb last tag h) at turn
-
-      pub body-next : last ≤ tag → itemsWhole s tag (placesFrom s end) ≡ x
-      body-next h = rw (good, ← et, le-leb last tag h) at turn
+  pub item-is : (e : ℕ) → WholeEnd s p e → (x : Bool) → x ≡ itemGood s p → x ≡ itemWhole s p
+  unfolding itemWhole
+  item-is e w x ex = rw (end-whole s p e w) ex

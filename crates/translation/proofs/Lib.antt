@@ -4,15 +4,10 @@ pub mod Lookup
 pub mod Fitting
 pub mod Codec
 pub mod Items
+pub mod Whole
 pub mod Found
 pub mod Cuts
 pub mod Rising
 pub mod IndexedItems
-pub mod Marked
-pub mod Mappings
-pub mod Known
-pub mod Coded
-pub mod Chain
-pub mod Beside
+pub mod Accepted
 pub mod Front
-pub mod Classes

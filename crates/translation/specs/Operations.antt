@@ -5,7 +5,7 @@ use lib.ListN.{length}
 use lib.Dec.{ltb}
 use Rattle.fields.specs.Outcome.{Result, value, refuseIf, _>>=_, checked, written, outputAfter}
 use Rattle.fields.specs.declared.outcome.Outcome.{Outcome}
-use Rattle.fields.specs.declared.outcome.Reason.the-variants.{Output}
+use Rattle.fields.specs.declared.outcome.Reason.the-variants.{OutputTooShort}
 use Rattle.reader.specs.Syntax.{write, tree}
 use Rattle.reader.specs.Operations.{treeOf}
 use Rattle.translation.specs.Running.{transform}
@@ -17,7 +17,7 @@ checkTranslation translation = checked (translationOf translation)
 
 -- A result that fits into so many bytes of output: 17 where it is longer.
 abbrev pub fitted : ℕ → List ℕ → Result (List ℕ)
-fitted room bytes = refuseIf (ltb room (length bytes)) Output (value bytes)
+fitted room bytes = refuseIf (ltb room (length bytes)) OutputTooShort (value bytes)
 
 -- Run: 1 to 7, 14 to 16 against the source, 17; then the bytes of the tree that the clauses define.
 unfoldable pub runBytes : List ℕ → ℕ → List ℕ → ℕ → Result (List ℕ)

@@ -6,7 +6,7 @@ use mathlib.Core.Option.{Option, none, some}
 use lib.ListN.{length, drop}
 use lib.Dec.{ltb, leb, eqb}
 use Rattle.fields.specs.Outcome.{Result, refuseIf, _>>=_}
-use Rattle.fields.specs.declared.outcome.Reason.the-variants.{TooLong, Order, Clash}
+use Rattle.fields.specs.declared.outcome.Reason.the-variants.{TooLong, OutOfOrder, ClassIsResult}
 use Rattle.fields.specs.Lists.{traverse}
 use Rattle.fields.specs.Fields.{Field, field, byteAt, fieldsOf, encodeFields, hasOver}
 use Rattle.fields.specs.Keyed.{rising}
@@ -112,6 +112,6 @@ unfoldable pub translationOf : List ℕ → Result Translation
 translationOf s =
     refuseIf (ltb translationLimit (length s) || hasOver isLanguageTag languageLimit s) TooLong
     (whole (partsOf s) >>= λ f.
-    refuseIf (not (allRising f)) Order
-    (refuseIf (clashes (f .source) (f .source) || clashes (f .target) (f .target)) Clash
+    refuseIf (not (allRising f)) OutOfOrder
+    (refuseIf (clashes (f .source) (f .source) || clashes (f .target) (f .target)) ClassIsResult
     (wellFormed f)))

@@ -5,7 +5,7 @@ use mathlib.Core.List.{List}
 use mathlib.Core.Option.{Option, none, some}
 use lib.Dec.{eqb}
 use Rattle.fields.specs.Outcome.{Result, value, refuseIf}
-use Rattle.fields.specs.declared.outcome.Reason.the-variants.{Mapping, Clauses, Code}
+use Rattle.fields.specs.declared.outcome.Reason.the-variants.{WrongMapping, WrongClauses, IllegalCode}
 use Rattle.fields.specs.Lists.{all, isSome, countUp}
 use Rattle.language.specs.Language.{Entry, class, production, Range, isIn, rangeOf, argumentsOf}
 use Rattle.translation.specs.Translation.{Translation, Item, mapping, clause, mappingOf, clauseOf, mapped}
@@ -64,7 +64,7 @@ codesFit f = all (codeFits f) (f .body)
 -- 5, 6 or 7, the lowest, where the translation is not well formed.
 unfoldable pub wellFormed : Translation → Result Translation
 wellFormed f =
-    refuseIf (not (mappingFits f)) Mapping
-    (refuseIf (not (clausesFit f)) Clauses
-    (refuseIf (not (codesFit f)) Code
+    refuseIf (not (mappingFits f)) WrongMapping
+    (refuseIf (not (clausesFit f)) WrongClauses
+    (refuseIf (not (codesFit f)) IllegalCode
     (value f)))

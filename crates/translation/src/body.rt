@@ -3,53 +3,55 @@ ghost use mathlib.Core.Path.{_≡_};
 ghost use Prim.Native.Nat.{_+_, _≤_};
 ghost use lib.ListN.{length};
 ghost use Rattle.fields.specs.Lists.{isSome};
-ghost use Rattle.fields.specs.Inner.Places.{EndsAt};
+ghost use Rattle.fields.specs.Inner.Places.{WholeEnd};
 ghost use Rattle.language.specs.Inner.Entries.{sizeAt};
 ghost use Rattle.translation.specs.TranslationFile.{bodyOf};
-ghost use Rattle.translation.specs.Inner.Items.{mappingWhole, clauseWhole, itemWhole};
-use fields::bytes::byte_at;
-use fields::walk::field_end;
+ghost use Rattle.translation.specs.Inner.Items.{mappingWhole, clauseWhole, itemGood};
+use fields::walk::end_if_whole;
+use language::entries::KINDS;
 
-// The contents of the field at p, n bytes, are those of a mapping: source kind, target kind.
+// The tag of a mapping.
+pub const MAPPING: u8 = 0x22;
+
+// The tag of a clause.
+pub const CLAUSE: u8 = 0x23;
+
+// The contents of the whole field at p, n bytes, are those of a mapping: source kind, target kind.
 fn mapping_whole(s: &[u8], p: usize, n: usize) -> bool
-    requires { ⌜ (p ≤ length (now s)) × (n ≡ sizeAt (now s) p) ⌝ }
+    requires { ⌜ (p + 3 + n ≤ length (now s)) × (n ≡ sizeAt (now s) p) ⌝ }
     ensures { λ r. ⌜ r ≡ mappingWhole (now (s .entry)) p ⌝ }
 {
     if n != 2 {
         return false;
     }
-    let source = byte_at(s, p + 3);
-    if 32 <= source {
+    if KINDS <= s[p + 3] {
         return false;
     }
-    byte_at(s, p + 4) < 32
+    s[p + 4] < KINDS
 }
 
-// The contents of the field at p, n bytes, are those of a clause: result, name, code.
+// The contents of the whole field at p, n bytes, are those of a clause: result, name, code.
 fn clause_whole(s: &[u8], p: usize, n: usize) -> bool
-    requires { ⌜ (p ≤ length (now s)) × (n ≡ sizeAt (now s) p) ⌝ }
+    requires { ⌜ (p + 3 + n ≤ length (now s)) × (n ≡ sizeAt (now s) p) ⌝ }
     ensures { λ r. ⌜ r ≡ clauseWhole (now (s .entry)) p ⌝ }
 {
     if n < 2 {
         return false;
     }
-    byte_at(s, p + 3) < 32
+    s[p + 3] < KINDS
 }
 
-// The field at p, which says that it ends at e, is whole and an item.
-fn item_whole(s: &[u8], p: usize, e: usize) -> bool
-    requires { ⌜ EndsAt (now s) p e ⌝ }
-    ensures { λ r. ⌜ r ≡ itemWhole (now (s .entry)) p ⌝ }
+// The whole field at p, which ends at e, is an item.
+fn item_good(s: &[u8], p: usize, e: usize) -> bool
+    requires { ⌜ WholeEnd (now s) p e ⌝ }
+    ensures { λ r. ⌜ r ≡ itemGood (now (s .entry)) p ⌝ }
 {
-    if s.len() < e {
-        return false;
-    }
     let n = e - p - 3;
-    let tag = byte_at(s, p);
-    if tag == 0x22 {
+    let tag = s[p];
+    if tag == MAPPING {
         return mapping_whole(s, p, n);
     }
-    if tag == 0x23 {
+    if tag == CLAUSE {
         return clause_whole(s, p, n);
     }
     false
@@ -59,14 +61,17 @@ fn item_whole(s: &[u8], p: usize, e: usize) -> bool
 pub fn body_whole(s: &[u8]) -> bool
     ensures { λ r. ⌜ r ≡ isSome (bodyOf (now (s .entry))) ⌝ }
 {
-    let mut last = 0x22;
+    let mut last = MAPPING;
     let mut p = 0;
     while p < s.len() {
-        let e = field_end(s, p);
-        if !item_whole(s, p, e) {
+        let e = end_if_whole(s, p);
+        if e == 0 {
             return false;
         }
-        let tag = byte_at(s, p);
+        if !item_good(s, p, e) {
+            return false;
+        }
+        let tag = s[p];
         if tag < last {
             return false;
         }

@@ -3,18 +3,20 @@ ghost use mathlib.Core.Path.{_≡_};
 ghost use mathlib.Core.Option.{some};
 ghost use Prim.Native.Nat.{ℕ, _<_, _≤_};
 ghost use lib.ListN.{length, getD};
-ghost use Rattle.reader.specs.Inner.Index.{putAt};
+ghost use Rattle.reader.specs.Inner.Index.{putAt, indexLength};
 ghost use Rattle.translation.specs.Translation.{Body};
 ghost use Rattle.translation.specs.TranslationFile.{bodyOf};
-ghost use Rattle.translation.specs.Inner.ItemIndex.{SoundKinds, SoundItems, IndexedItems, IndexedKinds, mappedAt};
-use super::walk::whole_end;
-use fields::bytes::wide;
+ghost use Rattle.translation.specs.Inner.ItemIndex.{SoundKinds, SoundItems, IndexedItems, IndexedKinds, mappedAt, knownAt};
+use fields::bytes::byte_at;
+use fields::bytes::to_usize;
+use fields::walk::key_at;
+use fields::walk::whole_end;
 use reader::index::put_all;
 use reader::node::place_at;
 
 // Builds the index of a body in an index that is all zero.
 pub fn build_items(body: &[u8], index: &mut [u16])
-    requires { ⌜ (length (now body) ≤ 32768) × (length (now index) ≡ 8224) × ((j : ℕ) → getD (now index) j 0 ≡ 0) ⌝ }
+    requires { ⌜ (length (now body) ≤ 32768) × (length (now index) ≡ indexLength) × ((j : ℕ) → getD (now index) j 0 ≡ 0) ⌝ }
     ensures { λ r. ⌜ ((b : Body) → bodyOf (now (body .entry)) ≡ some b → IndexedItems (now (index .exit)) (now (body .entry)) b) ⌝ }
 {
     put_all(body, 0x22, index);
@@ -41,7 +43,7 @@ pub fn put_mappings(body: &[u8], index: &mut [u16])
         if body[p] != 0x22 {
             return;
         }
-        put(index, wide(body[p + 3]), (p + 1) as u16);
+        put(index, to_usize(body[p + 3]), (p + 1) as u16);
         p = whole_end(body, p);
     }
 }
@@ -51,7 +53,7 @@ pub fn target_kind(body: &[u8], index: &[u16], kind: u8) -> u8
     requires { ⌜ SoundKinds (now index) (now body) × (kind < 32) ⌝ }
     ensures { λ r. ⌜ (r ≡ mappedAt (now (body .entry)) (now (index .entry)) kind) × (r < 32) ⌝ }
 {
-    let place = place_at(index, wide(kind));
+    let place = place_at(index, to_usize(kind));
     if place == 0 {
         return 0;
     }
@@ -73,7 +75,22 @@ pub fn map_kinds(body: &[u8], index: &[u16], mapped: &mut [u8])
 {
     let mut kind = 0u8;
     while kind < 32 {
-        mapped[wide(kind)] = map_kind(body, index, kind);
+        mapped[to_usize(kind)] = map_kind(body, index, kind);
         kind += 1;
     }
+}
+
+// The entry at p is of the first tag, or its key stands in the index.
+pub fn known_at(s: &[u8], p: usize, first: u8, index: &[u16]) -> bool
+    requires { ⌜ p ≤ length (now s) ⌝ }
+    ensures { λ r. ⌜ r ≡ knownAt first (now (s .entry)) (now (index .entry)) p ⌝ }
+{
+    if byte_at(s, p) == first {
+        return true;
+    }
+    let key = key_at(s, p, first);
+    if index.len() <= key {
+        return false;
+    }
+    index[key] != 0
 }

@@ -1,13 +1,5 @@
-// Translations: their parts in bytes, and the check of a translation.
+// Translations: their parts in bytes, the order of their keys, and the index of a body.
 pub mod body;
-pub mod check;
-pub mod clash;
-pub mod clauses;
-pub mod codes;
 pub mod index;
-pub mod kinds;
-pub mod mapping;
 pub mod order;
-pub mod pairs;
 pub mod parts;
-pub mod walk;

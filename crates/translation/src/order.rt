@@ -5,21 +5,23 @@ ghost use Rattle.language.specs.Language.{clashes};
 ghost use Rattle.translation.specs.Translation.{Translation};
 ghost use Rattle.translation.specs.TranslationFile.{allRising};
 ghost use Rattle.translation.specs.Inner.Pieces.{Pieces};
-use super::clash::class_results;
-use super::walk::whole_rise;
+use super::body::MAPPING;
+use fields::walk::keys_rise;
+use language::clash::result_is_class;
+use language::entries::CLASS;
 
 // All keys rise, in both languages and in the body.
 pub fn in_order(source: &[u8], target: &[u8], body: &[u8]) -> bool
     requires { ⌜ ((f : Translation) × Pieces (now source) (now target) (now body) f) ⌝ }
     ensures { λ r. ⌜ ((f : Translation) → Pieces (now (source .entry)) (now (target .entry)) (now (body .entry)) f → r ≡ allRising f) ⌝ }
 {
-    if !whole_rise(source, 0x11) {
+    if !keys_rise(source, CLASS) {
         return false;
     }
-    if !whole_rise(target, 0x11) {
+    if !keys_rise(target, CLASS) {
         return false;
     }
-    whole_rise(body, 0x22)
+    keys_rise(body, MAPPING)
 }
 
 // In the source or in the target a class is a result.
@@ -28,8 +30,8 @@ pub fn languages_clash(source: &[u8], target: &[u8], body: &[u8]) -> bool
     ensures { λ r. ⌜ ((f : Translation) → Pieces (now (source .entry)) (now (target .entry)) (now (body .entry)) f
         → r ≡ clashes (f .source) (f .source) || clashes (f .target) (f .target)) ⌝ }
 {
-    if class_results(source) {
+    if result_is_class(source) {
         return true;
     }
-    class_results(target)
+    result_is_class(target)
 }

@@ -14,10 +14,20 @@ ghost use Rattle.translation.specs.TranslationFile.{partsOf, translation
 ghost use Rattle.translation.specs.Inner.Parts.{Parted, sourceIn, targetIn, bodyIn};
 ghost use Rattle.translation.specs.Inner.Pieces.{partEnd};
 use super::body::body_whole;
-use fields::bytes::byte_at;
-use fields::walk::field_end;
+use fields::walk::end_if_whole;
 use fields::walk::says_over;
+use fields::walk::whole_end;
+use language::check::LANGUAGE_LIMIT;
 use language::entries::entries_whole;
+
+// The tag of the source.
+pub const SOURCE: u8 = 0x20;
+
+// The tag of the target.
+pub const TARGET: u8 = 0x21;
+
+// A translation has at most so many bytes.
+pub const TRANSLATION_LIMIT: usize = 4096;
 
 // Where the parts of a translation stand: the source's field ends at the first number, the target's at the second,
 // and the body follows.
@@ -30,10 +40,10 @@ pub struct Parts {
 pub fn over_limit(s: &[u8]) -> bool
     ensures { λ r. ⌜ r ≡ ltb translationLimit (length (now (s .entry))) || hasOver isLanguageTag languageLimit (now (s .entry)) ⌝ }
 {
-    if 4096 < s.len() {
+    if TRANSLATION_LIMIT < s.len() {
         return true;
     }
-    says_over(s, 0x20, 0x21, 1024)
+    says_over(s, SOURCE, TARGET, LANGUAGE_LIMIT)
 }
 
 // Where the whole field of this tag at p ends, or 0 where there is none.
@@ -41,11 +51,11 @@ fn part_end(s: &[u8], p: usize, tag: u8) -> usize
     requires { ⌜ p ≤ length (now s) ⌝ }
     ensures { λ r. ⌜ (r ≡ partEnd tag (now (s .entry)) p) × (r ≤ length (now (s .entry))) ⌝ }
 {
-    if byte_at(s, p) != tag {
+    let e = end_if_whole(s, p);
+    if e == 0 {
         return 0;
     }
-    let e = field_end(s, p);
-    if s.len() < e {
+    if s[p] != tag {
         return 0;
     }
     e
@@ -55,11 +65,11 @@ fn part_end(s: &[u8], p: usize, tag: u8) -> usize
 pub fn parts_whole(s: &[u8]) -> bool
     ensures { λ r. ⌜ r ≡ isSome (partsOf (now (s .entry))) ⌝ }
 {
-    let a = part_end(s, 0, 0x20);
+    let a = part_end(s, 0, SOURCE);
     if a == 0 {
         return false;
     }
-    let b = part_end(s, a, 0x21);
+    let b = part_end(s, a, TARGET);
     if b == 0 {
         return false;
     }
@@ -77,8 +87,8 @@ pub fn parts_of(s: &[u8]) -> Parts
     requires { ⌜ ((f : Translation) × (partsOf (now s) ≡ some f)) ⌝ }
     ensures { λ r. ⌜ ((f : Translation) → partsOf (now (s .entry)) ≡ some f → Parted (now (s .entry)) (r .«source_end») (r .«target_end») f) ⌝ }
 {
-    let a = field_end(s, 0);
-    let b = field_end(s, a);
+    let a = whole_end(s, 0);
+    let b = whole_end(s, a);
     Parts {
         source_end: a,
         target_end: b,
@@ -90,7 +100,7 @@ pub fn source_of(s: &[u8]) -> &[u8]
     requires { ⌜ ((f : Translation) × (translationOf (now s) ≡ value f)) ⌝ }
     ensures { λ r. ⌜ now r ≡ sourceIn (now (s .entry)) ⌝ }
 {
-    let a = field_end(s, 0);
+    let a = whole_end(s, 0);
     &s[3..a]
 }
 
@@ -99,8 +109,8 @@ pub fn target_of(s: &[u8]) -> &[u8]
     requires { ⌜ ((f : Translation) × (translationOf (now s) ≡ value f)) ⌝ }
     ensures { λ r. ⌜ now r ≡ targetIn (now (s .entry)) ⌝ }
 {
-    let a = field_end(s, 0);
-    let b = field_end(s, a);
+    let a = whole_end(s, 0);
+    let b = whole_end(s, a);
     &s[a + 3..b]
 }
 
@@ -109,7 +119,7 @@ pub fn body_of(s: &[u8]) -> &[u8]
     requires { ⌜ ((f : Translation) × (translationOf (now s) ≡ value f)) ⌝ }
     ensures { λ r. ⌜ now r ≡ bodyIn (now (s .entry)) ⌝ }
 {
-    let a = field_end(s, 0);
-    let b = field_end(s, a);
+    let a = whole_end(s, 0);
+    let b = whole_end(s, a);
     &s[b..]
 }

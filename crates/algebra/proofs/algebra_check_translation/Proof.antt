@@ -6,7 +6,7 @@ use Rattle.algebra.proofs.algebra_check_translation.Tie as tie
 use Rattle.algebra.proofs.algebra_check_translation.Reads as reads
 use Rattle.algebra.proofs.algebra_check_translation.Lts as lts
 use Rattle.algebra.proofs.number_of.Reads as number-of-reads
-use Rattle.translation.proofs.check.check_translation.Reads as check-translation-reads
+use Rattle.checks.proofs.translations.check_translation.Reads as check-translation-reads
 
 returns : tie.Need-returns
 returns c = c .number-of .ensures ∙ ap numberOf (c .before .check-translation .ensures)

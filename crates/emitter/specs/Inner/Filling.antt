@@ -15,28 +15,30 @@ use Rattle.reader.specs.Syntax.{write, code}
 use Rattle.reader.specs.Inner.Index.{Indexed, putAll}
 use Rattle.translation.specs.Translation.{Translation}
 use Rattle.translation.specs.Running.{clausesOf}
-use Rattle.emitter.specs.Inner.Stands.{Stands, spliced}
-use Rattle.emitter.specs.Inner.Table.{clauseEntry, sourceByte, bodyByte, SpansAt}
+use Rattle.fields.specs.Inner.Writing.{spliced}
+use Rattle.emitter.specs.Inner.Stands.{Stands}
+use Rattle.reader.specs.Inner.Index.{indexLength, tableLength}
+use Rattle.emitter.specs.Inner.Table.{itemsStart, spansStart, clauseEntry, sourceByte, bodyByte, SpansAt}
 
 -- The index of the source s stands in the table t, which is all zero besides.
 pub record Begun (s t : List ℕ) : Type 0 where
   pub zeros : List ℕ
-  pub long : length zeros ≡ 25664
+  pub long : length zeros ≡ tableLength
   pub zero : (j : ℕ) → getD zeros j 0 ≡ 0
-  pub is : t ≡ spliced zeros 0 (putAll 0x11 s (take 8224 zeros) (places s))
+  pub is : t ≡ spliced zeros 0 (putAll 0x11 s (take indexLength zeros) (places s))
 
 -- The index of s stands in the table from a on. The first entries of s have the tag `first`.
 pub record Built (first : ℕ) (s t : List ℕ) (a : ℕ) : Type 0 where
   pub zeros : List ℕ
-  pub long : length zeros ≡ 8224
+  pub long : length zeros ≡ indexLength
   pub zero : (j : ℕ) → getD zeros j 0 ≡ 0
-  pub is : (j : ℕ) → j < 8224 → getD t (a + j) 0 ≡ getD (putAll first s zeros (places s)) j 0
+  pub is : (j : ℕ) → j < indexLength → getD t (a + j) 0 ≡ getD (putAll first s zeros (places s)) j 0
 
 -- The table but for the spans: of the source s and the body b.
 pub record Filled (s b t : List ℕ) : Type 0 where
-  pub long : length t ≡ 25664
+  pub long : length t ≡ tableLength
   pub index : Built 0x11 s t 0
-  pub items : Built 0x22 b t 8224
+  pub items : Built 0x22 b t itemsStart
   pub source : (j : ℕ) → j < length s → sourceByte t j ≡ getD s j 0
   pub body : (j : ℕ) → j < length b → bodyByte t j ≡ getD b j 0
 
@@ -47,7 +49,7 @@ mappedIn b t k = cond (eqb (clauseEntry t k) 0) 0 (byteAt b (clauseEntry t k + 3
 -- The table u is t but for spans from `at` on.
 pub record Below (t u : List ℕ) (at : ℕ) : Type 0 where
   pub long : length u ≡ length t
-  pub same : (j : ℕ) → j < 21568 + at → getD u j 0 ≡ getD t j 0
+  pub same : (j : ℕ) → j < spansStart + at → getD u j 0 ≡ getD t j 0
 
 -- The code a of a kind of language l, whose bytes are s, stands in the body from `at` on.
 pub record CodeAsks (s index b : List ℕ) (k at n : ℕ) (l : Language) (given : List ℕ) (a : Code) : Type 0 where

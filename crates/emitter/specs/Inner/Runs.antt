@@ -1,8 +1,8 @@
 -- What the functions of the run ask for and give: for a term of the input, for the node whose arguments are put out, and
 -- for codes in a row.
-use Prim.Native.Nat.{ℕ, zero, suc, _+_, _≤_, _<_}
+use Prim.Native.Nat.{ℕ, zero, suc, _+_, _-_, _*_, _≤_, _<_}
 use mathlib.Core.Path.{_≡_}
-use mathlib.Core.Bool.{Bool, not, cond}
+use mathlib.Core.Bool.{Bool, false, not, cond}
 use mathlib.Core.Logic.{_⊎_}
 use mathlib.Core.List.{List, []}
 use lib.ListN.{length, getD}
@@ -17,9 +17,9 @@ use Rattle.reader.specs.declared.node.Syntax.the-variants.{Tree, Code}
 use Rattle.reader.specs.Inner.Positions.{syntaxOf}
 use Rattle.reader.specs.Inner.Ends.{Kept}
 use Rattle.translation.specs.Translation.{Translation}
-use Rattle.translation.specs.Running.{clausesOf, substituteAll, runAll}
+use Rattle.translation.specs.Running.{clausesOf, substitute, substituteAll, run, runAll}
 use Rattle.emitter.specs.Inner.Stands.{Stands}
-use Rattle.emitter.specs.Inner.Table.{indexEntry, sourceByte, bodyByte, KindsAt, SpansAllAt, Ready}
+use Rattle.emitter.specs.Inner.Table.{bodyStart, indexEntry, sourceByte, bodyByte, KindsAt, SpansAllAt, Clause, Ready}
 
 -- The bytes of a code or of codes in the syntax of the input.
 abbrev pub bytesOf : Syntax → Terms.Code → List ℕ
@@ -59,7 +59,7 @@ pub record Node (x : Syntax) (t input node : List ℕ) (l : Language) (given : L
 -- The codes cs stand in the body from `at` up to `stop`; they may use as many arguments as r has kinds.
 pub record Row (t : List ℕ) (at stop : ℕ) (l : Language) (r : List ℕ) (cs : Codes) (js : List ℕ) : Type 0 where
   pub typed : TypedAll l r cs js
-  pub stands : Stands t (17472 + at) (writeAll code cs)
+  pub stands : Stands t (bodyStart + at) (writeAll code cs)
   pub spans : SpansAllAt t at cs
   pub ends : stop ≡ at + length (writeAll code cs)
   pub inside : stop ≤ 4096
@@ -91,24 +91,34 @@ pub record FindAsks (x : Syntax) (t input ends state : List ℕ) (j : ℕ) (f : 
   pub levels : levelsAll ts ≤ 64
   pub number : j ≤ length ks
 
+-- The end of a node's last argument. How many arguments it has stands before their kinds.
+pub record LastAsks (x : Syntax) (t input ends state : List ℕ) (f : Translation) (given : List ℕ) (ts : Codes) (ks : List ℕ) : Type 0 where
+  pub asks : FindAsks x t input ends state (length ks) f given ts ks
+  pub from : 3 ≤ getD state 9 0
+  pub count : sourceByte t (getD state 9 0 - 3) ≡ length ks + 2
+
+-- The levels that a level of a tree takes: one for the call on the argument, one for the call on its node, and 16 for its
+-- clause's code.
+abbrev pub treeLevel : ℕ
+treeLevel = 18
+
 -- Codes in a row, each argument replaced by its run.
-pub record RowAsks (x : Syntax) (t input ends state : List ℕ) (deep at stop n : ℕ) (f : Translation) (given : List ℕ) (ts : Codes) (ks r : List ℕ) (cs : Codes) (js : List ℕ) : Type 0 where
+pub record RowAsks (x : Syntax) (t input ends state : List ℕ) (at stop left : ℕ) (f : Translation) (given : List ℕ) (ts : Codes) (ks r : List ℕ) (cs : Codes) (js : List ℕ) : Type 0 where
   pub table : Given x t f given
   pub kept : Right x ends input (f .source) given
   pub node : Node x t input state (f .source) given ts ks
   pub row : Row t at stop (f .target) r cs js
   pub numbers : length r ≡ length ks
-  pub levels : levelsAll ts ≤ deep
-  pub most : deep ≤ 64
-  pub within : levelsAll cs ≤ n
+  pub most : levelsAll ts ≤ 64
+  pub levels : treeLevel * levelsAll ts + levelsAll cs ≤ left
 
 -- The run of argument j of a node, counted from 0.
-pub record ArgumentAsks (x : Syntax) (t input ends state : List ℕ) (deep j : ℕ) (f : Translation) (given : List ℕ) (ts : Codes) (ks : List ℕ) : Type 0 where
+pub record ArgumentAsks (x : Syntax) (t input ends state : List ℕ) (left j : ℕ) (f : Translation) (given : List ℕ) (ts : Codes) (ks : List ℕ) : Type 0 where
   pub table : Given x t f given
   pub kept : Right x ends input (f .source) given
   pub node : Node x t input state (f .source) given ts ks
-  pub levels : levelsAll ts ≤ deep
-  pub most : deep ≤ 64
+  pub most : levelsAll ts ≤ 64
+  pub levels : treeLevel * levelsAll ts ≤ left
   pub number : j < length ks
 
 -- The run of the term that the input starts with.
@@ -123,6 +133,36 @@ pub record TermAsks (x : Syntax) (t input ends : List ℕ) (deep k : ℕ) (f : T
 unfoldable pub leafAt : Syntax → List ℕ → ℕ → List ℕ → ℕ → Bool
 leafAt Tree t k b at = not (eqb (indexEntry t k) 0)
 leafAt Code t k b at = not (eqb (getD b at 0) 1)
+
+-- The term u of kind k that stands in the input from `at` on is a production's.
+pub record NodeAt (x : Syntax) (t input : List ℕ) (at k : ℕ) (f : Translation) (given : List ℕ) (u : Terms.Code) : Type 0 where
+  pub table : Given x t f given
+  pub term : Term x input at (f .source) given u k
+  pub inner : leafAt x t k input at ≡ false
+
+-- The run of a production's term.
+pub record NodeAsks (x : Syntax) (t input ends : List ℕ) (at k left : ℕ) (f : Translation) (given : List ℕ) (u : Terms.Code) : Type 0 where
+  pub there : NodeAt x t input at k f given u
+  pub kept : Right x ends input (f .source) given
+  pub most : levels u ≤ 64
+  pub levels : treeLevel * levels u ≤ left + 1
+
+-- The node of the term u that stands in the input from `at` on, and its clause, whose field has its length at `place`.
+pub record Started (x : Syntax) (t input state : List ℕ) (at place : ℕ) (f : Translation) (given : List ℕ) (u : Terms.Code) : Type 0 where
+  pub operands : Codes
+  pub kinds : List ℕ
+  pub arguments : List ℕ
+  pub body : Terms.Code
+  pub result : ℕ
+  pub node : Node x t input state (f .source) given operands kinds
+  pub clause : Clause t place body
+  pub typed : Typed (f .target) arguments body result
+  pub numbers : length arguments ≡ length kinds
+  pub runs : run (clausesOf f) u ≡ substitute (runAll (clausesOf f) operands) body
+  pub deep : levels u ≡ suc (levelsAll operands)
+  pub ends : getD state 0 0 + length (allBytes x operands) ≡ at + length (bytesOf x u)
+  pub from : 3 ≤ getD state 9 0
+  pub count : sourceByte t (getD state 9 0 - 3) ≡ length kinds + 2
 
 -- How many bytes the leaf at `at` has.
 unfoldable pub leafLength : Syntax → List ℕ → ℕ → ℕ

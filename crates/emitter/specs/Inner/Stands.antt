@@ -1,17 +1,14 @@
 -- What stands where in bytes, and what was put into an output.
 use Prim.Native.Nat.{ℕ, _+_, _≤_, _<_}
 use mathlib.Core.Path.{_≡_}
-use mathlib.Core.List.{List, _++_}
+use mathlib.Core.List.{List}
 use lib.ListN.{length, take, drop}
+use Rattle.fields.specs.Inner.Writing.{spliced}
 
 -- The bytes v stand in b from `at` on.
 pub record Stands (b : List ℕ) (at : ℕ) (v : List ℕ) : Type 0 where
   pub inside : at + length v ≤ length b
   pub bytes : take (length v) (drop at b) ≡ v
-
--- The output o with v put in at pos.
-unfoldable pub spliced : List ℕ → ℕ → List ℕ → List ℕ
-spliced o pos v = take pos o ++ (v ++ drop (pos + length v) o)
 
 -- The output is as before up to pos, and as long.
 pub record Kept (o after : List ℕ) (pos : ℕ) : Type 0 where

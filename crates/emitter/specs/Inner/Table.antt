@@ -1,6 +1,6 @@
--- The table that a run looks things up in, one row of numbers: up to 8224 the index of the source, up to 16448 that of the
--- body's items, up to 17472 the bytes of the source, up to 21568 those of the body, and up to 25664 for each position in the
--- body where the code of a production starts the position where that code ends.
+-- The table that a run looks things up in, one row of numbers: the index of the source, the index of the body's items, the
+-- bytes of the source, the bytes of the body, and for each position in the body where the code of a production starts the
+-- position where that code ends.
 use Prim.Native.Nat.{ℕ, _+_, _*_, _<_, _≤_}
 use mathlib.Core.Path.{_≡_}
 use mathlib.Core.List.{List}
@@ -10,6 +10,7 @@ use Rattle.language.specs.Language.{Range, rangeOf, argumentsOf, productionKey}
 use Rattle.reader.specs.Code.{Code, node, token, argument, Codes, nil, cons, levels}
 use Rattle.reader.specs.Typing.{Typed}
 use Rattle.reader.specs.Syntax.{write, code}
+use Rattle.reader.specs.Inner.Index.{tableLength}
 use Rattle.translation.specs.Translation.{Translation, mapped}
 use Rattle.translation.specs.Running.{mappedArguments, clausesOf}
 use Rattle.fields.specs.Outcome.{value}
@@ -17,28 +18,50 @@ use Rattle.translation.specs.TranslationFile.{translationOf}
 use Rattle.translation.specs.Inner.Pieces.{Pieces}
 use Rattle.emitter.specs.Inner.Stands.{Stands}
 
-abbrev pub tableLength : ℕ
-tableLength = 25664
+-- Where the index of the body's items starts.
+abbrev pub itemsStart : ℕ
+itemsStart = 8224
 
+-- Where the bytes of the source start.
+abbrev pub sourceStart : ℕ
+sourceStart = 16448
+
+-- Where the bytes of the body start.
+abbrev pub bodyStart : ℕ
+bodyStart = 17472
+
+-- Where the ends of the productions' codes start.
+abbrev pub spansStart : ℕ
+spansStart = 21568
+
+-- What the index of the source holds under a key.
 abbrev pub indexEntry : List ℕ → ℕ → ℕ
 indexEntry t key = getD t key 0
 
+-- What the index of the body's items holds under a key.
 abbrev pub clauseEntry : List ℕ → ℕ → ℕ
-clauseEntry t key = getD t (8224 + key) 0
+clauseEntry t key = getD t (itemsStart + key) 0
 
+-- Byte i of the source.
 abbrev pub sourceByte : List ℕ → ℕ → ℕ
-sourceByte t i = getD t (16448 + i) 0
+sourceByte t i = getD t (sourceStart + i) 0
 
+-- Byte c of the body.
 abbrev pub bodyByte : List ℕ → ℕ → ℕ
-bodyByte t c = getD t (17472 + c) 0
+bodyByte t c = getD t (bodyStart + c) 0
 
+-- Where the production's code ends that starts at c in the body.
 abbrev pub spanEntry : List ℕ → ℕ → ℕ
-spanEntry t c = getD t (21568 + c) 0
+spanEntry t c = getD t (spansStart + c) 0
+
+-- Where the clause ends whose field has its length at `place`.
+abbrev pub clauseEnd : List ℕ → ℕ → ℕ
+clauseEnd t place = place + 2 + (bodyByte t place * 256 + bodyByte t (place + 1))
 
 -- The kinds ks stand in the source from q on.
 pub record KindsAt (t : List ℕ) (q : ℕ) (ks : List ℕ) : Type 0 where
   pub inside : q + length ks ≤ 1024
-  pub stands : Stands t (16448 + q) ks
+  pub stands : Stands t (sourceStart + q) ks
   pub below : (j : ℕ) → j < length ks → getD ks j 0 < 32
 
 -- The code a stands in the body from c on, and so does the end of each production's code in it.
@@ -62,7 +85,7 @@ pub record Production (t : List ℕ) (place : ℕ) (ks : List ℕ) : Type 0 wher
 pub record Clause (t : List ℕ) (place : ℕ) (a : Code) : Type 0 where
   pub size : bodyByte t place * 256 + bodyByte t (place + 1) ≡ 2 + length (write code a)
   pub inside : place + 4 + length (write code a) ≤ 4096
-  pub stands : Stands t (17472 + (place + 4)) (write code a)
+  pub stands : Stands t (bodyStart + (place + 4)) (write code a)
   pub spans : SpansAt t (place + 4) a
   pub within : levels a ≤ 16
   pub narrow : (i : ℕ) → place + 4 ≤ i → i < place + 4 + length (write code a) → bodyByte t i < 256

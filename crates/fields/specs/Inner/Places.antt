@@ -22,6 +22,25 @@ pub record EndsAt (s : List ℕ) (p e : ℕ) : Type 0 where
 unfoldable pub isWhole : List ℕ → ℕ → Bool
 isWhole s p = leb (fieldEnd s p) (length s)
 
+-- The whole field at p ends at e.
+pub record WholeEnd (s : List ℕ) (p e : ℕ) : Type 0 where
+  pub is : e ≡ fieldEnd s p
+  pub past : p + 3 ≤ e
+  pub fits : e ≤ length s
+
+-- e is where the field at p ends if it is whole, and 0 if it is not.
+pub record EndIfWhole (s : List ℕ) (p e : ℕ) : Type 0 where
+  pub cut : e ≡ 0 → isWhole s p ≡ false
+  pub whole : (e ≡ 0 → ⊥) → WholeEnd s p e
+
+-- The first five bytes of the field at p are there.
+unfoldable pub longAt : List ℕ → ℕ → Bool
+longAt s p = ltb (p + 4) (length s)
+
+-- The field at p has the tag.
+abbrev pub tagIs : ℕ → List ℕ → ℕ → Bool
+tagIs tag s p = eqb (byteAt s p) tag
+
 -- The contents of the field at p.
 abbrev pub contentsAt : List ℕ → ℕ → List ℕ
 contentsAt s p = take (pairAt s (p + 1)) (drop (p + 3) s)
@@ -43,9 +62,14 @@ placesFrom s p = placesIn (suc (length s)) s p
 abbrev pub places : List ℕ → List ℕ
 places s = placesFrom s 0
 
--- The key of the entry at p: of a field of the first tag the kind that comes first, of any other the kind and name.
+-- The fields at places pass the test, and no tag is below the one before it.
+unfoldable pub tagsOrdered : (ℕ → Bool) → List ℕ → ℕ → List ℕ → Bool
+tagsOrdered test s last [] = true
+tagsOrdered test s last (p ∷ l) = (test p && leb last (byteAt s p)) && tagsOrdered test s (byteAt s p) l
+
+-- The key of the entry at p: the kind in a field of the leading tag, and the kind and the name in any other.
 unfoldable pub keyAt : ℕ → List ℕ → ℕ → ℕ
-keyAt first s p = cond (eqb (byteAt s p) first) (byteAt s (p + 3)) (32 + pairAt s (p + 3))
+keyAt leading s p = cond (eqb (byteAt s p) leading) (byteAt s (p + 3)) (32 + pairAt s (p + 3))
 
 -- The first three bytes of the field at p are there, its tag is of a language, and its length bytes say that it is
 -- over the limit. `proofs/Over.antt` shows that `hasOver` asks for such a place.

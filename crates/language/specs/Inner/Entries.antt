@@ -9,7 +9,8 @@ use lib.Seq.{slice}
 use lib.Dec.{leb, eqb}
 use Rattle.fields.specs.Lists.{all, any}
 use Rattle.fields.specs.Fields.{byteAt, pairAt}
-use Rattle.fields.specs.Inner.Places.{fieldEnd, isWhole, places}
+use Rattle.fields.specs.Keyed.{rising}
+use Rattle.fields.specs.Inner.Places.{fieldEnd, isWhole, placesFrom, places, keyAt, tagIs}
 use Rattle.language.specs.Language.{Entry, class, production, Language}
 use Rattle.language.specs.LanguageFile.{isKind}
 
@@ -91,3 +92,15 @@ resultsMeet s t = any (resultMarked t (classKinds s)) (places t)
 -- Some result is a class.
 abbrev pub resultIsClass : List ℕ → Bool
 resultIsClass s = resultsMeet s s
+
+-- The bytes are whole entries, and their keys rise.
+pub record RisingEntries (s : List ℕ) : Type 0 where
+  pub whole : all (entryWhole s) (places s) ≡ true
+  pub rises : rising (keyAt 0x11 s) (places s) ≡ true
+
+-- The classes of s stand before p, and are marked.
+pub record Classed (s : List ℕ) (kinds marked : List Bool) (p : ℕ) : Type 0 where
+  pub marks : marked ≡ markClasses s kinds (places s)
+  pub results : (table : List Bool) → any (resultMarked s table) (placesFrom s p) ≡ any (resultMarked s table) (places s)
+  pub whole : all (entryWhole s) (placesFrom s p) ≡ true
+  pub productions : all (tagIs 0x12 s) (placesFrom s p) ≡ true

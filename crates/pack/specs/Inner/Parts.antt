@@ -3,14 +3,14 @@
 use Prim.Native.Nat.{ℕ, _+_, _≤_}
 use mathlib.Core.Path.{_≡_}
 use mathlib.Core.Bool.{Bool, true, cond, _&&_}
-use mathlib.Core.List.{List, [], _∷_}
+use mathlib.Core.List.{List, []}
 use mathlib.Core.Option.{Option, none, some}
 use lib.ListN.{length, getElem?}
-use lib.Dec.{leb, eqb}
+use lib.Dec.{eqb}
 use Rattle.fields.specs.Lists.{isSome, keep}
 use Rattle.fields.specs.Fields.{byteAt}
 use Rattle.fields.specs.Keyed.{rising}
-use Rattle.fields.specs.Inner.Places.{fieldEnd, isWhole, contentsAt, places, keyAt}
+use Rattle.fields.specs.Inner.Places.{fieldEnd, isWhole, contentsAt, places, keyAt, tagIs, tagsOrdered}
 use Rattle.language.specs.Language.{Language}
 use Rattle.language.specs.LanguageFile.{entriesOf}
 use Rattle.language.specs.Inner.Entries.{resultsMeet}
@@ -50,17 +50,12 @@ partAt s p =
     (termPart (contentsAt s p)))
 
 -- The fields at places are parts, and their tags do not fall below the one before.
-unfoldable pub partsOrdered : List ℕ → ℕ → List ℕ → Bool
-partsOrdered s last [] = true
-partsOrdered s last (p ∷ l) = (partWhole s p && leb last (byteAt s p)) && partsOrdered s (byteAt s p) l
-
--- The field at p has this tag.
-abbrev pub isTag : ℕ → List ℕ → ℕ → Bool
-isTag tag s p = eqb (byteAt s p) tag
+abbrev pub partsOrdered : List ℕ → ℕ → List ℕ → Bool
+partsOrdered s = tagsOrdered (partWhole s) s
 
 -- The places of the fields of this tag.
 unfoldable pub tagged : ℕ → List ℕ → List ℕ
-tagged tag s = keep (isTag tag s) (places s)
+tagged tag s = keep (tagIs tag s) (places s)
 
 -- The keys of the field at p rise, if it is a language or a body.
 unfoldable pub risesAt : List ℕ → ℕ → Bool

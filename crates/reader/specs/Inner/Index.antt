@@ -14,6 +14,14 @@ use Rattle.language.specs.Language.{Language, Range, rangeOf, argumentsOf, kind
 use Rattle.language.specs.LanguageFile.{entriesOf}
 use Rattle.reader.specs.Inner.Positions.{KindsIn}
 
+-- How many numbers an index has: one for each kind, and one for each production.
+abbrev pub indexLength : ℕ
+indexLength = 8224
+
+-- How many numbers the table of a run has.
+abbrev pub tableLength : ℕ
+tableLength = 25664
+
 -- The range in the field before `place`.
 abbrev pub rangeBefore : List ℕ → ℕ → Option Range
 rangeBefore s zero = none
@@ -35,7 +43,7 @@ putAll first s index (p ∷ l) = putAll first s (putAt index (keyAt first s p) (
 
 -- What a lookup may rely on: each place is that of a whole field.
 pub record Sound (index s : List ℕ) : Type 0 where
-  pub long : 8224 ≤ length index
+  pub long : indexLength ≤ length index
   pub short : length s ≤ 1024
   pub class : (k : ℕ) → k < 32 → 0 < getD index (kindKey k) 0 → getD index (kindKey k) 0 + 7 ≤ length s
   pub name : (k p : ℕ) → k < 32 → p < 256 → 0 < getD index (productionKey k p) 0

@@ -5,9 +5,6 @@ use mathlib.Core.List.{List}
 use lib.ListN.{length, getD, drop}
 use lib.Dec.{ltb, leb, eqb}
 use Rattle.fields.specs.Fields.{pairAt}
-use Rattle.fields.specs.declared.outcome.Outcome.{Outcome}
-use Rattle.fields.specs.declared.outcome.Outcome.the-variants.{Accepted, Refused}
-use Rattle.fields.specs.declared.outcome.Reason.the-variants as Reason
 use Rattle.language.specs.Language.{productionKey, mentions}
 use Rattle.language.specs.Inner.Entries.{entryAt}
 use Rattle.reader.specs.Syntax as Meant
@@ -139,12 +136,6 @@ restOf Meant.broken = broken
 abbrev pub syntaxOf : Syntax → Meant.Syntax
 syntaxOf Tree = Meant.tree
 syntaxOf Code = Meant.code
-
--- What a whole tree comes to, where the bytes are n long.
-abbrev pub wholeAt : Read → ℕ → Outcome
-wholeAt (End e) n = cond (eqb e n) (Accepted 0) (Refused Reason.Tree)
-wholeAt Deep n = Refused Reason.Levels
-wholeAt Broken n = Refused Reason.Tree
 
 -- The entry at p mentions kind k.
 unfoldable pub mentionsAt : List ℕ → ℕ → ℕ → Bool

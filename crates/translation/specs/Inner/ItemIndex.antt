@@ -2,19 +2,18 @@
 -- bytes, and one more; 0 where there is no such item.
 use Prim.Native.Nat.{ℕ, zero, suc, _+_, _<_, _≤_}
 use mathlib.Core.Path.{_≡_}
-use mathlib.Core.Bool.{cond}
+use mathlib.Core.Bool.{Bool, true, cond, not}
 use mathlib.Core.List.{List}
 use mathlib.Core.Option.{Option, none, some}
 use lib.ListN.{length, getD}
 use lib.Seq.{slice}
 use lib.Dec.{eqb}
 use Rattle.fields.specs.Fields.{byteAt, pairAt}
-use Rattle.fields.specs.Inner.Places.{fieldEnd}
+use Rattle.fields.specs.Inner.Places.{fieldEnd, keyAt}
 use Rattle.language.specs.Language.{kindKey, productionKey}
-use Rattle.language.specs.LanguageFile.{entriesOf}
-use Rattle.reader.specs.Inner.Index.{Indexed}
-use Rattle.translation.specs.Translation.{Body, Translation, mappingOf, clauseOf}
+use Rattle.translation.specs.Translation.{Body, mappingOf, clauseOf}
 use Rattle.translation.specs.TranslationFile.{bodyOf}
+use Rattle.reader.specs.Inner.Index.{indexLength}
 
 -- The target kind in the field before `place`.
 abbrev pub targetBefore : List ℕ → ℕ → Option ℕ
@@ -28,7 +27,7 @@ codeBefore s (suc p) = some (slice (p + 5) (fieldEnd s p) s)
 
 -- What a lookup may rely on: each place is that of a whole field.
 pub record SoundItems (index s : List ℕ) : Type 0 where
-  pub long : length index ≡ 8224
+  pub long : length index ≡ indexLength
   pub short : length s ≤ 32768
   pub target : (k : ℕ) → k < 32 → 0 < getD index (kindKey k) 0
       → (getD index (kindKey k) 0 + 3 < length s) × (byteAt s (getD index (kindKey k) 0 + 3) < 32)
@@ -60,14 +59,6 @@ pub record IndexedKinds (index s : List ℕ) (b : Body) : Type 0 where
 unfoldable pub mappedAt : List ℕ → List ℕ → ℕ → ℕ
 mappedAt s index k = cond (eqb (getD index k 0) 0) 0 (byteAt s (getD index k 0 + 3))
 
--- The three parts of f, the target with its index, the body with that of its mappings.
-pub record Ready (s t it b ib : List ℕ) (f : Translation) : Type 0 where
-  pub source : entriesOf s ≡ some (f .source)
-  pub target : Indexed it t (f .target)
-  pub body : IndexedKinds ib b (f .body)
-
--- The three parts of f, each with its index.
-pub record Prepared (s is t it b ib : List ℕ) (f : Translation) : Type 0 where
-  pub source : Indexed is s (f .source)
-  pub target : Indexed it t (f .target)
-  pub body : IndexedItems ib b (f .body)
+-- The entry at p is of the first tag, or its key stands in the index.
+unfoldable pub knownAt : ℕ → List ℕ → List ℕ → ℕ → Bool
+knownAt first s index p = cond (eqb (byteAt s p) first) true (not (eqb (getD index (keyAt first s p) 0) 0))

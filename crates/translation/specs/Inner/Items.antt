@@ -3,13 +3,13 @@
 use Prim.Native.Nat.{ℕ, _+_, _<_, _≤_}
 use mathlib.Core.Path.{_≡_}
 use mathlib.Core.Bool.{Bool, true, false, cond, _&&_}
-use mathlib.Core.List.{List, [], _∷_, map}
+use mathlib.Core.List.{List, map}
 use lib.ListN.{length}
 use lib.Seq.{slice}
-use lib.Dec.{ltb, leb, eqb}
+use lib.Dec.{leb, eqb}
 use Rattle.fields.specs.Lists.{all}
 use Rattle.fields.specs.Fields.{byteAt}
-use Rattle.fields.specs.Inner.Places.{fieldEnd, isWhole, places}
+use Rattle.fields.specs.Inner.Places.{fieldEnd, isWhole, places, tagsOrdered}
 use Rattle.language.specs.LanguageFile.{isKind}
 use Rattle.language.specs.Inner.Entries.{sizeAt}
 use Rattle.translation.specs.Translation.{Item, mapping, clause, Body}
@@ -31,10 +31,6 @@ itemGood s p =
 -- The field at p is whole, and an item.
 unfoldable pub itemWhole : List ℕ → ℕ → Bool
 itemWhole s p = isWhole s p && itemGood s p
-
--- The first five bytes of the field at p are there.
-unfoldable pub longAt : List ℕ → ℕ → Bool
-longAt s p = ltb (p + 4) (length s)
 
 -- The item at p.
 unfoldable pub itemAt : List ℕ → ℕ → Item
@@ -58,9 +54,8 @@ pub record IsClause (s : List ℕ) (p : ℕ) : Type 0 where
   pub result : byteAt s (p + 3) < 32
 
 -- The fields at places are whole items, and their tags do not fall below the one before: no mapping after a clause.
-unfoldable pub itemsWhole : List ℕ → ℕ → List ℕ → Bool
-itemsWhole s last [] = true
-itemsWhole s last (p ∷ l) = (itemWhole s p && leb last (byteAt s p)) && itemsWhole s (byteAt s p) l
+abbrev pub itemsWhole : List ℕ → ℕ → List ℕ → Bool
+itemsWhole s = tagsOrdered (itemWhole s) s
 
 -- The bytes s hold the items b, one at each place.
 pub record HoldsItems (s : List ℕ) (b : Body) : Type 0 where

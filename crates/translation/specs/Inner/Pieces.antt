@@ -1,20 +1,16 @@
 -- The three parts of a translation, each in its own bytes, and where they are found.
 use Prim.Native.Nat.{ℕ, _≤_}
 use mathlib.Core.Path.{_≡_}
-use mathlib.Core.Bool.{cond, not, _&&_, _||_}
+use mathlib.Core.Bool.{cond, _&&_}
 use mathlib.Core.List.{List}
 use mathlib.Core.Option.{some}
 use lib.ListN.{length}
 use lib.Dec.{eqb}
 use Rattle.fields.specs.Fields.{byteAt}
 use Rattle.fields.specs.Inner.Places.{fieldEnd, isWhole}
-use Rattle.fields.specs.Outcome.{Result, refuseIf}
-use Rattle.fields.specs.declared.outcome.Reason.the-variants.{Order, Clash}
-use Rattle.language.specs.Language.{clashes}
 use Rattle.language.specs.LanguageFile.{entriesOf}
 use Rattle.translation.specs.Translation.{Translation}
-use Rattle.translation.specs.TranslationFile.{bodyOf, allRising}
-use Rattle.translation.specs.WellFormed.{wellFormed}
+use Rattle.translation.specs.TranslationFile.{bodyOf}
 
 -- Where the whole field of this tag at p ends, or 0 where there is none.
 unfoldable pub partEnd : ℕ → List ℕ → ℕ → ℕ
@@ -28,10 +24,3 @@ pub record Pieces (s t b : List ℕ) (f : Translation) : Type 0 where
   pub source-short : length s ≤ 1024
   pub target-short : length t ≤ 1024
   pub body-short : length b ≤ 32768
-
--- What is asked of a translation that is whole: 3 to 7, the last links of the chain of `translationOf`.
-abbrev pub inOrder : Translation → Result Translation
-inOrder f =
-    refuseIf (not (allRising f)) Order
-    (refuseIf (clashes (f .source) (f .source) || clashes (f .target) (f .target)) Clash
-    (wellFormed f))

@@ -1,17 +1,7 @@
 //! The files and trees that are measured.
 
+use reference::files::{field, production};
 use reference::generate::Random;
-
-/// A field with a tag and contents.
-pub fn field(tag: u8, contents: &[u8]) -> Vec<u8> {
-    let length = (contents.len() as u16).to_be_bytes();
-    [&[tag], &length[..], contents].concat()
-}
-
-/// A field 12.
-fn production(result: u8, name: u8, arguments: &[u8]) -> Vec<u8> {
-    field(0x12, &[&[result, name], arguments].concat())
-}
 
 /// A language of exactly 1,024 bytes: 16 classes, and productions of one to eight arguments.
 pub fn full_language() -> Vec<u8> {
@@ -178,6 +168,7 @@ pub mod runs {
 #[cfg(feature = "reduce")]
 pub mod packs {
     use super::{field, full_language, production};
+    use reference::files::pack;
     use reference::generate::{reduce_case, Random};
 
     /// So many packs of the generator are looked through.
@@ -211,13 +202,6 @@ pub mod packs {
     /// Whether the reference accepts a pack.
     fn accepts(pack: &[u8]) -> bool {
         reference::reduce(pack, &mut [0; 65_536], &mut [0; 4096]).number() == 0
-    }
-
-    /// A pack from its parts.
-    fn pack(languages: &[Vec<u8>], bodies: &[Vec<u8>], term: &[u8]) -> Vec<u8> {
-        let languages = languages.iter().map(|language| field(0x30, language));
-        let bodies = bodies.iter().map(|body| field(0x31, body));
-        languages.chain(bodies).chain([field(0x32, term)]).collect::<Vec<_>>().concat()
     }
 
     /// The example of 71 bytes.

@@ -1,6 +1,6 @@
 use mathlib.Core.Path.{refl}
 use native.Mathlib.Omega.{arith}
-use Rattle.reader.proofs.Check.{zeros}
+use Rattle.reader.proofs.Lookup.{zeros}
 use Rattle.emitter.proofs.Tables.{ready}
 use borrow.Author.Needs.{needs}
 use Rattle.emitter.proofs.prepare.fill_all.Statement.{statement}

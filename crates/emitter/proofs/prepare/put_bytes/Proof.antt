@@ -3,8 +3,8 @@ use mathlib.Core.Path.{_≡_, refl}
 use native.Mathlib.Omega.{arith}
 use lib.ListN.{length, take}
 use borrow.Author.Needs.{needs}
-use Rattle.emitter.specs.Inner.Stands.{spliced}
-use Rattle.emitter.proofs.Standing.{nothing-spliced}
+use Rattle.fields.specs.Inner.Writing.{spliced}
+use Rattle.fields.proofs.Splices.{nothing-spliced}
 use Rattle.emitter.proofs.Tables.{byte-put, bytes-put}
 use Rattle.emitter.proofs.prepare.put_bytes.Statement.{statement}
 use Rattle.emitter.proofs.prepare.put_bytes.Tie as tie

@@ -1,31 +1,41 @@
 use borrow.Author.Needs.{needs}
+use native.Mathlib.Omega.{arith}
 use Prim.Native.Nat.{_-_}
 use mathlib.Core.Path.{_≡_, refl}
+use mathlib.Core.Bool.{true}
 use lib.ListN.{length}
+use Rattle.fields.specs.Lists.{all}
 use Rattle.fields.specs.Keyed.{rising, risingFrom}
-use Rattle.fields.specs.Inner.Places.{placesFrom, places, keyAt}
+use Rattle.fields.specs.Inner.Places.{placesFrom, places, keyAt, longAt}
 use Rattle.fields.proofs.Keys.{keys-done, keys-stop, keys-next}
+use Rattle.fields.proofs.Places.{every-here, every-after, long-here}
 use Rattle.fields.proofs.walk.keys_rise.Statement.{statement}
 use Rattle.fields.proofs.walk.keys_rise.Tie as tie
 
 abbrev Inv-loop : tie.InvT-loop
-Inv-loop s first least₀ p₀ least p = risingFrom (keyAt first s) least (placesFrom s p) ≡ rising (keyAt first s) (places s)
+Inv-loop s leading least₀ p₀ least p = (all (longAt s) (placesFrom s p) ≡ true) × (risingFrom (keyAt leading s) least (placesFrom s p) ≡ rising (keyAt leading s) (places s))
 
 abbrev μ-loop : tie.MeasureT-loop
-μ-loop s first least₀ p₀ least p = length s - p
+μ-loop s leading least₀ p₀ least p = length s - p
 
 loop-holds : tie.Need-loop-holds Inv-loop μ-loop
 unfolding rising
-loop-holds c = refl
+loop-holds c = (c .before .pre, refl)
+
+whole-key-requires : tie.Need-whole-key-requires Inv-loop μ-loop
+whole-key-requires c κs = let k = long-here _ _ (every-here _ _ _ (c .before .loop .inv .0) (c .loop-test .taken) .0) in omega (arith, k)
 
 returns : tie.Need-returns Inv-loop μ-loop
-returns c = keys-stop _ _ _ _ _ (c .before .before .before .loop .inv) _ (c .before .before .loop-test .taken) (c .before .key-at .ensures .0) (c .if1 .taken)
+returns c = keys-stop _ _ _ _ _ (c .before .before .before .loop .inv .1) _ (c .before .before .loop-test .taken) (c .before .whole-key .ensures .0) (c .if1 .taken)
+
+whole-end-requires : tie.Need-whole-end-requires Inv-loop μ-loop
+whole-end-requires c κs = let k = long-here _ _ (every-here _ _ _ (c .before .before .before .loop .inv .0) (c .before .before .loop-test .taken) .0) in omega (arith, k)
 
 loop-again : tie.Need-loop-again Inv-loop μ-loop
-loop-again c = keys-next _ _ _ _ _ (c .before .before .before .before .loop .inv) _ _ (c .before .before .before .loop-test .taken) (c .before .before .key-at .ensures .0) (c .field-end .ensures .is) (c .before .if1 .left)
+loop-again c = (every-after _ _ _ _ (c .whole-end .ensures .is) (c .before .before .before .before .loop .inv .0) (c .before .before .before .loop-test .taken), keys-next _ _ _ _ _ (c .before .before .before .before .loop .inv .1) _ _ (c .before .before .before .loop-test .taken) (c .before .before .whole-key .ensures .0) (c .whole-end .ensures .is) (c .before .if1 .left))
 
 returns-2 : tie.Need-returns-2 Inv-loop μ-loop
-returns-2 c = keys-done _ _ _ _ _ (c .before .loop .inv) (c .loop-test .left)
+returns-2 c = keys-done _ _ _ _ _ (c .before .loop .inv .1) (c .loop-test .left)
 
 pub keys-rise-spec : {M : Type 1} → statement M
 keys-rise-spec =
@@ -34,10 +44,10 @@ keys-rise-spec =
     Inv-loop
     μ-loop
     loop-holds
-    (λ c κs. search needs)
+    whole-key-requires
     returns
     (λ c. search needs)
-    (λ c κs. search needs)
+    whole-end-requires
     (λ c. search needs)
     loop-again
     returns-2)

@@ -1,4 +1,6 @@
-use mathlib.Core.Path.{_∙_}
+use mathlib.Core.Path.{sym, _∙_}
+use Rattle.language.proofs.Facts.{entries-long}
+use Rattle.language.proofs.Holds.{entries-there}
 use borrow.Author.Tests.{not-true, not-false}
 use Rattle.language.proofs.Chain.{too-long, broken, out-of-order, clash, accepted}
 use borrow.Author.Needs.{needs}
@@ -10,6 +12,12 @@ returns c = c .refuse .ensures ∙ too-long _ (c .before .if1 .taken)
 
 returns-2 : tie.Need-returns-2
 returns-2 c = c .refuse2 .ensures ∙ broken _ (c .before .before .before .if1 .left) _ (c .before .before .entries-whole .ensures) (not-true _ (c .before .if2 .taken))
+
+keys-rise-requires : tie.Need-keys-rise-requires
+keys-rise-requires c κs = entries-long _ (entries-there _ ∙ sym (c .before .entries-whole .ensures) ∙ not-false _ (c .if2 .left))
+
+result-is-class-requires : tie.Need-result-is-class-requires
+result-is-class-requires c κs = record { whole = entries-there _ ∙ sym (c .before .before .before .entries-whole .ensures) ∙ not-false _ (c .before .before .if2 .left); rises = sym (c .before .keys-rise .ensures) ∙ not-false _ (c .if3 .left) }
 
 returns-3 : tie.Need-returns-3
 returns-3 c = c .refuse3 .ensures ∙ out-of-order _ (c .before .before .before .before .before .if1 .left) _ (c .before .before .before .before .entries-whole .ensures) (not-false _ (c .before .before .before .if2 .left)) _ (c .before .before .keys-rise .ensures) (not-true _ (c .before .if3 .taken))
@@ -29,10 +37,10 @@ check-language-spec =
     (λ c κs. search needs)
     (λ c κs. search needs)
     returns-2
-    (λ c κs. search needs)
+    keys-rise-requires
     (λ c κs. search needs)
     returns-3
-    (λ c κs. search needs)
+    result-is-class-requires
     (λ c κs. search needs)
     returns-4
     (λ c κs. search needs)

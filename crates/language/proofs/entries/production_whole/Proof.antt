@@ -11,10 +11,10 @@ returns-2 : tie.Need-returns-2
 returns-2 c = production-long _ _ _ _ (c .before .before .before .pre .1) refl (c .before .if1 .left) (c .if2 .taken)
 
 returns-3 : tie.Need-returns-3
-returns-3 c = production-kind _ _ _ _ (c .before .before .before .before .before .pre .1) (c .before .byte-at .ensures) (c .before .before .before .if1 .left) (c .before .before .if2 .left) (c .if3 .taken)
+returns-3 c = production-kind _ _ _ _ (c .before .before .before .before .before .pre .1) refl (c .before .before .before .if1 .left) (c .before .before .if2 .left) (c .if3 .taken)
 
 returns-4 : tie.Need-returns-4
-returns-4 c = production-kinds _ _ _ _ (c .before .before .before .before .before .before .pre .1) (c .before .before .byte-at .ensures) (c .before .before .before .before .if1 .left) (c .before .before .before .if2 .left) (c .before .if3 .left) _ (c .kinds-only .ensures)
+returns-4 c = production-kinds _ _ _ _ (c .before .before .before .before .before .before .pre .1) refl (c .before .before .before .before .if1 .left) (c .before .before .before .if2 .left) (c .before .if3 .left) _ (c .kinds-only .ensures)
 
 pub production-whole-spec : {M : Type 1} → statement M
 production-whole-spec =
@@ -23,7 +23,7 @@ production-whole-spec =
     returns
     returns-2
     (λ c. search needs)
-    (λ c κs. search needs)
+    (λ c. search needs)
     returns-3
     (λ c. search needs)
     (λ c. search needs)

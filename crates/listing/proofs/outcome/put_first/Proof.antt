@@ -1,6 +1,6 @@
 use borrow.Author.Needs.{needs}
 use native.Mathlib.Omega.{arith}
-use Rattle.listing.proofs.Told.{puts-first}
+use Rattle.listing.proofs.WholeText.{puts-first}
 use Rattle.listing.proofs.outcome.put_first.Statement.{statement}
 use Rattle.listing.proofs.outcome.put_first.Tie as tie
 

@@ -2,7 +2,7 @@ use borrow.Author.Needs.{needs}
 use mathlib.Core.Path.{sym}
 use native.Mathlib.Omega.{arith}
 use lib.Seq.{length-take-le}
-use Rattle.listing.proofs.Told.{number-small, clauses-fit, told-accepted, told-refused}
+use Rattle.listing.proofs.WholeText.{number-small, clauses-fit, text-accepted, text-refused}
 use Rattle.listing.proofs.outcome.put_outcome.Statement.{statement}
 use Rattle.listing.proofs.outcome.put_outcome.Tie as tie
 
@@ -19,10 +19,10 @@ put-first-requires-2 : tie.Need-put-first-requires-2
 put-first-requires-2 c κs = (omega (arith, c .before .number .ensures, number-small (c .before .before .before .before .before .before .before .args .outcome)), omega arith)
 
 returns : tie.Need-returns
-returns c = told-accepted _ _ _ _ (c .before .before .before .before .before .before .before .before .before .before .before .outcome .given .1) _ _ _ _ _ (c .before .before .before .before .before .before .before .put-first .ensures .0) (c .before .before .put-clauses .ensures)
+returns c = text-accepted _ _ _ _ (c .before .before .before .before .before .before .before .before .before .before .before .outcome .given .1) _ _ _ _ _ (c .before .before .before .before .before .before .before .put-first .ensures .0) (c .before .before .put-clauses .ensures)
 
 returns-2 : tie.Need-returns-2
-returns-2 c = told-refused _ _ _ _ (c .before .before .before .before .before .before .enum-told .given .1) _ (c .before .before .before .before .number .ensures) _ _ _ (c .before .before .put-first2 .ensures .0)
+returns-2 c = text-refused _ _ _ _ (c .before .before .before .before .before .before .enum-told .given .1) _ (c .before .before .before .before .number .ensures) _ _ _ (c .before .before .put-first2 .ensures .0)
 
 pub put-outcome-spec : {M : Type 1} → statement M
 put-outcome-spec =

@@ -1,24 +1,19 @@
-use borrow.Author.Needs.{needs}
 use native.Mathlib.Omega.{arith}
 use Prim.Native.Nat.{_-_}
-use mathlib.Core.Path.{_≡_}
+use mathlib.Core.Path.{_≡_, refl}
 use mathlib.Core.Bool.{true}
 use lib.ListN.{length, getElem?}
 use Rattle.fields.specs.Lists.{all, keep}
-use Rattle.fields.specs.Inner.Places.{isWhole, placesFrom}
-use Rattle.fields.proofs.Places.{every-here}
-use Rattle.pack.specs.Inner.Parts.{isTag, tagged}
-use Rattle.pack.proofs.Passes.{whole-next}
+use Rattle.fields.specs.Inner.Places.{isWhole, placesFrom, tagIs}
+use Rattle.pack.specs.Inner.Parts.{tagged}
 use Rattle.pack.proofs.Standing.{place-start, place-none, place-next, place-other, stands-here}
+use Rattle.fields.proofs.Places.{head-there, every-here, every-after}
+use borrow.Author.Needs.{needs}
 use Rattle.pack.proofs.parts.field_place.Statement.{statement}
 use Rattle.pack.proofs.parts.field_place.Tie as tie
-use Rattle.pack.proofs.parts.field_place.Reads as reads
-use Rattle.pack.proofs.parts.field_place.Lts as lts
-use Rattle.fields.proofs.bytes.byte_at.Reads as byte-at-reads
-use Rattle.fields.proofs.walk.field_end.Reads as field-end-reads
 
 abbrev Inv-loop : tie.InvT-loop
-Inv-loop s tag number left₀ p₀ left p = (all (isWhole s) (placesFrom s p) ≡ true) × (getElem? (keep (isTag tag s) (placesFrom s p)) left ≡ getElem? (tagged tag s) number)
+Inv-loop s tag number left₀ p₀ left p = (all (isWhole s) (placesFrom s p) ≡ true) × (getElem? (keep (tagIs tag s) (placesFrom s p)) left ≡ getElem? (tagged tag s) number)
 
 abbrev μ-loop : tie.MeasureT-loop
 μ-loop s tag number left₀ p₀ left p = length s - p
@@ -26,14 +21,17 @@ abbrev μ-loop : tie.MeasureT-loop
 loop-holds : tie.Need-loop-holds Inv-loop μ-loop
 loop-holds c = (c .before .pre, place-start _ _ _)
 
+whole-end-requires : tie.Need-whole-end-requires Inv-loop μ-loop
+whole-end-requires c κs = head-there _ _ (every-here _ _ _ (c .before .loop .inv .0) (c .loop-test .taken) .0)
+
 returns : tie.Need-returns Inv-loop μ-loop
-returns c = stands-here _ _ _ _ _ (c .before .before .before .before .before .loop .inv .1) _ (c .before .before .before .field-end .ensures .is) (c .before .before .before .before .loop-test .taken) _ (c .before .before .byte-at .ensures) (c .before .if1 .taken) (c .if2 .taken) (every-here _ _ _ (c .before .before .before .before .before .loop .inv .0) (c .before .before .before .before .loop-test .taken) .0)
+returns c = stands-here _ _ _ _ _ (c .before .before .before .before .before .loop .inv .1) _ (c .before .before .before .whole-end .ensures .is) (c .before .before .before .before .loop-test .taken) _ refl (c .before .if1 .taken) (c .if2 .taken) (every-here _ _ _ (c .before .before .before .before .before .loop .inv .0) (c .before .before .before .before .loop-test .taken) .0)
 
 loop-again : tie.Need-loop-again Inv-loop μ-loop
-loop-again c = (whole-next _ _ _ _ (c .before .before .before .field-end .ensures .is) (c .before .before .before .before .before .loop .inv .0) (c .before .before .before .before .loop-test .taken), place-next _ _ _ _ _ (c .before .before .before .before .before .loop .inv .1) _ (c .before .before .before .field-end .ensures .is) (c .before .before .before .before .loop-test .taken) _ (c .before .before .byte-at .ensures) (c .before .if1 .taken) (c .if2 .left))
+loop-again c = (every-after _ _ _ _ (c .before .before .before .whole-end .ensures .is) (c .before .before .before .before .before .loop .inv .0) (c .before .before .before .before .loop-test .taken), place-next _ _ _ _ _ (c .before .before .before .before .before .loop .inv .1) _ (c .before .before .before .whole-end .ensures .is) (c .before .before .before .before .loop-test .taken) _ refl (c .before .if1 .taken) (c .if2 .left))
 
 loop-again-2 : tie.Need-loop-again-2 Inv-loop μ-loop
-loop-again-2 c = (whole-next _ _ _ _ (c .before .before .field-end .ensures .is) (c .before .before .before .before .loop .inv .0) (c .before .before .before .loop-test .taken), place-other _ _ _ _ _ (c .before .before .before .before .loop .inv .1) _ (c .before .before .field-end .ensures .is) (c .before .before .before .loop-test .taken) _ (c .before .byte-at .ensures) (c .if1 .left))
+loop-again-2 c = (every-after _ _ _ _ (c .before .before .whole-end .ensures .is) (c .before .before .before .before .loop .inv .0) (c .before .before .before .loop-test .taken), place-other _ _ _ _ _ (c .before .before .before .before .loop .inv .1) _ (c .before .before .whole-end .ensures .is) (c .before .before .before .loop-test .taken) _ refl (c .if1 .left))
 
 returns-2 : tie.Need-returns-2 Inv-loop μ-loop
 returns-2 c = record { past = omega arith; inside = omega arith; is = λ q e. place-none (c .before .before .before .args .tag) (c .before .before .before .args .s .now) (c .before .loop .p) (c .before .loop .left) _ (c .before .loop .inv .1) (c .loop-test .left) q e }
@@ -45,8 +43,8 @@ field-place-spec =
     Inv-loop
     μ-loop
     loop-holds
-    (λ c κs. search needs)
-    (λ c κs. search needs)
+    whole-end-requires
+    (λ c. search needs)
     (λ c. search needs)
     returns
     (λ c. search needs)

@@ -1,14 +1,14 @@
+use Rattle.pack.proofs.Standing.{accepted-whole}
 use Rattle.pack.proofs.Readings.{term-refused, term-left, term-accepted, end-in}
 use borrow.Author.Needs.{needs}
 use Rattle.pack.proofs.term.check_term.Statement.{statement}
 use Rattle.pack.proofs.term.check_term.Tie as tie
-use Rattle.pack.proofs.term.check_term.Reads as reads
-use Rattle.pack.proofs.term.check_term.Lts as lts
-use Rattle.fields.proofs.outcome.accept.Reads as accept-reads
-use Rattle.fields.proofs.outcome.refuse.Reads as refuse-reads
-use Rattle.pack.proofs.parts.term_start.Reads as term-start-reads
-use Rattle.pack.proofs.term.term_end.Reads as term-end-reads
-use Rattle.pack.proofs.whole.count_tag.Reads as count-tag-reads
+
+count-tag-requires : tie.Need-count-tag-requires
+count-tag-requires c κs = accepted-whole _ (c .before .before .pre .0) (c .before .before .pre .1)
+
+count-tag-requires-2 : tie.Need-count-tag-requires-2
+count-tag-requires-2 c κs = accepted-whole _ (c .before .before .before .pre .0) (c .before .before .before .pre .1)
 
 returns : tie.Need-returns
 returns c = λ p e. term-refused _ p e (c .before .before .before .before .before .before .term-start .result) _ _ (c .before .before .before .before .before .before .term-start .ensures .1 p e) (c .before .before .before .before .before .count-tag .ensures) (c .before .before .before .before .count-tag2 .ensures) _ (c .before .before .before .term-end .ensures .0) (c .before .enum-told .given .1) (c .refuse .ensures)
@@ -24,8 +24,8 @@ check-term-spec =
     tie.close
     (tie.spec
     (λ c κs. search needs)
-    (λ c κs. search needs)
-    (λ c κs. search needs)
+    count-tag-requires
+    count-tag-requires-2
     (λ c κs. search needs)
     (λ c. search needs)
     (λ c. search needs)

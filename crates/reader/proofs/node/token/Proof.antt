@@ -5,7 +5,7 @@ use Rattle.reader.proofs.node.token.Statement.{statement}
 use Rattle.reader.proofs.node.token.Tie as tie
 use Rattle.reader.proofs.node.token.Reads as reads
 use Rattle.reader.proofs.node.token.Lts as lts
-use Rattle.reader.proofs.node.pair_in.Reads as pair-in-reads
+use Rattle.fields.proofs.bytes.pair_in.Reads as pair-in-reads
 
 returns : tie.Need-returns
 returns c = (token-none _ _ _ _ (c .if1 .taken), tt)

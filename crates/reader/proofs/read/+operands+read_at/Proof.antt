@@ -16,7 +16,7 @@ use Rattle.reader.proofs.read.read_at.Kinds as read-at-kinds
 use Rattle.reader.proofs.read.+operands+read_at.Lts-read_at as read-at-lts
 use Rattle.reader.proofs.node.name_length.Reads as name-length-reads
 use Rattle.reader.proofs.node.node_at.Reads as node-at-reads
-use Rattle.reader.proofs.node.pair_in.Reads as pair-in-reads
+use Rattle.fields.proofs.bytes.pair_in.Reads as pair-in-reads
 use Rattle.reader.proofs.node.production_place.Reads as production-place-reads
 use Rattle.reader.proofs.node.token.Reads as token-reads
 use Rattle.reader.proofs.read.class_place.Reads as class-place-reads

@@ -1,17 +1,17 @@
 use native.Mathlib.Omega.{arith}
-use Rattle.reducer.proofs.Readied.{deliver-refused, deliver-inside, deliver-done}
+use Rattle.reducer.proofs.Operation.{deliver-refused, deliver-left, deliver-done}
 use borrow.Author.Needs.{needs}
 use Rattle.reducer.proofs.reduce.deliver.Statement.{statement}
 use Rattle.reducer.proofs.reduce.deliver.Tie as tie
 
-put-requires : tie.Need-put-requires
-put-requires c κs = (record { rise = omega arith; fits = deliver-inside _ _ _ _ (c .before .before .before .before .before .before .pre .0 .1 .1 .1) (c .before .before .worked2 .given .1) }, omega arith)
+write-requires : tie.Need-write-requires
+write-requires c κs = let h = deliver-left _ _ _ _ (c .before .before .before .before .before .before .pre .0 .1 .1 .1) (c .before .before .evaluated2 .given .1) in (h .inside, omega (arith, h .short, c .before .before .before .before .before .before .pre .1))
 
 returns : tie.Need-returns
-returns c = λ o term rest s. deliver-refused o term rest (c .before .before .before .before .before .before .args .buffer .now) s _ (c .before .before .worked .given .1) (c .refuse .ensures)
+returns c = λ o bytes rest s. deliver-refused o bytes rest (c .before .before .before .before .before .before .args .buffer .now) s _ (c .before .before .evaluated .given .1) (c .refuse .ensures)
 
 returns-2 : tie.Need-returns-2
-returns-2 c = λ o term rest s. deliver-done o term rest (c .before .before .before .before .before .before .before .before .before .before .args .buffer .now) s (c .before .before .before .before .before .before .before .before .before .before .args .output .now) _ (c .before .before .before .before .before .before .worked2 .given .1) (c .before .before .before .before .before .before .before .before .before .before .pre .1) (c .before .before .before .put .ensures) (c .accept .ensures)
+returns-2 c = λ o bytes rest s. deliver-done o bytes rest (c .before .before .before .before .before .before .before .before .before .args .buffer .now) s (c .before .before .before .before .before .before .before .before .before .args .output .now) _ (c .before .before .before .before .before .evaluated2 .given .1) (c .before .before .write .ensures)
 
 pub deliver-spec : {M : Type 1} → statement M
 deliver-spec =
@@ -20,8 +20,7 @@ deliver-spec =
     (λ c. search needs)
     (λ c κs. search needs)
     (λ c. search needs)
-    put-requires
-    (λ c κs. search needs)
+    write-requires
     returns
     (λ c. search needs)
     returns-2)

@@ -3,7 +3,7 @@ use Rattle.pack.specs.Pack.{termOf}
 use Rattle.fields.proofs.Truth.{or-left, or-right, false-or}
 use borrow.Author.Tests.{lt-ltb, le-ltb}
 use mathlib.Core.Bool.{true, false}
-use Rattle.reducer.proofs.Readied.{checked-value, ready-pack, ready-term, ready-room}
+use Rattle.reducer.proofs.Operation.{checked-value, ready-pack, ready-term, ready-room}
 use borrow.Author.Needs.{needs}
 use Rattle.reducer.proofs.reduce.ready.Statement.{statement}
 use Rattle.reducer.proofs.reduce.ready.Tie as tie

@@ -1,5 +1,5 @@
 use native.Mathlib.Omega.{arith}
-use Rattle.reducer.proofs.Readied.{reduce-ready, reduce-refused, reduce-done}
+use Rattle.reducer.proofs.Operation.{reduce-ready, reduce-refused, reduce-done}
 use borrow.Author.Needs.{needs}
 use Rattle.reducer.proofs.reduce.reduce.Statement.{statement}
 use Rattle.reducer.proofs.reduce.reduce.Tie as tie

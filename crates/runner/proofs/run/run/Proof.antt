@@ -1,6 +1,6 @@
 use borrow.Author.Needs.{needs}
 use native.Mathlib.Omega.{arith}
-use Rattle.translation.proofs.Chain.{accepts}
+use Rattle.translation.proofs.Accepted.{accepts}
 use Rattle.runner.proofs.Laws.{parts-checked, run-refused, root-past, run-accepted}
 use Rattle.runner.proofs.run.run.Statement.{statement}
 use Rattle.runner.proofs.run.run.Tie as tie
@@ -8,7 +8,7 @@ use Rattle.runner.proofs.run.run.Reads as reads
 use Rattle.runner.proofs.run.run.Lts as lts
 use Rattle.fields.proofs.outcome.refuse.Reads as refuse-reads
 use Rattle.runner.proofs.run.run_parts.Reads as run-parts-reads
-use Rattle.translation.proofs.check.check_translation.Reads as check-translation-reads
+use Rattle.checks.proofs.translations.check_translation.Reads as check-translation-reads
 use Rattle.translation.proofs.parts.body_of.Reads as body-of-reads
 use Rattle.translation.proofs.parts.source_of.Reads as source-of-reads
 use Rattle.translation.proofs.parts.target_of.Reads as target-of-reads

@@ -1,7 +1,7 @@
 use mathlib.Core.Path.{refl}
 use native.Mathlib.Omega.{arith}
 use borrow.Author.Tests.{not-true, not-false}
-use Rattle.reader.proofs.Check.{zeros}
+use Rattle.reader.proofs.Lookup.{zeros}
 use Rattle.runner.proofs.Learning.{learnt-right}
 use Rattle.runner.proofs.Laws.{rises, formed, source-apart, kind-out, tree-deep, tree-broken, tree-more, tree-whole, tree-long, tree-fits}
 use borrow.Author.Needs.{needs}

@@ -1,5 +1,5 @@
 use borrow.Author.Needs.{needs}
-use Rattle.reader.proofs.Check.{zeros}
+use Rattle.reader.proofs.Lookup.{zeros}
 use Rattle.runner.proofs.run.run_parts.Statement.{statement}
 use Rattle.runner.proofs.run.run_parts.Tie as tie
 use Rattle.runner.proofs.run.run_parts.Reads as reads

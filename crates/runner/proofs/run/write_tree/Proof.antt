@@ -1,6 +1,6 @@
 use mathlib.Core.List.{[]}
 use native.Mathlib.Omega.{arith}
-use Rattle.reader.proofs.Check.{zeros}
+use Rattle.reader.proofs.Lookup.{zeros}
 use Rattle.runner.proofs.Laws.{tree-asks, tree-written, tree-full}
 use borrow.Author.Needs.{needs}
 use Rattle.runner.proofs.run.write_tree.Statement.{statement}

@@ -1,20 +1,17 @@
-use Rattle.translation.proofs.Items.{mapping-size, mapping-source, mapping-target}
 use mathlib.Core.Path.{refl}
+use Rattle.translation.proofs.Items.{mapping-size, mapping-source, mapping-target}
 use borrow.Author.Needs.{needs}
 use Rattle.translation.proofs.body.mapping_whole.Statement.{statement}
 use Rattle.translation.proofs.body.mapping_whole.Tie as tie
-use Rattle.translation.proofs.body.mapping_whole.Reads as reads
-use Rattle.translation.proofs.body.mapping_whole.Lts as lts
-use Rattle.fields.proofs.bytes.byte_at.Reads as byte-at-reads
 
 returns : tie.Need-returns
-returns c = mapping-size _ _ _ _ (c .before .before .pre .1) refl (c .if1 .taken)
+returns c = mapping-size _ _ _ _ (c .before .pre .1) refl (c .if1 .taken)
 
 returns-2 : tie.Need-returns-2
-returns-2 c = mapping-source _ _ _ _ (c .before .before .before .before .pre .1) (c .before .byte-at .ensures) (c .before .before .if1 .left) (c .if2 .taken)
+returns-2 c = mapping-source _ _ _ _ (c .before .before .before .pre .1) refl (c .before .before .if1 .left) (c .if2 .taken)
 
 returns-3 : tie.Need-returns-3
-returns-3 c = mapping-target _ _ _ _ (c .before .before .before .before .before .pre .1) (c .before .before .byte-at .ensures) (c .before .before .before .if1 .left) (c .before .if2 .left) _ (c .byte-at2 .ensures)
+returns-3 c = mapping-target _ _ _ _ (c .before .before .before .before .pre .1) refl (c .before .before .before .if1 .left) (c .before .if2 .left) _ refl
 
 pub mapping-whole-spec : {M : Type 1} → statement M
 mapping-whole-spec =
@@ -22,8 +19,8 @@ mapping-whole-spec =
     (tie.spec
     returns
     (λ c. search needs)
-    (λ c κs. search needs)
+    (λ c. search needs)
     returns-2
     (λ c. search needs)
-    (λ c κs. search needs)
+    (λ c. search needs)
     returns-3)

@@ -1,16 +1,17 @@
-use Rattle.translation.proofs.Found.{source-in, parted}
+use mathlib.Core.Path.{refl}
+use Rattle.translation.proofs.Found.{heads-in, parted}
 use borrow.Author.Needs.{needs}
 use Rattle.translation.proofs.parts.parts_of.Statement.{statement}
 use Rattle.translation.proofs.parts.parts_of.Tie as tie
-use Rattle.translation.proofs.parts.parts_of.Reads as reads
-use Rattle.translation.proofs.parts.parts_of.Lts as lts
-use Rattle.fields.proofs.walk.field_end.Reads as field-end-reads
 
-field-end-requires-2 : tie.Need-field-end-requires-2
-field-end-requires-2 c κs = source-in _ _ (c .field-end .ensures .is) (c .before .before .pre)
+whole-end-requires : tie.Need-whole-end-requires
+whole-end-requires c κs = heads-in _ _ refl (c .before .pre) .0
+
+whole-end-requires-2 : tie.Need-whole-end-requires-2
+whole-end-requires-2 c κs = heads-in _ _ (c .whole-end .ensures .is) (c .before .before .pre) .1
 
 returns : tie.Need-returns
-returns c = λ f e. parted _ _ (c .before .field-end .ensures .is) _ (c .field-end2 .ensures .is) f e
+returns c = λ f e. parted _ _ (c .before .whole-end .ensures .is) _ (c .whole-end2 .ensures .is) f e
 
 pub parts-of-spec : {M : Type 1} → statement M
-parts-of-spec = tie.close (tie.spec (λ c κs. search needs) field-end-requires-2 returns)
+parts-of-spec = tie.close (tie.spec whole-end-requires whole-end-requires-2 returns)

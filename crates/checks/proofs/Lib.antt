@@ -1,0 +1,2 @@
+pub mod TreeChain
+pub mod TranslationChain

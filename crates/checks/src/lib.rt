@@ -1,0 +1,3 @@
+// The operations that check a tree and a translation.
+pub mod translations;
+pub mod trees;

@@ -1,0 +1,70 @@
+// The operation on trees.
+ghost use mathlib.Core.Path.{_≡_};
+ghost use mathlib.Core.Option.{some};
+ghost use Prim.Native.Nat.{_<_, _≤_};
+ghost use lib.ListN.{length};
+ghost use Rattle.fields.specs.Outcome.{checked};
+ghost use Rattle.language.specs.Language.{Language};
+ghost use Rattle.language.specs.LanguageFile.{entriesOf};
+ghost use Rattle.reader.specs.Operations.{treeOf, checkTree};
+ghost use Rattle.checks.specs.Inner.Chains.{wholeAt};
+use fields::outcome::Answer;
+use fields::outcome::Outcome;
+use fields::outcome::Reason;
+use fields::outcome::accept;
+use fields::outcome::refuse;
+use language::check::check_language;
+use reader::index::INDEX;
+use reader::index::build;
+use reader::kinds::is_in;
+use reader::node::Read;
+use reader::node::Syntax;
+use reader::read::read;
+
+// What was read, with nothing after it.
+fn whole_tree(read: Read, length: usize) -> Answer
+    ensures { λ r. ⌜ r .outcome ≡ wholeAt read length ⌝ }
+{
+    match read {
+        Read::End(e) => {
+            if e == length {
+                accept(0)
+            } else {
+                refuse(Reason::IllegalTree)
+            }
+        }
+        Read::Deep => refuse(Reason::TooDeep),
+        Read::Broken => refuse(Reason::IllegalTree),
+    }
+}
+
+// The tree of a kind, of a language that is whole: 14 to 16.
+fn check_kind(language: &[u8], kind: u8, tree: &[u8]) -> Answer
+    requires { ⌜ (length (now language) ≤ 1024) × (kind < 32) × ((l : Language) × (entriesOf (now language) ≡ some l)) ⌝ }
+    ensures { λ r. ⌜ ((l : Language) → entriesOf (now (language .entry)) ≡ some l → r .outcome ≡ checked (treeOf l kind (now (tree .entry)))) ⌝ }
+{
+    if !is_in(language, kind) {
+        return refuse(Reason::UnknownRoot);
+    }
+    let mut index = [0u16; INDEX];
+    build(language, &mut index);
+    whole_tree(
+        read(Syntax::Tree, language, &index, &[], kind, tree, 0, 64),
+        tree.len(),
+    )
+}
+
+// Check a tree: 1 to 4 for the language, 14 for the root, then 15 and 16 in reading order.
+pub fn check_tree(language: &[u8], root: u32, tree: &[u8]) -> Answer
+    ensures { λ r. ⌜ r .outcome ≡ checkTree (now (language .entry)) root (now (tree .entry)) ⌝ }
+{
+    let answer = check_language(language);
+    let outcome = answer.outcome;
+    if let Outcome::Refused(reason) = outcome {
+        return refuse(reason);
+    }
+    if 31 < root {
+        return refuse(Reason::UnknownRoot);
+    }
+    check_kind(language, root as u8, tree)
+}

@@ -1,0 +1,4 @@
+pub mod Evaluated
+pub mod Standing
+pub mod Holding
+pub mod Giving

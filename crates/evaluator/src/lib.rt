@@ -1,0 +1,2 @@
+// The evaluation of terms over a store.
+pub mod terms;

@@ -1,4 +1,0 @@
-pub mod Splices
-pub mod Told
-pub mod Turns
-pub mod Joined

@@ -1,0 +1,4 @@
+pub mod Splices
+pub mod Operands
+pub mod Turns
+pub mod Joined

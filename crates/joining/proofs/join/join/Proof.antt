@@ -1,0 +1,31 @@
+use native.Mathlib.Omega.{arith}
+use Rattle.operators.proofs.TranslationLaws.{accepted-spelt}
+use borrow.Author.Needs.{needs}
+use Rattle.joining.proofs.join.join.Statement.{statement}
+use Rattle.joining.proofs.join.join.Tie as tie
+use Rattle.joining.proofs.join.join.Reads as reads
+use Rattle.joining.proofs.join.join.Lts as lts
+use Rattle.translation.proofs.parts.body_of.Reads as body-of-reads
+use Rattle.translation.proofs.parts.source_of.Reads as source-of-reads
+use Rattle.translation.proofs.parts.target_of.Reads as target-of-reads
+use Rattle.joining.proofs.join.join_parts.Reads as join-parts-reads
+
+join-parts-requires : tie.Need-join-parts-requires
+join-parts-requires c κs = ((_, accepted-spelt _ _ (c .before .before .before .before .before .before .before .before .before .before .pre .0 .1) (λ i. omega (arith, c .before .before .before .before .before .before .before .before .before .shared-slice-known .given i)) _ _ _ (c .before .before .before .before .before .before .source-of .ensures) (c .before .before .before .before .before .target-of .ensures) (c .before .before .before .before .body-of .ensures)), (_, accepted-spelt _ _ (c .before .before .before .before .before .before .before .before .before .before .pre .1 .1) (λ i. omega (arith, c .before .before .before .before .before .before .before .before .shared-slice-known2 .given i)) _ _ _ (c .before .before .before .source-of2 .ensures) (c .before .before .target-of2 .ensures) (c .before .body-of2 .ensures)), c .before .before .before .before .before .before .before .before .before .before .pre .2)
+
+returns : tie.Need-returns
+returns c = λ f g e d. c .before .before .join-parts .ensures f g (accepted-spelt _ f e (λ i. omega (arith, c .before .before .before .before .before .before .before .before .before .before .before .before .shared-slice-known .given i)) _ _ _ (c .before .before .before .before .before .before .before .before .before .source-of .ensures) (c .before .before .before .before .before .before .before .before .target-of .ensures) (c .before .before .before .before .before .before .before .body-of .ensures)) (accepted-spelt _ g d (λ i. omega (arith, c .before .before .before .before .before .before .before .before .before .before .before .shared-slice-known2 .given i)) _ _ _ (c .before .before .before .before .before .before .source-of2 .ensures) (c .before .before .before .before .before .target-of2 .ensures) (c .before .before .before .before .body-of2 .ensures))
+
+pub join-spec : {M : Type 1} → statement M
+join-spec =
+    tie.close
+    (tie.spec
+    (λ c κs. search needs)
+    (λ c κs. search needs)
+    (λ c κs. search needs)
+    (λ c κs. search needs)
+    (λ c κs. search needs)
+    (λ c κs. search needs)
+    join-parts-requires
+    (λ c. search needs)
+    returns)

@@ -1,0 +1,151 @@
+// The join of two translations.
+ghost use mathlib.Core.Path.{_≡_};
+ghost use mathlib.Core.Bool.{true};
+ghost use mathlib.Core.List.{List};
+ghost use Prim.Native.Nat.{ℕ, _≤_};
+ghost use lib.ListN.{length};
+ghost use Rattle.fields.specs.Outcome.{value};
+ghost use Rattle.language.specs.LanguageFile.{encodeLanguage};
+ghost use Rattle.translation.specs.Translation.{Translation};
+ghost use Rattle.translation.specs.TranslationFile.{translationOf};
+ghost use Rattle.translation.specs.Operations.{checkTranslation};
+ghost use Rattle.operators.specs.Operators.{joinFits, joined, translationJoin};
+ghost use Rattle.fields.specs.Inner.Writing.{Stores};
+ghost use Rattle.operators.specs.Inner.Values.{Gives, translationBytes};
+ghost use Rattle.operators.specs.Inner.EncodedParts.{EncodedParts};
+ghost use Rattle.joining.specs.Inner.Joining.{Held, Fitted, joinedBody, measured};
+use super::body::join_items;
+use checks::translations::check_translation;
+use emitter::prepare::prepare;
+use fields::copy::Stored;
+use fields::outcome::Outcome;
+use fields::outcome::Reason;
+use merging::within::lies_within;
+use operators::assemble::assemble;
+use reader::index::INDEX;
+use reader::index::TABLE;
+use reader::index::put_all;
+use translation::index::build_items;
+use translation::index::map_kinds;
+use translation::parts::body_of;
+use translation::parts::source_of;
+use translation::parts::target_of;
+
+// The body of the join of two translations that fit, by the source, target and body of the first and the body of the
+// second: through the table of the first's run, the kinds that it maps to, and an index of the second's items.
+fn join_body(
+    first_source: &[u8],
+    first_target: &[u8],
+    first_body: &[u8],
+    second_body: &[u8],
+    out: &mut [u8],
+) -> Stored
+    requires { ⌜ (length (now out) ≤ 4096) × ((f g : Translation) × (u : List ℕ) × Fitted (now «first_source») (now «first_target») (now «first_body») u (now «second_body») f g) ⌝ }
+    ensures { λ r. ⌜ ((f g : Translation) (u : List ℕ) → Fitted (now («first_source» .entry)) (now («first_target» .entry)) (now («first_body» .entry)) u (now («second_body» .entry)) f g
+        → Stores (joinedBody f g) (now (out .entry)) (now (out .exit)) 0 r) ⌝ }
+{
+    let mut table = [0u16; TABLE];
+    put_all(first_source, 0x11, &mut table[..INDEX]);
+    prepare(first_source, first_target, first_body, &mut table);
+    let mut clauses = [0u16; INDEX];
+    build_items(first_body, &mut clauses);
+    let mut mapped = [0u8; 32];
+    map_kinds(first_body, &clauses, &mut mapped);
+    let mut items = [0u16; INDEX];
+    build_items(second_body, &mut items);
+    join_items(&table, &mapped, second_body, &items, out)
+}
+
+// The length of a joined value, or 11 where the check refuses it: a code of it goes too deep.
+fn measure(value: &[u8]) -> Outcome
+    ensures { λ r. ⌜ r ≡ measured (now (value .entry)) (checkTranslation (now (value .entry))) ⌝ }
+{
+    let answer = check_translation(value);
+    let outcome = answer.outcome;
+    match outcome {
+        Outcome::Accepted(_) => Outcome::Accepted(value.len()),
+        Outcome::Refused(_) => Outcome::Refused(Reason::ValueTooLarge),
+    }
+}
+
+// The joined value put together: 11 where it exceeds a limit.
+fn finish(source: &[u8], target: &[u8], body: &[u8], out: &mut [u8]) -> Outcome
+    requires { ⌜ (length (now source) ≤ 1024) × (length (now target) ≤ 1024) × (4096 ≤ length (now out)) ⌝ }
+    ensures { λ r. ⌜ ((f g : Translation) → Held f → Held g → joinFits f g ≡ true → now (source .entry) ≡ encodeLanguage (g .source) → now (target .entry) ≡ encodeLanguage (f .target)
+        → now (body .entry) ≡ joinedBody f g → Gives (translationBytes (value (joined f g))) (now (out .entry)) (now (out .exit)) r) ⌝ }
+{
+    match assemble(source, target, body, out) {
+        Outcome::Accepted(n) => measure(&out[..n]),
+        Outcome::Refused(reason) => Outcome::Refused(reason),
+    }
+}
+
+// The join of two translations that fit: 11 where it exceeds a limit.
+fn join_fitting(
+    first_source: &[u8],
+    first_target: &[u8],
+    first_body: &[u8],
+    second_source: &[u8],
+    second_body: &[u8],
+    out: &mut [u8],
+) -> Outcome
+    requires { ⌜ (4096 ≤ length (now out)) × ((f g : Translation) × Fitted (now «first_source») (now «first_target») (now «first_body») (now «second_source») (now «second_body») f g) ⌝ }
+    ensures { λ r. ⌜ ((f g : Translation) → Fitted (now («first_source» .entry)) (now («first_target» .entry)) (now («first_body» .entry)) (now («second_source» .entry)) (now («second_body» .entry)) f g
+        → Gives (translationBytes (value (joined f g))) (now (out .entry)) (now (out .exit)) r) ⌝ }
+{
+    let mut body = [0u8; 4096];
+    let Stored::To(n) = join_body(
+        first_source,
+        first_target,
+        first_body,
+        second_body,
+        &mut body,
+    ) else {
+        return Outcome::Refused(Reason::ValueTooLarge);
+    };
+    finish(second_source, first_target, &body[..n], out)
+}
+
+// The join of the parts of two translations: 13 where the second's target does not lie within the first's source.
+fn join_parts(
+    first_source: &[u8],
+    first_target: &[u8],
+    first_body: &[u8],
+    second_source: &[u8],
+    second_target: &[u8],
+    second_body: &[u8],
+    out: &mut [u8],
+) -> Outcome
+    requires { ⌜ ((f : Translation) × EncodedParts (now «first_source») (now «first_target») (now «first_body») f) × ((g : Translation) × EncodedParts (now «second_source») (now «second_target») (now «second_body») g) × (4096 ≤ length (now out)) ⌝ }
+    ensures { λ r. ⌜ ((f g : Translation) → EncodedParts (now («first_source» .entry)) (now («first_target» .entry)) (now («first_body» .entry)) f → EncodedParts (now («second_source» .entry)) (now («second_target» .entry)) (now («second_body» .entry)) g
+        → Gives (translationBytes (translationJoin f g)) (now (out .entry)) (now (out .exit)) r) ⌝ }
+{
+    if !lies_within(second_target, first_source, 0x11) {
+        return Outcome::Refused(Reason::JoinUnfit);
+    }
+    join_fitting(
+        first_source,
+        first_target,
+        first_body,
+        second_source,
+        second_body,
+        out,
+    )
+}
+
+// The join of a after b: b runs first. 13 where it does not fit, 11 where its value exceeds a limit.
+pub fn join(a: &[u8], b: &[u8], out: &mut [u8]) -> Outcome
+    requires { ⌜ ((f : Translation) × (translationOf (now a) ≡ value f)) × ((g : Translation) × (translationOf (now b) ≡ value g)) × (4096 ≤ length (now out)) ⌝ }
+    ensures { λ r. ⌜ ((f g : Translation) → translationOf (now (a .entry)) ≡ value f → translationOf (now (b .entry)) ≡ value g
+        → Gives (translationBytes (translationJoin f g)) (now (out .entry)) (now (out .exit)) r) ⌝ }
+{
+    join_parts(
+        source_of(a),
+        target_of(a),
+        body_of(a),
+        source_of(b),
+        target_of(b),
+        body_of(b),
+        out,
+    )
+}

@@ -1,0 +1,5 @@
+pub mod Walks
+pub mod Linear
+pub mod Turns
+pub mod Agreeing
+pub mod Prefixes

@@ -1,0 +1,199 @@
+-- What is known of the languages and translations that accepted files hold, and of what is made of them.
+use Prim.Native.Nat.{ℕ, _+_, _≤_, _<_}
+use mathlib.Core.Path.{_≡_, refl, ap, subst, _∙_}
+use mathlib.Core.Bool.{Bool, true, false, _||_}
+use mathlib.Core.List.{List, _++_, map}
+use native.Mathlib.Omega.{arith}
+use mathlib.Core.Option.{some}
+use lib.ListN.{length, take, drop, take-append-drop, length-append}
+use lib.Seq.{slice}
+use lib.Dec.{ltb}
+use borrow.Author.Tests.{le-ltb, lt-ltb}
+use Rattle.fields.specs.Outcome.{Result, value, refused, refuseIf}
+use Rattle.fields.specs.declared.outcome.Outcome.{Outcome}
+use Rattle.fields.specs.declared.outcome.Reason.the-variants.{ValueTooLarge}
+use Rattle.fields.specs.Fields.{field, byteAt, encodeField, encodeFields}
+use Rattle.fields.specs.Inner.Places.{fieldEnd}
+use Rattle.fields.specs.Lists.{any}
+use Rattle.fields.proofs.Truth.{Mem, or-right, false-any, all-mem}
+use Rattle.fields.proofs.Keyed.{is-rising}
+use Rattle.fields.proofs.Codec.{Bytes, bytes-from, each-front}
+use Rattle.language.specs.Language.{Language, entryKey}
+use Rattle.language.specs.LanguageFile.{entriesOf, encodeLanguage, languageOf}
+use Rattle.language.proofs.Codec.{entryWhole, language-good, language-length, language-sound, language-bytes, language-back}
+use Rattle.language.proofs.Lookup.{clashes-none}
+use Rattle.translation.specs.Translation.{Item, mapping, clause, Translation, itemKey}
+use Rattle.translation.specs.TranslationFile.{itemField, encodeTranslation, translationLimit, translationOf}
+use Rattle.translation.specs.Inner.Parts.{sourceIn, targetIn, bodyIn}
+use Rattle.translation.proofs.Codec.{itemWhole, body-sound, rises-parts, translation-whole, translation-bytes}
+use Rattle.translation.proofs.Cuts.{pieces-in}
+use Rattle.operators.specs.Limits.{isDeep, codeIsDeep, languageExceeds, translationExceeds}
+use Rattle.operators.specs.Inner.Values.{languageBytes, translationBytes, Gives}
+use Rattle.operators.proofs.Proper.{Proper, Sound, GoodTranslation, formed-sound}
+use Rattle.fields.specs.declared.copy.Stored.{Stored}
+use Rattle.fields.specs.Inner.Writing.{Stores}
+use Rattle.operators.specs.Inner.Assembled.{assembled, limited}
+use Rattle.operators.proofs.Given.{assembled-is, stored-gives, slice-whole}
+
+-- What is known of the bytes of a slice.
+pub slice-bytes : (s : List ℕ) → ((i : ℕ) → byteAt s i < 256) → Bytes s
+slice-bytes s h = bytes-from s (λ i k. h i)
+
+-- An accepted language is written in its file, which is within the limit.
+module _ (s : List ℕ) (l : Language) (e : languageOf s ≡ value l) where
+  pub language-entries : entriesOf s ≡ some l
+  language-entries = language-good s l e .0
+
+  pub language-short : length s ≤ 1024
+  language-short = let g = language-good s l e in omega (arith, language-length s l (g .0), g .1 .short)
+
+  pub language-written : ((i : ℕ) → byteAt s i < 256) → s ≡ encodeLanguage l
+  language-written h = language-bytes s l (slice-bytes s h) e
+
+-- What is known of the bytes of a part.
+pub take-bytes : (s : List ℕ) (e : ℕ) → Bytes s → Bytes (take e s)
+take-bytes s e b = each-front (λ x. x < 256) (take e s) (drop e s) (rw (take-append-drop e s) b) .0
+
+pub drop-bytes : (s : List ℕ) (p : ℕ) → Bytes s → Bytes (drop p s)
+drop-bytes s p b = each-front (λ x. x < 256) (take p s) (drop p s) (rw (take-append-drop p s) b) .1
+
+-- A language that stands in a part of a file.
+part-written : (s : List ℕ) (p e : ℕ) (l : Language) → ((i : ℕ) → byteAt s i < 256) → entriesOf (slice p e s) ≡ some l
+    → slice p e s ≡ encodeLanguage l
+part-written s p e l h d = language-sound (slice p e s) l d (drop-bytes (take e s) p (take-bytes s e (slice-bytes s h)))
+
+-- The parts of an accepted translation are the bytes of its source, target and body, and the first two are accepted.
+module _ (s : List ℕ) (f : Translation) (e : translationOf s ≡ value f) (h : (i : ℕ) → byteAt s i < 256) where
+  pub source-written : sourceIn s ≡ encodeLanguage (f .source)
+  unfolding sourceIn
+  source-written = part-written s 3 (fieldEnd s 0) (f .source) h (pieces-in s f e .source)
+
+  pub target-written : targetIn s ≡ encodeLanguage (f .target)
+  unfolding targetIn
+  target-written = part-written s (fieldEnd s 0 + 3) (fieldEnd s (fieldEnd s 0)) (f .target) h (pieces-in s f e .target)
+
+  pub body-written : bodyIn s ≡ encodeFields (map itemField (f .body))
+  unfolding bodyIn
+  body-written = body-sound (bodyIn s) (f .body) (pieces-in s f e .body) (drop-bytes s (fieldEnd s (fieldEnd s 0)) (slice-bytes s h))
+
+  pub source-accepted : (x : List ℕ) → x ≡ sourceIn s → languageOf x ≡ value (f .source)
+  source-accepted x i =
+      let w = translation-whole s f e .1 in
+      rw (i, source-written) (language-back (f .source) (record { whole = w .source; rises = rises-parts f (w .rises) .0; apart = w .source-apart; short = w .source-short }))
+
+  pub target-accepted : (x : List ℕ) → x ≡ targetIn s → languageOf x ≡ value (f .target)
+  target-accepted x i =
+      let w = translation-whole s f e .1 in
+      rw (i, target-written) (language-back (f .target) (record { whole = w .target; rises = rises-parts f (w .rises) .1; apart = w .target-apart; short = w .target-short }))
+
+-- What is told of bytes within the limit, said of the language that they are.
+pub language-given : (l : Language) (v o o′ : List ℕ) (r : Outcome) → v ≡ encodeLanguage l
+    → Gives (refuseIf (ltb 1024 (length v)) ValueTooLarge (value v)) o o′ r → Gives (languageBytes (value l)) o o′ r
+unfolding languageExceeds
+language-given l v o o′ r e g = rw e at g
+
+-- No code of a sound translation goes too deep.
+pub code-shallow : (f : Translation) → Sound f → (a : Item) → Mem a (f .body) → codeIsDeep f a ≡ false
+unfolding codeIsDeep
+code-shallow f s (mapping k t) m = refl
+code-shallow f s (clause r p c) m = ap isDeep (s .fits .codes r p c m .1)
+
+or-none : (a b c : Bool) → (a || (b || (c || false))) ≡ (a || (b || c))
+or-none true b c = refl
+or-none false true c = refl
+or-none false false true = refl
+or-none false false false = refl
+
+-- A sound translation exceeds a limit by its lengths alone.
+pub sound-exceeds : (f : Translation) → Sound f
+    → translationExceeds f ≡ (languageExceeds (f .source) || (languageExceeds (f .target) || ltb translationLimit (length (encodeTranslation f))))
+unfolding translationExceeds
+sound-exceeds f s =
+    rw (false-any (codeIsDeep f) (f .body) (code-shallow f s))
+    (or-none (languageExceeds (f .source)) (languageExceeds (f .target)) (ltb translationLimit (length (encodeTranslation f))))
+
+-- The bytes of a sound translation whose languages are within their limits.
+pub sound-bytes : (f : Translation) → Sound f → length (encodeLanguage (f .source)) ≤ 1024 → length (encodeLanguage (f .target)) ≤ 1024
+    → refuseIf (ltb 4096 (length (encodeTranslation f))) ValueTooLarge (value (encodeTranslation f)) ≡ translationBytes (value f)
+unfolding languageExceeds
+sound-bytes f s h k = rw (sound-exceeds f s, le-ltb 1024 (length (encodeLanguage (f .source))) h, le-ltb 1024 (length (encodeLanguage (f .target))) k)
+
+-- A translation exceeds a limit where its source, its target or its body does.
+or-third : (a b c d : Bool) → c ≡ true → (a || (b || (c || d))) ≡ true
+or-third true b c d e = refl
+or-third false true c d e = refl
+or-third false false c d e = rw e
+
+module _ (f : Translation) where
+  pub source-over : 1024 < length (encodeLanguage (f .source)) → translationBytes (value f) ≡ refused ValueTooLarge
+  unfolding translationExceeds languageExceeds
+  source-over h = rw (lt-ltb 1024 (length (encodeLanguage (f .source))) h)
+
+  pub target-over : 1024 < length (encodeLanguage (f .target)) → translationBytes (value f) ≡ refused ValueTooLarge
+  unfolding translationExceeds languageExceeds
+  target-over h =
+      let z : (languageExceeds (f .source) || true) ≡ true = or-right (languageExceeds (f .source)) true refl in
+      rw (lt-ltb 1024 (length (encodeLanguage (f .target))) h) (rw z)
+
+  pub whole-over : 4096 < length (encodeTranslation f) → translationBytes (value f) ≡ refused ValueTooLarge
+  unfolding translationExceeds
+  whole-over h =
+      rw (or-third (languageExceeds (f .source)) (languageExceeds (f .target)) (ltb translationLimit (length (encodeTranslation f))) (any (codeIsDeep f) (f .body)) (lt-ltb 4096 (length (encodeTranslation f)) h))
+
+  -- Its body is no longer than it.
+  pub body-in : length (encodeFields (map itemField (f .body))) ≤ length (encodeTranslation f)
+  unfolding assembled
+  body-in =
+      let s = encodeLanguage (f .source) in
+      let t = encodeLanguage (f .target) in
+      let b = encodeFields (map itemField (f .body)) in
+      omega (arith, ap length (assembled-is f), length-append (encodeField (field 0x20 s)) (encodeField (field 0x21 t) ++ b), length-append (encodeField (field 0x21 t)) b)
+
+  pub body-over : 4096 < length (encodeFields (map itemField (f .body))) → translationBytes (value f) ≡ refused ValueTooLarge
+  body-over h = whole-over (omega (arith, body-in))
+
+-- What is told of bytes within the limit, said of the translation that they are.
+module _ (f : Translation) (s : Sound f) (h : length (encodeLanguage (f .source)) ≤ 1024) (k : length (encodeLanguage (f .target)) ≤ 1024) where
+  pub translation-given : (v o o′ : List ℕ) (r : Outcome) → v ≡ encodeTranslation f
+      → Gives (refuseIf (ltb 4096 (length v)) ValueTooLarge (value v)) o o′ r → Gives (translationBytes (value f)) o o′ r
+  translation-given v o o′ r e g =
+      subst (λ (x : Result (List ℕ)). Gives x o o′ r) (ap (λ (x : List ℕ). refuseIf (ltb 4096 (length x)) ValueTooLarge (value x)) e ∙ sound-bytes f s h k) g
+
+  pub assembled-given : (source target body o o′ : List ℕ) (r : Outcome)
+      → source ≡ encodeLanguage (f .source) → target ≡ encodeLanguage (f .target) → body ≡ encodeFields (map itemField (f .body))
+      → Gives (refuseIf (ltb 4096 (length (assembled source target body))) ValueTooLarge (value (assembled source target body))) o o′ r
+      → Gives (translationBytes (value f)) o o′ r
+  assembled-given source target body o o′ r a b c g =
+      let e : assembled source target body ≡ encodeTranslation f = cc (assembled-is f) in
+      translation-given (assembled source target body) o o′ r e g
+
+-- An accepted translation is written in its file, and is good.
+module _ (s : List ℕ) (f : Translation) (e : translationOf s ≡ value f) where
+  pub translation-written : ((i : ℕ) → byteAt s i < 256) → s ≡ encodeTranslation f
+  translation-written h = translation-bytes s f (slice-bytes s h) e
+
+  pub accepted-good : GoodTranslation f
+  accepted-good =
+      let (p, w, d) = translation-whole s f e in
+      let (i, j, k) = rises-parts f (w .rises) in
+      let source : Proper (f .source) = record { whole = all-mem entryWhole (f .source) (w .source); rises = is-rising entryKey (f .source) i; apart = clashes-none (f .source) (f .source) (w .source-apart) } in
+      let target : Proper (f .target) = record { whole = all-mem entryWhole (f .target) (w .target); rises = is-rising entryKey (f .target) j; apart = clashes-none (f .target) (f .target) (w .target-apart) } in
+      record {
+        sound = formed-sound f f source target (all-mem itemWhole (f .body) (w .body)) (is-rising itemKey (f .body) k) d .0;
+        source-short = w .source-short;
+        target-short = w .target-short;
+        short = w .short;
+      }
+
+-- The answer of a copy.
+module _ (o o′ : List ℕ) (long : length o′ ≡ length o) (x : Stored) (r : Outcome) where
+  pub language-copied : (l : Language) (v : List ℕ) → v ≡ encodeLanguage l → 1024 ≤ length o → Stores v o o′ 0 x → r ≡ limited 1024 x
+      → Gives (languageBytes (value l)) o o′ r
+  language-copied l v e h w d = language-given l v o o′ r e (stored-gives 1024 v o o′ h long x r w d)
+
+  pub translation-copied : (s : List ℕ) (f : Translation) → translationOf s ≡ value f → ((i : ℕ) → byteAt s i < 256)
+      → 4096 ≤ length o → Stores (slice 0 (length s) s) o o′ 0 x → r ≡ limited 4096 x → Gives (translationBytes (value f)) o o′ r
+  translation-copied s f e b h w d =
+      let g = accepted-good s f e in
+      translation-given f (g .sound) (g .source-short) (g .target-short) (slice 0 (length s) s) o o′ r (slice-whole s ∙ translation-written s f e b)
+      (stored-gives 4096 (slice 0 (length s) s) o o′ h long x r w d)

@@ -1,0 +1,69 @@
+-- The operators on languages that stand in accepted files: a law for each return.
+use Prim.Native.Nat.{ℕ, _≤_, _<_}
+use mathlib.Core.Path.{_≡_, refl, sym, ap, subst, _∙_}
+use mathlib.Core.Bool.{Bool, true, false}
+use mathlib.Core.List.{List}
+use lib.ListN.{length}
+use Rattle.fields.specs.Outcome.{value}
+use Rattle.fields.specs.declared.outcome.Outcome.{Outcome}
+use Rattle.fields.specs.declared.outcome.Outcome.the-variants.{Refused}
+use Rattle.fields.specs.declared.outcome.Reason.the-variants.{SumUnfit}
+use Rattle.fields.specs.Fields.{byteAt}
+use Rattle.language.specs.Language.{Language}
+use Rattle.language.specs.LanguageFile.{encodeLanguage, languageOf}
+use Rattle.language.specs.Inner.Entries.{RisingEntries}
+use Rattle.language.proofs.Codec.{language-good}
+use Rattle.fields.specs.declared.copy.Stored.{Stored}
+use Rattle.operators.specs.Operators.{languagesFit, languageUnion, languageSum, languageWithout}
+use Rattle.fields.specs.Inner.Writing.{Stores}
+use Rattle.merging.specs.Inner.Parts.{Sorted, united, removed, fitTogether}
+use Rattle.operators.specs.Inner.Values.{languageBytes, Gives}
+use Rattle.operators.proofs.Encoded.{sorted-language, rising-language, united-languages, removed-language, languages-fit}
+use Rattle.operators.specs.Inner.Assembled.{limited}
+use Rattle.operators.proofs.Given.{gives-refused}
+use Rattle.operators.proofs.Accepted.{language-written, language-copied}
+
+-- The fields of an accepted language rise.
+pub language-sorted : (a : List ℕ) (l : Language) → languageOf a ≡ value l → ((i : ℕ) → byteAt a i < 256) → Sorted 0x11 a
+language-sorted a l e h = subst (Sorted 0x11) (sym (language-written a l e h)) (sorted-language l l (language-good a l e .1 .rises))
+
+-- An accepted language is whole entries whose keys rise.
+pub language-rises : (a : List ℕ) (l : Language) → languageOf a ≡ value l → ((i : ℕ) → byteAt a i < 256) → RisingEntries a
+language-rises a l e h =
+    let g = language-good a l e .1 in
+    subst RisingEntries (sym (language-written a l e h)) (rising-language l (g .whole) (g .rises))
+
+module _ (a b : List ℕ) (h : (i : ℕ) → byteAt a i < 256) (k : (i : ℕ) → byteAt b i < 256) (l m : Language)
+    (e : languageOf a ≡ value l) (d : languageOf b ≡ value m) where
+  fit-is : fitTogether a b ≡ languagesFit l m
+  fit-is =
+      ap (λ (x : List ℕ). fitTogether x b) (language-written a l e h)
+      ∙ (ap (fitTogether (encodeLanguage l)) (language-written b m d k)
+      ∙ languages-fit l m (language-good a l e .1 .whole) (language-good b m d .1 .whole))
+
+  union-is : united 0x11 a b ≡ encodeLanguage (languageUnion l m)
+  union-is =
+      ap (λ (x : List ℕ). united 0x11 x b) (language-written a l e h)
+      ∙ (ap (united 0x11 (encodeLanguage l)) (language-written b m d k) ∙ united-languages l m)
+
+  removed-is : removed 0x11 a b ≡ encodeLanguage (languageWithout l m)
+  removed-is =
+      ap (λ (x : List ℕ). removed 0x11 x b) (language-written a l e h)
+      ∙ (ap (removed 0x11 (encodeLanguage l)) (language-written b m d k) ∙ removed-language l m)
+
+  pub sum-unfit : (fit : Bool) → fit ≡ fitTogether a b → fit ≡ false → (o : List ℕ) → Gives (languageBytes (languageSum l m)) o o (Refused SumUnfit)
+  unfolding languageSum
+  sum-unfit fit q t o =
+      let z : languagesFit l m ≡ false = sym fit-is ∙ (sym q ∙ t) in
+      gives-refused (languageBytes (languageSum l m)) o o SumUnfit (rw z refl) refl
+
+  module _ (o o′ : List ℕ) (long : length o′ ≡ length o) (room : 1024 ≤ length o) (x : Stored) (r : Outcome) (answer : r ≡ limited 1024 x) where
+    pub sum-given : (fit : Bool) → fit ≡ fitTogether a b → fit ≡ true → Stores (united 0x11 a b) o o′ 0 x
+        → Gives (languageBytes (languageSum l m)) o o′ r
+    unfolding languageSum
+    sum-given fit q t w =
+        let z : languagesFit l m ≡ true = sym fit-is ∙ (sym q ∙ t) in
+        rw z (language-copied o o′ long x r (languageUnion l m) (united 0x11 a b) union-is room w answer)
+
+    pub without-given : Stores (removed 0x11 a b) o o′ 0 x → Gives (languageBytes (value (languageWithout l m))) o o′ r
+    without-given w = language-copied o o′ long x r (languageWithout l m) (removed 0x11 a b) removed-is room w answer

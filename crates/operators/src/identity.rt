@@ -1,0 +1,101 @@
+// The identity of a language: each kind to itself, each production to itself.
+ghost use mathlib.Core.Path.{_≡_};
+ghost use mathlib.Core.Bool.{true};
+ghost use mathlib.Core.Option.{some};
+ghost use Prim.Native.Nat.{_<_, _≤_};
+ghost use lib.ListN.{length};
+ghost use Rattle.fields.specs.Outcome.{value};
+ghost use Rattle.fields.specs.Inner.Places.{EndsAt};
+ghost use Rattle.language.specs.Language.{Language};
+ghost use Rattle.language.specs.LanguageFile.{entriesOf, languageOf};
+ghost use Rattle.language.specs.Inner.Entries.{entryWhole};
+ghost use Rattle.operators.specs.Operators.{identityOf};
+ghost use Rattle.fields.specs.Inner.Writing.{Stores};
+ghost use Rattle.operators.specs.Inner.Values.{Gives, translationBytes};
+ghost use Rattle.operators.specs.Inner.Kept.{writtenFrom};
+ghost use Rattle.operators.specs.Inner.SameItems.{kindItem, kindItems, clauseItem};
+use super::assemble::assemble;
+use fields::bytes::byte_at;
+use fields::copy::Stored;
+use fields::copy::put_both;
+use fields::copy::put_if;
+use fields::outcome::Outcome;
+use fields::outcome::Reason;
+use fields::walk::field_end;
+use reader::kinds::is_in;
+
+// The mapping of a kind to itself, where the kind is in the language.
+fn put_kind(a: &[u8], k: u8, out: &mut [u8], n: usize) -> Stored
+    requires { ⌜ ((l : Language) × (entriesOf (now a) ≡ some l)) × (n ≤ length (now out)) ⌝ }
+    ensures { λ r. ⌜ ((l : Language) → entriesOf (now (a .entry)) ≡ some l → Stores (kindItem l k) (now (out .entry)) (now (out .exit)) n r) ⌝ }
+{
+    let item = [0x22, 0, 2, k, k];
+    put_if(is_in(a, k), &item, 0, 5, out, n)
+}
+
+// The mappings of all kinds in the language, into the output from its start.
+fn put_kinds(a: &[u8], out: &mut [u8]) -> Stored
+    requires { ⌜ ((l : Language) × (entriesOf (now a) ≡ some l)) ⌝ }
+    ensures { λ r. ⌜ ((l : Language) → entriesOf (now (a .entry)) ≡ some l → Stores (kindItems l 0) (now (out .entry)) (now (out .exit)) 0 r) ⌝ }
+{
+    let mut n = 0;
+    let mut k: u8 = 0;
+    while k < 32 {
+        let Stored::To(m) = put_kind(a, k, out, n) else {
+            return Stored::Full;
+        };
+        n = m;
+        k += 1;
+    }
+    Stored::To(n)
+}
+
+// The clause of the production at p, which ends at e: its name, and its arguments in their order.
+fn put_clause(a: &[u8], p: usize, e: usize, out: &mut [u8], n: usize) -> Stored
+    requires { ⌜ (entryWhole (now a) p ≡ true) × EndsAt (now a) p e × (p < length (now a)) × (n ≤ length (now out)) ⌝ }
+    ensures { λ r. ⌜ Stores (clauseItem (now (a .entry)) p) (now (out .entry)) (now (out .exit)) n r ⌝ }
+{
+    if byte_at(a, p) == 0x11 {
+        return Stored::To(n);
+    }
+    let result = byte_at(a, p + 3);
+    let name = byte_at(a, p + 4);
+    let size = 2 * (e - p - 5);
+    let head = [0x23, 0, (size + 4) as u8, result, name, 1, name];
+    let arguments = b"\x03\x01\x03\x02\x03\x03\x03\x04\x03\x05\x03\x06\x03\x07\x03\x08";
+    put_both(&head, 0, 7, arguments, 0, size, out, n)
+}
+
+// The clauses of all productions, into the output from a place on.
+fn put_clauses(a: &[u8], out: &mut [u8], from: usize) -> Stored
+    requires { ⌜ ((l : Language) × (entriesOf (now a) ≡ some l)) × (from ≤ length (now out)) ⌝ }
+    ensures { λ r. ⌜ Stores (writtenFrom (clauseItem (now (a .entry))) (now (a .entry)) 0) (now (out .entry)) (now (out .exit)) from r ⌝ }
+{
+    let mut p = 0;
+    let mut n = from;
+    while p < a.len() {
+        let e = field_end(a, p);
+        let Stored::To(m) = put_clause(a, p, e, out, n) else {
+            return Stored::Full;
+        };
+        n = m;
+        p = e;
+    }
+    Stored::To(n)
+}
+
+// The identity of a language.
+pub fn identity(a: &[u8], out: &mut [u8]) -> Outcome
+    requires { ⌜ ((l : Language) × (languageOf (now a) ≡ value l)) × (4096 ≤ length (now out)) ⌝ }
+    ensures { λ r. ⌜ ((l : Language) → languageOf (now (a .entry)) ≡ value l
+        → Gives (translationBytes (value (identityOf l))) (now (out .entry)) (now (out .exit)) r) ⌝ }
+{
+    let mut body = [0u8; 4096];
+    let Stored::To(i) = put_kinds(a, &mut body) else {
+        return Outcome::Refused(Reason::ValueTooLarge);
+    };
+    let Stored::To(k) = put_clauses(a, &mut body, i) else {
+        return Outcome::Refused(Reason::ValueTooLarge);
+    };
+    assemble(a, a, &body[..k], out)
+}

@@ -1,0 +1,96 @@
+-- Whole entries and items: what stands in them, and a turn of a walk over them.
+use Prim.Native.Nat.{ℕ, zero, suc, _+_, _-_, _<_, _≤_}
+use mathlib.Core.Path.{_≡_, refl, _∙_}
+use mathlib.Core.Logic.{⊎-elim}
+use mathlib.Core.Bool.{true}
+use mathlib.Core.List.{List}
+use native.Mathlib.Omega.{arith}
+use lib.ListN.{length, getD}
+use lib.Seq.{slice}
+use lib.Dec.{eqb}
+use borrow.Author.Tests.{lt-ltb, eq-eqb, eqb-true, eqb-false, ltb-true}
+use Rattle.fields.specs.Lists.{all}
+use Rattle.fields.specs.Inner.Places.{fieldEnd, longAt, placesFrom, places, keyAt}
+use Rattle.fields.proofs.Truth.{by-test, all-mem, mem-all}
+use Rattle.fields.proofs.Lists.{all-true, part-next}
+use Rattle.fields.proofs.Places.{every-here}
+use Rattle.language.specs.LanguageFile.{isKind}
+use Rattle.language.specs.Inner.Entries.{entryWhole, IsProduction}
+use Rattle.language.proofs.Facts.{entry-facts}
+use Rattle.reader.specs.Inner.Positions.{KindsIn}
+use Rattle.translation.specs.Inner.Items.{itemWhole, IsClause}
+use Rattle.translation.proofs.Items.{item-facts}
+
+-- A walk over kinds.
+pub kinds-here : (s : List ℕ) (q e : ℕ) → KindsIn s q e → q < e → (q < length s) × (getD s q 0 < 32)
+kinds-here s q e k h = k q (omega arith) h
+
+pub kinds-on : (s : List ℕ) (q e : ℕ) → KindsIn s q e → KindsIn s (q + 1) e
+kinds-on s q e k x i j = k x (omega arith) j
+
+-- The kinds of a part.
+part-kinds : (m : ℕ) (s : List ℕ) (q e : ℕ) → e - q ≡ m → e ≤ length s → all isKind (slice q e s) ≡ true → KindsIn s q e
+part-kinds zero s q e y h a x i j = absurd (omega arith)
+part-kinds (suc m) s q e y h a x i j =
+    let w = all-true isKind (getD s q 0) (slice (q + 1) e s) (part-next (all isKind) s q e true a (omega arith) h) in
+    by-test (eqb x q)
+    (λ d. let z : x ≡ q = eqb-true _ _ d in (omega arith, rw z (ltb-true _ _ (w .0))))
+    (λ d. let z : x ≡ q → ⊥ = eqb-false _ _ d in part-kinds m s (q + 1) e (omega arith) h (w .1) x (omega arith) j)
+
+-- The kinds of a production's arguments.
+pub arguments-in : (s : List ℕ) (q e : ℕ) → IsProduction s q → e ≡ fieldEnd s q → KindsIn s (q + 5) e × (e ≤ q + 5 + 8) × (q + 5 ≤ e) × (e ≤ length s)
+unfolding fieldEnd
+arguments-in s q e w ee =
+    let a = w .two in
+    let b = w .ten in
+    let c = w .fits in
+    (rw ee (part-kinds _ s (q + 5) (fieldEnd s q) refl (w .fits) (w .arguments)), omega arith, omega arith, omega arith)
+
+-- A whole entry that is no class is a production.
+pub entry-other : (s : List ℕ) (p : ℕ) → entryWhole s p ≡ true → (getD s p 0 ≡ 0x11 → ⊥) → IsProduction s p
+entry-other s p w h = ⊎-elim (λ c. absurd (h (c .tag))) (λ c. c) (entry-facts s p w)
+
+-- A walk over whole entries: the one at p, and those after it.
+module _ (s : List ℕ) (p : ℕ) (whole : all (entryWhole s) (placesFrom s p) ≡ true) (e : ℕ) (ee : e ≡ fieldEnd s p) (here : p < length s) where
+  pub entry-here : entryWhole s p ≡ true
+  entry-here = every-here (entryWhole s) s p whole here .0
+
+  pub entries-on : all (entryWhole s) (placesFrom s e) ≡ true
+  entries-on = rw ee (every-here (entryWhole s) s p whole here .1)
+
+-- A whole item has its first five bytes.
+pub item-long : (b : List ℕ) (p : ℕ) → itemWhole b p ≡ true → p + 4 < length b
+item-long b p w =
+    ⊎-elim
+    (λ m. let f = m .fits in omega arith)
+    (λ c. let f = c .past in let g = c .ends in omega arith)
+    (item-facts b p w)
+
+-- A clause's result is a kind, and its code may be cut out.
+pub result-kind : (b : List ℕ) (p k : ℕ) → IsClause b p → k ≡ getD b (p + 3) 0 → k < 32
+result-kind b p k c e = rw e (c .result)
+
+pub code-cut : (b : List ℕ) (p e : ℕ) → IsClause b p → e ≡ fieldEnd b p → (p + 5 ≤ e) × (e ≤ length b)
+code-cut b p e c ee = (rw ee (c .past), rw ee (c .ends))
+
+pub other-clause : (b : List ℕ) (p tag : ℕ) → tag ≡ getD b p 0 → itemWhole b p ≡ true → (tag ≡ 0x22 → ⊥) → IsClause b p
+other-clause b p tag et w h = ⊎-elim (λ m. absurd (h (et ∙ m .tag))) (λ c. c) (item-facts b p w)
+
+-- A walk over whole items: the one at p, and those after it.
+module _ (s : List ℕ) (p : ℕ) (whole : all (itemWhole s) (placesFrom s p) ≡ true) (e : ℕ) (ee : e ≡ fieldEnd s p) (here : p < length s) where
+  pub item-here : itemWhole s p ≡ true
+  item-here = every-here (itemWhole s) s p whole here .0
+
+  pub items-on : all (itemWhole s) (placesFrom s e) ≡ true
+  items-on = rw ee (every-here (itemWhole s) s p whole here .1)
+
+-- A whole item with the key of a clause is one.
+pub clause-here : (b : List ℕ) (p : ℕ) → itemWhole b p ≡ true → 32 ≤ keyAt 0x22 b p → IsClause b p
+unfolding keyAt
+clause-here b p w h =
+    ⊎-elim (λ c. let k = c .source in let e : keyAt 0x22 b p ≡ getD b (p + 3) 0 = cc (eq-eqb _ _ (c .tag)) in absurd (omega arith)) (λ c. c) (item-facts b p w)
+
+-- Whole items have their first five bytes.
+pub items-long : (s : List ℕ) → all (itemWhole s) (places s) ≡ true → all (longAt s) (places s) ≡ true
+unfolding longAt
+items-long s h = mem-all _ (places s) (λ p m. lt-ltb _ _ (item-long s p (all-mem (itemWhole s) (places s) h p m)))

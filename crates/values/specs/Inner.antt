@@ -1,4 +1,0 @@
-pub mod Assembled
-pub mod Spelt
-pub mod Kept
-pub mod SameItems

@@ -1,0 +1,26 @@
+use native.Mathlib.Omega.{arith}
+use Rattle.wellformed.proofs.Coded.{code-read}
+use borrow.Author.Needs.{needs}
+use Rattle.wellformed.proofs.codes.code_reads.Statement.{statement}
+use Rattle.wellformed.proofs.codes.code_reads.Tie as tie
+use Rattle.wellformed.proofs.codes.code_reads.Reads as reads
+use Rattle.wellformed.proofs.codes.code_reads.Lts as lts
+use Rattle.reader.proofs.read.read.Reads as read-reads
+use Rattle.wellformed.proofs.codes.ends_at.Reads as ends-at-reads
+
+returns : tie.Need-returns
+returns c = λ l z. code-read _ _ _ (c .before .before .before .before .before .before .before .pre .0) (c .before .before .before .before .before .before .before .pre .1) l _ _ (c .before .read .result) (c .before .read .ensures .0 l z) (c .before .read .ensures .1) _ (c .ends-at .ensures)
+
+pub code-reads-spec : {M : Type 1} → statement M
+code-reads-spec =
+    tie.close
+    (tie.spec
+    (λ c. search needs)
+    (λ c. search needs)
+    (λ c. search needs)
+    (λ c. search needs)
+    (λ c κs. search needs)
+    (λ c. search needs)
+    (λ c. search needs)
+    (λ c κs. search needs)
+    returns)

@@ -1,0 +1,44 @@
+use borrow.Author.Tests.{not-true, not-false}
+use borrow.Author.Needs.{needs}
+use Prim.Native.Nat.{_-_}
+use mathlib.Core.Path.{_≡_, refl}
+use Rattle.fields.specs.Lists.{all, countUp}
+use Rattle.wellformed.specs.Inner.Tests.{mappedIf}
+use Rattle.wellformed.proofs.Mappings.{count-done, count-stop, count-next}
+use Rattle.wellformed.proofs.mapping.kinds_mapped.Statement.{statement}
+use Rattle.wellformed.proofs.mapping.kinds_mapped.Tie as tie
+use Rattle.wellformed.proofs.mapping.kinds_mapped.Reads as reads
+use Rattle.wellformed.proofs.mapping.kinds_mapped.Lts as lts
+use Rattle.wellformed.proofs.mapping.mapped_if.Reads as mapped-if-reads
+
+abbrev Inv-loop : tie.InvT-loop
+Inv-loop index kinds k₀ k = all (mappedIf index kinds) (countUp (32 - k) k) ≡ all (mappedIf index kinds) (countUp 32 0)
+
+abbrev μ-loop : tie.MeasureT-loop
+μ-loop index kinds k₀ k = 32 - k
+
+loop-holds : tie.Need-loop-holds Inv-loop μ-loop
+loop-holds c = refl
+
+returns : tie.Need-returns Inv-loop μ-loop
+returns c = count-stop _ _ _ (c .before .before .before .loop .inv) (c .before .before .loop-test .taken) _ (c .before .mapped-if .ensures) (not-true _ (c .if1 .taken))
+
+loop-again : tie.Need-loop-again Inv-loop μ-loop
+loop-again c = count-next _ _ _ (c .before .before .before .loop .inv) (c .before .before .loop-test .taken) _ (c .before .mapped-if .ensures) (not-false _ (c .if1 .left))
+
+returns-2 : tie.Need-returns-2 Inv-loop μ-loop
+returns-2 c = count-done _ _ _ (c .before .loop .inv) (c .loop-test .left)
+
+pub kinds-mapped-spec : {M : Type 1} → statement M
+kinds-mapped-spec =
+    tie.close
+    (tie.spec
+    Inv-loop
+    μ-loop
+    loop-holds
+    (λ c κs. search needs)
+    returns
+    (λ c. search needs)
+    (λ c. search needs)
+    loop-again
+    returns-2)

@@ -1,0 +1,215 @@
+//! The worked examples as one table, for any implementation: a language C, its extension K,
+//! and what reduces and runs from them.
+
+use crate::call::{Answer, Buffers, Call, WORKSPACE_MARK};
+use crate::files::{class, clause, mapping, pack, production, translation};
+use crate::generate::{ReduceCase, RunCase, TreeCase};
+use crate::reduce::{OUTPUT_LEAST, WORKSPACE_LEAST};
+
+/// A call with the number and the bytes that it must give.
+#[derive(Clone, Debug)]
+pub struct Example {
+    pub what: String,
+    pub call: Call,
+    pub number: u32,
+    /// What stands first in the output of an accepted call.
+    pub bytes: Vec<u8>,
+}
+
+/// An output that is long enough for any result but an endless one.
+const LONG_OUTPUT: usize = 1 << 20;
+
+/// Reductions that leave the workspace as it was.
+const EARLY_REFUSALS: [u32; 6] = [1, 2, 3, 4, 8, 9];
+
+/// Class 2 of 1 to 240; productions 1.1 (2), 1.2 (1 1), 1.3 (2).
+pub fn language_c() -> Vec<u8> {
+    [class(2, 1, 240), production(1, 1, &[2]), production(1, 2, &[1, 1]), production(1, 3, &[2])]
+        .concat()
+}
+
+/// Production 1.4 (1).
+pub fn language_k() -> Vec<u8> {
+    production(1, 4, &[1])
+}
+
+/// Kind 1 to itself; 1.4 (x) becomes 1.2 (x x).
+fn body_k() -> Vec<u8> {
+    [mapping(1, 1), clause(1, 4, &[1, 2, 3, 1, 3, 1])].concat()
+}
+
+/// C to C: rest becomes row, the others stay.
+fn rest_becomes_row() -> Vec<u8> {
+    [
+        mapping(1, 1),
+        mapping(2, 2),
+        clause(1, 1, &[1, 1, 3, 1]),
+        clause(1, 2, &[1, 2, 3, 1, 3, 2]),
+        clause(1, 3, &[1, 1, 3, 1]),
+    ]
+    .concat()
+}
+
+/// The term for K by its body plus the identity of C.
+const SUM: [u8; 10] = [0x53, 0x50, 0x40, 0, 0x40, 1, 0, 0x55, 0x40, 1];
+
+/// The pack of 71 bytes with constants K and C.
+pub fn pack_with_sum() -> Vec<u8> {
+    pack(&[language_k(), language_c()], &[body_k()], &SUM)
+}
+
+/// The pack that joins the sum, as second operand, with "rest becomes row".
+fn pack_with_join() -> Vec<u8> {
+    let first = [0x54, 0x50, 0x40, 1, 0x40, 1, 1];
+    let bodies = [body_k(), rest_becomes_row()];
+    pack(&[language_k(), language_c()], &bodies, &[&first[..], &SUM].concat())
+}
+
+/// C and K to C with this code for 1.3: what the sum, or the join, reduces to.
+fn reduced_with(rest: &[u8]) -> Vec<u8> {
+    let body = [
+        mapping(1, 1),
+        mapping(2, 2),
+        clause(1, 1, &[1, 1, 3, 1]),
+        clause(1, 2, &[1, 2, 3, 1, 3, 2]),
+        clause(1, 3, rest),
+        clause(1, 4, &[1, 2, 3, 1, 3, 1]),
+    ];
+    translation(&[language_c(), language_k()].concat(), &language_c(), &body.concat())
+}
+
+/// The translation of 116 bytes that the pack with the sum reduces to.
+pub fn sum() -> Vec<u8> {
+    reduced_with(&[1, 3, 3, 1])
+}
+
+/// A run by a translation, with an output of so many bytes.
+fn run_by(translation: &[u8], root: u32, tree: &[u8], output: usize) -> Call {
+    Call::Run(RunCase { translation: translation.to_vec(), root, tree: tree.to_vec(), output })
+}
+
+/// A reduction with the least room.
+fn reduction(pack: Vec<u8>) -> Call {
+    Call::Reduce(ReduceCase { pack, workspace: WORKSPACE_LEAST, output: OUTPUT_LEAST })
+}
+
+/// A call that is accepted and gives these bytes.
+fn accepted(what: &str, call: Call, bytes: &[u8]) -> Example {
+    Example { what: what.to_string(), call, number: 0, bytes: bytes.to_vec() }
+}
+
+/// A call that is refused with the number.
+fn refused(what: &str, call: Call, number: u32) -> Example {
+    Example { what: what.to_string(), call, number, bytes: vec![] }
+}
+
+/// So many times 04, then 01 00 05.
+fn chain(length: usize) -> Vec<u8> {
+    [vec![4; length], vec![1, 0, 5]].concat()
+}
+
+/// What the sum makes of so many times 04, then 01 00 05.
+fn doubled(length: usize) -> Vec<u8> {
+    (0..length).fold(vec![1, 0, 5], |below, _| [&[2], &below[..], &below].concat())
+}
+
+/// Runs by the sum, and one by the join, that are accepted.
+fn accepted_runs() -> Vec<Example> {
+    let (sum, twice) = (sum(), [2, 1, 0, 5, 1, 0, 5]);
+    let row = [1, 0, 0xF0];
+    let joined = reduced_with(&[1, 1, 3, 1]);
+    vec![
+        accepted("twice", run_by(&sum, 1, &[4, 1, 0, 5], 1000), &twice),
+        accepted("twice, output of 7 bytes", run_by(&sum, 1, &[4, 1, 0, 5], 7), &twice),
+        accepted("the highest token", run_by(&sum, 1, &row, 9), &row),
+        accepted("10 times 04, exact output", run_by(&sum, 1, &chain(10), 4095), &doubled(10)),
+        accepted("the join", run_by(&joined, 1, &[4, 3, 0, 3], 1000), &[2, 1, 0, 3, 1, 0, 3]),
+    ]
+}
+
+/// Runs by the sum that are refused.
+fn refused_runs() -> Vec<Example> {
+    let sum = sum();
+    let run = |root, tree: &[u8], output| run_by(&sum, root, tree, output);
+    vec![
+        refused("twice, output of 6 bytes", run(1, &[4, 1, 0, 5], 6), 17),
+        refused("a token above the range", run(1, &[1, 0, 0xF1], 9), 15),
+        refused("a token below the range", run(1, &[1, 0, 0], 9), 15),
+        refused("an empty tree", run(1, &[], 9), 15),
+        refused("a byte left over", run(1, &[1, 0, 5, 0], 9), 15),
+        refused("root 9", run(9, &[1, 0, 5], 9), 14),
+        refused("62 times 04: 64 levels", run(1, &chain(62), LONG_OUTPUT), 17),
+        refused("62 times 04, no output", run(1, &chain(62), 0), 17),
+        refused("63 times 04: 65 levels", run(1, &chain(63), LONG_OUTPUT), 16),
+        refused("10 times 04, one byte short", run(1, &chain(10), 4094), 17),
+    ]
+}
+
+/// Reductions.
+fn reductions() -> Vec<Example> {
+    let empty = translation(&[], &[], &[]);
+    let reduced = |languages: &[Vec<u8>], term: &[u8]| reduction(pack(languages, &[], term));
+    let other = [language_k(), production(1, 4, &[2])];
+    let without = [0x55, 0x42, 0x40, 0, 0x40, 0];
+    let union = [0x55, 0x43, 0x40, 0, 0x40, 1];
+    vec![
+        accepted("the pack of 71 bytes", reduction(pack_with_sum()), &sum()),
+        accepted("the join", reduction(pack_with_join()), &reduced_with(&[1, 1, 3, 1])),
+        accepted("identity of the empty language", reduced(&[vec![]], &[0x55, 0x40, 0]), &empty),
+        accepted("C without C", reduced(&[language_c()], &without), &empty),
+        refused("K plus a language with 1.4 (2)", reduced(&other, &union), 12),
+        refused("an empty file", reduction(vec![]), 2),
+    ]
+}
+
+/// Checks of the languages and the translation of the examples.
+fn checks() -> Vec<Example> {
+    let undefined = production(1, 4, &[2]);
+    let tree = |language: &[u8], root, tree: &[u8]| {
+        Call::CheckTree(TreeCase { language: language.to_vec(), root, tree: tree.to_vec() })
+    };
+    vec![
+        accepted("C", Call::CheckLanguage(language_c()), &[]),
+        accepted("K", Call::CheckLanguage(language_k()), &[]),
+        accepted("the sum", Call::CheckTranslation(sum()), &[]),
+        accepted("a row of C", tree(&language_c(), 1, &[1, 0, 5]), &[]),
+        refused("no end", tree(&language_k(), 1, &[4, 4]), 15),
+        refused("an undefined kind", tree(&undefined, 2, &[]), 15),
+        refused("a kind that is not in", tree(&undefined, 3, &[]), 14),
+    ]
+}
+
+/// All examples.
+pub fn examples() -> Vec<Example> {
+    [reductions(), accepted_runs(), refused_runs(), checks()].concat()
+}
+
+impl Example {
+    /// The output at the end: the result first, the other bytes as they were.
+    fn output(&self) -> Vec<u8> {
+        let mut output = self.call.buffers().output;
+        output[..self.bytes.len()].copy_from_slice(&self.bytes);
+        output
+    }
+
+    /// The workspace at the end: all zero, or as it was after an early refusal.
+    fn workspace(&self) -> Vec<u8> {
+        let kept = EARLY_REFUSALS.contains(&self.number);
+        let byte = if kept { WORKSPACE_MARK } else { 0 };
+        vec![byte; self.call.buffers().workspace.len()]
+    }
+
+    /// What a call of it shows to be wrong, if anything.
+    pub fn wrong(&self, call: impl Fn(&Call, &mut Buffers) -> Answer) -> Option<String> {
+        let mut buffers = self.call.buffers();
+        let found = call(&self.call, &mut buffers);
+        let length = if self.number == 0 { self.bytes.len() as u64 } else { 0 };
+        let expected = Answer { number: self.number, length };
+        if found != expected {
+            return Some(format!("{found:?} instead of {expected:?}"));
+        }
+        let Buffers { workspace, output } = buffers;
+        let kept = workspace == self.workspace() && output == self.output();
+        (!kept).then(|| "output or workspace are wrong".to_string())
+    }
+}
