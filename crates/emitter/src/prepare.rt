@@ -5,7 +5,7 @@ use crate::table::SOURCE;
 use crate::table::SPANS;
 use fields::bytes::byte_at;
 use fields::bytes::pair_at;
-use fields::bytes::wide;
+use fields::bytes::to_usize;
 use fields::walk::field_end;
 use reader::index::INDEX;
 use reader::index::TABLE;
@@ -60,7 +60,7 @@ fn place_of(places: &[u16], kind: u8, name: u8) -> usize
     requires { ⌜ (indexLength ≤ length (now places)) × (kind < 32) ⌝ }
     ensures { λ r. ⌜ (r ≡ getD (now (places .entry)) (productionKey kind name) 0) × (r < 65536) ⌝ }
 {
-    places[32 + (wide(kind) * 256 + wide(name))] as usize
+    places[32 + (to_usize(kind) * 256 + to_usize(name))] as usize
 }
 
 // Keeps where the production's code at a position of the body ends.
@@ -119,7 +119,7 @@ fn mapped_in(body: &[u8], table: &[u16], kind: u8) -> u8
     requires { ⌜ length (now table) ≡ tableLength ⌝ }
     ensures { λ r. ⌜ r ≡ mappedIn (now (body .entry)) (now (table .entry)) kind ⌝ }
 {
-    let place = table[ITEMS + wide(kind)] as usize;
+    let place = table[ITEMS + to_usize(kind)] as usize;
     if place == 0 {
         return 0;
     }

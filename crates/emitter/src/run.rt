@@ -15,7 +15,7 @@ use crate::table::clause_end;
 use crate::table::index_at;
 use crate::table::source_at;
 use crate::table::span_at;
-use fields::bytes::wide;
+use fields::bytes::to_usize;
 use reader::index::TABLE;
 use reader::node::Syntax;
 use reader::node::name_length;
@@ -48,7 +48,7 @@ fn start_node(
     ensures { λ r. ⌜ ((f : Translation) (given : List ℕ) (u : Code) → NodeAt syntax (now (table .entry)) (now (input .entry)) at kind f given u
         → Started syntax (now (table .entry)) (now (input .entry)) (now (node .exit)) at r f given u) ⌝ }
 {
-    let key = 32 + (kind * 256 + wide(input[at + sign_length(syntax)]));
+    let key = 32 + (kind * 256 + to_usize(input[at + sign_length(syntax)]));
     node[9] = index_at(table, key) + 4;
     node[0] = at + name_length(syntax);
     clause_at(table, key)

@@ -18,7 +18,7 @@ pub const BODY: usize = 17472;
 pub const SPANS: usize = 21568;
 
 // A number of the table as a position or a length.
-fn wide(x: u16) -> usize
+fn to_usize(x: u16) -> usize
     ensures { λ r. ⌜ (r ≡ x) × (r < 65536) ⌝ }
 {
     x as usize
@@ -29,7 +29,7 @@ pub fn index_at(table: &[u16; TABLE], key: usize) -> usize
     requires { ⌜ key < indexLength ⌝ }
     ensures { λ r. ⌜ (r ≡ indexEntry (now (table .entry)) key) × (r < 65536) ⌝ }
 {
-    wide(table[key])
+    to_usize(table[key])
 }
 
 // What the index of the body's items holds under a key.
@@ -37,7 +37,7 @@ pub fn clause_at(table: &[u16; TABLE], key: usize) -> usize
     requires { ⌜ key < indexLength ⌝ }
     ensures { λ r. ⌜ (r ≡ clauseEntry (now (table .entry)) key) × (r < 65536) ⌝ }
 {
-    wide(table[ITEMS + key])
+    to_usize(table[ITEMS + key])
 }
 
 // A byte of the source.
@@ -45,7 +45,7 @@ pub fn source_at(table: &[u16; TABLE], i: usize) -> usize
     requires { ⌜ i < 1024 ⌝ }
     ensures { λ r. ⌜ (r ≡ sourceByte (now (table .entry)) i) × (r < 65536) ⌝ }
 {
-    wide(table[SOURCE + i])
+    to_usize(table[SOURCE + i])
 }
 
 // A byte of the body.
@@ -53,7 +53,7 @@ pub fn body_at(table: &[u16; TABLE], c: usize) -> usize
     requires { ⌜ c < 4096 ⌝ }
     ensures { λ r. ⌜ (r ≡ bodyByte (now (table .entry)) c) × (r < 65536) ⌝ }
 {
-    wide(table[BODY + c])
+    to_usize(table[BODY + c])
 }
 
 // Where the code of the production at c in the body ends.
@@ -61,7 +61,7 @@ pub fn span_at(table: &[u16; TABLE], c: usize) -> usize
     requires { ⌜ c < 4096 ⌝ }
     ensures { λ r. ⌜ (r ≡ spanEntry (now (table .entry)) c) × (r < 65536) ⌝ }
 {
-    wide(table[SPANS + c])
+    to_usize(table[SPANS + c])
 }
 
 // Where the clause ends whose field has its length at a place of the body.

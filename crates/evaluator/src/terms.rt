@@ -1,7 +1,7 @@
 // The two reducers, one for each sort of term: they call each other with fewer levels left. A value is left at the
 // start of the lent buffer; what a sign needs later, operands and bound values, is copied into the store.
 use fields::bytes::byte_at;
-use fields::bytes::wide;
+use fields::bytes::to_usize;
 use fields::outcome::Reason;
 use signs::apply::Operator;
 use signs::apply::apply;
@@ -173,7 +173,7 @@ fn make_term(
     match operands(sort, sort, pack, at, levels, places, store, top, out) {
         EvaluatedTwo::Refused(reason) => Evaluated::Refused(reason),
         EvaluatedTwo::To(middle, last, end) => {
-            let operator = Operator::Make(wide(byte_at(pack, end)));
+            let operator = Operator::Make(to_usize(byte_at(pack, end)));
             finish(
                 apply(operator, pack, store, top, middle, last, out),
                 end + 1,
@@ -202,7 +202,7 @@ fn let_term(
     match operand(bound, pack, at + 2, below, places, store, top, out) {
         Evaluated::Refused(reason) => Evaluated::Refused(reason),
         Evaluated::To(last, next) => {
-            let number = slot(bound, wide(byte_at(pack, at + 1)));
+            let number = slot(bound, to_usize(byte_at(pack, at + 1)));
             let inner = set_slot(places, number, top + 1, last);
             term_of(sort, pack, next, below, inner, store, last, out)
         }

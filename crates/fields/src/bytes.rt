@@ -5,7 +5,7 @@ ghost use lib.ListN.{length, getD};
 ghost use Rattle.fields.specs.Fields.{pairAt};
 
 // A byte as a position or a length.
-pub fn wide(x: u8) -> usize
+pub fn to_usize(x: u8) -> usize
     ensures { λ r. ⌜ (r ≡ x) × (r < 256) ⌝ }
 {
     x as usize
@@ -23,7 +23,7 @@ pub fn pair_at(s: &[u8], i: usize) -> usize
     requires { ⌜ i ≤ length (now s) + 16 ⌝ }
     ensures { λ r. ⌜ (r ≡ pairAt (now (s .entry)) i) × (r < 65536) ⌝ }
 {
-    wide(byte_at(s, i)) * 256 + wide(byte_at(s, i + 1))
+    to_usize(byte_at(s, i)) * 256 + to_usize(byte_at(s, i + 1))
 }
 
 // The same number, where both bytes are known to be there.
@@ -31,5 +31,5 @@ pub fn pair_in(s: &[u8], i: usize) -> usize
     requires { ⌜ i + 1 < length (now s) ⌝ }
     ensures { λ r. ⌜ (r ≡ pairAt (now (s .entry)) i) × (r < 65536) ⌝ }
 {
-    wide(s[i]) * 256 + wide(s[i + 1])
+    to_usize(s[i]) * 256 + to_usize(s[i + 1])
 }

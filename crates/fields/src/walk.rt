@@ -11,7 +11,7 @@ ghost use Rattle.fields.specs.Inner.Places.{EndsAt, EndIfWhole, longAt, 
 use super::bytes::byte_at;
 use super::bytes::pair_at;
 use super::bytes::pair_in;
-use super::bytes::wide;
+use super::bytes::to_usize;
 
 // Where the field at p ends, by its length bytes. It is whole if that is not past the end of the file.
 pub fn field_end(s: &[u8], p: usize) -> usize
@@ -50,7 +50,7 @@ pub fn key_at(s: &[u8], p: usize, leading_tag: u8) -> usize
     ensures { λ r. ⌜ (r ≡ keyAt «leading_tag» (now (s .entry)) p) × (r < 65568) ⌝ }
 {
     if byte_at(s, p) == leading_tag {
-        return wide(byte_at(s, p + 3));
+        return to_usize(byte_at(s, p + 3));
     }
     32 + pair_at(s, p + 3)
 }
@@ -61,7 +61,7 @@ pub fn whole_key(s: &[u8], p: usize, leading_tag: u8) -> usize
     ensures { λ r. ⌜ (r ≡ keyAt «leading_tag» (now (s .entry)) p) × (r < 65568) ⌝ }
 {
     if s[p] == leading_tag {
-        return wide(s[p + 3]);
+        return to_usize(s[p + 3]);
     }
     32 + pair_in(s, p + 3)
 }

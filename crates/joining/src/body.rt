@@ -10,7 +10,7 @@ ghost use Rattle.fields.specs.Inner.Writing.{spliced, Stores};
 ghost use Rattle.joining.specs.Inner.Joining.{Joining, Maps, Reached, head, joinedCode, joinedField, joinedBody};
 use emitter::run::run;
 use fields::bytes::byte_at;
-use fields::bytes::wide;
+use fields::bytes::to_usize;
 use fields::copy::Stored;
 use fields::walk::field_end;
 use reader::index::TABLE;
@@ -38,7 +38,7 @@ fn join_mapping(mapped: &[u8], second_body: &[u8], p: usize, out: &mut [u8], n: 
         return Stored::Full;
     }
     let middle = byte_at(second_body, p + 4);
-    let kind = byte_at(mapped, wide(middle));
+    let kind = byte_at(mapped, to_usize(middle));
     put_head(0x22, 2, byte_at(second_body, p + 3), kind, out, n);
     Stored::To(n + 5)
 }

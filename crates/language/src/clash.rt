@@ -6,7 +6,7 @@ ghost use Rattle.fields.specs.Lists.{all, any};
 ghost use Rattle.fields.specs.Inner.Places.{placesFrom, tagIs};
 ghost use Rattle.language.specs.Inner.Entries.{entryWhole, RisingEntries, Classed, resultMarked, resultsMeet, resultIsClass};
 use super::entries::CLASS;
-use fields::bytes::wide;
+use fields::bytes::to_usize;
 use fields::walk::whole_end;
 
 // Marks the classes in a table of kinds, and says where the productions start.
@@ -19,7 +19,7 @@ fn mark_classes(s: &[u8], kinds: &mut [bool]) -> usize
         if s[p] != CLASS {
             return p;
         }
-        kinds[wide(s[p + 3])] = true;
+        kinds[to_usize(s[p + 3])] = true;
         p = whole_end(s, p);
     }
     p
@@ -32,7 +32,7 @@ fn results_marked(s: &[u8], q: usize, kinds: &[bool]) -> bool
 {
     let mut p = q;
     while p < s.len() {
-        if kinds[wide(s[p + 3])] {
+        if kinds[to_usize(s[p + 3])] {
             return true;
         }
         p = whole_end(s, p);

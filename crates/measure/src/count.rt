@@ -3,7 +3,7 @@ use crate::table::add_at;
 use crate::table::count_at;
 use fields::bytes::byte_at;
 use fields::bytes::pair_at;
-use fields::bytes::wide;
+use fields::bytes::to_usize;
 use fields::walk::field_end;
 ghost use mathlib.Core.Path.{_≡_};
 ghost use mathlib.Core.Bool.{true};
@@ -24,7 +24,7 @@ fn amount(sign: u8) -> u16
 fn slot(sign: u8, number: u8) -> usize
     ensures { λ r. ⌜ (r ≡ slotOf sign number) × (r < 256) ⌝ }
 {
-    if sign == 3 { wide(number) } else { 0 }
+    if sign == 3 { to_usize(number) } else { 0 }
 }
 
 // Counts the code that stands in the body from `from` up to `to`: its own bytes at `own`, the uses behind.

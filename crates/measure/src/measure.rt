@@ -2,7 +2,7 @@
 use crate::capped::add_share;
 use crate::table::count_in;
 use fields::bytes::pair_in;
-use fields::bytes::wide;
+use fields::bytes::to_usize;
 use reader::ends::keep_end;
 use reader::index::TABLE;
 use reader::node::Read;
@@ -66,7 +66,7 @@ fn step_at(
     ensures within { λ r. ⌜ StepIn (now (source .entry)) (length (now (tree .entry))) top at r ⌝ }
     ensures decides { λ r. ⌜ Decides (now (source .entry)) (now (index .entry)) (now (tree .entry)) kind at r ⌝ }
 {
-    let class = place_at(index, wide(kind));
+    let class = place_at(index, to_usize(kind));
     let place = production_place(Syntax::Tree, index, class, kind, tree, at);
     if place == 0 {
         return leaf(token(source, class, tree, at), weight, sum, top);

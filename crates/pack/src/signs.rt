@@ -2,7 +2,7 @@
 ghost use mathlib.Core.Path.{_≡_};
 ghost use Prim.Native.Nat.{_≤_};
 ghost use Rattle.pack.specs.Inner.Signs.{hasNumber, signIndex, firstOperand, secondOperand};
-use fields::bytes::wide;
+use fields::bytes::to_usize;
 
 // The sort of the first operand: 0 where there is none, 1 for a language term, 2 for a translation term.
 const FIRSTS: [u8; 16] = [0, 0, 1, 1, 2, 2, 1, 2, 1, 0, 2, 2, 2, 1, 1, 2];
@@ -18,13 +18,13 @@ fn sign_index(sign: u8) -> usize
         return 16;
     }
     if sign < 0x48 {
-        return wide(sign) - 0x40;
+        return to_usize(sign) - 0x40;
     }
     if sign < 0x50 {
         return 16;
     }
     if sign < 0x58 {
-        return wide(sign) - 0x48;
+        return to_usize(sign) - 0x48;
     }
     16
 }

@@ -13,7 +13,7 @@ use super::whole::BODY;
 use super::whole::LANGUAGE;
 use super::whole::count_tag;
 use fields::bytes::byte_at;
-use fields::bytes::wide;
+use fields::bytes::to_usize;
 use fields::outcome::Answer;
 use fields::outcome::Reason;
 use fields::outcome::accept;
@@ -35,7 +35,7 @@ fn number_end(s: &[u8], at: usize, limit: usize) -> Read
     if s.len() <= at {
         return Read::Broken;
     }
-    if limit <= wide(s[at]) {
+    if limit <= to_usize(s[at]) {
         return Read::Broken;
     }
     Read::End(at + 1)

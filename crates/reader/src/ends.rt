@@ -9,7 +9,7 @@ ghost use Rattle.reader.specs.Inner.Ends.{Kept};
 const LAST_POSITION: usize = 134217727;
 
 // A number of the table as a position.
-fn wide(x: u32) -> usize
+fn to_usize(x: u32) -> usize
     ensures { λ r. ⌜ (r ≡ x) × (r < 4294967296) ⌝ }
 {
     x as usize
@@ -27,10 +27,10 @@ pub fn known_end(ends: &[u32], kind: usize, at: usize) -> usize
     if LAST_POSITION < at {
         return 0;
     }
-    if wide(ends[slot]) != at * 32 + kind {
+    if to_usize(ends[slot]) != at * 32 + kind {
         return 0;
     }
-    wide(ends[slot + 1])
+    to_usize(ends[slot + 1])
 }
 
 // Keeps where a term ends, if it is long, and longer than the one that is kept in its place.
@@ -48,7 +48,7 @@ pub fn keep_end(ends: &mut [u32], kind: u8, at: usize, end: usize)
     if LAST_POSITION < end {
         return;
     }
-    if wide(ends[slot + 1]) + at < wide(ends[slot]) / 32 + end {
+    if to_usize(ends[slot + 1]) + at < to_usize(ends[slot]) / 32 + end {
         ends[slot] = (at * 32 + kind as usize) as u32;
         ends[slot + 1] = end as u32;
     }

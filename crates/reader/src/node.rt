@@ -1,6 +1,6 @@
 // What stands at one position: a leaf, or a production whose operands follow.
 use fields::bytes::pair_in;
-use fields::bytes::wide;
+use fields::bytes::to_usize;
 ghost use mathlib.Core.Path.{_≡_};
 ghost use Prim.Native.Nat.{ℕ, _+_, _<_, _≤_};
 ghost use mathlib.Core.Bool.{cond};
@@ -55,7 +55,7 @@ fn name_place(index: &[u16], kind: u8, bytes: &[u8], at: usize) -> usize
     if bytes.len() <= at {
         return 0;
     }
-    place_at(index, 32 + (wide(kind) * 256 + wide(bytes[at])))
+    place_at(index, 32 + (to_usize(kind) * 256 + to_usize(bytes[at])))
 }
 
 // The place of the production of the kind whose name stands at a position; 0 if there is none, or if a token of a class
@@ -117,7 +117,7 @@ fn name(language: &[u8], index: &[u16], kind: u8, bytes: &[u8], at: usize) -> No
     if bytes.len() <= at {
         return Node::Leaf(Read::Broken);
     }
-    let place = place_at(index, 32 + (wide(kind) * 256 + wide(bytes[at])));
+    let place = place_at(index, 32 + (to_usize(kind) * 256 + to_usize(bytes[at])));
     if place == 0 {
         return Node::Leaf(Read::Broken);
     }
@@ -145,7 +145,7 @@ fn argument(arguments: &[u8], kind: u8, bytes: &[u8], at: usize) -> Read
     if bytes.len() <= at {
         return Read::Broken;
     }
-    if argument_is(arguments, kind, wide(bytes[at])) {
+    if argument_is(arguments, kind, to_usize(bytes[at])) {
         return Read::End(at + 1);
     }
     Read::Broken
@@ -156,7 +156,7 @@ fn tree_node(language: &[u8], index: &[u16], kind: u8, bytes: &[u8], at: usize) 
     requires { ⌜ Ready (now index) (now language) kind (now bytes) at ⌝ }
     ensures { λ r. ⌜ (r ≡ treeNode (now (language .entry)) (now (index .entry)) kind (now (bytes .entry)) at) × NodeIn (now (language .entry)) (now (bytes .entry)) r ⌝ }
 {
-    let place = place_at(index, wide(kind));
+    let place = place_at(index, to_usize(kind));
     if place == 0 {
         return name(language, index, kind, bytes, at);
     }
@@ -183,7 +183,7 @@ fn code_node(
         return name(language, index, kind, bytes, at + 1);
     }
     if sign == 2 {
-        return Node::Leaf(token(language, place_at(index, wide(kind)), bytes, at + 1));
+        return Node::Leaf(token(language, place_at(index, to_usize(kind)), bytes, at + 1));
     }
     if sign == 3 {
         return Node::Leaf(argument(arguments, kind, bytes, at + 1));

@@ -8,7 +8,7 @@ use crate::node::place_at;
 use crate::node::production_place;
 use crate::node::token;
 use fields::bytes::pair_in;
-use fields::bytes::wide;
+use fields::bytes::to_usize;
 ghost use mathlib.Core.Path.{_≡_};
 ghost use Prim.Native.Nat.{ℕ, _+_, _-_, _<_, _≤_};
 ghost use mathlib.Core.List.{List};
@@ -24,7 +24,7 @@ pub fn class_place(syntax: Syntax, index: &[u16], kind: u8) -> usize
     ensures { λ r. ⌜ r ≡ classPlace syntax (now (index .entry)) kind ⌝ }
 {
     match syntax {
-        Syntax::Tree => place_at(index, wide(kind)),
+        Syntax::Tree => place_at(index, to_usize(kind)),
         Syntax::Code => 0,
     }
 }

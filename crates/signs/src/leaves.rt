@@ -7,7 +7,7 @@ use crate::places::slot;
 use crate::places::start_of;
 use crate::sorts::Sort;
 use fields::bytes::byte_at;
-use fields::bytes::wide;
+use fields::bytes::to_usize;
 use fields::copy::put;
 use fields::outcome::Outcome;
 use fields::outcome::Reason;
@@ -55,7 +55,7 @@ pub fn constant(pack: &[u8], at: usize, out: &mut [u8]) -> Evaluated
     ensures { λ r. ⌜ ((p : Pack) (l : Language) → packOf (now (pack .entry)) ≡ value p → getElem? (p .languages) (getD (now (pack .entry)) (at + 1) 0) ≡ some l
         → Wrote languages (value l) (now (out .entry)) (now (out .exit)) (at + 2) r) ⌝ }
 {
-    let place = language_at(pack, wide(byte_at(pack, at + 1)));
+    let place = language_at(pack, to_usize(byte_at(pack, at + 1)));
     finish(
         copy(Sort::Language, pack, place.start, place.end, out),
         at + 2,
@@ -77,7 +77,7 @@ pub fn variable(
     ensures { λ r. ⌜ ((e : Environment) → Held e places (take top (now (store .entry)))
         → Wrote (sortOf sort) (there UnboundVariable (e (sortOf sort) (getD (now (pack .entry)) (at + 1) 0))) (now (out .entry)) (now (out .exit)) (at + 2) r) ⌝ }
 {
-    let number = slot(sort, wide(byte_at(pack, at + 1)));
+    let number = slot(sort, to_usize(byte_at(pack, at + 1)));
     let start = start_of(places, number);
     if start == 0 {
         return Evaluated::Refused(Reason::UnboundVariable);

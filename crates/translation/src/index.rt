@@ -8,7 +8,7 @@ ghost use Rattle.translation.specs.Translation.{Body};
 ghost use Rattle.translation.specs.TranslationFile.{bodyOf};
 ghost use Rattle.translation.specs.Inner.ItemIndex.{SoundKinds, SoundItems, IndexedItems, IndexedKinds, mappedAt, knownAt};
 use fields::bytes::byte_at;
-use fields::bytes::wide;
+use fields::bytes::to_usize;
 use fields::walk::key_at;
 use fields::walk::whole_end;
 use reader::index::put_all;
@@ -43,7 +43,7 @@ pub fn put_mappings(body: &[u8], index: &mut [u16])
         if body[p] != 0x22 {
             return;
         }
-        put(index, wide(body[p + 3]), (p + 1) as u16);
+        put(index, to_usize(body[p + 3]), (p + 1) as u16);
         p = whole_end(body, p);
     }
 }
@@ -53,7 +53,7 @@ pub fn target_kind(body: &[u8], index: &[u16], kind: u8) -> u8
     requires { ⌜ SoundKinds (now index) (now body) × (kind < 32) ⌝ }
     ensures { λ r. ⌜ (r ≡ mappedAt (now (body .entry)) (now (index .entry)) kind) × (r < 32) ⌝ }
 {
-    let place = place_at(index, wide(kind));
+    let place = place_at(index, to_usize(kind));
     if place == 0 {
         return 0;
     }
@@ -75,7 +75,7 @@ pub fn map_kinds(body: &[u8], index: &[u16], mapped: &mut [u8])
 {
     let mut kind = 0u8;
     while kind < 32 {
-        mapped[wide(kind)] = map_kind(body, index, kind);
+        mapped[to_usize(kind)] = map_kind(body, index, kind);
         kind += 1;
     }
 }

@@ -9,7 +9,7 @@ ghost use Rattle.fields.specs.Inner.Places.{places, fieldEnd};
 ghost use Rattle.language.specs.Inner.Entries.{entryWhole};
 ghost use Rattle.reader.specs.Inner.Positions.{KindsIn};
 ghost use Rattle.wellformed.specs.Inner.Tests.{markAll, mentionedAt, markEntries};
-use fields::bytes::wide;
+use fields::bytes::to_usize;
 use fields::walk::whole_end;
 
 // Marks a kind in the table.
@@ -17,7 +17,7 @@ fn mark(kinds: &mut [bool], kind: u8)
     requires { ⌜ kind < length (now kinds) ⌝ }
     ensures { λ r. ⌜ now (kinds .exit) ≡ set (now (kinds .entry)) kind true ⌝ }
 {
-    kinds[wide(kind)] = true;
+    kinds[to_usize(kind)] = true;
 }
 
 // Marks the kinds that stand from p up to e.

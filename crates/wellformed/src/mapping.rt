@@ -17,7 +17,7 @@ ghost use Rattle.wellformed.specs.Inner.Tests.{mappedIf, reachesAt, same
 use super::kinds::mark_entries;
 use fields::bytes::byte_at;
 use fields::bytes::pair_at;
-use fields::bytes::wide;
+use fields::bytes::to_usize;
 use fields::walk::whole_end;
 use reader::node::place_at;
 use translation::index::target_kind;
@@ -56,7 +56,7 @@ fn reaches_at(s: &[u8], p: usize, kinds: &[bool]) -> bool
     if byte_at(s, p) != 0x22 {
         return true;
     }
-    let target = wide(byte_at(s, p + 4));
+    let target = to_usize(byte_at(s, p + 4));
     if kinds.len() <= target {
         return false;
     }
@@ -111,7 +111,7 @@ fn kept_at(
         return true;
     }
     let kind = target_kind(body, items, byte_at(source, p + 3));
-    same_range(source, p, target, place_at(targets, wide(kind)))
+    same_range(source, p, target, place_at(targets, to_usize(kind)))
 }
 
 // Each source class maps to a target class of equal range.

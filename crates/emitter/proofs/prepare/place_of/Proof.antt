@@ -6,13 +6,13 @@ use Rattle.emitter.proofs.prepare.place_of.Statement.{statement}
 use Rattle.emitter.proofs.prepare.place_of.Tie as tie
 use Rattle.emitter.proofs.prepare.place_of.Reads as reads
 use Rattle.emitter.proofs.prepare.place_of.Lts as lts
-use Rattle.fields.proofs.bytes.wide.Reads as wide-reads
+use Rattle.fields.proofs.bytes.to_usize.Reads as to-usize-reads
 
 cast-result : tie.Need-cast-result
-cast-result c = omega (arith, c .shared-slice-known2 .given (32 + (c .before .before .wide .result * 256 + c .before .wide2 .result)))
+cast-result c = omega (arith, c .shared-slice-known2 .given (32 + (c .before .before .to-usize .result * 256 + c .before .to-usize2 .result)))
 
 returns : tie.Need-returns
-returns c = place-is (c .before .before .before .before .args .places .now) _ _ _ _ (c .before .before .wide .ensures .0) (c .before .wide2 .ensures .0) (λ i. omega (arith, c .shared-slice-known2 .given i))
+returns c = place-is (c .before .before .before .before .args .places .now) _ _ _ _ (c .before .before .to-usize .ensures .0) (c .before .to-usize2 .ensures .0) (λ i. omega (arith, c .shared-slice-known2 .given i))
 
 pub place-of-spec : {M : Type 1} → statement M
 place-of-spec =

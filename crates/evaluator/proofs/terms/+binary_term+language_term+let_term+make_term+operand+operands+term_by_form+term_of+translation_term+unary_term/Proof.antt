@@ -40,7 +40,7 @@ use Rattle.evaluator.proofs.terms.unary_term.Reads as unary-term
 use Rattle.evaluator.proofs.terms.unary_term.Kinds as unary-term-kinds
 use Rattle.evaluator.proofs.terms.+binary_term+language_term+let_term+make_term+operand+operands+term_by_form+term_of+translation_term+unary_term.Lts-unary_term as unary-term-lts
 use Rattle.fields.proofs.bytes.byte_at.Reads as byte-at-reads
-use Rattle.fields.proofs.bytes.wide.Reads as wide-reads
+use Rattle.fields.proofs.bytes.to_usize.Reads as to-usize-reads
 use Rattle.signs.proofs.apply.apply.Reads as apply-reads
 use Rattle.signs.proofs.evaluated.finish.Reads as finish-reads
 use Rattle.signs.proofs.forms.language_form.Reads as language-form-reads
@@ -186,10 +186,10 @@ abbrev language-term-calls : ℕ → language-term-lts.Claims
 language-term-calls t = (byte-at-reads.Asked, byte-at-reads.Learnt, language-form-reads.Asked, language-form-reads.Learnt, term-by-form-below t, term-by-form.Post)
 
 abbrev let-term-calls : ℕ → let-term-lts.Claims
-let-term-calls t = (operand-below t, operand.Post, byte-at-reads.Asked, byte-at-reads.Learnt, wide-reads.Asked, wide-reads.Learnt, slot-reads.Asked, slot-reads.Learnt, set-slot-reads.Asked, set-slot-reads.Learnt, term-of-below t, term-of.Post)
+let-term-calls t = (operand-below t, operand.Post, byte-at-reads.Asked, byte-at-reads.Learnt, to-usize-reads.Asked, to-usize-reads.Learnt, slot-reads.Asked, slot-reads.Learnt, set-slot-reads.Asked, set-slot-reads.Learnt, term-of-below t, term-of.Post)
 
 abbrev make-term-calls : ℕ → make-term-lts.Claims
-make-term-calls t = (operands-below t, operands.Post, byte-at-reads.Asked, byte-at-reads.Learnt, wide-reads.Asked, wide-reads.Learnt, apply-reads.Asked, apply-reads.Learnt, finish-reads.Asked, finish-reads.Learnt)
+make-term-calls t = (operands-below t, operands.Post, byte-at-reads.Asked, byte-at-reads.Learnt, to-usize-reads.Asked, to-usize-reads.Learnt, apply-reads.Asked, apply-reads.Learnt, finish-reads.Asked, finish-reads.Learnt)
 
 abbrev operand-calls : ℕ → operand-lts.Claims
 operand-calls t = (term-of-below t, term-of.Post, save-reads.Asked, save-reads.Learnt)
@@ -240,7 +240,7 @@ let-term-add-byte-at : (t : ℕ) → let-term-lts.Need-add-byte-at (let-term-cal
 let-term-add-byte-at t c = omega (arith, let-number (c .before .before .before .before .before .before .before .before .before .before .before .before .before .args .pack .now) (c .before .before .before .before .before .before .before .before .before .before .before .before .before .args .at) (sortOf (c .before .before .before .before .before .before .before .before .before .before .before .before .before .args .bound)) (sortOf (c .before .before .before .before .before .before .before .before .before .before .before .before .before .args .sort)) (c .before .before .before .before .before .before .before .before .before .before .before .before .before .pre .1 .2) (c .before .before .before .before .before .before .before .before .before .before .before .before .before .pre .1 .3) (c .before .before .before .before .before .before .before .before .before .before .before .before .before .pre .1 .0) .0)
 
 let-term-slot-requires : (t : ℕ) → let-term-lts.Need-slot-requires (let-term-calls t) (let-term-at t) let-term.Post
-let-term-slot-requires t c κs = omega (arith, let-number (c .before .before .before .before .before .before .before .before .before .before .before .before .before .before .before .args .pack .now) (c .before .before .before .before .before .before .before .before .before .before .before .before .before .before .before .args .at) (sortOf (c .before .before .before .before .before .before .before .before .before .before .before .before .before .before .before .args .bound)) (sortOf (c .before .before .before .before .before .before .before .before .before .before .before .before .before .before .before .args .sort)) (c .before .before .before .before .before .before .before .before .before .before .before .before .before .before .before .pre .1 .2) (c .before .before .before .before .before .before .before .before .before .before .before .before .before .before .before .pre .1 .3) (c .before .before .before .before .before .before .before .before .before .before .before .before .before .before .before .pre .1 .0) .1, (c .wide .ensures .0 ∙ c .before .byte-at .ensures))
+let-term-slot-requires t c κs = omega (arith, let-number (c .before .before .before .before .before .before .before .before .before .before .before .before .before .before .before .args .pack .now) (c .before .before .before .before .before .before .before .before .before .before .before .before .before .before .before .args .at) (sortOf (c .before .before .before .before .before .before .before .before .before .before .before .before .before .before .before .args .bound)) (sortOf (c .before .before .before .before .before .before .before .before .before .before .before .before .before .before .before .args .sort)) (c .before .before .before .before .before .before .before .before .before .before .before .before .before .before .before .pre .1 .2) (c .before .before .before .before .before .before .before .before .before .before .before .before .before .before .before .pre .1 .3) (c .before .before .before .before .before .before .before .before .before .before .before .before .before .before .before .pre .1 .0) .1, (c .to-usize .ensures .0 ∙ c .before .byte-at .ensures))
 
 let-term-add-set-slot : (t : ℕ) → let-term-lts.Need-add-set-slot (let-term-calls t) (let-term-at t) let-term.Post
 let-term-add-set-slot t c = omega (arith, let-room (c .before .before .before .before .before .before .before .before .before .before .before .before .before .before .before .before .args .pack .now) (c .before .before .before .before .before .before .before .before .before .before .before .before .before .before .before .before .args .at) (sortOf (c .before .before .before .before .before .before .before .before .before .before .before .before .before .before .before .before .args .bound)) (sortOf (c .before .before .before .before .before .before .before .before .before .before .before .before .before .before .before .before .args .sort)) (c .before .before .before .before .before .before .before .before .before .before .before .before .before .before .before .before .pre .1 .2) (c .before .before .before .before .before .before .before .before .before .before .before .before .before .before .before .before .pre .1 .3) (c .before .before .before .before .before .before .before .before .before .before .operand .ensures) (c .before .before .before .before .last .given .1) (c .before .before .before .before .before .before .before .before .before .before .before .before .before .before .before .before .pre .1 .0), c .before .before .before .before .before .before .before .before .before .before .operand .ensures .kept .long, c .before .before .before .before .before .before .before .before .before .before .before .before .before .before .before .before .good .1 .1 .1 .1 .1 .1 .0 .1)
@@ -249,19 +249,19 @@ let-term-set-slot-requires : (t : ℕ) → let-term-lts.Need-set-slot-requires (
 let-term-set-slot-requires t c κs = (c .slot .ensures .1, c .before .before .before .before .before .before .before .before .before .before .before .before .before .before .before .before .pre .1 .0 .ground .held .sized)
 
 let-term-term-of-requires : (t : ℕ) → let-term-lts.Need-term-of-requires (let-term-calls t) (let-term-at t) let-term.Post
-let-term-term-of-requires t c κs = (omega arith, (let-inner (c .before .before .before .before .before .before .before .before .before .before .before .before .before .before .before .before .before .before .before .args .pack .now) (c .before .before .before .before .before .before .before .before .before .before .before .before .before .before .before .before .before .before .before .args .at) (sortOf (c .before .before .before .before .before .before .before .before .before .before .before .before .before .before .before .before .before .before .before .args .bound)) (sortOf (c .before .before .before .before .before .before .before .before .before .before .before .before .before .before .before .before .before .before .before .args .sort)) (c .before .before .before .before .before .before .before .before .before .before .before .before .before .before .before .before .before .before .before .pre .1 .2) (c .before .before .before .before .before .before .before .before .before .before .before .before .before .before .before .before .before .before .before .pre .1 .3) (c .before .before .before .before .before .before .before .before .before .before .before .before .before .operand .ensures) (c .before .before .before .before .before .before .before .last .given .1) (c .before .before .before .slot .ensures .0 ∙ ap (slotOf (sortOf (c .before .before .before .before .before .before .before .before .before .before .before .before .before .before .before .before .before .before .before .args .bound))) (c .before .before .before .before .wide .ensures .0 ∙ c .before .before .before .before .before .byte-at .ensures)) (c .before .before .set-slot .ensures) (c .before .before .before .before .before .before .before .before .before .before .before .before .before .before .before .before .before .before .before .pre .1 .0), omega (arith, c .before .before .before .before .before .before .before .before .before .before .before .before .before .before .before .before .before .before .before .pre .1 .1, c .before .before .before .before .before .before .before .before .before .before .before .before .before .operand .ensures .long)))
+let-term-term-of-requires t c κs = (omega arith, (let-inner (c .before .before .before .before .before .before .before .before .before .before .before .before .before .before .before .before .before .before .before .args .pack .now) (c .before .before .before .before .before .before .before .before .before .before .before .before .before .before .before .before .before .before .before .args .at) (sortOf (c .before .before .before .before .before .before .before .before .before .before .before .before .before .before .before .before .before .before .before .args .bound)) (sortOf (c .before .before .before .before .before .before .before .before .before .before .before .before .before .before .before .before .before .before .before .args .sort)) (c .before .before .before .before .before .before .before .before .before .before .before .before .before .before .before .before .before .before .before .pre .1 .2) (c .before .before .before .before .before .before .before .before .before .before .before .before .before .before .before .before .before .before .before .pre .1 .3) (c .before .before .before .before .before .before .before .before .before .before .before .before .before .operand .ensures) (c .before .before .before .before .before .before .before .last .given .1) (c .before .before .before .slot .ensures .0 ∙ ap (slotOf (sortOf (c .before .before .before .before .before .before .before .before .before .before .before .before .before .before .before .before .before .before .before .args .bound))) (c .before .before .before .before .to-usize .ensures .0 ∙ c .before .before .before .before .before .byte-at .ensures)) (c .before .before .set-slot .ensures) (c .before .before .before .before .before .before .before .before .before .before .before .before .before .before .before .before .before .before .before .pre .1 .0), omega (arith, c .before .before .before .before .before .before .before .before .before .before .before .before .before .before .before .before .before .before .before .pre .1 .1, c .before .before .before .before .before .before .before .before .before .before .before .before .before .operand .ensures .long)))
 
 let-term-returns : (t : ℕ) → let-term-lts.Need-returns (let-term-calls t) (let-term-at t) let-term.Post
 let-term-returns t c = let-refused (c .before .before .before .before .before .before .before .before .before .before .before .before .before .args .pack .now) (c .before .before .before .before .before .before .before .before .before .before .before .before .before .args .at) (sortOf (c .before .before .before .before .before .before .before .before .before .before .before .before .before .args .bound)) (sortOf (c .before .before .before .before .before .before .before .before .before .before .before .before .before .args .sort)) (c .before .before .before .before .before .before .before .before .before .before .before .before .before .pre .1 .2) (c .before .before .before .before .before .before .before .before .before .before .before .before .before .pre .1 .3) (c .before .before .before .before .before .before .before .operand .ensures) (c .before .reason .given .1)
 
 let-term-returns-2 : (t : ℕ) → let-term-lts.Need-returns-2 (let-term-calls t) (let-term-at t) let-term.Post
-let-term-returns-2 t c = let-gives (c .before .before .before .before .before .before .before .before .before .before .before .before .before .before .before .before .before .before .before .before .before .before .before .before .args .pack .now) (c .before .before .before .before .before .before .before .before .before .before .before .before .before .before .before .before .before .before .before .before .before .before .before .before .args .at) (sortOf (c .before .before .before .before .before .before .before .before .before .before .before .before .before .before .before .before .before .before .before .before .before .before .before .before .args .bound)) (sortOf (c .before .before .before .before .before .before .before .before .before .before .before .before .before .before .before .before .before .before .before .before .before .before .before .before .args .sort)) (c .before .before .before .before .before .before .before .before .before .before .before .before .before .before .before .before .before .before .before .before .before .before .before .before .pre .1 .2) (c .before .before .before .before .before .before .before .before .before .before .before .before .before .before .before .before .before .before .before .before .before .before .before .before .pre .1 .3) (c .before .before .before .before .before .before .before .before .before .before .before .before .before .before .before .before .before .before .operand .ensures) (c .before .before .before .before .before .before .before .before .before .before .before .before .last .given .1) (c .before .before .before .before .before .before .before .before .slot .ensures .0 ∙ ap (slotOf (sortOf (c .before .before .before .before .before .before .before .before .before .before .before .before .before .before .before .before .before .before .before .before .before .before .before .before .args .bound))) (c .before .before .before .before .before .before .before .before .before .wide .ensures .0 ∙ c .before .before .before .before .before .before .before .before .before .before .byte-at .ensures)) (c .before .before .before .before .before .before .before .set-slot .ensures) (c .before .before .before .before .before .before .before .before .before .before .before .before .before .before .before .before .before .before .before .before .before .before .before .before .pre .1 .0) (c .before .before .before .before .term-of .ensures)
+let-term-returns-2 t c = let-gives (c .before .before .before .before .before .before .before .before .before .before .before .before .before .before .before .before .before .before .before .before .before .before .before .before .args .pack .now) (c .before .before .before .before .before .before .before .before .before .before .before .before .before .before .before .before .before .before .before .before .before .before .before .before .args .at) (sortOf (c .before .before .before .before .before .before .before .before .before .before .before .before .before .before .before .before .before .before .before .before .before .before .before .before .args .bound)) (sortOf (c .before .before .before .before .before .before .before .before .before .before .before .before .before .before .before .before .before .before .before .before .before .before .before .before .args .sort)) (c .before .before .before .before .before .before .before .before .before .before .before .before .before .before .before .before .before .before .before .before .before .before .before .before .pre .1 .2) (c .before .before .before .before .before .before .before .before .before .before .before .before .before .before .before .before .before .before .before .before .before .before .before .before .pre .1 .3) (c .before .before .before .before .before .before .before .before .before .before .before .before .before .before .before .before .before .before .operand .ensures) (c .before .before .before .before .before .before .before .before .before .before .before .before .last .given .1) (c .before .before .before .before .before .before .before .before .slot .ensures .0 ∙ ap (slotOf (sortOf (c .before .before .before .before .before .before .before .before .before .before .before .before .before .before .before .before .before .before .before .before .before .before .before .before .args .bound))) (c .before .before .before .before .before .before .before .before .before .to-usize .ensures .0 ∙ c .before .before .before .before .before .before .before .before .before .before .byte-at .ensures)) (c .before .before .before .before .before .before .before .set-slot .ensures) (c .before .before .before .before .before .before .before .before .before .before .before .before .before .before .before .before .before .before .before .before .before .before .before .before .pre .1 .0) (c .before .before .before .before .term-of .ensures)
 
 make-term-operands-requires : (t : ℕ) → make-term-lts.Need-operands-requires (make-term-calls t) (make-term-at t) make-term.Post
 make-term-operands-requires t c κs = (omega arith, (make-asks (c .before .before .before .before .before .args .pack .now) (c .before .before .before .before .before .args .at) (c .before .before .before .before .before .pre .1 .2) (c .before .before .before .before .before .pre .1 .3) (c .before .before .before .before .before .pre .1 .0), c .before .before .before .before .before .pre .1 .2, c .before .before .before .before .before .pre .1 .1))
 
 make-term-apply-requires : (t : ℕ) → make-term-lts.Need-apply-requires (make-term-calls t) (make-term-at t) make-term.Post
-make-term-apply-requires t c κs = let k = make-values (c .before .before .before .before .before .before .before .before .before .before .before .before .before .before .before .before .before .args .pack .now) (c .before .before .before .before .before .before .before .before .before .before .before .before .before .before .before .before .before .args .at) (c .before .before .before .before .before .before .before .before .before .before .before .before .before .before .before .before .before .pre .1 .2) (c .before .before .before .before .before .before .before .before .before .before .before .before .before .before .before .before .before .pre .1 .3) (c .before .before .before .before .before .before .before .before .before .before .before .operands .ensures) (c .before .before .before .before .before .middle .given .1) (c .before .before .wide .ensures .0 ∙ c .before .before .before .byte-at .ensures) (c .before .before .before .before .before .before .before .before .before .before .before .before .before .before .before .before .before .pre .1 .0) in (k .0, k .1, k .2, k .3, omega (arith, c .before .before .before .before .before .before .before .before .before .before .before .before .before .before .before .before .before .pre .1 .1, c .before .before .before .before .before .before .before .before .before .before .before .operands .ensures .long))
+make-term-apply-requires t c κs = let k = make-values (c .before .before .before .before .before .before .before .before .before .before .before .before .before .before .before .before .before .args .pack .now) (c .before .before .before .before .before .before .before .before .before .before .before .before .before .before .before .before .before .args .at) (c .before .before .before .before .before .before .before .before .before .before .before .before .before .before .before .before .before .pre .1 .2) (c .before .before .before .before .before .before .before .before .before .before .before .before .before .before .before .before .before .pre .1 .3) (c .before .before .before .before .before .before .before .before .before .before .before .operands .ensures) (c .before .before .before .before .before .middle .given .1) (c .before .before .to-usize .ensures .0 ∙ c .before .before .before .byte-at .ensures) (c .before .before .before .before .before .before .before .before .before .before .before .before .before .before .before .before .before .pre .1 .0) in (k .0, k .1, k .2, k .3, omega (arith, c .before .before .before .before .before .before .before .before .before .before .before .before .before .before .before .before .before .pre .1 .1, c .before .before .before .before .before .before .before .before .before .before .before .operands .ensures .long))
 
 make-term-add-finish : (t : ℕ) → make-term-lts.Need-add-finish (make-term-calls t) (make-term-at t) make-term.Post
 make-term-add-finish t c = omega (arith, make-next (c .before .before .before .before .before .before .before .before .before .before .before .before .before .before .before .before .before .before .before .before .args .pack .now) (c .before .before .before .before .before .before .before .before .before .before .before .before .before .before .before .before .before .before .before .before .args .at) (c .before .before .before .before .before .before .before .before .before .before .before .before .before .before .before .before .before .before .before .before .pre .1 .2) (c .before .before .before .before .before .before .before .before .before .before .before .before .before .before .before .before .before .before .before .before .pre .1 .3) (c .before .before .before .before .before .before .before .before .before .before .before .before .before .before .operands .ensures) (c .before .before .before .before .before .before .before .before .middle .given .1) (c .before .before .before .before .before .before .before .before .before .before .before .before .before .before .before .before .before .before .before .before .pre .1 .0))
@@ -270,7 +270,7 @@ make-term-returns : (t : ℕ) → make-term-lts.Need-returns (make-term-calls t)
 make-term-returns t c = make-refused (c .before .before .before .before .before .before .before .before .before .before .before .before .before .args .pack .now) (c .before .before .before .before .before .before .before .before .before .before .before .before .before .args .at) (c .before .before .before .before .before .before .before .before .before .before .before .before .before .pre .1 .2) (c .before .before .before .before .before .before .before .before .before .before .before .before .before .pre .1 .3) (c .before .before .before .before .before .before .before .operands .ensures) (c .before .reason .given .1)
 
 make-term-returns-2 : (t : ℕ) → make-term-lts.Need-returns-2 (make-term-calls t) (make-term-at t) make-term.Post
-make-term-returns-2 t c = make-gives (c .before .before .before .before .before .before .before .before .before .before .before .before .before .before .before .before .before .before .before .before .before .args .pack .now) (c .before .before .before .before .before .before .before .before .before .before .before .before .before .before .before .before .before .before .before .before .before .args .at) (c .before .before .before .before .before .before .before .before .before .before .before .before .before .before .before .before .before .before .before .before .before .pre .1 .2) (c .before .before .before .before .before .before .before .before .before .before .before .before .before .before .before .before .before .before .before .before .before .pre .1 .3) (c .before .before .before .before .before .before .before .before .before .before .before .before .before .before .before .operands .ensures) (c .before .before .before .before .before .before .before .before .before .middle .given .1) (c .before .before .before .before .before .before .wide .ensures .0 ∙ c .before .before .before .before .before .before .before .byte-at .ensures) (c .before .before .before .before .before .before .before .before .before .before .before .before .before .before .before .before .before .before .before .before .before .pre .1 .0) (c .before .before .before .apply .ensures) (c .finish .ensures)
+make-term-returns-2 t c = make-gives (c .before .before .before .before .before .before .before .before .before .before .before .before .before .before .before .before .before .before .before .before .before .args .pack .now) (c .before .before .before .before .before .before .before .before .before .before .before .before .before .before .before .before .before .before .before .before .before .args .at) (c .before .before .before .before .before .before .before .before .before .before .before .before .before .before .before .before .before .before .before .before .before .pre .1 .2) (c .before .before .before .before .before .before .before .before .before .before .before .before .before .before .before .before .before .before .before .before .before .pre .1 .3) (c .before .before .before .before .before .before .before .before .before .before .before .before .before .before .before .operands .ensures) (c .before .before .before .before .before .before .before .before .before .middle .given .1) (c .before .before .before .before .before .before .to-usize .ensures .0 ∙ c .before .before .before .before .before .before .before .byte-at .ensures) (c .before .before .before .before .before .before .before .before .before .before .before .before .before .before .before .before .before .before .before .before .before .pre .1 .0) (c .before .before .before .apply .ensures) (c .finish .ensures)
 
 operand-term-of-requires : (t : ℕ) → operand-lts.Need-term-of-requires (operand-calls t) (operand-at t) operand.Post
 operand-term-of-requires t c κs = (omega arith, (c .before .before .before .before .before .pre .1 .0, c .before .before .before .before .before .pre .1 .1))

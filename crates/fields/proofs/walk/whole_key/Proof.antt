@@ -5,7 +5,7 @@ use Rattle.fields.proofs.walk.whole_key.Statement.{statement}
 use Rattle.fields.proofs.walk.whole_key.Tie as tie
 
 returns : tie.Need-returns
-returns c = (key-first _ _ _ _ _ refl (c .before .before .if1 .taken) (c .wide .ensures .0), search needs)
+returns c = (key-first _ _ _ _ _ refl (c .before .before .if1 .taken) (c .to-usize .ensures .0), search needs)
 
 returns-2 : tie.Need-returns-2
 returns-2 c = (key-second _ _ _ _ _ refl (c .before .if1 .left) (c .pair-in .ensures .0), search needs)

@@ -26,20 +26,20 @@ loop-holds c = (c .before .before .pre .1, c .before .before .pre .0 .whole, ris
 returns : tie.Need-returns Inv-loop μ-loop
 returns c = classed-here _ _ (c .before .before .before .loop .kinds) _ (c .before .before .before .loop .inv .3) (c .before .before .before .loop .inv .4) (c .before .before .before .loop .inv .1) (c .before .before .loop-test .taken) (c .if1 .taken) (c .before .before .before .loop .inv .2)
 
-add-wide : tie.Need-add-wide Inv-loop μ-loop
-add-wide c = let k = entry-kind _ _ (every-here _ _ _ (c .before .before .before .loop .inv .1) (c .before .before .loop-test .taken) .0) in omega (arith, k .0)
+add-to-usize : tie.Need-add-to-usize Inv-loop μ-loop
+add-to-usize c = let k = entry-kind _ _ (every-here _ _ _ (c .before .before .before .loop .inv .1) (c .before .before .loop-test .taken) .0) in omega (arith, k .0)
 
-shared-slice-read-wide : tie.Need-shared-slice-read-wide Inv-loop μ-loop
-shared-slice-read-wide c = let k = entry-kind _ _ (every-here _ _ _ (c .before .before .before .before .loop .inv .1) (c .before .before .before .loop-test .taken) .0) in omega (arith, k .0)
+shared-slice-read-to-usize : tie.Need-shared-slice-read-to-usize Inv-loop μ-loop
+shared-slice-read-to-usize c = let k = entry-kind _ _ (every-here _ _ _ (c .before .before .before .before .loop .inv .1) (c .before .before .before .loop-test .taken) .0) in omega (arith, k .0)
 
 slice-write-kinds : tie.Need-slice-write-kinds Inv-loop μ-loop
-slice-write-kinds c = let k = entry-kind _ _ (every-here _ _ _ (c .before .before .before .before .before .loop .inv .1) (c .before .before .before .before .loop-test .taken) .0) in omega (arith, k .1, c .wide .ensures .0, c .before .before .before .before .before .loop .inv .0)
+slice-write-kinds c = let k = entry-kind _ _ (every-here _ _ _ (c .before .before .before .before .before .loop .inv .1) (c .before .before .before .before .loop-test .taken) .0) in omega (arith, k .1, c .to-usize .ensures .0, c .before .before .before .before .before .loop .inv .0)
 
 whole-end-requires : tie.Need-whole-end-requires Inv-loop μ-loop
 whole-end-requires c κs = let k = entry-kind _ _ (every-here _ _ _ (c .before .before .before .before .before .loop .inv .1) (c .before .before .before .before .loop-test .taken) .0) in omega (arith, k .0)
 
 loop-again : tie.Need-loop-again Inv-loop μ-loop
-loop-again c = (search needs, every-after _ _ _ _ (c .whole-end .ensures .is) (c .before .before .before .before .before .before .loop .inv .1) (c .before .before .before .before .before .loop-test .taken), rises-next _ _ (c .before .before .before .before .before .before .loop .inv .2) (c .before .before .before .before .before .loop-test .taken) _ (c .whole-end .ensures .is), classes-next _ _ (c .before .before .before .before .before .before .loop .kinds) _ (c .before .before .before .before .before .before .loop .inv .3) (c .before .before .before .before .before .before .loop .inv .4) (c .before .before .before .before .before .before .loop .inv .1) (c .before .before .before .before .before .loop-test .taken) (c .before .before .before .if1 .left) _ (c .whole-end .ensures .is) _ (c .before .wide .ensures .0), results-next _ _ (c .before .before .before .before .before .before .loop .kinds) _ (c .before .before .before .before .before .before .loop .inv .3) (c .before .before .before .before .before .before .loop .inv .4) (c .before .before .before .before .before .before .loop .inv .1) (c .before .before .before .before .before .loop-test .taken) (c .before .before .before .if1 .left) _ (c .whole-end .ensures .is))
+loop-again c = (search needs, every-after _ _ _ _ (c .whole-end .ensures .is) (c .before .before .before .before .before .before .loop .inv .1) (c .before .before .before .before .before .loop-test .taken), rises-next _ _ (c .before .before .before .before .before .before .loop .inv .2) (c .before .before .before .before .before .loop-test .taken) _ (c .whole-end .ensures .is), classes-next _ _ (c .before .before .before .before .before .before .loop .kinds) _ (c .before .before .before .before .before .before .loop .inv .3) (c .before .before .before .before .before .before .loop .inv .4) (c .before .before .before .before .before .before .loop .inv .1) (c .before .before .before .before .before .loop-test .taken) (c .before .before .before .if1 .left) _ (c .whole-end .ensures .is) _ (c .before .to-usize .ensures .0), results-next _ _ (c .before .before .before .before .before .before .loop .kinds) _ (c .before .before .before .before .before .before .loop .inv .3) (c .before .before .before .before .before .before .loop .inv .4) (c .before .before .before .before .before .before .loop .inv .1) (c .before .before .before .before .before .loop-test .taken) (c .before .before .before .if1 .left) _ (c .whole-end .ensures .is))
 
 returns-2 : tie.Need-returns-2 Inv-loop μ-loop
 returns-2 c = classed-done _ _ (c .before .loop .kinds) _ (c .before .loop .inv .3) (c .before .loop .inv .4) (c .before .loop .inv .1) (c .loop-test .left)
@@ -54,8 +54,8 @@ mark-classes-spec =
     (λ c. search needs)
     (λ c. search needs)
     returns
-    add-wide
-    shared-slice-read-wide
+    add-to-usize
+    shared-slice-read-to-usize
     (λ c κs. search needs)
     slice-write-kinds
     whole-end-requires

@@ -22,23 +22,23 @@ abbrev μ-loop : tie.MeasureT-loop
 loop-holds : tie.Need-loop-holds Inv-loop μ-loop
 loop-holds c = (c .before .before .pre .0, c .before .before .pre .1, refl)
 
-add-wide : tie.Need-add-wide Inv-loop μ-loop
-add-wide c = let k = entry-kind _ _ (every-here _ _ _ (c .before .loop .inv .0) (c .loop-test .taken) .0) in omega (arith, k .0)
+add-to-usize : tie.Need-add-to-usize Inv-loop μ-loop
+add-to-usize c = let k = entry-kind _ _ (every-here _ _ _ (c .before .loop .inv .0) (c .loop-test .taken) .0) in omega (arith, k .0)
 
-shared-slice-read-wide : tie.Need-shared-slice-read-wide Inv-loop μ-loop
-shared-slice-read-wide c = let k = entry-kind _ _ (every-here _ _ _ (c .before .before .loop .inv .0) (c .before .loop-test .taken) .0) in omega (arith, k .0)
+shared-slice-read-to-usize : tie.Need-shared-slice-read-to-usize Inv-loop μ-loop
+shared-slice-read-to-usize c = let k = entry-kind _ _ (every-here _ _ _ (c .before .before .loop .inv .0) (c .before .loop-test .taken) .0) in omega (arith, k .0)
 
 shared-slice-read-if1 : tie.Need-shared-slice-read-if1 Inv-loop μ-loop
-shared-slice-read-if1 c = let k = entry-kind _ _ (every-here _ _ _ (c .before .before .before .before .loop .inv .0) (c .before .before .before .loop-test .taken) .0) in omega (arith, k .1, c .before .wide .ensures .0, c .before .before .before .before .before .before .before .pre .2)
+shared-slice-read-if1 c = let k = entry-kind _ _ (every-here _ _ _ (c .before .before .before .before .loop .inv .0) (c .before .before .before .loop-test .taken) .0) in omega (arith, k .1, c .before .to-usize .ensures .0, c .before .before .before .before .before .before .before .pre .2)
 
 returns : tie.Need-returns Inv-loop μ-loop
-returns c = some-stop _ _ _ _ (c .before .before .before .before .before .loop .inv .2) _ (result-is _ _ _ _ (every-here _ _ _ (c .before .before .before .before .before .loop .inv .1) (c .before .before .before .before .loop-test .taken) .0) (c .before .before .wide .ensures .0)) _ refl (c .before .before .before .before .loop-test .taken) (c .if1 .taken)
+returns c = some-stop _ _ _ _ (c .before .before .before .before .before .loop .inv .2) _ (result-is _ _ _ _ (every-here _ _ _ (c .before .before .before .before .before .loop .inv .1) (c .before .before .before .before .loop-test .taken) .0) (c .before .before .to-usize .ensures .0)) _ refl (c .before .before .before .before .loop-test .taken) (c .if1 .taken)
 
 whole-end-requires : tie.Need-whole-end-requires Inv-loop μ-loop
 whole-end-requires c κs = let k = entry-kind _ _ (every-here _ _ _ (c .before .before .before .before .before .loop .inv .0) (c .before .before .before .before .loop-test .taken) .0) in omega (arith, k .0)
 
 loop-again : tie.Need-loop-again Inv-loop μ-loop
-loop-again c = (every-after _ _ _ _ (c .whole-end .ensures .is) (c .before .before .before .before .before .before .loop .inv .0) (c .before .before .before .before .before .loop-test .taken), every-after _ _ _ _ (c .whole-end .ensures .is) (c .before .before .before .before .before .before .loop .inv .1) (c .before .before .before .before .before .loop-test .taken), some-next _ _ _ _ (c .before .before .before .before .before .before .loop .inv .2) _ (result-is _ _ _ _ (every-here _ _ _ (c .before .before .before .before .before .before .loop .inv .1) (c .before .before .before .before .before .loop-test .taken) .0) (c .before .before .before .wide .ensures .0)) _ (c .whole-end .ensures .is) (c .before .before .before .before .before .loop-test .taken) (c .before .if1 .left))
+loop-again c = (every-after _ _ _ _ (c .whole-end .ensures .is) (c .before .before .before .before .before .before .loop .inv .0) (c .before .before .before .before .before .loop-test .taken), every-after _ _ _ _ (c .whole-end .ensures .is) (c .before .before .before .before .before .before .loop .inv .1) (c .before .before .before .before .before .loop-test .taken), some-next _ _ _ _ (c .before .before .before .before .before .before .loop .inv .2) _ (result-is _ _ _ _ (every-here _ _ _ (c .before .before .before .before .before .before .loop .inv .1) (c .before .before .before .before .before .loop-test .taken) .0) (c .before .before .before .to-usize .ensures .0)) _ (c .whole-end .ensures .is) (c .before .before .before .before .before .loop-test .taken) (c .before .if1 .left))
 
 returns-2 : tie.Need-returns-2 Inv-loop μ-loop
 returns-2 c = some-done _ _ _ _ (c .before .loop .inv .2) (c .loop-test .left)
@@ -50,8 +50,8 @@ results-marked-spec =
     Inv-loop
     μ-loop
     loop-holds
-    add-wide
-    shared-slice-read-wide
+    add-to-usize
+    shared-slice-read-to-usize
     (λ c κs. search needs)
     shared-slice-read-if1
     returns

@@ -5,10 +5,10 @@ use Rattle.measure.proofs.count.slot.Statement.{statement}
 use Rattle.measure.proofs.count.slot.Tie as tie
 use Rattle.measure.proofs.count.slot.Reads as reads
 use Rattle.measure.proofs.count.slot.Lts as lts
-use Rattle.fields.proofs.bytes.wide.Reads as wide-reads
+use Rattle.fields.proofs.bytes.to_usize.Reads as to-usize-reads
 
 returns : tie.Need-returns
-returns c = (slot-use _ _ (c .before .if1 .taken) (c .wide .ensures .0), c .wide .ensures .1)
+returns c = (slot-use _ _ (c .before .if1 .taken) (c .to-usize .ensures .0), c .to-usize .ensures .1)
 
 returns-2 : tie.Need-returns-2
 returns-2 c = (slot-own _ _ (c .if1 .left), omega arith)

@@ -12,7 +12,7 @@ use Rattle.measure.proofs.measure.step_at.Statement.{statement}
 use Rattle.measure.proofs.measure.step_at.Tie as tie
 use Rattle.measure.proofs.measure.step_at.Reads as reads
 use Rattle.measure.proofs.measure.step_at.Lts as lts
-use Rattle.fields.proofs.bytes.wide.Reads as wide-reads
+use Rattle.fields.proofs.bytes.to_usize.Reads as to-usize-reads
 use Rattle.measure.proofs.capped.add_share.Reads as add-share-reads
 use Rattle.measure.proofs.measure.leaf.Reads as leaf-reads
 use Rattle.measure.proofs.table.count_in.Reads as count-in-reads
@@ -22,31 +22,31 @@ use Rattle.reader.proofs.node.production_place.Reads as production-place-reads
 use Rattle.reader.proofs.node.token.Reads as token-reads
 
 token-requires : tie.Need-token-requires
-token-requires c κs = (c .before .before .before .before .before .before .before .before .pre .2, λ h. class-in _ _ (c .before .before .before .before .before .before .before .before .pre .0) (c .before .before .before .before .wide .ensures .0) (c .before .before .before .before .before .before .before .before .pre .1) (c .before .before .before .place-at .ensures) h)
+token-requires c κs = (c .before .before .before .before .before .before .before .before .pre .2, λ h. class-in _ _ (c .before .before .before .before .before .before .before .before .pre .0) (c .before .before .before .before .to-usize .ensures .0) (c .before .before .before .before .before .before .before .before .pre .1) (c .before .before .before .place-at .ensures) h)
 
 returns : tie.Need-returns
-returns c = let node = token-node (c .before .before .before .before .before .before .before .before .before .before .args .source .now) (c .before .before .before .before .before .before .before .before .before .before .args .index .now) _ (c .before .before .before .before .before .before .before .before .before .before .args .tree .now) _ (c .before .before .before .before .before .place-at .ensures ∙ ap (λ (j : ℕ). getD (c .before .before .before .before .before .before .before .before .before .before .args .index .now) j 0) (c .before .before .before .before .before .before .wide .ensures .0)) (c .before .before .before .production-place .ensures) (c .before .before .if1 .taken) in (token-goes _ _ _ _ _ _ _ _ _ _ (c .before .token .ensures .0) (c .leaf .ensures) node, (token-in _ _ _ _ _ _ _ (c .before .token .ensures .0) (c .leaf .ensures) (c .before .token .ensures .1), token-decides _ _ _ _ _ _ _ _ (c .before .token .ensures .0) (c .leaf .ensures) node))
+returns c = let node = token-node (c .before .before .before .before .before .before .before .before .before .before .args .source .now) (c .before .before .before .before .before .before .before .before .before .before .args .index .now) _ (c .before .before .before .before .before .before .before .before .before .before .args .tree .now) _ (c .before .before .before .before .before .place-at .ensures ∙ ap (λ (j : ℕ). getD (c .before .before .before .before .before .before .before .before .before .before .args .index .now) j 0) (c .before .before .before .before .before .before .to-usize .ensures .0)) (c .before .before .before .production-place .ensures) (c .before .before .if1 .taken) in (token-goes _ _ _ _ _ _ _ _ _ _ (c .before .token .ensures .0) (c .leaf .ensures) node, (token-in _ _ _ _ _ _ _ (c .before .token .ensures .0) (c .leaf .ensures) (c .before .token .ensures .1), token-decides _ _ _ _ _ _ _ _ (c .before .token .ensures .0) (c .leaf .ensures) node))
 
 add-t14 : tie.Need-add-t14
-add-t14 c = let w = named-in Tree (c .before .before .before .before .before .before .before .before .args .source .now) (c .before .before .before .before .before .before .before .before .args .index .now) [] _ (c .before .before .before .before .before .before .before .before .args .tree .now) _ (place-tree _ _ refl (c .before .before .before .before .wide .ensures .0) (c .before .before .before .place-at .ensures)) (c .before .production-place .ensures) (c .if1 .left) (c .before .before .before .before .before .before .before .before .pre .0) (c .before .before .before .before .before .before .before .before .pre .1) (λ i. omega (arith, c .before .before .before .before .before .before .shared-slice-known2 .given i)) in omega (arith, w .0, w .1)
+add-t14 c = let w = named-in Tree (c .before .before .before .before .before .before .before .before .args .source .now) (c .before .before .before .before .before .before .before .before .args .index .now) [] _ (c .before .before .before .before .before .before .before .before .args .tree .now) _ (place-tree _ _ refl (c .before .before .before .before .to-usize .ensures .0) (c .before .before .before .place-at .ensures)) (c .before .production-place .ensures) (c .if1 .left) (c .before .before .before .before .before .before .before .before .pre .0) (c .before .before .before .before .before .before .before .before .pre .1) (λ i. omega (arith, c .before .before .before .before .before .before .shared-slice-known2 .given i)) in omega (arith, w .0, w .1)
 
 add-t20 : tie.Need-add-t20
-add-t20 c = let w = named-in Tree (c .before .before .before .before .before .before .before .before .args .source .now) (c .before .before .before .before .before .before .before .before .args .index .now) [] _ (c .before .before .before .before .before .before .before .before .args .tree .now) _ (place-tree _ _ refl (c .before .before .before .before .wide .ensures .0) (c .before .before .before .place-at .ensures)) (c .before .production-place .ensures) (c .if1 .left) (c .before .before .before .before .before .before .before .before .pre .0) (c .before .before .before .before .before .before .before .before .pre .1) (λ i. omega (arith, c .before .before .before .before .before .before .shared-slice-known2 .given i)) in omega (arith, w .0, w .1)
+add-t20 c = let w = named-in Tree (c .before .before .before .before .before .before .before .before .args .source .now) (c .before .before .before .before .before .before .before .before .args .index .now) [] _ (c .before .before .before .before .before .before .before .before .args .tree .now) _ (place-tree _ _ refl (c .before .before .before .before .to-usize .ensures .0) (c .before .before .before .place-at .ensures)) (c .before .production-place .ensures) (c .if1 .left) (c .before .before .before .before .before .before .before .before .pre .0) (c .before .before .before .before .before .before .before .before .pre .1) (λ i. omega (arith, c .before .before .before .before .before .before .shared-slice-known2 .given i)) in omega (arith, w .0, w .1)
 
 pair-in-requires : tie.Need-pair-in-requires
-pair-in-requires c κs = let w = named-in Tree (c .before .before .before .before .before .before .before .before .args .source .now) (c .before .before .before .before .before .before .before .before .args .index .now) [] _ (c .before .before .before .before .before .before .before .before .args .tree .now) _ (place-tree _ _ refl (c .before .before .before .before .wide .ensures .0) (c .before .before .before .place-at .ensures)) (c .before .production-place .ensures) (c .if1 .left) (c .before .before .before .before .before .before .before .before .pre .0) (c .before .before .before .before .before .before .before .before .pre .1) (λ i. omega (arith, c .before .before .before .before .before .before .shared-slice-known2 .given i)) in omega (arith, w .0, w .1)
+pair-in-requires c κs = let w = named-in Tree (c .before .before .before .before .before .before .before .before .args .source .now) (c .before .before .before .before .before .before .before .before .args .index .now) [] _ (c .before .before .before .before .before .before .before .before .args .tree .now) _ (place-tree _ _ refl (c .before .before .before .before .to-usize .ensures .0) (c .before .before .before .place-at .ensures)) (c .before .production-place .ensures) (c .if1 .left) (c .before .before .before .before .before .before .before .before .pre .0) (c .before .before .before .before .before .before .before .before .pre .1) (λ i. omega (arith, c .before .before .before .before .before .before .shared-slice-known2 .given i)) in omega (arith, w .0, w .1)
 
 add-t22 : tie.Need-add-t22
-add-t22 c = let w = named-in Tree (c .before .before .before .before .before .before .before .before .before .args .source .now) (c .before .before .before .before .before .before .before .before .before .args .index .now) [] _ (c .before .before .before .before .before .before .before .before .before .args .tree .now) _ (place-tree _ _ refl (c .before .before .before .before .before .wide .ensures .0) (c .before .before .before .before .place-at .ensures)) (c .before .before .production-place .ensures) (c .before .if1 .left) (c .before .before .before .before .before .before .before .before .before .pre .0) (c .before .before .before .before .before .before .before .before .before .pre .1) (λ i. omega (arith, c .pair-in .ensures .1, c .before .before .before .before .before .before .before .shared-slice-known2 .given i)) in omega (arith, c .pair-in .ensures .1, w .0, w .1)
+add-t22 c = let w = named-in Tree (c .before .before .before .before .before .before .before .before .before .args .source .now) (c .before .before .before .before .before .before .before .before .before .args .index .now) [] _ (c .before .before .before .before .before .before .before .before .before .args .tree .now) _ (place-tree _ _ refl (c .before .before .before .before .before .to-usize .ensures .0) (c .before .before .before .before .place-at .ensures)) (c .before .before .production-place .ensures) (c .before .if1 .left) (c .before .before .before .before .before .before .before .before .before .pre .0) (c .before .before .before .before .before .before .before .before .before .pre .1) (λ i. omega (arith, c .pair-in .ensures .1, c .before .before .before .before .before .before .before .shared-slice-known2 .given i)) in omega (arith, c .pair-in .ensures .1, w .0, w .1)
 
 add-count-in : tie.Need-add-count-in
-add-count-in c = let w = named-in Tree (c .before .before .before .before .before .before .before .before .before .args .source .now) (c .before .before .before .before .before .before .before .before .before .args .index .now) [] _ (c .before .before .before .before .before .before .before .before .before .args .tree .now) _ (place-tree _ _ refl (c .before .before .before .before .before .wide .ensures .0) (c .before .before .before .before .place-at .ensures)) (c .before .before .production-place .ensures) (c .before .if1 .left) (c .before .before .before .before .before .before .before .before .before .pre .0) (c .before .before .before .before .before .before .before .before .before .pre .1) (λ i. omega (arith, c .before .before .before .before .before .before .before .shared-slice-known2 .given i)) in omega (arith, w .0, w .1)
+add-count-in c = let w = named-in Tree (c .before .before .before .before .before .before .before .before .before .args .source .now) (c .before .before .before .before .before .before .before .before .before .args .index .now) [] _ (c .before .before .before .before .before .before .before .before .before .args .tree .now) _ (place-tree _ _ refl (c .before .before .before .before .before .to-usize .ensures .0) (c .before .before .before .before .place-at .ensures)) (c .before .before .production-place .ensures) (c .before .if1 .left) (c .before .before .before .before .before .before .before .before .before .pre .0) (c .before .before .before .before .before .before .before .before .before .pre .1) (λ i. omega (arith, c .before .before .before .before .before .before .before .shared-slice-known2 .given i)) in omega (arith, w .0, w .1)
 
 count-in-requires : tie.Need-count-in-requires
-count-in-requires c κs = let w = named-in Tree (c .before .before .before .before .before .before .before .before .before .args .source .now) (c .before .before .before .before .before .before .before .before .before .args .index .now) [] _ (c .before .before .before .before .before .before .before .before .before .args .tree .now) _ (place-tree _ _ refl (c .before .before .before .before .before .wide .ensures .0) (c .before .before .before .before .place-at .ensures)) (c .before .before .production-place .ensures) (c .before .if1 .left) (c .before .before .before .before .before .before .before .before .before .pre .0) (c .before .before .before .before .before .before .before .before .before .pre .1) (λ i. omega (arith, c .before .before .before .before .before .before .before .shared-slice-known2 .given i)) in omega (arith, w .0, w .1)
+count-in-requires c κs = let w = named-in Tree (c .before .before .before .before .before .before .before .before .before .args .source .now) (c .before .before .before .before .before .before .before .before .before .args .index .now) [] _ (c .before .before .before .before .before .before .before .before .before .args .tree .now) _ (place-tree _ _ refl (c .before .before .before .before .before .to-usize .ensures .0) (c .before .before .before .before .place-at .ensures)) (c .before .before .production-place .ensures) (c .before .if1 .left) (c .before .before .before .before .before .before .before .before .before .pre .0) (c .before .before .before .before .before .before .before .before .before .pre .1) (λ i. omega (arith, c .before .before .before .before .before .before .before .shared-slice-known2 .given i)) in omega (arith, w .0, w .1)
 
 returns-2 : tie.Need-returns-2
-returns-2 c = let node = named-node Tree (c .before .before .before .before .before .before .before .before .before .before .before .args .source .now) (c .before .before .before .before .before .before .before .before .before .before .before .args .index .now) [] _ (c .before .before .before .before .before .before .before .before .before .before .before .args .tree .now) _ (place-tree _ _ refl (c .before .before .before .before .before .before .before .wide .ensures .0) (c .before .before .before .before .before .before .place-at .ensures)) (c .before .before .before .before .production-place .ensures) (c .before .before .before .if1 .left) (c .before .before .pair-in .ensures .0) refl in (name-goes _ _ _ _ _ _ _ _ _ _ _ node (c .before .count-in .ensures .0) (c .add-share .ensures), ((omega arith, named-end Tree (c .before .before .before .before .before .before .before .before .before .before .before .args .source .now) (c .before .before .before .before .before .before .before .before .before .before .before .args .index .now) [] _ (c .before .before .before .before .before .before .before .before .before .before .before .args .tree .now) _ (place-tree _ _ refl (c .before .before .before .before .before .before .before .wide .ensures .0) (c .before .before .before .before .before .before .place-at .ensures)) (c .before .before .before .before .production-place .ensures) (c .before .before .before .if1 .left) refl, omega (arith, c .add-share .ensures), named-kinds Tree (c .before .before .before .before .before .before .before .before .before .before .before .args .source .now) (c .before .before .before .before .before .before .before .before .before .before .before .args .index .now) [] _ (c .before .before .before .before .before .before .before .before .before .before .before .args .tree .now) _ (place-tree _ _ refl (c .before .before .before .before .before .before .before .wide .ensures .0) (c .before .before .before .before .before .before .place-at .ensures)) (c .before .before .before .before .production-place .ensures) (c .before .before .before .if1 .left) (c .before .before .before .before .before .before .before .before .before .before .before .pre .0) (c .before .before .before .before .before .before .before .before .before .before .before .pre .1) (λ i. omega (arith, c .before .before .before .before .before .before .before .before .before .shared-slice-known2 .given i)) (c .before .before .pair-in .ensures .0)), name-decides _ _ _ _ _ _ _ _ node))
+returns-2 c = let node = named-node Tree (c .before .before .before .before .before .before .before .before .before .before .before .args .source .now) (c .before .before .before .before .before .before .before .before .before .before .before .args .index .now) [] _ (c .before .before .before .before .before .before .before .before .before .before .before .args .tree .now) _ (place-tree _ _ refl (c .before .before .before .before .before .before .before .to-usize .ensures .0) (c .before .before .before .before .before .before .place-at .ensures)) (c .before .before .before .before .production-place .ensures) (c .before .before .before .if1 .left) (c .before .before .pair-in .ensures .0) refl in (name-goes _ _ _ _ _ _ _ _ _ _ _ node (c .before .count-in .ensures .0) (c .add-share .ensures), ((omega arith, named-end Tree (c .before .before .before .before .before .before .before .before .before .before .before .args .source .now) (c .before .before .before .before .before .before .before .before .before .before .before .args .index .now) [] _ (c .before .before .before .before .before .before .before .before .before .before .before .args .tree .now) _ (place-tree _ _ refl (c .before .before .before .before .before .before .before .to-usize .ensures .0) (c .before .before .before .before .before .before .place-at .ensures)) (c .before .before .before .before .production-place .ensures) (c .before .before .before .if1 .left) refl, omega (arith, c .add-share .ensures), named-kinds Tree (c .before .before .before .before .before .before .before .before .before .before .before .args .source .now) (c .before .before .before .before .before .before .before .before .before .before .before .args .index .now) [] _ (c .before .before .before .before .before .before .before .before .before .before .before .args .tree .now) _ (place-tree _ _ refl (c .before .before .before .before .before .before .before .to-usize .ensures .0) (c .before .before .before .before .before .before .place-at .ensures)) (c .before .before .before .before .production-place .ensures) (c .before .before .before .if1 .left) (c .before .before .before .before .before .before .before .before .before .before .before .pre .0) (c .before .before .before .before .before .before .before .before .before .before .before .pre .1) (λ i. omega (arith, c .before .before .before .before .before .before .before .before .before .shared-slice-known2 .given i)) (c .before .before .pair-in .ensures .0)), name-decides _ _ _ _ _ _ _ _ node))
 
 pub step-at-spec : {M : Type 1} → statement M
 step-at-spec =

@@ -7,7 +7,7 @@ use Rattle.reader.proofs.ends.keep_end.Statement.{statement}
 use Rattle.reader.proofs.ends.keep_end.Tie as tie
 use Rattle.reader.proofs.ends.keep_end.Reads as reads
 use Rattle.reader.proofs.ends.keep_end.Lts as lts
-use Rattle.reader.proofs.ends.wide.Reads as wide-reads
+use Rattle.reader.proofs.ends.to_usize.Reads as to-usize-reads
 
 returns : tie.Need-returns
 returns c = λ k p e h. inl h

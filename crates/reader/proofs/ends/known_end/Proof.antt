@@ -6,7 +6,7 @@ use Rattle.reader.proofs.ends.known_end.Statement.{statement}
 use Rattle.reader.proofs.ends.known_end.Tie as tie
 use Rattle.reader.proofs.ends.known_end.Reads as reads
 use Rattle.reader.proofs.ends.known_end.Lts as lts
-use Rattle.reader.proofs.ends.wide.Reads as wide-reads
+use Rattle.reader.proofs.ends.to_usize.Reads as to-usize-reads
 
 returns : tie.Need-returns
 returns c = inl refl
@@ -18,7 +18,7 @@ returns-3 : tie.Need-returns-3
 returns-3 c = inl refl
 
 returns-4 : tie.Need-returns-4
-returns-4 c = kept-there _ _ _ _ _ (c .before .before .before .before .before .before .before .before .pre) (sym (c .before .before .before .wide .ensures .0) ∙ c .before .before .if3 .left) (c .wide2 .ensures .0)
+returns-4 c = kept-there _ _ _ _ _ (c .before .before .before .before .before .before .before .before .pre) (sym (c .before .before .before .to-usize .ensures .0) ∙ c .before .before .if3 .left) (c .to-usize2 .ensures .0)
 
 pub known-end-spec : {M : Type 1} → statement M
 known-end-spec =

@@ -5,19 +5,19 @@ use Rattle.reader.proofs.node.tree_node.Statement.{statement}
 use Rattle.reader.proofs.node.tree_node.Tie as tie
 use Rattle.reader.proofs.node.tree_node.Reads as reads
 use Rattle.reader.proofs.node.tree_node.Lts as lts
-use Rattle.fields.proofs.bytes.wide.Reads as wide-reads
+use Rattle.fields.proofs.bytes.to_usize.Reads as to-usize-reads
 use Rattle.reader.proofs.node.name.Reads as name-reads
 use Rattle.reader.proofs.node.place_at.Reads as place-at-reads
 use Rattle.reader.proofs.node.token.Reads as token-reads
 
 returns : tie.Need-returns
-returns c = (tree-name _ _ _ _ _ (c .before .before .before .wide .ensures .0) (c .before .before .place-at .ensures) (c .before .if1 .taken) (c .name .ensures .0), c .name .ensures .1)
+returns c = (tree-name _ _ _ _ _ (c .before .before .before .to-usize .ensures .0) (c .before .before .place-at .ensures) (c .before .if1 .taken) (c .name .ensures .0), c .name .ensures .1)
 
 token-requires : tie.Need-token-requires
-token-requires c κs = (c .before .before .before .before .before .before .pre .inside, class-in _ _ (c .before .before .before .before .before .before .pre .sound) (c .before .before .wide .ensures .0) (c .before .before .before .before .before .before .pre .kind) (c .before .place-at .ensures))
+token-requires c κs = (c .before .before .before .before .before .before .pre .inside, class-in _ _ (c .before .before .before .before .before .before .pre .sound) (c .before .before .to-usize .ensures .0) (c .before .before .before .before .before .before .pre .kind) (c .before .place-at .ensures))
 
 returns-2 : tie.Need-returns-2
-returns-2 c = (tree-token _ _ _ _ _ (c .before .before .before .wide .ensures .0) (c .before .before .place-at .ensures) (c .before .if1 .left) (c .token .ensures .0), c .token .ensures .1)
+returns-2 c = (tree-token _ _ _ _ _ (c .before .before .before .to-usize .ensures .0) (c .before .before .place-at .ensures) (c .before .if1 .left) (c .token .ensures .0), c .token .ensures .1)
 
 pub tree-node-spec : {M : Type 1} → statement M
 tree-node-spec =

@@ -4,11 +4,11 @@ use Rattle.reader.proofs.read.class_place.Statement.{statement}
 use Rattle.reader.proofs.read.class_place.Tie as tie
 use Rattle.reader.proofs.read.class_place.Reads as reads
 use Rattle.reader.proofs.read.class_place.Lts as lts
-use Rattle.fields.proofs.bytes.wide.Reads as wide-reads
+use Rattle.fields.proofs.bytes.to_usize.Reads as to-usize-reads
 use Rattle.reader.proofs.node.place_at.Reads as place-at-reads
 
 returns : tie.Need-returns
-returns c = place-tree _ _ (c .before .before .enum-told .given .1) (c .before .wide .ensures .0) (c .place-at .ensures)
+returns c = place-tree _ _ (c .before .before .enum-told .given .1) (c .before .to-usize .ensures .0) (c .place-at .ensures)
 
 returns-2 : tie.Need-returns-2
 returns-2 c = place-code _ _ (c .enum-told2 .given .1)

@@ -8,7 +8,7 @@ use Rattle.translation.proofs.index.map_kinds.Statement.{statement}
 use Rattle.translation.proofs.index.map_kinds.Tie as tie
 use Rattle.translation.proofs.index.map_kinds.Reads as reads
 use Rattle.translation.proofs.index.map_kinds.Lts as lts
-use Rattle.fields.proofs.bytes.wide.Reads as wide-reads
+use Rattle.fields.proofs.bytes.to_usize.Reads as to-usize-reads
 use Rattle.translation.proofs.index.map_kind.Reads as map-kind-reads
 
 abbrev Inv-loop : tie.InvT-loop
@@ -21,7 +21,7 @@ loop-holds : tie.Need-loop-holds Inv-loop μ-loop
 loop-holds c = (omega arith, c .before .before .before .pre .1, λ k h. absurd (omega (arith, h)))
 
 loop-again : tie.Need-loop-again Inv-loop μ-loop
-loop-again c = (omega arith, search needs, mapped-more _ _ (c .before .before .before .loop .mapped) _ _ _ (c .wide .ensures .0) (c .before .before .loop-test .taken) (c .before .before .before .loop .inv .1) (c .before .map-kind .ensures .0) (c .before .before .before .loop .inv .2))
+loop-again c = (omega arith, search needs, mapped-more _ _ (c .before .before .before .loop .mapped) _ _ _ (c .to-usize .ensures .0) (c .before .before .loop-test .taken) (c .before .before .before .loop .inv .1) (c .before .map-kind .ensures .0) (c .before .before .before .loop .inv .2))
 
 returns : tie.Need-returns Inv-loop μ-loop
 returns c = let e : c .before .loop .kind ≡ 32 = omega arith in (rw e at (c .before .loop .inv .2), mapped-below _ _ (c .before .loop .mapped) (c .before .before .before .before .before .pre .0) (c .before .loop .inv .1) (rw e at (c .before .loop .inv .2)), c .before .loop .inv .1)

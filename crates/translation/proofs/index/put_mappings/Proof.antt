@@ -12,7 +12,7 @@ use Rattle.translation.proofs.index.put_mappings.Statement.{statement}
 use Rattle.translation.proofs.index.put_mappings.Tie as tie
 use Rattle.translation.proofs.index.put_mappings.Reads as reads
 use Rattle.translation.proofs.index.put_mappings.Lts as lts
-use Rattle.fields.proofs.bytes.wide.Reads as wide-reads
+use Rattle.fields.proofs.bytes.to_usize.Reads as to-usize-reads
 use Rattle.translation.proofs.index.put.Reads as put-reads
 use Rattle.fields.proofs.walk.whole_end.Reads as whole-end-reads
 
@@ -28,20 +28,20 @@ loop-holds c = (c .before .before .pre .1, front-start _ (c .before .before .pre
 returns : tie.Need-returns Inv-loop μ-loop
 returns c = λ b e. kinds-are _ _ (λ i. omega (arith, c .before .before .before .before .before .shared-slice-known .given i)) (c .before .before .before .before .before .before .pre .0) (c .before .before .before .before .before .before .pre .2) b e (omega (arith, c .before .before .before .before .before .before .pre .1)) (front-put _ _ (c .before .before .before .loop .inv .1) (c .before .before .loop-test .taken) (c .before .before .before .loop .index) _ (c .before .before .before .loop .inv .0) (c .before .before .before .loop .inv .2) (c .if1 .taken))
 
-add-wide : tie.Need-add-wide Inv-loop μ-loop
-add-wide c = let k = mapping-long _ _ (front-mapping _ _ (c .before .before .before .before .loop .inv .1) (c .before .before .before .loop-test .taken) (c .before .if1 .left)) in omega (arith, k .0)
+add-to-usize : tie.Need-add-to-usize Inv-loop μ-loop
+add-to-usize c = let k = mapping-long _ _ (front-mapping _ _ (c .before .before .before .before .loop .inv .1) (c .before .before .before .loop-test .taken) (c .before .if1 .left)) in omega (arith, k .0)
 
-shared-slice-read-wide : tie.Need-shared-slice-read-wide Inv-loop μ-loop
-shared-slice-read-wide c = let k = mapping-long _ _ (front-mapping _ _ (c .before .before .before .before .before .loop .inv .1) (c .before .before .before .before .loop-test .taken) (c .before .before .if1 .left)) in omega (arith, k .0)
+shared-slice-read-to-usize : tie.Need-shared-slice-read-to-usize Inv-loop μ-loop
+shared-slice-read-to-usize c = let k = mapping-long _ _ (front-mapping _ _ (c .before .before .before .before .before .loop .inv .1) (c .before .before .before .before .loop-test .taken) (c .before .before .if1 .left)) in omega (arith, k .0)
 
 put-requires : tie.Need-put-requires Inv-loop μ-loop
-put-requires c κs = let k = mapping-long _ _ (front-mapping _ _ (c .before .before .before .before .before .before .loop .inv .1) (c .before .before .before .before .before .loop-test .taken) (c .before .before .before .if1 .left)) in omega (arith, k .1, c .wide .ensures .0, c .before .before .before .before .before .before .loop .inv .0)
+put-requires c κs = let k = mapping-long _ _ (front-mapping _ _ (c .before .before .before .before .before .before .loop .inv .1) (c .before .before .before .before .before .loop-test .taken) (c .before .before .before .if1 .left)) in omega (arith, k .1, c .to-usize .ensures .0, c .before .before .before .before .before .before .loop .inv .0)
 
 whole-end-requires : tie.Need-whole-end-requires Inv-loop μ-loop
 whole-end-requires c κs = let k = mapping-long _ _ (front-mapping _ _ (c .before .before .before .before .before .before .before .before .before .loop .inv .1) (c .before .before .before .before .before .before .before .before .loop-test .taken) (c .before .before .before .before .before .before .if1 .left)) in omega (arith, k .0)
 
 loop-again : tie.Need-loop-again Inv-loop μ-loop
-loop-again c = (search needs, front-next _ _ (c .before .before .before .before .before .before .before .before .before .before .loop .inv .1) (c .before .before .before .before .before .before .before .before .before .loop-test .taken) (c .before .before .before .before .before .before .before .if1 .left) _ (c .whole-end .ensures .is), puts-next _ _ _ _ _ (c .before .before .before .before .before .before .before .before .before .before .loop .inv .2) _ _ _ _ (c .before .before .before .put .ensures) (mapping-key-is _ _ _ (front-mapping _ _ (c .before .before .before .before .before .before .before .before .before .before .loop .inv .1) (c .before .before .before .before .before .before .before .before .before .loop-test .taken) (c .before .before .before .before .before .before .before .if1 .left)) (c .before .before .before .before .wide .ensures .0)) refl (c .whole-end .ensures .is) (c .before .before .before .before .before .before .before .before .before .loop-test .taken))
+loop-again c = (search needs, front-next _ _ (c .before .before .before .before .before .before .before .before .before .before .loop .inv .1) (c .before .before .before .before .before .before .before .before .before .loop-test .taken) (c .before .before .before .before .before .before .before .if1 .left) _ (c .whole-end .ensures .is), puts-next _ _ _ _ _ (c .before .before .before .before .before .before .before .before .before .before .loop .inv .2) _ _ _ _ (c .before .before .before .put .ensures) (mapping-key-is _ _ _ (front-mapping _ _ (c .before .before .before .before .before .before .before .before .before .before .loop .inv .1) (c .before .before .before .before .before .before .before .before .before .loop-test .taken) (c .before .before .before .before .before .before .before .if1 .left)) (c .before .before .before .before .to-usize .ensures .0)) refl (c .whole-end .ensures .is) (c .before .before .before .before .before .before .before .before .before .loop-test .taken))
 
 returns-2 : tie.Need-returns-2 Inv-loop μ-loop
 returns-2 c = λ b e. kinds-are _ _ (λ i. omega (arith, c .before .before .before .shared-slice-known .given i)) (c .before .before .before .before .pre .0) (c .before .before .before .before .pre .2) b e (omega (arith, c .before .before .before .before .pre .1)) (puts-done _ _ _ _ _ (c .before .loop .inv .2) (c .loop-test .left))
@@ -56,8 +56,8 @@ put-mappings-spec =
     (λ c. search needs)
     (λ c. search needs)
     returns
-    add-wide
-    shared-slice-read-wide
+    add-to-usize
+    shared-slice-read-to-usize
     (λ c κs. search needs)
     (λ c. search needs)
     (λ c. search needs)

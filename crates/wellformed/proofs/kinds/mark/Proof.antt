@@ -7,10 +7,10 @@ use Rattle.wellformed.proofs.kinds.mark.Statement.{statement}
 use Rattle.wellformed.proofs.kinds.mark.Tie as tie
 use Rattle.wellformed.proofs.kinds.mark.Reads as reads
 use Rattle.wellformed.proofs.kinds.mark.Lts as lts
-use Rattle.fields.proofs.bytes.wide.Reads as wide-reads
+use Rattle.fields.proofs.bytes.to_usize.Reads as to-usize-reads
 
 returns : tie.Need-returns
-returns c = ap (λ (k : ℕ). set (c .before .before .args .kinds .now) k true) (c .wide .ensures .0)
+returns c = ap (λ (k : ℕ). set (c .before .before .args .kinds .now) k true) (c .to-usize .ensures .0)
 
 pub mark-spec : {M : Type 1} → statement M
 mark-spec = tie.close (tie.spec (λ c κs. search needs) (λ c. search needs) (λ c. search needs) returns)

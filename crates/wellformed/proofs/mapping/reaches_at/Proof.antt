@@ -6,16 +6,16 @@ use Rattle.wellformed.proofs.mapping.reaches_at.Tie as tie
 use Rattle.wellformed.proofs.mapping.reaches_at.Reads as reads
 use Rattle.wellformed.proofs.mapping.reaches_at.Lts as lts
 use Rattle.fields.proofs.bytes.byte_at.Reads as byte-at-reads
-use Rattle.fields.proofs.bytes.wide.Reads as wide-reads
+use Rattle.fields.proofs.bytes.to_usize.Reads as to-usize-reads
 
 returns : tie.Need-returns
 returns c = reaches-other _ _ _ _ (c .before .byte-at .ensures) (c .if1 .taken)
 
 returns-2 : tie.Need-returns-2
-returns-2 c = reaches-out _ _ _ _ (c .before .before .before .before .byte-at .ensures) (c .before .before .before .if1 .left) _ (c .before .wide .ensures .0 ∙ c .before .before .byte-at2 .ensures) (c .if2 .taken)
+returns-2 c = reaches-out _ _ _ _ (c .before .before .before .before .byte-at .ensures) (c .before .before .before .if1 .left) _ (c .before .to-usize .ensures .0 ∙ c .before .before .byte-at2 .ensures) (c .if2 .taken)
 
 returns-3 : tie.Need-returns-3
-returns-3 c = reaches-in _ _ _ _ (c .before .before .before .before .before .byte-at .ensures) (c .before .before .before .before .if1 .left) _ (c .before .before .wide .ensures .0 ∙ c .before .before .before .byte-at2 .ensures)
+returns-3 c = reaches-in _ _ _ _ (c .before .before .before .before .before .byte-at .ensures) (c .before .before .before .before .if1 .left) _ (c .before .before .to-usize .ensures .0 ∙ c .before .before .before .byte-at2 .ensures)
 
 pub reaches-at-spec : {M : Type 1} → statement M
 reaches-at-spec =
