@@ -25,12 +25,12 @@ ghost use Rattle.reader.specs.Inner.Index.{indexLength, tableLength};
 ghost use Rattle.emitter.specs.Inner.Table.{itemsStart, spansStart, Checked, Ready};
 ghost use Rattle.emitter.specs.Inner.Filling.{Begun, Built, Filled, mappedIn, CodeAsks, Spanned, FieldAsks, FieldSpanned, AllSpanned};
 
-// Puts the index of a file into the table, from a position on where it is all zero. Its first entries have the tag `first`.
-fn put_index(s: &[u8], first: u8, a: usize, table: &mut [u16])
+// Puts the index of a file into the table, from a position on where it is all zero. Its leading entries have the tag `leading_tag`.
+fn put_index(s: &[u8], leading_tag: u8, a: usize, table: &mut [u16])
     requires { ⌜ (length (now s) ≤ 32768) × (a + indexLength ≤ length (now table)) ⌝ }
-    ensures { λ r. ⌜ now (table .exit) ≡ spliced (now (table .entry)) a (putAll first (now (s .entry)) (take indexLength (drop a (now (table .entry)))) (places (now (s .entry)))) ⌝ }
+    ensures { λ r. ⌜ now (table .exit) ≡ spliced (now (table .entry)) a (putAll «leading_tag» (now (s .entry)) (take indexLength (drop a (now (table .entry)))) (places (now (s .entry)))) ⌝ }
 {
-    put_all(s, first, &mut table[a..a + INDEX]);
+    put_all(s, leading_tag, &mut table[a..a + INDEX]);
 }
 
 // Puts bytes into the table, from a position on.

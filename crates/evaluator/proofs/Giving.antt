@@ -34,9 +34,9 @@ use Rattle.signs.specs.Evaluation.{Constants, constantsOf, Value, Environment, 
 use Rattle.signs.specs.Inner.Sorts.{encodeAs, valueIn, bytesOf, firstSort, secondSort, binarySign, binaryTerm, binaryOf, operandSort, unarySort, unarySign, unaryTerm, unaryOf}
 use Rattle.signs.specs.Inner.Forms.{Begins}
 use Rattle.signs.specs.Inner.Values.{slotOf, Changed, Held, Saved, OperandOf, AppliedOne, OperandsOf, AppliedTwo, Makes, Made as MadeOf, finished, Wrote}
-use Rattle.evaluator.specs.Inner.Reducing.{Ground, Stands, Left, Stored, Ends, Says, SaysStored, SaysTwo, Kept, Asks, Gives, GivesStored, AsksTwo, GivesTwo}
+use Rattle.evaluator.specs.Inner.Reducing.{Context, Stands, Left, Stored, Ends, Says, SaysStored, SaysTwo, Kept, Asks, Gives, GivesStored, AsksTwo, GivesTwo}
 use Rattle.evaluator.proofs.Standing.{stands-in, next-byte, positive, no-sign, Two, pair-stands, One, single-stands, variable-stands, constant-stands, Bound, let-stands, Made, make-stands}
-use Rattle.evaluator.proofs.Holding.{evaluated-reads, evaluate-within, within-short, ground-less, ground-behind, ground-bound, room-less}
+use Rattle.evaluator.proofs.Holding.{evaluated-reads, evaluate-within, within-short, context-less, context-behind, context-bound, room-less}
 
 -- What is left of a store.
 pub kept-same : (store : List ℕ) (top : ℕ) → Kept store store top
@@ -151,8 +151,8 @@ module _ {pack : List ℕ} {places : Places} {store : List ℕ} {top at levels :
       -- There is room for an operand's value.
       pub operand-room : Asks s pack places store top at levels → (n ≤ length filled) × (top + n ≤ length after)
       operand-room a =
-          let z = to-left e (given .says (a .ground) (a .stands)) .0 in
-          let h = room-less top n levels (length store) (length after) (positive levels (λ d. asks-level a d)) (z .short) (a .ground .room) (given .kept .long) in
+          let z = to-left e (given .says (a .context) (a .stands)) .0 in
+          let h = room-less top n levels (length store) (length after) (positive levels (λ d. asks-level a d)) (z .short) (a .context .room) (given .kept .long) in
           (z .inside, omega arith)
 
       -- The value was copied into the store.
@@ -178,37 +178,37 @@ module _ {pack : List ℕ} {places : Places} {store : List ℕ} {top at levels :
 -- Two operands, one after the other.
 module _ {pack : List ℕ} {places : Places} {store : List ℕ} {top : ℕ} (at : ℕ) {levels : ℕ} {s : Sort} (r : Sort) (pos : 0 < levels) where
   pub first-asks : AsksTwo s r pack places store top at levels → Asks s pack places store top (at + 1) (levels - 1)
-  first-asks a = record { ground = ground-less (a .ground); stands = a .first }
+  first-asks a = record { context = context-less (a .context); stands = a .first }
 
   module _ {after out filled : List ℕ} {w : Evaluated} (given : GivesStored s pack places store after top (at + 1) (levels - 1) out filled w) where
     -- The first refuses.
     pub first-refused : {z : Reason} → w ≡ Refused z → GivesTwo s r pack places store after top at levels out filled (Twos.Refused z)
-    first-refused e = record { says = λ g x y. inl (stored-refused _ _ _ _ _ _ e (given .says (ground-less g) x)); kept = given .kept; long = given .long }
+    first-refused e = record { says = λ g x y. inl (stored-refused _ _ _ _ _ _ e (given .says (context-less g) x)); kept = given .kept; long = given .long }
 
     module _ {middle next : ℕ} (e : w ≡ To middle next) where
-      first-stored : (g : Ground pack places store top levels) (x : Stands (g .pack) s (drop (at + 1) pack) (levels - 1))
+      first-stored : (g : Context pack places store top levels) (x : Stands (g .pack) s (drop (at + 1) pack) (levels - 1))
           → Stored s (evaluate (constantsOf (g .pack)) (g .environment) (x .term)) after top middle × Ends pack (x .rest) next
-      first-stored g x = to-stored e (given .says (ground-less g) x)
+      first-stored g x = to-stored e (given .says (context-less g) x)
 
-      abbrev second-ground : (g : Ground pack places store top levels) (x : Stands (g .pack) s (drop (at + 1) pack) (levels - 1)) → Ground pack places after middle (levels - 1)
-      second-ground g x = ground-behind g after pos (given .kept) (first-stored g x .0)
+      abbrev second-context : (g : Context pack places store top levels) (x : Stands (g .pack) s (drop (at + 1) pack) (levels - 1)) → Context pack places after middle (levels - 1)
+      second-context g x = context-behind g after pos (given .kept) (first-stored g x .0)
 
-      abbrev second-stands : (g : Ground pack places store top levels) (x : Stands (g .pack) s (drop (at + 1) pack) (levels - 1)) → Stands (g .pack) r (x .rest) (levels - 1)
+      abbrev second-stands : (g : Context pack places store top levels) (x : Stands (g .pack) s (drop (at + 1) pack) (levels - 1)) → Stands (g .pack) r (x .rest) (levels - 1)
           → Stands (g .pack) r (drop next pack) (levels - 1)
       second-stands g x y = record { term = y .term; rest = y .rest; reads = ap (readTerm (levels - 1) r) (first-stored g x .1 .next) ∙ y .reads; inScope = y .inScope }
 
       -- The second, behind the first.
       pub second-asks : AsksTwo s r pack places store top at levels → Asks r pack places after middle next (levels - 1)
-      second-asks a = record { ground = second-ground (a .ground) (a .first); stands = second-stands (a .ground) (a .first) (a .second) }
+      second-asks a = record { context = second-context (a .context) (a .first); stands = second-stands (a .context) (a .first) (a .second) }
 
       module _ {last full : List ℕ} {v : Evaluated} (a : AsksTwo s r pack places store top at levels)
           (behind : GivesStored r pack places after last middle next (levels - 1) filled full v) where
         both-kept : Kept store last top
-        both-kept = kept-then (given .kept) (kept-lower after last top middle (first-stored (a .ground) (a .first) .0 .above) (behind .kept))
+        both-kept = kept-then (given .kept) (kept-lower after last top middle (first-stored (a .context) (a .first) .0 .above) (behind .kept))
 
-        second-says : (g : Ground pack places store top levels) (x : Stands (g .pack) s (drop (at + 1) pack) (levels - 1)) (y : Stands (g .pack) r (x .rest) (levels - 1))
+        second-says : (g : Context pack places store top levels) (x : Stands (g .pack) s (drop (at + 1) pack) (levels - 1)) (y : Stands (g .pack) r (x .rest) (levels - 1))
             → SaysStored r (evaluate (constantsOf (g .pack)) (g .environment) (y .term)) pack (y .rest) last middle v
-        second-says g x y = behind .says (second-ground g x) (second-stands g x y)
+        second-says g x y = behind .says (second-context g x) (second-stands g x y)
 
         pub second-refused : {z : Reason} → v ≡ Refused z → GivesTwo s r pack places store last top at levels out full (Twos.Refused z)
         second-refused q = record {
@@ -251,19 +251,19 @@ steps-value : {A B C : Type 0} (o : Result A) (q : Result B) (f : A → B → Re
 steps-value o q f v w e d = rw (e, d)
 
 module _ (pack : List ℕ) {places : Places} {store : List ℕ} {top : ℕ} (at : ℕ) {levels : ℕ} (o : Binary) (pos : 0 < levels) (sign : getD pack at 0 ≡ binarySign o) where
-  operands-of : (g : Ground pack places store top levels) (x : Stands (g .pack) (firstSort o) (drop at pack) levels) → Two (g .pack) (binaryTerm o) (drop (at + 1) pack) (levels - 1) (x .term) (x .rest)
+  operands-of : (g : Context pack places store top levels) (x : Stands (g .pack) (firstSort o) (drop at pack) levels) → Two (g .pack) (binaryTerm o) (drop (at + 1) pack) (levels - 1) (x .term) (x .rest)
   operands-of g x = pair-stands (g .pack) o pack at levels x pos sign
 
   pub binary-asks : {s r : Sort} → s ≡ firstSort o → r ≡ secondSort o → Asks (firstSort o) pack places store top at levels → AsksTwo s r pack places store top at levels
   binary-asks {s} {r} e d a =
-      let t = operands-of (a .ground) (a .stands) in
-      let z : AsksTwo (firstSort o) (secondSort o) pack places store top at levels = record { ground = a .ground; first = t .first; second = t .second } in
+      let t = operands-of (a .context) (a .stands) in
+      let z : AsksTwo (firstSort o) (secondSort o) pack places store top at levels = record { context = a .context; first = t .first; second = t .second } in
       subst (λ (y : Sort). AsksTwo s y pack places store top at levels) (sym d)
       (subst (λ (y : Sort). AsksTwo y (secondSort o) pack places store top at levels) (sym e) z)
 
   module _ {s r : Sort} {after out filled : List ℕ} {w : EvaluatedTwo} (es : s ≡ firstSort o) (er : r ≡ secondSort o)
       (given : GivesTwo s r pack places store after top at levels out filled w) where
-    both-say : (g : Ground pack places store top levels) (x : Stands (g .pack) (firstSort o) (drop at pack) levels)
+    both-say : (g : Context pack places store top levels) (x : Stands (g .pack) (firstSort o) (drop at pack) levels)
         → SaysTwo (firstSort o) (secondSort o) (evaluate (constantsOf (g .pack)) (g .environment) (operands-of g x .first .term))
         (evaluate (constantsOf (g .pack)) (g .environment) (operands-of g x .second .term)) pack (operands-of g x .second .rest) after top w
     both-say g x = let t = operands-of g x in two-as es er given .says g (t .first) (t .second)
@@ -282,7 +282,7 @@ module _ (pack : List ℕ) {places : Places} {store : List ℕ} {top : ℕ} (at 
     module _ {middle last end : ℕ} (e : w ≡ Twos.To middle last end) (a : Asks (firstSort o) pack places store top at levels) where
       pub binary-values : OperandsOf o (slice top middle after) (slice middle last after) × (top ≤ middle) × (middle ≤ last) × (last ≤ length after)
       binary-values =
-          let k = subst (SaysTwo (firstSort o) (secondSort o) _ _ pack _ after top) e (both-say (a .ground) (a .stands)) in
+          let k = subst (SaysTwo (firstSort o) (secondSort o) _ _ pack _ after top) e (both-say (a .context) (a .stands)) in
           (((k .0 .held, k .0 .reads), (k .1 .held, k .1 .reads)), k .0 .above, k .1 .above, k .1 .inside)
 
       pub binary-gives : {full : List ℕ} {q : Outcome} {y : Evaluated} → AppliedTwo o (slice top middle after) (slice middle last after) filled full q
@@ -302,17 +302,17 @@ module _ (pack : List ℕ) {places : Places} {store : List ℕ} {top : ℕ} (at 
       }
 
 module _ (pack : List ℕ) {places : Places} {store : List ℕ} {top : ℕ} (at : ℕ) {levels : ℕ} (o : Unary) (pos : 0 < levels) (sign : getD pack at 0 ≡ unarySign o) where
-  operand-of : (g : Ground pack places store top levels) (x : Stands (g .pack) (unarySort o) (drop at pack) levels) → One (g .pack) o (drop (at + 1) pack) (levels - 1) (x .term) (x .rest)
+  operand-of : (g : Context pack places store top levels) (x : Stands (g .pack) (unarySort o) (drop at pack) levels) → One (g .pack) o (drop (at + 1) pack) (levels - 1) (x .term) (x .rest)
   operand-of g x = single-stands (g .pack) o pack at levels x pos sign
 
   pub unary-asks : {s : Sort} → s ≡ operandSort o → Asks (unarySort o) pack places store top at levels → Asks s pack places store top (at + 1) (levels - 1)
-  unary-asks e a = asks-as e (record { ground = ground-less (a .ground); stands = operand-of (a .ground) (a .stands) .operand })
+  unary-asks e a = asks-as e (record { context = context-less (a .context); stands = operand-of (a .context) (a .stands) .operand })
 
   module _ {s : Sort} {after out filled : List ℕ} {w : Evaluated} (es : s ≡ operandSort o)
       (given : GivesStored s pack places store after top (at + 1) (levels - 1) out filled w) where
-    operand-says : (g : Ground pack places store top levels) (x : Stands (g .pack) (unarySort o) (drop at pack) levels)
+    operand-says : (g : Context pack places store top levels) (x : Stands (g .pack) (unarySort o) (drop at pack) levels)
         → SaysStored (operandSort o) (evaluate (constantsOf (g .pack)) (g .environment) (operand-of g x .operand .term)) pack (operand-of g x .operand .rest) after top w
-    operand-says g x = stored-as es given .says (ground-less g) (operand-of g x .operand)
+    operand-says g x = stored-as es given .says (context-less g) (operand-of g x .operand)
 
     pub unary-refused : {z : Reason} → w ≡ Refused z → Gives (unarySort o) pack places store after top at levels out filled (Refused z)
     unary-refused {z} e = record {
@@ -327,7 +327,7 @@ module _ (pack : List ℕ) {places : Places} {store : List ℕ} {top : ℕ} (at 
 
     module _ {last end : ℕ} (e : w ≡ To last end) (a : Asks (unarySort o) pack places store top at levels) where
       pub unary-value : OperandOf o (slice top last after) × (top ≤ last) × (last ≤ last) × (last ≤ length after)
-      unary-value = let k = to-stored e (operand-says (a .ground) (a .stands)) .0 in ((k .held, k .reads), k .above, omega arith, k .inside)
+      unary-value = let k = to-stored e (operand-says (a .context) (a .stands)) .0 in ((k .held, k .reads), k .above, omega arith, k .inside)
 
       pub unary-gives : {full : List ℕ} {q : Outcome} {y : Evaluated} → AppliedOne o (slice top last after) filled full q
           → y ≡ finished q end → Gives (unarySort o) pack places store after top at levels out full y
@@ -351,8 +351,8 @@ module _ (pack : List ℕ) {places : Places} {store : List ℕ} {top : ℕ} (at 
   constant-known : getD pack at 0 ≡ 0x40 → Asks languages pack places store top at levels
       → ((p : Pack) × (packOf pack ≡ value p) × ((l : Language) × (getElem? (p .languages) (getD pack (at + 1) 0) ≡ some l))) × (at + 2 ≤ length pack)
   constant-known e a =
-      let z = constant-stands (a .ground .pack) pack at levels (a .stands) pos e in
-      ((a .ground .pack, a .ground .packed, z .1), z .0 .inside)
+      let z = constant-stands (a .context .pack) pack at levels (a .stands) pos e in
+      ((a .context .pack, a .context .packed, z .1), z .0 .inside)
 
   pub constant-asks : {s : Sort} → (s ≡ languages) × (getD pack at 0 ≡ 0x40) → Asks s pack places store top at levels
       → ((p : Pack) × (packOf pack ≡ value p) × ((l : Language) × (getElem? (p .languages) (getD pack (at + 1) 0) ≡ some l))) × (at + 2 ≤ length pack)
@@ -376,8 +376,8 @@ module _ (pack : List ℕ) {places : Places} {store : List ℕ} {top : ℕ} (at 
   pub variable-asks : (s : Sort) → getD pack at 0 ≡ signed s 0x41 0x51 → Asks s pack places store top at levels
       → ((e : Environment) × Held e places (take top store)) × (getD pack (at + 1) 0 < 16) × (at + 2 ≤ length pack)
   variable-asks s e a =
-      let z = variable-stands (a .ground .pack) s pack at levels (a .stands) pos e in
-      ((a .ground .environment, a .ground .held), z .1, z .0 .inside)
+      let z = variable-stands (a .context .pack) s pack at levels (a .stands) pos e in
+      ((a .context .environment, a .context .held), z .1, z .0 .inside)
 
   pub variable-gives : (s : Sort) {out filled : List ℕ} {y : Evaluated} → getD pack at 0 ≡ signed s 0x41 0x51 → Asks s pack places store top at levels
       → ((e : Environment) → Held e places (take top store) → Wrote s (there UnboundVariable (e s (getD pack (at + 1) 0))) out filled (at + 2) y)
@@ -390,22 +390,22 @@ module _ (pack : List ℕ) {places : Places} {store : List ℕ} {top : ℕ} (at 
         (sym (ap (evaluate (constantsOf (g .pack)) (g .environment)) (z .0 .is)))
         (λ v q. evaluated-reads g (x .term) v q) (record { inside = z .0 .inside; next = z .0 .next });
     kept = kept-same store top;
-    long = h (a .ground .environment) (a .ground .held) .gives .long;
+    long = h (a .context .environment) (a .context .held) .gives .long;
   }
 
   -- A made translation.
-  making : getD pack at 0 ≡ 0x50 → (g : Ground pack places store top levels) (x : Stands (g .pack) translations (drop at pack) levels)
+  making : getD pack at 0 ≡ 0x50 → (g : Context pack places store top levels) (x : Stands (g .pack) translations (drop at pack) levels)
       → Made (g .pack) (drop (at + 1) pack) (levels - 1) (x .term) (x .rest)
   making e g x = make-stands (g .pack) pack at levels x pos e
 
   pub make-asks : getD pack at 0 ≡ 0x50 → Asks translations pack places store top at levels → AsksTwo languages languages pack places store top at levels
   make-asks e a =
-      let t = making e (a .ground) (a .stands) in
-      record { ground = a .ground; first = t .terms .first; second = t .terms .second }
+      let t = making e (a .context) (a .stands) in
+      record { context = a .context; first = t .terms .first; second = t .terms .second }
 
   module _ {after out filled : List ℕ} {w : EvaluatedTwo} (sign : getD pack at 0 ≡ 0x50)
       (given : GivesTwo languages languages pack places store after top at levels out filled w) where
-    made-say : (g : Ground pack places store top levels) (x : Stands (g .pack) translations (drop at pack) levels)
+    made-say : (g : Context pack places store top levels) (x : Stands (g .pack) translations (drop at pack) levels)
         → SaysTwo languages languages (evaluate (constantsOf (g .pack)) (g .environment) (making sign g x .terms .first .term))
         (evaluate (constantsOf (g .pack)) (g .environment) (making sign g x .terms .second .term)) pack (making sign g x .terms .second .rest) after top w
     made-say g x = let t = making sign g x .terms in given .says g (t .first) (t .second)
@@ -424,23 +424,23 @@ module _ (pack : List ℕ) {places : Places} {store : List ℕ} {top : ℕ} (at 
 
     module _ {middle last end : ℕ} (e : w ≡ Twos.To middle last end) where
       -- The number behind both languages.
-      made-next : (g : Ground pack places store top levels) (x : Stands (g .pack) translations (drop at pack) levels)
+      made-next : (g : Context pack places store top levels) (x : Stands (g .pack) translations (drop at pack) levels)
           → (end < length pack) × (getD pack end 0 ≡ making sign g x .number) × (drop (end + 1) pack ≡ x .rest)
       made-next g x =
           let k = subst (SaysTwo languages languages _ _ pack _ after top) e (made-say g x) in
           next-byte pack end (making sign g x .number) (x .rest) (k .2 .next ∙ making sign g x .terms .ends)
 
       pub make-next : Asks translations pack places store top at levels → end < length pack
-      make-next a = made-next (a .ground) (a .stands) .0
+      make-next a = made-next (a .context) (a .stands) .0
 
       pub make-values : {i : ℕ} → i ≡ getD pack end 0 → Asks translations pack places store top at levels
           → Makes pack i (slice top middle after) (slice middle last after) × (top ≤ middle) × (middle ≤ last) × (last ≤ length after)
       make-values {i} q a =
-          let t = making sign (a .ground) (a .stands) in
-          let k = subst (SaysTwo languages languages _ _ pack _ after top) e (made-say (a .ground) (a .stands)) in
-          let f = made-next (a .ground) (a .stands) in (
+          let t = making sign (a .context) (a .stands) in
+          let k = subst (SaysTwo languages languages _ _ pack _ after top) e (made-say (a .context) (a .stands)) in
+          let f = made-next (a .context) (a .stands) in (
             (
-              (a .ground .pack, a .ground .packed, (t .body .0, ap (getElem? (a .ground .pack .bodies)) (q ∙ f .1) ∙ t .body .1)),
+              (a .context .pack, a .context .packed, (t .body .0, ap (getElem? (a .context .pack .bodies)) (q ∙ f .1) ∙ t .body .1)),
               (k .0 .held, k .0 .reads),
               (k .1 .held, k .1 .reads),
             ),
@@ -479,14 +479,14 @@ limited-same s (refused r) h = refl
 limited-same s (value v) h = ap (λ (b : Bool). refuseIf b ValueTooLarge (value v)) (h v refl)
 
 module _ (pack : List ℕ) {places : Places} {store : List ℕ} {top : ℕ} (at : ℕ) {levels : ℕ} (r s : Sort) (pos : 0 < levels) (sign : getD pack at 0 ≡ bindSign r s) where
-  bound-of : (g : Ground pack places store top levels) (x : Stands (g .pack) s (drop at pack) levels) → Bound (g .pack) r s pack at (levels - 1) (x .term) (x .rest)
+  bound-of : (g : Context pack places store top levels) (x : Stands (g .pack) s (drop at pack) levels) → Bound (g .pack) r s pack at (levels - 1) (x .term) (x .rest)
   bound-of g x = let-stands (g .pack) r s pack at levels x pos sign
 
   pub let-asks : Asks s pack places store top at levels → Asks r pack places store top (at + 2) (levels - 1)
-  let-asks a = record { ground = ground-less (a .ground); stands = bound-of (a .ground) (a .stands) .terms .first }
+  let-asks a = record { context = context-less (a .context); stands = bound-of (a .context) (a .stands) .terms .first }
 
   pub let-number : Asks s pack places store top at levels → (at + 2 ≤ length pack) × (getD pack (at + 1) 0 < 16)
-  let-number a = let b = bound-of (a .ground) (a .stands) in (b .inside, b .small)
+  let-number a = let b = bound-of (a .context) (a .stands) in (b .inside, b .small)
 
   module _ {after out filled : List ℕ} {w : Evaluated} (given : GivesStored r pack places store after top (at + 2) (levels - 1) out filled w) where
     pub let-refused : {z : Reason} → w ≡ Refused z → Gives s pack places store after top at levels out filled (Refused z)
@@ -496,17 +496,17 @@ module _ (pack : List ℕ) {places : Places} {store : List ℕ} {top : ℕ} (at 
           let b = bound-of g x in
           ap (evaluate (constantsOf (g .pack)) (g .environment)) (b .terms .is)
           ∙ ap (λ (q : Result (Value r)). q >>= λ v. evaluate (constantsOf (g .pack)) (bound (g .environment) r (getD pack (at + 1) 0) v) (b .terms .second .term) >>= limited s)
-          (stored-refused _ _ _ _ _ _ e (given .says (ground-less g) (b .terms .first)));
+          (stored-refused _ _ _ _ _ _ e (given .says (context-less g) (b .terms .first)));
       kept = given .kept;
       long = given .long;
     }
 
     module _ {last next : ℕ} (e : w ≡ To last next) where
-      first-of : (g : Ground pack places store top levels) (x : Stands (g .pack) s (drop at pack) levels)
+      first-of : (g : Context pack places store top levels) (x : Stands (g .pack) s (drop at pack) levels)
           → Stored r (evaluate (constantsOf (g .pack)) (g .environment) (bound-of g x .terms .first .term)) after top last × Ends pack (bound-of g x .terms .first .rest) next
-      first-of g x = to-stored e (given .says (ground-less g) (bound-of g x .terms .first))
+      first-of g x = to-stored e (given .says (context-less g) (bound-of g x .terms .first))
 
-      inner-stands : (g : Ground pack places store top levels) (x : Stands (g .pack) s (drop at pack) levels) → Stands (g .pack) s (drop next pack) (levels - 1)
+      inner-stands : (g : Context pack places store top levels) (x : Stands (g .pack) s (drop at pack) levels) → Stands (g .pack) s (drop next pack) (levels - 1)
       inner-stands g x = let y = bound-of g x .terms .second in record {
         term = y .term;
         rest = y .rest;
@@ -515,21 +515,21 @@ module _ (pack : List ℕ) {places : Places} {store : List ℕ} {top : ℕ} (at 
       }
 
       pub let-room : Asks s pack places store top at levels → top + 1 ≤ length after
-      let-room a = let k = room-less top 1 levels (length store) (length after) pos (omega arith) (a .ground .room) (given .kept .long) in omega arith
+      let-room a = let k = room-less top 1 levels (length store) (length after) pos (omega arith) (a .context .room) (given .kept .long) in omega arith
 
       module _ {inner : Places} {i : ℕ} (slot : i ≡ slotOf r (getD pack (at + 1) 0)) (new : Changed places inner i (top + 1) last) where
-        inner-ground : (g : Ground pack places store top levels) (x : Stands (g .pack) s (drop at pack) levels) → Ground pack inner after last (levels - 1)
-        inner-ground g x =
-            ground-bound g after pos (given .kept) (first-of g x .0) inner (getD pack (at + 1) 0) (bound-of g x .small)
+        inner-context : (g : Context pack places store top levels) (x : Stands (g .pack) s (drop at pack) levels) → Context pack inner after last (levels - 1)
+        inner-context g x =
+            context-bound g after pos (given .kept) (first-of g x .0) inner (getD pack (at + 1) 0) (bound-of g x .small)
             (subst (λ (j : ℕ). Changed places inner j (top + 1) last) slot new)
 
         pub let-inner : Asks s pack places store top at levels → Asks s pack inner after last next (levels - 1)
-        unfolding inner-ground
-        let-inner a = record { ground = inner-ground (a .ground) (a .stands); stands = inner-stands (a .ground) (a .stands) }
+        unfolding inner-context
+        let-inner a = record { context = inner-context (a .context) (a .stands); stands = inner-stands (a .context) (a .stands) }
 
         pub let-gives : {final full : List ℕ} {y : Evaluated} → Asks s pack places store top at levels
             → Gives s pack inner after final last next (levels - 1) filled full y → Gives s pack places store final top at levels out full y
-        unfolding evaluate inner-ground bound-of inner-stands
+        unfolding evaluate inner-context bound-of inner-stands
         let-gives {final} {full} {y} a h = record {
           says = λ g x.
               let b = bound-of g x in
@@ -540,7 +540,7 @@ module _ (pack : List ℕ) {places : Places} {store : List ℕ} {top : ℕ} (at 
               ∙ (ap (λ (q : Result (Value r)). q >>= λ v. evaluate (constantsOf (g .pack)) (bound (g .environment) r (getD pack (at + 1) 0) v) (b .terms .second .term) >>= limited s) (v .comes)
               ∙ limited-same s q (λ u d. evaluate-within (constantsOf (g .pack)) (bound (g .environment) r (getD pack (at + 1) 0) (v .held)) (b .terms .second .term) u d)) in
               subst (λ (o : Result (Value s)). Says s o pack (x .rest) full y) (sym z)
-              (subst (λ (l : List ℕ). Says s q pack l full y) (b .terms .ends) (h .says (inner-ground g x) (inner-stands g x)));
-          kept = kept-then (given .kept) (kept-lower after final top last (first-of (a .ground) (a .stands) .0 .above) (h .kept));
+              (subst (λ (l : List ℕ). Says s q pack l full y) (b .terms .ends) (h .says (inner-context g x) (inner-stands g x)));
+          kept = kept-then (given .kept) (kept-lower after final top last (first-of (a .context) (a .stands) .0 .above) (h .kept));
           long = h .long ∙ given .long;
         }

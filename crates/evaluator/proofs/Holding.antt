@@ -26,7 +26,7 @@ use Rattle.signs.specs.declared.places.Places.{Places}
 use Rattle.signs.specs.Evaluation.{Constants, constantsOf, Value, Environment, nothingBound, bound, there, exceeds, limited, sumOf, evaluate}
 use Rattle.signs.specs.Inner.Sorts.{encodeAs, valueIn}
 use Rattle.signs.specs.Inner.Values.{slotOf, Sized, Changed, Holds, Held}
-use Rattle.evaluator.specs.Inner.Reducing.{Ground, Stored, Kept}
+use Rattle.evaluator.specs.Inner.Reducing.{Context, Stored, Kept}
 use Rattle.evaluator.proofs.Evaluated.{Good, step-value, limited-value, within, language-short, evaluate-good}
 
 -- A translation that bytes hold is good.
@@ -54,7 +54,7 @@ good-reads languages l g = language-back l g
 good-reads translations f g = good-back f g
 
 -- Every value that a term comes to is one that bytes hold.
-pub evaluated-reads : {bytes : List ℕ} {places : Places} {store : List ℕ} {top n : ℕ} (g : Ground bytes places store top n) {s : Sort} (t : Term s) (v : Value s)
+pub evaluated-reads : {bytes : List ℕ} {places : Places} {store : List ℕ} {top n : ℕ} (g : Context bytes places store top n) {s : Sort} (t : Term s) (v : Value s)
     → evaluate (constantsOf (g .pack)) (g .environment) t ≡ value v → valueIn s (encodeAs s v) ≡ value v
 evaluated-reads {bytes} g {s} t v e =
     let c = pack-good bytes (g .pack) (g .packed) in
@@ -102,9 +102,9 @@ pub within-short : (s : Sort) (v : Value s) → exceeds s v ≡ false → length
 within-short languages l e = omega (arith, language-short l e)
 within-short translations f e = within f e .whole
 
--- The ground with a level fewer.
-abbrev pub ground-less : {bytes : List ℕ} {places : Places} {store : List ℕ} {top n : ℕ} → Ground bytes places store top n → Ground bytes places store top (n - 1)
-ground-less g = record { pack = g .pack; packed = g .packed; environment = g .environment; held = g .held; room = omega (arith, g .room) }
+-- What is known, with a level fewer.
+abbrev pub context-less : {bytes : List ℕ} {places : Places} {store : List ℕ} {top n : ℕ} → Context bytes places store top n → Context bytes places store top (n - 1)
+context-less g = record { pack = g .pack; packed = g .packed; environment = g .environment; held = g .held; room = omega (arith, g .room) }
 
 -- What stands in the store stands there too when more is kept behind it.
 holds-more : (s : Sort) (o : Option (Value s)) (p e : ℕ) (a b : List ℕ) → Holds s o p e a → Holds s o p e (a ++ b)
@@ -199,7 +199,7 @@ pub room-behind : (top last n a b : ℕ) → 0 < n → top ≤ last → last ≤
 room-behind top last zero a b h j k r e = absurd (omega arith)
 room-behind top last (suc n) a b h j k r e = omega arith
 
-module _ {bytes : List ℕ} {places : Places} {store : List ℕ} {top n : ℕ} (g : Ground bytes places store top n) (after : List ℕ) {last : ℕ} (pos : 0 < n) (k : Kept store after top)
+module _ {bytes : List ℕ} {places : Places} {store : List ℕ} {top n : ℕ} (g : Context bytes places store top n) (after : List ℕ) {last : ℕ} (pos : 0 < n) (k : Kept store after top)
     {r : Sort} {o : Result (Value r)} (l : Stored r o after top last) where
   -- What lies below an operand's end: what was there, and the operand.
   pub kept-below : take last after ≡ take top store ++ encodeAs r (l .held)
@@ -211,9 +211,9 @@ module _ {bytes : List ℕ} {places : Places} {store : List ℕ} {top n : ℕ} (
       let b = length-take-le last after (l .inside) in
       omega (arith, ap length kept-below, length-append (take top store) (encodeAs r (l .held)), a, b)
 
-  -- The ground of a second operand.
-  abbrev pub ground-behind : Ground bytes places after last (n - 1)
-  ground-behind = record {
+  -- What is known at a second operand.
+  abbrev pub context-behind : Context bytes places after last (n - 1)
+  context-behind = record {
     pack = g .pack;
     packed = g .packed;
     environment = g .environment;
@@ -228,9 +228,9 @@ module _ {bytes : List ℕ} {places : Places} {store : List ℕ} {top n : ℕ} (
       subst (λ (t : List ℕ). Held (bound (g .environment) r v (l .held)) inner t) (sym kept-below)
       (held-bound (g .environment) places inner (take top store) r v (l .held) small (g .held) b (ap (valueIn r) (sym (l .bytes)) ∙ l .reads))
 
-  -- The ground of the second term of a let.
-  abbrev pub ground-bound : (inner : Places) (v : ℕ) → v < 16 → Changed places inner (slotOf r v) (top + 1) last → Ground bytes inner after last (n - 1)
-  ground-bound inner v small new = record {
+  -- What is known at the second term of a let.
+  abbrev pub context-bound : (inner : Places) (v : ℕ) → v < 16 → Changed places inner (slotOf r v) (top + 1) last → Context bytes inner after last (n - 1)
+  context-bound inner v small new = record {
     pack = g .pack;
     packed = g .packed;
     environment = bound (g .environment) r v (l .held);

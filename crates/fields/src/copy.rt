@@ -29,7 +29,7 @@ pub fn put(s: &[u8], p: usize, e: usize, out: &mut [u8], n: usize) -> Stored
     Stored::To(n + size)
 }
 
-// Copies the same if told to, and nothing if not.
+// Copies the same where that is wanted, and nothing where it is not.
 pub fn put_if(wanted: bool, s: &[u8], p: usize, e: usize, out: &mut [u8], n: usize) -> Stored
     requires { ⌜ Inside (now s) p e × (n ≤ length (now out)) ⌝ }
     ensures { λ r. ⌜ Stores (cond wanted (slice p e (now (s .entry))) []) (now (out .entry)) (now (out .exit)) n r ⌝ }

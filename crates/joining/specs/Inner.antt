@@ -1,2 +1,2 @@
--- What the join on bytes is told of two translations, and what it puts out.
+-- What the join on bytes knows of two translations, and what it puts out.
 pub mod Joining

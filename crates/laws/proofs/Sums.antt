@@ -128,6 +128,6 @@ law-of-sums fields set a b p q la lb w w′ o o′ ew eo =
     record {
       left = λ e. let v = accepted-value x e in value-accepted y (v .0) (onward (v .0) (v .1));
       right = λ e. let v = accepted-value y e in value-accepted x (v .0) (back (v .0) (v .1));
-      length = λ e. let v = accepted-value x e in ap (λ (r : Result (List ℕ)). lengthOf (written r)) (v .1 ∙ sym (onward (v .0) (v .1)));
+      lengths = λ e. let v = accepted-value x e in ap (λ (r : Result (List ℕ)). lengthOf (written r)) (v .1 ∙ sym (onward (v .0) (v .1)));
       bytes = λ e. let v = accepted-value x e in put-out o x (v .0) (v .1) ∙ sym (put-out o′ y (v .0) (onward (v .0) (v .1)));
     }

@@ -45,7 +45,7 @@ pub record WithinLimits (fields : List Field) (s : Sum) : Type 0 where
 pub record AcceptedAlike (x y : Reduced) : Type 0 where
   pub left : numberOf (x .outcome) ≡ 0 → numberOf (y .outcome) ≡ 0
   pub right : numberOf (y .outcome) ≡ 0 → numberOf (x .outcome) ≡ 0
-  pub length : numberOf (x .outcome) ≡ 0 → lengthOf (x .outcome) ≡ lengthOf (y .outcome)
+  pub lengths : numberOf (x .outcome) ≡ 0 → lengthOf (x .outcome) ≡ lengthOf (y .outcome)
   pub bytes : numberOf (x .outcome) ≡ 0 → putOut (x .outcome) (x .output) ≡ putOut (y .outcome) (y .output)
 
 -- The law, for packs that differ only in field 32, reduced with equally long workspace and output.

@@ -19,7 +19,7 @@ use Rattle.fields.proofs.Split.{front, byte-drop}
 use Rattle.pack.specs.Terms.{Term, translations, Parse, readTerm, scoped}
 use Rattle.pack.specs.Pack.{Pack, packOf, wholeTerm, termOf}
 use Rattle.pack.specs.Inner.Parts.{tagged, languageAt, bodyAt}
-use Rattle.pack.specs.Inner.Signs.{hasNumber, signIndex, numbers, firsts, seconds, firstOperand, secondOperand}
+use Rattle.pack.specs.Inner.Signs.{hasNumber, signIndex, numberByDigit, firsts, seconds, firstOperand, secondOperand}
 use Rattle.pack.specs.Inner.Reading.{next, afterNumber, inScope, after, isSign, afterSign, afterLast, restAt, EndsBy}
 use Rattle.pack.specs.declared.term.Read.{Read}
 use Rattle.pack.specs.declared.term.Read.the-variants.{End, Broken}
@@ -55,7 +55,7 @@ module _ (x : ℕ) where
       let e : 0x50 ≤ x = omega arith in
       cc (le-ltb x 0x40 g, le-ltb x 0x48 f, le-ltb x 0x50 e, le-ltb x 0x58 h)
 
--- has_number: the table, at every sign
+-- has_number: the formula, at every sign
 abbrev alike : Bool → Bool → Bool
 alike true b = b
 alike false b = not b
@@ -65,11 +65,11 @@ alike-is true b e = sym e
 alike-is false false e = refl
 alike-is false true e = false-true e
 
-numbers-at : (x : ℕ) → x < 0x58 → eqb (getD numbers (signIndex x) 0) 1 ≡ hasNumber x
+numbers-at : (x : ℕ) → x < 0x58 → ltb (signIndex x) 16 && numberByDigit x ≡ hasNumber x
 unfolding all countUp signIndex hasNumber any
 numbers-at x h =
-    alike-is (eqb (getD numbers (signIndex x) 0) 1) (hasNumber x)
-    (all-mem (λ k. alike (eqb (getD numbers (signIndex k) 0) 1) (hasNumber k)) (countUp 0x58 0) refl x (mem-count 0x58 0 x (omega arith) (omega arith)))
+    alike-is (ltb (signIndex x) 16 && numberByDigit x) (hasNumber x)
+    (all-mem (λ k. alike (ltb (signIndex k) 16 && numberByDigit k) (hasNumber k)) (countUp 0x58 0) refl x (mem-count 0x58 0 x (omega arith) (omega arith)))
 
 no-number : (x : ℕ) → 0x58 ≤ x → hasNumber x ≡ false
 unfolding hasNumber any
@@ -88,23 +88,21 @@ no-number x h =
 past-table : (t : List ℕ) (i : ℕ) → length t ≤ i → getD t i 0 ≡ 0
 past-table t i h = List·getD-eq-default {A = ℕ} t 0 {n = i} h
 
-numbers-all : (x : ℕ) → eqb (getD numbers (signIndex x) 0) 1 ≡ hasNumber x
+numbers-all : (x : ℕ) → ltb (signIndex x) 16 && numberByDigit x ≡ hasNumber x
 numbers-all x =
     by-test (ltb x 0x58)
     (λ e. numbers-at x (ltb-true x 0x58 e))
     (λ e.
     let h = ltb-false x 0x58 e in
-    let z : getD numbers (signIndex x) 0 ≡ 0 = past-table numbers (signIndex x) (omega (arith, index-above x h)) in
+    let z : ltb (signIndex x) 16 ≡ false = le-ltb (signIndex x) 16 (omega (arith, index-above x h)) in
     rw (z, no-number x h))
 
 module _ (x i : ℕ) (ei : i ≡ signIndex x) where
   pub number-none : 16 ≤ i → false ≡ hasNumber x
-  number-none h =
-      let z : getD numbers i 0 ≡ 0 = past-table numbers i h in
-      rw (← ei, z) at (numbers-all x)
+  number-none h = rw (← ei, le-ltb i 16 h) at (numbers-all x)
 
-  pub number-told : eqb (getD numbers i 0) 1 ≡ hasNumber x
-  number-told = rw (← ei) at (numbers-all x)
+  pub number-is : i < 16 → numberByDigit x ≡ hasNumber x
+  number-is h = rw (← ei, lt-ltb i 16 h) at (numbers-all x)
 
   pub first-none : 16 ≤ i → 0 ≡ firstOperand x
   unfolding firstOperand

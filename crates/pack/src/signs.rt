@@ -4,9 +4,6 @@ ghost use Prim.Native.Nat.{_≤_};
 ghost use Rattle.pack.specs.Inner.Signs.{hasNumber, signIndex, firstOperand, secondOperand};
 use fields::bytes::to_usize;
 
-// 1 where a number follows the sign, or ends it, as b does at 50.
-pub const NUMBERS: [u8; 16] = [1, 1, 0, 0, 0, 0, 1, 1, 1, 1, 0, 0, 0, 0, 1, 1];
-
 // The sort of the first operand: 0 where there is none, 1 for a language term, 2 for a translation term.
 const FIRSTS: [u8; 16] = [0, 0, 1, 1, 2, 2, 1, 2, 1, 0, 2, 2, 2, 1, 1, 2];
 
@@ -32,7 +29,7 @@ fn sign_index(sign: u8) -> usize
     16
 }
 
-// A number follows the sign, or ends it.
+// A number follows the sign, or ends it, as b does at 50: by its low digit.
 pub fn has_number(sign: u8) -> bool
     ensures { λ r. ⌜ r ≡ hasNumber sign ⌝ }
 {
@@ -40,7 +37,7 @@ pub fn has_number(sign: u8) -> bool
     if 16 <= i {
         return false;
     }
-    NUMBERS[i] == 1
+    (sign % 16 + 2) % 8 < 4
 }
 
 // The sort of a sign's first operand.

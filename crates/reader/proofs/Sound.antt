@@ -1,4 +1,4 @@
--- What was read is typed, is within the levels, and is exactly the bytes that were eaten.
+-- What was read is typed, is within the levels, and is exactly the bytes that were consumed.
 -- More levels change nothing but the refusal.
 use Prim.Native.Nat.{ℕ, zero, suc, _+_, _*_, _/_, _%_, _≤_}
 use mathlib.Core.Path.{_≡_, refl, ap, _∙_}
@@ -16,31 +16,31 @@ use Rattle.reader.specs.Code.{Code, node, token, argument, Codes, cons, 
 use Rattle.reader.specs.Typing.{kindAt, Typed, TypedAll, typed-node, typed-token, typed-argument, typed-nil, typed-cons}
 use Rattle.reader.specs.Syntax.{Syntax, tree, code, sign, write, writeAll, Read, done, deep, broken, andThen, readAll, readOperands, readNode, readToken, isThe, readArgument, readTreeLevel, readCodeLevel, readLevel, read}
 
--- The bytes were eaten: they are what the code is written as, and the rest.
-abbrev pub Eaten : List ℕ → List ℕ → List ℕ → Type 0
-Eaten s front rest = Bytes s → (s ≡ front ++ rest) × Bytes rest
+-- The bytes were consumed: they are what the code is written as, and the rest.
+abbrev pub Consumed : List ℕ → List ℕ → List ℕ → Type 0
+Consumed s front rest = Bytes s → (s ≡ front ++ rest) × Bytes rest
 
 -- What reading a code of kind k from s came to is right.
 abbrev pub Right : Syntax → Language → List ℕ → ℕ → ℕ → List ℕ → Read Code → Type 0
-Right x l arguments n k s (done a r) = Typed l arguments a k × (levels a ≤ n) × Eaten s (write x a) r
+Right x l arguments n k s (done a r) = Typed l arguments a k × (levels a ≤ n) × Consumed s (write x a) r
 Right x l arguments n k s deep = Unit {0}
 Right x l arguments n k s broken = Unit {0}
 
 abbrev RightAll : Syntax → Language → List ℕ → ℕ → List ℕ → List ℕ → Read Codes → Type 0
-RightAll x l arguments n ks s (done t r) = TypedAll l arguments t ks × (levelsAll t ≤ n) × Eaten s (writeAll x t) r
+RightAll x l arguments n ks s (done t r) = TypedAll l arguments t ks × (levelsAll t ≤ n) × Consumed s (writeAll x t) r
 RightAll x l arguments n ks s deep = Unit {0}
 RightAll x l arguments n ks s broken = Unit {0}
 
-eaten-next : (s r u f g : List ℕ) → Eaten s f r → Eaten r g u → Eaten s (f ++ g) u
-eaten-next s r u f g h k b = let p = h b in let q = k (p .1) in (p .0 ∙ rw (q .0, append-assoc), q .1)
+consumed-next : (s r u f g : List ℕ) → Consumed s f r → Consumed r g u → Consumed s (f ++ g) u
+consumed-next s r u f g h k b = let p = h b in let q = k (p .1) in (p .0 ∙ rw (q .0, append-assoc), q .1)
 
 -- A sign in front.
-eaten-sign : (x : ℕ) (s f r : List ℕ) → Eaten s f r → Eaten (x ∷ s) (x ∷ f) r
-eaten-sign x s f r h b = let p = h (b .1) in (ap (λ (l : List ℕ). x ∷ l) (p .0), p .1)
+consumed-sign : (x : ℕ) (s f r : List ℕ) → Consumed s f r → Consumed (x ∷ s) (x ∷ f) r
+consumed-sign x s f r h b = let p = h (b .1) in (ap (λ (l : List ℕ). x ∷ l) (p .0), p .1)
 
-eaten-signed : (x : Syntax) (b : ℕ) (s f r : List ℕ) → Eaten s f r → Eaten (sign x b ++ s) (sign x b ++ f) r
-eaten-signed tree b s f r h = h
-eaten-signed code b s f r h = eaten-sign b s f r h
+consumed-signed : (x : Syntax) (b : ℕ) (s f r : List ℕ) → Consumed s f r → Consumed (sign x b ++ s) (sign x b ++ f) r
+consumed-signed tree b s f r h = h
+consumed-signed code b s f r h = consumed-sign b s f r h
 
 module _ (x : Syntax) (l : Language) (arguments : List ℕ) (n : ℕ) (reads : ℕ → List ℕ → Read Code)
     (right : (k : ℕ) (s : List ℕ) → Right x l arguments n k s (reads k s)) where
@@ -48,7 +48,7 @@ module _ (x : Syntax) (l : Language) (arguments : List ℕ) (n : ℕ) (reads : �
       → RightAll x l arguments n (k ∷ ks) s (andThen o λ t u. done (cons a t) u)
   unfolding levels write
   cons-right a k ks s r (done t u) h g =
-      (typed-cons (h .0) (g .0), omega (arith, h .1, g .1), eaten-next s r u (write x a) (writeAll x t) (h .2) (g .2))
+      (typed-cons (h .0) (g .0), omega (arith, h .1, g .1), consumed-next s r u (write x a) (writeAll x t) (h .2) (g .2))
   cons-right a k ks s r deep h g = tt
   cons-right a k ks s r broken h g = tt
 
@@ -69,7 +69,7 @@ module _ (x : Syntax) (l : Language) (arguments : List ℕ) (n : ℕ) (reads : �
       → Right x l arguments (suc n) k (sign x 1 ++ p ∷ s) (andThen o λ t r. done (node k p t) r)
   unfolding levels write
   operands-right k p ks s (done t r) e g =
-      (typed-node e (g .0), omega (arith, g .1), eaten-signed x 1 (p ∷ s) (p ∷ writeAll x t) r (eaten-sign p s (writeAll x t) r (g .2)))
+      (typed-node e (g .0), omega (arith, g .1), consumed-signed x 1 (p ∷ s) (p ∷ writeAll x t) r (consumed-sign p s (writeAll x t) r (g .2)))
   operands-right k p ks s deep e g = tt
   operands-right k p ks s broken e g = tt
 
@@ -88,9 +88,9 @@ module _ (x : Syntax) (l : Language) (arguments : List ℕ) (n : ℕ) (reads : �
       → Right x l arguments (suc n) k (sign x 2 ++ a ∷ b ∷ s) (elim t [ true ↦ done (token (a * 256 + b)) s | false ↦ broken ])
   unfolding levels write
   token-in k c a b s e true q =
-      (typed-token e q, omega arith, eaten-signed x 2 (a ∷ b ∷ s) ((a * 256 + b) / 256 ∷ (a * 256 + b) % 256 ∷ []) s eats)
+      (typed-token e q, omega arith, consumed-signed x 2 (a ∷ b ∷ s) ((a * 256 + b) / 256 ∷ (a * 256 + b) % 256 ∷ []) s eats)
     where
-      eats : Eaten (a ∷ b ∷ s) ((a * 256 + b) / 256 ∷ (a * 256 + b) % 256 ∷ []) s
+      eats : Consumed (a ∷ b ∷ s) ((a * 256 + b) / 256 ∷ (a * 256 + b) % 256 ∷ []) s
       eats h =
           let high : (a * 256 + b) / 256 ≡ a = omega (arith, h .1 .0) in
           let low : (a * 256 + b) % 256 ≡ b = omega (arith, h .1 .0) in

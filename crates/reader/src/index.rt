@@ -29,14 +29,14 @@ fn put(index: &mut [u16], key: usize, value: u16)
     index[key] = value;
 }
 
-// Puts every entry of a file into the index. Its first entries have the tag `first`.
-pub fn put_all(s: &[u8], first: u8, index: &mut [u16])
+// Puts every entry of a file into the index. Its leading entries have the tag `leading_tag`.
+pub fn put_all(s: &[u8], leading_tag: u8, index: &mut [u16])
     requires { ⌜ length (now s) ≤ 32768 ⌝ }
-    ensures { λ r. ⌜ now (index .exit) ≡ putAll first (now (s .entry)) (now (index .entry)) (places (now (s .entry))) ⌝ }
+    ensures { λ r. ⌜ now (index .exit) ≡ putAll «leading_tag» (now (s .entry)) (now (index .entry)) (places (now (s .entry))) ⌝ }
 {
     let mut p = 0;
     while p < s.len() {
-        put(index, key_at(s, p, first), (p + 1) as u16);
+        put(index, key_at(s, p, leading_tag), (p + 1) as u16);
         p = field_end(s, p);
     }
 }

@@ -29,7 +29,7 @@ use Rattle.signs.specs.Evaluation.{constantsOf, nothingBound, evaluate}
 use Rattle.reducer.specs.Operations.{Ready, ready, work, reduceBytes, workspaceAfter, reduce}
 use Rattle.reducer.specs.Inner.Delivery.{fileOf}
 use Rattle.signs.specs.Inner.Values.{Sized}
-use Rattle.evaluator.specs.Inner.Reducing.{Ground, Stands, Left, Says, Gives}
+use Rattle.evaluator.specs.Inner.Reducing.{Context, Stands, Left, Says, Gives}
 use Rattle.evaluator.proofs.Evaluated.{step-value, value-inj}
 use Rattle.evaluator.proofs.Holding.{nothing-held}
 use Rattle.signs.proofs.Copying.{saves}
@@ -82,9 +82,9 @@ module _ (s : List ℕ) (w o : ℕ) where
     ready-room e b d h = rw (opens, e, d) h
 
 -- What evaluation asks for.
-abbrev pub work-ground : (pack workspace : List ℕ) (places : Places) (p : Pack) → packOf pack ≡ value p → Sized places × ((j : ℕ) → getD (places .starts) j 0 ≡ 0) → 65536 ≤ length workspace
-    → Ground pack places workspace 0 12
-work-ground pack workspace places p e h l = record {
+abbrev pub work-context : (pack workspace : List ℕ) (places : Places) (p : Pack) → packOf pack ≡ value p → Sized places × ((j : ℕ) → getD (places .starts) j 0 ≡ 0) → 65536 ≤ length workspace
+    → Context pack places workspace 0 12
+work-context pack workspace places p e h l = record {
   pack = p;
   packed = e;
   environment = nothingBound;
@@ -107,7 +107,7 @@ pub work-says : {pack workspace after out filled : List ℕ} {places : Places} {
     → (drop start pack ≡ d .pack .term) → (h : Sized places × ((j : ℕ) → getD (places .starts) j 0 ≡ 0)) → 65536 ≤ length workspace
     → Gives translations pack places workspace after 0 start 12 out filled w
     → Says translations (evaluate (constantsOf (d .pack)) nothingBound (d .term)) pack [] filled w
-work-says {pack} {workspace} {places = places} d e t q h l g = g .says (work-ground pack workspace places (d .pack) e h l) (work-stands (d .pack) (d .term) _ q t)
+work-says {pack} {workspace} {places = places} d e t q h l g = g .says (work-context pack workspace places (d .pack) e h l) (work-stands (d .pack) (d .term) _ q t)
 
 -- What is written, where it has room.
 pub write-done : {v output after : List ℕ} {r : Stored} → Stores v output after 0 r → length v ≤ length output → after ≡ outputAfter output (value v)

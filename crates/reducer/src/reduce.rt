@@ -33,7 +33,7 @@ const OUTPUT: usize = 4096;
 
 const TERM_LEVELS: usize = 12;
 
-// 1 to 4, 8 and 9: the pack, its term, and the lent room.
+// 1 to 4, 8 and 9: the pack, its term, and the lengths of workspace and output.
 fn ready(pack: &[u8], workspace: usize, output: usize) -> Answer
     ensures { λ r. ⌜ r .outcome ≡ checked (Operations.ready (now (pack .entry)) workspace output) ⌝ }
 {

@@ -81,14 +81,14 @@ pub fn map_kinds(body: &[u8], index: &[u16], mapped: &mut [u8])
 }
 
 // The entry at p is of the first tag, or its key stands in the index.
-pub fn known_at(s: &[u8], p: usize, first: u8, index: &[u16]) -> bool
+pub fn known_at(s: &[u8], p: usize, leading_tag: u8, index: &[u16]) -> bool
     requires { ⌜ p ≤ length (now s) ⌝ }
-    ensures { λ r. ⌜ r ≡ knownAt first (now (s .entry)) (now (index .entry)) p ⌝ }
+    ensures { λ r. ⌜ r ≡ knownAt «leading_tag» (now (s .entry)) (now (index .entry)) p ⌝ }
 {
-    if byte_at(s, p) == first {
+    if byte_at(s, p) == leading_tag {
         return true;
     }
-    let key = key_at(s, p, first);
+    let key = key_at(s, p, leading_tag);
     if index.len() <= key {
         return false;
     }

@@ -129,7 +129,7 @@ pub record TermAsks (x : Syntax) (t input ends : List ℕ) (deep k : ℕ) (f : T
   pub levels : levels u ≤ deep
   pub most : deep ≤ 64
 
--- Whether a leaf stands at `at`, where a term of kind k is to be: in a tree a class has one, in a code the sign tells.
+-- Whether a leaf stands at `at`, where a term of kind k is to be: in a tree a class has one, in a code its sign decides.
 unfoldable pub leafAt : Syntax → List ℕ → ℕ → List ℕ → ℕ → Bool
 leafAt Tree t k b at = not (eqb (indexEntry t k) 0)
 leafAt Code t k b at = not (eqb (getD b at 0) 1)

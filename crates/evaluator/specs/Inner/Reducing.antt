@@ -21,7 +21,7 @@ use Rattle.signs.specs.Inner.Sorts.{encodeAs, valueIn}
 use Rattle.signs.specs.Inner.Values.{Held}
 
 -- The pack and the environment that a term is evaluated in, with room for what so many levels keep.
-pub record Ground (bytes : List ℕ) (places : Places) (store : List ℕ) (top levels : ℕ) : Type 0 where
+pub record Context (bytes : List ℕ) (places : Places) (store : List ℕ) (top levels : ℕ) : Type 0 where
   pub pack : Pack
   pub packed : packOf bytes ≡ value pack
   pub environment : Environment
@@ -79,34 +79,34 @@ pub record Kept (store after : List ℕ) (top : ℕ) : Type 0 where
   pub below : take top after ≡ take top store
   pub long : length after ≡ length store
 
--- What a reducer asks for: the ground, and a term at `at`.
+-- What a reducer asks for: what is known of pack and store, and a term at `at`.
 pub record Asks (s : Sort) (pack : List ℕ) (places : Places) (store : List ℕ) (top at levels : ℕ) : Type 0 where
-  pub ground : Ground pack places store top levels
-  pub stands : Stands (ground .pack) s (drop at pack) levels
+  pub context : Context pack places store top levels
+  pub stands : Stands (context .pack) s (drop at pack) levels
 
 -- What it gives: the answer, the store as it was below top, and the buffer as long as it was.
 pub record Gives (s : Sort) (pack : List ℕ) (places : Places) (store after : List ℕ) (top at levels : ℕ) (out filled : List ℕ) (r : Evaluated) : Type 0 where
-  pub says : (g : Ground pack places store top levels) (x : Stands (g .pack) s (drop at pack) levels)
+  pub says : (g : Context pack places store top levels) (x : Stands (g .pack) s (drop at pack) levels)
       → Says s (evaluate (constantsOf (g .pack)) (g .environment) (x .term)) pack (x .rest) filled r
   pub kept : Kept store after top
   pub long : length filled ≡ length out
 
 -- What it gives for an operand.
 pub record GivesStored (s : Sort) (pack : List ℕ) (places : Places) (store after : List ℕ) (top at levels : ℕ) (out filled : List ℕ) (r : Evaluated) : Type 0 where
-  pub says : (g : Ground pack places store top levels) (x : Stands (g .pack) s (drop at pack) levels)
+  pub says : (g : Context pack places store top levels) (x : Stands (g .pack) s (drop at pack) levels)
       → SaysStored s (evaluate (constantsOf (g .pack)) (g .environment) (x .term)) pack (x .rest) after top r
   pub kept : Kept store after top
   pub long : length filled ≡ length out
 
 -- Two operands, one after the other, behind the sign at `at`.
 pub record AsksTwo (s r : Sort) (pack : List ℕ) (places : Places) (store : List ℕ) (top at levels : ℕ) : Type 0 where
-  pub ground : Ground pack places store top levels
-  pub first : Stands (ground .pack) s (drop (at + 1) pack) (levels - 1)
-  pub second : Stands (ground .pack) r (first .rest) (levels - 1)
+  pub context : Context pack places store top levels
+  pub first : Stands (context .pack) s (drop (at + 1) pack) (levels - 1)
+  pub second : Stands (context .pack) r (first .rest) (levels - 1)
 
 -- What evaluating both gives.
 pub record GivesTwo (s r : Sort) (pack : List ℕ) (places : Places) (store after : List ℕ) (top at levels : ℕ) (out filled : List ℕ) (w : EvaluatedTwo) : Type 0 where
-  pub says : (g : Ground pack places store top levels) (x : Stands (g .pack) s (drop (at + 1) pack) (levels - 1)) (y : Stands (g .pack) r (x .rest) (levels - 1))
+  pub says : (g : Context pack places store top levels) (x : Stands (g .pack) s (drop (at + 1) pack) (levels - 1)) (y : Stands (g .pack) r (x .rest) (levels - 1))
       → SaysTwo s r (evaluate (constantsOf (g .pack)) (g .environment) (x .term)) (evaluate (constantsOf (g .pack)) (g .environment) (y .term)) pack (y .rest) after top w
   pub kept : Kept store after top
   pub long : length filled ≡ length out

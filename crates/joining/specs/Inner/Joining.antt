@@ -1,4 +1,4 @@
--- What the join is told of its two translations.
+-- What the join knows of its two translations.
 use Prim.Native.Nat.{ℕ, _+_, _/_, _%_, _<_}
 use mathlib.Core.Path.{_≡_}
 use mathlib.Core.Bool.{true}

@@ -1,4 +1,4 @@
--- Measuring from above: each operand is told how often it counts in the whole, and adds to one sum.
+-- Measuring from above: each operand has a weight, how often it counts in the whole, and adds to one sum.
 use Prim.Native.Nat.{ℕ, zero, suc, _+_, _*_, _-_, _<_, _≤_}
 use mathlib.Core.List.{List, []}
 use lib.ListN.{getD}

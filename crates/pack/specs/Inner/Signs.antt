@@ -1,6 +1,6 @@
 -- The sixteen signs of terms in tables (paper 01, "The sixteen term signs"), first the left column, then the right.
 -- `proofs/Levels.antt` shows that they say what `readTerm` reads.
-use Prim.Native.Nat.{ℕ, _-_}
+use Prim.Native.Nat.{ℕ, _+_, _-_, _%_}
 use mathlib.Core.Bool.{Bool, cond}
 use mathlib.Core.List.{List, [], _∷_}
 use lib.ListN.{getD}
@@ -19,9 +19,9 @@ signIndex sign =
     (cond (ltb sign 0x50) 16
     (cond (ltb sign 0x58) (sign - 0x48) 16)))
 
--- 1 where a number follows the sign, or ends it.
-abbrev pub numbers : List ℕ
-numbers = 1 ∷ 1 ∷ 0 ∷ 0 ∷ 0 ∷ 0 ∷ 1 ∷ 1 ∷ 1 ∷ 1 ∷ 0 ∷ 0 ∷ 0 ∷ 0 ∷ 1 ∷ 1 ∷ []
+-- The formula for a sign's number, by its low digit (paper 02, request 2026-04).
+abbrev pub numberByDigit : ℕ → Bool
+numberByDigit sign = ltb ((sign % 16 + 2) % 8) 4
 
 -- The sort of the first operand: 0 where there is none, 1 for a language term, 2 for a translation term.
 abbrev pub firsts : List ℕ

@@ -132,7 +132,7 @@ restOf (Meant.done a r) = rest r
 restOf Meant.deep = deep
 restOf Meant.broken = broken
 
--- The syntax that the code is told.
+-- The syntax of the definitions for that of the code.
 abbrev pub syntaxOf : Syntax → Meant.Syntax
 syntaxOf Tree = Meant.tree
 syntaxOf Code = Meant.code

@@ -246,7 +246,7 @@ let-term-add-set-slot : (t : ℕ) → let-term-lts.Need-add-set-slot (let-term-c
 let-term-add-set-slot t c = omega (arith, let-room (c .before .before .before .before .before .before .before .before .before .before .before .before .before .before .before .before .args .pack .now) (c .before .before .before .before .before .before .before .before .before .before .before .before .before .before .before .before .args .at) (sortOf (c .before .before .before .before .before .before .before .before .before .before .before .before .before .before .before .before .args .bound)) (sortOf (c .before .before .before .before .before .before .before .before .before .before .before .before .before .before .before .before .args .sort)) (c .before .before .before .before .before .before .before .before .before .before .before .before .before .before .before .before .pre .1 .2) (c .before .before .before .before .before .before .before .before .before .before .before .before .before .before .before .before .pre .1 .3) (c .before .before .before .before .before .before .before .before .before .before .operand .ensures) (c .before .before .before .before .last .given .1) (c .before .before .before .before .before .before .before .before .before .before .before .before .before .before .before .before .pre .1 .0), c .before .before .before .before .before .before .before .before .before .before .operand .ensures .kept .long, c .before .before .before .before .before .before .before .before .before .before .before .before .before .before .before .before .good .1 .1 .1 .1 .1 .1 .0 .1)
 
 let-term-set-slot-requires : (t : ℕ) → let-term-lts.Need-set-slot-requires (let-term-calls t) (let-term-at t) let-term.Post
-let-term-set-slot-requires t c κs = (c .slot .ensures .1, c .before .before .before .before .before .before .before .before .before .before .before .before .before .before .before .before .pre .1 .0 .ground .held .sized)
+let-term-set-slot-requires t c κs = (c .slot .ensures .1, c .before .before .before .before .before .before .before .before .before .before .before .before .before .before .before .before .pre .1 .0 .context .held .sized)
 
 let-term-term-of-requires : (t : ℕ) → let-term-lts.Need-term-of-requires (let-term-calls t) (let-term-at t) let-term.Post
 let-term-term-of-requires t c κs = (omega arith, (let-inner (c .before .before .before .before .before .before .before .before .before .before .before .before .before .before .before .before .before .before .before .args .pack .now) (c .before .before .before .before .before .before .before .before .before .before .before .before .before .before .before .before .before .before .before .args .at) (sortOf (c .before .before .before .before .before .before .before .before .before .before .before .before .before .before .before .before .before .before .before .args .bound)) (sortOf (c .before .before .before .before .before .before .before .before .before .before .before .before .before .before .before .before .before .before .before .args .sort)) (c .before .before .before .before .before .before .before .before .before .before .before .before .before .before .before .before .before .before .before .pre .1 .2) (c .before .before .before .before .before .before .before .before .before .before .before .before .before .before .before .before .before .before .before .pre .1 .3) (c .before .before .before .before .before .before .before .before .before .before .before .before .before .operand .ensures) (c .before .before .before .before .before .before .before .last .given .1) (c .before .before .before .slot .ensures .0 ∙ ap (slotOf (sortOf (c .before .before .before .before .before .before .before .before .before .before .before .before .before .before .before .before .before .before .before .args .bound))) (c .before .before .before .before .to-usize .ensures .0 ∙ c .before .before .before .before .before .byte-at .ensures)) (c .before .before .set-slot .ensures) (c .before .before .before .before .before .before .before .before .before .before .before .before .before .before .before .before .before .before .before .pre .1 .0), omega (arith, c .before .before .before .before .before .before .before .before .before .before .before .before .before .before .before .before .before .before .before .pre .1 .1, c .before .before .before .before .before .before .before .before .before .before .before .before .before .operand .ensures .long)))

@@ -1,4 +1,4 @@
-use Rattle.pack.proofs.Readings.{number-none, number-told}
+use Rattle.pack.proofs.Readings.{number-none, number-is}
 use borrow.Author.Needs.{needs}
 use Rattle.pack.proofs.signs.has_number.Statement.{statement}
 use Rattle.pack.proofs.signs.has_number.Tie as tie
@@ -10,7 +10,7 @@ returns : tie.Need-returns
 returns c = number-none _ _ (c .before .sign-index .ensures) (c .if1 .taken)
 
 returns-2 : tie.Need-returns-2
-returns-2 c = number-told _ _ (c .before .sign-index .ensures)
+returns-2 c = number-is _ _ (c .before .sign-index .ensures) (c .if1 .left)
 
 pub has-number-spec : {M : Type 1} → statement M
 has-number-spec = tie.close (tie.spec (λ c κs. search needs) returns (λ c. search needs) returns-2)

@@ -1,10 +1,10 @@
-use Rattle.reducer.proofs.Operation.{work-ground, work-stands, work-says}
+use Rattle.reducer.proofs.Operation.{work-context, work-stands, work-says}
 use borrow.Author.Needs.{needs}
 use Rattle.reducer.proofs.reduce.work.Statement.{statement}
 use Rattle.reducer.proofs.reduce.work.Tie as tie
 
 translation-term-requires : tie.Need-translation-term-requires
-translation-term-requires c κs = let d = c .before .before .before .before .before .before .before .pre .0 in (record { ground = work-ground (c .before .before .before .before .before .before .before .args .pack .now) (c .before .before .before .before .before .before .before .args .workspace .now) (c .before .before .nothing .result) (d .0 .pack) (d .1) (c .before .before .nothing .ensures) (c .before .before .before .before .before .before .before .pre .1); stands = work-stands (d .0 .pack) (d .0 .term) _ (c .before .before .before .term-start .ensures .1 (d .0 .pack) (d .1)) (d .2) }, c .before .before .before .before .before .before .before .pre .2)
+translation-term-requires c κs = let d = c .before .before .before .before .before .before .before .pre .0 in (record { context = work-context (c .before .before .before .before .before .before .before .args .pack .now) (c .before .before .before .before .before .before .before .args .workspace .now) (c .before .before .nothing .result) (d .0 .pack) (d .1) (c .before .before .nothing .ensures) (c .before .before .before .before .before .before .before .pre .1); stands = work-stands (d .0 .pack) (d .0 .term) _ (c .before .before .before .term-start .ensures .1 (d .0 .pack) (d .1)) (d .2) }, c .before .before .before .before .before .before .before .pre .2)
 
 returns : tie.Need-returns
 returns c = (λ d z w. work-says d z w (c .before .before .before .before .before .before .before .before .term-start .ensures .1 (d .pack) z) (c .before .before .before .before .before .before .before .nothing .ensures) (c .before .before .before .before .before .before .before .before .before .before .before .before .pre .1) (c .before .before .before .before .translation-term .ensures), c .before .before .before .before .translation-term .ensures .kept .long)
