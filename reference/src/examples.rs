@@ -1,5 +1,5 @@
-//! The worked examples as one table, for any implementation: a language C, its extension K,
-//! and what reduces and runs from them.
+//! The worked examples as one table, for any implementation: a language C, its extension K, a
+//! strap W with a wider class, and what reduces and runs from them.
 
 use crate::call::{Answer, Buffers, Call, WORKSPACE_MARK};
 use crate::files::{class, clause, mapping, pack, production, translation};
@@ -22,10 +22,20 @@ const LONG_OUTPUT: usize = 1 << 20;
 /// Reductions that leave the workspace as it was.
 const EARLY_REFUSALS: [u32; 6] = [1, 2, 3, 4, 8, 9];
 
-/// Class 2 of 1 to 240; productions 1.1 (2), 1.2 (1 1), 1.3 (2).
-pub fn language_c() -> Vec<u8> {
-    [class(2, 1, 240), production(1, 1, &[2]), production(1, 2, &[1, 1]), production(1, 3, &[2])]
+/// Class 2 of 1 to some value; productions 1.1 (2), 1.2 (1 1), 1.3 (2).
+fn minutes_up_to(high: u16) -> Vec<u8> {
+    [class(2, 1, high), production(1, 1, &[2]), production(1, 2, &[1, 1]), production(1, 3, &[2])]
         .concat()
+}
+
+/// Minutes of 1 to 240.
+pub fn language_c() -> Vec<u8> {
+    minutes_up_to(240)
+}
+
+/// Minutes of 1 to 600.
+pub fn language_w() -> Vec<u8> {
+    minutes_up_to(600)
 }
 
 /// Production 1.4 (1).
@@ -38,7 +48,7 @@ fn body_k() -> Vec<u8> {
     [mapping(1, 1), clause(1, 4, &[1, 2, 3, 1, 3, 1])].concat()
 }
 
-/// C to C: rest becomes row, the others stay.
+/// C to C, or W to W: rest becomes row, the others stay.
 fn rest_becomes_row() -> Vec<u8> {
     [
         mapping(1, 1),
@@ -65,8 +75,21 @@ fn pack_with_join() -> Vec<u8> {
     pack(&[language_k(), language_c()], &bodies, &[&first[..], &SUM].concat())
 }
 
-/// C and K to C with this code for 1.3: what the sum, or the join, reduces to.
-fn reduced_with(rest: &[u8]) -> Vec<u8> {
+/// The pack with the files of the club, for straps of 1 to 240, joined onto a strap of 1 to 600.
+pub fn pack_with_wider_strap() -> Vec<u8> {
+    let first = [0x54, 0x50, 0x40, 2, 0x40, 2, 1];
+    let languages = [language_k(), language_c(), language_w()];
+    let bodies = [body_k(), rest_becomes_row()];
+    pack(&languages, &bodies, &[&first[..], &SUM].concat())
+}
+
+/// The packs that stand in files, with the names of the files.
+pub fn example_packs() -> Vec<(&'static str, Vec<u8>)> {
+    vec![("plan", pack_with_sum()), ("wider", pack_with_wider_strap())]
+}
+
+/// C and K to C or W with this code for 1.3: what the sum, or a join, reduces to.
+fn reduced_with(target: &[u8], rest: &[u8]) -> Vec<u8> {
     let body = [
         mapping(1, 1),
         mapping(2, 2),
@@ -75,12 +98,12 @@ fn reduced_with(rest: &[u8]) -> Vec<u8> {
         clause(1, 3, rest),
         clause(1, 4, &[1, 2, 3, 1, 3, 1]),
     ];
-    translation(&[language_c(), language_k()].concat(), &language_c(), &body.concat())
+    translation(&[language_c(), language_k()].concat(), target, &body.concat())
 }
 
 /// The translation of 116 bytes that the pack with the sum reduces to.
 pub fn sum() -> Vec<u8> {
-    reduced_with(&[1, 3, 3, 1])
+    reduced_with(&language_c(), &[1, 3, 3, 1])
 }
 
 /// A run by a translation, with an output of so many bytes.
@@ -117,7 +140,7 @@ fn doubled(length: usize) -> Vec<u8> {
 fn accepted_runs() -> Vec<Example> {
     let (sum, twice) = (sum(), [2, 1, 0, 5, 1, 0, 5]);
     let row = [1, 0, 0xF0];
-    let joined = reduced_with(&[1, 1, 3, 1]);
+    let joined = reduced_with(&language_c(), &[1, 1, 3, 1]);
     vec![
         accepted("twice", run_by(&sum, 1, &[4, 1, 0, 5], 1000), &twice),
         accepted("twice, output of 7 bytes", run_by(&sum, 1, &[4, 1, 0, 5], 7), &twice),
@@ -154,11 +177,38 @@ fn reductions() -> Vec<Example> {
     let union = [0x55, 0x43, 0x40, 0, 0x40, 1];
     vec![
         accepted("the pack of 71 bytes", reduction(pack_with_sum()), &sum()),
-        accepted("the join", reduction(pack_with_join()), &reduced_with(&[1, 1, 3, 1])),
+        accepted(
+            "the join",
+            reduction(pack_with_join()),
+            &reduced_with(&language_c(), &[1, 1, 3, 1]),
+        ),
         accepted("identity of the empty language", reduced(&[vec![]], &[0x55, 0x40, 0]), &empty),
         accepted("C without C", reduced(&[language_c()], &without), &empty),
         refused("K plus a language with 1.4 (2)", reduced(&other, &union), 12),
         refused("an empty file", reduction(vec![]), 2),
+    ]
+}
+
+/// The club and a wider strap: reductions, and runs by the join.
+fn wider_strap() -> Vec<Example> {
+    let joined = reduced_with(&language_w(), &[1, 1, 3, 1]);
+    let club = [4, 3, 0, 0xF0];
+    let strap = translation(&language_w(), &language_w(), &rest_becomes_row());
+    let narrower = translation(&language_w(), &language_c(), &rest_becomes_row());
+    let both = |term: &[u8]| reduction(pack(&[language_c(), language_w()], &[], term));
+    vec![
+        accepted("a wider strap", reduction(pack_with_wider_strap()), &joined),
+        accepted(
+            "a wider strap, the club's highest",
+            run_by(&joined, 1, &club, 7),
+            &[2, 1, 0, 0xF0, 1, 0, 0xF0],
+        ),
+        refused("a wider strap, above the club's", run_by(&joined, 1, &[3, 0, 0xF1], 7), 15),
+        accepted("600 on the strap itself", run_by(&strap, 1, &[3, 2, 0x58], 3), &[1, 2, 0x58]),
+        refused("601 on the strap itself", run_by(&strap, 1, &[3, 2, 0x59], 3), 15),
+        refused("a strap of 600 into one of 240", Call::CheckTranslation(narrower), 5),
+        refused("a strap of 600 joined onto 240", both(&[0x54, 0x55, 0x40, 0, 0x55, 0x40, 1]), 13),
+        refused("a sum of 240 and 600", both(&[0x55, 0x43, 0x40, 0, 0x40, 1]), 12),
     ]
 }
 
@@ -181,7 +231,7 @@ fn checks() -> Vec<Example> {
 
 /// All examples.
 pub fn examples() -> Vec<Example> {
-    [reductions(), accepted_runs(), refused_runs(), checks()].concat()
+    [reductions(), accepted_runs(), refused_runs(), wider_strap(), checks()].concat()
 }
 
 impl Example {

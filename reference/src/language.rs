@@ -25,6 +25,13 @@ pub struct Class {
     pub high: u16,
 }
 
+impl Class {
+    /// Whether each value of another class is one of this class; kinds do not matter.
+    pub fn contains(&self, other: &Class) -> bool {
+        self.low <= other.low && other.high <= self.high
+    }
+}
+
 /// A production: result kind, name and argument kinds (unused places are zero).
 #[derive(Clone, Copy, Debug, PartialEq, Eq)]
 pub struct Production {

@@ -25,6 +25,7 @@ pub mod generate;
 pub mod laws;
 #[cfg(feature = "library")]
 pub mod library;
+pub mod listing;
 pub mod stack;
 
 pub use language::check_language;

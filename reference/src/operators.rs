@@ -75,12 +75,15 @@ pub fn language_without(left: &Language, right: &Language) -> Language {
     }
 }
 
-/// Whether each class and production of the first language is in the second.
+/// Whether each class of the first language lies inside the second's class of its kind, and each
+/// production is in the second.
 fn is_within(left: &Language, right: &Language) -> bool {
     let mut classes = left.classes.iter();
     let mut productions = left.productions.iter();
-    classes.all(|class| has(&right.classes, class, class_key))
-        && productions.all(|production| has(&right.productions, production, Production::key))
+    classes.all(|class| {
+        let wider = find(&right.classes, class_key(class), class_key);
+        wider.is_some_and(|wider| wider.contains(class))
+    }) && productions.all(|production| has(&right.productions, production, Production::key))
 }
 
 /// The union of two mappings; `None` if a shared kind is mapped differently.

@@ -60,18 +60,20 @@ impl Translation {
             |kind: &Option<u8>| kind.is_none_or(|kind| target_kinds & bit(kind) != 0);
         self.body.mapped_kinds() == self.source.kinds()
             && self.body.mapping.iter().all(lands_in_target)
-            && self.maps_classes_alike()
+            && self.maps_classes_into_classes()
     }
 
-    /// Whether each source class is mapped to a target class of equal range.
-    fn maps_classes_alike(&self) -> bool {
-        let mut ranges = [None; KINDS];
+    /// Whether each source class is mapped to a target class that contains its range.
+    fn maps_classes_into_classes(&self) -> bool {
+        let mut targets = [None; KINDS];
         for class in &self.target.classes {
-            ranges[class.kind as usize] = Some((class.low, class.high));
+            targets[class.kind as usize] = Some(class);
         }
         let mut classes = self.source.classes.iter();
-        classes
-            .all(|class| ranges[self.mapped(class.kind) as usize] == Some((class.low, class.high)))
+        classes.all(|class| {
+            let target = targets[self.mapped(class.kind) as usize];
+            target.is_some_and(|target| target.contains(class))
+        })
     }
 
     /// Whether each source production has exactly one clause, and no clause is left over.

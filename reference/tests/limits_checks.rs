@@ -216,14 +216,35 @@ fn mappings_of_a_translation() {
 }
 
 #[test]
-fn classes_are_mapped_to_classes_of_equal_range() {
-    let number = |low, high| {
-        let body = [mapping(4, 2)].concat();
-        translation_number(&translation(&class(4, low, high), &chains(), &body))
+fn classes_are_mapped_to_classes_that_contain_them() {
+    for (low, high, _, inside) in RANGES {
+        let bytes = translation(&class(4, low, high), &chains(), &mapping(4, 2));
+        assert_eq!(translation_number(&bytes), if inside { 0 } else { 5 }, "{low} to {high}");
+        let bytes = translation(&class(4, low, high), &chains(), &mapping(4, 1));
+        assert_eq!(translation_number(&bytes), 5, "{low} to {high} to a result");
+    }
+}
+
+#[test]
+fn a_class_outside_is_refused_before_clauses_and_codes() {
+    let source = |high| [class(2, 5, high), production(1, 0, &[2])].concat();
+    let number = |high, clauses: &[u8]| {
+        let body = [mapping(1, 1), mapping(2, 2), clauses.to_vec()].concat();
+        translation_number(&translation(&source(high), &chains(), &body))
     };
-    assert_eq!(number(5, 9), 0);
-    assert_eq!(number(5, 8), 5);
-    assert_eq!(number(4, 9), 5);
+    assert_eq!(number(8, &clause(1, 0, &[1, 2, 3, 1])), 0);
+    assert_eq!(number(10, &clause(1, 0, &[1, 2, 3, 1])), 5);
+    assert_eq!(number(8, &[]), 6);
+    assert_eq!(number(10, &[]), 5);
+    assert_eq!(number(8, &clause(1, 0, &[9])), 7);
+    assert_eq!(number(10, &clause(1, 0, &[9])), 5);
+}
+
+#[test]
+fn two_classes_may_lie_inside_one() {
+    let source = [class(4, 5, 6), class(5, 8, 9), class(6, 5, 9)].concat();
+    let body = [mapping(4, 2), mapping(5, 2), mapping(6, 2)].concat();
+    assert_eq!(translation_number(&translation(&source, &chains(), &body)), 0);
 }
 
 #[test]

@@ -290,9 +290,117 @@ fn joins_that_do_not_fit() {
     let term = |outer: u8, inner: u8| [0x54, 0x55, 0x40, outer, 0x55, 0x40, inner];
     assert_eq!(reduce_number(&pack(&languages, &[], &term(1, 0))), 0);
     assert_eq!(reduce_number(&pack(&languages, &[], &term(0, 1))), 13);
-    let classes = [class(1, 0, 1), class(1, 0, 2)];
+    let classes = [class(1, 0, 1), class(1, 0, 2), class(2, 0, 2), production(1, 0, &[])];
     assert_eq!(reduce_number(&pack(&classes, &[], &term(0, 0))), 0);
-    assert_eq!(reduce_number(&pack(&classes, &[], &term(1, 0))), 13);
+    assert_eq!(reduce_number(&pack(&classes, &[], &term(1, 0))), 0);
+    assert_eq!(reduce_number(&pack(&classes, &[], &term(0, 1))), 13);
+    assert_eq!(reduce_number(&pack(&classes, &[], &term(2, 0))), 13);
+    assert_eq!(reduce_number(&pack(&classes, &[], &term(3, 0))), 13);
+}
+
+#[test]
+fn a_join_takes_classes_that_lie_inside_those_of_the_first() {
+    for (low, high, _, inside) in RANGES {
+        let languages = [class(2, 5, 9), class(2, low, high)];
+        let term = [0x54, 0x55, 0x40, 0, 0x55, 0x40, 1];
+        let (number, result) = reduce_answer(&pack(&languages, &[], &term));
+        assert_eq!(number, if inside { 0 } else { 13 }, "{low} to {high}");
+        if inside {
+            assert_eq!(result, translation(&languages[1], &languages[0], &mapping(2, 2)));
+        }
+    }
+}
+
+#[test]
+fn a_class_that_is_missing_in_the_first_is_refused() {
+    let with_class = [class(2, 5, 9), production(1, 0, &[2])].concat();
+    let without_class = production(1, 0, &[2]);
+    let term = |outer: u8, inner: u8| [0x54, 0x55, 0x40, outer, 0x55, 0x40, inner];
+    let languages = [with_class, without_class];
+    assert_eq!(reduce_number(&pack(&languages, &[], &term(1, 0))), 13);
+    assert_eq!(reduce_number(&pack(&languages, &[], &term(0, 1))), 0);
+}
+
+#[test]
+fn productions_of_a_join_are_equal_as_before() {
+    let narrow = [class(2, 5, 6), production(1, 0, &[2])].concat();
+    let wide = [class(2, 5, 9), production(1, 0, &[2, 2])].concat();
+    let term = [0x54, 0x55, 0x40, 1, 0x55, 0x40, 0];
+    assert_eq!(reduce_number(&pack(&[narrow, wide], &[], &term)), 13);
+}
+
+#[test]
+fn sums_and_without_take_equal_ranges_only() {
+    for (low, high, equal, _) in RANGES {
+        let languages = [class(2, 5, 9), class(2, low, high)];
+        let value = |term: &[u8]| reduce_answer(&pack(&languages, &[], term));
+        let sum = if equal { 0 } else { 12 };
+        assert_eq!(value(&[0x55, 0x43, 0x40, 0, 0x40, 1]).0, sum, "{low} to {high}");
+        assert_eq!(value(&[0x55, 0x43, 0x40, 1, 0x40, 0]).0, sum, "{low} to {high}");
+        assert_eq!(value(&[0x53, 0x55, 0x40, 0, 0x55, 0x40, 1]).0, sum, "{low} to {high}");
+        let rest = if equal { vec![] } else { class(2, 5, 9) };
+        let kept = if equal { vec![] } else { mapping(2, 2) };
+        let (number, result) = value(&[0x55, 0x42, 0x40, 0, 0x40, 1]);
+        assert_eq!((number, result), (0, translation(&rest, &rest, &kept)), "{low} to {high}");
+        let (number, result) = value(&[0x52, 0x55, 0x40, 0, 0x40, 1]);
+        assert_eq!((number, result), (0, translation(&rest, &class(2, 5, 9), &kept)));
+    }
+}
+
+#[test]
+fn sums_of_targets_take_equal_ranges_only() {
+    for (low, high, equal, _) in RANGES {
+        let languages = [class(2, 5, 9), class(2, low, high), class(2, 7, 7)];
+        let term = [0x53, 0x50, 0x40, 2, 0x40, 0, 0, 0x50, 0x40, 2, 0x40, 1, 0];
+        let inside = low <= 7 && 7 <= high;
+        let expected = if !inside { 5 } else { u32::from(!equal) * 12 };
+        let number = reduce_number(&pack(&languages, &[mapping(2, 2)], &term));
+        assert_eq!(number, expected, "{low} to {high}");
+    }
+}
+
+/// A language with a class 2 of this range, and 1.0 (2) and 1.1 (1 1).
+fn blocks(low: u16, high: u16) -> Vec<u8> {
+    [class(2, low, high), production(1, 0, &[2]), production(1, 1, &[1, 1])].concat()
+}
+
+/// A body over the blocks that swaps two and doubles one with a token.
+fn block_body(token: u8) -> Vec<u8> {
+    let one = [1, 1, 1, 0, 3, 1, 1, 0, 2, 0, token];
+    let two = [1, 1, 3, 2, 3, 1];
+    [mapping(1, 1), mapping(2, 2), clause(1, 0, &one), clause(1, 1, &two)].concat()
+}
+
+#[test]
+fn translations_that_widen_are_joined_onto_others_that_widen() {
+    let languages = [blocks(6, 7), blocks(5, 8), blocks(4, 8), blocks(4, 9)];
+    let bodies = [block_body(8), block_body(9)];
+    let inner = [0x50, 0x40, 0, 0x40, 1, 0];
+    let outer = [0x50, 0x40, 2, 0x40, 3, 1];
+    let joined = reduced(&pack(&languages, &bodies, &[&[0x54][..], &outer, &inner].concat()));
+    let below = |end: &[u8]| [&[1, 1, 1, 0][..], end, &[1, 0, 2, 0, 9]].concat();
+    let one = [&[1, 1][..], &below(&[2, 0, 8]), &below(&[3, 1])].concat();
+    let clauses = [clause(1, 0, &one), clause(1, 1, &[1, 1, 3, 1, 3, 2])].concat();
+    let body = [mapping(1, 1), mapping(2, 2), clauses].concat();
+    assert_eq!(joined, translation(&languages[0], &languages[3], &body));
+    let mut output = vec![0; 15];
+    let outcome = run(&joined, 1, &[0, 0, 7], &mut output);
+    assert_eq!((outcome.number(), outcome.length()), (0, 15));
+    assert_eq!(output, [1, 1, 0, 0, 8, 0, 0, 9, 1, 0, 0, 7, 0, 0, 9]);
+    assert_eq!(run(&joined, 1, &[0, 0, 8], &mut output).number(), 15);
+}
+
+#[test]
+fn a_join_of_three_that_widen_at_each_step() {
+    let languages = [blocks(6, 6), blocks(6, 7), blocks(5, 7), blocks(5, 8), blocks(5, 9)];
+    let identity = |language: u8| vec![0x55, 0x40, language];
+    let number = |term: &[Vec<u8>]| reduce_number(&pack(&languages, &[], &term.concat()));
+    let join = || vec![0x54];
+    assert_eq!(number(&[join(), identity(4), join(), identity(2), identity(0)]), 0);
+    assert_eq!(number(&[join(), join(), identity(4), identity(2), identity(0)]), 0);
+    assert_eq!(number(&[join(), identity(3), join(), identity(1), identity(0)]), 0);
+    assert_eq!(number(&[join(), identity(1), join(), identity(2), identity(0)]), 13);
+    assert_eq!(number(&[join(), join(), identity(1), identity(2), identity(0)]), 13);
 }
 
 #[test]

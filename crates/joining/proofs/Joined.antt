@@ -240,12 +240,13 @@ module _ (s t b s′ b′ : List ℕ) (f g : Translation) (w : Fitted s t b s′
   fitting-full d d′ o r n h e = gives-refused _ o o ValueTooLarge (body-over (joined f g) (omega (arith, h .full e, n))) refl
 
 -- `join_parts`
-module _ (s t x u v y : List ℕ) (f g : Translation) (p : EncodedParts s t x f) (q : EncodedParts u v y g) (b : Bool) (e : b ≡ liesWithin 0x11 v s) where
+module _ (s t x u v y : List ℕ) (f g : Translation) (p : EncodedParts s t x f) (q : EncodedParts u v y g) (b : Bool) (e : b ≡ liesWithin v s) where
   fits-is : b ≡ joinFits f g
   unfolding joinFits
   fits-is =
-      e ∙ (ap (λ (a : List ℕ). liesWithin 0x11 a s) (q .target)
-      ∙ (ap (liesWithin 0x11 (encodeLanguage (g .target))) (p .source) ∙ language-within (g .target) (f .source)))
+      e ∙ (ap (λ (a : List ℕ). liesWithin a s) (q .target)
+      ∙ (ap (liesWithin (encodeLanguage (g .target))) (p .source)
+      ∙ language-within (g .target) (f .source) (spelt-good u v y g q .sound .target .whole) (spelt-good s t x f p .sound .source .whole)))
 
   pub parts-unfit : b ≡ false → (o : List ℕ) → Gives (translationBytes (translationJoin f g)) o o (Refused JoinUnfit)
   unfolding translationJoin

@@ -120,7 +120,7 @@ fn join_parts(
     ensures { λ r. ⌜ ((f g : Translation) → EncodedParts (now («first_source» .entry)) (now («first_target» .entry)) (now («first_body» .entry)) f → EncodedParts (now («second_source» .entry)) (now («second_target» .entry)) (now («second_body» .entry)) g
         → Gives (translationBytes (translationJoin f g)) (now (out .entry)) (now (out .exit)) r) ⌝ }
 {
-    if !lies_within(second_target, first_source, 0x11) {
+    if !lies_within(second_target, first_source) {
         return Outcome::Refused(Reason::JoinUnfit);
     }
     join_fitting(

@@ -6,3 +6,4 @@ pub mod Clashes
 pub mod Chain
 pub mod Lookup
 pub mod Codec
+pub mod Ranges

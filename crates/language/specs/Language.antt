@@ -41,9 +41,17 @@ pub record Range : Type 0 where
   pub low : ℕ
   pub high : ℕ
 
+-- The range with these bounds.
+abbrev pub between : ℕ → ℕ → Range
+between low high = record { low = low; high = high }
+
 -- A value lies in the range.
 unfoldable pub inRange : Range → ℕ → Bool
 inRange c v = leb (c .low) v && leb v (c .high)
+
+-- One range lies in another, which contains it: each value in the inner one is in the outer one (paper 02, 2026-01).
+unfoldable pub rangeWithin : Range → Range → Bool
+rangeWithin inner outer = leb (outer .low) (inner .low) && leb (inner .high) (outer .high)
 
 -- The range of the class of kind k, if k is one.
 unfoldable pub rangeAt : ℕ → Entry → Option Range

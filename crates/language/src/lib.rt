@@ -2,3 +2,4 @@
 pub mod check;
 pub mod clash;
 pub mod entries;
+pub mod range;

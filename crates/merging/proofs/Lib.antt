@@ -3,3 +3,4 @@ pub mod Linear
 pub mod Turns
 pub mod Agreeing
 pub mod Prefixes
+pub mod Containing

@@ -12,7 +12,9 @@ use Rattle.fields.specs.Lists.{all, any, keep}
 use Rattle.fields.specs.Keyed.{Order, place, insert, union, holds, within, without}
 use Rattle.fields.proofs.Truth.{Mem, by-test, false-any, equal-numbers}
 use Rattle.fields.proofs.Keyed.{Compared, is-below, is-same, is-above, compared, From, from-weaken, from-mem, union-from}
-use Rattle.merging.specs.Inner.Parts.{Part, partKey, samePart, lower, seek, leads}
+use Rattle.language.specs.Inner.Entries.{classRange}
+use Rattle.language.proofs.Ranges.{within-itself}
+use Rattle.merging.specs.Inner.Parts.{Part, partKey, samePart, partWithin, lower, seek, leads}
 use Rattle.merging.proofs.Walks.{seek-skip, lower-skip, seek-stop, lower-stop}
 
 -- An entry goes in front of what is above it, past what is below it, and in the place of one with its key.
@@ -150,36 +152,9 @@ union-high x l f n m g =
     rw (lower-seek k m, seek-further k (suc k) (omega arith) m) at turn in
     union-turn x l f n m g ∙ ap (λ (r : List Part). lower k m ++ r) (sym rest)
 
--- Fields of different keys are not the same.
-differ : (x y : Part) → (x .key ≡ y .key → ⊥) → samePart x y ≡ false
-unfolding samePart
-differ x y h = rw (ne-eqb (x .key) (y .key) h)
-
 or-false : (b : Bool) → b || false ≡ b
 or-false true = refl
 or-false false = refl
-
--- A field whose key is k or more stands in what is left exactly if it stands in all.
-seek-holds : (k : ℕ) (x : Part) → k ≤ x .key → (m : List Part) → holds samePart m x ≡ holds samePart (seek k m) x
-unfolding holds any
-seek-holds k x h [] = rw (seek-none k)
-seek-holds k x h (y ∷ m) =
-    by-test (ltb (y .key) k)
-    (λ e.
-    let d : y .key < k = ltb-true _ _ e in
-    rw (seek-skip k y m d, differ x y (λ q. omega arith)) (seek-holds k x h m))
-    (λ e. rw (seek-stop k y m (ltb-false _ _ e)))
-
--- It stands in a rising list of keys not below its own exactly if it comes first.
-leads-holds : (x : Part) (m : List Part) → From partKey (x .key) m → holds samePart m x ≡ leads x m
-unfolding holds any
-leads-holds x [] f = refl
-leads-holds x (y ∷ m) f =
-    let none : any (samePart x) m ≡ false = false-any (samePart x) m (λ z q. differ x z (λ e. omega (arith, f .0, from-mem partKey m (f .1) q))) in
-    rw none (or-false (samePart x y))
-
-found : (x : Part) (n : ℕ) (m : List Part) → From partKey n m → holds samePart m x ≡ leads x (seek (x .key) m)
-found x n m f = seek-holds (x .key) x (omega arith) m ∙ leads-holds x (seek (x .key) m) (seek-from (x .key) n m f)
 
 -- Tests that are alike on the members.
 keep-alike : {A : Type 0} (f g : A → Bool) (l : List A) → ((a : A) → Mem a l → f a ≡ g a) → keep f l ≡ keep g l
@@ -192,41 +167,84 @@ unfolding all
 all-alike f g [] h = refl
 all-alike f g (a ∷ l) h = rw (h a (inl refl), all-alike f g l (λ b q. h b (inr q)))
 
--- "Without" and "within", a turn at a time.
-module _ (x : Part) (l : List Part) (f : From partKey (suc (x .key)) l) (n : ℕ) (m : List Part) (g : From partKey n m) where
-  -- further fields stand in what is left as they stand in all
-  further : (a : Part) → Mem a l → holds samePart m a ≡ holds samePart (seek (x .key) m) a
-  further a q = seek-holds (x .key) a (omega (arith, from-mem partKey l f q)) m
+-- A test that holds of no two fields of different keys.
+module _ (alike : Part → Part → Bool) (apart : (x y : Part) → (x .key ≡ y .key → ⊥) → alike x y ≡ false) where
+  -- A field whose key is k or more stands in what is left exactly if it stands in all.
+  seek-holds : (k : ℕ) (x : Part) → k ≤ x .key → (m : List Part) → holds alike m x ≡ holds alike (seek k m) x
+  unfolding holds any
+  seek-holds k x h [] = rw (seek-none k)
+  seek-holds k x h (y ∷ m) =
+      by-test (ltb (y .key) k)
+      (λ e.
+      let d : y .key < k = ltb-true _ _ e in
+      rw (seek-skip k y m d, apart x y (λ q. omega arith)) (seek-holds k x h m))
+      (λ e. rw (seek-stop k y m (ltb-false _ _ e)))
 
-  pub without-turn : without samePart (x ∷ l) m
-      ≡ cond (not (leads x (seek (x .key) m))) (x ∷ without samePart l (seek (x .key) m)) (without samePart l (seek (x .key) m))
-  unfolding without keep
-  without-turn =
-      rw (found x n m g, keep-alike (λ a. not (holds samePart m a)) (λ a. not (holds samePart (seek (x .key) m) a)) l (λ a q. ap not (further a q)))
+  -- It stands in a rising list of keys not below its own exactly if it comes first.
+  leads-holds : (x : Part) (m : List Part) → From partKey (x .key) m → holds alike m x ≡ leads alike x m
+  unfolding holds any
+  leads-holds x [] f = refl
+  leads-holds x (y ∷ m) f =
+      let none : any (alike x) m ≡ false = false-any (alike x) m (λ z q. apart x z (λ e. omega (arith, f .0, from-mem partKey m (f .1) q))) in
+      rw none (or-false (alike x y))
 
-  pub within-turn : within samePart (x ∷ l) m ≡ leads x (seek (x .key) m) && within samePart l (seek (x .key) m)
-  unfolding within all
-  within-turn = rw (found x n m g, all-alike (holds samePart m) (holds samePart (seek (x .key) m)) l further)
+  found : (x : Part) (n : ℕ) (m : List Part) → From partKey n m → holds alike m x ≡ leads alike x (seek (x .key) m)
+  found x n m f = seek-holds (x .key) x (omega arith) m ∙ leads-holds x (seek (x .key) m) (seek-from (x .key) n m f)
 
--- Where both lists begin with x, it stands in the second, and of the others as many stand in what is left of it.
-self : (x : Part) → samePart x x ≡ true
+  -- "Without" and "within", a turn at a time.
+  module _ (x : Part) (l : List Part) (f : From partKey (suc (x .key)) l) (n : ℕ) (m : List Part) (g : From partKey n m) where
+    -- further fields stand in what is left as they stand in all
+    further : (a : Part) → Mem a l → holds alike m a ≡ holds alike (seek (x .key) m) a
+    further a q = seek-holds (x .key) a (omega (arith, from-mem partKey l f q)) m
+
+    pub without-turn : without alike (x ∷ l) m
+        ≡ cond (not (leads alike x (seek (x .key) m))) (x ∷ without alike l (seek (x .key) m)) (without alike l (seek (x .key) m))
+    unfolding without keep
+    without-turn =
+        rw (found x n m g, keep-alike (λ a. not (holds alike m a)) (λ a. not (holds alike (seek (x .key) m) a)) l (λ a q. ap not (further a q)))
+
+    pub within-turn : within alike (x ∷ l) m ≡ leads alike x (seek (x .key) m) && within alike l (seek (x .key) m)
+    unfolding within all
+    within-turn = rw (found x n m g, all-alike (holds alike m) (holds alike (seek (x .key) m)) l further)
+
+  -- Where both lists begin with x, it stands in the second, and of the others as many stand in what is left of it.
+  module _ (self : (x : Part) → alike x x ≡ true) (x : Part) (l : List Part) (f : From partKey (suc (x .key)) l) (m : List Part) where
+    past-first : (a : Part) → Mem a l → holds alike (x ∷ m) a ≡ holds alike m a
+    unfolding holds any
+    past-first a q = rw (apart a x (λ e. omega (arith, from-mem partKey l f q)))
+
+    first-holds : holds alike (x ∷ m) x ≡ true
+    unfolding holds any
+    first-holds = rw (self x)
+
+    pub within-same : within alike (x ∷ l) (x ∷ m) ≡ within alike l m
+    unfolding within all
+    within-same = rw (first-holds, all-alike (holds alike (x ∷ m)) (holds alike m) l past-first)
+
+    pub without-same : without alike (x ∷ l) (x ∷ m) ≡ without alike l m
+    unfolding without keep
+    without-same =
+        rw (first-holds, keep-alike (λ a. not (holds alike (x ∷ m) a)) (λ a. not (holds alike m a)) l (λ a q. ap not (past-first a q)))
+
+-- Fields of different keys are not the same, and a field is the same as itself.
+pub differ : (x y : Part) → (x .key ≡ y .key → ⊥) → samePart x y ≡ false
+unfolding samePart
+differ x y h = rw (ne-eqb (x .key) (y .key) h)
+
+pub self : (x : Part) → samePart x x ≡ true
 unfolding samePart
 self x = rw (eq-eqb (x .key) (x .key) refl, equal-numbers (x .bytes))
 
-module _ (x : Part) (l : List Part) (f : From partKey (suc (x .key)) l) (m : List Part) where
-  past-first : (a : Part) → Mem a l → holds samePart (x ∷ m) a ≡ holds samePart m a
-  unfolding holds any
-  past-first a q = rw (differ a x (λ e. omega (arith, from-mem partKey l f q)))
+-- Fields of different keys do not lie in each other, and a field lies in itself.
+pub outside : (x y : Part) → (x .key ≡ y .key → ⊥) → partWithin x y ≡ false
+unfolding partWithin
+outside x y h = rw (ne-eqb (x .key) (y .key) h)
 
-  first-holds : holds samePart (x ∷ m) x ≡ true
-  unfolding holds any
-  first-holds = rw (self x)
-
-  pub within-same : within samePart (x ∷ l) (x ∷ m) ≡ within samePart l m
-  unfolding within all
-  within-same = rw (first-holds, all-alike (holds samePart (x ∷ m)) (holds samePart m) l past-first)
-
-  pub without-same : without samePart (x ∷ l) (x ∷ m) ≡ without samePart l m
-  unfolding without keep
-  without-same =
-      rw (first-holds, keep-alike (λ a. not (holds samePart (x ∷ m) a)) (λ a. not (holds samePart m a)) l (λ a q. ap not (past-first a q)))
+pub inside-itself : (x : Part) → partWithin x x ≡ true
+unfolding partWithin
+inside-itself x =
+    rw (eq-eqb (x .key) (x .key) refl, within-itself (classRange (x .bytes) 0), equal-numbers (x .bytes)) (either (ltb (x .key) 32))
+  where
+    either : (t : Bool) → cond t true true ≡ true
+    either true = refl
+    either false = refl

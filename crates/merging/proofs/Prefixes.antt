@@ -16,13 +16,15 @@ use Rattle.fields.specs.Keyed.{agree, union, within, without}
 use Rattle.fields.specs.Fields.{pairAt}
 use Rattle.fields.specs.Inner.Places.{fieldEnd, keyAt}
 use Rattle.fields.proofs.Truth.{and-both, equal-numbers}
+use Rattle.fields.proofs.Lists.{all-true}
 use Rattle.fields.proofs.Keyed.{From, is-rising}
 use Rattle.fields.proofs.Places.{end-past, places-done}
-use Rattle.merging.specs.Inner.Parts.{Part, partKey, samePart, bytesOf, pieceAt, partAt, partsFrom, parts, WholeFrom, Sorted, Alike, Shared, partsClash, agrees, liesWithin, united, removed}
+use Rattle.merging.specs.Inner.Parts.{Part, partKey, samePart, partWithin, classLong, bytesOf, pieceAt, partAt, partsFrom, parts, WholeFrom, Sorted, SortedEntries, Alike, Shared, partsClash, agrees, liesWithin, united, removed}
 use Rattle.fields.proofs.Splices.{slice-join}
 use Rattle.merging.proofs.Walks.{parts-done, parts-next, whole-next}
-use Rattle.merging.proofs.Linear.{union-same, within-same, without-same}
+use Rattle.merging.proofs.Linear.{union-same, within-same, without-same, differ, self, outside, inside-itself}
 use Rattle.merging.proofs.Turns.{Rest, Going, Merging, progress-start, bytes-append, bytes-cons, bytes-none, all-bytes}
+use Rattle.merging.proofs.Containing.{Containing}
 use Rattle.merging.proofs.Agreeing.{Agreeing, agree-pass, agree-drop}
 
 -- The first bytes, one after the other.
@@ -169,13 +171,13 @@ union-alike (x ∷ l) u v m n f g =
     union-same x x (l ++ u) (l ++ v) n (f .1) g refl
     ∙ ap (λ (t : List Part). x ∷ t) (union-alike l u v (suc (x .key)) (suc (x .key)) (f .1) (g .1))
 
-within-alike : (l u v : List Part) (m : ℕ) → From partKey m (l ++ u) → within samePart (l ++ u) (l ++ v) ≡ within samePart u v
+within-alike : (l u v : List Part) (m : ℕ) → From partKey m (l ++ u) → within partWithin (l ++ u) (l ++ v) ≡ within partWithin u v
 within-alike [] u v m f = refl
-within-alike (x ∷ l) u v m f = within-same x (l ++ u) (f .1) (l ++ v) ∙ within-alike l u v (suc (x .key)) (f .1)
+within-alike (x ∷ l) u v m f = within-same partWithin outside inside-itself x (l ++ u) (f .1) (l ++ v) ∙ within-alike l u v (suc (x .key)) (f .1)
 
 without-alike : (l u v : List Part) (m : ℕ) → From partKey m (l ++ u) → without samePart (l ++ u) (l ++ v) ≡ without samePart u v
 without-alike [] u v m f = refl
-without-alike (x ∷ l) u v m f = without-same x (l ++ u) (f .1) (l ++ v) ∙ without-alike l u v (suc (x .key)) (f .1)
+without-alike (x ∷ l) u v m f = without-same samePart differ self x (l ++ u) (f .1) (l ++ v) ∙ without-alike l u v (suc (x .key)) (f .1)
 
 -- `agree`, `merge` and the others go on where the fields end that are the same.
 module _ (first : ℕ) (a b : List ℕ) (r : ℕ) (h : Sorted first a × Sorted first b) (s : Shared first a b r) where
@@ -219,15 +221,6 @@ module _ (first : ℕ) (a b : List ℕ) (r : ℕ) (h : Sorted first a × Sorted 
     right = rest-right;
   }
 
-  pub shared-within : (within samePart (partsFrom first a r) (partsFrom first b r) ≡ liesWithin first a b) × (Rest first a r × Rest first b r)
-  unfolding liesWithin
-  shared-within = (
-    sym (within-alike (s .fields) (partsFrom first a r) (partsFrom first b r) 0 left-rises)
-        ∙ (ap (λ (l : List Part). within samePart l (s .fields ++ partsFrom first b r)) (sym (s .left))
-        ∙ ap (λ (l : List Part). within samePart (parts first a) l) (sym (s .right))),
-    (rest-left, rest-right),
-  )
-
   removed-is : removed first a b ≡ bytesOf (without samePart (partsFrom first a r) (partsFrom first b r))
   unfolding removed
   removed-is =
@@ -241,3 +234,26 @@ module _ (first : ℕ) (a b : List ℕ) (r : ℕ) (h : Sorted first a × Sorted 
     left = rest-left;
     right = rest-right;
   }
+
+-- What holds of all fields holds of the last ones.
+all-last : (f : Part → Bool) (l m : List Part) → all f (l ++ m) ≡ true → all f m ≡ true
+unfolding all
+all-last f [] m h = h
+all-last f (x ∷ l) m h = all-last f l m (all-true f x (l ++ m) h .1)
+
+-- `lies_within` goes on there too.
+module _ (a b : List ℕ) (r : ℕ) (h : SortedEntries a × SortedEntries b) (s : Shared 0x11 a b r) where
+  pub shared-within : Containing a b r r
+  unfolding liesWithin
+  shared-within =
+      let z : Sorted 0x11 a × Sorted 0x11 b = (h .0 .sorted, h .1 .sorted) in
+      record {
+        left = rest-left 0x11 a b r z s;
+        right = rest-right 0x11 a b r z s;
+        leftLong = all-last classLong (s .fields) (partsFrom 0x11 a r) (rw (s .left) at (h .0 .classes));
+        rightLong = all-last classLong (s .fields) (partsFrom 0x11 b r) (rw (s .right) at (h .1 .classes));
+        answer =
+            sym (within-alike (s .fields) (partsFrom 0x11 a r) (partsFrom 0x11 b r) 0 (left-rises 0x11 a b r z s))
+            ∙ (ap (λ (l : List Part). within partWithin l (s .fields ++ partsFrom 0x11 b r)) (sym (s .left))
+            ∙ ap (λ (l : List Part). within partWithin (parts 0x11 a) l) (sym (s .right)));
+      }

@@ -1,4 +1,4 @@
--- The operators on bytes, a turn of their loops at a time: a law for each return and turn of `merge` and `within`.
+-- The operators on bytes, a turn of their loops at a time: a law for each return and turn of `merge`.
 use Prim.Native.Nat.{ℕ, zero, suc, _-_, _<_, _≤_}
 use mathlib.Core.Path.{_≡_, refl, sym, ap, _∙_}
 use mathlib.Core.Bool.{Bool, true, false, cond, not, _&&_}
@@ -18,10 +18,10 @@ use Rattle.fields.proofs.Keyed.{From, is-rising}
 use Rattle.fields.proofs.Places.{end-past}
 use Rattle.fields.specs.declared.copy.Stored.{Stored}
 use Rattle.fields.specs.declared.copy.Stored.the-variants.{To, Full}
-use Rattle.merging.specs.Inner.Parts.{Part, partKey, samePart, bytesOf, pieceAt, partAt, partsFrom, parts, WholeAt, WholeFrom, Sorted, lower, seek, SoughtAt, leads, united}
+use Rattle.merging.specs.Inner.Parts.{Part, partKey, samePart, partWithin, bytesOf, pieceAt, partAt, partsFrom, parts, WholeAt, WholeFrom, Sorted, lower, seek, SoughtAt, leads, united}
 use Rattle.fields.proofs.Splices.{slice-join, nothing-spliced, written-then}
 use Rattle.merging.proofs.Walks.{parts-done, parts-next, whole-here, whole-next}
-use Rattle.merging.proofs.Linear.{union-none, union-low, union-same, union-nothing, union-high, without-turn, within-turn, seek-from}
+use Rattle.merging.proofs.Linear.{union-none, union-low, union-same, union-nothing, union-high, without-turn, within-turn, seek-from, differ, outside}
 
 -- What is written of a result, and what is left of it.
 pub record Progress (result left o out : List ℕ) (n : ℕ) : Type 0 where
@@ -157,43 +157,41 @@ module _ (first : ℕ) (a b : List ℕ) (p q : ℕ) (ra : Rest first a p) (rb : 
   next : partsFrom first a p ≡ partAt first a p ∷ partsFrom first a (fieldEnd a p)
   next = parts-next first a p here
 
-  -- `remove` and `lies_within`: the field at p stands at r, or not
-  module _ (r : ℕ) (w : SoughtAt first b q key r) (e : ℕ) (ee : e ≡ fieldEnd a p) (stands : Bool) (es : stands ≡ leads (partAt first a p) (partsFrom first b r)) where
+  -- b is sought through: what is left of it begins with a field to which the one at p stands by the test, or does not
+  module _ (r : ℕ) (w : SoughtAt first b q key r) where
     sought : seek (keyAt first a p) (partsFrom first b q) ≡ partsFrom first b r
     sought = sym (rw ek at (w .rest))
 
-    leads-is : leads (partAt first a p) (seek (keyAt first a p) (partsFrom first b q)) ≡ stands
-    leads-is = ap (leads (partAt first a p)) sought ∙ sym es
+    leads-is : (alike : Part → Part → Bool) (stands : Bool) → stands ≡ leads alike (partAt first a p) (partsFrom first b r)
+        → leads alike (partAt first a p) (seek (keyAt first a p) (partsFrom first b q)) ≡ stands
+    leads-is alike stands es = ap (leads alike (partAt first a p)) sought ∙ sym es
 
-    pub remove-turn : bytesOf (without samePart (partsFrom first a p) (partsFrom first b q))
+    -- `remove`
+    pub remove-turn : (e : ℕ) → e ≡ fieldEnd a p → (stands : Bool) → stands ≡ leads samePart (partAt first a p) (partsFrom first b r)
+        → bytesOf (without samePart (partsFrom first a p) (partsFrom first b q))
         ≡ cond (not stands) (slice p e a) [] ++ bytesOf (without samePart (partsFrom first a e) (partsFrom first b r))
     unfolding partAt
-    remove-turn =
+    remove-turn e ee stands es =
         let l = partsFrom first a (fieldEnd a p) in
         let m = partsFrom first b q in
         let k = keyAt first a p in
         rw (ee, ← sought)
-        (ap bytesOf (ap (λ (r : List Part). without samePart r m) next ∙ without-turn (partAt first a p) l (here-rises first a p ra here) (rb .least) m (rb .rises))
-        ∙ (ap (λ (t : Bool). bytesOf (cond (not t) (partAt first a p ∷ without samePart l (seek k m)) (without samePart l (seek k m)))) leads-is
+        (ap bytesOf (ap (λ (r : List Part). without samePart r m) next ∙ without-turn samePart differ (partAt first a p) l (here-rises first a p ra here) (rb .least) m (rb .rises))
+        ∙ (ap (λ (t : Bool). bytesOf (cond (not t) (partAt first a p ∷ without samePart l (seek k m)) (without samePart l (seek k m)))) (leads-is samePart stands es)
         ∙ bytes-cond (not stands) (partAt first a p) (without samePart l (seek k m))))
 
-    within-here : within samePart (partsFrom first a p) (partsFrom first b q)
-        ≡ stands && within samePart (partsFrom first a e) (partsFrom first b r)
+    -- `lies_within`
+    pub within-turned : (e : ℕ) → e ≡ fieldEnd a p → (lies : Bool) → lies ≡ leads partWithin (partAt first a p) (partsFrom first b r)
+        → within partWithin (partsFrom first a p) (partsFrom first b q)
+        ≡ lies && within partWithin (partsFrom first a e) (partsFrom first b r)
     unfolding partAt
-    within-here =
+    within-turned e ee lies es =
         let l = partsFrom first a (fieldEnd a p) in
         let m = partsFrom first b q in
         rw (ee, ← sought)
-        (ap (λ (r : List Part). within samePart r m) next
-        ∙ (within-turn (partAt first a p) l (here-rises first a p ra here) (rb .least) m (rb .rises)
-        ∙ ap (λ (t : Bool). t && within samePart l (seek (keyAt first a p) m)) leads-is))
-
-    module _ (x : Bool) (inv : within samePart (partsFrom first a p) (partsFrom first b q) ≡ x) where
-      pub within-stop : stands ≡ false → false ≡ x
-      within-stop h = ap (λ (t : Bool). t && within samePart (partsFrom first a e) (partsFrom first b r)) (sym h) ∙ (sym within-here ∙ inv)
-
-      pub within-on : stands ≡ true → within samePart (partsFrom first a e) (partsFrom first b r) ≡ x
-      within-on h = ap (λ (t : Bool). t && within samePart (partsFrom first a e) (partsFrom first b r)) (sym h) ∙ (sym within-here ∙ inv)
+        (ap (λ (r : List Part). within partWithin r m) next
+        ∙ (within-turn partWithin outside (partAt first a p) l (here-rises first a p ra here) (rb .least) m (rb .rises)
+        ∙ ap (λ (t : Bool). t && within partWithin l (seek (keyAt first a p) m)) (leads-is partWithin lies es)))
 
 -- At the end of a.
 module _ (first : ℕ) (a b : List ℕ) (p q : ℕ) (end : length a ≤ p) where
@@ -205,10 +203,6 @@ module _ (first : ℕ) (a b : List ℕ) (p q : ℕ) (end : length a ≤ p) where
   pub remove-end : bytesOf (without samePart (partsFrom first a p) (partsFrom first b q)) ≡ []
   unfolding without keep
   remove-end = ap (λ (r : List Part). bytesOf (without samePart r (partsFrom first b q))) (parts-done first a p end) ∙ bytes-none
-
-  pub within-end : (x : Bool) → within samePart (partsFrom first a p) (partsFrom first b q) ≡ x → true ≡ x
-  unfolding within all
-  within-end x inv = sym (ap (λ (r : List Part). within samePart r (partsFrom first b q)) (parts-done first a p end)) ∙ inv
 
 -- Where `remove` is: the result so far, by what the operator makes of the fields that are left.
 pub record Going (op : List Part → List Part → List Part) (result : List ℕ) (first : ℕ) (a b o out : List ℕ) (p q n : ℕ) : Type 0 where

@@ -158,15 +158,15 @@ module _ (a b : List ℕ) (p e q d : ℕ) (fa : e ≤ length a) (fb : d ≤ leng
 
 -- `stands_at` and `agree`: j and k are the keys of the fields at p and q
 module _ (first : ℕ) (a : List ℕ) (p : ℕ) (b : List ℕ) (q : ℕ) where
-  pub stands-end : length b ≤ q → false ≡ leads (partAt first a p) (partsFrom first b q)
-  stands-end h = rw (parts-done first b q h)
+  pub stands-end : (alike : Part → Part → Bool) → length b ≤ q → false ≡ leads alike (partAt first a p) (partsFrom first b q)
+  stands-end alike h = rw (parts-done first b q h)
 
   module _ (j k : ℕ) (ej : j ≡ keyAt first a p) (ek : k ≡ keyAt first b q) where
-    pub stands-other : q < length b → (j ≡ k → ⊥) → false ≡ leads (partAt first a p) (partsFrom first b q)
+    pub stands-other : q < length b → (j ≡ k → ⊥) → false ≡ leads samePart (partAt first a p) (partsFrom first b q)
     unfolding samePart partAt
     stands-other h d = rw (parts-next first b q h) (cc (ne-eqb j k d))
 
-    pub stands-same : q < length b → j ≡ k → (x : Bool) → x ≡ sameNumbers (pieceAt a p) (pieceAt b q) → x ≡ leads (partAt first a p) (partsFrom first b q)
+    pub stands-same : q < length b → j ≡ k → (x : Bool) → x ≡ sameNumbers (pieceAt a p) (pieceAt b q) → x ≡ leads samePart (partAt first a p) (partsFrom first b q)
     unfolding samePart partAt
     stands-same h d x e = rw (parts-next first b q h) (cc (eq-eqb j k d))
 

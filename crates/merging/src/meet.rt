@@ -1,9 +1,14 @@
 // Two files of rising fields, side by side.
 ghost use mathlib.Core.Path.{_≡_};
-ghost use Rattle.fields.specs.Lists.{sameNumbers};
-ghost use Rattle.merging.specs.Inner.Parts.{WholeAt, WholeFrom, SoughtAt, pieceAt, partAt, partsFrom, leads};
+ghost use mathlib.Core.Bool.{true};
+ghost use Rattle.fields.specs.Lists.{all, sameNumbers};
+ghost use Rattle.merging.specs.Inner.Parts.{WholeAt, WholeFrom, SoughtAt, pieceAt, samePart, partWithin, classLong, partAt, partsFrom, leads};
+use fields::bytes::to_usize;
 use fields::walk::whole_end;
 use fields::walk::whole_key;
+use language::entries::CLASS;
+use language::entries::KINDS;
+use language::range::range_within;
 
 // The field of a at p and the field of b at q are the same, byte for byte.
 pub fn same_field(a: &[u8], p: usize, b: &[u8], q: usize) -> bool
@@ -42,13 +47,31 @@ pub fn seek(s: &[u8], p: usize, key: usize, leading_tag: u8) -> usize
 // The field of a at p is the field of b at q.
 pub fn stands_at(a: &[u8], p: usize, b: &[u8], q: usize, leading_tag: u8) -> bool
     requires { ⌜ WholeAt (now a) p × WholeFrom (now b) q ⌝ }
-    ensures { λ r. ⌜ r ≡ leads (partAt «leading_tag» (now (a .entry)) p) (partsFrom «leading_tag» (now (b .entry)) q) ⌝ }
+    ensures { λ r. ⌜ r ≡ leads samePart (partAt «leading_tag» (now (a .entry)) p) (partsFrom «leading_tag» (now (b .entry)) q) ⌝ }
 {
     if b.len() <= q {
         return false;
     }
     if whole_key(a, p, leading_tag) != whole_key(b, q, leading_tag) {
         return false;
+    }
+    same_field(a, p, b, q)
+}
+
+// The entry of a at p lies in the entry of b at q: a class by its range, a production if it is the same.
+pub fn lies_at(a: &[u8], p: usize, b: &[u8], q: usize) -> bool
+    requires { ⌜ WholeAt (now a) p × WholeFrom (now b) q × (classLong (partAt 0x11 (now a) p) ≡ true) × (all classLong (partsFrom 0x11 (now b) q) ≡ true) ⌝ }
+    ensures { λ r. ⌜ r ≡ leads partWithin (partAt 0x11 (now (a .entry)) p) (partsFrom 0x11 (now (b .entry)) q) ⌝ }
+{
+    if b.len() <= q {
+        return false;
+    }
+    let key = whole_key(a, p, CLASS);
+    if key != whole_key(b, q, CLASS) {
+        return false;
+    }
+    if key < to_usize(KINDS) {
+        return range_within(a, p, b, q);
     }
     same_field(a, p, b, q)
 }

@@ -1,24 +1,25 @@
-// Whether one file of rising fields lies within another, and whether two agree.
+// Whether one language lies within another, and whether two files of rising fields agree.
 ghost use mathlib.Core.Path.{_≡_};
-ghost use Rattle.merging.specs.Inner.Parts.{Sorted, liesWithin, agrees};
+ghost use Rattle.merging.specs.Inner.Parts.{Sorted, SortedEntries, liesWithin, agrees};
+use super::meet::lies_at;
 use super::meet::same_field;
 use super::meet::seek;
-use super::meet::stands_at;
 use super::prefix::shared;
 use fields::walk::whole_end;
 use fields::walk::whole_key;
+use language::entries::CLASS;
 
-// Every field of a stands in b.
-pub fn lies_within(a: &[u8], b: &[u8], leading_tag: u8) -> bool
-    requires { ⌜ Sorted «leading_tag» (now a) × Sorted «leading_tag» (now b) ⌝ }
-    ensures { λ r. ⌜ r ≡ liesWithin «leading_tag» (now (a .entry)) (now (b .entry)) ⌝ }
+// Every entry of language a lies in one of b.
+pub fn lies_within(a: &[u8], b: &[u8]) -> bool
+    requires { ⌜ SortedEntries (now a) × SortedEntries (now b) ⌝ }
+    ensures { λ r. ⌜ r ≡ liesWithin (now (a .entry)) (now (b .entry)) ⌝ }
 {
     let start = shared(a, b);
     let mut p = start;
     let mut q = start;
     while p < a.len() {
-        q = seek(b, q, whole_key(a, p, leading_tag), leading_tag);
-        if !stands_at(a, p, b, q, leading_tag) {
+        q = seek(b, q, whole_key(a, p, CLASS), CLASS);
+        if !lies_at(a, p, b, q) {
             return false;
         }
         p = whole_end(a, p);

@@ -1,5 +1,5 @@
 -- What the operators on bytes come to for languages and for bodies that are written in bytes.
-use Prim.Native.Nat.{ℕ, _+_, _-_, _/_, _%_, _<_, _≤_}
+use Prim.Native.Nat.{ℕ, _+_, _*_, _-_, _/_, _%_, _<_, _≤_}
 use mathlib.Core.Path.{_≡_, refl, sym, ap, _∙_}
 use mathlib.Core.Bool.{Bool, true, cond}
 use mathlib.Core.List.{List, [], _∷_, _++_, map, append-assoc}
@@ -7,19 +7,19 @@ use mathlib.Core.Option.{some}
 use native.Mathlib.Omega.{arith}
 use lib.ListN.{length, take, length-append, length-take, length-drop, List·getD-append}
 use lib.Seq.{take-append-seam, drop-append-seam, getD-append-add}
-use lib.Dec.{eqb}
-use borrow.Author.Tests.{lt-ltb, eq-eqb, leb-true}
+use lib.Dec.{leb, eqb}
+use borrow.Author.Tests.{lt-ltb, le-ltb, ltb-true, le-leb, eq-eqb, ne-eqb, leb-true}
 use Rattle.fields.specs.Lists.{all, concatMap, sameNumbers}
 use Rattle.fields.specs.Fields.{Field, field, byteAt, pairAt, encodeField, encodeFields, fieldsOf}
 use Rattle.fields.specs.Keyed.{union, within, without, agree, rising}
 use Rattle.fields.specs.Inner.Places.{fieldEnd, isWhole, longAt, fieldAt, keyAt, places}
-use Rattle.fields.proofs.Truth.{and-both, both-and, same-truth, numbers-equal, equal-numbers}
+use Rattle.fields.proofs.Truth.{Mem, and-both, both-and, or-left, or-right, same-truth, numbers-equal, equal-numbers}
 use Rattle.fields.proofs.Codec.{Each, contentsOf, cond-some, fields-encode, field-length}
 use Rattle.fields.proofs.Lists.{all-true, rising-map}
 use Rattle.fields.proofs.Split.{fields-at-places}
 use Rattle.language.specs.Language.{Entry, class, production, Language, entryKey, sameEntry}
-use Rattle.language.specs.LanguageFile.{entryField, encodeLanguage}
-use Rattle.language.specs.Inner.Entries.{RisingEntries}
+use Rattle.language.specs.LanguageFile.{isKind, entryField, encodeLanguage}
+use Rattle.language.specs.Inner.Entries.{classRange, RisingEntries}
 use Rattle.language.proofs.Codec.{entryWhole, two-bytes, language-encode}
 use Rattle.language.proofs.Holds.{holds-entries}
 use Rattle.language.proofs.Chain.{rising-is}
@@ -28,8 +28,8 @@ use Rattle.language.proofs.Lookup as Entries
 use Rattle.translation.specs.Translation.{Item, mapping, clause, Body, itemKey, sameItem}
 use Rattle.translation.specs.TranslationFile.{itemField}
 use Rattle.translation.proofs.Lookup as Items
-use Rattle.operators.specs.Operators.{languagesFit, languageUnion, languageWithout}
-use Rattle.merging.specs.Inner.Parts.{Part, partKey, samePart, bytesOf, pieceAt, partAt, partsFrom, parts, Sorted, united, removed, liesWithin, agrees, fitTogether}
+use Rattle.operators.specs.Operators.{languagesFit, languageUnion, languageWithout, entryWithin}
+use Rattle.merging.specs.Inner.Parts.{Part, partKey, samePart, partWithin, classLong, bytesOf, pieceAt, partAt, partsFrom, parts, Sorted, SortedEntries, united, removed, liesWithin, agrees, fitTogether}
 use Rattle.fields.proofs.Splices.{slice-is}
 use Rattle.merging.proofs.Walks.{parts-done, parts-next}
 use Rattle.operators.proofs.Mapped.{union-mapped, within-mapped, without-mapped, agree-mapped}
@@ -214,10 +214,6 @@ module _ {A : Type 0} {first : ℕ} {encode : A → Field} {key : A → ℕ} {al
   removed-of l m =
       rw (entry-parts l, entry-parts m) (ap bytesOf (without-mapped entryPart samePart alike same-is l m) ∙ bytes-of (without alike l m))
 
-  within-of : (l m : List A) → liesWithin first (written l) (written m) ≡ within alike l m
-  unfolding liesWithin
-  within-of l m = rw (entry-parts l, entry-parts m) (within-mapped entryPart samePart alike same-is l m)
-
   agrees-of : (l m : List A) → agrees first (written l) (written m) ≡ agree key alike l m
   unfolding agrees
   agrees-of l m = rw (entry-parts l, entry-parts m) (agree-mapped entryPart samePart alike same-is partKey key (kept .keys) l m)
@@ -261,13 +257,54 @@ module _ (l m : Language) where
   unfolding encodeLanguage languageWithout
   removed-language = removed-of entries l m
 
-  pub language-within : liesWithin 0x11 (encodeLanguage l) (encodeLanguage m) ≡ within sameEntry l m
-  unfolding encodeLanguage
-  language-within = within-of entries l m
-
   pub languages-agree : agrees 0x11 (encodeLanguage l) (encodeLanguage m) ≡ agree entryKey sameEntry l m
   unfolding encodeLanguage
   languages-agree = agrees-of entries l m
+
+-- An entry by key and bytes.
+abbrev languagePart : Entry → Part
+languagePart a = fieldPart 0x11 (entryField a)
+
+-- A class has its eight bytes, and a production is no class.
+class-long : (a : Entry) → classLong (languagePart a) ≡ true
+unfolding classLong entryField pairAt encodeField
+class-long (class k low high) = or-right (leb 32 k) true refl
+class-long (production r p ks) = or-left (leb 32 (32 + (r * 256 + p))) _ (le-leb 32 (32 + (r * 256 + p)) (omega arith))
+
+classes-long : (l : Language) → all classLong (map languagePart l) ≡ true
+unfolding all
+classes-long [] = refl
+classes-long (a ∷ l) = both-and (classLong (languagePart a)) (all classLong (map languagePart l)) (class-long a) (classes-long l)
+
+pub sorted-entries : (l : Language) → rising entryKey l ≡ true → SortedEntries (encodeLanguage l)
+unfolding encodeLanguage
+sorted-entries l h = record { sorted = sorted-of entries l h; classes = rw (entry-parts entries l) (classes-long l) }
+
+-- A field that is no class lies in another if it is the same.
+same-within : (x y : Part) → 32 ≤ x .key → partWithin x y ≡ samePart x y
+unfolding partWithin samePart
+same-within x y h = rw (le-ltb (x .key) 32 h)
+
+-- Whole entries lie in each other as their fields do.
+part-within : (a b : Entry) → entryWhole a ≡ true → entryWhole b ≡ true → partWithin (languagePart a) (languagePart b) ≡ entryWithin a b
+unfolding partWithin entryWithin entryField entryWhole classRange pairAt encodeField
+part-within (class k low high) (class j c d) h i =
+    let w = and-both (isKind k) (leb low high) h in
+    rw (w .0, two-bytes low, two-bytes high, two-bytes c, two-bytes d)
+part-within (class k low high) (production s q js) h i =
+    let w = ltb-true k 32 (and-both (isKind k) (leb low high) h .0) in
+    let n : k ≡ 32 + (s * 256 + q) → ⊥ = λ e. omega arith in
+    rw (ne-eqb k (32 + (s * 256 + q)) n)
+part-within (production r p ks) b h i =
+    same-within (languagePart (production r p ks)) (languagePart b) (omega arith) ∙ same-is entries (production r p ks) b
+
+-- Languages of whole entries lie within each other as their bytes do.
+pub language-within : (l m : Language) → ((a : Entry) → Mem a l → entryWhole a ≡ true) → ((a : Entry) → Mem a m → entryWhole a ≡ true)
+    → liesWithin (encodeLanguage l) (encodeLanguage m) ≡ within entryWithin l m
+unfolding encodeLanguage liesWithin
+language-within l m h k =
+    rw (entry-parts entries l, entry-parts entries m)
+    (within-mapped languagePart partWithin entryWithin l m (λ a b x y. part-within a b (h a x) (k b y)))
 
 -- Languages of whole entries fit together as their bytes do.
 pub languages-fit : (l m : Language) → all entryWhole l ≡ true → all entryWhole m ≡ true

@@ -11,9 +11,10 @@ use borrow.Author.Tests.{lt-ltb}
 use Rattle.fields.specs.Lists.{keep, concatMap, countUp}
 use Rattle.fields.proofs.Truth.{Mem, both-and, keep-cases, mem-keep, mem-map, map-cases, mem-append, append-cases, mem-concat, concat-cases, mem-count, count-mem}
 use Rattle.fields.proofs.Keyed.{Rising, From, from-weaken, keep-from}
-use Rattle.language.specs.Language.{Entry, class, production, Language, entryKey, isIn}
+use Rattle.language.specs.Language.{Entry, class, production, Language, entryKey, between, isIn}
 use Rattle.language.specs.LanguageFile.{isKind}
 use Rattle.language.proofs.Lookup.{mem-arguments, mem-range, class-in, result-in, argument-in}
+use Rattle.language.proofs.Ranges.{within-itself}
 use Rattle.reader.specs.Code.{node, levels, levelsAll}
 use Rattle.reader.specs.Typing.{TypedAll, typed-node, typed-argument, typed-nil, typed-cons}
 use Rattle.reader.specs.Syntax.{done, write, code}
@@ -192,7 +193,7 @@ module _ (l : Language) (s : Proper l) where
   identity-fits = record {
     maps = λ k e. (k, mem-mappings k e);
     mapsOnly = identity-maps;
-    classes = λ k a b m. rw (identity-mapped k (class-in l k a b m)) (mem-range l (s .rises) k a b m);
+    classes = λ k a b m. (between a b, rw (identity-mapped k (class-in l k a b m)) (mem-range l (s .rises) k a b m), within-itself (between a b));
     clauses = λ r p ks m. (write code (node r p (argumentsFrom 1 ks)), mem-clauses r p ks m);
     clausesOnly = λ r p c m. let q = identity-clause r p c m in (q .0, q .1);
     codes = λ r p c m.

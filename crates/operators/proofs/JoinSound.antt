@@ -6,25 +6,29 @@ use mathlib.Core.Bool.{true, false}
 use mathlib.Core.Option.{some}
 use mathlib.Core.List.{List, [], _∷_, map, append-nil}
 use native.Mathlib.Omega.{arith}
-use Rattle.fields.proofs.Truth.{Mem, and-both, both-and, false-true, mem-map, map-cases}
-use Rattle.fields.proofs.Keyed.{Rising, within-mem, map-from}
-use Rattle.language.specs.Language.{Entry, production, sameEntry, isIn, argumentsOf}
+use lib.Dec.{eqb}
+use borrow.Author.Tests.{eqb-true}
+use Rattle.fields.specs.Keyed.{holds, within}
+use Rattle.fields.proofs.Truth.{Mem, and-both, both-and, false-true, all-mem, any-mem, mem-map, map-cases}
+use Rattle.fields.proofs.Keyed.{Rising, map-from}
+use Rattle.language.specs.Language.{Entry, class, production, Range, between, rangeWithin, rangeOf, mentions, isIn, argumentsOf}
 use Rattle.language.specs.LanguageFile.{isKind}
-use Rattle.language.proofs.Lookup.{same-equal, equal-same, range-mem, arguments-mem, mem-arguments, in-larger, class-in, result-in, argument-in}
+use Rattle.language.proofs.Lookup.{same-equal, range-mem, arguments-mem, mem-range, mem-arguments, in-mem, mem-in, class-in, result-in, argument-in}
+use Rattle.language.proofs.Ranges.{within-both}
 use Rattle.reader.specs.Code.{Code, levels}
 use Rattle.reader.specs.Typing.{Typed}
 use Rattle.reader.specs.Syntax.{Read, done, write, code}
 use Rattle.reader.proofs.RoundTrip.{round, as-code}
 use Rattle.reader.proofs.Sound.{more-levels, More}
-use Rattle.reader.proofs.Larger.{Larger, larger, typed-larger}
+use Rattle.reader.proofs.Larger.{Larger, typed-larger}
 use Rattle.translation.specs.Translation.{Item, mapping, clause, Translation, itemKey, mapped}
 use Rattle.translation.specs.Running.{run, mappedArguments, readClause, clausesOf, transform, codeLevels}
 use Rattle.translation.proofs.Codec.{itemWhole}
 use Rattle.translation.proofs.Lookup.{mem-mapped}
 use Rattle.translation.proofs.Running.{chained, run-chained}
 use Rattle.translation.proofs.Preserved.{typed-run, run-alike}
-use Rattle.translation.proofs.Fitting.{Fitting, between, clause-code, mapped-arguments, fit-carries}
-use Rattle.operators.specs.Operators.{joinFits, joinItem, joined}
+use Rattle.translation.proofs.Fitting.{Fitting, clause-code, mapped-arguments, fit-carries}
+use Rattle.operators.specs.Operators.{entryWithin, joinFits, joinItem, joined}
 use Rattle.operators.specs.Limits.{isDeep, codeIsDeep}
 use Rattle.operators.proofs.Proper.{proper-apart, Sound}
 
@@ -54,14 +58,47 @@ shallow : (o p : Read Code) {a : Code} {r : List ℕ} → More o p → isDeep o 
 shallow o p (inl e) d q = false-true (sym (rw e at d))
 shallow o p (inr e) d q = sym e ∙ q
 
+-- An entry mentions the kinds of one that lies in it.
+entry-mentions : (k : ℕ) (a b : Entry) → entryWithin a b ≡ true → mentions k a ≡ true → mentions k b ≡ true
+unfolding entryWithin mentions
+entry-mentions k (class i a b) (class j c d) e m =
+    let q : i ≡ j = eqb-true i j (and-both (eqb i j) (rangeWithin (between a b) (between c d)) e .0) in rw (← q) m
+entry-mentions k (class i a b) (production s q js) e m = false-true e
+entry-mentions k (production r p ks) b e m = rw (← same-equal (production r p ks) b e) m
+
 module _ (f g : Translation) (sf : Sound f) (sg : Sound g) (h : joinFits f g ≡ true) where
-  lies : (a : Entry) → Mem a (g .target) → Mem a (f .source)
-  unfolding joinFits
-  lies a m = within-mem sameEntry same-equal equal-same (g .target) (f .source) h a m
+  -- Each entry of the second's target lies in one of the first's source.
+  lies : (a : Entry) → Mem a (g .target) → (b : Entry) × Mem b (f .source) × (entryWithin a b ≡ true)
+  unfolding joinFits within holds
+  lies a m = any-mem (entryWithin a) (f .source) (all-mem (holds entryWithin (f .source)) (g .target) h a m)
+
+  -- A kind in the second's target is in the first's source.
+  lies-in : (k : ℕ) → isIn (g .target) k ≡ true → isIn (f .source) k ≡ true
+  lies-in k e =
+      let a = in-mem (g .target) k e in
+      let b = lies (a .0) (a .1) in
+      mem-in (f .source) k (b .0) (b .1) (entry-mentions k (a .0) (b .0) (b .2) (a .2))
+
+  class-lies : (k : ℕ) (c : Range) (b : Entry) → Mem b (f .source) → entryWithin (class k (c .low) (c .high)) b ≡ true
+      → (d : Range) × (rangeOf (f .source) k ≡ some d) × (rangeWithin c d ≡ true)
+  unfolding entryWithin
+  class-lies k c (class j x y) m e =
+      let w = and-both (eqb k j) (rangeWithin c (between x y)) e in
+      (between x y, rw (eqb-true k j (w .0)) (mem-range (f .source) (sf .source .rises) j x y m), w .1)
+  class-lies k c (production s q js) m e = false-true e
+
+  production-lies : (k p : ℕ) (ks : List ℕ) (b : Entry) → Mem b (f .source) → entryWithin (production k p ks) b ≡ true → Mem (production k p ks) (f .source)
+  unfolding entryWithin
+  production-lies k p ks b m e = rw (same-equal (production k p ks) b e) m
 
   -- The first's source is larger than the second's target.
   pub target-larger : Larger (g .target) (f .source)
-  target-larger = larger (g .target) (f .source) (sf .source .rises) lies
+  target-larger = record {
+    classes = λ k c e. let b = lies _ (range-mem (g .target) k c e) in class-lies k c (b .0) (b .1) (b .2);
+    productions = λ k p ks e.
+        let b = lies _ (arguments-mem (g .target) k p ks e) in
+        mem-arguments (f .source) (sf .source .rises) k p ks (production-lies k p ks (b .0) (b .1) (b .2));
+  }
 
   -- Its items rise.
   pub body-rises : Rising itemKey (joined f g .body)
@@ -94,7 +131,7 @@ module _ (f g : Translation) (sf : Sound f) (sg : Sound g) (h : joinFits f g ≡
   -- Where a kind in the second's target goes.
   onward : (t : ℕ) → isIn (g .target) t ≡ true → (x : ℕ) × Mem (mapping t x) (f .body) × (mapped (f .body) t ≡ x)
   onward t e =
-      let x = sf .fits .maps t (in-larger (g .target) (f .source) lies t e) in
+      let x = sf .fits .maps t (lies-in t e) in
       (x .0, x .1, mem-mapped (f .body) (sf .rises) t (x .0) (x .1))
 
   -- Kinds are mapped by one and then the other.
@@ -109,7 +146,7 @@ module _ (f g : Translation) (sf : Sound f) (sg : Sound g) (h : joinFits f g ≡
   pub join-lies : (k : ℕ) → isIn (g .source) k ≡ true → isIn (f .source) (mapped (g .body) k) ≡ true
   join-lies k e =
       let t = sg .fits .maps k e in
-      rw (mem-mapped (g .body) (sg .rises) k (t .0) (t .1)) (in-larger (g .target) (f .source) lies (t .0) (sg .fits .mapsOnly k (t .0) (t .1) .1))
+      rw (mem-mapped (g .body) (sg .rises) k (t .0) (t .1)) (lies-in (t .0) (sg .fits .mapsOnly k (t .0) (t .1) .1))
 
   -- The joined code of a production.
   join-typed : (r p : ℕ) (ks : List ℕ) → Mem (production r p ks) (g .source)
@@ -158,8 +195,10 @@ module _ (f g : Translation) (sf : Sound f) (sg : Sound g) (h : joinFits f g ≡
           let y = onward (u .0) (x .1) in
           (x .0, rw (u .2 ∙ y .2) (sf .fits .mapsOnly (u .0) (y .0) (y .1) .1));
       classes = λ k a b m.
-          rw (join-mapped k (class-in (g .source) k a b m))
-          (sf .fits .classes (mapped (g .body) k) a b (lies _ (range-mem (g .target) (mapped (g .body) k) (between a b) (sg .fits .classes k a b m))));
+          let c = sg .fits .classes k a b m in
+          let d = target-larger .classes (mapped (g .body) k) (c .0) (c .1) in
+          let e = sf .fits .classes (mapped (g .body) k) (d .0 .low) (d .0 .high) (range-mem (f .source) (mapped (g .body) k) (d .0) (d .1)) in
+          (e .0, rw (join-mapped k (class-in (g .source) k a b m)) (e .1), within-both (between a b) (d .0) (e .0) (within-both (between a b) (c .0) (d .0) (c .2) (d .2)) (e .2));
       clauses = λ r p ks m. let c = sg .fits .clauses r p ks m in (_, mem-join (clause r p (c .0)) (c .1));
       clausesOnly = λ r p c m. let d = from-clause r p c m in sg .fits .clausesOnly r p (d .0) (d .1);
       codes = λ r p c m. (run (clausesOf f) (clausesOf g r p), join-read r p c m);

@@ -1,9 +1,11 @@
 -- Operations by key on lists that are mapped, where the map g keeps the keys and tells the same entries apart.
 use Prim.Native.Nat.{ℕ}
 use mathlib.Core.Path.{_≡_, refl, ap, _∙_}
+use mathlib.Core.Logic.{inl, inr}
 use mathlib.Core.Bool.{Bool, true, false, cond, not}
 use mathlib.Core.List.{List, [], _∷_, map}
 use Rattle.fields.specs.Lists.{all, any, keep}
+use Rattle.fields.proofs.Truth.{Mem}
 use Rattle.fields.specs.Keyed.{Order, below, same, above, order, place, insert, union, holds, within, without, agree}
 
 module _ {A B : Type 0} (g : A → B) where
@@ -49,10 +51,6 @@ module _ {A B : Type 0} (g : A → B) where
     unfolding holds
     holds-mapped m a = any-mapped (alike (g a)) (equal a) (tells a) m
 
-    pub within-mapped : (l m : List A) → within alike (map g l) (map g m) ≡ within equal l m
-    unfolding within
-    within-mapped l m = all-mapped (holds alike (map g m)) (holds equal m) (holds-mapped m) l
-
     pub without-mapped : (l m : List A) → without alike (map g l) (map g m) ≡ map g (without equal l m)
     unfolding without
     without-mapped l m = keep-mapped (λ b. not (holds alike (map g m) b)) (λ a. not (holds equal m a)) (λ a. ap not (holds-mapped m a)) l
@@ -62,3 +60,19 @@ module _ {A B : Type 0} (g : A → B) where
     unfolding agree
     agree-mapped key mine keys l m =
         all-mapped _ _ (λ a. all-mapped _ _ (λ b. rw (keys a, keys b, tells a b)) m) l
+
+  -- The same where they are alike on the members.
+  all-among : (f : B → Bool) (h : A → Bool) (l : List A) → ((a : A) → Mem a l → f (g a) ≡ h a) → all f (map g l) ≡ all h l
+  unfolding all
+  all-among f h [] e = refl
+  all-among f h (a ∷ l) e = rw (e a (inl refl), all-among f h l (λ b m. e b (inr m)))
+
+  any-among : (f : B → Bool) (h : A → Bool) (l : List A) → ((a : A) → Mem a l → f (g a) ≡ h a) → any f (map g l) ≡ any h l
+  unfolding any
+  any-among f h [] e = refl
+  any-among f h (a ∷ l) e = rw (e a (inl refl), any-among f h l (λ b m. e b (inr m)))
+
+  pub within-mapped : (alike : B → B → Bool) (equal : A → A → Bool) (l m : List A) → ((a b : A) → Mem a l → Mem b m → alike (g a) (g b) ≡ equal a b)
+      → within alike (map g l) (map g m) ≡ within equal l m
+  unfolding within holds
+  within-mapped alike equal l m tells = all-among _ _ l (λ a x. any-among (alike (g a)) (equal a) m (λ b y. tells a b x y))

@@ -8,15 +8,16 @@ use mathlib.Core.List.{List, []}
 use Rattle.fields.specs.Keyed.{union, agree, without}
 use Rattle.fields.proofs.Truth.{Mem, and-both, not-true, some-is, is-some, keep-cases, mem-keep}
 use Rattle.fields.proofs.Keyed.{Rising, Agree, union-cases, union-mem, union-from, agree-holds, holds-agree, keep-from}
-use Rattle.language.specs.Language.{Entry, class, production, Language, entryKey, sameEntry, isIn, argumentsOf, clashes}
+use Rattle.language.specs.Language.{Entry, class, production, Language, entryKey, sameEntry, between, isIn, argumentsOf, clashes}
 use Rattle.language.proofs.Lookup.{same-equal, equal-same, in-larger, in-union, class-in, result-in, argument-in, arguments-mem, mem-arguments, NoClash, clashes-none, none-clashes}
+use Rattle.language.proofs.Ranges.{within-both}
 use Rattle.reader.specs.Code.{Code}
 use Rattle.reader.specs.Syntax.{done}
 use Rattle.reader.proofs.Larger.{Larger, larger}
 use Rattle.translation.specs.Translation.{mapping, clause, Translation, itemKey, sameItem, mapped}
 use Rattle.translation.specs.Running.{readClause}
 use Rattle.translation.proofs.Lookup as Items
-use Rattle.translation.proofs.Fitting.{Fitting, between, clause-alike}
+use Rattle.translation.proofs.Fitting.{Fitting, Contains, clause-alike}
 use Rattle.operators.specs.Operators.{languagesFit, languageUnion, languageWithout, translationsFit, translationUnion, isOf, translationWithout}
 use Rattle.operators.proofs.Proper.{Proper, proper-keep, Sound}
 
@@ -95,9 +96,14 @@ module _ (f u : Translation) (w : Fitting f) (h : Part f u) where
   part-larger = larger (f .target) (u .target) (h .target-rises) (h .target)
 
   pub part-class : (k a b : ℕ) → Mem (class k a b) (f .source) → Mem (class k a b) (u .source)
-      → Rattle.language.specs.Language.rangeOf (u .target) (mapped (u .body) k) ≡ some (between a b)
+      → Contains (u .target) (mapped (u .body) k) a b
   part-class k a b m n =
-      rw (← part-mapped k (class-in (f .source) k a b m) (class-in (u .source) k a b n)) (part-larger .classes _ _ (w .classes k a b m))
+      let c = w .classes k a b m in
+      let d = part-larger .classes (mapped (f .body) k) (c .0) (c .1) in (
+        d .0,
+        rw (← part-mapped k (class-in (f .source) k a b m) (class-in (u .source) k a b n)) (d .1),
+        within-both (between a b) (c .0) (d .0) (c .2) (d .2),
+      )
 
   pub part-code : (r p : ℕ) (ks : List ℕ) (c : List ℕ) → Mem (production r p ks) (f .source) → Mem (production r p ks) (u .source)
       → Mem (clause r p c) (f .body) → (a : Code) × (readClause u r p c ≡ done a [])

@@ -25,10 +25,10 @@ use Rattle.fields.specs.declared.copy.Stored.{Stored}
 use Rattle.fields.specs.declared.copy.Stored.the-variants.{To, Full}
 use Rattle.operators.specs.Operators.{languagesFit, languageWithout, translationsFit, translationUnion, translationSum, translationWithout}
 use Rattle.fields.specs.Inner.Writing.{Stores}
-use Rattle.merging.specs.Inner.Parts.{Sorted, united, removed, agrees, fitTogether}
+use Rattle.merging.specs.Inner.Parts.{Sorted, SortedEntries, united, removed, agrees, fitTogether}
 use Rattle.operators.specs.Inner.Values.{translationBytes, Gives}
 use Rattle.operators.proofs.Proper.{GoodTranslation}
-use Rattle.operators.proofs.Encoded.{bodyBytes, sorted-language, rising-language, united-languages, removed-language, languages-fit, sorted-body, united-bodies, bodies-agree}
+use Rattle.operators.proofs.Encoded.{bodyBytes, sorted-entries, rising-language, united-languages, removed-language, languages-fit, sorted-body, united-bodies, bodies-agree}
 use Rattle.operators.proofs.SumSound.{fit-translations, sound-union}
 use Rattle.operators.specs.Inner.Assembled.{assembled}
 use Rattle.operators.specs.Inner.EncodedParts.{EncodedParts}
@@ -51,11 +51,17 @@ module _ (s t b : List ℕ) (f : Translation) (w : EncodedParts s t b f) where
   pub spelt-good : GoodTranslation f
   spelt-good = accepted-good (encodeTranslation f) f (w .accepted)
 
+  pub source-entries : SortedEntries s
+  source-entries = subst SortedEntries (sym (w .source)) (sorted-entries (f .source) (rising-is entryKey (f .source) (spelt-good .sound .source .rises)))
+
+  pub target-entries : SortedEntries t
+  target-entries = subst SortedEntries (sym (w .target)) (sorted-entries (f .target) (rising-is entryKey (f .target) (spelt-good .sound .target .rises)))
+
   pub source-sorted : Sorted 0x11 s
-  source-sorted = subst (Sorted 0x11) (sym (w .source)) (sorted-language (f .source) (f .source) (rising-is entryKey (f .source) (spelt-good .sound .source .rises)))
+  source-sorted = source-entries .sorted
 
   pub target-sorted : Sorted 0x11 t
-  target-sorted = subst (Sorted 0x11) (sym (w .target)) (sorted-language (f .target) (f .target) (rising-is entryKey (f .target) (spelt-good .sound .target .rises)))
+  target-sorted = target-entries .sorted
 
   pub body-sorted : Sorted 0x22 b
   body-sorted = subst (Sorted 0x22) (sym (w .body)) (sorted-body (f .body) (f .body) (rising-is itemKey (f .body) (spelt-good .sound .rises)))

@@ -1,12 +1,13 @@
 -- The signs' values (paper 01, "Rules, from document 000, appendices A to C").
 use Prim.Native.Nat.{ℕ, suc}
-use mathlib.Core.Bool.{Bool, not, _&&_}
+use mathlib.Core.Bool.{Bool, false, not, _&&_}
 use mathlib.Core.List.{List, [], _∷_, _++_, map}
+use lib.Dec.{eqb}
 use Rattle.fields.specs.Outcome.{Result, value, refuseIf}
 use Rattle.fields.specs.declared.outcome.Reason.the-variants.{SumUnfit, JoinUnfit}
 use Rattle.fields.specs.Lists.{keep, isSome, concatMap}
 use Rattle.fields.specs.Keyed.{union, without, within, agree}
-use Rattle.language.specs.Language.{Entry, class, production, Language, entryKey, sameEntry, isIn, argumentsOf, clashes}
+use Rattle.language.specs.Language.{Entry, class, production, Language, entryKey, sameEntry, between, rangeWithin, isIn, argumentsOf, clashes}
 use Rattle.reader.specs.Code.{node, argument, Codes, nil, cons}
 use Rattle.reader.specs.Syntax.{write, code}
 use Rattle.translation.specs.Translation.{Item, mapping, clause, Translation, itemKey, sameItem, mapped}
@@ -59,9 +60,16 @@ translationWithout f l =
     let source = languageWithout (f .source) l in
     record { source = source; target = f .target; body = keep (isOf source) (f .body) }
 
+-- An entry lies in another: a class in one of its kind that contains its range (paper 02, 2026-01), a production in
+-- an equal one.
+unfoldable pub entryWithin : Entry → Entry → Bool
+entryWithin (class k a b) (class j c d) = eqb k j && rangeWithin (between a b) (between c d)
+entryWithin (class k a b) (production s q js) = false
+entryWithin (production r p ks) b = sameEntry (production r p ks) b
+
 -- The second's target lies within the first's source (B.8).
 unfoldable pub joinFits : Translation → Translation → Bool
-joinFits f g = within sameEntry (g .target) (f .source)
+joinFits f g = within entryWithin (g .target) (f .source)
 
 -- A mapping chained, and a code of the second run through the first with its arguments kept (C.15).
 unfoldable pub joinItem : Translation → Translation → Item → Item

@@ -1,5 +1,5 @@
 -- A code that is read in a language is read alike in a larger one.
-use Prim.Native.Nat.{ℕ, zero, suc}
+use Prim.Native.Nat.{ℕ, zero, suc, _+_, _*_}
 use mathlib.Core.Path.{_≡_, refl}
 use mathlib.Core.Bool.{Bool, true, false}
 use mathlib.Core.List.{List, [], _∷_}
@@ -8,21 +8,22 @@ use native.Mathlib.Omega.{arith}
 use lib.Dec.{eqb}
 use Rattle.fields.proofs.Truth.{Mem}
 use Rattle.fields.proofs.Keyed.{Rising}
-use Rattle.language.specs.Language.{Entry, Language, entryKey, Range, rangeOf, argumentsOf, clashes}
+use Rattle.language.specs.Language.{Entry, Language, entryKey, Range, inRange, rangeWithin, rangeOf, argumentsOf, clashes}
 use Rattle.language.proofs.Lookup.{range-mem, arguments-mem, mem-range, mem-arguments, clashes-none}
-use Rattle.reader.specs.Code.{Code, Codes}
+use Rattle.language.proofs.Ranges.{within-itself, value-within}
+use Rattle.reader.specs.Code.{Code, token, Codes}
 use Rattle.reader.specs.Typing.{Typed, TypedAll, typed-node, typed-token, typed-argument, typed-nil, typed-cons}
 use Rattle.reader.specs.Syntax.{code, Read, done, deep, broken, andThen, readAll, readOperands, readNode, readToken, readArgument, readCodeLevel, readLevel, read}
 use Rattle.reader.proofs.RoundTrip.{Apart}
 
--- A language with all classes and productions of another.
+-- A language with all productions of another, and for each class of it a class of that kind that contains its range.
 pub record Larger (l m : Language) : Type 0 where
-  pub classes : (k : ℕ) (c : Range) → rangeOf l k ≡ some c → rangeOf m k ≡ some c
+  pub classes : (k : ℕ) (c : Range) → rangeOf l k ≡ some c → (d : Range) × (rangeOf m k ≡ some d) × (rangeWithin c d ≡ true)
   pub productions : (k p : ℕ) (ks : List ℕ) → argumentsOf l k p ≡ some ks → argumentsOf m k p ≡ some ks
 
 pub larger : (l m : Language) → Rising entryKey m → ((a : Entry) → Mem a l → Mem a m) → Larger l m
 larger l m rises h = record {
-  classes = λ k c e. mem-range m rises k (c .low) (c .high) (h _ (range-mem l k c e));
+  classes = λ k c e. (c, mem-range m rises k (c .low) (c .high) (h _ (range-mem l k c e)), within-itself c);
   productions = λ k p ks e. mem-arguments m rises k p ks (h _ (arguments-mem l k p ks e));
 }
 
@@ -38,7 +39,7 @@ module _ {l m : Language} (w : Larger l m) where
   mutual
     pub typed-larger : {r : List ℕ} {a : Code} {k : ℕ} → Typed l r a k → Typed m r a k
     typed-larger (typed-node e h) = typed-node (w .productions _ _ _ e) (typed-largerAll h)
-    typed-larger (typed-token e h) = typed-token (w .classes _ _ e) h
+    typed-larger (typed-token {v = v} {c = c} e h) = let d = w .classes _ c e in typed-token (d .1) (value-within c (d .0) (d .2) v h)
     typed-larger (typed-argument e) = typed-argument e
 
     pub typed-largerAll : {r : List ℕ} {t : Codes} {ks : List ℕ} → TypedAll l r t ks → TypedAll m r t ks
@@ -62,6 +63,19 @@ then-keeps f g (keeps-done {a = a} {r = r}) h = h a r
 then-keeps f g keeps-deep h = keeps-deep
 then-keeps f g keeps-broken h = keeps-broken
 
+-- A value that is read in a range is read in one that contains it.
+wider-keeps : (c d : Range) → rangeWithin c d ≡ true → (s : List ℕ) → Keeps (readToken (some c) s) (readToken (some d) s)
+unfolding readToken
+wider-keeps c d h [] = keeps-broken
+wider-keeps c d h (x ∷ []) = keeps-broken
+wider-keeps c d h (x ∷ y ∷ s) = go (inRange c (x * 256 + y)) (value-within c d h (x * 256 + y))
+  where
+    go : (b : Bool) → (b ≡ true → inRange d (x * 256 + y) ≡ true) → Keeps {A = Code}
+        (elim b [ true ↦ done (token (x * 256 + y)) s | false ↦ broken ])
+        (elim (inRange d (x * 256 + y)) [ true ↦ done (token (x * 256 + y)) s | false ↦ broken ])
+    go true k = rw (k refl) keeps-done
+    go false k = keeps-broken
+
 module _ {l m : Language} (w : Larger l m) (f g : ℕ → List ℕ → Read Code) (h : (k : ℕ) (s : List ℕ) → Keeps (f k s) (g k s)) where
   all-keeps : (ks s : List ℕ) → Keeps (readAll f ks s) (readAll g ks s)
   unfolding readAll
@@ -82,7 +96,7 @@ module _ {l m : Language} (w : Larger l m) (f g : ℕ → List ℕ → Read Code
   token-keeps : (k : ℕ) (s : List ℕ) (o : Option Range) → rangeOf l k ≡ o → Keeps (readToken o s) (readToken (rangeOf m k) s)
   unfolding readToken
   token-keeps k s none e = keeps-broken
-  token-keeps k s (some c) e = rw (w .classes k c e) (keeps-same (readToken (some c) s))
+  token-keeps k s (some c) e = let d = w .classes k c e in rw (d .1) (wider-keeps c (d .0) (d .2) s)
 
   level-keeps : (arguments : List ℕ) (k : ℕ) (s : List ℕ) → Keeps (readCodeLevel f l arguments k s) (readCodeLevel g m arguments k s)
   unfolding readCodeLevel

@@ -6,16 +6,14 @@ use mathlib.Core.Bool.{Bool, true, false, not, _&&_, Bool·beq}
 use mathlib.Core.Option.{Option, none, some}
 use mathlib.Core.List.{List, [], _∷_, map}
 use native.Mathlib.Omega.{arith}
-use lib.Dec.{eqb}
-use borrow.Author.Tests.{eqb-true, eq-eqb}
 use Rattle.fields.specs.Lists.{all, isSome}
 use Rattle.fields.specs.Outcome.{Result, value, refuseIf}
 use Rattle.fields.specs.declared.outcome.Reason.{Reason}
 use Rattle.fields.specs.declared.outcome.Reason.the-variants.{WrongMapping, WrongClauses, IllegalCode as CodeRefused}
-use Rattle.fields.proofs.Truth.{Mem, none-some, some-inj, false-true, and-both, both-and, same-truth, all-mem, mem-all, some-is, is-some, mem-count, true-not}
+use Rattle.fields.proofs.Truth.{Mem, none-some, some-inj, false-true, and-both, same-truth, all-mem, mem-all, some-is, is-some, mem-count, true-not}
 use Rattle.fields.proofs.Keyed.{Rising}
 use Rattle.fields.proofs.Codec.{refused-value}
-use Rattle.language.specs.Language.{Entry, class, production, entryKey, Range, isIn, rangeOf, argumentsOf}
+use Rattle.language.specs.Language.{Entry, class, production, Language, entryKey, Range, between, rangeWithin, isIn, rangeOf, argumentsOf}
 use Rattle.language.proofs.Lookup.{range-mem, arguments-mem, mem-arguments}
 use Rattle.reader.specs.Code.{Code}
 use Rattle.reader.specs.Syntax.{Read, done, deep, broken, code}
@@ -23,20 +21,20 @@ use Rattle.reader.proofs.Sound.{read-done}
 use Rattle.reader.proofs.Larger.{Larger, read-keeps, keeps}
 use Rattle.translation.specs.Translation.{Item, mapping, clause, Translation, itemKey, mappingOf, clauseOf, mapped}
 use Rattle.translation.specs.Running.{mappedArguments, readClause, wholeCode, clausesOf, codeLevels}
-use Rattle.translation.specs.WellFormed.{kinds, kindsMapped, reachesTarget, isRange, classKept, mappingFits, hasClause, hasProduction, clausesFit, codeFits, codesFit, wellFormed}
+use Rattle.translation.specs.WellFormed.{kinds, kindsMapped, reachesTarget, liesIn, classKept, mappingFits, hasClause, hasProduction, clausesFit, codeFits, codesFit, wellFormed}
 use Rattle.translation.proofs.Lookup.{mapping-mem, clause-mem, mem-mapping, mem-clause}
 use Rattle.translation.proofs.Preserved.{Carries}
 
--- The range of a class.
-abbrev pub between : ℕ → ℕ → Range
-between a b = record { low = a; high = b }
+-- The class of kind k contains the range from a to b.
+abbrev pub Contains : Language → ℕ → ℕ → ℕ → Type 0
+Contains l k a b = (d : Range) × (rangeOf l k ≡ some d) × (rangeWithin (between a b) d ≡ true)
 
 pub record Fitting (f : Translation) : Type 0 where
   -- Exactly the kinds in the source are mapped, each to a kind in the target.
   pub maps : (k : ℕ) → isIn (f .source) k ≡ true → (t : ℕ) × Mem (mapping k t) (f .body)
   pub mapsOnly : (s t : ℕ) → Mem (mapping s t) (f .body) → (isIn (f .source) s ≡ true) × (isIn (f .target) t ≡ true)
-  -- A source class maps to a target class of equal range.
-  pub classes : (k a b : ℕ) → Mem (class k a b) (f .source) → rangeOf (f .target) (mapped (f .body) k) ≡ some (between a b)
+  -- A source class maps to a target class that contains its range.
+  pub classes : (k a b : ℕ) → Mem (class k a b) (f .source) → Contains (f .target) (mapped (f .body) k) a b
   -- Each source production has a clause, and there is no other.
   pub clauses : (r p : ℕ) (ks : List ℕ) → Mem (production r p ks) (f .source) → (c : List ℕ) × Mem (clause r p c) (f .body)
   pub clausesOnly : (r p : ℕ) (c : List ℕ) → Mem (clause r p c) (f .body) → (ks : List ℕ) × Mem (production r p ks) (f .source)
@@ -59,14 +57,9 @@ equal-beq false false e = refl
 equal-beq true false e = false-true (sym e)
 equal-beq false true e = false-true e
 
-is-range : (a b : ℕ) (o : Option Range) → isRange a b o ≡ true → o ≡ some (between a b)
-is-range a b none e = false-true e
-is-range a b (some c) e =
-    let r = and-both (eqb (c .low) a) (eqb (c .high) b) e in
-    λ i. some (between (eqb-true (c .low) a (r .0) i) (eqb-true (c .high) b (r .1) i))
-
-range-is : (a b : ℕ) (o : Option Range) → o ≡ some (between a b) → isRange a b o ≡ true
-range-is a b o e = rw e (both-and (eqb a a) (eqb b b) (eq-eqb a a refl) (eq-eqb b b refl))
+lies-in : (c : Range) (o : Option Range) → liesIn c o ≡ true → (d : Range) × (o ≡ some d) × (rangeWithin c d ≡ true)
+lies-in c none e = false-true e
+lies-in c (some d) e = (d, refl, e)
 
 pub whole-done : (o : Read Code) (a : Code) → wholeCode o ≡ some a → o ≡ done a []
 whole-done (done c []) a e = ap (λ (x : Code). done x []) (some-inj e)
@@ -106,7 +99,7 @@ module _ (f : Translation) (below : KindsBelow f) (rises : Rising itemKey (f .bo
           sym (mapped-test (g .0) s (below .1 s t m)) ∙ is-some (mappingOf (f .body) s) (mem-mapping (f .body) rises s t m),
           all-mem (reachesTarget f) (f .body) (g .1) (mapping s t) m,
         );
-        classes = λ k a b m. is-range a b _ (all-mem (classKept f) (f .source) (g .2) (class k a b) m);
+        classes = λ k a b m. lies-in (between a b) _ (all-mem (classKept f) (f .source) (g .2) (class k a b) m);
         clauses = λ r p ks m.
             let q = some-is (clauseOf (f .body) r p) (all-mem (hasClause f) (f .source) (h .0) (production r p ks) m) in
             (q .0, clause-mem (f .body) r p (q .0) (q .1));
@@ -133,7 +126,7 @@ module _ (f : Translation) (below : KindsBelow f) (rises : Rising itemKey (f .bo
 
     kept : (a : Entry) → Mem a (f .source) → classKept f a ≡ true
     unfolding classKept
-    kept (class k a b) m = range-is a b _ (w .classes k a b m)
+    kept (class k a b) m = let d = w .classes k a b m in rw (d .1) (d .2)
     kept (production r p ks) m = refl
 
     has-clause : (a : Entry) → Mem a (f .source) → hasClause f a ≡ true

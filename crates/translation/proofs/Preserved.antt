@@ -1,11 +1,13 @@
 -- Typing is preserved by substitution and by a run (document 000: C.10, C.11).
 use Prim.Native.Nat.{ℕ, zero, suc}
 use mathlib.Core.Path.{_≡_, refl, ap}
+use mathlib.Core.Bool.{true}
 use mathlib.Core.Option.{some}
 use mathlib.Core.List.{List, [], _∷_, map}
 use lib.ListN.{getElem?}
 use Rattle.fields.proofs.Truth.{none-some, some-inj}
-use Rattle.language.specs.Language.{Language, Range, rangeOf, argumentsOf}
+use Rattle.language.specs.Language.{Language, Range, rangeWithin, rangeOf, argumentsOf}
+use Rattle.language.proofs.Ranges.{value-within}
 use Rattle.reader.specs.Code.{Code, Codes, cons}
 use Rattle.reader.specs.Typing.{Typed, TypedAll, typed-node, typed-token, typed-argument, typed-nil, typed-cons}
 use Rattle.translation.specs.Running.{nth, operand, substitute, substituteAll, Clauses, run, runAll}
@@ -13,7 +15,7 @@ use Rattle.translation.specs.Running.{nth, operand, substitute, substitu
 -- What the clauses f, with kinds mapped by `to`, must be from l to m (C.6).
 pub record Carries (l m : Language) (to : ℕ → ℕ) (f : Clauses) : Type 0 where
   pub nodes : (k p : ℕ) (ks : List ℕ) → argumentsOf l k p ≡ some ks → Typed m (map to ks) (f k p) (to k)
-  pub tokens : (k : ℕ) (c : Range) → rangeOf l k ≡ some c → rangeOf m (to k) ≡ some c
+  pub tokens : (k : ℕ) (c : Range) → rangeOf l k ≡ some c → (d : Range) × (rangeOf m (to k) ≡ some d) × (rangeWithin c d ≡ true)
 
 nth-typed : {l : Language} {r : List ℕ} {s : Codes} {ks : List ℕ} (i k : ℕ) → TypedAll l r s ks → getElem? ks i ≡ some k → Typed l r (nth s i) k
 unfolding nth
@@ -47,7 +49,7 @@ module _ {l m : Language} {to : ℕ → ℕ} {f : Clauses} (w : Carries l m to f
 
     pub typed-run : {r : List ℕ} {a : Code} {k : ℕ} → Typed l r a k → Typed m (map to r) (run f a) (to k)
     typed-run (typed-node e h) = typed-substitute (typed-runAll h) (w .nodes _ _ _ e)
-    typed-run (typed-token e h) = typed-token (w .tokens _ _ e) h
+    typed-run (typed-token {v = v} {c = c} e h) = let d = w .tokens _ c e in typed-token (d .1) (value-within c (d .0) (d .2) v h)
     typed-run (typed-argument {i = zero} e) = none-some e
     typed-run {r} (typed-argument {i = suc i} {k = k} e) = typed-argument (get-map to r i k e)
 

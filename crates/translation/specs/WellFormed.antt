@@ -3,11 +3,10 @@ use Prim.Native.Nat.{ℕ}
 use mathlib.Core.Bool.{Bool, true, false, not, _&&_, Bool·beq}
 use mathlib.Core.List.{List}
 use mathlib.Core.Option.{Option, none, some}
-use lib.Dec.{eqb}
 use Rattle.fields.specs.Outcome.{Result, value, refuseIf}
 use Rattle.fields.specs.declared.outcome.Reason.the-variants.{WrongMapping, WrongClauses, IllegalCode}
 use Rattle.fields.specs.Lists.{all, isSome, countUp}
-use Rattle.language.specs.Language.{Entry, class, production, Range, isIn, rangeOf, argumentsOf}
+use Rattle.language.specs.Language.{Entry, class, production, Range, between, rangeWithin, isIn, rangeOf, argumentsOf}
 use Rattle.translation.specs.Translation.{Translation, Item, mapping, clause, mappingOf, clauseOf, mapped}
 use Rattle.translation.specs.Running.{readClause, wholeCode}
 
@@ -24,14 +23,14 @@ unfoldable pub reachesTarget : Translation → Item → Bool
 reachesTarget f (mapping s t) = isIn (f .target) t
 reachesTarget f (clause r p code) = true
 
--- The range is there, with these bounds.
-abbrev pub isRange : ℕ → ℕ → Option Range → Bool
-isRange low high none = false
-isRange low high (some c) = eqb (c .low) low && eqb (c .high) high
+-- There is a range, and the first lies in it.
+abbrev pub liesIn : Range → Option Range → Bool
+liesIn c none = false
+liesIn c (some d) = rangeWithin c d
 
--- A source class maps to a target class of equal range.
+-- A source class maps to a target class that contains its range (paper 02, 2026-01).
 unfoldable pub classKept : Translation → Entry → Bool
-classKept f (class k low high) = isRange low high (rangeOf (f .target) (mapped (f .body) k))
+classKept f (class k low high) = liesIn (between low high) (rangeOf (f .target) (mapped (f .body) k))
 classKept f (production r p arguments) = true
 
 -- The mapping is as required: 5 where it is not.

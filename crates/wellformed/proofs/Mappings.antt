@@ -14,19 +14,19 @@ use Rattle.fields.specs.Fields.{pairAt}
 use Rattle.fields.specs.Inner.Places.{placesFrom, places, tagIs}
 use Rattle.fields.proofs.Lists.{all-stop, all-next, all-true}
 use Rattle.fields.proofs.Truth.{Mem, by-test, count-mem}
-use Rattle.language.specs.Language.{Entry, Language, isIn, rangeOf}
+use Rattle.language.specs.Language.{Entry, Language, between, rangeWithin, isIn, rangeOf}
 use Rattle.language.specs.LanguageFile.{entriesOf}
-use Rattle.language.specs.Inner.Entries.{entryWhole, entryAt}
+use Rattle.language.specs.Inner.Entries.{entryWhole, entryAt, classRange}
 use Rattle.language.proofs.Facts.{entry-facts, class-is, production-is}
 use Rattle.language.proofs.Holds.{holds-entries}
 use Rattle.reader.specs.Inner.Index.{rangeBefore, Sound}
 use Rattle.translation.specs.Translation.{Item, Body, Translation, mappingOf, mapped}
 use Rattle.translation.specs.TranslationFile.{bodyOf}
-use Rattle.translation.specs.WellFormed.{kinds, kindsMapped, reachesTarget, isRange, classKept, mappingFits}
+use Rattle.translation.specs.WellFormed.{kinds, kindsMapped, reachesTarget, liesIn, classKept, mappingFits}
 use Rattle.translation.specs.Inner.Items.{itemWhole, itemAt}
 use Rattle.translation.specs.Inner.ItemIndex.{targetBefore, mappedAt}
 use Rattle.wellformed.specs.Inner.Ready.{Ready}
-use Rattle.wellformed.specs.Inner.Tests.{mappedIf, reachesAt, sameRange, keptAt}
+use Rattle.wellformed.specs.Inner.Tests.{mappedIf, reachesAt, rangeKept, keptAt}
 use Rattle.translation.proofs.Items.{item-facts, mapping-is, clause-is, holds-items}
 use Rattle.translation.proofs.IndexedItems.{mapped-in, mapped-kind}
 use Rattle.translation.proofs.Front.{Front, front-clauses}
@@ -83,20 +83,15 @@ module _ (s : List ℕ) (p tag : ℕ) (table : List Bool) (et : tag ≡ getD s p
     pub reaches-out : length table ≤ k → false ≡ reachesAt s table p
     reaches-out h = sym (List·getD-eq-default {A = Bool} table false {n = k} h) ∙ reaches-in
 
--- same_range
+-- range_kept
 module _ (s : List ℕ) (p : ℕ) (t : List ℕ) (place : ℕ) where
-  pub range-none : place ≡ 0 → false ≡ sameRange s p t place
-  unfolding sameRange
-  range-none h = cc (eq-eqb place 0 h)
+  pub range-none : place ≡ 0 → false ≡ rangeKept s p t place
+  unfolding rangeKept
+  range-none h = cc
 
-  module _ (there : place ≡ 0 → ⊥) (x y : ℕ) (ex : x ≡ pairAt t (place + 3)) (ey : y ≡ pairAt s (p + 4)) where
-    pub range-low : (x ≡ y → ⊥) → false ≡ sameRange s p t place
-    unfolding sameRange
-    range-low h = cc (ne-eqb place 0 there, ne-eqb x y h)
-
-    pub range-high : x ≡ y → (z w : ℕ) → z ≡ pairAt t (place + 5) → w ≡ pairAt s (p + 6) → eqb z w ≡ sameRange s p t place
-    unfolding sameRange
-    range-high h z w ez ew = cc (ne-eqb place 0 there, eq-eqb x y h)
+  pub range-there : (place ≡ 0 → ⊥) → (x : Bool) → x ≡ rangeWithin (classRange s p) (classRange t (place - 1)) → x ≡ rangeKept s p t place
+  unfolding rangeKept
+  range-there h x ex = cc (ne-eqb place 0 h)
 
 -- kept_at
 module _ (s t it b ib : List ℕ) (p tag : ℕ) (et : tag ≡ getD s p 0) where
@@ -105,7 +100,7 @@ module _ (s t it b ib : List ℕ) (p tag : ℕ) (et : tag ≡ getD s p 0) where
   kept-other h = cc (ne-eqb tag 0x11 h)
 
   pub kept-class : tag ≡ 0x11 → (k place : ℕ) → k ≡ mappedAt b ib (getD s (p + 3) 0) → place ≡ getD it k 0
-      → (x : Bool) → x ≡ sameRange s p t place → x ≡ keptAt s t it b ib p
+      → (x : Bool) → x ≡ rangeKept s p t place → x ≡ keptAt s t it b ib p
   unfolding keptAt
   kept-class h k place ek ep x ex = cc (eq-eqb tag 0x11 h)
 
@@ -174,13 +169,10 @@ module _ (s t it b ib : List ℕ) (f : Translation) (z : Ready s t it b ib f) wh
       (item-facts b p w))
 
   range-same : (p place k : ℕ) → rangeOf (f .target) k ≡ rangeBefore t place
-      → sameRange s p t place ≡ isRange (pairAt s (p + 4)) (pairAt s (p + 6)) (rangeOf (f .target) k)
-  unfolding sameRange
+      → rangeKept s p t place ≡ liesIn (between (pairAt s (p + 4)) (pairAt s (p + 6))) (rangeOf (f .target) k)
+  unfolding rangeKept classRange
   range-same p zero k e = rw e
-  range-same p (suc q) k e =
-      let a : suc q + 3 ≡ q + 4 = omega arith in
-      let c : suc q + 5 ≡ q + 6 = omega arith in
-      rw (e, ne-eqb (suc q) 0 (λ h. omega arith), a, c)
+  range-same p (suc q) k e = let z : suc q - 1 ≡ q = omega arith in rw (e, ne-eqb (suc q) 0 (λ h. omega arith), z)
 
   pub kept-test : all (keptAt s t it b ib) (places s) ≡ all (classKept f) (f .source)
   unfolding keptAt classKept

@@ -1,4 +1,4 @@
-// The mapping: exactly the kinds in the source are mapped, each to a kind in the target, and classes keep their ranges.
+// The mapping: exactly the kinds in the source are mapped, each to a kind in the target, and classes to classes that contain them.
 ghost use mathlib.Core.Path.{_≡_};
 ghost use mathlib.Core.Bool.{true};
 ghost use mathlib.Core.Option.{some};
@@ -13,12 +13,12 @@ ghost use Rattle.translation.specs.TranslationFile.{bodyOf};
 ghost use Rattle.translation.specs.WellFormed.{mappingFits};
 ghost use Rattle.translation.specs.Inner.ItemIndex.{SoundKinds};
 ghost use Rattle.wellformed.specs.Inner.Ready.{Ready};
-ghost use Rattle.wellformed.specs.Inner.Tests.{mappedIf, reachesAt, sameRange, keptAt};
+ghost use Rattle.wellformed.specs.Inner.Tests.{mappedIf, reachesAt, rangeKept, keptAt};
 use super::kinds::mark_entries;
 use fields::bytes::byte_at;
-use fields::bytes::pair_at;
 use fields::bytes::to_usize;
 use fields::walk::whole_end;
+use language::range::range_within;
 use reader::node::place_at;
 use translation::index::target_kind;
 
@@ -81,21 +81,18 @@ fn targets_marked(s: &[u8], kinds: &[bool]) -> bool
     true
 }
 
-// The class at p of s and the class in t before `place` have equal ranges; there is no class at 0.
-fn same_range(s: &[u8], p: usize, t: &[u8], place: usize) -> bool
+// The range of the class at p of s lies in that of the class in t before `place`; there is no class at 0.
+fn range_kept(s: &[u8], p: usize, t: &[u8], place: usize) -> bool
     requires { ⌜ (p ≤ length (now s)) × (place ≤ length (now t)) ⌝ }
-    ensures { λ r. ⌜ r ≡ sameRange (now (s .entry)) p (now (t .entry)) place ⌝ }
+    ensures { λ r. ⌜ r ≡ rangeKept (now (s .entry)) p (now (t .entry)) place ⌝ }
 {
     if place == 0 {
         return false;
     }
-    if pair_at(t, place + 3) != pair_at(s, p + 4) {
-        return false;
-    }
-    pair_at(t, place + 5) == pair_at(s, p + 6)
+    range_within(s, p, t, place - 1)
 }
 
-// The class at p, if there is one, maps to a class of equal range.
+// The class at p, if there is one, maps to a class that contains its range.
 fn kept_at(
     source: &[u8],
     p: usize,
@@ -111,10 +108,10 @@ fn kept_at(
         return true;
     }
     let kind = target_kind(body, items, byte_at(source, p + 3));
-    same_range(source, p, target, place_at(targets, to_usize(kind)))
+    range_kept(source, p, target, place_at(targets, to_usize(kind)))
 }
 
-// Each source class maps to a target class of equal range.
+// Each source class maps to a target class that contains its range.
 fn classes_kept(source: &[u8], target: &[u8], targets: &[u16], body: &[u8], items: &[u16]) -> bool
     requires { ⌜ (all (entryWhole (now source)) (places (now source)) ≡ true) × Sound (now targets) (now target) × SoundKinds (now items) (now body) ⌝ }
     ensures { λ r. ⌜ r ≡ all (keptAt (now (source .entry)) (now (target .entry)) (now (targets .entry)) (now (body .entry)) (now (items .entry))) (places (now (source .entry))) ⌝ }

@@ -8,6 +8,7 @@ mod lengths;
 mod long;
 mod packs;
 mod random;
+mod ranges;
 mod terms;
 mod translations;
 mod trees;

@@ -3,6 +3,7 @@
 use super::damage::{damage, damage_bytes, damage_fields};
 use super::languages::{encoded, full_language, language};
 use super::random::Random;
+use super::ranges::{around, inside, related, with_one_range, with_ranges};
 use super::terms::{deepened, Names, TermWriter};
 use super::translations::{
     chain_code, counting_language, counting_translation, cut_mapping, endomorphism,
@@ -112,10 +113,25 @@ fn fitting_constants(random: &mut Random) -> Constants {
         let source = constants.language(&other.source);
         constants.body(source, target, &other.body);
     }
+    if random.percent(25) {
+        add_wider(random, &mut constants, &whole);
+    }
     if random.percent(10) {
         constants.language(&language(random));
     }
     constants
+}
+
+/// Adds the translation into a wider target, from its own source and from a wider one.
+fn add_wider(random: &mut Random, constants: &mut Constants, whole: &Translation) {
+    let source = with_ranges(random, &whole.source, around);
+    let ranges = Language { classes: source.classes.clone(), ..whole.target.clone() };
+    let target = with_ranges(random, &ranges, around);
+    let target = constants.language(&target);
+    for source in [&whole.source, &source] {
+        let source = constants.language(source);
+        constants.body(source, target, &whole.body);
+    }
 }
 
 /// A pack over fitting constants with a random term.
@@ -218,10 +234,7 @@ fn change_entry(random: &mut Random, language: &mut Language) {
     }
     let place = random.below(language.classes.len());
     match random.below(3) {
-        0 => {
-            let class = &mut language.classes[place];
-            class.high = class.low.max(class.high.wrapping_sub(1));
-        }
+        0 => with_one_range(random, language, related),
         1 => {
             let class = language.classes.remove(place);
             let production = Production::new(class.kind, random.byte(), &[]);
@@ -276,9 +289,76 @@ fn conflicting_sum(random: &mut Random) -> Vec<u8> {
             right = changed;
         }
     }
+    if random.percent(30) {
+        let mut changed = right.clone();
+        let on_target = random.percent(50);
+        let language = if on_target { &mut changed.target } else { &mut changed.source };
+        with_one_range(random, language, related);
+        if changed.check_well_formed().is_ok() {
+            right = changed;
+        }
+    }
     let left = constants.translation(&left);
     let right = constants.translation(&right);
     constants.pack(&[&[0x53][..], &left, &right].concat())
+}
+
+/// Translations by rising ranges: each target lies inside the source of the next.
+fn widening_chain(random: &mut Random) -> Vec<Translation> {
+    let base = language(random);
+    let mut chain: Vec<Translation> = Vec::new();
+    for _ in 0..random.within(2..=4) {
+        let Translation { source, target, body } = endomorphism(random, &base);
+        let classes = chain.last().map(|before| before.target.classes.clone());
+        let range = if classes.is_some() { around } else { inside };
+        let source = Language { classes: classes.unwrap_or(source.classes), ..source };
+        let source = with_ranges(random, &source, range);
+        let classes = if chain.is_empty() { &target.classes } else { &source.classes };
+        let wider = Language { classes: classes.clone(), productions: target.productions };
+        chain.push(Translation { source, target: with_ranges(random, &wider, around), body });
+    }
+    chain
+}
+
+/// Changes a range of one translation of a chain, or takes a class from its source.
+fn spoil_chain(random: &mut Random, chain: &mut [Translation]) {
+    let place = random.below(chain.len());
+    let value = &mut chain[place];
+    match random.below(4) {
+        0 => with_one_range(random, &mut value.target, related),
+        1 if !value.source.classes.is_empty() => {
+            let gone = random.below(value.source.classes.len());
+            value.source.classes.remove(gone);
+            let mapping = value.body.mapping;
+            value.body.mapping =
+                cut_mapping(&value.source, |kind| mapping[kind as usize].expect("mapped before"));
+        }
+        _ => with_one_range(random, &mut value.source, related),
+    }
+}
+
+/// Translations that widen, joined onto others that widen; some do not fit.
+fn widening_join(random: &mut Random) -> Vec<u8> {
+    let mut constants = Constants::default();
+    let mut chain = widening_chain(random);
+    if random.percent(50) {
+        spoil_chain(random, &mut chain);
+    }
+    let mut term: Vec<u8> = vec![];
+    let onto_last = random.percent(50);
+    for value in if onto_last { chain } else { chain.into_iter().rev().collect() } {
+        let mut next = constants.translation(&value);
+        if random.percent(15) {
+            let language = next[if onto_last { 2 } else { 4 }];
+            next = vec![0x55, 0x40, language];
+        }
+        term = match (term.is_empty(), onto_last) {
+            (true, _) => next,
+            (_, true) => [&[0x54], &next[..], &term].concat(),
+            (_, false) => [&[0x54], &term[..], &next].concat(),
+        };
+    }
+    constants.pack(&term)
 }
 
 /// A sign 50 whose value is over 4,096 bytes and may not be well formed.
@@ -456,6 +536,7 @@ fn pack_file(random: &mut Random) -> Vec<u8> {
         23 => overfull_body(random),
         24 => sum_with_change(random),
         25 => scoped_pack(random),
+        26..=28 => widening_join(random),
         _ => random_pack(random),
     }
 }
@@ -502,4 +583,35 @@ pub fn law_pack(random: &mut Random) -> LawPack {
 /// The pack with that term as its field 32.
 pub fn pack_with_term(pack: &LawPack, term: &[u8]) -> Vec<u8> {
     pack.constants.pack(term)
+}
+
+#[cfg(test)]
+mod tests {
+    use super::*;
+    use crate::language::Language;
+    use crate::reduce::reduce;
+    use crate::translation::read_translation;
+
+    /// Whether a class of one language is another in the other language.
+    fn differ(source: &Language, target: &Language) -> bool {
+        source.classes.iter().any(|class| !target.classes.contains(class))
+    }
+
+    #[test]
+    fn joins_that_widen_are_accepted_or_refused_by_their_ranges() {
+        let mut random = Random::new(1);
+        let (mut numbers, mut widened) = ([0; 18], 0);
+        for _ in 0..3000 {
+            let (mut workspace, mut output) = (vec![0; WORKSPACE_LEAST], vec![0; OUTPUT_LEAST]);
+            let outcome = reduce(&widening_join(&mut random), &mut workspace, &mut output);
+            numbers[outcome.number() as usize] += 1;
+            if outcome.number() == 0 {
+                let value = read_translation(&output[..outcome.length() as usize]);
+                let value = value.expect("what reduces is well formed");
+                widened += usize::from(differ(&value.source, &value.target));
+            }
+        }
+        let refused = [5, 13].map(|number| numbers[number]);
+        assert!(widened > 500 && refused.iter().all(|&count| count > 30), "{widened} {numbers:?}");
+    }
 }

@@ -6,6 +6,7 @@ use super::heights::Heights;
 use super::languages::{arguments, full_language, language, name};
 use super::long::long_run_case;
 use super::random::Random;
+use super::ranges::{inside, outside, related, with_one_range, with_ranges};
 use super::trees::root_and_tree;
 use crate::body::{Body, Clause, Clauses, Mapping};
 use crate::code::{Symbol, CODE_LEVELS};
@@ -45,14 +46,14 @@ fn whole_mapping(random: &mut Random, target: &Language, classes: &[(Class, u8)]
     whole
 }
 
-/// Source classes of equal range for some of the target's classes, by rising kind.
+/// Source classes for some of the target's classes, of equal range or inside, by rising kind.
 fn source_classes(random: &mut Random, target: &Language) -> Vec<(Class, u8)> {
     let mut table = BTreeMap::new();
     for class in &target.classes {
         for _ in 0..random.below(3) {
             let kind = if random.percent(60) { class.kind } else { random.below(KINDS) as u8 };
-            let copy = Class { kind, ..*class };
-            table.entry(kind).or_insert((copy, class.kind));
+            let range = if random.percent(50) { *class } else { inside(random, class) };
+            table.entry(kind).or_insert((Class { kind, ..range }, class.kind));
         }
     }
     table.into_values().collect()
@@ -169,6 +170,11 @@ pub fn endomorphism(random: &mut Random, language: &Language) -> Translation {
     trim(with_body(random, source, target, &whole, code), TRANSLATION_LIMIT)
 }
 
+/// The translation with a source whose classes lie inside those that they had.
+pub fn narrowed(random: &mut Random, translation: Translation) -> Translation {
+    Translation { source: with_ranges(random, &translation.source, inside), ..translation }
+}
+
 /// A translation of a language into itself whose clauses mostly arrange their arguments anew.
 pub fn arrangement(random: &mut Random, language: &Language) -> Translation {
     let whole = std::array::from_fn(|kind| kind as u8);
@@ -261,6 +267,14 @@ fn with_full_language(random: &mut Random, bytes: usize) -> Translation {
     Translation { source, target, body: Body::default() }
 }
 
+/// Changes the range of one class of the source or of the target so that it is likely wrong.
+fn wrong_range(random: &mut Random, translation: &mut Translation) {
+    let range = if random.percent(70) { outside } else { related };
+    let on_target = random.percent(20);
+    let Translation { source, target, .. } = translation;
+    with_one_range(random, if on_target { target } else { source }, range);
+}
+
 /// Changes one mapping so that it is likely wrong.
 fn wrong_mapping(random: &mut Random, translation: &mut Translation) {
     let kinds = translation.source.kinds();
@@ -338,7 +352,7 @@ fn clash(random: &mut Random, translation: &mut Translation) {
 
 /// Makes some of codes, clauses and mapping wrong.
 pub fn wrong_body(random: &mut Random, translation: &mut Translation) {
-    for wrong in [wrong_codes, wrong_clauses, wrong_mapping] {
+    for wrong in [wrong_codes, wrong_clauses, wrong_mapping, wrong_range] {
         if random.percent(50) {
             wrong(random, translation);
         }
@@ -365,7 +379,8 @@ pub fn translation_file(random: &mut Random) -> Vec<u8> {
         _ => translation(random),
     };
     match choice {
-        5..=7 => wrong_mapping(random, &mut value),
+        5 | 6 => wrong_mapping(random, &mut value),
+        7 | 26 => wrong_range(random, &mut value),
         8..=10 => wrong_clauses(random, &mut value),
         11..=14 => wrong_codes(random, &mut value),
         15 | 16 => clash(random, &mut value),
@@ -439,7 +454,12 @@ pub fn run_case(random: &mut Random) -> RunCase {
         0 => translation(random),
         _ => {
             let language = language(random);
-            endomorphism(random, &language)
+            let value = endomorphism(random, &language);
+            if random.percent(30) {
+                narrowed(random, value)
+            } else {
+                value
+            }
         }
     };
     let (root, tree) = root_and_tree(random, &value.source);

@@ -19,6 +19,27 @@ pub fn reduce_answer(pack: &[u8]) -> (u32, Vec<u8>) {
     (number, result.to_vec())
 }
 
+/// Ranges beside 5 to 9, with whether they are equal to it, and whether they lie inside it.
+pub const RANGES: [(u16, u16, bool, bool); 17] = [
+    (5, 9, true, true),
+    (6, 8, false, true),
+    (7, 7, false, true),
+    (5, 8, false, true),
+    (6, 9, false, true),
+    (5, 5, false, true),
+    (9, 9, false, true),
+    (4, 9, false, false),
+    (5, 10, false, false),
+    (4, 10, false, false),
+    (4, 5, false, false),
+    (9, 10, false, false),
+    (4, 4, false, false),
+    (10, 10, false, false),
+    (0, 3, false, false),
+    (11, 65_535, false, false),
+    (0, 65_535, false, false),
+];
+
 /// The translation that a pack reduces to.
 pub fn reduced(pack: &[u8]) -> Vec<u8> {
     let (number, result) = reduce_answer(pack);

@@ -11,7 +11,7 @@ use Rattle.fields.specs.Lists.{all, any}
 use Rattle.fields.specs.Fields.{byteAt, pairAt}
 use Rattle.fields.specs.Keyed.{rising}
 use Rattle.fields.specs.Inner.Places.{fieldEnd, isWhole, placesFrom, places, keyAt, tagIs}
-use Rattle.language.specs.Language.{Entry, class, production, Language}
+use Rattle.language.specs.Language.{Entry, class, production, Language, Range, between}
 use Rattle.language.specs.LanguageFile.{isKind}
 
 -- The length of the contents of the field at p.
@@ -45,6 +45,10 @@ entryAt s p =
     cond (eqb (byteAt s p) 0x11)
     (class (byteAt s (p + 3)) (pairAt s (p + 4)) (pairAt s (p + 6)))
     (production (byteAt s (p + 3)) (byteAt s (p + 4)) (slice (p + 5) (fieldEnd s p) s))
+
+-- The range of the class at p.
+unfoldable pub classRange : List ℕ → ℕ → Range
+classRange s p = between (pairAt s (p + 4)) (pairAt s (p + 6))
 
 -- The field at p is a whole class.
 pub record IsClass (s : List ℕ) (p : ℕ) : Type 0 where

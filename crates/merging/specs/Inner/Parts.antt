@@ -2,15 +2,16 @@
 -- `proofs/Encoded.antt` shows what this comes to for languages and for bodies.
 use Prim.Native.Nat.{ℕ, _+_, _<_, _≤_}
 use mathlib.Core.Path.{_≡_}
-use mathlib.Core.Bool.{Bool, true, false, cond, not, _&&_}
+use mathlib.Core.Bool.{Bool, true, false, cond, not, _&&_, _||_}
 use mathlib.Core.List.{List, [], _∷_, _++_, map}
 use lib.ListN.{length, take}
 use lib.Seq.{slice}
-use lib.Dec.{ltb, eqb}
+use lib.Dec.{ltb, leb, eqb}
 use Rattle.fields.specs.Lists.{all, concatMap, sameNumbers}
 use Rattle.fields.specs.Keyed.{rising, union, without, within, agree}
 use Rattle.fields.specs.Inner.Places.{fieldEnd, isWhole, longAt, placesFrom, keyAt}
-use Rattle.language.specs.Inner.Entries.{resultsMeet}
+use Rattle.language.specs.Language.{rangeWithin}
+use Rattle.language.specs.Inner.Entries.{classRange, resultsMeet}
 
 -- A field: its key, and all its bytes.
 pub record Part : Type 0 where
@@ -91,10 +92,26 @@ pub record Shared (leading : ℕ) (a b : List ℕ) (r : ℕ) : Type 0 where
   pub leftFrom : WholeFrom a r
   pub rightFrom : WholeFrom b r
 
--- The list begins with the field.
-abbrev pub leads : Part → List Part → Bool
-leads a [] = false
-leads a (b ∷ l) = samePart a b
+-- The first field lies in the second, in languages: keys below 32 are those of classes, which are compared by their
+-- ranges; productions are compared byte for byte.
+unfoldable pub partWithin : Part → Part → Bool
+partWithin a b =
+    eqb (a .key) (b .key)
+    && cond (ltb (a .key) 32) (rangeWithin (classRange (a .bytes) 0) (classRange (b .bytes) 0)) (sameNumbers (a .bytes) (b .bytes))
+
+-- A field whose key is below 32 has the eight bytes of a class.
+unfoldable pub classLong : Part → Bool
+classLong a = leb 32 (a .key) || leb 8 (length (a .bytes))
+
+-- The file is the entries of a language, and their keys rise.
+pub record SortedEntries (s : List ℕ) : Type 0 where
+  pub sorted : Sorted 0x11 s
+  pub classes : all classLong (parts 0x11 s) ≡ true
+
+-- The list begins with a field to which this one stands by the test.
+abbrev pub leads : (Part → Part → Bool) → Part → List Part → Bool
+leads alike a [] = false
+leads alike a (b ∷ l) = alike a b
 
 -- Two fields of one key that are not the same.
 unfoldable pub partsClash : Part → Part → Bool
@@ -108,9 +125,9 @@ united leading a b = bytesOf (union partKey (parts leading a) (parts leading b))
 unfoldable pub removed : ℕ → List ℕ → List ℕ → List ℕ
 removed leading a b = bytesOf (without samePart (parts leading a) (parts leading b))
 
--- Every field of the first file stands in the second.
-unfoldable pub liesWithin : ℕ → List ℕ → List ℕ → Bool
-liesWithin leading a b = within samePart (parts leading a) (parts leading b)
+-- Every entry of the first file lies in one of the second.
+unfoldable pub liesWithin : List ℕ → List ℕ → Bool
+liesWithin a b = within partWithin (parts 0x11 a) (parts 0x11 b)
 
 -- Fields of one key are the same in both files.
 unfoldable pub agrees : ℕ → List ℕ → List ℕ → Bool

@@ -1,13 +1,15 @@
 -- The tests of "well formed" by place, looked up through tables and indexes.
 -- `proofs/Mappings.antt` and `proofs/Coded.antt` show that they are those of `wellFormed`.
-use Prim.Native.Nat.{ℕ, _+_}
-use mathlib.Core.Bool.{Bool, true, false, cond, not, _&&_, Bool·beq}
+use Prim.Native.Nat.{ℕ, _+_, _-_}
+use mathlib.Core.Bool.{Bool, true, false, cond, not, Bool·beq}
 use mathlib.Core.List.{List, [], _∷_}
 use lib.ListN.{getD, set}
 use lib.Seq.{slice}
 use lib.Dec.{eqb}
-use Rattle.fields.specs.Fields.{byteAt, pairAt}
+use Rattle.fields.specs.Fields.{byteAt}
 use Rattle.fields.specs.Inner.Places.{fieldEnd}
+use Rattle.language.specs.Language.{rangeWithin}
+use Rattle.language.specs.Inner.Entries.{classRange}
 use Rattle.reader.specs.declared.node.Read.{Read}
 use Rattle.reader.specs.declared.node.Read.the-variants.{End, Deep, Broken}
 use Rattle.translation.specs.Inner.ItemIndex.{mappedAt}
@@ -34,16 +36,14 @@ mappedIf index kinds k = Bool·beq (not (eqb (getD index k 0) 0)) (getD kinds k 
 unfoldable pub reachesAt : List ℕ → List Bool → ℕ → Bool
 reachesAt s kinds p = cond (eqb (byteAt s p) 0x22) (getD kinds (byteAt s (p + 4)) false) true
 
--- The class at p of s and the class in t before `place` have equal ranges; there is no class at 0.
-unfoldable pub sameRange : List ℕ → ℕ → List ℕ → ℕ → Bool
-sameRange s p t place =
-    cond (eqb place 0) false
-    (eqb (pairAt t (place + 3)) (pairAt s (p + 4)) && eqb (pairAt t (place + 5)) (pairAt s (p + 6)))
+-- The range of the class at p of s lies in that of the class in t before `place`; there is no class at 0.
+unfoldable pub rangeKept : List ℕ → ℕ → List ℕ → ℕ → Bool
+rangeKept s p t place = cond (eqb place 0) false (rangeWithin (classRange s p) (classRange t (place - 1)))
 
--- The class at p, if there is one, maps to a class of equal range.
+-- The class at p, if there is one, maps to a class that contains its range.
 unfoldable pub keptAt : List ℕ → List ℕ → List ℕ → List ℕ → List ℕ → ℕ → Bool
 keptAt s t it b ib p =
-    cond (eqb (byteAt s p) 0x11) (sameRange s p t (getD it (mappedAt b ib (byteAt s (p + 3))) 0)) true
+    cond (eqb (byteAt s p) 0x11) (rangeKept s p t (getD it (mappedAt b ib (byteAt s (p + 3))) 0)) true
 
 -- What was read ends at n.
 abbrev pub endsAt : Read → ℕ → Bool

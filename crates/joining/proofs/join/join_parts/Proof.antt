@@ -1,5 +1,5 @@
 use borrow.Author.Tests.{not-true, not-false}
-use Rattle.operators.proofs.TranslationLaws.{source-sorted, target-sorted}
+use Rattle.operators.proofs.TranslationLaws.{source-entries, target-entries}
 use Rattle.joining.proofs.Joined.{parts-unfit, parts-fitted, parts-given}
 use borrow.Author.Needs.{needs}
 use Rattle.joining.proofs.join.join_parts.Statement.{statement}
@@ -10,7 +10,7 @@ use Rattle.joining.proofs.join.join_fitting.Reads as join-fitting-reads
 use Rattle.merging.proofs.within.lies_within.Reads as lies-within-reads
 
 lies-within-requires : tie.Need-lies-within-requires
-lies-within-requires c κs = (target-sorted _ _ _ _ (c .before .before .before .before .before .before .before .pre .1 .1), source-sorted _ _ _ _ (c .before .before .before .before .before .before .before .pre .0 .1))
+lies-within-requires c κs = (target-entries _ _ _ _ (c .before .before .before .before .before .before .before .pre .1 .1), source-entries _ _ _ _ (c .before .before .before .before .before .before .before .pre .0 .1))
 
 returns : tie.Need-returns
 returns c = λ f g p q. parts-unfit _ _ _ _ _ _ f g p q _ (c .before .lies-within .ensures) (not-true _ (c .if1 .taken)) _

@@ -1,9 +1,10 @@
+use Rattle.merging.specs.Inner.Parts.{samePart}
 use Rattle.merging.proofs.Walks.{head-whole, whole-here, head-here, stands-end, stands-other, stands-same, key-here}
 use Rattle.merging.proofs.meet.stands_at.Statement.{statement}
 use Rattle.merging.proofs.meet.stands_at.Tie as tie
 
 returns : tie.Need-returns
-returns c = stands-end _ (c .before .before .before .args .a .now) (c .before .before .before .args .p) (c .before .before .before .args .b .now) (c .before .before .before .args .q) (c .if1 .taken)
+returns c = stands-end _ (c .before .before .before .args .a .now) (c .before .before .before .args .p) (c .before .before .before .args .b .now) (c .before .before .before .args .q) samePart (c .if1 .taken)
 
 whole-key-requires : tie.Need-whole-key-requires
 whole-key-requires c κs = (c .before .before .before .pre .0) .long

@@ -1,48 +1,53 @@
 use borrow.Author.Needs.{needs}
 use Prim.Native.Nat.{_-_}
-use mathlib.Core.Path.{_≡_, refl}
 use lib.ListN.{length}
 use borrow.Author.Tests.{not-true, not-false}
-use Rattle.fields.specs.Keyed.{within}
-use Rattle.merging.specs.Inner.Parts.{samePart, partsFrom, liesWithin}
-use Rattle.merging.proofs.Walks.{whole-here, head-here, key-here}
-use Rattle.merging.proofs.Turns.{Rest, rest-start, rest-next, rest-sought, within-stop, within-on, within-end}
+use Rattle.merging.proofs.Walks.{head-here, key-here}
+use Rattle.merging.proofs.Turns.{rest-start}
 use Rattle.merging.proofs.Prefixes.{shared-within}
+use Rattle.merging.proofs.Containing.{Containing, containing-end, containing-meets, containing-stop, containing-on}
 use Rattle.merging.proofs.within.lies_within.Statement.{statement}
 use Rattle.merging.proofs.within.lies_within.Tie as tie
+use Rattle.merging.proofs.within.lies_within.Reads as reads
+use Rattle.merging.proofs.within.lies_within.Lts as lts
+use Rattle.fields.proofs.walk.whole_end.Reads as whole-end-reads
+use Rattle.fields.proofs.walk.whole_key.Reads as whole-key-reads
+use Rattle.merging.proofs.meet.lies_at.Reads as lies-at-reads
+use Rattle.merging.proofs.meet.seek.Reads as seek-reads
+use Rattle.merging.proofs.prefix.shared.Reads as shared-reads
 
 abbrev Inv-loop : tie.InvT-loop
-Inv-loop a b first start p₀ q₀ p q = (within samePart (partsFrom first a p) (partsFrom first b q) ≡ liesWithin first a b) × (Rest first a p × Rest first b q)
+Inv-loop a b start p₀ q₀ p q = Containing a b p q
 
 abbrev μ-loop : tie.MeasureT-loop
-μ-loop a b first start p₀ q₀ p q = length a - p
+μ-loop a b start p₀ q₀ p q = length a - p
 
 shared-requires : tie.Need-shared-requires Inv-loop μ-loop
-shared-requires c κs = (rest-start _ _ (c .before .before .pre .0) .from, rest-start _ _ (c .before .before .pre .1) .from)
+shared-requires c κs = (rest-start _ _ (c .before .before .pre .0 .sorted) .from, rest-start _ _ (c .before .before .pre .1 .sorted) .from)
 
 loop-holds : tie.Need-loop-holds Inv-loop μ-loop
-loop-holds c = shared-within _ _ _ _ (c .before .before .before .pre) (c .shared .ensures _)
+loop-holds c = shared-within _ _ _ (c .before .before .before .pre) (c .shared .ensures _)
 
 whole-key-requires : tie.Need-whole-key-requires Inv-loop μ-loop
-whole-key-requires c κs = key-here _ _ (c .before .loop .inv .1 .0 .from) (c .loop-test .taken)
-
-whole-end-requires : tie.Need-whole-end-requires Inv-loop μ-loop
-whole-end-requires c κs = head-here _ _ (c .before .before .before .before .before .loop .inv .1 .0 .from) (c .before .before .before .before .loop-test .taken)
+whole-key-requires c κs = key-here _ _ (c .before .loop .inv .left .from) (c .loop-test .taken)
 
 seek-requires : tie.Need-seek-requires Inv-loop μ-loop
-seek-requires c κs = c .before .before .loop .inv .1 .1 .from
+seek-requires c κs = c .before .before .loop .inv .right .from
 
-stands-at-requires : tie.Need-stands-at-requires Inv-loop μ-loop
-stands-at-requires c κs = (whole-here _ _ (c .before .before .before .loop .inv .1 .0 .from) (c .before .before .loop-test .taken), c .seek .ensures .from)
+lies-at-requires : tie.Need-lies-at-requires Inv-loop μ-loop
+lies-at-requires c κs = containing-meets _ _ _ _ (c .before .before .before .loop .inv) (c .before .before .loop-test .taken) _ (c .before .whole-key .ensures .0) _ (c .seek .ensures)
 
 returns : tie.Need-returns Inv-loop μ-loop
-returns c = within-stop (c .before .before .before .before .before .before .before .before .before .args .leading-tag) (c .before .before .before .before .before .before .before .before .before .args .a .now) (c .before .before .before .before .before .before .before .before .before .args .b .now) (c .before .before .before .before .before .loop .p) (c .before .before .before .before .before .loop .q) (c .before .before .before .before .before .loop .inv .1 .0) (c .before .before .before .before .before .loop .inv .1 .1) (c .before .before .before .before .loop-test .taken) _ (c .before .before .before .whole-key .ensures .0) _ (c .before .before .seek .ensures) _ refl _ (c .before .stands-at .ensures) _ (c .before .before .before .before .before .loop .inv .0) (not-true _ (c .if1 .taken))
+returns c = containing-stop _ _ _ _ (c .before .before .before .before .before .loop .inv) (c .before .before .before .before .loop-test .taken) _ (c .before .before .before .whole-key .ensures .0) _ (c .before .before .seek .ensures) _ (c .before .lies-at .ensures) (not-true _ (c .if1 .taken))
+
+whole-end-requires : tie.Need-whole-end-requires Inv-loop μ-loop
+whole-end-requires c κs = head-here _ _ (c .before .before .before .before .before .loop .inv .left .from) (c .before .before .before .before .loop-test .taken)
 
 loop-again : tie.Need-loop-again Inv-loop μ-loop
-loop-again c = (within-on (c .before .before .before .before .before .before .before .before .before .before .args .leading-tag) (c .before .before .before .before .before .before .before .before .before .before .args .a .now) (c .before .before .before .before .before .before .before .before .before .before .args .b .now) (c .before .before .before .before .before .before .loop .p) (c .before .before .before .before .before .before .loop .q) (c .before .before .before .before .before .before .loop .inv .1 .0) (c .before .before .before .before .before .before .loop .inv .1 .1) (c .before .before .before .before .before .loop-test .taken) _ (c .before .before .before .before .whole-key .ensures .0) _ (c .before .before .before .seek .ensures) _ (c .whole-end .ensures .is) _ (c .before .before .stands-at .ensures) _ (c .before .before .before .before .before .before .loop .inv .0) (not-false _ (c .before .if1 .left)), (rest-next _ _ _ (c .before .before .before .before .before .before .loop .inv .1 .0) (c .before .before .before .before .before .loop-test .taken) _ (c .whole-end .ensures .is), rest-sought _ _ _ _ _ (c .before .before .before .before .before .before .loop .inv .1 .1) (c .before .before .before .seek .ensures)))
+loop-again c = containing-on _ _ _ _ (c .before .before .before .before .before .before .loop .inv) (c .before .before .before .before .before .loop-test .taken) _ (c .before .before .before .before .whole-key .ensures .0) _ (c .before .before .before .seek .ensures) _ (c .before .before .lies-at .ensures) (not-false _ (c .before .if1 .left)) _ (c .whole-end .ensures .is)
 
 returns-2 : tie.Need-returns-2 Inv-loop μ-loop
-returns-2 c = within-end (c .before .before .before .before .before .args .leading-tag) (c .before .before .before .before .before .args .a .now) (c .before .before .before .before .before .args .b .now) (c .before .loop .p) (c .before .loop .q) (c .loop-test .left) _ (c .before .loop .inv .0)
+returns-2 c = containing-end _ _ _ _ (c .before .loop .inv) (c .loop-test .left)
 
 pub lies-within-spec : {M : Type 1} → statement M
 lies-within-spec =
@@ -54,7 +59,7 @@ lies-within-spec =
     loop-holds
     whole-key-requires
     seek-requires
-    stands-at-requires
+    lies-at-requires
     returns
     whole-end-requires
     (λ c. search needs)

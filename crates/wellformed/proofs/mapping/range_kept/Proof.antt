@@ -1,0 +1,16 @@
+use Rattle.wellformed.proofs.Mappings.{range-none, range-there}
+use borrow.Author.Needs.{needs}
+use Rattle.wellformed.proofs.mapping.range_kept.Statement.{statement}
+use Rattle.wellformed.proofs.mapping.range_kept.Tie as tie
+use Rattle.wellformed.proofs.mapping.range_kept.Reads as reads
+use Rattle.wellformed.proofs.mapping.range_kept.Lts as lts
+use Rattle.language.proofs.range.range_within.Reads as range-within-reads
+
+returns : tie.Need-returns
+returns c = range-none _ _ _ _ (c .if1 .taken)
+
+returns-2 : tie.Need-returns-2
+returns-2 c = range-there _ _ _ _ (c .before .if1 .left) _ (c .range-within .ensures)
+
+pub range-kept-spec : {M : Type 1} → statement M
+range-kept-spec = tie.close (tie.spec returns (λ c. search needs) (λ c κs. search needs) returns-2)
