@@ -14,7 +14,7 @@ use Rattle.fields.proofs.Codec.{Bytes}
 use Rattle.language.specs.Language.{Language, Range, rangeOf, argumentsOf, inRange}
 use Rattle.reader.specs.Code.{Code, node, token, argument, Codes, cons, levels, levelsAll}
 use Rattle.reader.specs.Typing.{kindAt, Typed, TypedAll, typed-node, typed-token, typed-argument, typed-nil, typed-cons}
-use Rattle.reader.specs.Syntax.{Syntax, tree, code, sign, write, writeAll, Read, done, deep, broken, andThen, readAll, readOperands, readNode, readToken, isThe, readArgument, readTreeLevel, readCodeLevel, readLevel, current, pastLevels, readBy, read}
+use Rattle.reader.specs.Syntax.{Syntax, tree, code, sign, write, writeAll, Read, done, deep, broken, andThen, readAll, readOperands, readNode, readToken, isThe, readArgument, readTreeLevel, readCodeLevel, readLevel, earlier, current, pastLevels, readBy, read}
 
 -- The bytes were consumed: they are what the code is written as, and the rest.
 abbrev pub Consumed : List ℕ → List ℕ → List ℕ → Type 0
@@ -267,3 +267,11 @@ more-levels x l arguments zero (suc m) k s h = past-more x l arguments (read x l
 more-levels x l arguments (suc n) zero k s h = absurd (omega arith)
 more-levels x l arguments (suc n) (suc m) k s h =
     level-more (read x l arguments n) (read x l arguments m) (λ j r. more-levels x l arguments n m j r (omega arith)) l x arguments k s
+
+-- The current rule changes nothing but the refusal of the earlier one.
+pub rules-more : (x : Syntax) (l : Language) (arguments : List ℕ) (n k : ℕ) (s : List ℕ)
+    → More (readBy earlier x l arguments n k s) (read x l arguments n k s)
+unfolding readBy pastLevels
+rules-more x l arguments zero k s = inl refl
+rules-more x l arguments (suc n) k s =
+    level-more (readBy earlier x l arguments n) (read x l arguments n) (λ j r. rules-more x l arguments n j r) l x arguments k s
