@@ -13,7 +13,7 @@ use reference::library;
 use std::hint::black_box;
 
 /// Sizes of the trees in bytes, about.
-const SIZES: [(&str, usize); 3] = [("1 KB", 1000), ("100 KB", 100_000), ("10 MB", 10_000_000)];
+const SIZES: [(&str, usize); 3] = [("1 KB", 1000), ("100 KB", 100_000), ("8 MB", 10_000_000)];
 
 /// Prints one line: what was measured, the times, the times for a byte and the ratio.
 fn print_line(name: &str, bytes: usize, timing: Timing) {
@@ -74,10 +74,10 @@ fn trees() -> [Vec<u8>; 3] {
     SIZES.map(|(_, bytes)| inputs::wide_tree(bytes))
 }
 
-/// Prints the time for a byte at 10 MB over that at 100 KB, for both sides.
+/// Prints the time for a byte at 8 MB over that at 100 KB, for both sides.
 fn print_growth(name: &str, growth: Growth) {
     println!(
-        "{name}: ns/byte at 10 MB over 100 KB: library {:.2}, reference {:.2}",
+        "{name}: ns/byte at 8 MB over 100 KB: library {:.2}, reference {:.2}",
         growth.library, growth.reference
     );
 }
