@@ -4,7 +4,7 @@ use crate::field::two_bytes;
 use crate::grammar::Grammar;
 use crate::language::ARGUMENTS;
 
-/// Code has at most this many levels.
+/// Code has at most this many levels: each 01 and 03 is one, 02 is none.
 pub const CODE_LEVELS: u32 = 16;
 
 pub const PRODUCTION_SIGN: u8 = 1;
@@ -52,6 +52,14 @@ impl Symbol {
         match self {
             Symbol::Token(_) => 3,
             _ => 2,
+        }
+    }
+
+    /// The number of levels that the symbol is: none or one.
+    pub fn levels(self) -> u32 {
+        match self {
+            Symbol::Token(_) => 0,
+            _ => 1,
         }
     }
 }
@@ -103,21 +111,19 @@ fn read_code<'a>(
     code: &'a [u8],
     levels: u32,
 ) -> Option<&'a [u8]> {
-    if levels == 0 {
-        return None;
-    }
     let (symbol, mut rest) = Symbol::split(code)?;
     match symbol {
+        Symbol::Token(value) => {
+            let class = target.class(kind)?;
+            (class.low <= value && value <= class.high).then_some(rest)
+        }
+        _ if levels == 0 => None,
         Symbol::Production(name) => {
             let production = target.production(target.place(kind, name)?);
             for &argument in production.arguments() {
                 rest = read_code(target, arguments, argument, rest, levels - 1)?;
             }
             Some(rest)
-        }
-        Symbol::Token(value) => {
-            let class = target.class(kind)?;
-            (class.low <= value && value <= class.high).then_some(rest)
         }
         Symbol::Argument(number) => (arguments.get(number)? == kind).then_some(rest),
     }
@@ -129,7 +135,7 @@ pub struct Node {
     pub symbol: Symbol,
     /// The kind of the code that starts here.
     pub kind: u8,
-    /// The level, 1 at the root.
+    /// The level, 1 at the root; that of a token counts for nothing.
     pub level: u32,
     /// Where the code that starts here ends in the list of nodes.
     pub end: usize,

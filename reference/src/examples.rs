@@ -161,9 +161,10 @@ fn refused_runs() -> Vec<Example> {
         refused("an empty tree", run(1, &[], 9), 15),
         refused("a byte left over", run(1, &[1, 0, 5, 0], 9), 15),
         refused("root 9", run(9, &[1, 0, 5], 9), 14),
-        refused("62 times 04: 64 levels", run(1, &chain(62), LONG_OUTPUT), 17),
-        refused("62 times 04, no output", run(1, &chain(62), 0), 17),
-        refused("63 times 04: 65 levels", run(1, &chain(63), LONG_OUTPUT), 16),
+        refused("62 times 04: 63 levels", run(1, &chain(62), LONG_OUTPUT), 17),
+        refused("63 times 04: 64 levels", run(1, &chain(63), LONG_OUTPUT), 17),
+        refused("63 times 04, no output", run(1, &chain(63), 0), 17),
+        refused("64 times 04: 65 levels", run(1, &chain(64), LONG_OUTPUT), 16),
         refused("10 times 04, one byte short", run(1, &chain(10), 4094), 17),
     ]
 }

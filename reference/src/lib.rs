@@ -6,6 +6,8 @@
 
 mod body;
 mod code;
+#[cfg(test)]
+mod earlier;
 mod field;
 mod grammar;
 mod language;

@@ -186,7 +186,7 @@ impl OuterClause {
                 *deepest = node.level.max(*deepest);
             } else {
                 own.bytes += node.symbol.length();
-                own.levels = node.level.max(own.levels);
+                own.levels = (node.level - 1 + node.symbol.levels()).max(own.levels);
             }
         }
         OuterClause { nodes, own, uses }
@@ -223,7 +223,7 @@ impl Joiner<'_> {
     fn measure(&self, nodes: &[Node], start: usize) -> Size {
         let node = nodes[start];
         let Symbol::Production(name) = node.symbol else {
-            return Size { bytes: node.symbol.length(), levels: 1 };
+            return Size { bytes: node.symbol.length(), levels: node.symbol.levels() };
         };
         let mut arguments = [Size::default(); ARGUMENTS];
         for (argument, start) in arguments.iter_mut().zip(argument_starts(nodes, start)) {

@@ -34,7 +34,7 @@ pub enum Refusal {
     Root = 14,
     /// Not a legal tree.
     Tree = 15,
-    /// A tree of more than 64 levels.
+    /// A tree of more than 64 levels; a token is none.
     Depth = 16,
     /// The result is longer than the output.
     Output = 17,

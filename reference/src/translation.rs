@@ -54,7 +54,7 @@ impl Translation {
     }
 
     /// Whether exactly the kinds of the source are mapped, each as it must be.
-    fn maps_as_required(&self) -> bool {
+    pub fn maps_as_required(&self) -> bool {
         let target_kinds = self.target.kinds();
         let lands_in_target =
             |kind: &Option<u8>| kind.is_none_or(|kind| target_kinds & bit(kind) != 0);
@@ -77,7 +77,7 @@ impl Translation {
     }
 
     /// Whether each source production has exactly one clause, and no clause is left over.
-    fn has_all_clauses(&self) -> bool {
+    pub fn has_all_clauses(&self) -> bool {
         let keys = self.body.clauses.iter().map(|clause| clause.key);
         keys.eq(self.source.productions.iter().map(Production::key))
     }
@@ -112,8 +112,8 @@ fn decode_language(fields: &mut Fields, tag: u8) -> Result<Draft<Language>, Refu
     Language::decode(field.contents)
 }
 
-/// Reads a translation that must pass the whole check.
-pub fn read_translation(bytes: &[u8]) -> Result<Translation, Refusal> {
+/// Reads a translation whose fields and languages must pass their checks.
+pub fn read_fields(bytes: &[u8]) -> Result<Translation, Refusal> {
     require(bytes.len() <= TRANSLATION_LIMIT, Refusal::TooLong)?;
     let over = states_over(bytes, &[SOURCE_TAG, TARGET_TAG], LANGUAGE_LIMIT);
     require(!over, Refusal::TooLong)?;
@@ -122,6 +122,12 @@ pub fn read_translation(bytes: &[u8]) -> Result<Translation, Refusal> {
     let translation = draft.value;
     let clash = translation.source.clashes() || translation.target.clashes();
     require(!clash, Refusal::Clash)?;
+    Ok(translation)
+}
+
+/// Reads a translation that must pass the whole check.
+pub fn read_translation(bytes: &[u8]) -> Result<Translation, Refusal> {
+    let translation = read_fields(bytes)?;
     translation.check_well_formed()?;
     Ok(translation)
 }

@@ -5,7 +5,7 @@ use crate::grammar::Grammar;
 use crate::language::{bit, read_language, Class, Language, KINDS};
 use crate::outcome::{require, Outcome, Refusal};
 
-/// Trees handed in have at most this many levels.
+/// Trees handed in have at most this many levels; a token is none, any other node is one.
 pub const TREE_LEVELS: usize = 64;
 
 /// What is counted while a tree is read: each node has a weight handed down from its parent.
@@ -46,7 +46,6 @@ impl<T: Tally> Reader<'_, T> {
     /// Reads a tree of a kind with at most `levels` levels.
     #[inline]
     fn read(&mut self, kind: u8, levels: usize, weight: T::Weight) -> Result<(), Refusal> {
-        require(levels > 0, Refusal::Depth)?;
         match self.grammar.class(kind) {
             Some(class) => self.read_token(class, weight),
             None => self.read_production(kind, levels, weight),
@@ -66,13 +65,14 @@ impl<T: Tally> Reader<'_, T> {
         Ok(())
     }
 
-    /// Reads a production's name and its argument trees.
+    /// Reads a production's name and its argument trees, if a level is left for it.
     fn read_production(
         &mut self,
         kind: u8,
         levels: usize,
         weight: T::Weight,
     ) -> Result<(), Refusal> {
+        require(levels > 0, Refusal::Depth)?;
         let (&name, rest) = self.rest.split_first().ok_or(Refusal::Tree)?;
         let place = self.grammar.place(kind, name).ok_or(Refusal::Tree)?;
         self.rest = rest;

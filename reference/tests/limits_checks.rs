@@ -106,14 +106,46 @@ fn chain_number(root: u32, links: usize, end: &[u8]) -> u32 {
 fn levels_of_a_tree() {
     assert_eq!(chain_number(1, 63, &[0]), 0);
     assert_eq!(chain_number(1, 64, &[0]), 16);
-    assert_eq!(chain_number(1, 62, &[2, 0, 5]), 0);
-    assert_eq!(chain_number(1, 63, &[2, 0, 5]), 16);
-    assert_eq!(chain_number(1, 63, &[2]), 16);
     assert_eq!(chain_number(1, 64, &[]), 16);
     assert_eq!(chain_number(1, 63, &[]), 15);
     assert_eq!(chain_number(1, 64, &[99]), 16);
     assert_eq!(chain_number(1, 63, &[99]), 15);
     assert_eq!(chain_number(1, 10, &[99, 1, 1]), 15);
+}
+
+#[test]
+fn a_token_of_a_tree_is_no_level() {
+    assert_eq!(chain_number(1, 62, &[2, 0, 5]), 0);
+    assert_eq!(chain_number(1, 63, &[2, 0, 5]), 0);
+    assert_eq!(chain_number(1, 64, &[2, 0, 5]), 16);
+    assert_eq!(chain_number(1, 63, &[2]), 15);
+    assert_eq!(chain_number(1, 63, &[2, 0]), 15);
+    assert_eq!(chain_number(1, 63, &[2, 0, 4]), 15);
+    assert_eq!(chain_number(1, 63, &[2, 0, 10]), 15);
+    assert_eq!(chain_number(1, 63, &[2, 0, 5, 0]), 15);
+    assert_eq!(chain_number(1, 64, &[2]), 16);
+}
+
+#[test]
+fn an_undefined_kind_of_a_tree_is_a_level() {
+    let language = [
+        class(2, 5, 9),
+        production(1, 1, &[1]),
+        production(1, 2, &[7]),
+        production(1, 3, &[2, 7]),
+        production(1, 4, &[7, 2]),
+    ];
+    let number = |links: usize, end: &[u8]| {
+        check_tree(&language.concat(), 1, &[&vec![1; links], end].concat()).number()
+    };
+    for end in [&[2][..], &[2, 0], &[3, 0, 5], &[3, 0, 5, 0], &[4], &[4, 0, 5], &[4, 0, 0, 5]] {
+        assert_eq!(number(62, end), 15, "{end:?}");
+        assert_eq!(number(63, end), 16, "{end:?}");
+    }
+    assert_eq!(number(63, &[3, 0, 4]), 15);
+    assert_eq!(number(63, &[3, 0]), 15);
+    assert_eq!(number(63, &[3]), 15);
+    assert_eq!(number(64, &[]), 16);
 }
 
 #[test]
@@ -157,13 +189,33 @@ fn levels_of_a_code() {
     assert_eq!(translation_number(&with_code(&chain_code(17))), 7);
     let token = |links: usize| [[1, 1].repeat(links), vec![1, 2, 2, 0, 5]].concat();
     assert_eq!(translation_number(&with_code(&token(14))), 0);
-    assert_eq!(translation_number(&with_code(&token(15))), 7);
+    assert_eq!(translation_number(&with_code(&token(15))), 0);
+    assert_eq!(translation_number(&with_code(&token(16))), 7);
     let argument = |links: usize| {
         let body = [mapping(1, 1), clause(1, 0, &[[1, 1].repeat(links), vec![3, 1]].concat())];
         translation(&production(1, 0, &[1]), &chains(), &body.concat())
     };
     assert_eq!(translation_number(&argument(15)), 0);
     assert_eq!(translation_number(&argument(16)), 7);
+}
+
+#[test]
+fn below_the_last_level_of_a_code_there_are_tokens_only() {
+    let source = [class(2, 5, 9), production(1, 0, &[2])].concat();
+    let number = |links: usize, end: &[u8]| {
+        let code = [&[1, 1].repeat(links), end].concat();
+        let body = [mapping(1, 1), mapping(2, 2), clause(1, 0, &code)].concat();
+        translation_number(&translation(&source, &chains(), &body))
+    };
+    assert_eq!(number(15, &[1, 2, 2, 0, 5]), 0);
+    assert_eq!(number(15, &[1, 2, 2, 0, 4]), 7);
+    assert_eq!(number(15, &[1, 2, 2, 0, 10]), 7);
+    assert_eq!(number(15, &[1, 2, 2, 0]), 7);
+    assert_eq!(number(15, &[1, 2, 2, 0, 5, 2]), 7);
+    assert_eq!(number(14, &[1, 2, 3, 1]), 0);
+    assert_eq!(number(15, &[1, 2, 3, 1]), 7);
+    assert_eq!(number(15, &[1, 1, 1, 0]), 7);
+    assert_eq!(number(15, &[1, 0]), 0);
 }
 
 #[test]

@@ -432,6 +432,59 @@ fn levels_of_a_join() {
 }
 
 #[test]
+fn a_token_of_a_join_is_no_level() {
+    let language =
+        [class(2, 5, 9), production(1, 1, &[1]), production(1, 3, &[2]), production(1, 4, &[1])];
+    let source = [class(2, 5, 9), production(3, 0, &[2]), production(3, 1, &[4])].concat();
+    let number = |token: &[u8], links: usize, end: &[u8]| {
+        let outer = [
+            mapping(1, 1),
+            mapping(2, 2),
+            clause(1, 1, &[1, 1, 1, 1, 3, 1]),
+            clause(1, 3, token),
+            clause(1, 4, &[3, 1]),
+        ];
+        let code = [&[1, 1].repeat(links), end].concat();
+        let inner = [
+            mapping(2, 2),
+            mapping(3, 1),
+            mapping(4, 1),
+            clause(3, 0, &code),
+            clause(3, 1, &[1, 4, 3, 1]),
+        ];
+        let term = [0x54, 0x50, 0x40, 0, 0x40, 0, 0, 0x50, 0x40, 1, 0x40, 0, 1];
+        let languages = [language.concat(), source.clone()];
+        reduce_number(&pack(&languages, &[outer.concat(), inner.concat()], &term))
+    };
+    let kept: &[u8] = &[1, 3, 3, 1];
+    assert_eq!(number(kept, 7, &[1, 3, 2, 0, 5]), 0);
+    assert_eq!(number(kept, 7, &[1, 3, 3, 1]), 0);
+    assert_eq!(number(kept, 8, &[1, 3, 2, 0, 5]), 11);
+    let deeper: &[u8] = &[1, 4, 1, 3, 3, 1];
+    assert_eq!(number(deeper, 7, &[1, 3, 2, 0, 5]), 0);
+    assert_eq!(number(deeper, 7, &[1, 3, 3, 1]), 11);
+    assert_eq!(number(deeper, 6, &[1, 3, 3, 1]), 0);
+    let dropped: &[u8] = &[1, 4, 1, 3, 2, 0, 9];
+    assert_eq!(number(dropped, 7, &[1, 3, 3, 1]), 0);
+    let longer: &[u8] = &[1, 4, 1, 4, 1, 3, 3, 1];
+    assert_eq!(number(longer, 7, &[1, 3, 2, 0, 5]), 11);
+    assert_eq!(number(longer, 6, &[1, 3, 2, 0, 5]), 0);
+}
+
+#[test]
+fn a_join_that_is_a_token_alone_has_no_level() {
+    let language = [class(2, 5, 9), production(1, 0, &[])].concat();
+    let outer = [mapping(1, 2), mapping(2, 2), clause(1, 0, &[2, 0, 6])].concat();
+    let inner = [mapping(1, 2), mapping(2, 2), clause(1, 0, &[2, 0, 7])].concat();
+    let (languages, bodies) = ([language.clone()], [outer.clone(), inner.clone()]);
+    let value = |first: u8, second: u8| {
+        reduced(&pack(&languages, &bodies, &[vec![0x54], endo(first), endo(second)].concat()))
+    };
+    assert_eq!(value(0, 1), translation(&language, &language, &inner));
+    assert_eq!(value(1, 0), translation(&language, &language, &outer));
+}
+
+#[test]
 fn bytes_of_a_join_are_measured_without_overflow() {
     let many = [[1, 2, 3, 1].repeat(15), vec![3, 1]].concat();
     let first = counting_body(&[1, 0], &many, &[3, 1]);
@@ -514,6 +567,21 @@ fn lengths_of_a_run_do_not_wrap() {
         let tree = [vec![1; links], vec![0]].concat();
         assert_eq!(ran(&counting_body(&[1, 0], &four, &[3, 1]), &tree, 100).0, 17);
     }
+}
+
+#[test]
+fn levels_of_a_run_are_those_of_productions() {
+    let language = [class(2, 5, 9), production(1, 1, &[1]), production(1, 3, &[2])].concat();
+    let body = [mapping(1, 1), mapping(2, 2), clause(1, 1, &[3, 1]), clause(1, 3, &[1, 3, 3, 1])];
+    let value = translation(&language, &language, &body.concat());
+    let number = |links: usize, end: &[u8], output: usize| {
+        run(&value, 1, &[&vec![1; links], end].concat(), &mut vec![0; output]).number()
+    };
+    assert_eq!(number(63, &[3, 0, 5], 3), 0);
+    assert_eq!(number(63, &[3, 0, 5], 2), 17);
+    assert_eq!(number(63, &[3, 0, 4], 2), 15);
+    assert_eq!(number(64, &[3, 0, 5], 3), 16);
+    assert_eq!(number(64, &[], 3), 16);
 }
 
 #[test]

@@ -68,22 +68,11 @@ name-some Code e = omega arith
 pub set-long : (l : List ℕ) (i a : ℕ) → length l ≡ 64 → length (set l i a) ≡ 64
 set-long l i a e = length-set l i a ∙ e
 
--- Terms of no kinds have no bytes, and of some at least one level.
+-- Terms of no kinds have no bytes.
 all-none : (x : Syntax) {l : Language} {given : List ℕ} (ts : Codes) (ks : List ℕ) → TypedAll l given ts ks → length ks ≡ 0 → length (allBytes x ts) ≡ 0
 unfolding writeAll
 all-none x nil [] typed-nil z = refl
 all-none x (cons a ts) (k ∷ ks) (typed-cons p ps) z = absurd (omega arith)
-
-a-level : (u : Terms.Code) → 0 < levels u
-unfolding levels
-a-level (node k p ts) = omega arith
-a-level (token v) = omega arith
-a-level (argument i) = omega arith
-
-some-levels : {l : Language} {given : List ℕ} (ts : Codes) (ks : List ℕ) → TypedAll l given ts ks → (length ks ≡ 0 → ⊥) → 0 < levelsAll ts
-unfolding levelsAll
-some-levels nil [] typed-nil z = absurd (z refl)
-some-levels (cons a ts) (k ∷ ks) (typed-cons p ps) z = omega (arith, a-level a)
 
 -- A row of terms that is still to be read: its kinds stand in the source from q up to e, its terms in the input from `to`
 -- on. It has d rows behind it.
@@ -344,8 +333,8 @@ module _ (x : Syntax) (t b : List ℕ) (l : Language) (given firsts lasts : List
         subst (λ (a : ℕ). Going x t b l given firsts lasts end d (q + 1) e a) z (m .next)
 
     -- It has: there is room on the stack for what follows them.
-    pub room : (n ≡ 2 → ⊥) → d < 63
-    room h = omega (arith, m .deep, some-levels (m .codes) (m .kinds) (m .typed) (λ z. h (omega (arith, counted, z))))
+    pub room : (n ≡ 2 → ⊥) → d < 64
+    room h = omega (arith, m .deep)
 
     -- What follows them goes on the stack.
     pub pushed : {c : ℕ} → (n ≡ 2 → ⊥) → c ≡ nameLength x → length firsts ≡ 64 → length lasts ≡ 64
@@ -506,7 +495,7 @@ module _ {x : Syntax} {t b : List ℕ} {from at : ℕ} {firsts lasts : List ℕ}
             turn-none h ec f given u k a =
                 name-next x t b (f .source) given firsts lasts (at + length (bytesOf x u)) d q e to kind (named-for f given u k a) es byte ep en h ec
 
-            pub turn-room : (n ≡ 2 → ⊥) → d < 63
+            pub turn-room : (n ≡ 2 → ⊥) → d < 64
             turn-room h =
                 room x t b (p .0 .source) (p .1) firsts lasts (at + length (bytesOf x (p .2))) d q e to kind now-named es byte ep en h
 

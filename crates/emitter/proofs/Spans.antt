@@ -160,15 +160,6 @@ module _ (s index b : List ℕ) (k at n : ℕ) where
       → Spanned t t at a (at + 2)
   span-argument t h i l given a w = argument-spanned b t at a (w .stands) h i
 
-  pub span-deep : (t u : List ℕ) (r : ℕ) → n ≡ 0 → (l : Language) (given : List ℕ) (a : Code) → CodeAsks s index b k at n l given a → Spanned t u at a r
-  unfolding levels
-  span-deep t u r h l given a w = absurd (some-levels a (w .within))
-    where
-      some-levels : (a : Code) → levels a ≤ n → ⊥
-      some-levels (node k p ts) i = omega arith
-      some-levels (token v) i = omega arith
-      some-levels (argument i) j = omega arith
-
   -- A production: what its code is made of.
   abbrev Noded : Language → List ℕ → Code → Type 0
   Noded l given a = (p : ℕ) × (ts : Codes) × (ks : List ℕ) × (a ≡ node k p ts) × (getD b (at + 1) 0 ≡ p) × (argumentsOf l k p ≡ some ks) × TypedAll l given ts ks
@@ -183,6 +174,10 @@ module _ (s index b : List ℕ) (k at n : ℕ) where
       (p, t, ks, refl, z .1, e, h, rw two at (z .2), i)
   noded l given (typed-token {v = v} e h) y i d = let x = stands-head b at 2 _ y .1 in absurd (omega (arith, x))
   noded l given (typed-argument e) y i d = let x = stands-head b at 3 _ y .1 in absurd (omega (arith, x))
+
+  -- A production is a level.
+  pub span-deep : (t u : List ℕ) (r : ℕ) → n ≡ 0 → getD b at 0 ≡ 1 → (l : Language) (given : List ℕ) (a : Code) → CodeAsks s index b k at n l given a → Spanned t u at a r
+  span-deep t u r h sign l given a w = let d = noded l given (w .typed) (w .stands) (w .within) sign in absurd (omega (arith, d .8))
 
   module _ (kind : k < 32) (p place : ℕ) (byte : p < 256) (ep : p ≡ getD b (at + 1) 0) (here : place ≡ getD index (productionKey k p) 0) (sign : getD b at 0 ≡ 1) where
     abbrev Production : Language → List ℕ → Type 0

@@ -6,7 +6,7 @@ use Rattle.fields.specs.Lists.{all, any, keep, first, concatMap, traverse, coun
 use Rattle.fields.specs.Keyed as Keyed
 use Rattle.language.specs.Language.{entryKey, sameEntry, inRange, rangeWithin, rangeAt, rangeOf, argumentsAt, argumentsOf, resultIs, mentions, isIn, classIsResult, clashes}
 use Rattle.language.specs.LanguageFile.{classOf, productionOf, entryOf, entryField, entriesOf, encodeLanguage, languageOf}
-use Rattle.reader.specs.Syntax.{write, readAll, readOperands, readNode, readToken, readArgument, readTreeLevel, readCodeLevel, readLevel, read}
+use Rattle.reader.specs.Syntax.{write, readAll, readOperands, readNode, readToken, readArgument, readTreeLevel, readCodeLevel, readLevel, pastLevels, readBy}
 use Rattle.reader.specs.Operations.{treeOf}
 use Rattle.translation.specs.Translation.{itemKey, sameItem, targetAt, mappingOf, codeAt, clauseOf, mapped}
 use Rattle.translation.specs.Running.{nth, operand, substitute, run, mappedArguments, readClause, clausesOf, transform}
@@ -19,8 +19,8 @@ use Rattle.pack.specs.Terms.{languageSign, translationSign, readSign, readTerm,
 use Rattle.pack.specs.Pack.{partOf, inGroups, packWith, packIn, packParts, packOf, termOf}
 use Rattle.signs.specs.Evaluation.{evaluate}
 use Rattle.reducer.specs.Operations.{ready, work, reduceBytes}
-use Rattle.laws.specs.Examples.{holds, rows}
+use Rattle.laws.specs.Examples.{holds, times, rows}
 
 pub every-row-holds : all holds rows ≡ true
-unfolding holds rows all any keep first concatMap traverse countUp sameNumbers encodeField encodeFields pairAt splitFields fieldsOf saysOver hasOver Keyed.risingFrom Keyed.rising Keyed.insert Keyed.union Keyed.holds Keyed.within Keyed.without Keyed.agree entryKey sameEntry inRange rangeWithin rangeAt rangeOf argumentsAt argumentsOf resultIs mentions isIn classIsResult clashes classOf productionOf entryOf entryField entriesOf encodeLanguage languageOf write readAll readOperands readNode readToken readArgument readTreeLevel readCodeLevel readLevel read treeOf itemKey sameItem targetAt mappingOf codeAt clauseOf mapped nth operand substitute run mappedArguments readClause clausesOf transform kinds kindsMapped reachesTarget classKept mappingFits hasClause hasProduction clausesFit codeFits codesFit wellFormed mappingField clauseField itemOf itemField grouped itemsIn bodyOf partsIn partsOf translationFields encodeTranslation allRising translationOf runBytes languagesFit languageUnion languageSum languageWithout translationsFit translationUnion translationSum entryWithin joinFits joinItem joined translationJoin argumentsFrom identityClause identityOf codeIsDeep languageExceeds translationExceeds languageSign translationSign readSign readTerm scoped partOf inGroups packWith packIn packParts packOf termOf evaluate ready work reduceBytes
+unfolding holds times rows all any keep first concatMap traverse countUp sameNumbers encodeField encodeFields pairAt splitFields fieldsOf saysOver hasOver Keyed.risingFrom Keyed.rising Keyed.insert Keyed.union Keyed.holds Keyed.within Keyed.without Keyed.agree entryKey sameEntry inRange rangeWithin rangeAt rangeOf argumentsAt argumentsOf resultIs mentions isIn classIsResult clashes classOf productionOf entryOf entryField entriesOf encodeLanguage languageOf write readAll readOperands readNode readToken readArgument readTreeLevel readCodeLevel readLevel pastLevels readBy treeOf itemKey sameItem targetAt mappingOf codeAt clauseOf mapped nth operand substitute run mappedArguments readClause clausesOf transform kinds kindsMapped reachesTarget classKept mappingFits hasClause hasProduction clausesFit codeFits codesFit wellFormed mappingField clauseField itemOf itemField grouped itemsIn bodyOf partsIn partsOf translationFields encodeTranslation allRising translationOf runBytes languagesFit languageUnion languageSum languageWithout translationsFit translationUnion translationSum entryWithin joinFits joinItem joined translationJoin argumentsFrom identityClause identityOf codeIsDeep languageExceeds translationExceeds languageSign translationSign readSign readTerm scoped partOf inGroups packWith packIn packParts packOf termOf evaluate ready work reduceBytes
 every-row-holds = refl

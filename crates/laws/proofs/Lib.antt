@@ -1,6 +1,7 @@
 pub mod Levels
 pub mod Reductions
 pub mod Runs
+pub mod Earlier
 pub mod Subsets
 pub mod Sums
 pub mod Examples

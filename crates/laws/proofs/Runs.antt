@@ -49,17 +49,17 @@ unfolding transform
 transform-typed f s t k h = typed-run (fit-carries f (s .rises) (s .fits)) h
 
 -- What is a tree is typed.
-whole-done : (o : Read Code) (t : Code) → wholeTree o ≡ value t → o ≡ done t []
-whole-done (done u []) t e = ap (λ (x : Code). done x []) (value-inj e)
-whole-done (done u (b ∷ s)) t e = refused-value e
-whole-done deep t e = refused-value e
-whole-done broken t e = refused-value e
+pub tree-done : (o : Read Code) (t : Code) → wholeTree o ≡ value t → o ≡ done t []
+tree-done (done u []) t e = ap (λ (x : Code). done x []) (value-inj e)
+tree-done (done u (b ∷ s)) t e = refused-value e
+tree-done deep t e = refused-value e
+tree-done broken t e = refused-value e
 
 tree-typed : (l : Language) (k : ℕ) (bytes : List ℕ) (t : Code) → treeOf l k bytes ≡ value t → Typed l [] t k × (isIn l k ≡ true)
 unfolding treeOf
 tree-typed l k bytes t e =
     let r = refuse-value (not (isIn l k)) UnknownRoot (wholeTree (read tree l [] treeLevels k bytes)) e in
-    (read-done tree l [] treeLevels k bytes t [] (whole-done _ t (r .1)) .0, true-not (isIn l k) (r .0))
+    (read-done tree l [] treeLevels k bytes t [] (tree-done _ t (r .1)) .0, true-not (isIn l k) (r .0))
 
 -- A tree that was read, of a kind that is in the language.
 tree-of : (l : Language) (k : ℕ) (bytes : List ℕ) (o : Read Code) → isIn l k ≡ true → read tree l [] treeLevels k bytes ≡ o → treeOf l k bytes ≡ wholeTree o

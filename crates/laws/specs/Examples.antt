@@ -1,5 +1,5 @@
--- The starred examples (paper 01, "Strap examples"), as rows of one table. C, K and the body are those of the paper.
-use Prim.Native.Nat.{ℕ}
+-- The starred examples (paper 01, "Strap examples") and the 16 of paper 02, 2026-07, as rows of one table. C, K and the body are those of the paper.
+use Prim.Native.Nat.{ℕ, zero, suc}
 use mathlib.Core.Bool.{Bool, _&&_}
 use mathlib.Core.List.{List, [], _∷_}
 use lib.Dec.{eqb}
@@ -77,6 +77,11 @@ joinPack = k ∷ c ∷ twice ∷ rest ∷ term (0x54 ∷ 0x50 ∷ 0x40 ∷ 1 ∷
 abbrev empty : List ℕ
 empty = 0x20 ∷ 0 ∷ 0 ∷ 0x21 ∷ 0 ∷ 0 ∷ []
 
+-- A byte so many times before other bytes.
+unfoldable pub times : ℕ → ℕ → List ℕ → List ℕ
+times zero b s = s
+times (suc n) b s = b ∷ times n b s
+
 -- The table.
 unfoldable pub rows : List Row
 rows =
@@ -88,6 +93,7 @@ rows =
     ∷ ran sumPack 1 [] 4096 15 []
     ∷ ran sumPack 1 (1 ∷ 0 ∷ 5 ∷ 0 ∷ []) 4096 15 []
     ∷ ran sumPack 9 (1 ∷ 0 ∷ 5 ∷ []) 4096 14 []
+    ∷ ran sumPack 1 (times 64 4 (1 ∷ 0 ∷ 5 ∷ [])) 4096 16 []
     ∷ ran joinPack 1 (4 ∷ 3 ∷ 0 ∷ 3 ∷ []) 4096 0 (2 ∷ 1 ∷ 0 ∷ 3 ∷ 1 ∷ 0 ∷ 3 ∷ [])
     ∷ reduced (field 0x30 [] ∷ term (0x55 ∷ 0x40 ∷ 0 ∷ []) ∷ []) 0 empty
     ∷ reduced (k ∷ other ∷ term (0x55 ∷ 0x43 ∷ 0x40 ∷ 0 ∷ 0x40 ∷ 1 ∷ []) ∷ []) 12 []

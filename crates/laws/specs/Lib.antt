@@ -1,5 +1,6 @@
 pub mod Packed
 pub mod Levels
+pub mod Earlier
 pub mod Runs
 pub mod Sums
 pub mod Examples

@@ -8,11 +8,12 @@ use lib.ListN.{getD, drop}
 use Rattle.reader.specs.Syntax as Meant
 use Rattle.reader.specs.Code.{Code}
 use Rattle.reader.specs.declared.node.Syntax.the-variants.{Tree}
+use Rattle.reader.specs.declared.node.Read.{Read}
 use Rattle.reader.specs.declared.node.Read.the-variants as Read
 use Rattle.reader.specs.declared.node.Node.{Node}
 use Rattle.reader.specs.declared.node.Node.the-variants.{Leaf, Operands}
 use Rattle.reader.specs.Inner.Index.{Indexed}
-use Rattle.reader.specs.Inner.Positions.{nodeAt}
+use Rattle.reader.specs.Inner.Positions.{nodeAt, pastAt}
 use Rattle.translation.specs.Translation.{Translation}
 use Rattle.translation.specs.Running.{transform}
 use Rattle.measure.specs.declared.measure.Measured.{Measured}
@@ -20,8 +21,8 @@ use Rattle.measure.specs.declared.measure.Measured.the-variants.{End, De
 use Rattle.measure.specs.declared.measure.Step.{Step}
 use Rattle.measure.specs.declared.measure.Step.the-variants as Step
 use Rattle.measure.specs.Inner.Sizes.{size, capped}
-use Rattle.measure.specs.Inner.Measuring.{sharesFrom, weigh, measureAt, sized, sizedAt, sizedOf, Counted}
-use Rattle.measure.specs.Inner.Descent.{downFrom, weighDown, downAt, downRow, goesOn}
+use Rattle.measure.specs.Inner.Measuring.{leafAt, sharesFrom, weigh, measureAt, sized, sizedAt, sizedOf, Counted}
+use Rattle.measure.specs.Inner.Descent.{leafDown, downFrom, weighDown, downAt, downRow, goesOn}
 use Rattle.measure.proofs.Sizes.{capped-times, capped-share}
 use Rattle.measure.proofs.Laws.{Goes}
 use Rattle.measure.proofs.Meaning.{measure-same, sized-done}
@@ -48,6 +49,11 @@ capped-turn top sum w acc c n =
     ap (λ (x : ℕ). capped top (capped top (sum + w * acc) + x)) (mul-comm (capped top (w * c)) n)
     ∙ (sym (capped-share top (sum + w * acc) n (w * c))
     ∙ (ap (capped top) (turned sum w acc c n) ∙ sym (capped-weight top sum w (acc + c * n))))
+
+leaf-times : (top w sum : ℕ) (r : Read) → leafDown top w sum r ≡ times top w sum (leafAt top r)
+leaf-times top w sum (Read.End e) = ap (End e) (sym (capped-weight top sum w 2))
+leaf-times top w sum Read.Deep = refl
+leaf-times top w sum Read.Broken = refl
 
 module _ (s counts : List ℕ) (top : ℕ) (f : ℕ → ℕ → ℕ → ℕ → Measured) (g : ℕ → ℕ → Measured)
     (below : (w k at sum : ℕ) → f w k at sum ≡ times top w sum (g k at)) where
@@ -79,9 +85,7 @@ module _ (s counts : List ℕ) (top : ℕ) (f : ℕ → ℕ → ℕ → ℕ → 
       row-turn m w q at sum acc (g (getD s q 0) at) refl (λ e a. row-times m w (q + 1) e sum a)
 
   node-times : (w sum : ℕ) (d : Node) → weighDown f s counts top w sum d ≡ times top w sum (weigh g s counts top d)
-  node-times w sum (Leaf (Read.End e)) = ap (End e) (sym (capped-weight top sum w 2))
-  node-times w sum (Leaf Read.Deep) = refl
-  node-times w sum (Leaf Read.Broken) = refl
+  node-times w sum (Leaf r) = leaf-times top w sum r
   node-times w sum (Operands q e to) =
       ap (downFrom f s counts top (e - q) w q to) (sym (capped-weight top sum w (getD counts (q - 1) 0)))
       ∙ row-times (e - q) w q to sum (capped top (getD counts (q - 1) 0))
@@ -89,7 +93,7 @@ module _ (s counts : List ℕ) (top : ℕ) (f : ℕ → ℕ → ℕ → ℕ → 
 down-times : (s index counts b : List ℕ) (top n w k at sum : ℕ)
     → downAt s index counts b top n w k at sum ≡ times top w sum (measureAt s index counts b top n k at)
 unfolding downAt measureAt
-down-times s index counts b top zero w k at sum = refl
+down-times s index counts b top zero w k at sum = leaf-times top w sum (pastAt Tree s index k b at)
 down-times s index counts b top (suc n) w k at sum =
     node-times s counts top (downAt s index counts b top n) (measureAt s index counts b top n)
     (λ v j i a. down-times s index counts b top n v j i a) w sum (nodeAt Tree s index [] k b at)
@@ -114,11 +118,7 @@ down-same s index counts b f z w bytes top n k at h =
 
 -- measure
 module _ (s index counts b : List ℕ) (top w k at sum : ℕ) {n : ℕ} where
-  pub down-deep : n ≡ 0 → Deep ≡ downAt s index counts b top n w k at sum
-  unfolding downAt
-  down-deep h = rw h
-
-  module _ (some : n ≡ 0 → ⊥) (x : Step) (goes : Goes s index counts b top w k at sum x) where
+  module _ (some : 0 < n) (x : Step) (goes : Goes s index counts b top w k at sum x) where
     down-goes : goesOn s index counts b top (n - 1) x ≡ downAt s index counts b top n w k at sum
     down-goes =
         let z : suc (n - 1) ≡ n = omega arith in

@@ -8,19 +8,21 @@ use native.Mathlib.Nat.{mul-le-mul, le-div-iff-mul-le, div-lt-iff-lt-mul}
 use lib.ListN.{length, getD, set}
 use lib.Seq.{getD-set-same, getD-set-other}
 use lib.Dec.{ltb, leb, eqb}
+use borrow.Author.Tests.{eq-eqb, eqb-true, eqb-false, ltb-true, ltb-false}
 use Rattle.fields.specs.Fields.{pairAt}
-use Rattle.fields.proofs.Truth.{by-test}
+use Rattle.fields.proofs.Truth.{by-test, false-true}
+use Rattle.reader.proofs.Laws as Read-laws
 use Rattle.reader.specs.declared.node.Syntax.the-variants.{Tree}
 use Rattle.reader.specs.declared.node.Read.{Read}
 use Rattle.reader.specs.declared.node.Read.the-variants as Read
 use Rattle.reader.specs.declared.node.Node.the-variants.{Leaf, Operands}
-use Rattle.reader.specs.Inner.Positions.{productionPlace, tokenAt, operandsAt, nameAt, treeNode, nodeAt, EndsBy, KindsIn}
+use Rattle.reader.specs.Inner.Positions.{productionPlace, tokenAt, operandsAt, nameAt, treeNode, nodeAt, pastAt, readAt, EndsBy, KindsIn}
 use Rattle.measure.specs.declared.measure.Measured.{Measured}
 use Rattle.measure.specs.declared.measure.Measured.the-variants.{End, Deep, Broken}
 use Rattle.measure.specs.declared.measure.Step.{Step}
 use Rattle.measure.specs.declared.measure.Step.the-variants as Step
 use Rattle.measure.specs.Inner.Sizes.{capped}
-use Rattle.measure.specs.Inner.Descent.{leafDown, downFrom, downAt, downRow, unwind, leafStep, goesOn, StepIn}
+use Rattle.measure.specs.Inner.Descent.{leafDown, downFrom, downAt, downRow, outOfLevels, unwind, leafStep, goesOn, StepIn, Childless}
 
 -- add_share
 pub share-whole : (weight length : ℕ) → weight < 0x40000000 → length < 65536 → weight * length < 0x8000000000000000
@@ -114,6 +116,79 @@ module _ (s index counts b : List ℕ) (top w k at sum : ℕ) where
     name-goes m =
         let z : place + 4 - 1 ≡ place + 3 = omega arith in
         rw (← h, z, ← ec, ← eo)
+
+-- out_of_levels
+pub out-more : (index : List ℕ) (k n : ℕ) → (n ≡ 0 → ⊥) → false ≡ outOfLevels index k n
+unfolding outOfLevels
+out-more index k zero h = absurd (h refl)
+out-more index k (suc n) h = refl
+
+pub out-none : (index : List ℕ) (k n : ℕ) {j place : ℕ} → n ≡ 0 → j ≡ k → place ≡ getD index j 0 → eqb place 0 ≡ outOfLevels index k n
+unfolding outOfLevels
+out-none index k n h ej ep = rw h (cc)
+
+-- Where none is left, a class is read as with one more.
+module _ (s index b : List ℕ) (k at : ℕ) where
+  class-past : (getD index k 0 ≡ 0 → ⊥) → tokenAt s (getD index k 0) b at ≡ pastAt Tree s index k b at
+  class-past h = Read-laws.past-token s index k b at refl refl h refl
+
+  class-node : (getD index k 0 ≡ 0 → ⊥) → Leaf (tokenAt s (getD index k 0) b at) ≡ nodeAt Tree s index [] k b at
+  class-node h = Read-laws.node-tree s index [] k b at refl (Read-laws.tree-token s index k b at refl refl h refl)
+
+  pub read-one : (n : ℕ) → outOfLevels index k n ≡ false → readAt Tree s index [] b n k at ≡ readAt Tree s index [] b (suc (n - 1)) k at
+  unfolding outOfLevels readAt
+  read-one zero h = let c = eqb-false (getD index k 0) 0 h in cc (class-past c, class-node c)
+  read-one (suc n) h = let z : suc n - 1 ≡ n = omega arith in rw z
+
+  module _ (counts : List ℕ) (top w sum : ℕ) where
+    down-one : (n : ℕ) → outOfLevels index k n ≡ false
+        → downAt s index counts b top n w k at sum ≡ downAt s index counts b top (suc (n - 1)) w k at sum
+    unfolding outOfLevels downAt
+    down-one zero h = let c = eqb-false (getD index k 0) 0 h in cc (class-past c, class-node c)
+    down-one (suc n) h = let z : suc n - 1 ≡ n = omega arith in rw z
+
+    down-out : (n : ℕ) → outOfLevels index k n ≡ true → downAt s index counts b top n w k at sum ≡ Deep
+    unfolding outOfLevels downAt
+    down-out zero h = cc (Read-laws.past-name s index k b at refl refl (eqb-true (getD index k 0) 0 h))
+    down-out (suc n) h = false-true h
+
+-- A class has no operands.
+leaf-row : (place top w sum : ℕ) (r : Read) → Childless place (leafStep top w sum r)
+leaf-row place top w sum (Read.End e) = λ h. omega arith
+leaf-row place top w sum Read.Deep = tt
+leaf-row place top w sum Read.Broken = tt
+
+pub leaf-childless : (place top w sum : ℕ) {r u : Read} → r ≡ u → {x : Step} → x ≡ leafStep top w sum r → Childless place x
+leaf-childless place top w sum {r} er ex = rw ex (leaf-row place top w sum r)
+
+pub name-childless : (index : List ℕ) (k : ℕ) (b : List ℕ) (at q e : ℕ) {j class place : ℕ} → j ≡ k → class ≡ getD index j 0
+    → place ≡ cond (eqb class 0) (productionPlace Tree index k b at) 0 → (place ≡ 0 → ⊥) → (getD index k 0 ≡ 0 → ⊥) → e ≤ q
+name-childless index k b at q e {j} {class} {place} ej ec ep some h =
+    by-test (eqb class 0)
+    (λ t. absurd (h (let z : getD index k 0 ≡ class = cc in z ∙ eqb-true class 0 t)))
+    (λ t. absurd (some (ep ∙ ap (λ (u : Bool). cond u (productionPlace Tree index k b at) 0) t)))
+
+none-class : (index : List ℕ) (k n : ℕ) → n ≡ 0 → outOfLevels index k n ≡ false → getD index k 0 ≡ 0 → ⊥
+unfolding outOfLevels
+none-class index k zero y h z = false-true (sym h ∙ eq-eqb (getD index k 0) 0 z)
+none-class index k (suc n) y h z = omega arith
+
+-- A tree with operands has a level left for them.
+pub deeper : (index : List ℕ) (k levels d : ℕ) → d ≤ levels → outOfLevels index k (levels - d) ≡ false
+    → (x : Step) → Childless (getD index k 0) x → {first last v t n : ℕ} → x ≡ Step.Row first last v t n → first < last → d < levels
+deeper index k levels d under h x c {first} {last} ex more =
+    by-test (eqb (levels - d) 0)
+    (λ t. absurd (none (eqb-true (levels - d) 0 t)))
+    (λ t. let z = eqb-false (levels - d) 0 t in by-test (ltb d levels) (λ u. ltb-true d levels u) (λ u. let w = ltb-false d levels u in absurd (z (omega arith))))
+  where
+    row : (x : Step) → Childless (getD index k 0) x → {first last v t n : ℕ} → x ≡ Step.Row first last v t n → (getD index k 0 ≡ 0 → ⊥) → last ≤ first
+    row x c ex = rw ex at c
+
+    class : (n : ℕ) → n ≡ 0 → outOfLevels index k n ≡ false → getD index k 0 ≡ 0 → ⊥
+    class n y h z = none-class index k n y h z
+
+    none : levels - d ≡ 0 → ⊥
+    none y = let w = row x c ex (class (levels - d) y h) in omega arith
 
 -- What is known of a step, once its case is known.
 pub step-row : (s : List ℕ) (n top at : ℕ) {q e w to sum : ℕ} (x : Step) → x ≡ Step.Row q e w to sum → StepIn s n top at x
@@ -218,19 +293,18 @@ module _ (s index counts b : List ℕ) (top levels : ℕ) where
           ∙ ((let z : d ≡ suc c = omega arith in ap (λ (j : ℕ). rest firsts lasts weights j (End to sum)) z) ∙ rest-one firsts lasts weights c to sum)
 
       module _ (more : q < e) where
-        pub rows-deep : d ≡ levels → rest firsts lasts weights d (row d w q e to sum) ≡ Deep
-        unfolding downAt
+        pub rows-deep : outOfLevels index (getD s q 0) (levels - d) ≡ true → rest firsts lasts weights d (row d w q e to sum) ≡ Deep
         rows-deep y =
-            let z : levels - d ≡ 0 = omega arith in
+            let z = down-out s index b (getD s q 0) to counts top (capped top (w * getD counts q 0)) sum (levels - d) y in
             ap (rest firsts lasts weights d) (row-next (levels - d) w q e to sum more ∙ rw z) ∙ rest-deep firsts lasts weights d
 
-        module _ {part : ℕ} (under : d < levels) (ep : part ≡ capped top (w * getD counts q 0)) (x : Step) {k : ℕ} (ek : k ≡ getD s q 0)
+        module _ {part : ℕ} (under : outOfLevels index (getD s q 0) (levels - d) ≡ false) (ep : part ≡ capped top (w * getD counts q 0)) (x : Step) {k : ℕ} (ek : k ≡ getD s q 0)
             (goes : Goes s index counts b top part k to sum x) where
           row-step : row d w q e to sum ≡ after (goesOn s index counts b top (levels - (d + 1)) x) (λ t a. row d w (q + 1) e t a)
           row-step =
-              let z : levels - d ≡ suc (levels - (d + 1)) = omega arith in
+              let z : suc (levels - d - 1) ≡ suc (levels - (d + 1)) = omega arith in
               let y : downAt s index counts b top (levels - d) (capped top (w * getD counts q 0)) (getD s q 0) to sum ≡ goesOn s index counts b top (levels - (d + 1)) x =
-              rw (← ep, ← ek, z) (sym (goes (levels - (d + 1)))) in
+              down-one s index b (getD s q 0) to counts top (capped top (w * getD counts q 0)) sum (levels - d) under ∙ rw (← ep, ← ek, z) (sym (goes (levels - (d + 1)))) in
               row-next (levels - d) w q e to sum more ∙ ap (λ (r : Measured). after r (λ t a. row d w (q + 1) e t a)) y
 
           pub rows-broken : x ≡ Step.Broken → rest firsts lasts weights d (row d w q e to sum) ≡ Broken

@@ -2,6 +2,7 @@
 use Prim.Native.Nat.{ℕ, zero, suc, _+_, _-_, _<_, _≤_}
 use mathlib.Core.Path.{_≡_, refl, ap, subst, _∙_}
 use mathlib.Core.Logic.{_⊎_, inl, inr, ⊎-elim}
+use mathlib.Core.Bool.{false}
 use mathlib.Core.List.{List, []}
 use native.Mathlib.Omega.{arith}
 use lib.ListN.{length, getD, set, length-set}
@@ -17,7 +18,8 @@ use Rattle.reader.specs.Inner.Positions.{nodeAt, operandsFrom, readAt}
 use Rattle.reader.specs.Inner.Ends.{Kept}
 use Rattle.measure.specs.declared.measure.Step.{Step}
 use Rattle.measure.specs.declared.measure.Step.the-variants as Step
-use Rattle.measure.specs.Inner.Descent.{leafStep}
+use Rattle.measure.specs.Inner.Descent.{outOfLevels, leafStep}
+use Rattle.measure.proofs.Laws.{read-one}
 use Rattle.measure.specs.Inner.Learning.{Learnt, Decides}
 
 -- What follows where reading has come to an end.
@@ -180,12 +182,13 @@ module _ (s index b : List ℕ) (levels : ℕ) where
           learnt = learnt-more s index b before (o .learnt) (levels - (d - 1)) (z .0) inside more;
         }
 
-    module _ (more : q < e) (under : d < levels) (x : Step) (decides : Decides s index b (getD s q 0) to x)
+    module _ (more : q < e) (under : outOfLevels index (getD s q 0) (levels - d) ≡ false) (x : Step) (decides : Decides s index b (getD s q 0) to x)
         {first last v t n : ℕ} (ex : x ≡ Step.Row first last v t n) (past : to < t) where
       found : term s index b levels d (getD s q 0) to ≡ row s index b levels (d + 1) first last t
       found =
-          let z : levels - d ≡ suc (levels - (d + 1)) = omega arith in
-          ap (λ (m : ℕ). readAt Tree s index [] b m (getD s q 0) to) z ∙ decides-row s index b (getD s q 0) to x ex decides (levels - (d + 1))
+          let z : suc (levels - d - 1) ≡ suc (levels - (d + 1)) = omega arith in
+          read-one s index b (getD s q 0) to (levels - d) under
+          ∙ ap (λ (m : ℕ). readAt Tree s index [] b m (getD s q 0) to) z ∙ decides-row s index b (getD s q 0) to x ex decides (levels - (d + 1))
 
       whole : row s index b levels d q e to ≡ behind (row s index b levels (d + 1) first last t) (λ a. row s index b levels d (q + 1) e a)
       whole =
@@ -207,7 +210,7 @@ module _ (s index b : List ℕ) (levels : ℕ) where
             learnt = o .learnt;
           }
 
-      module _ (hf : length firsts ≡ 64) (hl : length lasts ≡ 64) (fits : levels < 64) (inside : q < length s) (kind : getD s q 0 < 32) where
+      module _ (hf : length firsts ≡ 64) (hl : length lasts ≡ 64) (fits : levels < 64) (deep : d < levels) (inside : q < length s) (kind : getD s q 0 < 32) where
         begins : Begun s (set firsts d (q + 1)) (set starts d to) (d + 1) t
         begins j l =
             by-test (eqb j d)

@@ -3,7 +3,7 @@ use Prim.Native.Nat.{ℕ, zero, suc, _+_, _*_, _-_, _<_}
 use mathlib.Core.Path.{_≡_, refl, sym, ap, _∙_}
 use mathlib.Core.List.{List, [], _∷_}
 use mathlib.Core.Bool.{Bool, true, false}
-use mathlib.Core.Option.{some}
+use mathlib.Core.Option.{Option, none, some}
 use native.Mathlib.Omega.{arith}
 use native.Mathlib.Numerals.{add-one}
 use lib.ListN.{length, getD, drop, drop-of-length-le}
@@ -15,15 +15,15 @@ use Rattle.fields.specs.Inner.Places.{fieldEnd}
 use Rattle.fields.proofs.Truth.{by-test}
 use Rattle.fields.proofs.Lists.{part-done, part-next}
 use Rattle.fields.proofs.Split.{front}
-use Rattle.language.specs.Language.{Range, argumentsOf, inRange, productionKey}
+use Rattle.language.specs.Language.{Range, rangeOf, argumentsOf, inRange, productionKey}
 use Rattle.reader.specs.Code.{Code, node, token, Codes, cons}
 use Rattle.reader.specs.Syntax as Meant
-use Rattle.reader.specs.Syntax.{andThen, readAll, readOperands, readNode, readToken, readTreeLevel, readLevel}
+use Rattle.reader.specs.Syntax.{andThen, readAll, readOperands, readNode, readToken, readTreeLevel, readLevel, current, pastLevels}
 use Rattle.reader.specs.declared.node.Syntax.the-variants.{Tree}
 use Rattle.reader.specs.declared.node.Read.{Read}
 use Rattle.reader.specs.declared.node.Read.the-variants as Read
 use Rattle.reader.specs.Inner.Index.{Indexed, rangeBefore, argumentsBefore}
-use Rattle.reader.specs.Inner.Positions.{tokenAt, operandsAt, nameAt, nodeAt, readAt, KindsIn, restAt, restOf}
+use Rattle.reader.specs.Inner.Positions.{tokenAt, operandsAt, nameAt, nodeAt, pastAt, readAt, KindsIn, restAt, restOf}
 use Rattle.reader.proofs.Laws as Read-laws
 use Rattle.reader.proofs.Meaning.{done-of, deep-of, broken-of, read-same}
 use Rattle.translation.specs.Translation.{Translation}
@@ -90,6 +90,14 @@ module _ (f : Translation) (top : ℕ) where
       go : (t : Bool) → Two (elim t [ true ↦ Meant.done (token (x * 256 + y)) u | false ↦ Meant.broken ])
       go true = refl
       go false = tt
+
+  past-two : (k : ℕ) (u : List ℕ) → Two (pastLevels current Meant.tree (f .source) k u)
+  unfolding pastLevels
+  past-two k u = go (rangeOf (f .source) k)
+    where
+      go : (o : Option Range) → Two (elim o [ some c ↦ readToken (some c) u | none ↦ Meant.deep ])
+      go none = tt
+      go (some c) = token-two c u
 
   leaf-same : (b : List ℕ) (r : Read) (o : Meant.Read Code) → Two o → restAt b r ≡ restOf o → sizedAt b (leafAt top r) ≡ sizedOf top f o
   leaf-same b (Read.End e) o h y =
@@ -204,7 +212,7 @@ module _ (s index counts b : List ℕ) (f : Translation) (z : Indexed index s (f
   -- One level of a tree.
   token-same : (p k at : ℕ) → suc p ≡ getD index k 0 → k < 32
       → sizedAt b (leafAt top (tokenAt s (suc p) b at)) ≡ sizedOf top f (readToken (rangeBefore s (suc p)) (drop at b))
-  unfolding readAt Meant.read readLevel nodeAt readTreeLevel
+  unfolding readAt Meant.readBy readLevel nodeAt readTreeLevel
   token-same p k at e h =
       let pos : suc p ≡ 0 → ⊥ = λ v. omega arith in
       let r : restAt b (readAt Tree s index [] b 1 k at) ≡ restOf (Meant.read Meant.tree (f .source) [] 1 k (drop at b)) =
@@ -225,8 +233,10 @@ module _ (s index counts b : List ℕ) (f : Translation) (z : Indexed index s (f
 pub measure-same : (s index counts b : List ℕ) (f : Translation) → Indexed index s (f .source) → Counted counts index f
     → ((i : ℕ) → getD b i 0 < 256) → (top n k at : ℕ) → k < 32
     → sizedAt b (measureAt s index counts b top n k at) ≡ sizedOf top f (Meant.read Meant.tree (f .source) [] n k (drop at b))
-unfolding measureAt Meant.read readLevel
-measure-same s index counts b f z w bytes top zero k at h = refl
+unfolding measureAt Meant.readBy readLevel readAt
+measure-same s index counts b f z w bytes top zero k at h =
+    leaf-same f top b (pastAt Tree s index k b at) (pastLevels current Meant.tree (f .source) k (drop at b)) (past-two f top k (drop at b))
+    (read-same Tree s index [] b (f .source) z bytes 0 k at h)
 measure-same s index counts b f z w bytes top (suc n) k at h =
     level-same s index counts b f z w bytes top (measureAt s index counts b top n) (Meant.read Meant.tree (f .source) [] n)
     (λ j e i. measure-same s index counts b f z w bytes top n j e i) (getD index k 0) k at refl h

@@ -1,6 +1,7 @@
 -- A turn of the loop over rows: what is left to measure stays the same.
 use Prim.Native.Nat.{ℕ, _+_, _*_, _-_, _<_, _≤_}
 use mathlib.Core.Path.{_≡_, refl, sym, ap, _∙_}
+use mathlib.Core.Bool.{true, false}
 use mathlib.Core.List.{List}
 use native.Mathlib.Omega.{arith}
 use lib.ListN.{length, getD, set, length-set}
@@ -14,7 +15,7 @@ use Rattle.measure.specs.declared.measure.Measured.the-variants.{End, De
 use Rattle.measure.specs.declared.measure.Step.{Step}
 use Rattle.measure.specs.declared.measure.Step.the-variants as Step
 use Rattle.measure.specs.Inner.Sizes.{capped}
-use Rattle.measure.specs.Inner.Descent.{downRow, unwind, Waiting, StepIn}
+use Rattle.measure.specs.Inner.Descent.{downRow, outOfLevels, unwind, Waiting, StepIn}
 use Rattle.measure.proofs.Laws.{Goes, step-row, rows-start, rows-done, rows-back, rows-deep, rows-broken, rows-on, rows-down}
 
 -- The row from q up to e is open at depth d, the rows above it wait, and all of them together come to the answer.
@@ -77,14 +78,11 @@ module _ (s index counts b : List ℕ) (top levels : ℕ) where
       pub open-in : length s ≤ 1024 → (q < length s) × (getD s q 0 < 32) × (q < 1024) × (e ≤ 1024)
       open-in short = row-in s q e short (o .kinds) more
 
-      pub open-deep : d ≡ levels → Deep ≡ answer
+      pub open-deep : outOfLevels index (getD s q 0) (levels - d) ≡ true → Deep ≡ answer
       open-deep y = sym (rows-deep s index counts b top levels firsts lasts weights d w q e to sum more y) ∙ o .comes
 
-      module _ (some : d ≡ levels → ⊥) {c part : ℕ} (ec : c ≡ getD counts q 0) (ep : part ≡ capped top (0 + w * c)) (x : Step)
+      module _ (below : outOfLevels index (getD s q 0) (levels - d) ≡ false) {c part : ℕ} (ec : c ≡ getD counts q 0) (ep : part ≡ capped top (0 + w * c)) (x : Step)
           (goes : Goes s index counts b top part (getD s q 0) to sum x) where
-        below : d < levels
-        below = omega (arith, o .shallow)
-
         whole : part ≡ capped top (w * getD counts q 0)
         whole = let z : 0 + w * c ≡ w * c = omega arith in ep ∙ (ap (capped top) z ∙ ap (λ (i : ℕ). capped top (w * i)) ec)
 
@@ -109,7 +107,7 @@ module _ (s index counts b : List ℕ) (top levels : ℕ) where
                 comes = sym (rows-on s index counts b top levels firsts lasts weights d w q e to sum more below whole x refl goes ex h) ∙ o .comes;
               }
 
-          module _ (short : length s ≤ 1024) (fits : levels < 64) where
+          module _ (short : length s ≤ 1024) (fits : levels < 64) (deep : d < levels) where
             waits : Waiting s (set firsts d (q + 1)) (set lasts d e) (d + 1)
             waits j l =
                 by-test (eqb j d)

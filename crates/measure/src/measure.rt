@@ -13,13 +13,13 @@ use reader::node::token;
 ghost use mathlib.Core.Path.{_≡_};
 ghost use mathlib.Core.List.{[]};
 ghost use Prim.Native.Nat.{ℕ, suc, _<_, _≤_};
-ghost use lib.ListN.{length, drop};
+ghost use lib.ListN.{length, getD, drop};
 ghost use Rattle.reader.specs.Syntax.{read as readCode, tree as inTrees};
 ghost use Rattle.reader.specs.Inner.Index.{Sound, Indexed};
 ghost use Rattle.reader.specs.Inner.Positions.{KindsIn};
 ghost use Rattle.translation.specs.Translation.{Translation};
 ghost use Rattle.measure.specs.Inner.Measuring.{EndsIn, sizedAt, sizedOf, Counted};
-ghost use Rattle.measure.specs.Inner.Descent.{leafStep, downAt, downRow, goesOn, StepIn};
+ghost use Rattle.measure.specs.Inner.Descent.{leafStep, downAt, downRow, goesOn, outOfLevels, StepIn, Childless};
 ghost use Rattle.measure.specs.Inner.Learning.{Learnt, Decides};
 
 // The position after a tree, and the length of its run up to a top; one level too many; or bytes that are no such tree.
@@ -34,6 +34,17 @@ pub enum Measured {
 pub enum Step {
     Row(usize, usize, usize, usize, usize),
     Broken,
+}
+
+// Whether a tree of the kind is one level too many: no level is left, and the kind is no class.
+fn out_of_levels(index: &[u16; TABLE], kind: u8, left: usize) -> bool
+    requires { ⌜ kind < 32 ⌝ }
+    ensures { λ r. ⌜ r ≡ outOfLevels (now (index .entry)) kind left ⌝ }
+{
+    if left != 0 {
+        return false;
+    }
+    place_at(index, to_usize(kind)) == 0
 }
 
 // A leaf of a tree is a token, which a run keeps: two bytes.
@@ -65,6 +76,7 @@ fn step_at(
         ≡ downAt (now (source .entry)) (now (index .entry)) (now (counts .entry)) (now (tree .entry)) top (suc n) weight kind at sum) ⌝ }
     ensures within { λ r. ⌜ StepIn (now (source .entry)) (length (now (tree .entry))) top at r ⌝ }
     ensures decides { λ r. ⌜ Decides (now (source .entry)) (now (index .entry)) (now (tree .entry)) kind at r ⌝ }
+    ensures childless { λ r. ⌜ Childless (getD (now (index .entry)) kind 0) r ⌝ }
 {
     let class = place_at(index, to_usize(kind));
     let place = production_place(Syntax::Tree, index, class, kind, tree, at);
@@ -123,7 +135,7 @@ fn measure_rows(
             keep_end(ends, source[q - 1], starts[depth], to);
             continue;
         }
-        if depth == levels {
+        if out_of_levels(index, source[q], levels - depth) {
             return Measured::Deep;
         }
         let part = add_share(0, w, count_in(counts, q), top);
@@ -163,15 +175,12 @@ pub fn measure(
     top: usize,
     ends: &mut [u32],
 ) -> Measured
-    requires { ⌜ Sound (now index) (now source) × (kind < 32) × (at ≤ length (now tree)) × (levels ≤ 64) ⌝ }
+    requires { ⌜ Sound (now index) (now source) × (kind < 32) × (at ≤ length (now tree)) × (0 < levels) × (levels ≤ 64) ⌝ }
     ensures is { λ r. ⌜ ((f : Translation) → Indexed (now (index .entry)) (now (source .entry)) (f .source) → Counted (now (counts .entry)) (now (index .entry)) f
         → sizedAt (now (tree .entry)) r ≡ sizedOf top f (readCode inTrees (f .source) [] levels kind (drop at (now (tree .entry))))) ⌝ }
     ensures within { λ r. ⌜ EndsIn (length (now (tree .entry))) top r ⌝ }
     ensures learnt { λ r. ⌜ Learnt (now (source .entry)) (now (index .entry)) (now (tree .entry)) (now (ends .entry)) (now (ends .exit)) ⌝ }
 {
-    if levels == 0 {
-        return Measured::Deep;
-    }
     match step_at(source, index, counts, kind, 1, tree, at, 0, top) {
         Step::Broken => Measured::Broken,
         Step::Row(from, stop, weight, start, own) => measure_rows(

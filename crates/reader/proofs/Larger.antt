@@ -13,7 +13,7 @@ use Rattle.language.proofs.Lookup.{range-mem, arguments-mem, mem-range, mem-arg
 use Rattle.language.proofs.Ranges.{within-itself, value-within}
 use Rattle.reader.specs.Code.{Code, token, Codes}
 use Rattle.reader.specs.Typing.{Typed, TypedAll, typed-node, typed-token, typed-argument, typed-nil, typed-cons}
-use Rattle.reader.specs.Syntax.{code, Read, done, deep, broken, andThen, readAll, readOperands, readNode, readToken, readArgument, readCodeLevel, readLevel, read}
+use Rattle.reader.specs.Syntax.{code, Read, done, deep, broken, andThen, readAll, readOperands, readNode, readToken, readArgument, readCodeLevel, readLevel, current, pastLevels, readBy, read}
 use Rattle.reader.proofs.RoundTrip.{Apart}
 
 -- A language with all productions of another, and for each class of it a class of that kind that contains its range.
@@ -76,6 +76,13 @@ wider-keeps c d h (x ∷ y ∷ s) = go (inRange c (x * 256 + y)) (value-within c
     go true k = rw (k refl) keeps-done
     go false k = keeps-broken
 
+-- A token, by the class of its kind in either.
+module _ {l m : Language} (w : Larger l m) where
+  token-keeps : (k : ℕ) (s : List ℕ) (o : Option Range) → rangeOf l k ≡ o → Keeps (readToken o s) (readToken (rangeOf m k) s)
+  unfolding readToken
+  token-keeps k s none e = keeps-broken
+  token-keeps k s (some c) e = let d = w .classes k c e in rw (d .1) (wider-keeps c (d .0) (d .2) s)
+
 module _ {l m : Language} (w : Larger l m) (f g : ℕ → List ℕ → Read Code) (h : (k : ℕ) (s : List ℕ) → Keeps (f k s) (g k s)) where
   all-keeps : (ks s : List ℕ) → Keeps (readAll f ks s) (readAll g ks s)
   unfolding readAll
@@ -93,11 +100,6 @@ module _ {l m : Language} (w : Larger l m) (f g : ℕ → List ℕ → Read Code
   node-keeps k [] = keeps-broken
   node-keeps k (p ∷ s) = operands-keep k p s (argumentsOf l k p) refl
 
-  token-keeps : (k : ℕ) (s : List ℕ) (o : Option Range) → rangeOf l k ≡ o → Keeps (readToken o s) (readToken (rangeOf m k) s)
-  unfolding readToken
-  token-keeps k s none e = keeps-broken
-  token-keeps k s (some c) e = let d = w .classes k c e in rw (d .1) (wider-keeps c (d .0) (d .2) s)
-
   level-keeps : (arguments : List ℕ) (k : ℕ) (s : List ℕ) → Keeps (readCodeLevel f l arguments k s) (readCodeLevel g m arguments k s)
   unfolding readCodeLevel
   level-keeps arguments k [] = keeps-broken
@@ -107,15 +109,25 @@ module _ {l m : Language} (w : Larger l m) (f g : ℕ → List ℕ → Read Code
           (elim x [ true ↦ readNode f l k s | false ↦ elim y [ true ↦ readToken (rangeOf l k) s | false ↦ elim z [ true ↦ readArgument arguments k s | false ↦ broken ] ] ])
           (elim x [ true ↦ readNode g m k s | false ↦ elim y [ true ↦ readToken (rangeOf m k) s | false ↦ elim z [ true ↦ readArgument arguments k s | false ↦ broken ] ] ])
       go true y z = node-keeps k s
-      go false true z = token-keeps k s (rangeOf l k) refl
+      go false true z = token-keeps w k s (rangeOf l k) refl
       go false false true = keeps-same (readArgument arguments k s)
       go false false false = keeps-broken
+
+-- What is read past the last level.
+past-keeps : {l m : Language} → Larger l m → (k : ℕ) (s : List ℕ) → Keeps (pastLevels current code l k s) (pastLevels current code m k s)
+unfolding pastLevels
+past-keeps w k [] = keeps-deep
+past-keeps {l} {m} w k (b ∷ s) = go (eqb b 2)
+  where
+    go : (t : Bool) → Keeps {A = Code} (elim t [ true ↦ readToken (rangeOf l k) s | false ↦ deep ]) (elim t [ true ↦ readToken (rangeOf m k) s | false ↦ deep ])
+    go true = token-keeps w k s (rangeOf l k) refl
+    go false = keeps-deep
 
 -- A code read in a language is read alike in a larger one.
 pub read-keeps : {l m : Language} → Larger l m → (arguments : List ℕ) (n k : ℕ) (s : List ℕ)
     → Keeps (read code l arguments n k s) (read code m arguments n k s)
-unfolding read readLevel
-read-keeps w arguments zero k s = keeps-deep
+unfolding readBy readLevel
+read-keeps w arguments zero k s = past-keeps w k s
 read-keeps w arguments (suc n) k s = level-keeps w _ _ (λ j r. read-keeps w arguments n j r) arguments k s
 
 -- Too deep, or broken, is not done.

@@ -6,7 +6,7 @@ use mathlib.Core.Bool.{Bool, true, false, cond}
 use native.Mathlib.Omega.{arith}
 use lib.ListN.{length, getD}
 use lib.Dec.{ltb, leb, eqb}
-use borrow.Author.Tests.{ltb-true, ltb-false, leb-false, eqb-true, lt-ltb, le-ltb, le-leb, lt-leb, eq-eqb, ne-eqb}
+use borrow.Author.Tests.{ltb-true, ltb-false, leb-false, eqb-true, eqb-false, lt-ltb, le-ltb, le-leb, lt-leb, eq-eqb, ne-eqb}
 use Rattle.fields.specs.Fields.{pairAt}
 use Rattle.fields.proofs.Truth.{by-test}
 use Rattle.language.specs.Language.{productionKey}
@@ -17,7 +17,7 @@ use Rattle.reader.specs.declared.node.Read.the-variants.{End, Deep, Brok
 use Rattle.reader.specs.declared.node.Node.{Node}
 use Rattle.reader.specs.declared.node.Node.the-variants.{Leaf, Operands}
 use Rattle.reader.specs.Inner.Index.{Sound}
-use Rattle.reader.specs.Inner.Positions.{nameLength, productionPlace, tokenAt, operandsAt, nameAt, argumentIs, argumentAt, treeNode, classPlace, signNode, codeNode, nodeAt, operandsFrom, readAt, EndsBy, NodeIn, KindsIn}
+use Rattle.reader.specs.Inner.Positions.{nameLength, productionPlace, tokenAt, operandsAt, nameAt, argumentIs, argumentAt, treeNode, classPlace, signNode, codeNode, nodeAt, operandsFrom, pastAt, readAt, EndsBy, NodeIn, KindsIn}
 
 -- token
 module _ (s : List ℕ) (place : ℕ) (b : List ℕ) (at : ℕ) where
@@ -172,11 +172,45 @@ row-short s q e h k =
     (λ t. let l = ltb-true q e t in let b = k (e - 1) (omega arith) (omega arith) in omega (arith, b .0))
     (λ t. let l = ltb-false q e t in omega arith)
 
+-- past_tree
+module _ (s index : List ℕ) (k : ℕ) (b : List ℕ) (at : ℕ) {j place : ℕ} (ej : j ≡ k) (ei : place ≡ getD index j 0) where
+  pub past-name : place ≡ 0 → Deep ≡ pastAt Tree s index k b at
+  unfolding pastAt
+  past-name h = cc (eq-eqb place 0 h)
+
+  pub past-token : {r : Read} → (place ≡ 0 → ⊥) → r ≡ tokenAt s place b at → r ≡ pastAt Tree s index k b at
+  unfolding pastAt
+  past-token h e = cc (ne-eqb place 0 h)
+
+-- past_code
+module _ (s index : List ℕ) (k : ℕ) (b : List ℕ) (at : ℕ) where
+  pub past-end : length b ≤ at → Deep ≡ pastAt Code s index k b at
+  unfolding pastAt
+  past-end h = simp (le-leb (length b) at h)
+
+  module _ (there : at < length b) where
+    pub past-other : (getD b at 0 ≡ 2 → ⊥) → Deep ≡ pastAt Code s index k b at
+    unfolding pastAt
+    past-other h = cc (lt-leb (length b) at there, ne-eqb (getD b at 0) 2 h)
+
+    pub past-sign : {r : Read} {j place : ℕ} → getD b at 0 ≡ 2 → j ≡ k → place ≡ getD index j 0 → r ≡ tokenAt s place b (at + 1)
+        → r ≡ pastAt Code s index k b at
+    unfolding pastAt
+    past-sign h ej ei e = cc (lt-leb (length b) at there)
+
+-- past_levels
+module _ (s index : List ℕ) (k : ℕ) (b : List ℕ) (at : ℕ) {x : Syntax} {r : Read} where
+  pub past-tree : x ≡ Tree → r ≡ pastAt Tree s index k b at → r ≡ pastAt x s index k b at
+  past-tree h e = cc
+
+  pub past-code : x ≡ Code → r ≡ pastAt Code s index k b at → r ≡ pastAt x s index k b at
+  past-code h e = cc
+
 -- read_at
 module _ (x : Syntax) (s index arguments b : List ℕ) (n k at : ℕ) where
-  pub read-deep : n ≡ 0 → Deep ≡ readAt x s index arguments b n k at
+  pub read-past : {r : Read} → n ≡ 0 → r ≡ pastAt x s index k b at → r ≡ readAt x s index arguments b n k at
   unfolding readAt
-  read-deep h = rw h
+  read-past h e = rw h e
 
   module _ {d : Node} (pos : n ≡ 0 → ⊥) (ed : d ≡ nodeAt x s index arguments k b at) where
     one-less : n ≡ suc (n - 1)
@@ -209,11 +243,13 @@ in-tree Tree index k h = (refl, refl)
 in-tree Code index k h = absurd (h refl)
 
 module _ (x : Syntax) (s index arguments b : List ℕ) (n k at : ℕ) where
-  pub read-token : {place : ℕ} {r : Read} → (n ≡ 0 → ⊥) → place ≡ classPlace x index k → (place ≡ 0 → ⊥) → r ≡ tokenAt s place b at
+  pub read-token : {place : ℕ} {r : Read} → place ≡ classPlace x index k → (place ≡ 0 → ⊥) → r ≡ tokenAt s place b at
       → r ≡ readAt x s index arguments b n k at
-  read-token {place} pos e h t =
+  read-token {place} e h t =
       let w = in-tree x index k (λ z. h (e ∙ z)) in
-      read-leaf x s index arguments b n k at pos (node-tree s index arguments k b at (w .0) (tree-token s index k b at refl (e ∙ w .1) h t)) refl
+      by-test (eqb n 0)
+      (λ z. read-past x s index arguments b n k at (eqb-true n 0 z) (past-tree s index k b at (w .0) (past-token s index k b at refl (e ∙ w .1) h t)))
+      (λ z. read-leaf x s index arguments b n k at (eqb-false n 0 z) (node-tree s index arguments k b at (w .0) (tree-token s index k b at refl (e ∙ w .1) h t)) refl)
 
 -- name_place
 module _ (index : List ℕ) (k : ℕ) (b : List ℕ) (at : ℕ) where
@@ -318,6 +354,23 @@ named-by Code s index arguments k b at place none e pos =
     record { name = at + 1; next = omega arith; inside = l; found = cc; node = cc (lt-leb (length b) at m) })
     (λ u. absurd (pos (cc))))
 
+-- A production that was found is a level.
+past-named : (x : Syntax) (s index : List ℕ) (k : ℕ) (b : List ℕ) (at place : ℕ) → classPlace x index k ≡ 0
+    → place ≡ productionPlace x index k b at → (place ≡ 0 → ⊥) → Deep ≡ pastAt x s index k b at
+unfolding classPlace productionPlace
+past-named Tree s index k b at place none e pos = past-name s index k b at refl refl none
+past-named Code s index k b at place none e pos =
+    by-test (leb (length b) (at + 1))
+    (λ t. absurd (pos (cc)))
+    (λ t.
+    by-test (eqb (getD b at 0) 1)
+    (λ u.
+    let l = leb-false (length b) (at + 1) t in
+    let m : at < length b = omega arith in
+    let one = eqb-true (getD b at 0) 1 u in
+    past-other s index k b at m (λ w. omega (arith, one, w)))
+    (λ u. absurd (pos (cc))))
+
 module _ (x : Syntax) (s index arguments : List ℕ) (k : ℕ) (b : List ℕ) (at : ℕ) {class place : ℕ} (ec : class ≡ classPlace x index k) (ep : place ≡ cond (eqb class 0) (productionPlace x index k b at) 0) (pos : place ≡ 0 → ⊥) where
   pub named : Named x s index arguments k b at place
   named =
@@ -330,6 +383,12 @@ module _ (x : Syntax) (s index arguments : List ℕ) (k : ℕ) (b : List ℕ) (a
   named-node {n} e d =
       ap (λ (j : ℕ). Operands (place + 4) (place + 2 + n) j) (ap (λ (j : ℕ). at + j) d ∙ sym (named .next))
       ∙ (name-known s index k b (named .name) (named .inside) refl refl (named .found) pos e ∙ named .node)
+
+  pub named-past : Deep ≡ pastAt x s index k b at
+  named-past =
+      by-test (eqb class 0)
+      (λ t. past-named x s index k b at place (sym ec ∙ eqb-true class 0 t) (ep ∙ ap (λ (u : Bool). cond u (productionPlace x index k b at) 0) t) pos)
+      (λ t. absurd (pos (ep ∙ ap (λ (u : Bool). cond u (productionPlace x index k b at) 0) t)))
 
   module _ (z : Sound index s) (kind : k < 32) (bytes : (i : ℕ) → getD b i 0 < 256) where
     pub named-in : (place + 4 ≤ length s) × (length s ≤ 1024)

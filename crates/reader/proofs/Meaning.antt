@@ -18,14 +18,14 @@ use Rattle.reader.specs.Code.{node, token, cons}
 use Rattle.reader.specs.Code as C
 use Rattle.reader.specs.Typing.{kindAt}
 use Rattle.reader.specs.Syntax as Meant
-use Rattle.reader.specs.Syntax.{andThen, readAll, readOperands, readNode, readToken, readArgument, isThe, readTreeLevel, readCodeLevel, readLevel}
+use Rattle.reader.specs.Syntax.{andThen, readAll, readOperands, readNode, readToken, readArgument, isThe, readTreeLevel, readCodeLevel, readLevel, pastLevels, current}
 use Rattle.reader.specs.declared.node.Syntax.{Syntax}
 use Rattle.reader.specs.declared.node.Syntax.the-variants.{Tree, Code}
 use Rattle.reader.specs.declared.node.Read.{Read}
 use Rattle.reader.specs.declared.node.Read.the-variants.{End, Deep, Broken}
 use Rattle.reader.proofs.Laws as Laws
 use Rattle.reader.specs.Inner.Index.{Indexed, rangeBefore, argumentsBefore}
-use Rattle.reader.specs.Inner.Positions.{tokenAt, operandsAt, nameAt, argumentIs, argumentAt, treeNode, codeNode, nodeAt, operandsFrom, follow, readAt, KindsIn, rest, deep, broken, restAt, restOf, syntaxOf}
+use Rattle.reader.specs.Inner.Positions.{tokenAt, operandsAt, nameAt, argumentIs, argumentAt, treeNode, codeNode, nodeAt, operandsFrom, follow, pastAt, readAt, KindsIn, rest, deep, broken, restAt, restOf, syntaxOf}
 
 -- What was read, by what is left of it.
 pub done-of : {A : Type 0} (g : Meant.Read A) (u : List ℕ) → restOf g ≡ rest u → (a : A) × (g ≡ Meant.done a u)
@@ -265,11 +265,35 @@ module _ (s index arguments b : List ℕ) (l : Language) (z : Indexed index s l)
   level-same Tree k at h = tree-same (getD index k 0) k at refl h
   level-same Code k at h = code-same k at h
 
+-- What stands past the last level.
+module _ (s index b : List ℕ) (l : Language) (z : Indexed index s l) where
+  past-tree : (place k at : ℕ) → place ≡ getD index k 0 → k < 32 → restAt b (pastAt Tree s index k b at) ≡ restOf (pastLevels current Meant.tree l k (drop at b))
+  unfolding pastLevels
+  past-tree zero k at e h = cc (Laws.past-name s index k b at refl e refl, z .range k h)
+  past-tree (suc p) k at e h =
+      let pos : suc p ≡ 0 → ⊥ = λ w. omega arith in
+      cc (Laws.past-token s index k b at refl e pos refl, token-same s (suc p) b at, z .range k h)
+
+  past-code : (k at : ℕ) → k < 32 → restAt b (pastAt Code s index k b at) ≡ restOf (pastLevels current Meant.code l k (drop at b))
+  unfolding pastLevels
+  past-code k at kind =
+      by-test (leb (length b) at)
+      (λ e. let h : length b ≤ at = leb-true _ _ e in cc (Laws.past-end s index k b at h, drop-of-length-le b h))
+      (λ e.
+      let there : at < length b = leb-false _ _ e in
+      rw (front b at there) (by-test (eqb (getD b at 0) 2)
+      (λ d. cc (Laws.past-sign s index k b at there (eqb-true _ _ d) refl refl refl, token-same s (getD index k 0) b (at + 1), z .range k kind))
+      (λ d. cc (Laws.past-other s index k b at there (eqb-false _ _ d)))))
+
+  past-same : (x : Syntax) (k at : ℕ) → k < 32 → restAt b (pastAt x s index k b at) ≡ restOf (pastLevels current (syntaxOf x) l k (drop at b))
+  past-same Tree k at h = past-tree (getD index k 0) k at refl h
+  past-same Code k at h = past-code k at h
+
 -- Reading by position is reading.
 pub read-same : (x : Syntax) (s index arguments b : List ℕ) (l : Language) → Indexed index s l → ((i : ℕ) → getD b i 0 < 256)
     → (n k at : ℕ) → k < 32 → restAt b (readAt x s index arguments b n k at) ≡ restOf (Meant.read (syntaxOf x) l arguments n k (drop at b))
-unfolding readAt Meant.read
-read-same x s index arguments b l z bytes zero k at h = refl
+unfolding readAt Meant.readBy
+read-same x s index arguments b l z bytes zero k at h = past-same s index b l z x k at h
 read-same x s index arguments b l z bytes (suc n) k at h =
     level-same s index arguments b l z bytes (readAt x s index arguments b n) (Meant.read (syntaxOf x) l arguments n)
     (λ j e i. read-same x s index arguments b l z bytes n j e i) x k at h

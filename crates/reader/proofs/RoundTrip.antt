@@ -10,7 +10,7 @@ use Rattle.fields.proofs.Truth.{none-some}
 use Rattle.language.specs.Language.{Language, Range, rangeOf, argumentsOf, inRange}
 use Rattle.reader.specs.Code.{Code, node, token, argument, Codes, levels, levelsAll}
 use Rattle.reader.specs.Typing.{kindAt, Typed, TypedAll, typed-node, typed-token, typed-argument, typed-nil, typed-cons}
-use Rattle.reader.specs.Syntax.{Syntax, tree, code, sign, write, writeAll, Read, done, readAll, readOperands, readNode, readToken, readArgument, readTreeLevel, readCodeLevel, readLevel, read}
+use Rattle.reader.specs.Syntax.{Syntax, tree, code, sign, write, writeAll, Read, done, broken, readAll, readOperands, readNode, readToken, readArgument, readTreeLevel, readCodeLevel, readLevel, current, pastLevels, readBy, read}
 
 -- A kind that has productions is no class.
 abbrev pub Apart : Language → Type 0
@@ -46,6 +46,12 @@ module _ (reads : ℕ → List ℕ → Read Code) (l : Language) where
   unfolding readToken
   token-done c v s e = cc (two-bytes v)
 
+  token-past : {x : Syntax} {arguments : List ℕ} → Written x arguments → (k : ℕ) (c : Range) (s : List ℕ) → rangeOf l k ≡ some c
+      → pastLevels current x l k (sign x 2 ++ s) ≡ readToken (some c) s
+  unfolding pastLevels
+  token-past as-tree k c s e = cc
+  token-past as-code k c s e = cc
+
   argument-level : {x : Syntax} {arguments : List ℕ} → Written x arguments → (k i : ℕ) (s : List ℕ) → kindAt arguments i ≡ some k
       → readLevel x reads l arguments k (sign x 3 ++ i ∷ s) ≡ done (argument i) s
   unfolding readLevel readCodeLevel readArgument
@@ -62,13 +68,15 @@ sign-append x b s r = append-assoc (sign x b) s r
 
 module _ (l : Language) (apart : Apart l) where
   mutual
-    unfolding read write levels readAll
+    unfolding readBy write levels readAll
 
     -- Reading what was written gives the same code.
     pub round : {x : Syntax} {arguments : List ℕ} {a : Code} {k : ℕ} → Typed l arguments a k → Written x arguments → (n : ℕ) (r : List ℕ) → levels a ≤ n
         → read x l arguments n k (write x a ++ r) ≡ done a r
     round (typed-node e h) w zero r d = absurd (omega arith)
-    round (typed-token e h) w zero r d = absurd (omega arith)
+    round {x} (typed-token {v = v} {k = k} {c = c} e h) w zero r d =
+        rw (sign-append x 2 (v / 256 ∷ v % 256 ∷ []) r, token-past (λ j s. broken) l w k c (v / 256 ∷ v % 256 ∷ r) e)
+        (token-done (λ j s. broken) l c v r h)
     round (typed-argument e) w zero r d = absurd (omega arith)
     round {x} {arguments} (typed-node {k = k} {p = p} {t = t} {ks = ks} e h) w (suc n) r d =
         rw (sign-append x 1 (p ∷ writeAll x t) r, node-level (read x l arguments n) l w k p (writeAll x t ++ r) (apart k p ks e))

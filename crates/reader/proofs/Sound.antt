@@ -9,12 +9,12 @@ use mathlib.Core.Option.{Option, none, some}
 use native.Mathlib.Omega.{arith}
 use lib.Dec.{eqb}
 use borrow.Author.Tests.{eqb-true}
-use Rattle.fields.proofs.Truth.{false-true}
+use Rattle.fields.proofs.Truth.{false-true, by-test}
 use Rattle.fields.proofs.Codec.{Bytes}
 use Rattle.language.specs.Language.{Language, Range, rangeOf, argumentsOf, inRange}
 use Rattle.reader.specs.Code.{Code, node, token, argument, Codes, cons, levels, levelsAll}
 use Rattle.reader.specs.Typing.{kindAt, Typed, TypedAll, typed-node, typed-token, typed-argument, typed-nil, typed-cons}
-use Rattle.reader.specs.Syntax.{Syntax, tree, code, sign, write, writeAll, Read, done, deep, broken, andThen, readAll, readOperands, readNode, readToken, isThe, readArgument, readTreeLevel, readCodeLevel, readLevel, read}
+use Rattle.reader.specs.Syntax.{Syntax, tree, code, sign, write, writeAll, Read, done, deep, broken, andThen, readAll, readOperands, readNode, readToken, isThe, readArgument, readTreeLevel, readCodeLevel, readLevel, earlier, current, pastLevels, readBy, read}
 
 -- The bytes were consumed: they are what the code is written as, and the rest.
 abbrev pub Consumed : List ℕ → List ℕ → List ℕ → Type 0
@@ -42,6 +42,28 @@ consumed-signed : (x : Syntax) (b : ℕ) (s f r : List ℕ) → Consumed s f r �
 consumed-signed tree b s f r h = h
 consumed-signed code b s f r h = consumed-sign b s f r h
 
+-- A token is right with any levels.
+module _ (x : Syntax) (l : Language) (arguments : List ℕ) (n : ℕ) where
+  token-in : (k : ℕ) (c : Range) (a b : ℕ) (s : List ℕ) → rangeOf l k ≡ some c → (t : Bool) → inRange c (a * 256 + b) ≡ t
+      → Right x l arguments n k (sign x 2 ++ a ∷ b ∷ s) (elim t [ true ↦ done (token (a * 256 + b)) s | false ↦ broken ])
+  unfolding levels write
+  token-in k c a b s e true q =
+      (typed-token e q, omega arith, consumed-signed x 2 (a ∷ b ∷ s) ((a * 256 + b) / 256 ∷ (a * 256 + b) % 256 ∷ []) s eats)
+    where
+      eats : Consumed (a ∷ b ∷ s) ((a * 256 + b) / 256 ∷ (a * 256 + b) % 256 ∷ []) s
+      eats h =
+          let high : (a * 256 + b) / 256 ≡ a = omega (arith, h .1 .0) in
+          let low : (a * 256 + b) % 256 ≡ b = omega (arith, h .1 .0) in
+          (rw (high, low), h .1 .1)
+  token-in k c a b s e false q = tt
+
+  token-right : (k : ℕ) (o : Option Range) (s : List ℕ) → rangeOf l k ≡ o → Right x l arguments n k (sign x 2 ++ s) (readToken o s)
+  unfolding readToken
+  token-right k none s e = tt
+  token-right k (some c) [] e = tt
+  token-right k (some c) (a ∷ []) e = tt
+  token-right k (some c) (a ∷ b ∷ s) e = token-in k c a b s e (inRange c (a * 256 + b)) refl
+
 module _ (x : Syntax) (l : Language) (arguments : List ℕ) (n : ℕ) (reads : ℕ → List ℕ → Read Code)
     (right : (k : ℕ) (s : List ℕ) → Right x l arguments n k s (reads k s)) where
   cons-right : (a : Code) (k : ℕ) (ks s r : List ℕ) (o : Read Codes) → Right x l arguments n k s (done a r) → RightAll x l arguments n ks r o
@@ -64,7 +86,7 @@ module _ (x : Syntax) (l : Language) (arguments : List ℕ) (n : ℕ) (reads : �
   all-right [] s = (typed-nil, omega arith, λ b. (refl, b))
   all-right (k ∷ ks) s = next-right k ks s (reads k s) (right k s) (λ r. all-right ks r)
 
-  -- A node, a token and an argument, each behind its sign.
+  -- A node behind its sign.
   operands-right : (k p : ℕ) (ks s : List ℕ) (o : Read Codes) → argumentsOf l k p ≡ some ks → RightAll x l arguments n ks s o
       → Right x l arguments (suc n) k (sign x 1 ++ p ∷ s) (andThen o λ t r. done (node k p t) r)
   unfolding levels write
@@ -83,26 +105,6 @@ module _ (x : Syntax) (l : Language) (arguments : List ℕ) (n : ℕ) (reads : �
   unfolding readNode
   node-right k [] = tt
   node-right k (p ∷ s) = named-right k p s (argumentsOf l k p) refl
-
-  token-in : (k : ℕ) (c : Range) (a b : ℕ) (s : List ℕ) → rangeOf l k ≡ some c → (t : Bool) → inRange c (a * 256 + b) ≡ t
-      → Right x l arguments (suc n) k (sign x 2 ++ a ∷ b ∷ s) (elim t [ true ↦ done (token (a * 256 + b)) s | false ↦ broken ])
-  unfolding levels write
-  token-in k c a b s e true q =
-      (typed-token e q, omega arith, consumed-signed x 2 (a ∷ b ∷ s) ((a * 256 + b) / 256 ∷ (a * 256 + b) % 256 ∷ []) s eats)
-    where
-      eats : Consumed (a ∷ b ∷ s) ((a * 256 + b) / 256 ∷ (a * 256 + b) % 256 ∷ []) s
-      eats h =
-          let high : (a * 256 + b) / 256 ≡ a = omega (arith, h .1 .0) in
-          let low : (a * 256 + b) % 256 ≡ b = omega (arith, h .1 .0) in
-          (rw (high, low), h .1 .1)
-  token-in k c a b s e false q = tt
-
-  token-right : (k : ℕ) (o : Option Range) (s : List ℕ) → rangeOf l k ≡ o → Right x l arguments (suc n) k (sign x 2 ++ s) (readToken o s)
-  unfolding readToken
-  token-right k none s e = tt
-  token-right k (some c) [] e = tt
-  token-right k (some c) (a ∷ []) e = tt
-  token-right k (some c) (a ∷ b ∷ s) e = token-in k c a b s e (inRange c (a * 256 + b)) refl
 
 is-the : (k : ℕ) (o : Option ℕ) → isThe k o ≡ true → o ≡ some k
 is-the k none e = false-true e
@@ -124,7 +126,7 @@ tree-right : (l : Language) (arguments : List ℕ) (n : ℕ) (reads : ℕ → Li
     → ((k : ℕ) (s : List ℕ) → Right tree l arguments n k s (reads k s)) → (k : ℕ) (s : List ℕ) (o : Option Range) → rangeOf l k ≡ o
     → Right tree l arguments (suc n) k s (elim o [ some c ↦ readToken (some c) s | none ↦ readNode reads l k s ])
 tree-right l arguments n reads right k s none e = node-right tree l arguments n reads right k s
-tree-right l arguments n reads right k s (some c) e = token-right tree l arguments n reads right k (some c) s e
+tree-right l arguments n reads right k s (some c) e = token-right tree l arguments (suc n) k (some c) s e
 
 module _ (l : Language) (arguments : List ℕ) (n : ℕ) (reads : ℕ → List ℕ → Read Code)
     (right : (k : ℕ) (s : List ℕ) → Right code l arguments n k s (reads k s)) (k b : ℕ) (s : List ℕ) where
@@ -138,7 +140,7 @@ module _ (l : Language) (arguments : List ℕ) (n : ℕ) (reads : ℕ → List �
         | true ↦ readToken (rangeOf l k) s
         | false ↦ elim (eqb b 3) [ true ↦ readArgument arguments k s | false ↦ broken ]
       ])
-  second-right true q = rw (eqb-true b 2 q) (token-right code l arguments n reads right k (rangeOf l k) s refl)
+  second-right true q = rw (eqb-true b 2 q) (token-right code l arguments (suc n) k (rangeOf l k) s refl)
   second-right false q = third-right (eqb b 3) refl
 
   first-right : (t : Bool) → eqb b 1 ≡ t
@@ -161,11 +163,28 @@ level-right tree l arguments n reads right k s = tree-right l arguments n reads 
 level-right code l arguments n reads right k [] = tt
 level-right code l arguments n reads right k (b ∷ s) = first-right l arguments n reads right k b s (eqb b 1) refl
 
+-- What is read past the last level is right.
+past-tree-right : (l : Language) (arguments : List ℕ) (k : ℕ) (s : List ℕ) (o : Option Range) → rangeOf l k ≡ o
+    → Right tree l arguments 0 k s (elim o [ some c ↦ readToken (some c) s | none ↦ deep ])
+past-tree-right l arguments k s none e = tt
+past-tree-right l arguments k s (some c) e = token-right tree l arguments 0 k (some c) s e
+
+past-code-right : (l : Language) (arguments : List ℕ) (k b : ℕ) (s : List ℕ) (t : Bool) → eqb b 2 ≡ t
+    → Right code l arguments 0 k (b ∷ s) (elim t [ true ↦ readToken (rangeOf l k) s | false ↦ deep ])
+past-code-right l arguments k b s true q = rw (eqb-true b 2 q) (token-right code l arguments 0 k (rangeOf l k) s refl)
+past-code-right l arguments k b s false q = tt
+
+past-right : (x : Syntax) (l : Language) (arguments : List ℕ) (k : ℕ) (s : List ℕ) → Right x l arguments 0 k s (pastLevels current x l k s)
+unfolding pastLevels
+past-right tree l arguments k s = past-tree-right l arguments k s (rangeOf l k) refl
+past-right code l arguments k [] = tt
+past-right code l arguments k (b ∷ s) = past-code-right l arguments k b s (eqb b 2) refl
+
 -- Whatever is read is right.
 pub read-right : (x : Syntax) (l : Language) (arguments : List ℕ) (n k : ℕ) (s : List ℕ)
     → Right x l arguments n k s (read x l arguments n k s)
-unfolding read
-read-right x l arguments zero k s = tt
+unfolding readBy
+read-right x l arguments zero k s = past-right x l arguments k s
 read-right x l arguments (suc n) k s =
     level-right x l arguments n (read x l arguments n) (λ j r. read-right x l arguments n j r) k s
 
@@ -221,11 +240,38 @@ module _ (f g : ℕ → List ℕ → Read Code) (h : (k : ℕ) (s : List ℕ) �
   level-more code arguments k [] = inr refl
   level-more code arguments k (b ∷ s) = code-more k s (eqb b 1) _
 
+-- What is read past the last level is what is read at a level.
+two-more : (b k : ℕ) (s : List ℕ) (l : Language) (arguments : List ℕ) (reads : ℕ → List ℕ → Read Code) → b ≡ 2
+    → readCodeLevel reads l arguments k (b ∷ s) ≡ pastLevels current code l k (b ∷ s)
+unfolding readCodeLevel pastLevels
+two-more b k s l arguments reads e = rw e
+
+past-more : (x : Syntax) (l : Language) (arguments : List ℕ) (reads : ℕ → List ℕ → Read Code) (k : ℕ) (s : List ℕ)
+    → More (pastLevels current x l k s) (readLevel x reads l arguments k s)
+unfolding pastLevels readLevel readTreeLevel readCodeLevel
+past-more tree l arguments reads k s = go (rangeOf l k)
+  where
+    go : (o : Option Range)
+        → More {A = Code} (elim o [ some c ↦ readToken (some c) s | none ↦ deep ]) (elim o [ some c ↦ readToken (some c) s | none ↦ readNode reads l k s ])
+    go none = inl refl
+    go (some c) = inr refl
+past-more code l arguments reads k [] = inl refl
+past-more code l arguments reads k (b ∷ s) = by-test (eqb b 2) (λ t. inr (two-more b k s l arguments reads (eqb-true b 2 t))) (λ t. inl (cc))
+
 -- More levels change nothing but the refusal.
 pub more-levels : (x : Syntax) (l : Language) (arguments : List ℕ) (n m k : ℕ) (s : List ℕ) → n ≤ m
     → More (read x l arguments n k s) (read x l arguments m k s)
-unfolding read
-more-levels x l arguments zero m k s h = inl refl
+unfolding readBy
+more-levels x l arguments zero zero k s h = inr refl
+more-levels x l arguments zero (suc m) k s h = past-more x l arguments (read x l arguments m) k s
 more-levels x l arguments (suc n) zero k s h = absurd (omega arith)
 more-levels x l arguments (suc n) (suc m) k s h =
     level-more (read x l arguments n) (read x l arguments m) (λ j r. more-levels x l arguments n m j r (omega arith)) l x arguments k s
+
+-- The current rule changes nothing but the refusal of the earlier one.
+pub rules-more : (x : Syntax) (l : Language) (arguments : List ℕ) (n k : ℕ) (s : List ℕ)
+    → More (readBy earlier x l arguments n k s) (read x l arguments n k s)
+unfolding readBy pastLevels
+rules-more x l arguments zero k s = inl refl
+rules-more x l arguments (suc n) k s =
+    level-more (readBy earlier x l arguments n) (read x l arguments n) (λ j r. rules-more x l arguments n j r) l x arguments k s

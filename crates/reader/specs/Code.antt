@@ -12,12 +12,12 @@ mutual
     nil : Codes
     cons : Code → Codes → Codes
 
--- How many levels a code has: each node, token and argument is one, an operand one deeper than its node
--- (paper 01, "Languages" for trees and "Translations" for codes).
+-- How many levels a code has: each node and argument is one, an operand one deeper than its node (paper 01, "Languages"
+-- for trees and "Translations" for codes); a token is none (paper 02, 2026-07).
 unfoldable mutual
   pub levels : Code → ℕ
   levels (node k p t) = suc (levelsAll t)
-  levels (token v) = 1
+  levels (token v) = 0
   levels (argument i) = 1
 
   pub levelsAll : Codes → ℕ

@@ -96,8 +96,25 @@ unfoldable pub readLevel : Syntax → (ℕ → List ℕ → Read Code) → Langu
 readLevel tree reads l arguments k s = readTreeLevel reads l k s
 readLevel code reads l arguments k s = readCodeLevel reads l arguments k s
 
--- A code of kind k off the front of the bytes, with so many levels left. Where none is left it is too deep,
--- before a byte is looked at (paper 01, "Check a tree").
-unfoldable pub read : Syntax → Language → List ℕ → ℕ → ℕ → List ℕ → Read Code
-read x l arguments zero k s = deep
-read x l arguments (suc n) k s = readLevel x (read x l arguments n) l arguments k s
+-- What counts as a level: by the earlier rule every node, token and argument (paper 01, "Languages" and "Translations"),
+-- by the current one no token (paper 02, 2026-07).
+pub data Rule : Type 0 where
+  earlier current : Rule
+
+-- What stands past the last level. By the current rule a token is no level and is read: in a tree that of a class,
+-- in a code what stands behind 02. Anything else is too deep, before a byte of it is looked at (paper 01, "Check a tree";
+-- paper 02, 2026-07).
+unfoldable pub pastLevels : Rule → Syntax → Language → ℕ → List ℕ → Read Code
+pastLevels earlier x l k s = deep
+pastLevels current tree l k s = elim (rangeOf l k) [ some c ↦ readToken (some c) s | none ↦ deep ]
+pastLevels current code l k [] = deep
+pastLevels current code l k (b ∷ s) = elim (eqb b 2) [ true ↦ readToken (rangeOf l k) s | false ↦ deep ]
+
+-- A code of kind k off the front of the bytes, with so many levels left by a rule.
+unfoldable pub readBy : Rule → Syntax → Language → List ℕ → ℕ → ℕ → List ℕ → Read Code
+readBy c x l arguments zero k s = pastLevels c x l k s
+readBy c x l arguments (suc n) k s = readLevel x (readBy c x l arguments n) l arguments k s
+
+-- Reading by the current rule.
+abbrev pub read : Syntax → Language → List ℕ → ℕ → ℕ → List ℕ → Read Code
+read x l arguments n k s = readBy current x l arguments n k s

@@ -6,7 +6,7 @@ ghost use Prim.Native.Nat.{ℕ, _+_, _<_, _≤_};
 ghost use mathlib.Core.Bool.{cond};
 ghost use lib.Dec.{eqb};
 ghost use lib.ListN.{length, getD};
-ghost use Rattle.reader.specs.Inner.Positions.{nameLength, productionPlace, tokenAt, nameAt, argumentIs, argumentAt, treeNode, codeNode, nodeAt, EndsBy, NodeIn};
+ghost use Rattle.reader.specs.Inner.Positions.{nameLength, productionPlace, tokenAt, nameAt, argumentIs, argumentAt, treeNode, codeNode, nodeAt, pastAt, EndsBy, NodeIn};
 ghost use Rattle.reader.specs.Inner.Index.{Ready, indexLength};
 
 // Trees are written without signs, codes with them.
@@ -207,5 +207,49 @@ pub fn node_at(
     match syntax {
         Syntax::Tree => tree_node(language, index, kind, bytes, at),
         Syntax::Code => code_node(language, index, arguments, kind, bytes, at),
+    }
+}
+
+// What stands at a position of a tree past the last level: the token of a class is no level.
+fn past_tree(language: &[u8], index: &[u16], kind: u8, bytes: &[u8], at: usize) -> Read
+    requires { ⌜ Ready (now index) (now language) kind (now bytes) at ⌝ }
+    ensures { λ r. ⌜ (r ≡ pastAt Syntax.Tree (now (language .entry)) (now (index .entry)) kind (now (bytes .entry)) at) × EndsBy (length (now (bytes .entry))) r ⌝ }
+{
+    let class = place_at(index, to_usize(kind));
+    if class == 0 {
+        return Read::Deep;
+    }
+    token(language, class, bytes, at)
+}
+
+// What stands at a position of a code past the last level: 02 and its token are no level.
+fn past_code(language: &[u8], index: &[u16], kind: u8, bytes: &[u8], at: usize) -> Read
+    requires { ⌜ Ready (now index) (now language) kind (now bytes) at ⌝ }
+    ensures { λ r. ⌜ (r ≡ pastAt Syntax.Code (now (language .entry)) (now (index .entry)) kind (now (bytes .entry)) at) × EndsBy (length (now (bytes .entry))) r ⌝ }
+{
+    if bytes.len() <= at {
+        return Read::Deep;
+    }
+    if bytes[at] != 2 {
+        return Read::Deep;
+    }
+    token(language, place_at(index, to_usize(kind)), bytes, at + 1)
+}
+
+// What stands at a position past the last level, in either syntax: a token is read, anything else is too deep.
+pub fn past_levels(
+    syntax: Syntax,
+    language: &[u8],
+    index: &[u16],
+    kind: u8,
+    bytes: &[u8],
+    at: usize,
+) -> Read
+    requires { ⌜ Ready (now index) (now language) kind (now bytes) at ⌝ }
+    ensures { λ r. ⌜ (r ≡ pastAt syntax (now (language .entry)) (now (index .entry)) kind (now (bytes .entry)) at) × EndsBy (length (now (bytes .entry))) r ⌝ }
+{
+    match syntax {
+        Syntax::Tree => past_tree(language, index, kind, bytes, at),
+        Syntax::Code => past_code(language, index, kind, bytes, at),
     }
 }

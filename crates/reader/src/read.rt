@@ -4,6 +4,7 @@ use crate::node::Read;
 use crate::node::Syntax;
 use crate::node::name_length;
 use crate::node::node_at;
+use crate::node::past_levels;
 use crate::node::place_at;
 use crate::node::production_place;
 use crate::node::token;
@@ -29,7 +30,7 @@ pub fn class_place(syntax: Syntax, index: &[u16], kind: u8) -> usize
     }
 }
 
-// A code of the kind at a position, with so many levels left.
+// A code of the kind at a position, with so many levels left; a token is no level.
 pub fn read_at(
     syntax: Syntax,
     language: &[u8],
@@ -44,7 +45,7 @@ pub fn read_at(
     ensures { λ r. ⌜ (r ≡ readAt syntax (now (language .entry)) (now (index .entry)) (now (arguments .entry)) (now (bytes .entry)) levels kind at) × EndsBy (length (now (bytes .entry))) r ⌝ }
 {
     if levels == 0 {
-        return Read::Deep;
+        return past_levels(syntax, language, index, kind, bytes, at);
     }
     match node_at(syntax, language, index, arguments, kind, bytes, at) {
         Node::Leaf(r) => r,
@@ -83,13 +84,13 @@ fn operands(
     let mut to = at;
     let mut left = levels;
     while q < end {
-        if left == 0 {
-            return Read::Deep;
-        }
         let kind = language[q];
         let class = class_place(syntax, index, kind);
         let place = production_place(syntax, index, class, kind, bytes, to);
         if place != 0 {
+            if left == 0 {
+                return Read::Deep;
+            }
             let first = place + 4;
             let last = place + 2 + pair_in(language, place);
             to += name_length(syntax);

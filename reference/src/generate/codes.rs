@@ -17,10 +17,11 @@ pub struct Coder<'a> {
 impl Coder<'_> {
     /// The least number of levels of a code of the kind, if one is found.
     fn least(&self, kind: u8) -> Option<usize> {
+        let least = self.heights.least(kind);
         if self.arguments.contains(&kind) {
-            return Some(1);
+            return Some(least.map_or(1, |least| least.min(1)));
         }
-        self.heights.least(kind)
+        least
     }
 
     /// A well-formed code of the kind, if one is found: mostly small, sometimes of 16 levels.
@@ -72,7 +73,8 @@ impl Coder<'_> {
 
     /// Appends a code of the kind with at most so many levels, which must be enough.
     fn put(&self, random: &mut Random, kind: u8, levels: usize, code: &mut Vec<u8>) {
-        if let Some(argument) = self.argument(random, kind) {
+        let argument = if levels > 0 { self.argument(random, kind) } else { None };
+        if let Some(argument) = argument {
             let short = self.heights.least(kind).is_none_or(|least| least > levels);
             if short || random.percent(60) {
                 return argument.put(code);
@@ -101,6 +103,10 @@ impl Coder<'_> {
 
     /// Appends a code of exactly that height, which the kind must have.
     fn put_high(&self, random: &mut Random, kind: u8, height: usize, code: &mut Vec<u8>) {
+        match self.argument(random, kind) {
+            Some(argument) if height == 1 && random.percent(50) => return argument.put(code),
+            _ => {}
+        }
         if let Some(class) = self.class(kind) {
             return token(random, class).put(code);
         }
@@ -115,7 +121,7 @@ impl Coder<'_> {
                 self.put_high(random, argument, height - 1, code);
             } else {
                 let least = self.least(argument).expect("the kind has a code");
-                self.put(random, argument, least, code);
+                self.put(random, argument, least.max(1).min(height - 1), code);
             }
         }
     }

@@ -28,7 +28,8 @@ impl Bounds {
     }
 }
 
-/// The bounds of each kind for trees of at most so many levels, if there is such a tree.
+/// The bounds of each kind for trees of at most so many levels, if there is such a tree; a token
+/// is no level.
 type Level = [Option<Bounds>; KINDS];
 
 /// The bounds of each kind, by the number of levels.
@@ -39,7 +40,7 @@ pub struct Lengths {
 impl Lengths {
     /// Works out the bounds for a language.
     pub fn new(language: &Language) -> Lengths {
-        let mut levels = vec![[None; KINDS]];
+        let mut levels = vec![class_bounds(language)];
         for below in 0..TREE_LEVELS {
             levels.push(level_above(language, &levels[below]));
         }
@@ -52,12 +53,18 @@ impl Lengths {
     }
 }
 
-/// The bounds with one level more than those given.
-fn level_above(language: &Language, below: &Level) -> Level {
+/// The bounds of the tokens.
+fn class_bounds(language: &Language) -> Level {
     let mut level = [None; KINDS];
     for class in &language.classes {
         level[class.kind as usize] = Some(Bounds { least: 2, most: 2 });
     }
+    level
+}
+
+/// The bounds with one level more than those given.
+fn level_above(language: &Language, below: &Level) -> Level {
+    let mut level = class_bounds(language);
     for production in &language.productions {
         let place = &mut level[production.result as usize];
         let bounds = production_bounds(production, below);

@@ -68,7 +68,7 @@ struct LongGrower<'a> {
     subtrees: Vec<Range<usize>>,
     /// The number of levels so far.
     levels: usize,
-    /// The last production at the last level that is allowed, and another name with arguments.
+    /// The last production at the last level that is allowed, and a name with a level below.
     deepest: Option<(usize, u8)>,
 }
 
@@ -97,11 +97,11 @@ impl<'a> LongGrower<'a> {
 
     /// Appends a tree of the kind.
     fn grow(&mut self, random: &mut Random, kind: u8, wish: Wish) {
-        let (start, level) = (self.tree.len(), self.habit.levels - wish.levels + 1);
-        self.levels = self.levels.max(level);
         if let Some(class) = self.classes[kind as usize] {
             return self.tree.extend_from_slice(&token(random, class).to_be_bytes());
         }
+        let (start, level) = (self.tree.len(), self.habit.levels - wish.levels + 1);
+        self.levels = self.levels.max(level);
         if level == TREE_LEVELS {
             self.deepest = self.deeper_name(kind).map(|name| (start, name)).or(self.deepest);
         }
@@ -113,10 +113,12 @@ impl<'a> LongGrower<'a> {
         }
     }
 
-    /// The name of a production of the kind that has arguments.
+    /// The name of a production of the kind whose first argument is a level more.
     fn deeper_name(&self, kind: u8) -> Option<u8> {
         let mut productions = self.source.productions[self.places[kind as usize].clone()].iter();
-        let found = productions.find(|production| !production.arguments().is_empty());
+        let deeper = |&kind: &u8| self.classes[kind as usize].is_none();
+        let found =
+            productions.find(|production| production.arguments().first().is_some_and(deeper));
         found.map(|production| production.name)
     }
 

@@ -6,8 +6,8 @@ use super::random::Random;
 use super::ranges::{around, inside, related, with_one_range, with_ranges};
 use super::terms::{deepened, Names, TermWriter};
 use super::translations::{
-    chain_code, counting_language, counting_translation, cut_mapping, endomorphism,
-    full_translation, translation_file, wrong_body,
+    chain_code, chain_code_with_end, counting_language, counting_translation, counting_with_tokens,
+    cut_mapping, endomorphism, full_translation, single_translation, translation_file, wrong_body,
 };
 use crate::body::{Body, Clause};
 use crate::field::{put_header, Fields};
@@ -411,6 +411,32 @@ fn deep_join(random: &mut Random) -> Vec<u8> {
     constants.pack(&[&[0x54][..], &outer, &inner].concat())
 }
 
+/// A join whose codes have about 16 levels and end in tokens or arguments.
+fn deep_token_join(random: &mut Random) -> Vec<u8> {
+    let mut constants = Constants::default();
+    let added = random.within(1..=3);
+    let longer = [[1, 1].repeat(added), vec![3, 1]].concat();
+    let token: &[u8] = random.pick(&[
+        &[1, 3, 3, 1],
+        &[1, 3, 3, 1],
+        &[1, 1, 1, 3, 3, 1],
+        &[1, 3, 2, 0, 9],
+        &[1, 1, 1, 3, 2, 0, 9],
+    ]);
+    let language = counting_with_tokens();
+    let codes = [&[1, 0], &longer[..], &[1, 2, 3, 2, 3, 1], token];
+    let clauses = language.productions.iter().zip(codes);
+    let clauses = clauses.map(|(production, code)| Clause { key: production.key(), code });
+    let mapping = cut_mapping(&language, |kind| kind);
+    let body = Body { mapping, clauses: clauses.collect() };
+    let outer = Translation { source: language.clone(), target: language, body };
+    let levels = random.within(14 / added..=18 / added).clamp(1, 16);
+    let inner = single_translation(&chain_code_with_end(random, levels));
+    let outer = constants.translation(&outer);
+    let inner = constants.translation(&inner);
+    constants.pack(&[&[0x54][..], &outer, &inner].concat())
+}
+
 /// A join whose value is about 4,096 bytes, or far above any count.
 fn long_join(random: &mut Random) -> Vec<u8> {
     let mut constants = Constants::default();
@@ -517,7 +543,8 @@ fn pack_file(random: &mut Random) -> Vec<u8> {
         2 | 3 => wrong_constants(random),
         4 | 5 => full_language_sum(random),
         6 | 7 => full_translation_pack(random),
-        8 | 9 => deep_join(random),
+        8 => deep_join(random),
+        9 => deep_token_join(random),
         10 => long_join(random),
         11 | 12 => full_join(random),
         13..=15 => wrong_body_pack(random),

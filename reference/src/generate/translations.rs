@@ -7,10 +7,11 @@ use super::languages::{arguments, full_language, language, name};
 use super::long::long_run_case;
 use super::random::Random;
 use super::ranges::{inside, outside, related, with_one_range, with_ranges};
-use super::trees::root_and_tree;
+use super::trees::{chain_language, chain_tree, root_and_tree};
 use crate::body::{Body, Clause, Clauses, Mapping};
 use crate::code::{Symbol, CODE_LEVELS};
 use crate::language::{bit, Class, Language, Production, KINDS, LANGUAGE_LIMIT};
+use crate::operators::identity;
 use crate::run::run;
 use crate::translation::{Translation, TRANSLATION_LIMIT};
 use std::collections::BTreeMap;
@@ -330,13 +331,41 @@ fn wrong_codes(random: &mut Random, translation: &mut Translation) {
     translation.body.clauses = changed;
 }
 
-/// A translation into the counting language with one code, a chain at or past the limit.
+/// The counting language with a class 2 and production 1.3 of one token.
+pub fn counting_with_tokens() -> Language {
+    let mut language = counting_language();
+    language.classes.push(Class { kind: 2, low: 5, high: 9 });
+    language.productions.push(Production::new(1, 3, &[2]));
+    language
+}
+
+/// A chain of so many levels over the counting language with tokens, which ends in a leaf, in a
+/// token, or in one of two arguments of kinds 1 and 2.
+pub fn chain_code_with_end(random: &mut Random, levels: usize) -> Vec<u8> {
+    let (end, own): (&[u8], usize) = random.pick(&[
+        (&[1, 0], 1),
+        (&[1, 3, 2, 0, 7], 1),
+        (&[1, 3, 2, 0, 7], 1),
+        (&[3, 1], 1),
+        (&[1, 3, 3, 2], 2),
+    ]);
+    [&[1, 1].repeat(levels.saturating_sub(own)), end].concat()
+}
+
+/// A translation of one production with arguments of kinds 1 and 2, by a code.
+pub fn single_translation(code: &[u8]) -> Translation {
+    let target = counting_with_tokens();
+    let productions = vec![Production::new(3, 4, &[1, 2])];
+    let source = Language { classes: target.classes.clone(), productions };
+    let clauses = [Clause { key: 0x0304, code }].into_iter().collect();
+    let mapping = cut_mapping(&source, |kind| if kind == 2 { 2 } else { 1 });
+    Translation { source, target, body: Body { mapping, clauses } }
+}
+
+/// A translation with one code, a chain at or past the limit.
 fn chain_translation(random: &mut Random) -> Translation {
     let levels = CODE_LEVELS as usize + random.below(2);
-    let source = Language { classes: vec![], productions: vec![Production::new(3, 4, &[])] };
-    let clauses = [Clause { key: 0x0304, code: &chain_code(levels) }].into_iter().collect();
-    let mapping = cut_mapping(&source, |_| 1);
-    Translation { source, target: counting_language(), body: Body { mapping, clauses } }
+    single_translation(&chain_code_with_end(random, levels))
 }
 
 /// Gives a result kind of one of the languages a class too.
@@ -434,6 +463,14 @@ fn endless_run_case(random: &mut Random) -> RunCase {
     RunCase { translation, root: 1, tree, output }
 }
 
+/// A run of an identity on a chain about the limit of levels.
+fn chain_run_case(random: &mut Random) -> RunCase {
+    let (language, kind) = chain_language(random);
+    let (translation, tree) = (identity(&language).encode(), chain_tree(random));
+    let output = output_length(random, &translation, u32::from(kind), &tree);
+    RunCase { translation, root: u32::from(kind), tree, output }
+}
+
 /// One run in so many is on a long tree.
 const RUNS_FOR_A_LONG_ONE: usize = 200;
 
@@ -444,6 +481,9 @@ pub fn run_case(random: &mut Random) -> RunCase {
     }
     if random.percent(5) {
         return endless_run_case(random);
+    }
+    if random.percent(4) {
+        return chain_run_case(random);
     }
     if random.percent(12) {
         let bytes = translation_file(random);

@@ -42,14 +42,14 @@ impl<'a> Grower<'a> {
 
     /// Appends a tree of exactly that height, which the kind must have.
     pub fn grow(&mut self, random: &mut Random, kind: u8, height: usize, tree: &mut Vec<u8>) {
-        if self.level > TREE_LEVELS && self.past.is_none() {
-            self.past = Some(tree.len());
-        }
         let classes = &self.language.classes;
         if let Some(class) = classes.iter().find(|class| class.kind == kind) {
             let value = self.token(random, class);
             tree.extend_from_slice(&value.to_be_bytes());
             return;
+        }
+        if self.level > TREE_LEVELS && self.past.is_none() {
+            self.past = Some(tree.len());
         }
         let production = self.production(random, kind, height);
         tree.push(production.name);
@@ -195,8 +195,85 @@ fn damage_tree(random: &mut Random, tree: &mut Vec<u8>) {
     }
 }
 
+/// Names of the productions of a chain: a leaf, links with tokens beside them, ends in a token,
+/// and ends in an undefined kind.
+const LEAF: u8 = 0;
+const LINK: u8 = 1;
+const LINK_BEFORE: u8 = 2;
+const LINK_BEHIND: u8 = 3;
+const END: u8 = 4;
+const GAP: u8 = 5;
+const GAP_BEHIND: u8 = 6;
+const GAP_BEFORE: u8 = 7;
+
+/// A value of the class of a chain.
+const CHAIN_TOKEN: [u8; 2] = [0, 7];
+
+/// A language for chains of one kind, and the kind.
+pub fn chain_language(random: &mut Random) -> (Language, u8) {
+    let first = random.below(KINDS - 2) as u8;
+    let [kind, token, gap] = random.pick(&[
+        [first, first + 1, first + 2],
+        [first + 1, first, first + 2],
+        [first + 2, first + 1, first],
+    ]);
+    let arguments: [&[u8]; 8] = [
+        &[],
+        &[kind],
+        &[token, kind],
+        &[kind, token],
+        &[token],
+        &[gap],
+        &[token, gap],
+        &[gap, token],
+    ];
+    let productions = (LEAF..).zip(arguments).map(|(name, of)| Production::new(kind, name, of));
+    let classes = vec![Class { kind: token, low: 5, high: 9 }];
+    (Language { classes, productions: productions.collect() }, kind)
+}
+
+/// The last production of a chain with what is below it; it may be cut off or unknown.
+fn chain_end(random: &mut Random) -> Vec<u8> {
+    match random.below(12) {
+        0 => vec![LEAF],
+        1..=3 => vec![END, 0, 7],
+        4 => vec![END, 0, random.pick(&[4, 5, 9, 10])],
+        5 => vec![END, 0, 7][..random.within(0..=2)].to_vec(),
+        6 => vec![GAP],
+        7 => vec![GAP, random.byte()],
+        8 => vec![GAP_BEHIND, 0, random.pick(&[7, 7, 10]), random.byte()],
+        9 => vec![GAP_BEFORE, random.byte(), 0, 7],
+        10 => vec![random.byte()],
+        _ => vec![GAP_BEHIND, 0, 7],
+    }
+}
+
+/// A chain of about 64 productions of a chain language.
+pub fn chain_tree(random: &mut Random) -> Vec<u8> {
+    let links = TREE_LEVELS - 3 + random.below(5);
+    let alike = random.percent(50);
+    (0..links).fold(chain_end(random), |below, _| {
+        let link = if alike { LINK } else { random.pick(&[LINK, LINK_BEFORE, LINK_BEHIND]) };
+        match link {
+            LINK_BEFORE => [&[link], &CHAIN_TOKEN[..], &below].concat(),
+            LINK_BEHIND => [&[link], &below[..], &CHAIN_TOKEN].concat(),
+            _ => [&[link], &below[..]].concat(),
+        }
+    })
+}
+
+/// A check of a chain about the limit of levels.
+fn chain_case(random: &mut Random) -> TreeCase {
+    let (language, kind) = chain_language(random);
+    let tree = chain_tree(random);
+    TreeCase { language: encoded(&language), root: u32::from(kind), tree }
+}
+
 /// A language, a root and a tree; the language is seldom damaged.
 pub fn tree_case(random: &mut Random) -> TreeCase {
+    if random.percent(6) {
+        return chain_case(random);
+    }
     if random.percent(10) {
         let language = language_file(random);
         let tree = (0..random.below(6)).map(|_| random.byte()).collect();

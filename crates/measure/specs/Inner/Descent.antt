@@ -1,8 +1,11 @@
 -- Measuring from above: each operand has a weight, how often it counts in the whole, and adds to one sum.
 use Prim.Native.Nat.{ℕ, zero, suc, _+_, _*_, _-_, _<_, _≤_}
+use mathlib.Core.Path.{_≡_}
+use mathlib.Core.Bool.{Bool, false}
 use mathlib.Core.List.{List, []}
 use lib.ListN.{getD}
-use Rattle.reader.specs.Inner.Positions.{nodeAt, KindsIn}
+use lib.Dec.{eqb}
+use Rattle.reader.specs.Inner.Positions.{nodeAt, pastAt, KindsIn}
 use Rattle.reader.specs.declared.node.Syntax.the-variants.{Tree}
 use Rattle.reader.specs.declared.node.Read.{Read}
 use Rattle.reader.specs.declared.node.Read.the-variants as Read
@@ -38,9 +41,14 @@ weighDown f s counts top w sum (Operands q e to) =
 
 -- The tree of kind k at `at`, with so many levels left, that counts w times, on top of a sum.
 unfoldable pub downAt : List ℕ → List ℕ → List ℕ → List ℕ → ℕ → ℕ → ℕ → ℕ → ℕ → ℕ → Measured
-downAt s index counts b top zero w k at sum = Deep
+downAt s index counts b top zero w k at sum = leafDown top w sum (pastAt Tree s index k b at)
 downAt s index counts b top (suc n) w k at sum =
     weighDown (downAt s index counts b top n) s counts top w sum (nodeAt Tree s index [] k b at)
+
+-- With so many levels left a tree of kind k is one too many: none is left, and the kind is no class.
+unfoldable pub outOfLevels : List ℕ → ℕ → ℕ → Bool
+outOfLevels index k zero = eqb (getD index k 0) 0
+outOfLevels index k (suc n) = false
 
 -- The operands from q up to e of a row, with so many levels left for each.
 abbrev pub downRow : List ℕ → List ℕ → List ℕ → List ℕ → ℕ → ℕ → ℕ → ℕ → ℕ → ℕ → ℕ → Measured
@@ -78,3 +86,8 @@ goesOn s index counts b top n Step.Broken = Broken
 abbrev pub StepIn : List ℕ → ℕ → ℕ → ℕ → Step → Type 0
 StepIn s n top at (Step.Row q e w to sum) = (at < to) × (to ≤ n) × (sum ≤ top) × KindsIn s q e
 StepIn s n top at Step.Broken = Unit {0}
+
+-- A class, whose field stands before a place, has no operands.
+abbrev pub Childless : ℕ → Step → Type 0
+Childless place (Step.Row q e w to sum) = (place ≡ 0 → ⊥) → e ≤ q
+Childless place Step.Broken = Unit {0}

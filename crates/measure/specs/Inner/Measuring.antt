@@ -7,7 +7,7 @@ use lib.ListN.{length, getD, drop}
 use Rattle.language.specs.Language.{argumentsOf, productionKey}
 use Rattle.reader.specs.Code.{Code}
 use Rattle.reader.specs.Syntax as Meant
-use Rattle.reader.specs.Inner.Positions.{nodeAt}
+use Rattle.reader.specs.Inner.Positions.{nodeAt, pastAt}
 use Rattle.reader.specs.declared.node.Syntax.the-variants.{Tree}
 use Rattle.reader.specs.declared.node.Read.{Read}
 use Rattle.reader.specs.declared.node.Read.the-variants as Read
@@ -42,7 +42,7 @@ weigh f s counts top (Operands q e to) = sharesFrom f s counts top (e - q) q to 
 
 -- The tree of kind k at `at`, with so many levels left.
 unfoldable pub measureAt : List ℕ → List ℕ → List ℕ → List ℕ → ℕ → ℕ → ℕ → ℕ → Measured
-measureAt s index counts b top zero k at = Deep
+measureAt s index counts b top zero k at = leafAt top (pastAt Tree s index k b at)
 measureAt s index counts b top (suc n) k at =
     weigh (measureAt s index counts b top n) s counts top (nodeAt Tree s index [] k b at)
 

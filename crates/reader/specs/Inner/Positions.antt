@@ -93,9 +93,15 @@ abbrev pub follow : (ℕ → ℕ → Read) → List ℕ → Node → Read
 follow f s (Leaf r) = r
 follow f s (Operands q e to) = operandsFrom f s (e - q) q to
 
+-- What stands at `at` past the last level: a token is read, anything else is too deep.
+unfoldable pub pastAt : Syntax → List ℕ → List ℕ → ℕ → List ℕ → ℕ → Read
+pastAt Tree s index k b at = cond (eqb (getD index k 0) 0) Deep (tokenAt s (getD index k 0) b at)
+pastAt Code s index k b at =
+    cond (leb (length b) at) Deep (cond (eqb (getD b at 0) 2) (tokenAt s (getD index k 0) b (at + 1)) Deep)
+
 -- A code of kind k at `at`, with so many levels left.
 unfoldable pub readAt : Syntax → List ℕ → List ℕ → List ℕ → List ℕ → ℕ → ℕ → ℕ → Read
-readAt x s index arguments b zero k at = Deep
+readAt x s index arguments b zero k at = pastAt x s index k b at
 readAt x s index arguments b (suc n) k at =
     follow (readAt x s index arguments b n) s (nodeAt x s index arguments k b at)
 

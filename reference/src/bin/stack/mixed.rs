@@ -9,8 +9,10 @@ use crate::shapes::{
 use reference::files::{class, clause, mapping, production, translation};
 use reference::generate::Random;
 
-/// The name of a leaf whose code is deep; productions with a deep argument have smaller names.
+/// The names of a leaf whose code is deep, and of such a production of one token; productions with
+/// a deep argument have smaller names.
 const DEEP_LEAF: u8 = 0x80;
+const DEEP_TOKEN: u8 = 0x81;
 /// There are up to so many productions with a deep argument.
 const MOST_NAMES: usize = 6;
 /// A code that is a token, and a tree that is one.
@@ -61,7 +63,7 @@ impl Mixed {
     pub fn language(&self) -> Vec<u8> {
         let deep = self.productions.iter().map(|deep| production(KIND, deep.name, &deep.kinds));
         let first = [class(TOKEN_KIND, 0, u16::MAX), production(KIND, LEAF, &[])].into_iter();
-        let last = [production(KIND, DEEP_LEAF, &[])];
+        let last = [production(KIND, DEEP_LEAF, &[]), production(KIND, DEEP_TOKEN, &[TOKEN_KIND])];
         first.chain(deep).chain(last).collect::<Vec<_>>().concat()
     }
 
@@ -101,24 +103,29 @@ impl Mixed {
         self.around(random, CODE_LEVELS - 1, argument(of.deep), others)
     }
 
-    /// A body with a code for the deep leaf, and codes for the others by a function.
-    fn body_by(&self, deep_leaf: Vec<u8>, mut code: impl FnMut(&Deep) -> Vec<u8>) -> Vec<u8> {
+    /// A body with codes for the deep leaf and the deep token, and for the others by a function.
+    fn body_by(&self, ends: [Vec<u8>; 2], mut code: impl FnMut(&Deep) -> Vec<u8>) -> Vec<u8> {
         let mappings = [mapping(KIND, KIND), mapping(TOKEN_KIND, TOKEN_KIND)].into_iter();
         let leaf = [clause(KIND, LEAF, &kept(LEAF, 0))];
         let deep = self.productions.iter().map(|deep| clause(KIND, deep.name, &code(deep)));
-        let last = [clause(KIND, DEEP_LEAF, &deep_leaf)];
+        let [leaf_code, token_code] = ends;
+        let last = [clause(KIND, DEEP_LEAF, &leaf_code), clause(KIND, DEEP_TOKEN, &token_code)];
         mappings.chain(leaf).chain(deep).chain(last).collect::<Vec<_>>().concat()
     }
 
     /// A random body with codes of 16 levels.
     pub fn body(&self, random: &mut Random) -> Vec<u8> {
-        let leaf = self.around(random, CODE_LEVELS - 1, kept(LEAF, 0), vec![]);
-        self.body_by(leaf, |deep| self.code(random, deep))
+        let token = [&[NODE, DEEP_TOKEN], &TOKEN_CODE[..]].concat();
+        let bottom = if random.percent(50) { kept(LEAF, 0) } else { token };
+        let leaf = self.around(random, CODE_LEVELS - 1, bottom, vec![]);
+        let token = self.around(random, CODE_LEVELS - 2, kept(DEEP_TOKEN, 1), vec![]);
+        self.body_by([leaf, token], |deep| self.code(random, deep))
     }
 
     /// The body of the identity.
     pub fn flat_body(&self) -> Vec<u8> {
-        self.body_by(kept(DEEP_LEAF, 0), |deep| kept(deep.name, deep.kinds.len() as u8))
+        let ends = [kept(DEEP_LEAF, 0), kept(DEEP_TOKEN, 1)];
+        self.body_by(ends, |deep| kept(deep.name, deep.kinds.len() as u8))
     }
 
     /// A random translation into itself with codes of 16 levels.
@@ -126,9 +133,11 @@ impl Mixed {
         translation(&self.language(), &self.language(), &self.body(random))
     }
 
-    /// A random tree of 64 levels.
+    /// A random tree of 64 levels, with or without a token below the last.
     pub fn tree(&self, random: &mut Random) -> Vec<u8> {
-        (1..TREE_LEVELS).fold(vec![DEEP_LEAF], |below, _| {
+        let token = [&[DEEP_TOKEN], &TOKEN_TREE[..]].concat();
+        let bottom = if random.percent(50) { vec![DEEP_LEAF] } else { token };
+        (1..TREE_LEVELS).fold(bottom, |below, _| {
             let production = self.any(random);
             let mut tree = vec![production.name];
             for (number, &kind) in (1..).zip(&production.kinds) {

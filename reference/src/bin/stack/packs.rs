@@ -9,7 +9,7 @@ use reference::generate::Random;
 const TERM_LEVELS: usize = 12;
 
 /// Terms name so many bodies, one of which is flat.
-const BODIES: usize = 6;
+const BODIES: usize = 7;
 const FLAT_BODY: usize = 1;
 
 /// Binds variable 0 to the deep translation, then the other variable 0 to its language.
@@ -91,7 +91,7 @@ const fn bottom(name: &'static str, levels: usize, bound: bool, term: &'static [
     Bottom { name, levels, bound, term }
 }
 
-const BOTTOMS: [Bottom; 20] = [
+const BOTTOMS: [Bottom; 21] = [
     bottom("deep body", 2, false, &[0x50, 0x40, 0, 0x40, 0, 0]),
     bottom("flat body", 2, false, &[0x50, 0x40, 0, 0x40, 0, 1]),
     bottom("identity", 2, false, &[0x55, 0x40, 0]),
@@ -124,6 +124,12 @@ const BOTTOMS: [Bottom; 20] = [
         false,
         &[0x54, 0x50, 0x40, 0, 0x40, 0, 0, 0x50, 0x40, 0, 0x40, 0, 5],
     ),
+    bottom(
+        "join, token second",
+        3,
+        false,
+        &[0x54, 0x50, 0x40, 0, 0x40, 0, 0, 0x50, 0x40, 0, 0x40, 0, 6],
+    ),
     bottom("deep join of variables", 2, true, &[0x54, 0x51, 0, 0x51, 0]),
     bottom(
         "join of variables",
@@ -140,8 +146,13 @@ const BOTTOMS: [Bottom; 20] = [
 ];
 
 /// The bottoms whose joins recur the most.
-const DEEP_JOINS: [&str; 4] =
-    ["join, constant second", "join, mate second", "deep join of variables", "join of variables"];
+const DEEP_JOINS: [&str; 5] = [
+    "join, constant second",
+    "join, mate second",
+    "join, token second",
+    "deep join of variables",
+    "join of variables",
+];
 
 /// Language terms at the bottom.
 const LANGUAGE_BOTTOMS: [Bottom; 4] = [
@@ -207,8 +218,8 @@ impl Bottom {
 impl Stock {
     /// The languages and bodies of a shape.
     ///
-    /// As second operands of a join, the constant body and the last one, its mate, have their
-    /// deep operands where the deep body looks for them.
+    /// As second operands of a join, the constant body and the last two have their deep operands
+    /// where the deep body looks for them.
     fn of(shape: &Shape) -> Stock {
         let mate = Shape { place: shape.used, ..*shape };
         let bodies = [
@@ -218,6 +229,7 @@ impl Stock {
             Shape { order: Order::Constant, ..mate }.body(),
             Shape { order: Order::TooDeep, ..*shape }.body(),
             mate.body(),
+            Shape { order: Order::Token, ..mate }.body(),
         ];
         Stock { name: format!("{shape:?}"), languages: [shape.language(), vec![]], bodies }
     }

@@ -8,7 +8,7 @@ pub const TOKEN_KIND: u8 = 2;
 pub const ROOT: u32 = KIND as u32;
 
 /// Names of productions; a name from 1 to 8 has so many arguments. The code of the deep leaf
-/// has 16 levels, so that the last level of a tree passes through them too.
+/// has 16 levels and a token below them, so that the last level of a tree passes through them too.
 pub const LEAF: u8 = 0;
 const TOKEN: u8 = 9;
 const PAIR: u8 = 10;
@@ -19,9 +19,10 @@ const FIRST_FILLER: u8 = 0x40;
 
 /// Signs of a code.
 pub const NODE: u8 = 1;
+const TOKEN_SIGN: u8 = 2;
 const ARGUMENT: u8 = 3;
 
-/// The most levels of a code and of a tree.
+/// The most levels of a code and of a tree; a token is none.
 pub const CODE_LEVELS: usize = 16;
 pub const TREE_LEVELS: usize = 64;
 
@@ -45,21 +46,24 @@ pub enum Order {
     Alone,
     /// The code of 16 levels uses no argument.
     Constant,
+    /// The code of 16 levels uses no argument and has a token below the last level.
+    Token,
     /// The code has 17 levels, one too many.
     TooDeep,
 }
 
 /// The orders of well-formed codes; the first ones differ even if there is one argument.
-const ORDERS: [Order; 7] = [
+const ORDERS: [Order; 8] = [
     Order::Dropped,
     Order::Alone,
     Order::Constant,
+    Order::Token,
     Order::High,
     Order::HighReversed,
     Order::Low,
     Order::LowReversed,
 ];
-const ORDERS_OF_ONE: usize = 3;
+const ORDERS_OF_ONE: usize = 4;
 
 /// How large languages and translations are.
 #[derive(Clone, Copy, Debug, PartialEq, Eq)]
@@ -91,7 +95,7 @@ pub struct Shape {
 #[derive(Clone, Copy, Debug)]
 pub enum Detour {
     None,
-    /// The last level is a token.
+    /// The production of the last level has a token below it.
     Token,
     /// A pair with a long subtree before or after the deep one.
     LongBefore(usize),
@@ -125,6 +129,11 @@ pub fn shapes(size: Size) -> Vec<Shape> {
 /// A code that is an argument.
 pub fn argument(number: u8) -> Vec<u8> {
     vec![ARGUMENT, number]
+}
+
+/// A production of one token: a code of one level, since the token is none.
+fn token_code() -> Vec<u8> {
+    vec![NODE, TOKEN, TOKEN_SIGN, 0, 5]
 }
 
 /// A production with all its arguments in order: a code of two levels.
@@ -180,6 +189,7 @@ impl Shape {
             Order::Dropped => self.around(CODE_LEVELS - 1, used),
             Order::Alone => used,
             Order::Constant => self.around(CODE_LEVELS - 1, kept(DEEP_LEAF, 0)),
+            Order::Token => self.around(CODE_LEVELS - 1, token_code()),
             Order::TooDeep => self.around(CODE_LEVELS, used),
             Order::High | Order::HighReversed => {
                 let others = self.arguments(|&number| number != self.used);
@@ -246,7 +256,7 @@ impl Shape {
             LEAF | EIGHT => kept(name, count),
             TOKEN if self.size == Size::Lean => kept(name, count),
             TOKEN | PAIR => deep(kept(name, count)),
-            DEEP_LEAF => self.around(CODE_LEVELS - 1, kept(LEAF, 0)),
+            DEEP_LEAF => self.around(CODE_LEVELS - 1, token_code()),
             TWICE => deep([vec![NODE, PAIR], argument(1), argument(1)].concat()),
             _ => self.deep_code(),
         }
@@ -290,11 +300,11 @@ impl Shape {
 
     /// A tree of exactly so many levels.
     pub fn tree(&self, levels: usize, detour: Detour) -> Vec<u8> {
-        let (bottom, above) = match detour {
-            Detour::Token => (vec![TOKEN, 0, 5], levels - 2),
-            _ => (vec![DEEP_LEAF], levels - 1),
+        let bottom = match detour {
+            Detour::Token => vec![TOKEN, 0, 5],
+            _ => vec![DEEP_LEAF],
         };
-        (1..=above).rev().fold(bottom, |below, level| self.level(level, detour, below))
+        (1..levels).rev().fold(bottom, |below, level| self.level(level, detour, below))
     }
 
     /// One level of a tree over the one below it.

@@ -47,7 +47,7 @@ span-code-returns-3 : (t : ℕ) → span-code-lts.Need-returns-3 (span-code-call
 span-code-returns-3 t c = (omega arith, span-argument _ _ _ _ _ _ _ (c .before .if2 .left) (c .if3 .taken))
 
 span-code-returns-4 : (t : ℕ) → span-code-lts.Need-returns-4 (span-code-calls t) (span-code-at t) span-code.Post span-code-Inv-loop span-code-μ-loop
-span-code-returns-4 t c = (omega arith, span-deep _ _ _ _ _ _ _ _ _ (c .if4 .taken))
+span-code-returns-4 t c = (omega arith, span-deep _ _ _ _ _ _ _ _ _ (c .if4 .taken) (c .before .if3 .left))
 
 span-code-place-of-requires : (t : ℕ) → span-code-lts.Need-place-of-requires (span-code-calls t) (span-code-at t) span-code.Post span-code-Inv-loop span-code-μ-loop
 span-code-place-of-requires t c κs = (c .before .before .before .before .before .before .before .before .before .before .pre .1 .0 .long, c .before .before .before .before .before .before .before .before .before .before .pre .1 .1)

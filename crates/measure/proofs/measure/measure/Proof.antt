@@ -1,7 +1,7 @@
 use mathlib.Core.Logic.{inl}
 use native.Mathlib.Omega.{arith}
 use Rattle.measure.proofs.Laws.{step-row}
-use Rattle.measure.proofs.Descent.{down-deep, down-broken, down-rows, same-as}
+use Rattle.measure.proofs.Descent.{down-broken, down-rows, same-as}
 use borrow.Author.Needs.{needs}
 use Rattle.measure.proofs.measure.measure.Statement.{statement}
 use Rattle.measure.proofs.measure.measure.Tie as tie
@@ -10,28 +10,24 @@ use Rattle.measure.proofs.measure.measure.Lts as lts
 use Rattle.measure.proofs.measure.measure_rows.Reads as measure-rows-reads
 use Rattle.measure.proofs.measure.step_at.Reads as step-at-reads
 
-returns : tie.Need-returns
-returns c = (λ f z w. same-as _ _ _ (c .before .before .before .before .args .tree .now) f z w (λ i. omega (arith, c .before .before .shared-slice-known2 .given i)) (c .before .before .before .before .args .top) _ _ (c .before .before .before .before .args .at) (c .before .before .before .before .pre .1) (down-deep _ _ _ _ _ _ _ _ _ (c .if1 .taken)), (tt, λ k p e h. inl h))
-
 measure-rows-requires : tie.Need-measure-rows-requires
-measure-rows-requires c κs = let z = step-row _ _ _ _ _ (c .before .before .from .given .1) (c .before .before .before .before .step-at .ensures .1 .0) in (c .before .before .before .before .before .before .before .before .before .pre .0, z .3, z .1, z .2, omega (arith, c .before .before .before .before .before .before .before .before .before .pre .3, c .before .before .before .before .before .if1 .left))
+measure-rows-requires c κs = let z = step-row _ _ _ _ _ (c .before .before .from .given .1) (c .before .before .before .before .step-at .ensures .1 .0) in (c .before .before .before .before .before .before .before .before .pre .0, z .3, z .1, z .2, omega (arith, c .before .before .before .before .before .before .before .before .pre .3, c .before .before .before .before .before .before .before .before .pre .4))
+
+returns : tie.Need-returns
+returns c = (λ f z w. same-as _ _ _ (c .before .before .before .before .before .before .args .tree .now) f z w (λ i. omega (arith, c .before .before .before .before .shared-slice-known2 .given i)) _ _ _ _ (c .before .before .before .before .before .before .pre .1) (down-broken _ _ _ _ _ _ _ _ _ (c .before .before .before .before .before .before .pre .3) _ (c .before .before .step-at .ensures .0) (c .enum-told .given .1)), (tt, λ k p e h. inl h))
 
 returns-2 : tie.Need-returns-2
-returns-2 c = (λ f z w. same-as _ _ _ (c .before .before .before .before .before .before .before .args .tree .now) f z w (λ i. omega (arith, c .before .before .before .before .before .shared-slice-known2 .given i)) _ _ _ _ (c .before .before .before .before .before .before .before .pre .1) (down-broken _ _ _ _ _ _ _ _ _ (c .before .before .before .if1 .left) _ (c .before .before .step-at .ensures .0) (c .enum-told .given .1)), (tt, λ k p e h. inl h))
-
-returns-3 : tie.Need-returns-3
-returns-3 c = (λ f z w. same-as _ _ _ (c .before .before .before .before .before .before .before .before .before .before .before .before .args .tree .now) f z w (λ i. omega (arith, c .before .before .before .before .before .before .before .before .before .before .shared-slice-known2 .given i)) _ _ _ _ (c .before .before .before .before .before .before .before .before .before .before .before .before .pre .1) (down-rows _ _ _ _ _ _ _ _ _ (c .before .before .before .before .before .before .before .before .if1 .left) _ (c .before .before .before .before .before .before .before .step-at .ensures .0) (c .before .before .before .before .before .from .given .1) (c .before .before .measure-rows .ensures .0 .0)), (c .before .before .measure-rows .ensures .0 .1, c .before .before .measure-rows .ensures .1))
+returns-2 c = (λ f z w. same-as _ _ _ (c .before .before .before .before .before .before .before .before .before .before .before .args .tree .now) f z w (λ i. omega (arith, c .before .before .before .before .before .before .before .before .before .shared-slice-known2 .given i)) _ _ _ _ (c .before .before .before .before .before .before .before .before .before .before .before .pre .1) (down-rows _ _ _ _ _ _ _ _ _ (c .before .before .before .before .before .before .before .before .before .before .before .pre .3) _ (c .before .before .before .before .before .before .before .step-at .ensures .0) (c .before .before .before .before .before .from .given .1) (c .before .before .measure-rows .ensures .0 .0)), (c .before .before .measure-rows .ensures .0 .1, c .before .before .measure-rows .ensures .1))
 
 pub measure-spec : {M : Type 1} → statement M
 measure-spec =
     tie.close
     (tie.spec
-    returns
     (λ c κs. search needs)
     (λ c. search needs)
     (λ c. search needs)
     (λ c. search needs)
     measure-rows-requires
-    returns-2
+    returns
     (λ c. search needs)
-    returns-3)
+    returns-2)

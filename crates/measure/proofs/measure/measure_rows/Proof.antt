@@ -1,10 +1,10 @@
 use borrow.Author.Needs.{needs}
 use Prim.Native.Nat.{_+_, _*_, _-_}
-use mathlib.Core.Path.{_≡_, refl, _∙_}
+use mathlib.Core.Path.{_≡_, refl, sym, _∙_}
 use native.Mathlib.Omega.{arith}
 use lib.ListN.{length}
 use Rattle.measure.specs.Inner.Descent.{downRow}
-use Rattle.measure.proofs.Laws.{step-row}
+use Rattle.measure.proofs.Laws.{step-row, deeper}
 use Rattle.measure.proofs.Rows.{Open, open-in, open-start, open-done, open-back, open-deep, open-broken, open-on, open-down}
 use Rattle.measure.proofs.Learning.{Learning, learn-start, learn-in, learn-back, learn-on, learn-down}
 use Rattle.measure.proofs.measure.measure_rows.Statement.{statement}
@@ -12,6 +12,7 @@ use Rattle.measure.proofs.measure.measure_rows.Tie as tie
 use Rattle.measure.proofs.measure.measure_rows.Reads as reads
 use Rattle.measure.proofs.measure.measure_rows.Lts as lts
 use Rattle.measure.proofs.capped.add_share.Reads as add-share-reads
+use Rattle.measure.proofs.measure.out_of_levels.Reads as out-of-levels-reads
 use Rattle.measure.proofs.measure.step_at.Reads as step-at-reads
 use Rattle.measure.proofs.table.count_in.Reads as count-in-reads
 use Rattle.reader.proofs.ends.keep_end.Reads as keep-end-reads
@@ -84,76 +85,85 @@ loop-again : tie.Need-loop-again Inv-loop μ-loop
 loop-again c = (open-back _ _ _ _ _ _ (c .before .before .before .before .before .before .before .loop .inv .0) (c .before .before .before .before .before .before .if1 .taken) (c .before .before .before .before .before .if2 .left), learn-back _ _ _ _ (c .before .before .before .before .before .before .before .loop .inv .1) (c .before .before .before .before .before .before .if1 .taken) (c .before .before .before .before .before .if2 .left) (c .before .before .before .before .before .before .before .loop .inv .0 .inside) (c .before .before .keep-end .ensures), c .before .ends .given ∙ c .before .before .before .before .before .before .before .loop .inv .2)
 
 same-length-2 : tie.Need-same-length-2 Inv-loop μ-loop
-same-length-2 c = c .before .before .loop .inv .2
+same-length-2 c = c .before .before .before .before .loop .inv .2
+
+shared-slice-read-out-of-levels : tie.Need-shared-slice-read-out-of-levels Inv-loop μ-loop
+shared-slice-read-out-of-levels c = open-in _ _ _ _ _ _ (c .before .before .loop .inv .0) (c .before .if1 .left) (c .before .before .before .before .before .before .pre .0 .short) .0
+
+sub-out-of-levels : tie.Need-sub-out-of-levels Inv-loop μ-loop
+sub-out-of-levels c = omega (arith, c .before .before .loop .inv .0 .shallow)
+
+out-of-levels-requires : tie.Need-out-of-levels-requires Inv-loop μ-loop
+out-of-levels-requires c κs = open-in _ _ _ _ _ _ (c .before .before .loop .inv .0) (c .before .if1 .left) (c .before .before .before .before .before .before .pre .0 .short) .1
 
 returns-2 : tie.Need-returns-2 Inv-loop μ-loop
-returns-2 c = ((open-deep _ _ _ _ _ _ (c .before .before .loop .inv .0) (c .before .if1 .left) (c .if3 .taken), tt), c .before .before .loop .inv .1 .learnt)
+returns-2 c = ((open-deep _ _ _ _ _ _ (c .before .before .before .before .loop .inv .0) (c .before .before .before .if1 .left) (sym (c .before .out-of-levels .ensures) ∙ c .if3 .taken), tt), c .before .before .before .before .loop .inv .1 .learnt)
 
 count-in-requires : tie.Need-count-in-requires Inv-loop μ-loop
-count-in-requires c κs = open-in _ _ _ _ _ _ (c .before .before .loop .inv .0) (c .before .if1 .left) (c .before .before .before .before .before .before .pre .0 .short) .2
+count-in-requires c κs = open-in _ _ _ _ _ _ (c .before .before .before .before .loop .inv .0) (c .before .before .before .if1 .left) (c .before .before .before .before .before .before .before .before .pre .0 .short) .2
 
 add-share-requires : tie.Need-add-share-requires Inv-loop μ-loop
 add-share-requires c κs = (omega arith, c .count-in .ensures .1)
 
 mul-starts : tie.Need-mul-starts Inv-loop μ-loop
-mul-starts c = omega (arith, c .before .before .before .before .loop .inv .0 .shallow, c .before .before .before .before .before .before .before .before .pre .4)
+mul-starts c = omega (arith, c .before .before .before .before .before .before .loop .inv .0 .shallow, c .before .before .before .before .before .before .before .before .before .before .pre .4)
 
 array-write-starts : tie.Need-array-write-starts Inv-loop μ-loop
-array-write-starts c = omega (arith, c .before .before .before .before .loop .inv .0 .shallow, c .before .before .before .before .before .before .before .before .pre .4)
+array-write-starts c = omega (arith, c .before .before .before .before .before .before .loop .inv .0 .shallow, c .before .before .before .before .before .before .before .before .before .before .pre .4)
 
 shared-slice-read-step-at : tie.Need-shared-slice-read-step-at Inv-loop μ-loop
-shared-slice-read-step-at c = open-in _ _ _ _ _ _ (c .before .before .before .before .before .loop .inv .0) (c .before .before .before .before .if1 .left) (c .before .before .before .before .before .before .before .before .before .pre .0 .short) .0
+shared-slice-read-step-at c = open-in _ _ _ _ _ _ (c .before .before .before .before .before .before .before .loop .inv .0) (c .before .before .before .before .before .before .if1 .left) (c .before .before .before .before .before .before .before .before .before .before .before .pre .0 .short) .0
 
 step-at-requires : tie.Need-step-at-requires Inv-loop μ-loop
-step-at-requires c κs = (c .before .before .before .before .before .before .before .before .before .pre .0, open-in _ _ _ _ _ _ (c .before .before .before .before .before .loop .inv .0) (c .before .before .before .before .if1 .left) (c .before .before .before .before .before .before .before .before .before .pre .0 .short) .1, c .before .before .before .before .before .loop .inv .0 .inside, c .before .before .before .before .before .loop .inv .0 .under)
+step-at-requires c κs = (c .before .before .before .before .before .before .before .before .before .before .before .pre .0, open-in _ _ _ _ _ _ (c .before .before .before .before .before .before .before .loop .inv .0) (c .before .before .before .before .before .before .if1 .left) (c .before .before .before .before .before .before .before .before .before .before .before .pre .0 .short) .1, c .before .before .before .before .before .before .before .loop .inv .0 .inside, c .before .before .before .before .before .before .before .loop .inv .0 .under)
 
 same-length-3 : tie.Need-same-length-3 Inv-loop μ-loop
-same-length-3 c = c .before .before .before .before .before .before .before .before .loop .inv .2
+same-length-3 c = c .before .before .before .before .before .before .before .before .before .before .loop .inv .2
 
 returns-3 : tie.Need-returns-3 Inv-loop μ-loop
-returns-3 c = ((open-broken _ _ _ _ _ _ (c .before .before .before .before .before .before .before .before .loop .inv .0) (c .before .before .before .before .before .before .before .if1 .left) (c .before .before .before .before .before .before .if3 .left) (c .before .before .before .before .before .count-in .ensures .0) (c .before .before .before .before .add-share .ensures) _ (c .before .before .step-at .ensures .0) (c .enum-told .given .1), tt), c .before .before .before .before .before .before .before .before .loop .inv .1 .learnt)
+returns-3 c = ((open-broken _ _ _ _ _ _ (c .before .before .before .before .before .before .before .before .before .before .loop .inv .0) (c .before .before .before .before .before .before .before .before .before .if1 .left) (sym (c .before .before .before .before .before .before .before .out-of-levels .ensures) ∙ c .before .before .before .before .before .before .if3 .left) (c .before .before .before .before .before .count-in .ensures .0) (c .before .before .before .before .add-share .ensures) _ (c .before .before .step-at .ensures .0) (c .enum-told .given .1), tt), c .before .before .before .before .before .before .before .before .before .before .loop .inv .1 .learnt)
 
 add-q : tie.Need-add-q Inv-loop μ-loop
-add-q c = let z = open-in _ _ _ _ _ _ (c .before .before .before .before .before .before .before .before .before .loop .inv .0) (c .before .before .before .before .before .before .before .before .if1 .left) (c .before .before .before .before .before .before .before .before .before .before .before .before .before .pre .0 .short) in omega (arith, z .2)
+add-q c = let z = open-in _ _ _ _ _ _ (c .before .before .before .before .before .before .before .before .before .before .before .loop .inv .0) (c .before .before .before .before .before .before .before .before .before .before .if1 .left) (c .before .before .before .before .before .before .before .before .before .before .before .before .before .before .before .pre .0 .short) in omega (arith, z .2)
 
 loop-less-2 : tie.Need-loop-less-2 Inv-loop μ-loop
 loop-less-2 c = let z = step-row _ _ _ _ _ (c .before .before .first .given .1) (c .before .before .before .before .step-at .ensures .1 .0) in omega (arith, z .0, z .1)
 
 loop-again-2 : tie.Need-loop-again-2 Inv-loop μ-loop
-loop-again-2 c = (open-on _ _ _ _ _ _ (c .before .before .before .before .before .before .before .before .before .before .loop .inv .0) (c .before .before .before .before .before .before .before .before .before .if1 .left) (c .before .before .before .before .before .before .before .before .if3 .left) (c .before .before .before .before .before .before .before .count-in .ensures .0) (c .before .before .before .before .before .before .add-share .ensures) _ (c .before .before .before .before .step-at .ensures .0) (c .before .before .first .given .1) (c .before .before .before .before .step-at .ensures .1 .0) (c .if4 .taken), learn-on _ _ _ _ (c .before .before .before .before .before .before .before .before .before .before .loop .inv .1) (c .before .before .before .before .before .before .before .before .before .if1 .left) (let i = c .before .before .before .before .before .before .before .before .before .before .loop .inv .0 .shallow in omega (arith, c .before .before .before .before .before .before .before .before .if3 .left)) _ (c .before .before .before .before .step-at .ensures .1 .1) (c .before .before .first .given .1) (step-row _ _ _ _ _ (c .before .before .first .given .1) (c .before .before .before .before .step-at .ensures .1 .0) .0) (c .if4 .taken), c .before .before .before .before .before .before .before .before .before .before .loop .inv .2)
+loop-again-2 c = (open-on _ _ _ _ _ _ (c .before .before .before .before .before .before .before .before .before .before .before .before .loop .inv .0) (c .before .before .before .before .before .before .before .before .before .before .before .if1 .left) (sym (c .before .before .before .before .before .before .before .before .before .out-of-levels .ensures) ∙ c .before .before .before .before .before .before .before .before .if3 .left) (c .before .before .before .before .before .before .before .count-in .ensures .0) (c .before .before .before .before .before .before .add-share .ensures) _ (c .before .before .before .before .step-at .ensures .0) (c .before .before .first .given .1) (c .before .before .before .before .step-at .ensures .1 .0) (c .if4 .taken), learn-on _ _ _ _ (c .before .before .before .before .before .before .before .before .before .before .before .before .loop .inv .1) (c .before .before .before .before .before .before .before .before .before .before .before .if1 .left) (sym (c .before .before .before .before .before .before .before .before .before .out-of-levels .ensures) ∙ c .before .before .before .before .before .before .before .before .if3 .left) _ (c .before .before .before .before .step-at .ensures .1 .1 .0) (c .before .before .first .given .1) (step-row _ _ _ _ _ (c .before .before .first .given .1) (c .before .before .before .before .step-at .ensures .1 .0) .0) (c .if4 .taken), c .before .before .before .before .before .before .before .before .before .before .before .before .loop .inv .2)
 
 cast-firsts : tie.Need-cast-firsts Inv-loop μ-loop
-cast-firsts c = let z = open-in _ _ _ _ _ _ (c .before .before .before .before .before .before .before .before .before .before .loop .inv .0) (c .before .before .before .before .before .before .before .before .before .if1 .left) (c .before .before .before .before .before .before .before .before .before .before .before .before .before .before .pre .0 .short) in omega (arith, z .2)
+cast-firsts c = let z = open-in _ _ _ _ _ _ (c .before .before .before .before .before .before .before .before .before .before .before .before .loop .inv .0) (c .before .before .before .before .before .before .before .before .before .before .before .if1 .left) (c .before .before .before .before .before .before .before .before .before .before .before .before .before .before .before .before .pre .0 .short) in omega (arith, z .2)
 
 mul-firsts : tie.Need-mul-firsts Inv-loop μ-loop
-mul-firsts c = omega (arith, c .before .before .before .before .before .before .before .before .before .before .loop .inv .0 .shallow, c .before .before .before .before .before .before .before .before .before .before .before .before .before .before .pre .4)
+mul-firsts c = omega (arith, c .before .before .before .before .before .before .before .before .before .before .before .before .loop .inv .0 .shallow, c .before .before .before .before .before .before .before .before .before .before .before .before .before .before .before .before .pre .4)
 
 array-write-firsts : tie.Need-array-write-firsts Inv-loop μ-loop
-array-write-firsts c = omega (arith, c .before .before .before .before .before .before .before .before .before .before .loop .inv .0 .shallow, c .before .before .before .before .before .before .before .before .before .before .before .before .before .before .pre .4)
+array-write-firsts c = omega (arith, c .before .before .before .before .before .before .before .before .before .before .before .before .loop .inv .0 .shallow, c .before .before .before .before .before .before .before .before .before .before .before .before .before .before .before .before .pre .4)
 
 cast-lasts : tie.Need-cast-lasts Inv-loop μ-loop
-cast-lasts c = let z = open-in _ _ _ _ _ _ (c .before .before .before .before .before .before .before .before .before .before .loop .inv .0) (c .before .before .before .before .before .before .before .before .before .if1 .left) (c .before .before .before .before .before .before .before .before .before .before .before .before .before .before .pre .0 .short) in omega (arith, z .3)
+cast-lasts c = let z = open-in _ _ _ _ _ _ (c .before .before .before .before .before .before .before .before .before .before .before .before .loop .inv .0) (c .before .before .before .before .before .before .before .before .before .before .before .if1 .left) (c .before .before .before .before .before .before .before .before .before .before .before .before .before .before .before .before .pre .0 .short) in omega (arith, z .3)
 
 mul-lasts : tie.Need-mul-lasts Inv-loop μ-loop
-mul-lasts c = omega (arith, c .before .before .before .before .before .before .before .before .before .before .loop .inv .0 .shallow, c .before .before .before .before .before .before .before .before .before .before .before .before .before .before .pre .4)
+mul-lasts c = omega (arith, c .before .before .before .before .before .before .before .before .before .before .before .before .loop .inv .0 .shallow, c .before .before .before .before .before .before .before .before .before .before .before .before .before .before .before .before .pre .4)
 
 array-write-lasts : tie.Need-array-write-lasts Inv-loop μ-loop
-array-write-lasts c = omega (arith, c .before .before .before .before .before .before .before .before .before .before .loop .inv .0 .shallow, c .before .before .before .before .before .before .before .before .before .before .before .before .before .before .pre .4)
+array-write-lasts c = omega (arith, c .before .before .before .before .before .before .before .before .before .before .before .before .loop .inv .0 .shallow, c .before .before .before .before .before .before .before .before .before .before .before .before .before .before .before .before .pre .4)
 
 mul-weights : tie.Need-mul-weights Inv-loop μ-loop
-mul-weights c = omega (arith, c .before .before .before .before .before .before .before .before .before .before .loop .inv .0 .shallow, c .before .before .before .before .before .before .before .before .before .before .before .before .before .before .pre .4)
+mul-weights c = omega (arith, c .before .before .before .before .before .before .before .before .before .before .before .before .loop .inv .0 .shallow, c .before .before .before .before .before .before .before .before .before .before .before .before .before .before .before .before .pre .4)
 
 array-write-weights : tie.Need-array-write-weights Inv-loop μ-loop
-array-write-weights c = omega (arith, c .before .before .before .before .before .before .before .before .before .before .loop .inv .0 .shallow, c .before .before .before .before .before .before .before .before .before .before .before .before .before .before .pre .4)
+array-write-weights c = omega (arith, c .before .before .before .before .before .before .before .before .before .before .before .before .loop .inv .0 .shallow, c .before .before .before .before .before .before .before .before .before .before .before .before .before .before .before .before .pre .4)
 
 add-depth : tie.Need-add-depth Inv-loop μ-loop
-add-depth c = omega (arith, c .before .before .before .before .before .before .before .before .before .before .loop .inv .0 .shallow, c .before .before .before .before .before .before .before .before .before .before .before .before .before .before .pre .4)
+add-depth c = omega (arith, c .before .before .before .before .before .before .before .before .before .before .before .before .loop .inv .0 .shallow, c .before .before .before .before .before .before .before .before .before .before .before .before .before .before .before .before .pre .4)
 
 loop-less-3 : tie.Need-loop-less-3 Inv-loop μ-loop
 loop-less-3 c = let z = step-row _ _ _ _ _ (c .before .before .first .given .1) (c .before .before .before .before .step-at .ensures .1 .0) in omega (arith, z .0, z .1)
 
 loop-again-3 : tie.Need-loop-again-3 Inv-loop μ-loop
-loop-again-3 c = (open-down _ _ _ _ _ _ (c .before .before .before .before .before .before .before .before .before .before .loop .inv .0) (c .before .before .before .before .before .before .before .before .before .if1 .left) (c .before .before .before .before .before .before .before .before .if3 .left) (c .before .before .before .before .before .before .before .count-in .ensures .0) (c .before .before .before .before .before .before .add-share .ensures) _ (c .before .before .before .before .step-at .ensures .0) (c .before .before .first .given .1) (c .before .before .before .before .step-at .ensures .1 .0) (c .before .before .before .before .before .before .before .before .before .before .before .before .before .before .pre .0 .short) (c .before .before .before .before .before .before .before .before .before .before .before .before .before .before .pre .4), let z = open-in _ _ _ _ _ _ (c .before .before .before .before .before .before .before .before .before .before .loop .inv .0) (c .before .before .before .before .before .before .before .before .before .if1 .left) (c .before .before .before .before .before .before .before .before .before .before .before .before .before .before .pre .0 .short) in learn-down _ _ _ _ (c .before .before .before .before .before .before .before .before .before .before .loop .inv .1) (c .before .before .before .before .before .before .before .before .before .if1 .left) (let i = c .before .before .before .before .before .before .before .before .before .before .loop .inv .0 .shallow in omega (arith, c .before .before .before .before .before .before .before .before .if3 .left)) _ (c .before .before .before .before .step-at .ensures .1 .1) (c .before .before .first .given .1) (step-row _ _ _ _ _ (c .before .before .first .given .1) (c .before .before .before .before .step-at .ensures .1 .0) .0) (c .before .before .before .before .before .before .before .before .before .before .loop .inv .0 .first-long) (c .before .before .before .before .before .before .before .before .before .before .loop .inv .0 .last-long) (c .before .before .before .before .before .before .before .before .before .before .before .before .before .before .pre .4) (z .0) (z .1), c .before .before .before .before .before .before .before .before .before .before .loop .inv .2)
+loop-again-3 c = (open-down _ _ _ _ _ _ (c .before .before .before .before .before .before .before .before .before .before .before .before .loop .inv .0) (c .before .before .before .before .before .before .before .before .before .before .before .if1 .left) (sym (c .before .before .before .before .before .before .before .before .before .out-of-levels .ensures) ∙ c .before .before .before .before .before .before .before .before .if3 .left) (c .before .before .before .before .before .before .before .count-in .ensures .0) (c .before .before .before .before .before .before .add-share .ensures) _ (c .before .before .before .before .step-at .ensures .0) (c .before .before .first .given .1) (c .before .before .before .before .step-at .ensures .1 .0) (c .before .before .before .before .before .before .before .before .before .before .before .before .before .before .before .before .pre .0 .short) (c .before .before .before .before .before .before .before .before .before .before .before .before .before .before .before .before .pre .4) (deeper _ _ _ _ (c .before .before .before .before .before .before .before .before .before .before .before .before .loop .inv .0 .shallow) (sym (c .before .before .before .before .before .before .before .before .before .out-of-levels .ensures) ∙ c .before .before .before .before .before .before .before .before .if3 .left) _ (c .before .before .before .before .step-at .ensures .1 .1 .1) (c .before .before .first .given .1) (c .if4 .left)), let z = open-in _ _ _ _ _ _ (c .before .before .before .before .before .before .before .before .before .before .before .before .loop .inv .0) (c .before .before .before .before .before .before .before .before .before .before .before .if1 .left) (c .before .before .before .before .before .before .before .before .before .before .before .before .before .before .before .before .pre .0 .short) in learn-down _ _ _ _ (c .before .before .before .before .before .before .before .before .before .before .before .before .loop .inv .1) (c .before .before .before .before .before .before .before .before .before .before .before .if1 .left) (sym (c .before .before .before .before .before .before .before .before .before .out-of-levels .ensures) ∙ c .before .before .before .before .before .before .before .before .if3 .left) _ (c .before .before .before .before .step-at .ensures .1 .1 .0) (c .before .before .first .given .1) (step-row _ _ _ _ _ (c .before .before .first .given .1) (c .before .before .before .before .step-at .ensures .1 .0) .0) (c .before .before .before .before .before .before .before .before .before .before .before .before .loop .inv .0 .first-long) (c .before .before .before .before .before .before .before .before .before .before .before .before .loop .inv .0 .last-long) (c .before .before .before .before .before .before .before .before .before .before .before .before .before .before .before .before .pre .4) (deeper _ _ _ _ (c .before .before .before .before .before .before .before .before .before .before .before .before .loop .inv .0 .shallow) (sym (c .before .before .before .before .before .before .before .before .before .out-of-levels .ensures) ∙ c .before .before .before .before .before .before .before .before .if3 .left) _ (c .before .before .before .before .step-at .ensures .1 .1 .1) (c .before .before .first .given .1) (c .if4 .left)) (z .0) (z .1), c .before .before .before .before .before .before .before .before .before .before .before .before .loop .inv .2)
 
 pub measure-rows-spec : {M : Type 1} → statement M
 measure-rows-spec =
@@ -180,6 +190,9 @@ measure-rows-spec =
     keep-end-requires
     loop-less
     loop-again
+    shared-slice-read-out-of-levels
+    sub-out-of-levels
+    out-of-levels-requires
     same-length-2
     returns-2
     count-in-requires

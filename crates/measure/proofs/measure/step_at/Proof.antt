@@ -5,7 +5,7 @@ use native.Mathlib.Omega.{arith}
 use lib.ListN.{getD}
 use Rattle.reader.specs.declared.node.Syntax.the-variants.{Tree}
 use Rattle.reader.proofs.Laws.{place-tree, class-in, named-node, named-in, named-kinds, named-end}
-use Rattle.measure.proofs.Laws.{token-node, token-goes, token-in, name-goes}
+use Rattle.measure.proofs.Laws.{token-node, token-goes, token-in, name-goes, leaf-childless, name-childless}
 use Rattle.measure.proofs.Learning.{token-decides, name-decides}
 use borrow.Author.Needs.{needs}
 use Rattle.measure.proofs.measure.step_at.Statement.{statement}
@@ -25,7 +25,7 @@ token-requires : tie.Need-token-requires
 token-requires c κs = (c .before .before .before .before .before .before .before .before .pre .2, λ h. class-in _ _ (c .before .before .before .before .before .before .before .before .pre .0) (c .before .before .before .before .to-usize .ensures .0) (c .before .before .before .before .before .before .before .before .pre .1) (c .before .before .before .place-at .ensures) h)
 
 returns : tie.Need-returns
-returns c = let node = token-node (c .before .before .before .before .before .before .before .before .before .before .args .source .now) (c .before .before .before .before .before .before .before .before .before .before .args .index .now) _ (c .before .before .before .before .before .before .before .before .before .before .args .tree .now) _ (c .before .before .before .before .before .place-at .ensures ∙ ap (λ (j : ℕ). getD (c .before .before .before .before .before .before .before .before .before .before .args .index .now) j 0) (c .before .before .before .before .before .before .to-usize .ensures .0)) (c .before .before .before .production-place .ensures) (c .before .before .if1 .taken) in (token-goes _ _ _ _ _ _ _ _ _ _ (c .before .token .ensures .0) (c .leaf .ensures) node, (token-in _ _ _ _ _ _ _ (c .before .token .ensures .0) (c .leaf .ensures) (c .before .token .ensures .1), token-decides _ _ _ _ _ _ _ _ (c .before .token .ensures .0) (c .leaf .ensures) node))
+returns c = let node = token-node (c .before .before .before .before .before .before .before .before .before .before .args .source .now) (c .before .before .before .before .before .before .before .before .before .before .args .index .now) _ (c .before .before .before .before .before .before .before .before .before .before .args .tree .now) _ (c .before .before .before .before .before .place-at .ensures ∙ ap (λ (j : ℕ). getD (c .before .before .before .before .before .before .before .before .before .before .args .index .now) j 0) (c .before .before .before .before .before .before .to-usize .ensures .0)) (c .before .before .before .production-place .ensures) (c .before .before .if1 .taken) in (token-goes _ _ _ _ _ _ _ _ _ _ (c .before .token .ensures .0) (c .leaf .ensures) node, (token-in _ _ _ _ _ _ _ (c .before .token .ensures .0) (c .leaf .ensures) (c .before .token .ensures .1), (token-decides _ _ _ _ _ _ _ _ (c .before .token .ensures .0) (c .leaf .ensures) node, leaf-childless _ _ _ _ (c .before .token .ensures .0) (c .leaf .ensures))))
 
 add-t14 : tie.Need-add-t14
 add-t14 c = let w = named-in Tree (c .before .before .before .before .before .before .before .before .args .source .now) (c .before .before .before .before .before .before .before .before .args .index .now) [] _ (c .before .before .before .before .before .before .before .before .args .tree .now) _ (place-tree _ _ refl (c .before .before .before .before .to-usize .ensures .0) (c .before .before .before .place-at .ensures)) (c .before .production-place .ensures) (c .if1 .left) (c .before .before .before .before .before .before .before .before .pre .0) (c .before .before .before .before .before .before .before .before .pre .1) (λ i. omega (arith, c .before .before .before .before .before .before .shared-slice-known2 .given i)) in omega (arith, w .0, w .1)
@@ -46,7 +46,7 @@ count-in-requires : tie.Need-count-in-requires
 count-in-requires c κs = let w = named-in Tree (c .before .before .before .before .before .before .before .before .before .args .source .now) (c .before .before .before .before .before .before .before .before .before .args .index .now) [] _ (c .before .before .before .before .before .before .before .before .before .args .tree .now) _ (place-tree _ _ refl (c .before .before .before .before .before .to-usize .ensures .0) (c .before .before .before .before .place-at .ensures)) (c .before .before .production-place .ensures) (c .before .if1 .left) (c .before .before .before .before .before .before .before .before .before .pre .0) (c .before .before .before .before .before .before .before .before .before .pre .1) (λ i. omega (arith, c .before .before .before .before .before .before .before .shared-slice-known2 .given i)) in omega (arith, w .0, w .1)
 
 returns-2 : tie.Need-returns-2
-returns-2 c = let node = named-node Tree (c .before .before .before .before .before .before .before .before .before .before .before .args .source .now) (c .before .before .before .before .before .before .before .before .before .before .before .args .index .now) [] _ (c .before .before .before .before .before .before .before .before .before .before .before .args .tree .now) _ (place-tree _ _ refl (c .before .before .before .before .before .before .before .to-usize .ensures .0) (c .before .before .before .before .before .before .place-at .ensures)) (c .before .before .before .before .production-place .ensures) (c .before .before .before .if1 .left) (c .before .before .pair-in .ensures .0) refl in (name-goes _ _ _ _ _ _ _ _ _ _ _ node (c .before .count-in .ensures .0) (c .add-share .ensures), ((omega arith, named-end Tree (c .before .before .before .before .before .before .before .before .before .before .before .args .source .now) (c .before .before .before .before .before .before .before .before .before .before .before .args .index .now) [] _ (c .before .before .before .before .before .before .before .before .before .before .before .args .tree .now) _ (place-tree _ _ refl (c .before .before .before .before .before .before .before .to-usize .ensures .0) (c .before .before .before .before .before .before .place-at .ensures)) (c .before .before .before .before .production-place .ensures) (c .before .before .before .if1 .left) refl, omega (arith, c .add-share .ensures), named-kinds Tree (c .before .before .before .before .before .before .before .before .before .before .before .args .source .now) (c .before .before .before .before .before .before .before .before .before .before .before .args .index .now) [] _ (c .before .before .before .before .before .before .before .before .before .before .before .args .tree .now) _ (place-tree _ _ refl (c .before .before .before .before .before .before .before .to-usize .ensures .0) (c .before .before .before .before .before .before .place-at .ensures)) (c .before .before .before .before .production-place .ensures) (c .before .before .before .if1 .left) (c .before .before .before .before .before .before .before .before .before .before .before .pre .0) (c .before .before .before .before .before .before .before .before .before .before .before .pre .1) (λ i. omega (arith, c .before .before .before .before .before .before .before .before .before .shared-slice-known2 .given i)) (c .before .before .pair-in .ensures .0)), name-decides _ _ _ _ _ _ _ _ node))
+returns-2 c = let node = named-node Tree (c .before .before .before .before .before .before .before .before .before .before .before .args .source .now) (c .before .before .before .before .before .before .before .before .before .before .before .args .index .now) [] _ (c .before .before .before .before .before .before .before .before .before .before .before .args .tree .now) _ (place-tree _ _ refl (c .before .before .before .before .before .before .before .to-usize .ensures .0) (c .before .before .before .before .before .before .place-at .ensures)) (c .before .before .before .before .production-place .ensures) (c .before .before .before .if1 .left) (c .before .before .pair-in .ensures .0) refl in (name-goes _ _ _ _ _ _ _ _ _ _ _ node (c .before .count-in .ensures .0) (c .add-share .ensures), ((omega arith, named-end Tree (c .before .before .before .before .before .before .before .before .before .before .before .args .source .now) (c .before .before .before .before .before .before .before .before .before .before .before .args .index .now) [] _ (c .before .before .before .before .before .before .before .before .before .before .before .args .tree .now) _ (place-tree _ _ refl (c .before .before .before .before .before .before .before .to-usize .ensures .0) (c .before .before .before .before .before .before .place-at .ensures)) (c .before .before .before .before .production-place .ensures) (c .before .before .before .if1 .left) refl, omega (arith, c .add-share .ensures), named-kinds Tree (c .before .before .before .before .before .before .before .before .before .before .before .args .source .now) (c .before .before .before .before .before .before .before .before .before .before .before .args .index .now) [] _ (c .before .before .before .before .before .before .before .before .before .before .before .args .tree .now) _ (place-tree _ _ refl (c .before .before .before .before .before .before .before .to-usize .ensures .0) (c .before .before .before .before .before .before .place-at .ensures)) (c .before .before .before .before .production-place .ensures) (c .before .before .before .if1 .left) (c .before .before .before .before .before .before .before .before .before .before .before .pre .0) (c .before .before .before .before .before .before .before .before .before .before .before .pre .1) (λ i. omega (arith, c .before .before .before .before .before .before .before .before .before .shared-slice-known2 .given i)) (c .before .before .pair-in .ensures .0)), (name-decides _ _ _ _ _ _ _ _ node, name-childless (c .before .before .before .before .before .before .before .before .before .before .before .args .index .now) _ (c .before .before .before .before .before .before .before .before .before .before .before .args .tree .now) _ _ _ (c .before .before .before .before .before .before .before .to-usize .ensures .0) (c .before .before .before .before .before .before .place-at .ensures) (c .before .before .before .before .production-place .ensures) (c .before .before .before .if1 .left))))
 
 pub step-at-spec : {M : Type 1} → statement M
 step-at-spec =

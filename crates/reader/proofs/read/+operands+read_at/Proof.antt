@@ -5,7 +5,7 @@ use native.Mathlib.Omega.{arith}
 use lib.ListN.{length}
 use borrow.Author.Needs.{needs}
 use Rattle.reader.specs.Inner.Positions.{operandsFrom, readAt, KindsIn}
-use Rattle.reader.proofs.Laws.{read-deep, read-token, read-leaf, read-operands, operands-done, operands-next, operands-last, operands-deep, operands-broken, row-short, named-node, named-in, named-kinds, named-end, carried, end-in, leaf-in, operands-in, class-at}
+use Rattle.reader.proofs.Laws.{read-past, named-past, read-token, read-leaf, read-operands, operands-done, operands-next, operands-last, operands-deep, operands-broken, row-short, named-node, named-in, named-kinds, named-end, carried, end-in, leaf-in, operands-in, class-at}
 use borrow.Fn.Kinds.{In}
 use borrow.Fn.PlainCycle.{Measures, is, falls, and}
 use Rattle.reader.proofs.read.operands.Reads as operands
@@ -17,6 +17,7 @@ use Rattle.reader.proofs.read.+operands+read_at.Lts-read_at as read-at-
 use Rattle.reader.proofs.node.name_length.Reads as name-length-reads
 use Rattle.reader.proofs.node.node_at.Reads as node-at-reads
 use Rattle.fields.proofs.bytes.pair_in.Reads as pair-in-reads
+use Rattle.reader.proofs.node.past_levels.Reads as past-levels-reads
 use Rattle.reader.proofs.node.production_place.Reads as production-place-reads
 use Rattle.reader.proofs.node.token.Reads as token-reads
 use Rattle.reader.proofs.read.class_place.Reads as class-place-reads
@@ -53,94 +54,97 @@ abbrev operands-calls : ℕ → operands-lts.Claims
 operands-calls t = (class-place-reads.Asked, class-place-reads.Learnt, production-place-reads.Asked, production-place-reads.Learnt, pair-in-reads.Asked, pair-in-reads.Learnt, name-length-reads.Asked, name-length-reads.Learnt, operands-below t, operands.Post, token-reads.Asked, token-reads.Learnt, read-at-below t, read-at.Post)
 
 abbrev read-at-calls : ℕ → read-at-lts.Claims
-read-at-calls t = (node-at-reads.Asked, node-at-reads.Learnt, operands-below t, operands.Post)
+read-at-calls t = (past-levels-reads.Asked, past-levels-reads.Learnt, node-at-reads.Asked, node-at-reads.Learnt, operands-below t, operands.Post)
 
 operands-loop-holds : (t : ℕ) → operands-lts.Need-loop-holds (operands-calls t) (operands-at t) operands.Post operands-Inv-loop operands-μ-loop
 operands-loop-holds t c = let p = c .before .before .before .before .pre .1 in (p .2, omega arith, p .1, refl)
 
 operands-returns : (t : ℕ) → operands-lts.Need-returns (operands-calls t) (operands-at t) operands.Post operands-Inv-loop operands-μ-loop
-operands-returns t c = (sym (operands-deep _ _ _ _ _ (c .before .loop-test .taken) (read-deep _ _ _ _ _ _ _ _ (c .if1 .taken)) refl) ∙ c .before .before .loop .inv .3, tt)
+operands-returns t c = (sym (operands-deep _ _ _ _ _ (c .before .before .before .before .before .loop-test .taken) (read-past _ _ _ _ _ _ _ _ (c .if2 .taken) (named-past (c .before .before .before .before .before .before .before .before .before .before .before .args .syntax) (c .before .before .before .before .before .before .before .before .before .before .before .args .language .now) (c .before .before .before .before .before .before .before .before .before .before .before .args .index .now) (c .before .before .before .before .before .before .before .before .before .before .before .args .arguments .now) _ (c .before .before .before .before .before .before .before .before .before .before .before .args .bytes .now) _ (c .before .before .before .class-place .ensures) (c .before .before .production-place .ensures) (c .before .if1 .taken))) refl) ∙ c .before .before .before .before .before .before .loop .inv .3, tt)
 
 operands-shared-slice-read-kind : (t : ℕ) → operands-lts.Need-shared-slice-read-kind (operands-calls t) (operands-at t) operands.Post operands-Inv-loop operands-μ-loop
-operands-shared-slice-read-kind t c = let b = c .before .before .before .loop .inv .2 _ (omega arith) (c .before .before .loop-test .taken) in omega arith
+operands-shared-slice-read-kind t c = let b = c .before .before .loop .inv .2 _ (omega arith) (c .before .loop-test .taken) in omega arith
 
 operands-class-place-requires : (t : ℕ) → operands-lts.Need-class-place-requires (operands-calls t) (operands-at t) operands.Post operands-Inv-loop operands-μ-loop
-operands-class-place-requires t c κs = let b = c .before .before .before .loop .inv .2 _ (omega arith) (c .before .before .loop-test .taken) in let z = c .before .before .before .before .before .before .before .before .pre .1 .0 in omega (arith, z .long, b .1)
+operands-class-place-requires t c κs = let b = c .before .before .loop .inv .2 _ (omega arith) (c .before .loop-test .taken) in let z = c .before .before .before .before .before .before .before .pre .1 .0 in omega (arith, z .long, b .1)
 
 operands-production-place-requires : (t : ℕ) → operands-lts.Need-production-place-requires (operands-calls t) (operands-at t) operands.Post operands-Inv-loop operands-μ-loop
-operands-production-place-requires t c κs = let b = c .before .before .before .before .loop .inv .2 _ (omega arith) (c .before .before .before .loop-test .taken) in (c .before .before .before .before .before .before .before .before .before .pre .1 .0 .long, b .1, c .before .before .before .before .loop .inv .0)
+operands-production-place-requires t c κs = let b = c .before .before .before .loop .inv .2 _ (omega arith) (c .before .before .loop-test .taken) in (c .before .before .before .before .before .before .before .before .pre .1 .0 .long, b .1, c .before .before .before .loop .inv .0)
 
 operands-add-first : (t : ℕ) → operands-lts.Need-add-first (operands-calls t) (operands-at t) operands.Post operands-Inv-loop operands-μ-loop
-operands-add-first t c = let b = c .before .before .before .before .before .before .loop .inv .2 _ (omega arith) (c .before .before .before .before .before .loop-test .taken) in let w = named-in (c .before .before .before .before .before .before .before .before .before .before .before .args .syntax) (c .before .before .before .before .before .before .before .before .before .before .before .args .language .now) (c .before .before .before .before .before .before .before .before .before .before .before .args .index .now) (c .before .before .before .before .before .before .before .before .before .before .before .args .arguments .now) _ (c .before .before .before .before .before .before .before .before .before .before .before .args .bytes .now) _ (c .before .before .class-place .ensures) (c .before .production-place .ensures) (c .if2 .taken) (c .before .before .before .before .before .before .before .before .before .before .before .pre .1 .0) (b .1) (λ i. omega (arith, c .before .before .before .before .before .before .before .shared-slice-known4 .given i)) in omega (arith, w .0, w .1)
+operands-add-first t c = let b = c .before .before .before .before .before .before .loop .inv .2 _ (omega arith) (c .before .before .before .before .before .loop-test .taken) in let w = named-in (c .before .before .before .before .before .before .before .before .before .before .before .args .syntax) (c .before .before .before .before .before .before .before .before .before .before .before .args .language .now) (c .before .before .before .before .before .before .before .before .before .before .before .args .index .now) (c .before .before .before .before .before .before .before .before .before .before .before .args .arguments .now) _ (c .before .before .before .before .before .before .before .before .before .before .before .args .bytes .now) _ (c .before .before .before .class-place .ensures) (c .before .before .production-place .ensures) (c .before .if1 .taken) (c .before .before .before .before .before .before .before .before .before .before .before .pre .1 .0) (b .1) (λ i. omega (arith, c .before .before .before .before .before .before .before .shared-slice-known4 .given i)) in omega (arith, w .0, w .1)
 
 operands-add-last : (t : ℕ) → operands-lts.Need-add-last (operands-calls t) (operands-at t) operands.Post operands-Inv-loop operands-μ-loop
-operands-add-last t c = let b = c .before .before .before .before .before .before .loop .inv .2 _ (omega arith) (c .before .before .before .before .before .loop-test .taken) in let w = named-in (c .before .before .before .before .before .before .before .before .before .before .before .args .syntax) (c .before .before .before .before .before .before .before .before .before .before .before .args .language .now) (c .before .before .before .before .before .before .before .before .before .before .before .args .index .now) (c .before .before .before .before .before .before .before .before .before .before .before .args .arguments .now) _ (c .before .before .before .before .before .before .before .before .before .before .before .args .bytes .now) _ (c .before .before .class-place .ensures) (c .before .production-place .ensures) (c .if2 .taken) (c .before .before .before .before .before .before .before .before .before .before .before .pre .1 .0) (b .1) (λ i. omega (arith, c .before .before .before .before .before .before .before .shared-slice-known4 .given i)) in omega (arith, w .0, w .1)
+operands-add-last t c = let b = c .before .before .before .before .before .before .loop .inv .2 _ (omega arith) (c .before .before .before .before .before .loop-test .taken) in let w = named-in (c .before .before .before .before .before .before .before .before .before .before .before .args .syntax) (c .before .before .before .before .before .before .before .before .before .before .before .args .language .now) (c .before .before .before .before .before .before .before .before .before .before .before .args .index .now) (c .before .before .before .before .before .before .before .before .before .before .before .args .arguments .now) _ (c .before .before .before .before .before .before .before .before .before .before .before .args .bytes .now) _ (c .before .before .before .class-place .ensures) (c .before .before .production-place .ensures) (c .before .if1 .taken) (c .before .before .before .before .before .before .before .before .before .before .before .pre .1 .0) (b .1) (λ i. omega (arith, c .before .before .before .before .before .before .before .shared-slice-known4 .given i)) in omega (arith, w .0, w .1)
 
 operands-pair-in-requires : (t : ℕ) → operands-lts.Need-pair-in-requires (operands-calls t) (operands-at t) operands.Post operands-Inv-loop operands-μ-loop
-operands-pair-in-requires t c κs = let b = c .before .before .before .before .before .before .loop .inv .2 _ (omega arith) (c .before .before .before .before .before .loop-test .taken) in let w = named-in (c .before .before .before .before .before .before .before .before .before .before .before .args .syntax) (c .before .before .before .before .before .before .before .before .before .before .before .args .language .now) (c .before .before .before .before .before .before .before .before .before .before .before .args .index .now) (c .before .before .before .before .before .before .before .before .before .before .before .args .arguments .now) _ (c .before .before .before .before .before .before .before .before .before .before .before .args .bytes .now) _ (c .before .before .class-place .ensures) (c .before .production-place .ensures) (c .if2 .taken) (c .before .before .before .before .before .before .before .before .before .before .before .pre .1 .0) (b .1) (λ i. omega (arith, c .before .before .before .before .before .before .before .shared-slice-known4 .given i)) in omega (arith, w .0, w .1)
+operands-pair-in-requires t c κs = let b = c .before .before .before .before .before .before .loop .inv .2 _ (omega arith) (c .before .before .before .before .before .loop-test .taken) in let w = named-in (c .before .before .before .before .before .before .before .before .before .before .before .args .syntax) (c .before .before .before .before .before .before .before .before .before .before .before .args .language .now) (c .before .before .before .before .before .before .before .before .before .before .before .args .index .now) (c .before .before .before .before .before .before .before .before .before .before .before .args .arguments .now) _ (c .before .before .before .before .before .before .before .before .before .before .before .args .bytes .now) _ (c .before .before .before .class-place .ensures) (c .before .before .production-place .ensures) (c .before .if1 .taken) (c .before .before .before .before .before .before .before .before .before .before .before .pre .1 .0) (b .1) (λ i. omega (arith, c .before .before .before .before .before .before .before .shared-slice-known4 .given i)) in omega (arith, w .0, w .1)
 
 operands-add-last-2 : (t : ℕ) → operands-lts.Need-add-last-2 (operands-calls t) (operands-at t) operands.Post operands-Inv-loop operands-μ-loop
-operands-add-last-2 t c = let b = c .before .before .before .before .before .before .before .loop .inv .2 _ (omega arith) (c .before .before .before .before .before .before .loop-test .taken) in let w = named-in (c .before .before .before .before .before .before .before .before .before .before .before .before .args .syntax) (c .before .before .before .before .before .before .before .before .before .before .before .before .args .language .now) (c .before .before .before .before .before .before .before .before .before .before .before .before .args .index .now) (c .before .before .before .before .before .before .before .before .before .before .before .before .args .arguments .now) _ (c .before .before .before .before .before .before .before .before .before .before .before .before .args .bytes .now) _ (c .before .before .before .class-place .ensures) (c .before .before .production-place .ensures) (c .before .if2 .taken) (c .before .before .before .before .before .before .before .before .before .before .before .before .pre .1 .0) (b .1) (λ i. omega (arith, c .before .before .before .before .before .before .before .before .shared-slice-known4 .given i)) in omega (arith, w .0, w .1, c .pair-in .ensures .1)
+operands-add-last-2 t c = let b = c .before .before .before .before .before .before .before .loop .inv .2 _ (omega arith) (c .before .before .before .before .before .before .loop-test .taken) in let w = named-in (c .before .before .before .before .before .before .before .before .before .before .before .before .args .syntax) (c .before .before .before .before .before .before .before .before .before .before .before .before .args .language .now) (c .before .before .before .before .before .before .before .before .before .before .before .before .args .index .now) (c .before .before .before .before .before .before .before .before .before .before .before .before .args .arguments .now) _ (c .before .before .before .before .before .before .before .before .before .before .before .before .args .bytes .now) _ (c .before .before .before .before .class-place .ensures) (c .before .before .before .production-place .ensures) (c .before .before .if1 .taken) (c .before .before .before .before .before .before .before .before .before .before .before .before .pre .1 .0) (b .1) (λ i. omega (arith, c .before .before .before .before .before .before .before .before .shared-slice-known4 .given i)) in omega (arith, w .0, w .1, c .pair-in .ensures .1)
 
 operands-add-to : (t : ℕ) → operands-lts.Need-add-to (operands-calls t) (operands-at t) operands.Post operands-Inv-loop operands-μ-loop
-operands-add-to t c = let w = named-end (c .before .before .before .before .before .before .before .before .before .before .before .before .before .args .syntax) (c .before .before .before .before .before .before .before .before .before .before .before .before .before .args .language .now) (c .before .before .before .before .before .before .before .before .before .before .before .before .before .args .index .now) (c .before .before .before .before .before .before .before .before .before .before .before .before .before .args .arguments .now) _ (c .before .before .before .before .before .before .before .before .before .before .before .before .before .args .bytes .now) _ (c .before .before .before .before .class-place .ensures) (c .before .before .before .production-place .ensures) (c .before .before .if2 .taken) (c .name-length .ensures .0) in omega (arith, w, c .before .before .before .before .before .before .before .before .before .shared-slice-known4 .given 0)
+operands-add-to t c = let w = named-end (c .before .before .before .before .before .before .before .before .before .before .before .before .before .args .syntax) (c .before .before .before .before .before .before .before .before .before .before .before .before .before .args .language .now) (c .before .before .before .before .before .before .before .before .before .before .before .before .before .args .index .now) (c .before .before .before .before .before .before .before .before .before .before .before .before .before .args .arguments .now) _ (c .before .before .before .before .before .before .before .before .before .before .before .before .before .args .bytes .now) _ (c .before .before .before .before .before .class-place .ensures) (c .before .before .before .before .production-place .ensures) (c .before .before .before .if1 .taken) (c .name-length .ensures .0) in omega (arith, w, c .before .before .before .before .before .before .before .before .before .shared-slice-known4 .given 0)
 
 operands-add-q : (t : ℕ) → operands-lts.Need-add-q (operands-calls t) (operands-at t) operands.Post operands-Inv-loop operands-μ-loop
 operands-add-q t c = let b = c .before .before .before .before .before .before .before .before .loop .inv .2 _ (omega arith) (c .before .before .before .before .before .before .before .loop-test .taken) in let z = c .before .before .before .before .before .before .before .before .before .before .before .before .before .pre .1 .0 in omega (arith, z .short, b .0)
 
 operands-loop-less : (t : ℕ) → operands-lts.Need-loop-less (operands-calls t) (operands-at t) operands.Post operands-Inv-loop operands-μ-loop
-operands-loop-less t c = let b = c .before .before .before .before .before .before .before .before .before .loop .inv .2 _ (omega arith) (c .before .before .before .before .before .before .before .before .loop-test .taken) in let ks = named-kinds (c .before .before .before .before .before .before .before .before .before .before .before .before .before .before .args .syntax) (c .before .before .before .before .before .before .before .before .before .before .before .before .before .before .args .language .now) (c .before .before .before .before .before .before .before .before .before .before .before .before .before .before .args .index .now) (c .before .before .before .before .before .before .before .before .before .before .before .before .before .before .args .arguments .now) _ (c .before .before .before .before .before .before .before .before .before .before .before .before .before .before .args .bytes .now) _ (c .before .before .before .before .before .class-place .ensures) (c .before .before .before .before .production-place .ensures) (c .before .before .before .if2 .taken) (c .before .before .before .before .before .before .before .before .before .before .before .before .before .before .pre .1 .0) (b .1) (λ i. omega (arith, c .before .before .before .before .before .before .before .before .before .before .shared-slice-known4 .given i)) (c .before .before .pair-in .ensures .0) in let z = c .before .before .before .before .before .before .before .before .before .before .before .before .before .before .pre .1 .0 in omega (arith, row-short (c .before .before .before .before .before .before .before .before .before .before .before .before .before .before .args .language .now) _ _ (z .short) ks, c .before .before .before .before .before .before .before .if1 .left)
+operands-loop-less t c = let b = c .before .before .before .before .before .before .before .before .before .loop .inv .2 _ (omega arith) (c .before .before .before .before .before .before .before .before .loop-test .taken) in let ks = named-kinds (c .before .before .before .before .before .before .before .before .before .before .before .before .before .before .args .syntax) (c .before .before .before .before .before .before .before .before .before .before .before .before .before .before .args .language .now) (c .before .before .before .before .before .before .before .before .before .before .before .before .before .before .args .index .now) (c .before .before .before .before .before .before .before .before .before .before .before .before .before .before .args .arguments .now) _ (c .before .before .before .before .before .before .before .before .before .before .before .before .before .before .args .bytes .now) _ (c .before .before .before .before .before .before .class-place .ensures) (c .before .before .before .before .before .production-place .ensures) (c .before .before .before .before .if1 .taken) (c .before .before .before .before .before .before .before .before .before .before .before .before .before .before .pre .1 .0) (b .1) (λ i. omega (arith, c .before .before .before .before .before .before .before .before .before .before .shared-slice-known4 .given i)) (c .before .before .pair-in .ensures .0) in let z = c .before .before .before .before .before .before .before .before .before .before .before .before .before .before .pre .1 .0 in omega (arith, row-short (c .before .before .before .before .before .before .before .before .before .before .before .before .before .before .args .language .now) _ _ (z .short) ks, c .before .before .before .if2 .left)
 
 operands-loop-again : (t : ℕ) → operands-lts.Need-loop-again (operands-calls t) (operands-at t) operands.Post operands-Inv-loop operands-μ-loop
-operands-loop-again t c = let b = c .before .before .before .before .before .before .before .before .before .loop .inv .2 _ (omega arith) (c .before .before .before .before .before .before .before .before .loop-test .taken) in let ks = named-kinds (c .before .before .before .before .before .before .before .before .before .before .before .before .before .before .args .syntax) (c .before .before .before .before .before .before .before .before .before .before .before .before .before .before .args .language .now) (c .before .before .before .before .before .before .before .before .before .before .before .before .before .before .args .index .now) (c .before .before .before .before .before .before .before .before .before .before .before .before .before .before .args .arguments .now) _ (c .before .before .before .before .before .before .before .before .before .before .before .before .before .before .args .bytes .now) _ (c .before .before .before .before .before .class-place .ensures) (c .before .before .before .before .production-place .ensures) (c .before .before .before .if2 .taken) (c .before .before .before .before .before .before .before .before .before .before .before .before .before .before .pre .1 .0) (b .1) (λ i. omega (arith, c .before .before .before .before .before .before .before .before .before .before .shared-slice-known4 .given i)) (c .before .before .pair-in .ensures .0) in (named-end (c .before .before .before .before .before .before .before .before .before .before .before .before .before .before .args .syntax) (c .before .before .before .before .before .before .before .before .before .before .before .before .before .before .args .language .now) (c .before .before .before .before .before .before .before .before .before .before .before .before .before .before .args .index .now) (c .before .before .before .before .before .before .before .before .before .before .before .before .before .before .args .arguments .now) _ (c .before .before .before .before .before .before .before .before .before .before .before .before .before .before .args .bytes .now) _ (c .before .before .before .before .before .class-place .ensures) (c .before .before .before .before .production-place .ensures) (c .before .before .before .if2 .taken) (c .before .name-length .ensures .0), omega arith, ks, operands-last _ _ _ _ _ (c .if3 .taken) (read-operands _ _ _ _ _ _ _ _ (c .before .before .before .before .before .before .before .if1 .left) (named-node (c .before .before .before .before .before .before .before .before .before .before .before .before .before .before .args .syntax) (c .before .before .before .before .before .before .before .before .before .before .before .before .before .before .args .language .now) (c .before .before .before .before .before .before .before .before .before .before .before .before .before .before .args .index .now) (c .before .before .before .before .before .before .before .before .before .before .before .before .before .before .args .arguments .now) _ (c .before .before .before .before .before .before .before .before .before .before .before .before .before .before .args .bytes .now) _ (c .before .before .before .before .before .class-place .ensures) (c .before .before .before .before .production-place .ensures) (c .before .before .before .if2 .taken) (c .before .before .pair-in .ensures .0) (c .before .name-length .ensures .0)) refl) ∙ c .before .before .before .before .before .before .before .before .before .loop .inv .3)
+operands-loop-again t c = let b = c .before .before .before .before .before .before .before .before .before .loop .inv .2 _ (omega arith) (c .before .before .before .before .before .before .before .before .loop-test .taken) in let ks = named-kinds (c .before .before .before .before .before .before .before .before .before .before .before .before .before .before .args .syntax) (c .before .before .before .before .before .before .before .before .before .before .before .before .before .before .args .language .now) (c .before .before .before .before .before .before .before .before .before .before .before .before .before .before .args .index .now) (c .before .before .before .before .before .before .before .before .before .before .before .before .before .before .args .arguments .now) _ (c .before .before .before .before .before .before .before .before .before .before .before .before .before .before .args .bytes .now) _ (c .before .before .before .before .before .before .class-place .ensures) (c .before .before .before .before .before .production-place .ensures) (c .before .before .before .before .if1 .taken) (c .before .before .before .before .before .before .before .before .before .before .before .before .before .before .pre .1 .0) (b .1) (λ i. omega (arith, c .before .before .before .before .before .before .before .before .before .before .shared-slice-known4 .given i)) (c .before .before .pair-in .ensures .0) in (named-end (c .before .before .before .before .before .before .before .before .before .before .before .before .before .before .args .syntax) (c .before .before .before .before .before .before .before .before .before .before .before .before .before .before .args .language .now) (c .before .before .before .before .before .before .before .before .before .before .before .before .before .before .args .index .now) (c .before .before .before .before .before .before .before .before .before .before .before .before .before .before .args .arguments .now) _ (c .before .before .before .before .before .before .before .before .before .before .before .before .before .before .args .bytes .now) _ (c .before .before .before .before .before .before .class-place .ensures) (c .before .before .before .before .before .production-place .ensures) (c .before .before .before .before .if1 .taken) (c .before .name-length .ensures .0), omega arith, ks, operands-last _ _ _ _ _ (c .if3 .taken) (read-operands _ _ _ _ _ _ _ _ (c .before .before .before .if2 .left) (named-node (c .before .before .before .before .before .before .before .before .before .before .before .before .before .before .args .syntax) (c .before .before .before .before .before .before .before .before .before .before .before .before .before .before .args .language .now) (c .before .before .before .before .before .before .before .before .before .before .before .before .before .before .args .index .now) (c .before .before .before .before .before .before .before .before .before .before .before .before .before .before .args .arguments .now) _ (c .before .before .before .before .before .before .before .before .before .before .before .before .before .before .args .bytes .now) _ (c .before .before .before .before .before .before .class-place .ensures) (c .before .before .before .before .before .production-place .ensures) (c .before .before .before .before .if1 .taken) (c .before .before .pair-in .ensures .0) (c .before .name-length .ensures .0)) refl) ∙ c .before .before .before .before .before .before .before .before .before .loop .inv .3)
 
 operands-operands-requires : (t : ℕ) → operands-lts.Need-operands-requires (operands-calls t) (operands-at t) operands.Post operands-Inv-loop operands-μ-loop
-operands-operands-requires t c κs = let b = c .before .before .before .before .before .before .before .before .before .before .loop .inv .2 _ (omega arith) (c .before .before .before .before .before .before .before .before .before .loop-test .taken) in let ks = named-kinds (c .before .before .before .before .before .before .before .before .before .before .before .before .before .before .before .args .syntax) (c .before .before .before .before .before .before .before .before .before .before .before .before .before .before .before .args .language .now) (c .before .before .before .before .before .before .before .before .before .before .before .before .before .before .before .args .index .now) (c .before .before .before .before .before .before .before .before .before .before .before .before .before .before .before .args .arguments .now) _ (c .before .before .before .before .before .before .before .before .before .before .before .before .before .before .before .args .bytes .now) _ (c .before .before .before .before .before .before .class-place .ensures) (c .before .before .before .before .before .production-place .ensures) (c .before .before .before .before .if2 .taken) (c .before .before .before .before .before .before .before .before .before .before .before .before .before .before .before .pre .1 .0) (b .1) (λ i. omega (arith, c .before .before .before .before .before .before .before .before .before .before .before .shared-slice-known4 .given i)) (c .before .before .before .pair-in .ensures .0) in (omega (arith, c .before .before .before .before .before .before .before .before .before .before .loop .inv .1, c .before .before .before .before .before .before .before .before .if1 .left), (c .before .before .before .before .before .before .before .before .before .before .before .before .before .before .before .pre .1 .0, ks, named-end (c .before .before .before .before .before .before .before .before .before .before .before .before .before .before .before .args .syntax) (c .before .before .before .before .before .before .before .before .before .before .before .before .before .before .before .args .language .now) (c .before .before .before .before .before .before .before .before .before .before .before .before .before .before .before .args .index .now) (c .before .before .before .before .before .before .before .before .before .before .before .before .before .before .before .args .arguments .now) _ (c .before .before .before .before .before .before .before .before .before .before .before .before .before .before .before .args .bytes .now) _ (c .before .before .before .before .before .before .class-place .ensures) (c .before .before .before .before .before .production-place .ensures) (c .before .before .before .before .if2 .taken) (c .before .before .name-length .ensures .0)))
+operands-operands-requires t c κs = let b = c .before .before .before .before .before .before .before .before .before .before .loop .inv .2 _ (omega arith) (c .before .before .before .before .before .before .before .before .before .loop-test .taken) in let ks = named-kinds (c .before .before .before .before .before .before .before .before .before .before .before .before .before .before .before .args .syntax) (c .before .before .before .before .before .before .before .before .before .before .before .before .before .before .before .args .language .now) (c .before .before .before .before .before .before .before .before .before .before .before .before .before .before .before .args .index .now) (c .before .before .before .before .before .before .before .before .before .before .before .before .before .before .before .args .arguments .now) _ (c .before .before .before .before .before .before .before .before .before .before .before .before .before .before .before .args .bytes .now) _ (c .before .before .before .before .before .before .before .class-place .ensures) (c .before .before .before .before .before .before .production-place .ensures) (c .before .before .before .before .before .if1 .taken) (c .before .before .before .before .before .before .before .before .before .before .before .before .before .before .before .pre .1 .0) (b .1) (λ i. omega (arith, c .before .before .before .before .before .before .before .before .before .before .before .shared-slice-known4 .given i)) (c .before .before .before .pair-in .ensures .0) in (omega (arith, c .before .before .before .before .before .before .before .before .before .before .loop .inv .1, c .before .before .before .before .if2 .left), (c .before .before .before .before .before .before .before .before .before .before .before .before .before .before .before .pre .1 .0, ks, named-end (c .before .before .before .before .before .before .before .before .before .before .before .before .before .before .before .args .syntax) (c .before .before .before .before .before .before .before .before .before .before .before .before .before .before .before .args .language .now) (c .before .before .before .before .before .before .before .before .before .before .before .before .before .before .before .args .index .now) (c .before .before .before .before .before .before .before .before .before .before .before .before .before .before .before .args .arguments .now) _ (c .before .before .before .before .before .before .before .before .before .before .before .before .before .before .before .args .bytes .now) _ (c .before .before .before .before .before .before .before .class-place .ensures) (c .before .before .before .before .before .before .production-place .ensures) (c .before .before .before .before .before .if1 .taken) (c .before .before .name-length .ensures .0)))
 
 operands-loop-less-2 : (t : ℕ) → operands-lts.Need-loop-less-2 (operands-calls t) (operands-at t) operands.Post operands-Inv-loop operands-μ-loop
 operands-loop-less-2 t c = let t = c .before .before .before .before .before .before .before .before .before .before .before .before .before .loop-test .taken in omega arith
 
 operands-loop-again-2 : (t : ℕ) → operands-lts.Need-loop-again-2 (operands-calls t) (operands-at t) operands.Post operands-Inv-loop operands-μ-loop
-operands-loop-again-2 t c = let w = c .before .before .before .operands .ensures .0 ∙ read-operands _ _ _ _ _ _ _ _ (c .before .before .before .before .before .before .before .before .before .before .before .before .if1 .left) (named-node (c .before .before .before .before .before .before .before .before .before .before .before .before .before .before .before .before .before .before .before .args .syntax) (c .before .before .before .before .before .before .before .before .before .before .before .before .before .before .before .before .before .before .before .args .language .now) (c .before .before .before .before .before .before .before .before .before .before .before .before .before .before .before .before .before .before .before .args .index .now) (c .before .before .before .before .before .before .before .before .before .before .before .before .before .before .before .before .before .before .before .args .arguments .now) _ (c .before .before .before .before .before .before .before .before .before .before .before .before .before .before .before .before .before .before .before .args .bytes .now) _ (c .before .before .before .before .before .before .before .before .before .before .class-place .ensures) (c .before .before .before .before .before .before .before .before .before .production-place .ensures) (c .before .before .before .before .before .before .before .before .if2 .taken) (c .before .before .before .before .before .before .before .pair-in .ensures .0) (c .before .before .before .before .before .before .name-length .ensures .0)) refl in (end-in _ (c .before .e .given .1) (c .before .before .before .operands .ensures .1), c .before .before .before .before .before .before .before .before .before .before .before .before .before .before .loop .inv .1, (λ x i j. c .before .before .before .before .before .before .before .before .before .before .before .before .before .before .loop .inv .2 x (omega arith) j), sym (operands-next _ _ _ _ _ (c .before .before .before .before .before .before .before .before .before .before .before .before .before .loop-test .taken) w (c .before .e .given .1)) ∙ c .before .before .before .before .before .before .before .before .before .before .before .before .before .before .loop .inv .3)
+operands-loop-again-2 t c = let w = c .before .before .before .operands .ensures .0 ∙ read-operands _ _ _ _ _ _ _ _ (c .before .before .before .before .before .before .before .before .if2 .left) (named-node (c .before .before .before .before .before .before .before .before .before .before .before .before .before .before .before .before .before .before .before .args .syntax) (c .before .before .before .before .before .before .before .before .before .before .before .before .before .before .before .before .before .before .before .args .language .now) (c .before .before .before .before .before .before .before .before .before .before .before .before .before .before .before .before .before .before .before .args .index .now) (c .before .before .before .before .before .before .before .before .before .before .before .before .before .before .before .before .before .before .before .args .arguments .now) _ (c .before .before .before .before .before .before .before .before .before .before .before .before .before .before .before .before .before .before .before .args .bytes .now) _ (c .before .before .before .before .before .before .before .before .before .before .before .class-place .ensures) (c .before .before .before .before .before .before .before .before .before .before .production-place .ensures) (c .before .before .before .before .before .before .before .before .before .if1 .taken) (c .before .before .before .before .before .before .before .pair-in .ensures .0) (c .before .before .before .before .before .before .name-length .ensures .0)) refl in (end-in _ (c .before .e .given .1) (c .before .before .before .operands .ensures .1), c .before .before .before .before .before .before .before .before .before .before .before .before .before .before .loop .inv .1, (λ x i j. c .before .before .before .before .before .before .before .before .before .before .before .before .before .before .loop .inv .2 x (omega arith) j), sym (operands-next _ _ _ _ _ (c .before .before .before .before .before .before .before .before .before .before .before .before .before .loop-test .taken) w (c .before .e .given .1)) ∙ c .before .before .before .before .before .before .before .before .before .before .before .before .before .before .loop .inv .3)
 
 operands-returns-2 : (t : ℕ) → operands-lts.Need-returns-2 (operands-calls t) (operands-at t) operands.Post operands-Inv-loop operands-μ-loop
-operands-returns-2 t c = let w = c .before .before .operands .ensures .0 ∙ read-operands _ _ _ _ _ _ _ _ (c .before .before .before .before .before .before .before .before .before .before .before .if1 .left) (named-node (c .before .before .before .before .before .before .before .before .before .before .before .before .before .before .before .before .before .before .args .syntax) (c .before .before .before .before .before .before .before .before .before .before .before .before .before .before .before .before .before .before .args .language .now) (c .before .before .before .before .before .before .before .before .before .before .before .before .before .before .before .before .before .before .args .index .now) (c .before .before .before .before .before .before .before .before .before .before .before .before .before .before .before .before .before .before .args .arguments .now) _ (c .before .before .before .before .before .before .before .before .before .before .before .before .before .before .before .before .before .before .args .bytes .now) _ (c .before .before .before .before .before .before .before .before .before .class-place .ensures) (c .before .before .before .before .before .before .before .before .production-place .ensures) (c .before .before .before .before .before .before .before .if2 .taken) (c .before .before .before .before .before .before .pair-in .ensures .0) (c .before .before .before .before .before .name-length .ensures .0)) refl in (sym (operands-deep _ _ _ _ _ (c .before .before .before .before .before .before .before .before .before .before .before .before .loop-test .taken) w (c .enum-told .given .1)) ∙ c .before .before .before .before .before .before .before .before .before .before .before .before .before .loop .inv .3, tt)
+operands-returns-2 t c = let w = c .before .before .operands .ensures .0 ∙ read-operands _ _ _ _ _ _ _ _ (c .before .before .before .before .before .before .before .if2 .left) (named-node (c .before .before .before .before .before .before .before .before .before .before .before .before .before .before .before .before .before .before .args .syntax) (c .before .before .before .before .before .before .before .before .before .before .before .before .before .before .before .before .before .before .args .language .now) (c .before .before .before .before .before .before .before .before .before .before .before .before .before .before .before .before .before .before .args .index .now) (c .before .before .before .before .before .before .before .before .before .before .before .before .before .before .before .before .before .before .args .arguments .now) _ (c .before .before .before .before .before .before .before .before .before .before .before .before .before .before .before .before .before .before .args .bytes .now) _ (c .before .before .before .before .before .before .before .before .before .before .class-place .ensures) (c .before .before .before .before .before .before .before .before .before .production-place .ensures) (c .before .before .before .before .before .before .before .before .if1 .taken) (c .before .before .before .before .before .before .pair-in .ensures .0) (c .before .before .before .before .before .name-length .ensures .0)) refl in (sym (operands-deep _ _ _ _ _ (c .before .before .before .before .before .before .before .before .before .before .before .before .loop-test .taken) w (c .enum-told .given .1)) ∙ c .before .before .before .before .before .before .before .before .before .before .before .before .before .loop .inv .3, tt)
 
 operands-returns-3 : (t : ℕ) → operands-lts.Need-returns-3 (operands-calls t) (operands-at t) operands.Post operands-Inv-loop operands-μ-loop
-operands-returns-3 t c = let w = c .before .before .operands .ensures .0 ∙ read-operands _ _ _ _ _ _ _ _ (c .before .before .before .before .before .before .before .before .before .before .before .if1 .left) (named-node (c .before .before .before .before .before .before .before .before .before .before .before .before .before .before .before .before .before .before .args .syntax) (c .before .before .before .before .before .before .before .before .before .before .before .before .before .before .before .before .before .before .args .language .now) (c .before .before .before .before .before .before .before .before .before .before .before .before .before .before .before .before .before .before .args .index .now) (c .before .before .before .before .before .before .before .before .before .before .before .before .before .before .before .before .before .before .args .arguments .now) _ (c .before .before .before .before .before .before .before .before .before .before .before .before .before .before .before .before .before .before .args .bytes .now) _ (c .before .before .before .before .before .before .before .before .before .class-place .ensures) (c .before .before .before .before .before .before .before .before .production-place .ensures) (c .before .before .before .before .before .before .before .if2 .taken) (c .before .before .before .before .before .before .pair-in .ensures .0) (c .before .before .before .before .before .name-length .ensures .0)) refl in (sym (operands-broken _ _ _ _ _ (c .before .before .before .before .before .before .before .before .before .before .before .before .loop-test .taken) w (c .enum-told2 .given .1)) ∙ c .before .before .before .before .before .before .before .before .before .before .before .before .before .loop .inv .3, tt)
+operands-returns-3 t c = let w = c .before .before .operands .ensures .0 ∙ read-operands _ _ _ _ _ _ _ _ (c .before .before .before .before .before .before .before .if2 .left) (named-node (c .before .before .before .before .before .before .before .before .before .before .before .before .before .before .before .before .before .before .args .syntax) (c .before .before .before .before .before .before .before .before .before .before .before .before .before .before .before .before .before .before .args .language .now) (c .before .before .before .before .before .before .before .before .before .before .before .before .before .before .before .before .before .before .args .index .now) (c .before .before .before .before .before .before .before .before .before .before .before .before .before .before .before .before .before .before .args .arguments .now) _ (c .before .before .before .before .before .before .before .before .before .before .before .before .before .before .before .before .before .before .args .bytes .now) _ (c .before .before .before .before .before .before .before .before .before .before .class-place .ensures) (c .before .before .before .before .before .before .before .before .before .production-place .ensures) (c .before .before .before .before .before .before .before .before .if1 .taken) (c .before .before .before .before .before .before .pair-in .ensures .0) (c .before .before .before .before .before .name-length .ensures .0)) refl in (sym (operands-broken _ _ _ _ _ (c .before .before .before .before .before .before .before .before .before .before .before .before .loop-test .taken) w (c .enum-told2 .given .1)) ∙ c .before .before .before .before .before .before .before .before .before .before .before .before .before .loop .inv .3, tt)
 
 operands-loop-less-3 : (t : ℕ) → operands-lts.Need-loop-less-3 (operands-calls t) (operands-at t) operands.Post operands-Inv-loop operands-μ-loop
 operands-loop-less-3 t c = let t = c .before .before .before .before .before .before .before .before .before .loop-test .taken in omega arith
 
 operands-loop-again-3 : (t : ℕ) → operands-lts.Need-loop-again-3 (operands-calls t) (operands-at t) operands.Post operands-Inv-loop operands-μ-loop
-operands-loop-again-3 t c = (named-end (c .before .before .before .before .before .before .before .before .before .before .before .before .before .before .before .args .syntax) (c .before .before .before .before .before .before .before .before .before .before .before .before .before .before .before .args .language .now) (c .before .before .before .before .before .before .before .before .before .before .before .before .before .before .before .args .index .now) (c .before .before .before .before .before .before .before .before .before .before .before .before .before .before .before .args .arguments .now) _ (c .before .before .before .before .before .before .before .before .before .before .before .before .before .before .before .args .bytes .now) _ (c .before .before .before .before .before .before .class-place .ensures) (c .before .before .before .before .before .production-place .ensures) (c .before .before .before .before .if2 .taken) (c .before .before .name-length .ensures .0), c .before .before .before .before .before .before .before .before .before .before .loop .inv .1, (λ x i j. c .before .before .before .before .before .before .before .before .before .before .loop .inv .2 x (omega arith) j), sym (operands-next _ _ _ _ _ (c .before .before .before .before .before .before .before .before .before .loop-test .taken) (sym (operands-done _ _ _ _ _ (c .if4 .left)) ∙ read-operands _ _ _ _ _ _ _ _ (c .before .before .before .before .before .before .before .before .if1 .left) (named-node (c .before .before .before .before .before .before .before .before .before .before .before .before .before .before .before .args .syntax) (c .before .before .before .before .before .before .before .before .before .before .before .before .before .before .before .args .language .now) (c .before .before .before .before .before .before .before .before .before .before .before .before .before .before .before .args .index .now) (c .before .before .before .before .before .before .before .before .before .before .before .before .before .before .before .args .arguments .now) _ (c .before .before .before .before .before .before .before .before .before .before .before .before .before .before .before .args .bytes .now) _ (c .before .before .before .before .before .before .class-place .ensures) (c .before .before .before .before .before .production-place .ensures) (c .before .before .before .before .if2 .taken) (c .before .before .before .pair-in .ensures .0) (c .before .before .name-length .ensures .0)) refl) refl) ∙ c .before .before .before .before .before .before .before .before .before .before .loop .inv .3)
+operands-loop-again-3 t c = (named-end (c .before .before .before .before .before .before .before .before .before .before .before .before .before .before .before .args .syntax) (c .before .before .before .before .before .before .before .before .before .before .before .before .before .before .before .args .language .now) (c .before .before .before .before .before .before .before .before .before .before .before .before .before .before .before .args .index .now) (c .before .before .before .before .before .before .before .before .before .before .before .before .before .before .before .args .arguments .now) _ (c .before .before .before .before .before .before .before .before .before .before .before .before .before .before .before .args .bytes .now) _ (c .before .before .before .before .before .before .before .class-place .ensures) (c .before .before .before .before .before .before .production-place .ensures) (c .before .before .before .before .before .if1 .taken) (c .before .before .name-length .ensures .0), c .before .before .before .before .before .before .before .before .before .before .loop .inv .1, (λ x i j. c .before .before .before .before .before .before .before .before .before .before .loop .inv .2 x (omega arith) j), sym (operands-next _ _ _ _ _ (c .before .before .before .before .before .before .before .before .before .loop-test .taken) (sym (operands-done _ _ _ _ _ (c .if4 .left)) ∙ read-operands _ _ _ _ _ _ _ _ (c .before .before .before .before .if2 .left) (named-node (c .before .before .before .before .before .before .before .before .before .before .before .before .before .before .before .args .syntax) (c .before .before .before .before .before .before .before .before .before .before .before .before .before .before .before .args .language .now) (c .before .before .before .before .before .before .before .before .before .before .before .before .before .before .before .args .index .now) (c .before .before .before .before .before .before .before .before .before .before .before .before .before .before .before .args .arguments .now) _ (c .before .before .before .before .before .before .before .before .before .before .before .before .before .before .before .args .bytes .now) _ (c .before .before .before .before .before .before .before .class-place .ensures) (c .before .before .before .before .before .before .production-place .ensures) (c .before .before .before .before .before .if1 .taken) (c .before .before .before .pair-in .ensures .0) (c .before .before .name-length .ensures .0)) refl) refl) ∙ c .before .before .before .before .before .before .before .before .before .before .loop .inv .3)
 
 operands-token-requires : (t : ℕ) → operands-lts.Need-token-requires (operands-calls t) (operands-at t) operands.Post operands-Inv-loop operands-μ-loop
-operands-token-requires t c κs = let b = c .before .before .before .before .before .before .before .loop .inv .2 _ (omega arith) (c .before .before .before .before .before .before .loop-test .taken) in (c .before .before .before .before .before .before .before .loop .inv .0, λ h. class-at _ _ _ (c .before .before .before .before .before .before .before .before .before .before .before .before .pre .1 .0) (b .1) (c .before .before .before .class-place .ensures) (c .if5 .taken))
+operands-token-requires t c κs = let b = c .before .before .before .before .before .before .loop .inv .2 _ (omega arith) (c .before .before .before .before .before .loop-test .taken) in (c .before .before .before .before .before .before .loop .inv .0, λ h. class-at _ _ _ (c .before .before .before .before .before .before .before .before .before .before .before .pre .1 .0) (b .1) (c .before .before .before .class-place .ensures) (c .if5 .taken))
 
 operands-read-at-requires : (t : ℕ) → operands-lts.Need-read-at-requires (operands-calls t) (operands-at t) operands.Post operands-Inv-loop operands-μ-loop
-operands-read-at-requires t c κs = let b = c .before .before .before .before .before .before .before .loop .inv .2 _ (omega arith) (c .before .before .before .before .before .before .loop-test .taken) in (omega (arith, c .before .before .before .before .before .before .before .loop .inv .1), record { sound = c .before .before .before .before .before .before .before .before .before .before .before .before .pre .1 .0; kind = b .1; inside = c .before .before .before .before .before .before .before .loop .inv .0 })
+operands-read-at-requires t c κs = let b = c .before .before .before .before .before .before .loop .inv .2 _ (omega arith) (c .before .before .before .before .before .loop-test .taken) in (omega (arith, c .before .before .before .before .before .before .loop .inv .1), record { sound = c .before .before .before .before .before .before .before .before .before .before .before .pre .1 .0; kind = b .1; inside = c .before .before .before .before .before .before .loop .inv .0 })
 
 operands-add-q-2 : (t : ℕ) → operands-lts.Need-add-q-2 (operands-calls t) (operands-at t) operands.Post operands-Inv-loop operands-μ-loop
-operands-add-q-2 t c = let b = c .before .before .before .before .before .before .before .before .before .before .loop .inv .2 _ (omega arith) (c .before .before .before .before .before .before .before .before .before .loop-test .taken) in let z = c .before .before .before .before .before .before .before .before .before .before .before .before .before .before .before .pre .1 .0 in omega (arith, z .short, b .0)
+operands-add-q-2 t c = let b = c .before .before .before .before .before .before .before .before .before .loop .inv .2 _ (omega arith) (c .before .before .before .before .before .before .before .before .loop-test .taken) in let z = c .before .before .before .before .before .before .before .before .before .before .before .before .before .before .pre .1 .0 in omega (arith, z .short, b .0)
 
 operands-loop-less-4 : (t : ℕ) → operands-lts.Need-loop-less-4 (operands-calls t) (operands-at t) operands.Post operands-Inv-loop operands-μ-loop
-operands-loop-less-4 t c = let t = c .before .before .before .before .before .before .before .before .before .loop-test .taken in omega arith
+operands-loop-less-4 t c = let t = c .before .before .before .before .before .before .before .before .loop-test .taken in omega arith
 
 operands-loop-again-4 : (t : ℕ) → operands-lts.Need-loop-again-4 (operands-calls t) (operands-at t) operands.Post operands-Inv-loop operands-μ-loop
-operands-loop-again-4 t c = let w = ⊎-elim (λ a. carried _ (a .2) (read-token _ _ _ _ _ _ _ _ (c .before .before .before .before .before .before .before .before .if1 .left) (c .before .before .before .before .before .before .class-place .ensures) (a .0 .taken) (a .1 .ensures .0), a .1 .ensures .1)) (λ a. carried _ (a .2) (a .1 .ensures)) (c .before .before .before .if5 .came) in (end-in _ (c .before .read .given .1) (w .1), c .before .before .before .before .before .before .before .before .before .before .loop .inv .1, (λ x i j. c .before .before .before .before .before .before .before .before .before .before .loop .inv .2 x (omega arith) j), sym (operands-next _ _ _ _ _ (c .before .before .before .before .before .before .before .before .before .loop-test .taken) (w .0) (c .before .read .given .1)) ∙ c .before .before .before .before .before .before .before .before .before .before .loop .inv .3)
+operands-loop-again-4 t c = let w = ⊎-elim (λ a. carried _ (a .2) (read-token _ _ _ _ _ _ _ _ (c .before .before .before .before .before .before .class-place .ensures) (a .0 .taken) (a .1 .ensures .0), a .1 .ensures .1)) (λ a. carried _ (a .2) (a .1 .ensures)) (c .before .before .before .if5 .came) in (end-in _ (c .before .read .given .1) (w .1), c .before .before .before .before .before .before .before .before .before .loop .inv .1, (λ x i j. c .before .before .before .before .before .before .before .before .before .loop .inv .2 x (omega arith) j), sym (operands-next _ _ _ _ _ (c .before .before .before .before .before .before .before .before .loop-test .taken) (w .0) (c .before .read .given .1)) ∙ c .before .before .before .before .before .before .before .before .before .loop .inv .3)
 
 operands-returns-4 : (t : ℕ) → operands-lts.Need-returns-4 (operands-calls t) (operands-at t) operands.Post operands-Inv-loop operands-μ-loop
-operands-returns-4 t c = let w = ⊎-elim (λ a. carried _ (a .2) (read-token _ _ _ _ _ _ _ _ (c .before .before .before .before .before .before .before .if1 .left) (c .before .before .before .before .before .class-place .ensures) (a .0 .taken) (a .1 .ensures .0), a .1 .ensures .1)) (λ a. carried _ (a .2) (a .1 .ensures)) (c .before .before .if5 .came) in (sym (operands-deep _ _ _ _ _ (c .before .before .before .before .before .before .before .before .loop-test .taken) (w .0) (c .enum-told3 .given .1)) ∙ c .before .before .before .before .before .before .before .before .before .loop .inv .3, tt)
+operands-returns-4 t c = let w = ⊎-elim (λ a. carried _ (a .2) (read-token _ _ _ _ _ _ _ _ (c .before .before .before .before .before .class-place .ensures) (a .0 .taken) (a .1 .ensures .0), a .1 .ensures .1)) (λ a. carried _ (a .2) (a .1 .ensures)) (c .before .before .if5 .came) in (sym (operands-deep _ _ _ _ _ (c .before .before .before .before .before .before .before .loop-test .taken) (w .0) (c .enum-told3 .given .1)) ∙ c .before .before .before .before .before .before .before .before .loop .inv .3, tt)
 
 operands-returns-5 : (t : ℕ) → operands-lts.Need-returns-5 (operands-calls t) (operands-at t) operands.Post operands-Inv-loop operands-μ-loop
-operands-returns-5 t c = let w = ⊎-elim (λ a. carried _ (a .2) (read-token _ _ _ _ _ _ _ _ (c .before .before .before .before .before .before .before .if1 .left) (c .before .before .before .before .before .class-place .ensures) (a .0 .taken) (a .1 .ensures .0), a .1 .ensures .1)) (λ a. carried _ (a .2) (a .1 .ensures)) (c .before .before .if5 .came) in (sym (operands-broken _ _ _ _ _ (c .before .before .before .before .before .before .before .before .loop-test .taken) (w .0) (c .enum-told4 .given .1)) ∙ c .before .before .before .before .before .before .before .before .before .loop .inv .3, tt)
+operands-returns-5 t c = let w = ⊎-elim (λ a. carried _ (a .2) (read-token _ _ _ _ _ _ _ _ (c .before .before .before .before .before .class-place .ensures) (a .0 .taken) (a .1 .ensures .0), a .1 .ensures .1)) (λ a. carried _ (a .2) (a .1 .ensures)) (c .before .before .if5 .came) in (sym (operands-broken _ _ _ _ _ (c .before .before .before .before .before .before .before .loop-test .taken) (w .0) (c .enum-told4 .given .1)) ∙ c .before .before .before .before .before .before .before .before .loop .inv .3, tt)
 
 operands-returns-6 : (t : ℕ) → operands-lts.Need-returns-6 (operands-calls t) (operands-at t) operands.Post operands-Inv-loop operands-μ-loop
 operands-returns-6 t c = (sym (operands-done _ _ _ _ _ (c .loop-test .left)) ∙ c .before .loop .inv .3, c .before .loop .inv .0)
 
+read-at-past-levels-requires : (t : ℕ) → read-at-lts.Need-past-levels-requires (read-at-calls t) (read-at-at t) read-at.Post
+read-at-past-levels-requires t c κs = c .before .before .before .before .before .pre .1
+
 read-at-returns : (t : ℕ) → read-at-lts.Need-returns (read-at-calls t) (read-at-at t) read-at.Post
-read-at-returns t c = (read-deep _ _ _ _ _ _ _ _ (c .if1 .taken), tt)
+read-at-returns t c = (read-past _ _ _ _ _ _ _ _ (c .before .if1 .taken) (c .past-levels .ensures .0), c .past-levels .ensures .1)
 
 read-at-node-at-requires : (t : ℕ) → read-at-lts.Need-node-at-requires (read-at-calls t) (read-at-at t) read-at.Post
 read-at-node-at-requires t c κs = c .before .before .before .before .before .pre .1
@@ -161,10 +165,10 @@ pub +operands+read-at-spec : {M : Type 1} → statement M
     operands-Inv-loop
     operands-μ-loop
     (operands-loop-holds t)
-    (operands-returns t)
     (operands-shared-slice-read-kind t)
     (operands-class-place-requires t)
     (operands-production-place-requires t)
+    (operands-returns t)
     (operands-add-first t)
     (operands-add-last t)
     (operands-pair-in-requires t)
@@ -200,6 +204,7 @@ pub +operands+read-at-spec : {M : Type 1} → statement M
     λ t. read-at-lts.spec (read-at-calls t)
     (read-at-at t)
     read-at.Post
+    (read-at-past-levels-requires t)
     (read-at-returns t)
     (read-at-node-at-requires t)
     (λ c. search needs)

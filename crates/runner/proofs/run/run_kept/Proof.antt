@@ -22,7 +22,7 @@ begin-requires : tie.Need-begin-requires
 begin-requires c κs = (c .before .before .before .before .before .before .before .before .before .before .pre .2 .1 .pieces .source-short, c .before .before .before .before .before .before .before .before .before .before .pre .2 .1 .short, refl, zeros 25664, refl, zeros 1024, (c .before .before .before .before .before .before .before .before .before .before .pre .2 .0, c .before .before .before .before .before .before .before .before .before .before .pre .2 .1 .pieces .source, c .before .before .before .before .before .before .before .before .before .before .pre .2 .1 .pieces .body))
 
 measure-requires : tie.Need-measure-requires
-measure-requires c κs = (c .before .before .before .before .before .begin .ensures .1 (c .before .before .before .before .before .before .before .before .before .before .before .before .before .before .before .before .pre .2 .0) (c .before .before .before .before .before .before .before .before .before .before .before .before .before .before .before .before .pre .2 .1 .pieces .source) (c .before .before .before .before .before .before .before .before .before .before .before .before .before .before .before .before .pre .2 .1 .pieces .body) (rises (c .before .before .before .before .before .before .before .before .before .before .before .before .before .before .before .before .pre .2 .1)) (formed (c .before .before .before .before .before .before .before .before .before .before .before .before .before .before .before .before .pre .2 .1)) .0 .sound, c .before .before .before .before .before .before .before .before .before .before .before .before .before .before .before .before .pre .0, omega arith, omega arith)
+measure-requires c κs = (c .before .before .before .before .before .begin .ensures .1 (c .before .before .before .before .before .before .before .before .before .before .before .before .before .before .before .before .pre .2 .0) (c .before .before .before .before .before .before .before .before .before .before .before .before .before .before .before .before .pre .2 .1 .pieces .source) (c .before .before .before .before .before .before .before .before .before .before .before .before .before .before .before .before .pre .2 .1 .pieces .body) (rises (c .before .before .before .before .before .before .before .before .before .before .before .before .before .before .before .before .pre .2 .1)) (formed (c .before .before .before .before .before .before .before .before .before .before .before .before .before .before .before .before .pre .2 .1)) .0 .sound, c .before .before .before .before .before .before .before .before .before .before .before .before .before .before .before .before .pre .0, omega arith, omega arith, omega arith)
 
 returns-2 : tie.Need-returns-2
 returns-2 c = λ f z. let p = c .before .before .before .before .before .before .before .before .before .before .before .before .before .begin .ensures .1 f (z .pieces .source) (z .pieces .body) (rises z) (formed z) in tree-more f _ _ _ _ (c .before .before .before .before .before .before .before .before .before .before .before .before .before .before .before .before .before .is-in .ensures (f .source) (z .pieces .source)) (not-false _ (c .before .before .before .before .before .before .before .before .before .before .before .before .before .before .before .before .if1 .left)) (c .before .before .before .before .before .before .before .measure .result) (c .before .before .before .before .before .before .before .measure .ensures .0 f (p .0) (p .1)) _ _ (c .before .before .before .e .given .1) (c .before .before .before .before .before .before .before .measure .ensures .1 .0) (c .before .if2 .taken) (c .refuse2 .ensures)
