@@ -3,10 +3,11 @@ use Prim.Native.Nat.{ℕ, suc, _+_, _*_, _/_, _%_, _≤_}
 use mathlib.Core.Path.{_≡_, refl, sym, ap, _∙_}
 use mathlib.Core.Bool.{Bool, true, false, cond, not, _&&_, _||_}
 use mathlib.Core.Logic.{⊎-elim}
-use mathlib.Core.List.{List, [], _∷_, _++_, map}
+use mathlib.Core.List.{List, [], _∷_, _++_, map, append-nil}
 use mathlib.Core.Option.{Option, none, some}
 use native.Mathlib.Omega.{arith}
-use lib.ListN.{length, drop, length-drop}
+use lib.ListN.{length, take, drop, length-drop, take-append-drop}
+use lib.Seq.{take-all}
 use lib.Dec.{ltb, leb, eqb}
 use borrow.Author.Tests.{le-leb, leb-true, eqb-true, le-ltb, ltb-false}
 use Rattle.fields.specs.Outcome.{Result, value, refuseIf, _>>=_}
@@ -15,7 +16,7 @@ use Rattle.fields.specs.Lists.{all, traverse}
 use Rattle.fields.specs.Fields.{Field, field, byteAt, pairAt, twoBytes, fieldsOf, encodeFields, decodedIn}
 use Rattle.fields.specs.Keyed.{rising}
 use Rattle.fields.proofs.Truth.{by-test, none-some, and-both, both-and, or-cases}
-use Rattle.fields.proofs.Codec.{contentsOf, Codec, cond-some, refused-value, two-tags, front-two, fields-encode, fields-length, entries-encode, entries-whole, entries-length}
+use Rattle.fields.proofs.Codec.{Bytes, contentsOf, Codec, cond-some, refused-value, two-tags, front-two, fields-encode, fields-length, entries-encode, entries-whole, entries-length}
 use Rattle.language.specs.Language.{Range, Entry, class, production, Language, entryKey, clashes}
 use Rattle.language.specs.LanguageFile.{isKind, rangeWhole, rangeIn, stepBytes, classOf, productionOf, entryOf, entryField, entriesOf, encodeLanguage, languageLimit, whole, languageOf}
 
@@ -124,6 +125,95 @@ entry-sizes (field tag c) e h =
     entry-in tag c e h
     (λ t i. rw (← i .same) (class-sizes c (i .long)))
     (λ t i. rw (← i .same) (omega (arith, ap length (front-two c (i .least)))))
+
+-- A class whose step of 1 is written.
+abbrev pub spare : ℕ → List ℕ → Bool
+spare tag c = eqb tag 0x11 && (eqb (length c) 7 && eqb (pairAt c 5) 1)
+
+-- The bytes of a token class, without its step.
+front-five : (c : List ℕ) → 5 ≤ length c → Bytes c → byteAt c 0 ∷ (twoBytes (pairAt c 1) ++ twoBytes (pairAt c 3)) ≡ take 5 c
+unfolding pairAt
+front-five [] h b = absurd (omega arith)
+front-five (k ∷ []) h b = absurd (omega arith)
+front-five (k ∷ x ∷ []) h b = absurd (omega arith)
+front-five (k ∷ x ∷ y ∷ []) h b = absurd (omega arith)
+front-five (k ∷ x ∷ y ∷ u ∷ []) h b = absurd (omega arith)
+front-five (k ∷ x ∷ y ∷ u ∷ v ∷ c) h b =
+    let a : (x * 256 + y) / 256 ≡ x = omega (arith, b .1 .1 .0) in
+    let d : (x * 256 + y) % 256 ≡ y = omega (arith, b .1 .1 .0) in
+    let e : (u * 256 + v) / 256 ≡ u = omega (arith, b .1 .1 .1 .1 .0) in
+    let f : (u * 256 + v) % 256 ≡ v = omega (arith, b .1 .1 .1 .1 .0) in
+    cc
+
+-- The bytes of its step.
+last-two : (c : List ℕ) → length c ≡ 7 → Bytes c → twoBytes (pairAt c 5) ≡ drop 5 c
+unfolding pairAt
+last-two [] h b = absurd (omega arith)
+last-two (k ∷ []) h b = absurd (omega arith)
+last-two (k ∷ x ∷ []) h b = absurd (omega arith)
+last-two (k ∷ x ∷ y ∷ []) h b = absurd (omega arith)
+last-two (k ∷ x ∷ y ∷ u ∷ []) h b = absurd (omega arith)
+last-two (k ∷ x ∷ y ∷ u ∷ v ∷ []) h b = absurd (omega arith)
+last-two (k ∷ x ∷ y ∷ u ∷ v ∷ p ∷ []) h b = absurd (omega arith)
+last-two (k ∷ x ∷ y ∷ u ∷ v ∷ p ∷ q ∷ r ∷ c) h b = absurd (omega arith)
+last-two (k ∷ x ∷ y ∷ u ∷ v ∷ p ∷ q ∷ []) h b =
+    let a : (p * 256 + q) / 256 ≡ p = omega (arith, b .1 .1 .1 .1 .1 .1 .0) in
+    let d : (p * 256 + q) % 256 ≡ q = omega (arith, b .1 .1 .1 .1 .1 .1 .0) in
+    cc
+
+-- It has five bytes or more.
+class-five : (c : List ℕ) → (eqb (length c) 5 || eqb (length c) 7) ≡ true → 5 ≤ length c
+class-five c h =
+    ⊎-elim (λ e. omega (arith, eqb-true (length c) 5 e)) (λ e. omega (arith, eqb-true (length c) 7 e))
+    (or-cases (eqb (length c) 5) (eqb (length c) 7) h)
+
+-- A step of 1 is not written.
+one-unwritten : (c : List ℕ) → eqb (length c) 7 ≡ true → eqb (pairAt c 5) 1 ≡ true → take 5 c ++ stepBytes (rangeIn c .step) ≡ take 5 c
+unfolding rangeIn stepBytes
+one-unwritten c m n = rw (m, n) (append-nil (take 5 c))
+
+-- A class is written in its first five bytes, and those of its step.
+class-written : (c : List ℕ) → 5 ≤ length c → Bytes c
+    → byteAt c 0 ∷ (twoBytes (rangeIn c .low) ++ (twoBytes (rangeIn c .high) ++ stepBytes (rangeIn c .step))) ≡ take 5 c ++ stepBytes (rangeIn c .step)
+unfolding rangeIn
+class-written c h b = ap (λ (l : List ℕ). l ++ stepBytes (rangeIn c .step)) (front-five c h b)
+
+-- It is written in the field that it is read from, where no step of 1 stands there.
+class-kept : (c : List ℕ) → (eqb (length c) 5 || eqb (length c) 7) ≡ true → spare 0x11 c ≡ false → Bytes c → take 5 c ++ stepBytes (rangeIn c .step) ≡ c
+unfolding rangeIn stepBytes
+class-kept c h n b =
+    ⊎-elim
+    (λ e.
+    let m : length c ≡ 5 = eqb-true (length c) 5 e in
+    let z : eqb (length c) 7 ≡ false = rw m refl in
+    rw z (append-nil (take 5 c) ∙ take-all 5 c (omega arith)))
+    (λ e.
+    let m : length c ≡ 7 = eqb-true (length c) 7 e in
+    let z : eqb (pairAt c 5) 1 ≡ false = rw e at n in
+    rw (e, z) (ap (λ (l : List ℕ). take 5 c ++ l) (last-two c m b) ∙ take-append-drop 5 c))
+    (or-cases (eqb (length c) 5) (eqb (length c) 7) h)
+
+module _ (tag : ℕ) (c : List ℕ) (e : Entry) (h : entryOf (field tag c) ≡ some e) (b : Bytes c) where
+  pub entry-kept : spare tag c ≡ false → entryField e ≡ field tag c
+  unfolding entryField
+  entry-kept n =
+      entry-in tag c e h
+      (λ t i.
+      let five : 5 ≤ length c = class-five c (i .long) in
+      rw (← i .same, t) (ap (λ (l : List ℕ). field 0x11 l) (class-written c five b ∙ class-kept c (i .long) (rw t at n) b)))
+      (λ t i. rw (← i .same, t) (ap (λ (l : List ℕ). field 0x12 l) (front-two c (i .least))))
+
+  pub entry-spare : spare tag c ≡ true → entryField e ≡ field 0x11 (take 5 c)
+  unfolding entryField
+  entry-spare n =
+      entry-in tag c e h
+      (λ t i.
+      let w = and-both (eqb tag 0x11) (eqb (length c) 7 && eqb (pairAt c 5) 1) n in
+      let v = and-both (eqb (length c) 7) (eqb (pairAt c 5) 1) (w .1) in
+      rw (← i .same) (ap (λ (l : List ℕ). field 0x11 l) (class-written c (class-five c (i .long)) b ∙ one-unwritten c (v .0) (v .1))))
+      (λ t i.
+      let w = and-both (eqb tag 0x11) (eqb (length c) 7 && eqb (pairAt c 5) 1) n in
+      absurd (omega (arith, t, eqb-true tag 0x11 (w .0))))
 
 -- Entries, one to a field.
 pub entryCodec : Codec entryOf entryField entryWhole

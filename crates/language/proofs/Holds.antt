@@ -80,7 +80,7 @@ module _ (s : List ℕ) (p : ℕ) (w : isWhole s p ≡ true) where
       cc (contents-length s p w, contents-first s p w (omega arith), contents-second s p w h, contents-after s p w))
       (λ e. cc (contents-length s p w))
 
-  entry-here : entryOf (fieldAt s p) ≡ cond (entryGood s p) (some (entryAt s p)) none
+  pub entry-here : entryOf (fieldAt s p) ≡ cond (entryGood s p) (some (entryAt s p)) none
   unfolding entryOf fieldAt entryGood entryAt
   entry-here = two-tags (eqb (getD s p 0) 0x11) (eqb (getD s p 0) 0x12) _ _ _ _ class-here production-here
 
