@@ -7,7 +7,7 @@ ghost use lib.ListN.{length};
 ghost use Rattle.fields.specs.Outcome.{value};
 ghost use Rattle.fields.specs.Inner.Places.{EndsAt};
 ghost use Rattle.language.specs.Language.{Language};
-ghost use Rattle.language.specs.LanguageFile.{entriesOf, languageOf};
+ghost use Rattle.language.specs.LanguageFile.{entriesOf};
 ghost use Rattle.language.specs.Inner.Entries.{entryWhole};
 ghost use Rattle.operators.specs.Operators.{identityOf};
 ghost use Rattle.fields.specs.Inner.Writing.{Stores};

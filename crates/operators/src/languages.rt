@@ -4,7 +4,6 @@ ghost use Prim.Native.Nat.{_≤_};
 ghost use lib.ListN.{length};
 ghost use Rattle.fields.specs.Outcome.{value};
 ghost use Rattle.language.specs.Language.{Language};
-ghost use Rattle.language.specs.LanguageFile.{languageOf};
 ghost use Rattle.operators.specs.Operators.{languageSum, languageWithout};
 ghost use Rattle.operators.specs.Inner.Values.{exactLanguage, Gives, languageBytes};
 use super::limit::limited;

@@ -7,7 +7,6 @@ ghost use lib.ListN.{length};
 ghost use Rattle.fields.specs.Outcome.{value};
 ghost use Rattle.fields.specs.Keyed.{rising};
 ghost use Rattle.language.specs.Language.{Language};
-ghost use Rattle.language.specs.LanguageFile.{languageOf};
 ghost use Rattle.translation.specs.Translation.{Body, itemKey};
 ghost use Rattle.translation.specs.TranslationFile.{bodyOf};
 ghost use Rattle.translation.specs.WellFormed.{wellFormed};
