@@ -115,7 +115,7 @@ fn read_code<'a>(
     match symbol {
         Symbol::Token(value) => {
             let class = target.class(kind)?;
-            (class.low <= value && value <= class.high).then_some(rest)
+            class.has(value).then_some(rest)
         }
         _ if levels == 0 => None,
         Symbol::Production(name) => {

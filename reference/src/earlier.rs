@@ -38,7 +38,7 @@ fn production(language: &Language, kind: u8, name: u8) -> Option<Production> {
 /// Whether a value is one of the class of a kind; `None` if the kind has no class.
 fn in_class(language: &Language, kind: u8, value: u16) -> Option<bool> {
     let class = language.classes.iter().find(|class| class.kind == kind)?;
-    Some(class.low <= value && value <= class.high)
+    Some(class.has(value))
 }
 
 /// The kinds that the arguments of a production are mapped to.

@@ -2,7 +2,7 @@
 //! strap W with a wider class, and what reduces and runs from them.
 
 use crate::call::{Answer, Buffers, Call, WORKSPACE_MARK};
-use crate::files::{class, clause, mapping, pack, production, translation};
+use crate::files::{class, clause, mapping, pack, production, stepped_class, translation};
 use crate::generate::{ReduceCase, RunCase, TreeCase};
 use crate::reduce::{OUTPUT_LEAST, WORKSPACE_LEAST};
 
@@ -213,6 +213,50 @@ fn wider_strap() -> Vec<Example> {
     ]
 }
 
+/// Rates of 100 to 200 in fives: class 3, and production 1.5 (3).
+fn rates_in_fives() -> Vec<u8> {
+    [stepped_class(3, 100, 200, 5), production(1, 5, &[3])].concat()
+}
+
+/// Rates in fives, and minutes whose step of 1 is written.
+fn rates() -> Vec<Example> {
+    let tree = |value: u8| {
+        let (language, tree) = (rates_in_fives(), vec![5, 0, value]);
+        Call::CheckTree(TreeCase { language, root: 1, tree })
+    };
+    let written = [stepped_class(2, 1, 240, 1), language_c()[8..].to_vec()].concat();
+    let kept = [mapping(1, 1), mapping(2, 2), language_clauses()].concat();
+    let identity = translation(&language_c(), &language_c(), &kept);
+    let reduced = |languages: &[Vec<u8>], term: &[u8]| reduction(pack(languages, &[], term));
+    let both = [written.clone(), language_c()];
+    let (any, fives) = (class(3, 100, 200), stepped_class(3, 100, 200, 5));
+    let onto = |outer: &[u8], inner: &[u8]| {
+        reduced(&[outer.to_vec(), inner.to_vec()], &[0x54, 0x55, 0x40, 0, 0x55, 0x40, 1])
+    };
+    vec![
+        accepted("rates in fives", Call::CheckLanguage(rates_in_fives()), &[]),
+        refused("step 0", Call::CheckLanguage(stepped_class(3, 100, 200, 0)), 2),
+        accepted("a rate of 105", tree(105), &[]),
+        accepted("a rate of 200", tree(200), &[]),
+        refused("a rate of 103", tree(103), 15),
+        refused("a rate of 205", tree(205), 15),
+        accepted("a step of 1 is not written", reduced(&both, &[0x55, 0x40, 0]), &identity),
+        accepted(
+            "a sum of both ways to write it",
+            reduced(&both, &[0x55, 0x43, 0x40, 0, 0x40, 1]),
+            &identity,
+        ),
+        accepted("fives onto any", onto(&any, &fives), &translation(&fives, &any, &mapping(3, 3))),
+        refused("any onto fives", onto(&fives, &any), 13),
+    ]
+}
+
+/// The clauses of the identity of C.
+fn language_clauses() -> Vec<u8> {
+    [clause(1, 1, &[1, 1, 3, 1]), clause(1, 2, &[1, 2, 3, 1, 3, 2]), clause(1, 3, &[1, 3, 3, 1])]
+        .concat()
+}
+
 /// Checks of the languages and the translation of the examples.
 fn checks() -> Vec<Example> {
     let undefined = production(1, 4, &[2]);
@@ -232,7 +276,7 @@ fn checks() -> Vec<Example> {
 
 /// All examples.
 pub fn examples() -> Vec<Example> {
-    [reductions(), accepted_runs(), refused_runs(), wider_strap(), checks()].concat()
+    [reductions(), accepted_runs(), refused_runs(), wider_strap(), rates(), checks()].concat()
 }
 
 impl Example {

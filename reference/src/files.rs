@@ -11,6 +11,12 @@ pub fn class(kind: u8, low: u16, high: u16) -> Vec<u8> {
     field(0x11, &[&[kind], &low.to_be_bytes()[..], &high.to_be_bytes()[..]].concat())
 }
 
+/// A field 11 with a step.
+pub fn stepped_class(kind: u8, low: u16, high: u16, step: u16) -> Vec<u8> {
+    let numbers = [low, high, step].map(u16::to_be_bytes).concat();
+    field(0x11, &[&[kind], &numbers[..]].concat())
+}
+
 /// A field 12.
 pub fn production(result: u8, name: u8, arguments: &[u8]) -> Vec<u8> {
     field(0x12, &[&[result, name], arguments].concat())

@@ -2,6 +2,7 @@
 
 use crate::field::{put_header, two_bytes, Field, Fields, HEADER};
 use crate::outcome::{require, Outcome, Refusal};
+use std::num::NonZeroU16;
 
 /// A language has at most this many bytes.
 pub const LANGUAGE_LIMIT: usize = 1024;
@@ -12,23 +13,68 @@ pub const ARGUMENTS: usize = 8;
 
 pub const CLASS_TAG: u8 = 0x11;
 pub const PRODUCTION_TAG: u8 = 0x12;
+/// The lengths of a field 11 without and with a step.
 const CLASS_LENGTH: usize = 5;
+const STEPPED_CLASS_LENGTH: usize = 7;
 
 /// A set of kinds, one bit for each.
 pub type Kinds = u32;
 
-/// A token class: the kind's lowest and highest value.
+/// A token class: a value is legal if it is `low` plus a multiple of `step` and at most `high`.
 #[derive(Clone, Copy, Debug, PartialEq, Eq)]
 pub struct Class {
     pub kind: u8,
     pub low: u16,
     pub high: u16,
+    pub step: NonZeroU16,
 }
 
 impl Class {
-    /// Whether each value of another class is one of this class; kinds do not matter.
+    /// A class of step 1.
+    pub fn plain(kind: u8, low: u16, high: u16) -> Class {
+        Class { kind, low, high, step: NonZeroU16::MIN }
+    }
+
+    /// Whether a value is legal.
+    #[inline]
+    pub fn has(&self, value: u16) -> bool {
+        self.low <= value
+            && value <= self.high
+            && (self.step == NonZeroU16::MIN || (value - self.low) % self.step == 0)
+    }
+
+    /// The highest legal value.
+    pub fn last(&self) -> u16 {
+        self.high - (self.high - self.low) % self.step
+    }
+
+    /// Whether each legal value of another class is legal in this one; kinds do not matter.
     pub fn contains(&self, other: &Class) -> bool {
-        self.low <= other.low && other.high <= self.high
+        let last = other.last();
+        self.has(other.low)
+            && last <= self.high
+            && (last == other.low || other.step.get() % self.step == 0)
+    }
+
+    /// The length of the field's contents: a step of 1 is not written.
+    fn length(&self) -> usize {
+        if self.step == NonZeroU16::MIN {
+            CLASS_LENGTH
+        } else {
+            STEPPED_CLASS_LENGTH
+        }
+    }
+
+    /// Appends the field.
+    fn encode(&self, output: &mut Vec<u8>) {
+        let length = self.length();
+        put_header(output, CLASS_TAG, length);
+        output.push(self.kind);
+        output.extend_from_slice(&self.low.to_be_bytes());
+        output.extend_from_slice(&self.high.to_be_bytes());
+        if length == STEPPED_CLASS_LENGTH {
+            output.extend_from_slice(&self.step.get().to_be_bytes());
+        }
     }
 }
 
@@ -114,20 +160,16 @@ impl Language {
 
     /// The number of bytes that `encode` writes.
     pub fn encoded_length(&self) -> usize {
+        let classes: usize = self.classes.iter().map(|class| HEADER + class.length()).sum();
         let productions = self.productions.iter();
         let arguments: usize = productions.map(|production| production.arguments().len()).sum();
-        self.classes.len() * (HEADER + CLASS_LENGTH)
-            + self.productions.len() * (HEADER + 2)
-            + arguments
+        classes + self.productions.len() * (HEADER + 2) + arguments
     }
 
     /// Appends the fields of the language.
     pub fn encode(&self, output: &mut Vec<u8>) {
         for class in &self.classes {
-            put_header(output, CLASS_TAG, CLASS_LENGTH);
-            output.push(class.kind);
-            output.extend_from_slice(&class.low.to_be_bytes());
-            output.extend_from_slice(&class.high.to_be_bytes());
+            class.encode(output);
         }
         for production in &self.productions {
             put_header(output, PRODUCTION_TAG, 2 + production.arguments().len());
@@ -173,13 +215,22 @@ pub fn check_kind(kind: u8) -> Result<u8, Refusal> {
 
 /// Decodes the contents of a field 11.
 fn decode_class(contents: &[u8]) -> Result<Class, Refusal> {
-    let &[kind, low_high, low_low, high_high, high_low] = contents else {
+    let [kind, low_high, low_low, high_high, high_low, ref step @ ..] = *contents else {
         return Err(Refusal::Broken);
     };
     let low = two_bytes(low_high, low_low);
     let high = two_bytes(high_high, high_low);
     require(low <= high, Refusal::Broken)?;
-    Ok(Class { kind: check_kind(kind)?, low, high })
+    Ok(Class { kind: check_kind(kind)?, low, high, step: decode_step(step)? })
+}
+
+/// Decodes the step of a class: none is written, or one that is not 0.
+fn decode_step(bytes: &[u8]) -> Result<NonZeroU16, Refusal> {
+    match *bytes {
+        [] => Ok(NonZeroU16::MIN),
+        [high, low] => NonZeroU16::new(two_bytes(high, low)).ok_or(Refusal::Broken),
+        _ => Err(Refusal::Broken),
+    }
 }
 
 /// Decodes the contents of a field 12.
@@ -207,4 +258,74 @@ pub fn read_language(bytes: &[u8]) -> Result<Language, Refusal> {
 /// Checks a language.
 pub fn check_language(language: &[u8]) -> Outcome {
     read_language(language).map(|_| ()).into()
+}
+
+#[cfg(test)]
+mod tests {
+    use super::*;
+    use crate::generate::Random;
+
+    /// A class of a range by a step.
+    fn class(low: u16, high: u16, step: u16) -> Class {
+        let step = NonZeroU16::new(step).expect("a step is not 0");
+        Class { step, ..Class::plain(0, low, high) }
+    }
+
+    /// The legal values one by one: low, then each one step more, up to high.
+    fn values(class: &Class) -> Vec<u16> {
+        let steps = (u32::from(class.low)..=u32::from(class.high)).step_by(class.step.get().into());
+        steps.map(|value| value as u16).collect()
+    }
+
+    /// A small range at the lowest or the highest values; the step may be beyond it.
+    fn small_class(random: &mut Random, first: u16) -> Class {
+        let (one, other) = (random.below(40) as u16, random.below(40) as u16);
+        let step = match random.below(6) {
+            0 => random.within(1..=65_535) as u16,
+            1 => 1,
+            _ => random.within(1..=12) as u16,
+        };
+        class(first + one.min(other), first + one.max(other), step)
+    }
+
+    #[test]
+    fn containment_is_that_of_all_values() {
+        let mut random = Random::new(10);
+        let mut contained = 0;
+        for case in 0..100_000 {
+            let first = random.pick(&[0, 1, 200, 65_496]);
+            let (one, other) = (small_class(&mut random, first), small_class(&mut random, first));
+            let all = values(&one);
+            let inside = values(&other).iter().all(|value| all.contains(value));
+            assert_eq!(one.contains(&other), inside, "case {case}: {one:?} {other:?}");
+            contained += usize::from(inside);
+        }
+        assert!(contained > 5000, "{contained}");
+    }
+
+    #[test]
+    fn containment_of_the_widest_ranges() {
+        let (whole, ends) = (class(0, 65_535, 1), class(0, 65_535, 65_535));
+        let (even, odd) = (class(0, 65_535, 2), class(1, 65_535, 2));
+        let (last, thirds) = (class(1, 65_535, 65_535), class(0, 65_535, 3));
+        for other in [ends, even, odd, last, thirds, whole] {
+            assert!(whole.contains(&other) && (other == whole || !other.contains(&whole)));
+        }
+        assert!(!even.contains(&ends) && thirds.contains(&ends));
+        assert!(odd.contains(&last) && !last.contains(&odd) && !even.contains(&last));
+        assert!(!even.contains(&odd) && !even.contains(&thirds));
+        assert_eq!([ends, even, odd, last].map(|class| class.last()), [65_535, 65_534, 65_535, 1]);
+    }
+
+    #[test]
+    fn legal_values_are_low_and_each_step_up_to_high() {
+        let mut random = Random::new(11);
+        for _ in 0..200 {
+            let first = random.pick(&[0, 1, 200, 65_496]);
+            let class = small_class(&mut random, first);
+            let legal: Vec<u16> = (0..=u16::MAX).filter(|&value| class.has(value)).collect();
+            assert_eq!(legal, values(&class), "{class:?}");
+            assert_eq!(legal.last(), Some(&class.last()), "{class:?}");
+        }
+    }
 }

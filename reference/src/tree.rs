@@ -58,8 +58,7 @@ impl<T: Tally> Reader<'_, T> {
         let [high, low, rest @ ..] = self.rest else {
             return Err(Refusal::Tree);
         };
-        let value = two_bytes(*high, *low);
-        require(class.low <= value && value <= class.high, Refusal::Tree)?;
+        require(class.has(two_bytes(*high, *low)), Refusal::Tree)?;
         self.rest = rest;
         self.tally.token(weight);
         Ok(())

@@ -3,7 +3,7 @@
 mod build;
 
 use build::*;
-use reference::{check_language, check_translation, check_tree};
+use reference::{check_language, check_translation, check_tree, run};
 
 /// The number of checking a language.
 fn language_number(language: &[u8]) -> u32 {
@@ -65,6 +65,51 @@ fn ranges_in_a_language() {
     assert_eq!(language_number(&production(31, 255, &[31; 9])), 2);
     assert_eq!(language_number(&production(32, 0, &[])), 2);
     assert_eq!(language_number(&production(0, 0, &[0, 32])), 2);
+}
+
+#[test]
+fn steps_in_a_language() {
+    assert_eq!(language_number(&stepped_class(31, 5, 9, 1)), 0);
+    assert_eq!(language_number(&stepped_class(31, 5, 9, 65_535)), 0);
+    assert_eq!(language_number(&stepped_class(31, 5, 9, 256)), 0);
+    assert_eq!(language_number(&stepped_class(31, 5, 9, 0)), 2);
+    assert_eq!(language_number(&stepped_class(31, 7, 7, 0)), 2);
+    assert_eq!(language_number(&stepped_class(31, 9, 5, 1)), 2);
+    assert_eq!(language_number(&stepped_class(32, 5, 9, 1)), 2);
+    assert_eq!(language_number(&stepped_class(31, 0, 65_535, 65_535)), 0);
+    let whole = stepped_class(1, 5, 9, 2);
+    for length in [0, 1, 2, 3, 4, 6] {
+        let contents = &whole[3..3 + length];
+        assert_eq!(language_number(&field(0x11, contents)), 2, "{length}");
+    }
+    assert_eq!(language_number(&field(0x11, &[&whole[3..], &[0]].concat())), 2);
+    assert_eq!(language_number(&field(0x11, &[&whole[3..], &[0, 1]].concat())), 2);
+    assert_eq!(language_number(&whole[..9]), 2);
+}
+
+#[test]
+fn order_and_clashes_of_classes_with_steps() {
+    let number = |fields: &[Vec<u8>]| language_number(&fields.concat());
+    assert_eq!(number(&[class(1, 5, 9), stepped_class(2, 5, 9, 2), class(3, 5, 9)]), 0);
+    assert_eq!(number(&[stepped_class(2, 5, 9, 2), class(1, 5, 9)]), 3);
+    assert_eq!(number(&[class(1, 5, 9), stepped_class(1, 5, 9, 1)]), 3);
+    assert_eq!(number(&[stepped_class(1, 5, 9, 2), stepped_class(1, 5, 9, 3)]), 3);
+    assert_eq!(number(&[stepped_class(1, 5, 9, 2), production(1, 0, &[])]), 4);
+    assert_eq!(number(&[production(1, 0, &[]), stepped_class(1, 5, 9, 2)]), 3);
+    assert_eq!(number(&[production(1, 0, &[]), stepped_class(1, 5, 9, 0)]), 2);
+}
+
+#[test]
+fn steps_count_for_the_length_of_a_language_as_handed_in() {
+    let with_class = |class: Vec<u8>, bytes: usize| {
+        let language = [class.clone(), language_of(bytes - class.len())].concat();
+        assert_eq!(language.len(), bytes);
+        language_number(&language)
+    };
+    assert_eq!(with_class(stepped_class(29, 5, 9, 1), 1024), 0);
+    assert_eq!(with_class(stepped_class(29, 5, 9, 1), 1025), 1);
+    assert_eq!(with_class(stepped_class(29, 5, 9, 2), 1024), 0);
+    assert_eq!(with_class(stepped_class(29, 5, 9, 2), 1026), 1);
 }
 
 #[test]
@@ -160,6 +205,30 @@ fn tokens_and_roots_of_a_tree() {
     assert_eq!(chain_number(32, 0, &[0]), 14);
     assert_eq!(chain_number(257, 0, &[0]), 14);
     assert_eq!(chain_number(u32::MAX, 0, &[0]), 14);
+}
+
+/// The values for which a tree of a class is legal.
+fn legal_values(class: &[u8], kind: u32) -> Vec<u16> {
+    let legal = |value: &u16| check_tree(class, kind, &value.to_be_bytes()).number() == 0;
+    (0..=u16::MAX).filter(legal).collect()
+}
+
+#[test]
+fn values_of_a_class_with_steps() {
+    let values = |low, high, step| legal_values(&stepped_class(2, low, high, step), 2);
+    let fives: Vec<u16> = (20..=40).map(|fifth| 5 * fifth).collect();
+    assert_eq!(values(100, 200, 5), fives);
+    assert_eq!(values(100, 204, 5), fives);
+    assert_eq!(values(100, 199, 5), fives[..20]);
+    assert_eq!(values(5, 5, 9), [5]);
+    assert_eq!(values(5, 13, 9), [5]);
+    assert_eq!(values(5, 14, 9), [5, 14]);
+    assert_eq!(values(0, 65_535, 65_535), [0, 65_535]);
+    assert_eq!(values(1, 65_535, 65_535), [1]);
+    assert_eq!(values(65_535, 65_535, 65_535), [65_535]);
+    assert_eq!(values(65_530, 65_535, 4), [65_530, 65_534]);
+    assert_eq!(values(7, 9, 1), [7, 8, 9]);
+    assert_eq!(legal_values(&class(2, 7, 9), 2), [7, 8, 9]);
 }
 
 #[test]
@@ -277,6 +346,69 @@ fn classes_are_mapped_to_classes_that_contain_them() {
     }
 }
 
+/// Ranges with steps, and whether each legal value of the first is legal in the second.
+const STEPS: [([u16; 3], [u16; 3], bool); 23] = [
+    ([100, 200, 5], [100, 200, 5], true),
+    ([100, 200, 5], [100, 200, 1], true),
+    ([100, 200, 1], [100, 200, 5], false),
+    ([100, 200, 10], [100, 200, 5], true),
+    ([100, 200, 5], [100, 200, 10], false),
+    ([105, 200, 10], [100, 200, 5], true),
+    ([101, 200, 5], [100, 200, 5], false),
+    ([100, 204, 5], [100, 200, 5], true),
+    ([100, 205, 5], [100, 200, 5], false),
+    ([100, 200, 5], [100, 204, 5], true),
+    ([95, 200, 5], [100, 200, 5], false),
+    ([100, 100, 7], [100, 200, 5], true),
+    ([100, 106, 7], [100, 200, 5], true),
+    ([100, 107, 7], [100, 200, 5], false),
+    ([200, 200, 65_535], [100, 200, 5], true),
+    ([200, 65_535, 65_336], [100, 200, 5], true),
+    ([200, 65_535, 65_335], [100, 200, 5], false),
+    ([5, 5, 9], [5, 5, 1], true),
+    ([5, 5, 1], [5, 5, 9], true),
+    ([0, 65_535, 65_535], [0, 65_535, 3], true),
+    ([0, 65_535, 65_535], [0, 65_535, 2], false),
+    ([0, 65_535, 2], [0, 65_535, 65_535], false),
+    ([1, 65_535, 65_535], [0, 1, 1], true),
+];
+
+#[test]
+fn classes_with_steps_are_mapped_to_classes_that_contain_them() {
+    for ([low, high, step], [wide_low, wide_high, wide_step], inside) in STEPS {
+        let source = stepped_class(4, low, high, step);
+        let target = stepped_class(2, wide_low, wide_high, wide_step);
+        let number = translation_number(&translation(&source, &target, &mapping(4, 2)));
+        assert_eq!(number, if inside { 0 } else { 5 }, "{source:?} {target:?}");
+    }
+}
+
+#[test]
+fn tokens_of_a_code_keep_to_the_steps() {
+    let target = [stepped_class(2, 100, 203, 5), production(1, 2, &[2])].concat();
+    let number = |value: u8| {
+        let body = [mapping(1, 1), clause(1, 0, &[1, 2, 2, 0, value])].concat();
+        translation_number(&translation(&production(1, 0, &[]), &target, &body))
+    };
+    assert_eq!([100, 105, 200].map(number), [0; 3]);
+    assert_eq!([95, 99, 101, 104, 201, 203, 205].map(number), [7; 7]);
+}
+
+#[test]
+fn a_translation_handed_in_may_write_steps_of_1() {
+    let plain = [class(2, 5, 9), production(1, 0, &[2])].concat();
+    let written = [stepped_class(2, 5, 9, 1), production(1, 0, &[2])].concat();
+    let body = [mapping(1, 1), mapping(2, 2), clause(1, 0, &[1, 0, 3, 1])].concat();
+    for (source, target) in [(&plain, &written), (&written, &plain), (&written, &written)] {
+        let value = translation(source, target, &body);
+        assert_eq!(translation_number(&value), 0);
+        let mut output = [0; 3];
+        assert_eq!(run(&value, 1, &[0, 0, 9], &mut output).number(), 0);
+        assert_eq!(output, [0, 0, 9]);
+        assert_eq!(run(&value, 1, &[0, 0, 10], &mut output).number(), 15);
+    }
+}
+
 #[test]
 fn a_class_outside_is_refused_before_clauses_and_codes() {
     let source = |high| [class(2, 5, high), production(1, 0, &[2])].concat();
@@ -370,9 +502,9 @@ fn languages_over_their_limit_in_a_translation() {
 
 #[test]
 fn the_length_of_a_translation() {
-    let wide = |bytes: usize| {
+    let wide = |bytes: usize, classes: &[u8]| {
         let source = production(1, 0, &[1]);
-        let target = production(1, 0, &[1, 1]);
+        let target = [classes, &production(1, 0, &[1, 1])].concat();
         let fixed = translation(&source, &target, &mapping(1, 1)).len() + 5;
         let links = (bytes - fixed - 2) / 4;
         let code = full_code(links);
@@ -380,10 +512,12 @@ fn the_length_of_a_translation() {
         let source = production(1, 0, &vec![1; 1 + padding]);
         translation(&source, &target, &[mapping(1, 1), clause(1, 0, &code)].concat())
     };
-    assert_eq!(wide(4096).len(), 4096);
-    assert_eq!(wide(4097).len(), 4097);
-    assert_eq!(translation_number(&wide(4096)), 0);
-    assert_eq!(translation_number(&wide(4097)), 1);
+    for classes in [vec![], class(0, 5, 9), stepped_class(0, 5, 9, 1), stepped_class(0, 5, 9, 2)] {
+        assert_eq!(wide(4096, &classes).len(), 4096);
+        assert_eq!(wide(4097, &classes).len(), 4097);
+        assert_eq!(translation_number(&wide(4096, &classes)), 0);
+        assert_eq!(translation_number(&wide(4097, &classes)), 1);
+    }
     assert_eq!(translation_number(&[0; 4096]), 2);
     assert_eq!(translation_number(&[0; 4097]), 1);
 }

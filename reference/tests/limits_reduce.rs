@@ -312,6 +312,135 @@ fn a_join_takes_classes_that_lie_inside_those_of_the_first() {
 }
 
 #[test]
+fn values_write_steps_of_1_in_length_5() {
+    let plain = class(2, 5, 9);
+    let written = stepped_class(2, 5, 9, 1);
+    let identity = translation(&plain, &plain, &mapping(2, 2));
+    let languages = [written, plain.clone(), vec![]];
+    let value = |term: &[u8]| reduced(&pack(&languages, &[mapping(2, 2), vec![]], term));
+    assert_eq!(value(&[0x55, 0x40, 0]), identity);
+    assert_eq!(value(&[0x50, 0x40, 0, 0x40, 0, 0]), identity);
+    assert_eq!(value(&[0x50, 0x40, 0, 0x40, 1, 0]), identity);
+    assert_eq!(value(&[0x50, 0x40, 2, 0x40, 0, 1]), translation(&[], &plain, &[]));
+    assert_eq!(value(&[0x56, 0, 0x40, 0, 0x55, 0x41, 0]), identity);
+    assert_eq!(value(&[0x55, 0x43, 0x40, 0, 0x40, 1]), identity);
+    assert_eq!(value(&[0x55, 0x42, 0x40, 0, 0x40, 2]), identity);
+    assert_eq!(value(&[0x55, 0x42, 0x40, 0, 0x40, 1]), translation(&[], &[], &[]));
+    assert_eq!(value(&[0x55, 0x42, 0x40, 1, 0x40, 0]), translation(&[], &[], &[]));
+    assert_eq!(value(&[0x52, 0x55, 0x40, 1, 0x40, 0]), translation(&[], &plain, &[]));
+    assert_eq!(value(&[0x53, 0x55, 0x40, 0, 0x55, 0x40, 1]), identity);
+    assert_eq!(value(&[0x54, 0x55, 0x40, 0, 0x55, 0x40, 1]), identity);
+    assert_eq!(value(&[0x54, 0x55, 0x40, 1, 0x55, 0x40, 0]), identity);
+}
+
+#[test]
+fn other_steps_are_written() {
+    let fives = stepped_class(2, 100, 204, 5);
+    let value = reduced(&pack(std::slice::from_ref(&fives), &[], &[0x55, 0x40, 0]));
+    assert_eq!(value, translation(&fives, &fives, &mapping(2, 2)));
+}
+
+#[test]
+fn equal_ranges_have_equal_steps() {
+    let pairs = [
+        (stepped_class(2, 5, 9, 2), stepped_class(2, 5, 9, 2), true),
+        (stepped_class(2, 5, 9, 2), stepped_class(2, 5, 9, 4), false),
+        (stepped_class(2, 5, 9, 2), class(2, 5, 9), false),
+        (stepped_class(2, 5, 9, 1), class(2, 5, 9), true),
+        (stepped_class(2, 5, 9, 2), stepped_class(2, 5, 10, 2), false),
+        (stepped_class(2, 5, 5, 9), class(2, 5, 5), false),
+    ];
+    for (left, right, equal) in pairs {
+        let rest = if equal { vec![] } else { left.clone() };
+        let languages = [left, right];
+        let value = |term: &[u8]| reduce_answer(&pack(&languages, &[], term));
+        let sum = if equal { 0 } else { 12 };
+        assert_eq!(value(&[0x55, 0x43, 0x40, 0, 0x40, 1]).0, sum, "{languages:?}");
+        assert_eq!(value(&[0x53, 0x55, 0x40, 1, 0x55, 0x40, 0]).0, sum, "{languages:?}");
+        let kept = if equal { vec![] } else { mapping(2, 2) };
+        let without = value(&[0x55, 0x42, 0x40, 0, 0x40, 1]);
+        assert_eq!(without, (0, translation(&rest, &rest, &kept)), "{languages:?}");
+    }
+}
+
+#[test]
+fn a_join_takes_each_legal_value() {
+    let number = |outer: Vec<u8>, inner: Vec<u8>| {
+        reduce_number(&pack(&[outer, inner], &[], &[0x54, 0x55, 0x40, 0, 0x55, 0x40, 1]))
+    };
+    let class = |low, high, step| stepped_class(2, low, high, step);
+    assert_eq!(number(class(100, 200, 5), class(110, 190, 10)), 0);
+    assert_eq!(number(class(100, 200, 5), class(110, 204, 10)), 0);
+    assert_eq!(number(class(100, 200, 5), class(110, 210, 10)), 13);
+    assert_eq!(number(class(100, 200, 5), class(110, 190, 4)), 13);
+    assert_eq!(number(class(100, 200, 5), class(112, 190, 5)), 13);
+    assert_eq!(number(class(100, 200, 1), class(100, 200, 5)), 0);
+    assert_eq!(number(class(100, 200, 5), class(100, 200, 1)), 13);
+    assert_eq!(number(class(5, 5, 9), class(5, 5, 1)), 0);
+    assert_eq!(number(class(5, 5, 1), class(5, 5, 9)), 0);
+    assert_eq!(number(class(0, 65_535, 5), class(0, 65_535, 65_535)), 0);
+    assert_eq!(number(class(0, 65_535, 65_535), class(0, 65_535, 5)), 13);
+}
+
+/// Four classes of step 1, with their steps written or not.
+fn four_classes(written: bool) -> Vec<u8> {
+    let class = |kind| if written { stepped_class(kind, 0, 9, 1) } else { class(kind, 0, 9) };
+    (10..14).flat_map(class).collect()
+}
+
+/// So many productions of five bytes.
+fn five_bytes_each(start: u8, count: u8) -> Vec<u8> {
+    (start..start + count).flat_map(|name| production(1, name, &[])).collect()
+}
+
+#[test]
+fn a_constant_at_its_limit_becomes_shorter() {
+    let constant = |written: bool, arguments: usize| {
+        let last = production(2, 0, &vec![2; arguments]);
+        [four_classes(written), five_bytes_each(0, 195), last].concat()
+    };
+    assert_eq!((constant(true, 4).len(), constant(false, 4).len()), (1024, 1016));
+    let (number, value) = reduce_answer(&pack(&[constant(true, 4)], &[], &[0x55, 0x40, 0]));
+    assert_eq!(number, 0);
+    assert!(value.starts_with(&field(0x20, &constant(false, 4))));
+    assert_eq!(reduce_number(&pack(&[constant(true, 5)], &[], &[0x55, 0x40, 0])), 1);
+}
+
+#[test]
+fn a_sum_is_measured_without_steps_of_1() {
+    let left = [four_classes(true), five_bytes_each(0, 100)].concat();
+    let number = |arguments: usize, term: &[u8]| {
+        let last = production(2, 0, &vec![2; arguments]);
+        let right = [four_classes(true), five_bytes_each(100, 96), last].concat();
+        assert_eq!(left.len() + right.len() - 40, 1025 + arguments);
+        reduce_number(&pack(&[left.clone(), right, vec![]], &[vec![]], term))
+    };
+    let from_empty = |language: u8| vec![0x50, 0x40, 2, 0x40, language, 0];
+    let targets = [vec![0x53], from_empty(0), from_empty(1)].concat();
+    for term in [&[0x55, 0x43, 0x40, 0, 0x40, 1][..], &[0x53, 0x55, 0x40, 0, 0x55, 0x40, 1]] {
+        assert_eq!(number(7, term), 0);
+        assert_eq!(number(8, term), 11);
+    }
+    assert_eq!(number(7, &targets), 0);
+    assert_eq!(number(8, &targets), 11);
+}
+
+#[test]
+fn a_body_is_measured_without_steps_of_1() {
+    let target = |written: bool| [four_classes(written), counting()].concat();
+    let body = |nodes: usize| [mapping(3, 1), clause(3, 0, &wide_code(nodes))].concat();
+    let source = production(3, 0, &[]);
+    let fixed = translation(&source, &target(false), &[mapping(3, 1), clause(3, 0, &[])].concat());
+    let nodes = (4096 - fixed.len()) / 2;
+    let number = |written: bool, nodes: usize| {
+        let languages = [source.clone(), target(written)];
+        reduce_number(&pack(&languages, &[body(nodes)], &[0x50, 0x40, 0, 0x40, 1, 0]))
+    };
+    assert_eq!([number(true, nodes), number(false, nodes)], [0, 0]);
+    assert_eq!([number(true, nodes + 1), number(false, nodes + 1)], [11, 11]);
+}
+
+#[test]
 fn a_class_that_is_missing_in_the_first_is_refused() {
     let with_class = [class(2, 5, 9), production(1, 0, &[2])].concat();
     let without_class = production(1, 0, &[2]);

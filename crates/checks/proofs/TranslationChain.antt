@@ -24,7 +24,6 @@ use Rattle.translation.specs.Operations.{checkTranslation}
 use Rattle.translation.specs.Inner.Parts.{Parted}
 use Rattle.translation.specs.Inner.Pieces.{Pieces}
 use Rattle.checks.specs.Inner.Chains.{inOrder}
-use Rattle.translation.proofs.Codec.{parts-in, both-short}
 use Rattle.translation.proofs.Found.{cut, cut-is, rest-is}
 use Rattle.translation.proofs.Cuts.{parted-pieces}
 
@@ -74,7 +73,7 @@ module _ (s : List ℕ) (over : Bool) (eo : over ≡ (ltb translationLimit (leng
           let j = w .target-past in
           let k = w .inside in
           rw (cut-is s 3 a (w .source-past) (omega arith), cut-is s (a + 3) b j k, rest-is s b)
-          (parted-pieces s a b f w (both-short (parts-in s f e) (limits .1)) (limits .0))
+          (parted-pieces s a b f w (limits .1) (limits .0))
 
       pub pieces-checked : {o : Outcome} → o ≡ checked (inOrder f) → o ≡ checkTranslation s
       pieces-checked h = h ∙ sym (chain ∙ rw e)

@@ -11,15 +11,14 @@ use lib.Dec.{eqb}
 use borrow.Author.Tests.{eqb-true, eqb-false}
 use Rattle.fields.specs.Outcome.{Result, value}
 use Rattle.fields.specs.declared.outcome.Reason.the-variants.{UnboundVariable, IllegalTerm as TermRefused}
-use Rattle.fields.proofs.Truth.{none-some, some-inj, all-mem}
-use Rattle.fields.proofs.Keyed.{is-rising}
-use Rattle.language.proofs.Codec.{language-good, language-back}
-use Rattle.translation.specs.Translation.{Translation, itemKey}
-use Rattle.translation.specs.TranslationFile.{translationOf}
-use Rattle.translation.proofs.Codec.{itemWhole, rises-parts, translation-whole}
+use Rattle.fields.proofs.Truth.{none-some, some-inj}
+use Rattle.language.specs.LanguageFile.{encodeLanguage}
+use Rattle.language.proofs.Codec.{language-back}
+use Rattle.translation.specs.TranslationFile.{encodeTranslation}
 use Rattle.translation.specs.WellFormed.{wellFormed}
 use Rattle.operators.specs.Operators.{translationJoin}
-use Rattle.operators.proofs.Proper.{good-proper, formed-sound, GoodTranslation, good-back}
+use Rattle.operators.proofs.Proper.{good-back}
+use Rattle.operators.proofs.Accepted.{exact-good, exact-translation, language-exact, translation-exact, accepted-good}
 use Rattle.pack.specs.Terms.{Sort, languages, translations, Term, constant, sourceOf, targetOf, make, join, identity, variable, without, sum, bind}
 use Rattle.pack.proofs.PackCodec.{pack-good}
 use Rattle.signs.specs.declared.places.Places.{Places}
@@ -29,29 +28,14 @@ use Rattle.signs.specs.Inner.Values.{slotOf, Sized, Changed, Holds, Held}
 use Rattle.evaluator.specs.Inner.Reducing.{Context, Stored, Kept}
 use Rattle.evaluator.proofs.Evaluated.{Good, step-value, limited-value, within, language-short, evaluate-good}
 
--- A translation that bytes hold is good.
-translation-good : (b : List ℕ) (f : Translation) → translationOf b ≡ value f → GoodTranslation f
-translation-good b f e =
-    let w = translation-whole b f e in
-    let r = rises-parts f (w .1 .rises) in
-    record {
-      sound = formed-sound f f
-          (good-proper (f .source) (record { whole = w .1 .source; rises = r .0; apart = w .1 .source-apart; short = w .1 .source-short }))
-          (good-proper (f .target) (record { whole = w .1 .target; rises = r .1; apart = w .1 .target-apart; short = w .1 .target-short }))
-          (all-mem itemWhole (f .body) (w .1 .body)) (is-rising itemKey (f .body) (r .2)) (w .2) .0;
-      source-short = w .1 .source-short;
-      target-short = w .1 .target-short;
-      short = w .1 .short;
-    }
-
 -- What bytes hold is good, and what is good is read back.
 reads-good : (s : Sort) (b : List ℕ) (v : Value s) → valueIn s b ≡ value v → Good s v
-reads-good languages b l e = language-good b l e .1
-reads-good translations b f e = translation-good b f e
+reads-good languages b l e = exact-good b l e
+reads-good translations b f e = accepted-good b f (exact-translation b f e .0)
 
 good-reads : (s : Sort) (v : Value s) → Good s v → valueIn s (encodeAs s v) ≡ value v
-good-reads languages l g = language-back l g
-good-reads translations f g = good-back f g
+good-reads languages l g = language-exact (encodeLanguage l) l (language-back l g) refl
+good-reads translations f g = translation-exact (encodeTranslation f) f (good-back f g) refl
 
 -- Every value that a term comes to is one that bytes hold.
 pub evaluated-reads : {bytes : List ℕ} {places : Places} {store : List ℕ} {top n : ℕ} (g : Context bytes places store top n) {s : Sort} (t : Term s) (v : Value s)

@@ -343,8 +343,7 @@ module _ (isLanguage : ℕ → Bool) (limit : ℕ) where
 pub record Codec {A : Type 0} (decode : Field → Option A) (encode : A → Field) (whole : A → Bool) : Type 0 where
   pub reads : (a : A) → whole a ≡ true → decode (encode a) ≡ some a
   pub wholes : (f : Field) (a : A) → decode f ≡ some a → whole a ≡ true
-  pub sizes : (f : Field) (a : A) → decode f ≡ some a → length (contentsOf (encode a)) ≡ length (contentsOf f)
-  pub gives : (f : Field) (a : A) → decode f ≡ some a → Bytes (contentsOf f) → encode a ≡ f
+  pub sizes : (f : Field) (a : A) → decode f ≡ some a → length (contentsOf (encode a)) ≤ length (contentsOf f)
 
 module _ {A : Type 0} {decode : Field → Option A} {encode : A → Field} {whole : A → Bool} (codec : Codec decode encode whole) where
   -- Whole entries that are written are read back.
@@ -363,19 +362,21 @@ module _ {A : Type 0} {decode : Field → Option A} {encode : A → Field} {whol
       let (a, k, x, y, z) = before-inv (decode f) (traverse decode fs) l e in
       rw z (both-and _ _ (codec .wholes f a x) (entries-whole fs k y))
 
-  -- Entries that are read have as many bytes as they are read from.
+  -- Entries that are read have at most as many bytes as they are read from.
   pub entries-length : (fs : List Field) (l : List A) → traverse decode fs ≡ some l
-      → length (encodeFields (map encode l)) ≡ length (encodeFields fs)
+      → length (encodeFields (map encode l)) ≤ length (encodeFields fs)
   unfolding traverse
-  entries-length [] l e = let z : [] ≡ l = cc in rw (← z)
+  entries-length [] l e = let z : [] ≡ l = cc in rw (← z) (omega arith)
   entries-length (f ∷ fs) l e =
       let (a, k, x, y, z) = before-inv (decode f) (traverse decode fs) l e in
       rw z (omega (arith, encode-length f fs, encode-length (encode a) (map encode k), codec .sizes f a x, entries-length fs k y))
 
-  -- Entries that are read from bytes are written in the same fields.
-  pub entries-sound : (fs : List Field) (l : List A) → Each InBytes fs → traverse decode fs ≡ some l → map encode l ≡ fs
-  unfolding traverse
-  entries-sound [] l b e = let z : [] ≡ l = cc in rw (← z)
-  entries-sound (f ∷ fs) l b e =
-      let (a, k, x, y, z) = before-inv (decode f) (traverse decode fs) l e in
-      rw (z, codec .gives f a x (b .0 .contents), entries-sound fs k (b .1) y)
+-- Entries that are written in the field that they are read from: so are all of them.
+pub entries-sound : {A : Type 0} (decode : Field → Option A) (encode : A → Field)
+    → ((f : Field) (a : A) → decode f ≡ some a → Bytes (contentsOf f) → encode a ≡ f)
+    → (fs : List Field) (l : List A) → Each InBytes fs → traverse decode fs ≡ some l → map encode l ≡ fs
+unfolding traverse
+entries-sound decode encode gives [] l b e = let z : [] ≡ l = cc in rw (← z)
+entries-sound decode encode gives (f ∷ fs) l b e =
+    let (a, k, x, y, z) = before-inv (decode f) (traverse decode fs) l e in
+    rw (z, gives f a x (b .0 .contents), entries-sound decode encode gives fs k (b .1) y)

@@ -7,11 +7,10 @@ ghost use lib.ListN.{length};
 ghost use Rattle.fields.specs.Outcome.{value};
 ghost use Rattle.language.specs.LanguageFile.{encodeLanguage};
 ghost use Rattle.translation.specs.Translation.{Translation};
-ghost use Rattle.translation.specs.TranslationFile.{translationOf};
 ghost use Rattle.translation.specs.Operations.{checkTranslation};
 ghost use Rattle.operators.specs.Operators.{joinFits, joined, translationJoin};
 ghost use Rattle.fields.specs.Inner.Writing.{Stores};
-ghost use Rattle.operators.specs.Inner.Values.{Gives, translationBytes};
+ghost use Rattle.operators.specs.Inner.Values.{exactTranslation, Gives, translationBytes};
 ghost use Rattle.operators.specs.Inner.EncodedParts.{EncodedParts};
 ghost use Rattle.joining.specs.Inner.Joining.{Held, Fitted, joinedBody, measured};
 use super::body::join_items;
@@ -135,8 +134,8 @@ fn join_parts(
 
 // The join of a after b: b runs first. 13 where it does not fit, 11 where its value exceeds a limit.
 pub fn join(a: &[u8], b: &[u8], out: &mut [u8]) -> Outcome
-    requires { ⌜ ((f : Translation) × (translationOf (now a) ≡ value f)) × ((g : Translation) × (translationOf (now b) ≡ value g)) × (4096 ≤ length (now out)) ⌝ }
-    ensures { λ r. ⌜ ((f g : Translation) → translationOf (now (a .entry)) ≡ value f → translationOf (now (b .entry)) ≡ value g
+    requires { ⌜ ((f : Translation) × (exactTranslation (now a) ≡ value f)) × ((g : Translation) × (exactTranslation (now b) ≡ value g)) × (4096 ≤ length (now out)) ⌝ }
+    ensures { λ r. ⌜ ((f g : Translation) → exactTranslation (now (a .entry)) ≡ value f → exactTranslation (now (b .entry)) ≡ value g
         → Gives (translationBytes (translationJoin f g)) (now (out .entry)) (now (out .exit)) r) ⌝ }
 {
     join_parts(

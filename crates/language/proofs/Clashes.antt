@@ -12,24 +12,24 @@ use Rattle.fields.specs.Lists.{any}
 use Rattle.fields.specs.Inner.Places.{places}
 use Rattle.fields.proofs.Truth.{by-test}
 use Rattle.fields.proofs.Lists.{any-map, any-same, any-none, any-swap}
-use Rattle.language.specs.Language.{Entry, class, production, Language, resultIs, classIsResult, clashes}
+use Rattle.language.specs.Language.{Range, Entry, class, production, Language, resultIs, classIsResult, clashes}
 use Rattle.language.specs.Inner.Entries.{entryWhole, entryAt, Holds, IsClass, IsProduction, markClass, markClasses, classKinds, resultMarked, resultsMeet, resultIsClass}
 use Rattle.language.proofs.Facts.{entry-facts, class-is, production-is}
 
 -- An entry is the class of the result of another.
 abbrev pair : Entry → Entry → Bool
-pair (class k low high) b = resultIs k b
+pair (class k c) b = resultIs k b
 pair (production r n arguments) b = false
 
 pair-any : (m : Language) (a : Entry) → classIsResult m a ≡ any (pair a) m
 unfolding classIsResult
-pair-any m (class k low high) = refl
+pair-any m (class k c) = refl
 pair-any m (production r n arguments) = sym (any-none m)
 
-pair-class : (a : Entry) (k low high : ℕ) → pair a (class k low high) ≡ false
+pair-class : (a : Entry) (k : ℕ) (c : Range) → pair a (class k c) ≡ false
 unfolding resultIs
-pair-class (class j a b) k low high = refl
-pair-class (production r n arguments) k low high = refl
+pair-class (class j d) k c = refl
+pair-class (production r n arguments) k c = refl
 
 -- The class of kind k stands at p.
 abbrev classHere : List ℕ → ℕ → ℕ → Bool

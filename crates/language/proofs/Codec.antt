@@ -1,38 +1,52 @@
--- Languages in bytes: what is written is read back, and what is read was written.
+-- Languages in bytes: what is written is read back.
 use Prim.Native.Nat.{ℕ, suc, _+_, _*_, _/_, _%_, _≤_}
 use mathlib.Core.Path.{_≡_, refl, sym, ap, _∙_}
-use mathlib.Core.Bool.{Bool, true, false, not, _&&_}
-use mathlib.Core.List.{List, [], _∷_, _++_, map}
+use mathlib.Core.Bool.{Bool, true, false, cond, not, _&&_, _||_}
+use mathlib.Core.Logic.{⊎-elim}
+use mathlib.Core.List.{List, [], _∷_, _++_, map, append-nil}
 use mathlib.Core.Option.{Option, none, some}
 use native.Mathlib.Omega.{arith}
-use lib.ListN.{length, drop, length-drop}
-use lib.Dec.{ltb, leb}
+use lib.ListN.{length, take, drop, length-drop, take-append-drop}
+use lib.Seq.{take-all}
+use lib.Dec.{ltb, leb, eqb}
 use borrow.Author.Tests.{le-leb, leb-true, eqb-true, le-ltb, ltb-false}
 use Rattle.fields.specs.Outcome.{Result, value, refuseIf, _>>=_}
 use Rattle.fields.specs.declared.outcome.Reason.the-variants.{TooLong, OutOfOrder, ClassIsResult}
 use Rattle.fields.specs.Lists.{all, traverse}
 use Rattle.fields.specs.Fields.{Field, field, byteAt, pairAt, twoBytes, fieldsOf, encodeFields, decodedIn}
 use Rattle.fields.specs.Keyed.{rising}
-use Rattle.fields.proofs.Truth.{none-some, and-both, both-and}
-use Rattle.fields.proofs.Codec.{Bytes, contentsOf, Codec, cond-some, refused-value, two-tags, front-two, fields-encode, fields-sound, fields-length, entries-encode, entries-whole, entries-length, entries-sound}
-use Rattle.language.specs.Language.{Entry, class, production, Language, entryKey, clashes}
-use Rattle.language.specs.LanguageFile.{isKind, classOf, productionOf, entryOf, entryField, entriesOf, encodeLanguage, languageLimit, whole, languageOf}
+use Rattle.fields.proofs.Truth.{by-test, none-some, and-both, both-and, or-cases}
+use Rattle.fields.proofs.Codec.{Bytes, contentsOf, Codec, cond-some, refused-value, two-tags, front-two, fields-encode, fields-length, entries-encode, entries-whole, entries-length}
+use Rattle.language.specs.Language.{Range, Entry, class, production, Language, entryKey, clashes}
+use Rattle.language.specs.LanguageFile.{isKind, rangeWhole, rangeIn, stepBytes, classOf, productionOf, entryOf, entryField, entriesOf, encodeLanguage, languageLimit, whole, languageOf}
 
--- An entry that a file can hold: its kinds are kinds, low is at most high, and there are at most 8 arguments.
+-- An entry that a file can hold: its kinds are kinds, its range is one, and there are at most 8 arguments.
 unfoldable pub entryWhole : Entry → Bool
-entryWhole (class k low high) = isKind k && leb low high
+entryWhole (class k c) = isKind k && rangeWhole c
 entryWhole (production r p arguments) = isKind r && (leb (length arguments) 8 && all isKind arguments)
 
 -- The number in two bytes.
 pub two-bytes : (n : ℕ) → n / 256 * 256 + n % 256 ≡ n
 two-bytes n = omega arith
 
+-- The range that is written is read back.
+range-reads : (k : ℕ) (c : Range) → let b = k ∷ (twoBytes (c .low) ++ (twoBytes (c .high) ++ stepBytes (c .step))) in
+    ((eqb (length b) 5 || eqb (length b) 7) ≡ true) × (rangeIn b ≡ c)
+unfolding rangeIn stepBytes pairAt
+range-reads k c =
+    by-test (eqb (c .step) 1)
+    (λ e.
+    let o : 1 ≡ c .step = sym (eqb-true (c .step) 1 e) in
+    rw e (refl, λ i. record { low = two-bytes (c .low) i; high = two-bytes (c .high) i; step = o i }))
+    (λ e. rw e (refl, λ i. record { low = two-bytes (c .low) i; high = two-bytes (c .high) i; step = two-bytes (c .step) i }))
+
 -- A whole entry that is written is read back.
 entry-reads : (e : Entry) → entryWhole e ≡ true → entryOf (entryField e) ≡ some e
-unfolding entryWhole entryOf entryField classOf productionOf pairAt
-entry-reads (class k low high) h =
-    let w = and-both (isKind k) (leb low high) h in
-    rw (two-bytes low, two-bytes high, w .0, w .1)
+unfolding entryWhole entryOf entryField classOf productionOf
+entry-reads (class k c) h =
+    let w = and-both (isKind k) (rangeWhole c) h in
+    let r = range-reads k c in
+    rw (r .0, r .1, w .0, w .1)
 entry-reads (production r p arguments) h =
     let w = and-both (isKind r) (leb (length arguments) 8 && all isKind arguments) h in
     let v = and-both (leb (length arguments) 8) (all isKind arguments) (w .1) in
@@ -42,10 +56,10 @@ entry-reads (production r p arguments) h =
 
 -- What a token class is read from.
 record ClassIn (c : List ℕ) (e : Entry) : Type 0 where
-  long : length c ≡ 5
+  long : (eqb (length c) 5 || eqb (length c) 7) ≡ true
   kind : isKind (byteAt c 0) ≡ true
-  rises : leb (pairAt c 1) (pairAt c 3) ≡ true
-  same : class (byteAt c 0) (pairAt c 1) (pairAt c 3) ≡ e
+  rises : rangeWhole (rangeIn c) ≡ true
+  same : class (byteAt c 0) (rangeIn c) ≡ e
 
 -- A token class that is read.
 class-in : (c : List ℕ) (e : Entry) → classOf c ≡ some e → ClassIn c e
@@ -54,7 +68,7 @@ class-in c e h =
     let w = cond-some _ _ e h in
     let v = and-both _ _ (w .0) in
     let u = and-both _ _ (v .1) in
-    record { long = eqb-true (length c) 5 (v .0); kind = u .0; rises = u .1; same = w .1 }
+    record { long = v .0; kind = u .0; rises = u .1; same = w .1 }
 
 -- What a production is read from.
 record ProductionIn (c : List ℕ) (e : Entry) : Type 0 where
@@ -91,41 +105,119 @@ entry-wholes (field tag c) e h =
     let n : length (drop 2 c) ≤ 8 = simp length-drop (omega (arith, i .most)) in
     rw (← i .same) (both-and _ _ (i .result) (both-and _ _ (le-leb (length (drop 2 c)) 8 n) (i .arguments))))
 
--- It has as many bytes as it is read from.
-entry-sizes : (f : Field) (e : Entry) → entryOf f ≡ some e → length (contentsOf (entryField e)) ≡ length (contentsOf f)
+-- A class is written in no more bytes than it is read from.
+class-sizes : (c : List ℕ) → (eqb (length c) 5 || eqb (length c) 7) ≡ true
+    → length (byteAt c 0 ∷ (twoBytes (rangeIn c .low) ++ (twoBytes (rangeIn c .high) ++ stepBytes (rangeIn c .step)))) ≤ length c
+unfolding rangeIn stepBytes
+class-sizes c h =
+    ⊎-elim
+    (λ e. let n = eqb-true (length c) 5 e in rw n (omega arith))
+    (λ e. let n = eqb-true (length c) 7 e in rw n (step-sizes (pairAt c 5)))
+    (or-cases (eqb (length c) 5) (eqb (length c) 7) h)
+  where
+    step-sizes : (n : ℕ) → suc (suc (suc (suc (suc (length (cond (eqb n 1) [] (twoBytes n))))))) ≤ 7
+    step-sizes n = by-test (eqb n 1) (λ e. rw e (omega arith)) (λ e. rw e (omega arith))
+
+-- It has at most as many bytes as it is read from.
+entry-sizes : (f : Field) (e : Entry) → entryOf f ≡ some e → length (contentsOf (entryField e)) ≤ length (contentsOf f)
 unfolding entryField
 entry-sizes (field tag c) e h =
     entry-in tag c e h
-    (λ t i. rw (← i .same) (sym (i .long)))
-    (λ t i. rw (← i .same) (ap length (front-two c (i .least))))
+    (λ t i. rw (← i .same) (class-sizes c (i .long)))
+    (λ t i. rw (← i .same) (omega (arith, ap length (front-two c (i .least)))))
 
--- The bytes of a token class.
-class-bytes : (c : List ℕ) → length c ≡ 5 → Bytes c → byteAt c 0 ∷ (twoBytes (pairAt c 1) ++ twoBytes (pairAt c 3)) ≡ c
+-- A class whose step of 1 is written.
+abbrev pub spare : ℕ → List ℕ → Bool
+spare tag c = eqb tag 0x11 && (eqb (length c) 7 && eqb (pairAt c 5) 1)
+
+-- The bytes of a token class, without its step.
+front-five : (c : List ℕ) → 5 ≤ length c → Bytes c → byteAt c 0 ∷ (twoBytes (pairAt c 1) ++ twoBytes (pairAt c 3)) ≡ take 5 c
 unfolding pairAt
-class-bytes [] h b = absurd (omega arith)
-class-bytes (k ∷ []) h b = absurd (omega arith)
-class-bytes (k ∷ x ∷ []) h b = absurd (omega arith)
-class-bytes (k ∷ x ∷ y ∷ []) h b = absurd (omega arith)
-class-bytes (k ∷ x ∷ y ∷ u ∷ []) h b = absurd (omega arith)
-class-bytes (k ∷ x ∷ y ∷ u ∷ v ∷ w ∷ c) h b = absurd (omega arith)
-class-bytes (k ∷ x ∷ y ∷ u ∷ v ∷ []) h b =
-    let a : (x * 256 + y) / 256 ≡ x = omega arith in
-    let d : (x * 256 + y) % 256 ≡ y = omega arith in
-    let e : (u * 256 + v) / 256 ≡ u = omega arith in
-    let f : (u * 256 + v) % 256 ≡ v = omega arith in
+front-five [] h b = absurd (omega arith)
+front-five (k ∷ []) h b = absurd (omega arith)
+front-five (k ∷ x ∷ []) h b = absurd (omega arith)
+front-five (k ∷ x ∷ y ∷ []) h b = absurd (omega arith)
+front-five (k ∷ x ∷ y ∷ u ∷ []) h b = absurd (omega arith)
+front-five (k ∷ x ∷ y ∷ u ∷ v ∷ c) h b =
+    let a : (x * 256 + y) / 256 ≡ x = omega (arith, b .1 .1 .0) in
+    let d : (x * 256 + y) % 256 ≡ y = omega (arith, b .1 .1 .0) in
+    let e : (u * 256 + v) / 256 ≡ u = omega (arith, b .1 .1 .1 .1 .0) in
+    let f : (u * 256 + v) % 256 ≡ v = omega (arith, b .1 .1 .1 .1 .0) in
     cc
 
--- It is written in the field that it is read from.
-entry-gives : (f : Field) (e : Entry) → entryOf f ≡ some e → Bytes (contentsOf f) → entryField e ≡ f
-unfolding entryField
-entry-gives (field tag c) e h b =
-    entry-in tag c e h
-    (λ t i. rw (← i .same, t) (ap (λ (l : List ℕ). field 0x11 l) (class-bytes c (i .long) b)))
-    (λ t i. rw (← i .same, t) (ap (λ (l : List ℕ). field 0x12 l) (front-two c (i .least))))
+-- The bytes of its step.
+last-two : (c : List ℕ) → length c ≡ 7 → Bytes c → twoBytes (pairAt c 5) ≡ drop 5 c
+unfolding pairAt
+last-two [] h b = absurd (omega arith)
+last-two (k ∷ []) h b = absurd (omega arith)
+last-two (k ∷ x ∷ []) h b = absurd (omega arith)
+last-two (k ∷ x ∷ y ∷ []) h b = absurd (omega arith)
+last-two (k ∷ x ∷ y ∷ u ∷ []) h b = absurd (omega arith)
+last-two (k ∷ x ∷ y ∷ u ∷ v ∷ []) h b = absurd (omega arith)
+last-two (k ∷ x ∷ y ∷ u ∷ v ∷ p ∷ []) h b = absurd (omega arith)
+last-two (k ∷ x ∷ y ∷ u ∷ v ∷ p ∷ q ∷ r ∷ c) h b = absurd (omega arith)
+last-two (k ∷ x ∷ y ∷ u ∷ v ∷ p ∷ q ∷ []) h b =
+    let a : (p * 256 + q) / 256 ≡ p = omega (arith, b .1 .1 .1 .1 .1 .1 .0) in
+    let d : (p * 256 + q) % 256 ≡ q = omega (arith, b .1 .1 .1 .1 .1 .1 .0) in
+    cc
+
+-- It has five bytes or more.
+class-five : (c : List ℕ) → (eqb (length c) 5 || eqb (length c) 7) ≡ true → 5 ≤ length c
+class-five c h =
+    ⊎-elim (λ e. omega (arith, eqb-true (length c) 5 e)) (λ e. omega (arith, eqb-true (length c) 7 e))
+    (or-cases (eqb (length c) 5) (eqb (length c) 7) h)
+
+-- A step of 1 is not written.
+one-unwritten : (c : List ℕ) → eqb (length c) 7 ≡ true → eqb (pairAt c 5) 1 ≡ true → take 5 c ++ stepBytes (rangeIn c .step) ≡ take 5 c
+unfolding rangeIn stepBytes
+one-unwritten c m n = rw (m, n) (append-nil (take 5 c))
+
+-- A class is written in its first five bytes, and those of its step.
+class-written : (c : List ℕ) → 5 ≤ length c → Bytes c
+    → byteAt c 0 ∷ (twoBytes (rangeIn c .low) ++ (twoBytes (rangeIn c .high) ++ stepBytes (rangeIn c .step))) ≡ take 5 c ++ stepBytes (rangeIn c .step)
+unfolding rangeIn
+class-written c h b = ap (λ (l : List ℕ). l ++ stepBytes (rangeIn c .step)) (front-five c h b)
+
+-- It is written in the field that it is read from, where no step of 1 stands there.
+class-kept : (c : List ℕ) → (eqb (length c) 5 || eqb (length c) 7) ≡ true → spare 0x11 c ≡ false → Bytes c → take 5 c ++ stepBytes (rangeIn c .step) ≡ c
+unfolding rangeIn stepBytes
+class-kept c h n b =
+    ⊎-elim
+    (λ e.
+    let m : length c ≡ 5 = eqb-true (length c) 5 e in
+    let z : eqb (length c) 7 ≡ false = rw m refl in
+    rw z (append-nil (take 5 c) ∙ take-all 5 c (omega arith)))
+    (λ e.
+    let m : length c ≡ 7 = eqb-true (length c) 7 e in
+    let z : eqb (pairAt c 5) 1 ≡ false = rw e at n in
+    rw (e, z) (ap (λ (l : List ℕ). take 5 c ++ l) (last-two c m b) ∙ take-append-drop 5 c))
+    (or-cases (eqb (length c) 5) (eqb (length c) 7) h)
+
+module _ (tag : ℕ) (c : List ℕ) (e : Entry) (h : entryOf (field tag c) ≡ some e) (b : Bytes c) where
+  pub entry-kept : spare tag c ≡ false → entryField e ≡ field tag c
+  unfolding entryField
+  entry-kept n =
+      entry-in tag c e h
+      (λ t i.
+      let five : 5 ≤ length c = class-five c (i .long) in
+      rw (← i .same, t) (ap (λ (l : List ℕ). field 0x11 l) (class-written c five b ∙ class-kept c (i .long) (rw t at n) b)))
+      (λ t i. rw (← i .same, t) (ap (λ (l : List ℕ). field 0x12 l) (front-two c (i .least))))
+
+  pub entry-spare : spare tag c ≡ true → entryField e ≡ field 0x11 (take 5 c)
+  unfolding entryField
+  entry-spare n =
+      entry-in tag c e h
+      (λ t i.
+      let w = and-both (eqb tag 0x11) (eqb (length c) 7 && eqb (pairAt c 5) 1) n in
+      let v = and-both (eqb (length c) 7) (eqb (pairAt c 5) 1) (w .1) in
+      rw (← i .same) (ap (λ (l : List ℕ). field 0x11 l) (class-written c (class-five c (i .long)) b ∙ one-unwritten c (v .0) (v .1))))
+      (λ t i.
+      let w = and-both (eqb tag 0x11) (eqb (length c) 7 && eqb (pairAt c 5) 1) n in
+      absurd (omega (arith, t, eqb-true tag 0x11 (w .0))))
 
 -- Entries, one to a field.
 pub entryCodec : Codec entryOf entryField entryWhole
-entryCodec = record { reads = entry-reads; wholes = entry-wholes; sizes = entry-sizes; gives = entry-gives }
+entryCodec = record { reads = entry-reads; wholes = entry-wholes; sizes = entry-sizes }
 
 -- The fields that entries are read from.
 entries-in : (o : Option (List Field)) (l : Language) → decodedIn entryOf o ≡ some l → (fs : List Field) × (o ≡ some fs) × (traverse entryOf fs ≡ some l)
@@ -147,18 +239,10 @@ module _ (s : List ℕ) (l : Language) (e : entriesOf s ≡ some l) where
   pub language-whole : all entryWhole l ≡ true
   language-whole = let (fs, d, t) = entries-from in entries-whole entryCodec fs l t
 
-  -- They have as many bytes as they are read from.
-  pub language-length : length (encodeLanguage l) ≡ length s
+  -- They have at most as many bytes as they are read from.
+  pub language-length : length (encodeLanguage l) ≤ length s
   unfolding encodeLanguage
-  language-length = let (fs, d, t) = entries-from in entries-length entryCodec fs l t ∙ fields-length s fs d
-
-  -- Bytes that are read are those that the entries are written in.
-  pub language-sound : Bytes s → s ≡ encodeLanguage l
-  unfolding encodeLanguage
-  language-sound b =
-      let (fs, d, t) = entries-from in
-      let w = fields-sound s fs b d in
-      w .0 ∙ ap encodeFields (sym (entries-sound entryCodec fs l (w .1) t))
+  language-length = let (fs, d, t) = entries-from in omega (arith, entries-length entryCodec fs l t, fields-length s fs d)
 
 -- A language that a file can hold.
 pub record GoodLanguage (l : Language) : Type 0 where
@@ -219,10 +303,6 @@ language-good s l e =
         short = omega (arith, language-length s l d, ltb-false languageLimit (length s) (o .fits));
       },
     )
-
--- The bytes of a language that a file holds.
-pub language-bytes : (s : List ℕ) (l : Language) → Bytes s → languageOf s ≡ value l → s ≡ encodeLanguage l
-language-bytes s l b e = language-sound s l (language-good s l e .0) b
 
 -- A good language that is written is read back.
 pub language-back : (l : Language) → GoodLanguage l → languageOf (encodeLanguage l) ≡ value l

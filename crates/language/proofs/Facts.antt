@@ -2,7 +2,7 @@
 use Prim.Native.Nat.{ℕ, _+_, _<_, _≤_}
 use mathlib.Core.Path.{_≡_}
 use mathlib.Core.Logic.{_⊎_, inl, inr, ⊎-elim}
-use mathlib.Core.Bool.{true}
+use mathlib.Core.Bool.{true, _||_}
 use mathlib.Core.List.{List}
 use native.Mathlib.Omega.{arith}
 use lib.ListN.{length, getD}
@@ -12,17 +12,26 @@ use borrow.Author.Tests.{eq-eqb, lt-ltb, leb-true, ltb-true, eqb-true}
 use Rattle.fields.specs.Lists.{all}
 use Rattle.fields.specs.Fields.{pairAt}
 use Rattle.fields.specs.Inner.Places.{fieldEnd, isWhole, longAt, places, keyAt}
-use Rattle.fields.proofs.Truth.{by-test, false-true, and-both, all-mem, mem-all}
+use Rattle.fields.proofs.Truth.{by-test, false-true, and-both, or-cases, all-mem, mem-all}
 use Rattle.language.specs.Language.{class, production, entryKey}
-use Rattle.language.specs.Inner.Entries.{classWhole, productionWhole, entryGood, entryWhole, entryAt, IsClass, IsProduction}
+use Rattle.language.specs.Inner.Entries.{sizeAt, stepAt, classRange, stepWhole, classWhole, productionWhole, entryGood, entryWhole, entryAt, IsClass, IsProduction}
+use Rattle.language.proofs.Ranges.{class-long}
 
 module _ (s : List ℕ) (p : ℕ) where
   class-facts : isWhole s p ≡ true → getD s p 0 ≡ 0x11 → classWhole s p ≡ true → IsClass s p
-  unfolding isWhole classWhole
+  unfolding isWhole classWhole stepWhole
   class-facts w t h =
-      let a = and-both _ _ h in
+      let a = and-both (stepWhole s p) _ h in
       let b = and-both _ _ (a .1) in
-      record { tag = t; fits = leb-true _ _ w; size = eqb-true _ _ (a .0); kind = ltb-true _ _ (b .0); range = leb-true _ _ (b .1) }
+      let d = and-both (eqb (sizeAt s p) 5 || eqb (sizeAt s p) 7) _ (a .0) in
+      record {
+        tag = t;
+        fits = leb-true _ _ w;
+        size = ⊎-elim (λ e. inl (eqb-true _ _ e)) (λ e. inr (eqb-true _ _ e)) (or-cases (eqb (sizeAt s p) 5) (eqb (sizeAt s p) 7) (d .0));
+        kind = ltb-true _ _ (b .0);
+        range = leb-true _ _ (b .1);
+        step = ltb-true 0 (stepAt s p) (d .1);
+      }
 
   production-facts : isWhole s p ≡ true → getD s p 0 ≡ 0x12 → productionWhole s p ≡ true → IsProduction s p
   unfolding isWhole productionWhole
@@ -54,7 +63,7 @@ module _ (s : List ℕ) (p : ℕ) where
   entry-facts h = let a = and-both _ _ h in good-facts (a .0) (a .1)
 
   -- The entry at a whole class, and at a whole production.
-  pub class-is : IsClass s p → entryAt s p ≡ class (getD s (p + 3) 0) (pairAt s (p + 4)) (pairAt s (p + 6))
+  pub class-is : IsClass s p → entryAt s p ≡ class (getD s (p + 3) 0) (classRange s p)
   unfolding entryAt
   class-is h = cc (eq-eqb _ _ (h .tag))
 
@@ -75,7 +84,7 @@ module _ (s : List ℕ) (p : ℕ) where
   unfolding fieldEnd
   entry-kind w =
       ⊎-elim
-      (λ c. let a = c .fits in let b = c .size in (omega arith, c .kind))
+      (λ c. let a = class-long s p c in (omega arith, c .kind))
       (λ c. let a = c .fits in let b = c .two in (omega arith, c .kind))
       (entry-facts w)
 

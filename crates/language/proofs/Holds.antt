@@ -1,41 +1,71 @@
 -- The entries by place are the entries of `entriesOf`.
 use Prim.Native.Nat.{ℕ, _+_, _≤_}
-use mathlib.Core.Path.{_≡_, sym, ap, _∙_}
-use mathlib.Core.Bool.{true, cond}
+use mathlib.Core.Path.{_≡_, refl, sym, ap, _∙_}
+use mathlib.Core.Bool.{Bool, true, false, cond, _&&_, _||_}
+use mathlib.Core.Logic.{⊎-elim}
 use mathlib.Core.List.{List, map}
 use mathlib.Core.Option.{none, some}
 use native.Mathlib.Omega.{arith}
 use lib.ListN.{getD}
 use lib.Seq.{slice}
-use lib.Dec.{leb, eqb}
+use lib.Dec.{ltb, leb, eqb}
 use borrow.Author.Tests.{leb-true, eqb-true}
 use Rattle.fields.specs.Lists.{all, isSome}
 use Rattle.fields.specs.Fields.{pairAt}
 use Rattle.fields.specs.Inner.Places.{fieldEnd, isWhole, contentsAt, fieldAt, places}
-use Rattle.fields.proofs.Truth.{by-test}
+use Rattle.fields.proofs.Truth.{by-test, or-cases}
 use Rattle.fields.proofs.Codec.{cond-some}
 use Rattle.fields.proofs.Lists.{there-if}
 use Rattle.fields.proofs.Split.{contents-length, contents-pair, contents-first, contents-second, contents-after, two-tags, decoded-at-places}
 use Rattle.language.specs.Language.{class, production, Language}
-use Rattle.language.specs.LanguageFile.{classOf, productionOf, entryOf, entriesOf}
-use Rattle.language.specs.Inner.Entries.{sizeAt, classWhole, productionWhole, entryGood, entryWhole, entryAt, Holds}
+use Rattle.language.specs.LanguageFile.{isKind, rangeWhole, rangeIn, classOf, productionOf, entryOf, entriesOf}
+use Rattle.language.specs.Inner.Entries.{sizeAt, stepAt, classRange, stepWhole, classWhole, productionWhole, entryGood, entryWhole, entryAt, Holds}
+
+-- The tests of a class, in the order of the definition and in that of the code.
+moved : (a b c : Bool) → (b && (c && a)) ≡ (a && (b && c))
+moved true true true = refl
+moved true true false = refl
+moved true false c = refl
+moved false true true = refl
+moved false true false = refl
+moved false false c = refl
 
 -- The whole field at p.
 module _ (s : List ℕ) (p : ℕ) (w : isWhole s p ≡ true) where
-  -- a class
-  class-here : classOf (contentsAt s p)
-      ≡ cond (classWhole s p) (some (class (getD s (p + 3) 0) (pairAt s (p + 4)) (pairAt s (p + 6)))) none
-  unfolding classOf classWhole
-  class-here =
-      by-test (eqb (sizeAt s p) 5)
+  -- what a range is asked
+  ends-whole : rangeWhole (classRange s p) ≡ (leb (pairAt s (p + 4)) (pairAt s (p + 6)) && ltb 0 (stepAt s p))
+  unfolding rangeWhole classRange
+  ends-whole = refl
+
+  -- the range of a class
+  range-here : 5 ≤ sizeAt s p → rangeIn (contentsAt s p) ≡ classRange s p
+  unfolding rangeIn classRange stepAt
+  range-here h =
+      by-test (eqb (sizeAt s p) 7)
       (λ e.
-      let h : sizeAt s p ≡ 5 = eqb-true _ _ e in
+      let k : sizeAt s p ≡ 7 = eqb-true _ _ e in
       cc (
         contents-length s p w,
-        contents-first s p w (omega arith),
+        contents-pair s p w 1 (p + 4) (omega arith) (omega arith),
+        contents-pair s p w 3 (p + 6) (omega arith) (omega arith),
+        contents-pair s p w 5 (p + 8) (omega arith) (omega arith),
+      ))
+      (λ e.
+      cc (
+        contents-length s p w,
         contents-pair s p w 1 (p + 4) (omega arith) (omega arith),
         contents-pair s p w 3 (p + 6) (omega arith) (omega arith),
       ))
+
+  -- a class
+  class-here : classOf (contentsAt s p) ≡ cond (classWhole s p) (some (class (getD s (p + 3) 0) (classRange s p))) none
+  unfolding classOf classWhole stepWhole
+  class-here =
+      by-test (eqb (sizeAt s p) 5 || eqb (sizeAt s p) 7)
+      (λ e.
+      let h : 5 ≤ sizeAt s p = ⊎-elim (λ t. omega (arith, eqb-true (sizeAt s p) 5 t)) (λ t. omega (arith, eqb-true (sizeAt s p) 7 t)) (or-cases (eqb (sizeAt s p) 5) (eqb (sizeAt s p) 7) e) in
+      let f : rangeWhole (classRange s p) ≡ (leb (pairAt s (p + 4)) (pairAt s (p + 6)) && ltb 0 (stepAt s p)) = ends-whole in
+      cc (contents-length s p w, contents-first s p w (omega arith), range-here h, moved (ltb 0 (stepAt s p)) (isKind (getD s (p + 3) 0)) (leb (pairAt s (p + 4)) (pairAt s (p + 6)))))
       (λ e. cc (contents-length s p w))
 
   -- a production
@@ -50,7 +80,7 @@ module _ (s : List ℕ) (p : ℕ) (w : isWhole s p ≡ true) where
       cc (contents-length s p w, contents-first s p w (omega arith), contents-second s p w h, contents-after s p w))
       (λ e. cc (contents-length s p w))
 
-  entry-here : entryOf (fieldAt s p) ≡ cond (entryGood s p) (some (entryAt s p)) none
+  pub entry-here : entryOf (fieldAt s p) ≡ cond (entryGood s p) (some (entryAt s p)) none
   unfolding entryOf fieldAt entryGood entryAt
   entry-here = two-tags (eqb (getD s p 0) 0x11) (eqb (getD s p 0) 0x12) _ _ _ _ class-here production-here
 

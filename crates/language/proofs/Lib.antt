@@ -1,3 +1,4 @@
+pub mod Ranges
 pub mod Holds
 pub mod Returns
 pub mod Facts
@@ -6,4 +7,3 @@ pub mod Clashes
 pub mod Chain
 pub mod Lookup
 pub mod Codec
-pub mod Ranges

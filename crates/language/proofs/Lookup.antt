@@ -11,17 +11,28 @@ use Rattle.fields.specs.Lists.{sameNumbers}
 use Rattle.fields.specs.Keyed.{union}
 use Rattle.fields.proofs.Truth.{Mem, none-some, some-inj, false-true, and-both, or-left, or-right, not-both, refuted, any-mem, mem-any, any-false, false-any, first-mem, mem-first, numbers-equal, equal-numbers}
 use Rattle.fields.proofs.Keyed.{Rising, from-agree, union-cases}
-use Rattle.language.specs.Language.{Entry, class, production, Language, entryKey, sameEntry, Range, rangeAt, rangeOf, argumentsAt, argumentsOf, resultIs, mentions, isIn, classIsResult, clashes}
+use Rattle.language.specs.Language.{Entry, class, production, Language, entryKey, sameRange, sameEntry, Range, rangeAt, rangeOf, argumentsAt, argumentsOf, resultIs, mentions, isIn, classIsResult, clashes}
+
+-- Ranges that are the same are equal.
+range-equal : (c d : Range) → sameRange c d ≡ true → c ≡ d
+unfolding sameRange
+range-equal c d e =
+    let r = and-both (eqb (c .low) (d .low)) (eqb (c .high) (d .high) && eqb (c .step) (d .step)) e in
+    let s = and-both (eqb (c .high) (d .high)) (eqb (c .step) (d .step)) (r .1) in
+    λ i. record { low = eqb-true (c .low) (d .low) (r .0) i; high = eqb-true (c .high) (d .high) (s .0) i; step = eqb-true (c .step) (d .step) (s .1) i }
+
+equal-range : (c : Range) → sameRange c c ≡ true
+unfolding sameRange
+equal-range c = rw (eq-eqb (c .low) (c .low) refl, eq-eqb (c .high) (c .high) refl, eq-eqb (c .step) (c .step) refl)
 
 -- Entries that are the same are equal.
 pub same-equal : (a b : Entry) → sameEntry a b ≡ true → a ≡ b
 unfolding sameEntry
-same-equal (class k a b) (class j c d) e =
-    let r = and-both (eqb k j) (eqb a c && eqb b d) e in
-    let s = and-both (eqb a c) (eqb b d) (r .1) in
-    λ i. class (eqb-true k j (r .0) i) (eqb-true a c (s .0) i) (eqb-true b d (s .1) i)
-same-equal (class k a b) (production s q js) e = false-true e
-same-equal (production r p ks) (class j c d) e = false-true e
+same-equal (class k c) (class j d) e =
+    let r = and-both (eqb k j) (sameRange c d) e in
+    λ i. class (eqb-true k j (r .0) i) (range-equal c d (r .1) i)
+same-equal (class k c) (production s q js) e = false-true e
+same-equal (production r p ks) (class j d) e = false-true e
 same-equal (production r p ks) (production s q js) e =
     let u = and-both (eqb r s) (eqb p q && sameNumbers ks js) e in
     let v = and-both (eqb p q) (sameNumbers ks js) (u .1) in
@@ -29,45 +40,42 @@ same-equal (production r p ks) (production s q js) e =
 
 pub equal-same : (a : Entry) → sameEntry a a ≡ true
 unfolding sameEntry
-equal-same (class k a b) = rw (eq-eqb k k refl, eq-eqb a a refl, eq-eqb b b refl)
+equal-same (class k c) = rw (eq-eqb k k refl, equal-range c)
 equal-same (production r p ks) = rw (eq-eqb r r refl, eq-eqb p p refl, equal-numbers ks)
-
-abbrev pub asClass : ℕ → Range → Entry
-asClass k c = class k (c .low) (c .high)
 
 pub cond-some : {A : Type 0} (t : Bool) (a b : A) → cond t (some a) none ≡ some b → (t ≡ true) × (a ≡ b)
 cond-some true a b e = (refl, some-inj e)
 cond-some false a b e = none-some e
 
 -- The entry at which a lookup has a value.
-range-at : (k : ℕ) (c : Range) (a : Entry) → rangeAt k a ≡ some c → a ≡ asClass k c
+range-at : (k : ℕ) (c : Range) (a : Entry) → rangeAt k a ≡ some c → a ≡ class k c
 unfolding rangeAt
-range-at k c (class j a b) e = let r = cond-some (eqb j k) _ c e in λ i. class (eqb-true j k (r .0) i) (r .1 i .low) (r .1 i .high)
+range-at k c (class j d) e = let r = cond-some (eqb j k) d c e in λ i. class (eqb-true j k (r .0) i) (r .1 i)
 range-at k c (production r p ks) e = none-some e
 
 arguments-at : (k p : ℕ) (ks : List ℕ) (a : Entry) → argumentsAt k p a ≡ some ks → a ≡ production k p ks
 unfolding argumentsAt
-arguments-at k p ks (class j a b) e = none-some e
+arguments-at k p ks (class j c) e = none-some e
 arguments-at k p ks (production r q js) e =
     let u = cond-some (eqb r k && eqb q p) js ks e in
     let v = and-both (eqb r k) (eqb q p) (u .0) in
     λ i. production (eqb-true r k (v .0) i) (eqb-true q p (v .1) i) (u .1 i)
 
-at-range : (k a b : ℕ) → rangeAt k (class k a b) ≡ some (record { low = a; high = b })
+at-range : (k : ℕ) (c : Range) → rangeAt k (class k c) ≡ some c
 unfolding rangeAt
-at-range k a b = rw (eq-eqb k k refl)
+at-range k c = rw (eq-eqb k k refl)
 
 at-arguments : (k p : ℕ) (ks : List ℕ) → argumentsAt k p (production k p ks) ≡ some ks
 unfolding argumentsAt
 at-arguments k p ks = rw (eq-eqb k k refl, eq-eqb p p refl)
 
-class-inj : {k a b j c d : ℕ} → class k a b ≡ class j c d → (k ≡ j) × (a ≡ c) × (b ≡ d)
-class-inj e = (cc, cc, cc)
+class-inj : {k j : ℕ} {c d : Range} → class k c ≡ class j d → c ≡ d
+class-inj e = cc
 
 production-inj : {r p s q : ℕ} {ks js : List ℕ} → production r p ks ≡ production s q js → ks ≡ js
 production-inj e = cc
 
-pub range-mem : (l : Language) (k : ℕ) (c : Range) → rangeOf l k ≡ some c → Mem (asClass k c) l
+pub range-mem : (l : Language) (k : ℕ) (c : Range) → rangeOf l k ≡ some c → Mem (class k c) l
 unfolding rangeOf
 range-mem l k c e = let r = first-mem (rangeAt k) l c e in rw (range-at k c (r .0) (r .2)) at (r .1)
 
@@ -76,14 +84,13 @@ unfolding argumentsOf
 arguments-mem l k p ks e = let r = first-mem (argumentsAt k p) l ks e in rw (arguments-at k p ks (r .0) (r .2)) at (r .1)
 
 module _ (l : Language) (rises : Rising entryKey l) where
-  pub mem-range : (k a b : ℕ) → Mem (class k a b) l → rangeOf l k ≡ some (record { low = a; high = b })
+  pub mem-range : (k : ℕ) (c : Range) → Mem (class k c) l → rangeOf l k ≡ some c
   unfolding rangeOf entryKey
-  mem-range k a b m =
-      mem-first (rangeAt k) l (class k a b) (record { low = a; high = b }) m (at-range k a b)
-      (λ e c n q.
-      let z = range-at k c e q in
-      let w = class-inj (from-agree entryKey 0 l rises (asClass k c) (class k a b) (rw z at n) m refl) in
-      λ i. record { low = w .1 i; high = w .2 i })
+  mem-range k c m =
+      mem-first (rangeAt k) l (class k c) c m (at-range k c)
+      (λ e d n q.
+      let z = range-at k d e q in
+      class-inj (from-agree entryKey 0 l rises (class k d) (class k c) (rw z at n) m refl))
 
   pub mem-arguments : (k p : ℕ) (ks : List ℕ) → Mem (production k p ks) l → argumentsOf l k p ≡ some ks
   unfolding argumentsOf entryKey
@@ -102,9 +109,9 @@ pub mem-in : (l : Language) (k : ℕ) (a : Entry) → Mem a l → mentions k a �
 unfolding isIn
 mem-in l k a m e = mem-any (mentions k) l a m e
 
-pub class-in : (l : Language) (k a b : ℕ) → Mem (class k a b) l → isIn l k ≡ true
+pub class-in : (l : Language) (k : ℕ) (c : Range) → Mem (class k c) l → isIn l k ≡ true
 unfolding mentions
-class-in l k a b m = mem-in l k (class k a b) m (eq-eqb k k refl)
+class-in l k c m = mem-in l k (class k c) m (eq-eqb k k refl)
 
 pub result-in : (l : Language) (k p : ℕ) (ks : List ℕ) → Mem (production k p ks) l → isIn l k ≡ true
 unfolding mentions
@@ -126,22 +133,22 @@ in-union l m k e =
 
 -- A class is no result: what `clashes` says, by members.
 abbrev pub NoClash : Language → Language → Type 0
-NoClash l m = (k a b p : ℕ) (ks : List ℕ) → Mem (class k a b) l → Mem (production k p ks) m → ⊥
+NoClash l m = (k : ℕ) (c : Range) (p : ℕ) (ks : List ℕ) → Mem (class k c) l → Mem (production k p ks) m → ⊥
 
 pub clashes-none : (l m : Language) → clashes l m ≡ false → NoClash l m
 unfolding clashes classIsResult resultIs
-clashes-none l m e k a b p ks c q =
-    not-both (mem-any (resultIs k) m (production k p ks) q (eq-eqb k k refl)) (any-false (classIsResult m) l e (class k a b) c)
+clashes-none l m e k c p ks n q =
+    not-both (mem-any (resultIs k) m (production k p ks) q (eq-eqb k k refl)) (any-false (classIsResult m) l e (class k c) n)
 
 class-result : (l m : Language) → NoClash l m → (a : Entry) → Mem a l → classIsResult m a ≡ false
 unfolding classIsResult resultIs
 class-result l m h (production r p ks) n = refl
-class-result l m h (class k a b) n = false-any (resultIs k) m (λ e q. go e q)
+class-result l m h (class k c) n = false-any (resultIs k) m (λ e q. go e q)
   where
     go : (e : Entry) → Mem e m → resultIs k e ≡ false
-    go (class j c d) q = refl
+    go (class j d) q = refl
     go (production r p ks) q =
-        refuted (eqb r k) (λ z. h k a b p ks n (rw (eqb-true r k z) at q))
+        refuted (eqb r k) (λ z. h k c p ks n (rw (eqb-true r k z) at q))
 
 pub none-clashes : (l m : Language) → NoClash l m → clashes l m ≡ false
 unfolding clashes

@@ -1,19 +1,26 @@
 -- A law for each return, and for each turn of a loop, of the functions on entries.
-use Prim.Native.Nat.{ℕ, _+_, _<_, _≤_}
-use mathlib.Core.Path.{_≡_}
-use mathlib.Core.Bool.{Bool, true, false}
+use Prim.Native.Nat.{ℕ, zero, suc, _+_, _<_, _≤_}
+use mathlib.Core.Path.{_≡_, refl}
+use mathlib.Core.Bool.{Bool, true, false, not}
 use mathlib.Core.List.{List}
+use native.Mathlib.Omega.{arith}
 use lib.ListN.{length, getD}
 use lib.Seq.{slice}
-use lib.Dec.{leb}
+use lib.Dec.{ltb, leb, eqb}
 use borrow.Author.Tests.{lt-ltb, le-ltb, le-leb, lt-leb, eq-eqb, ne-eqb}
 use Rattle.fields.specs.Lists.{all}
 use Rattle.fields.specs.Fields.{pairAt}
 use Rattle.fields.specs.Inner.Places.{fieldEnd, isWhole, WholeEnd}
+use Rattle.fields.proofs.Truth.{false-true}
 use Rattle.fields.proofs.Lists.{all-stop, all-next, part-done, part-next}
 use Rattle.fields.proofs.Places.{end-whole}
 use Rattle.language.specs.LanguageFile.{isKind}
-use Rattle.language.specs.Inner.Entries.{sizeAt, classWhole, productionWhole, entryGood, entryWhole}
+use Rattle.language.specs.Inner.Entries.{sizeAt, stepAt, stepWhole, classWhole, productionWhole, entryGood, entryWhole}
+
+-- A number that is not 0 is above it.
+not-zero : (n : ℕ) → not (eqb n 0) ≡ ltb 0 n
+not-zero zero = refl
+not-zero (suc n) = let h : suc n ≡ 0 → ⊥ = λ e. omega arith in rw (ne-eqb (suc n) 0 h, lt-ltb 0 (suc n) (omega arith)) refl
 
 -- kinds_only
 module _ (s : List ℕ) (q e : ℕ) (x : Bool) (inv : all isKind (slice q e s) ≡ x) where
@@ -28,19 +35,34 @@ module _ (s : List ℕ) (q e : ℕ) (x : Bool) (inv : all isKind (slice q e s) �
     pub kinds-next : getD s q 0 < 32 → all isKind (slice (q + 1) e s) ≡ x
     kinds-next h = all-next isKind (getD s q 0) _ (part-next (all isKind) s q e x inv here fits) (lt-ltb _ _ h)
 
+-- step_whole: n is the length of the contents
+module _ (s : List ℕ) (p n : ℕ) (en : n ≡ sizeAt s p) where
+  pub step-five : n ≡ 5 → (true ≡ stepWhole s p) × (true ≡ true → 5 ≤ n)
+  unfolding stepWhole stepAt
+  step-five h = (cc (eq-eqb n 5 h), λ e. omega arith)
+
+  module _ (other : n ≡ 5 → ⊥) where
+    pub step-none : (n ≡ 7 → ⊥) → (false ≡ stepWhole s p) × (false ≡ true → 5 ≤ n)
+    unfolding stepWhole
+    step-none h = (cc (ne-eqb n 5 other, ne-eqb n 7 h), λ e. false-true e)
+
+    pub step-seven : n ≡ 7 → (x : ℕ) → x ≡ pairAt s (p + 8) → (not (eqb x 0) ≡ stepWhole s p) × (not (eqb x 0) ≡ true → 5 ≤ n)
+    unfolding stepWhole stepAt
+    step-seven h x ex = (cc (ne-eqb n 5 other, eq-eqb n 7 h, not-zero x), λ e. omega arith)
+
 -- class_whole and production_whole: n is the length of the contents, k the first byte of it
 module _ (s : List ℕ) (p n k : ℕ) (en : n ≡ sizeAt s p) (ek : k ≡ getD s (p + 3) 0) where
-  pub class-size : (n ≡ 5 → ⊥) → false ≡ classWhole s p
+  pub class-step : stepWhole s p ≡ false → false ≡ classWhole s p
   unfolding classWhole
-  class-size h = cc (ne-eqb n 5 h)
+  class-step h = rw h
 
-  pub class-kind : n ≡ 5 → 32 ≤ k → false ≡ classWhole s p
+  pub class-kind : stepWhole s p ≡ true → 32 ≤ k → false ≡ classWhole s p
   unfolding classWhole
-  class-kind h j = cc (eq-eqb n 5 h, le-ltb k 32 j)
+  class-kind h j = cc (h, le-ltb k 32 j)
 
-  pub class-range : n ≡ 5 → k < 32 → (x y : ℕ) → x ≡ pairAt s (p + 4) → y ≡ pairAt s (p + 6) → leb x y ≡ classWhole s p
+  pub class-range : stepWhole s p ≡ true → k < 32 → (x y : ℕ) → x ≡ pairAt s (p + 4) → y ≡ pairAt s (p + 6) → leb x y ≡ classWhole s p
   unfolding classWhole
-  class-range h j x y ex ey = cc (eq-eqb n 5 h, lt-ltb k 32 j)
+  class-range h j x y ex ey = cc (h, lt-ltb k 32 j)
 
   pub production-short : n < 2 → false ≡ productionWhole s p
   unfolding productionWhole

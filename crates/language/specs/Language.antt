@@ -3,13 +3,15 @@ use Prim.Native.Nat.{ℕ, _+_, _*_}
 use mathlib.Core.Bool.{Bool, false, cond, not, _&&_, _||_}
 use mathlib.Core.List.{List}
 use mathlib.Core.Option.{Option, none, some}
-use lib.Dec.{leb, eqb}
+use lib.Dec.{eqb}
 use Rattle.fields.specs.Lists.{any, first, isSome, sameNumbers}
 use Rattle.fields.specs.Keyed as Keyed
+pub use Rattle.language.specs.Ranges.{Range, range}
+unfoldable pub use Rattle.language.specs.Ranges.{inRange, sameRange, legalToo, rangeWithin}
 
--- A token class gives a kind its lowest and highest value; a production has a result kind, a name and argument kinds.
+-- A token class gives a kind its range; a production has a result kind, a name and argument kinds.
 pub data Entry : Type 0 where
-  class : (kind low high : ℕ) → Entry
+  class : (kind : ℕ) (values : Range) → Entry
   production : (result name : ℕ) (arguments : List ℕ) → Entry
 
 -- A language is its entries: the classes by rising kind, then the productions by rising (result, name).
@@ -26,36 +28,19 @@ productionKey result name = 32 + (result * 256 + name)
 
 -- The key of an entry.
 unfoldable pub entryKey : Entry → ℕ
-entryKey (class k low high) = kindKey k
+entryKey (class k c) = kindKey k
 entryKey (production r p arguments) = productionKey r p
 
 -- Two entries are the same: of equal kind and range, or equal in result, name and arguments.
 unfoldable pub sameEntry : Entry → Entry → Bool
-sameEntry (class k a b) (class j c d) = eqb k j && (eqb a c && eqb b d)
-sameEntry (class k a b) (production s q js) = false
-sameEntry (production r p ks) (class j c d) = false
+sameEntry (class k c) (class j d) = eqb k j && sameRange c d
+sameEntry (class k c) (production s q js) = false
+sameEntry (production r p ks) (class j d) = false
 sameEntry (production r p ks) (production s q js) = eqb r s && (eqb p q && sameNumbers ks js)
-
--- The lowest and the highest value of a class.
-pub record Range : Type 0 where
-  pub low : ℕ
-  pub high : ℕ
-
--- The range with these bounds.
-abbrev pub between : ℕ → ℕ → Range
-between low high = record { low = low; high = high }
-
--- A value lies in the range.
-unfoldable pub inRange : Range → ℕ → Bool
-inRange c v = leb (c .low) v && leb v (c .high)
-
--- One range lies in another, which contains it: each value in the inner one is in the outer one (paper 02, 2026-01).
-unfoldable pub rangeWithin : Range → Range → Bool
-rangeWithin inner outer = leb (outer .low) (inner .low) && leb (inner .high) (outer .high)
 
 -- The range of the class of kind k, if k is one.
 unfoldable pub rangeAt : ℕ → Entry → Option Range
-rangeAt k (class j low high) = cond (eqb j k) (some (record { low = low; high = high })) none
+rangeAt k (class j c) = cond (eqb j k) (some c) none
 rangeAt k (production r p arguments) = none
 
 -- The same in a language.
@@ -64,7 +49,7 @@ rangeOf l k = first (rangeAt k) l
 
 -- The argument kinds of production p of kind k, if there is one.
 unfoldable pub argumentsAt : ℕ → ℕ → Entry → Option (List ℕ)
-argumentsAt k p (class j low high) = none
+argumentsAt k p (class j c) = none
 argumentsAt k p (production r q arguments) = cond (eqb r k && eqb q p) (some arguments) none
 
 -- The same in a language.
@@ -73,12 +58,12 @@ argumentsOf l k p = first (argumentsAt k p) l
 
 -- A kind is the result of a production.
 unfoldable pub resultIs : ℕ → Entry → Bool
-resultIs k (class j low high) = false
+resultIs k (class j c) = false
 resultIs k (production r p arguments) = eqb r k
 
 -- A kind is in a language if it has a class, is a result, or is an argument.
 unfoldable pub mentions : ℕ → Entry → Bool
-mentions k (class j low high) = eqb j k
+mentions k (class j c) = eqb j k
 mentions k (production r p arguments) = eqb r k || any (λ a. eqb a k) arguments
 
 -- The same in a language.
@@ -91,7 +76,7 @@ isUndefined l k = isIn l k && (not (isSome (rangeOf l k)) && not (any (resultIs 
 
 -- Some kind is a class in the first and a result in the second.
 unfoldable pub classIsResult : Language → Entry → Bool
-classIsResult m (class k low high) = any (resultIs k) m
+classIsResult m (class k c) = any (resultIs k) m
 classIsResult m (production r p arguments) = false
 
 -- The same over all entries of the first.

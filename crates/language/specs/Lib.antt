@@ -1,3 +1,4 @@
+pub mod Ranges
 pub mod Language
 pub mod LanguageFile
 pub mod Operations

@@ -1,12 +1,13 @@
 // The entries of a language: that each field is one.
 ghost use mathlib.Core.Path.{_≡_};
+ghost use mathlib.Core.Bool.{true};
 ghost use Prim.Native.Nat.{_+_, _≤_};
 ghost use lib.ListN.{length};
 ghost use lib.Seq.{slice};
 ghost use Rattle.fields.specs.Lists.{all, isSome};
 ghost use Rattle.fields.specs.Inner.Places.{WholeEnd};
 ghost use Rattle.language.specs.LanguageFile.{isKind, entriesOf};
-ghost use Rattle.language.specs.Inner.Entries.{sizeAt, classWhole, productionWhole, entryGood};
+ghost use Rattle.language.specs.Inner.Entries.{sizeAt, stepWhole, classWhole, productionWhole, entryGood};
 use fields::bytes::pair_in;
 use fields::walk::end_if_whole;
 
@@ -34,12 +35,26 @@ fn kinds_only(s: &[u8], p: usize, e: usize) -> bool
     true
 }
 
-// The contents of the whole field at p, n bytes, are those of a class: kind, low, high.
+// The contents of the whole field at p, n bytes, have the length of a class, and a step that is not 0. Length 5 has none.
+fn step_whole(s: &[u8], p: usize, n: usize) -> bool
+    requires { ⌜ (p + 3 + n ≤ length (now s)) × (n ≡ sizeAt (now s) p) ⌝ }
+    ensures { λ r. ⌜ (r ≡ stepWhole (now (s .entry)) p) × (r ≡ true → 5 ≤ n) ⌝ }
+{
+    if n == 5 {
+        return true;
+    }
+    if n != 7 {
+        return false;
+    }
+    pair_in(s, p + 8) != 0
+}
+
+// The contents of the whole field at p, n bytes, are those of a class: kind, low, high, step.
 fn class_whole(s: &[u8], p: usize, n: usize) -> bool
     requires { ⌜ (p + 3 + n ≤ length (now s)) × (n ≡ sizeAt (now s) p) ⌝ }
     ensures { λ r. ⌜ r ≡ classWhole (now (s .entry)) p ⌝ }
 {
-    if n != 5 {
+    if !step_whole(s, p, n) {
         return false;
     }
     if KINDS <= s[p + 3] {

@@ -121,8 +121,8 @@ lies-within x v s g h =
 languages-fit : (l m v : Language) → Proper v → Subset l v → Subset m v → LanguagesFit l m
 languages-fit l m v p f g = record {
   agrees = λ a b x y e. from-agree entryKey 0 v (p .rises) a b (f a x) (g b y) e;
-  left = λ k a b q ks x y. p .apart k a b q ks (f _ x) (g _ y);
-  right = λ k a b q ks x y. p .apart k a b q ks (g _ x) (f _ y);
+  left = λ k c q ks x y. p .apart k c q ks (f _ x) (g _ y);
+  right = λ k c q ks x y. p .apart k c q ks (g _ x) (f _ y);
 }
 
 pub lie-fit : (x y v : Translation) → Sound v → Lies x v → Lies y v → TranslationsFit x y

@@ -10,6 +10,8 @@ use lib.Seq.{getD-set-same, getD-set-other}
 use lib.Dec.{ltb, leb, eqb}
 use borrow.Author.Tests.{eq-eqb, eqb-true, eqb-false, ltb-true, ltb-false}
 use Rattle.fields.specs.Fields.{pairAt}
+use Rattle.language.specs.Language.{inRange}
+use Rattle.language.specs.Inner.Entries.{classRange}
 use Rattle.fields.proofs.Truth.{by-test, false-true}
 use Rattle.reader.proofs.Laws as Read-laws
 use Rattle.reader.specs.declared.node.Syntax.the-variants.{Tree}
@@ -66,14 +68,13 @@ token-node s index k b at {class} {place} ec ep none =
 -- A token is two bytes, or it is not there.
 token-past : (s : List ℕ) (class : ℕ) (b : List ℕ) (at : ℕ) (P : Read → Type 0) → P Read.Broken → P (Read.End (at + 2)) → P (tokenAt s class b at)
 unfolding tokenAt
-token-past s class b at P h k = go (eqb class 0) (ltb (length b - at) 2) (ltb (pairAt b at) (pairAt s (class + 3))) (ltb (pairAt s (class + 5)) (pairAt b at))
+token-past s class b at P h k = go (eqb class 0) (ltb (length b - at) 2) (inRange (classRange s (class - 1)) (pairAt b at))
   where
-    go : (t u v w : Bool) → P (cond t Read.Broken (cond u Read.Broken (cond v Read.Broken (cond w Read.Broken (Read.End (at + 2))))))
-    go true u v w = h
-    go false true v w = h
-    go false false true w = h
-    go false false false true = h
-    go false false false false = k
+    go : (t u v : Bool) → P (cond t Read.Broken (cond u Read.Broken (cond v (Read.End (at + 2)) Read.Broken)))
+    go true u v = h
+    go false true v = h
+    go false false false = h
+    go false false true = k
 
 no-levels : (s : List ℕ) (class : ℕ) (b : List ℕ) (at : ℕ) {r : Read} → r ≡ tokenAt s class b at → r ≡ Read.Deep → ⊥
 no-levels s class b at er e = token-past s class b at (λ (u : Read). u ≡ Read.Deep → ⊥) none-deep end-deep (sym er ∙ e)

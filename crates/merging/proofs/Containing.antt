@@ -2,12 +2,13 @@
 use Prim.Native.Nat.{ℕ, _+_, _<_, _≤_}
 use mathlib.Core.Path.{_≡_, refl, sym, ap, _∙_}
 use mathlib.Core.Bool.{Bool, true, false, _&&_}
+use mathlib.Core.Logic.{_⊎_, ⊎-elim}
 use mathlib.Core.List.{List, [], _∷_}
 use native.Mathlib.Omega.{arith}
 use lib.ListN.{length, take, getD}
 use lib.Seq.{slice, length-slice, getD-take, getD-drop}
-use lib.Dec.{ltb}
-use borrow.Author.Tests.{lt-ltb, le-ltb, ltb-true, ltb-false, lt-leb, leb-true, eq-eqb, ne-eqb}
+use lib.Dec.{ltb, eqb}
+use borrow.Author.Tests.{lt-ltb, le-ltb, ltb-true, ltb-false, lt-leb, eq-eqb, ne-eqb, eqb-true}
 use Rattle.fields.specs.Lists.{all, sameNumbers}
 use Rattle.fields.specs.Keyed.{within}
 use Rattle.fields.specs.Fields.{pairAt}
@@ -15,22 +16,87 @@ use Rattle.fields.specs.Inner.Places.{fieldEnd, keyAt}
 use Rattle.fields.proofs.Truth.{by-test}
 use Rattle.fields.proofs.Lists.{all-true}
 use Rattle.language.specs.Language.{rangeWithin}
-use Rattle.language.specs.Inner.Entries.{classRange}
-use Rattle.merging.specs.Inner.Parts.{Part, partWithin, classLong, pieceAt, partAt, partsFrom, WholeAt, WholeFrom, seek, SoughtAt, leads, liesWithin}
+use Rattle.language.specs.Inner.Entries.{sizeAt, stepAt, classRange, entryWhole, IsClass}
+use Rattle.language.proofs.Facts.{entry-facts}
+use Rattle.merging.specs.Inner.Parts.{Part, partWithin, classPart, pieceAt, partAt, partsFrom, WholeAt, WholeFrom, seek, SoughtAt, leads, liesWithin}
 use Rattle.merging.proofs.Walks.{parts-done, parts-next, whole-here, seek-skip, seek-stop}
 use Rattle.merging.proofs.Turns.{Rest, rest-next, rest-sought, within-turned}
 
--- The range of a class is the same in its bytes and in the file.
-range-there : (s : List ℕ) (p : ℕ) → WholeAt s p → classLong (partAt 0x11 s p) ≡ true → keyAt 0x11 s p < 32
-    → classRange (pieceAt s p) 0 ≡ classRange s p
-unfolding classLong partAt classRange pairAt
-range-there s p w h k =
-    let n : 8 ≤ length (pieceAt s p) = leb-true 8 (length (pieceAt s p)) (rw (lt-leb 32 (keyAt 0x11 s p) k) at h) in
-    let byte : (i : ℕ) → i < 8 → getD (pieceAt s p) i 0 ≡ getD s (p + i) 0 =
-    λ i j. getD-drop p (take (fieldEnd s p) s) i 0 ∙ getD-take (fieldEnd s p) s (p + i) 0 (omega (arith, n, length-slice p (fieldEnd s p) s (w .fits))) in
-    let d : p + 4 + 1 ≡ p + 5 = omega arith in
-    let e : p + 6 + 1 ≡ p + 7 = omega arith in
-    cc (byte 4 (omega arith), byte 5 (omega arith), byte 6 (omega arith), byte 7 (omega arith))
+-- A field in a file and its own bytes.
+module _ (s : List ℕ) (p : ℕ) (w : WholeAt s p) where
+  piece-long : length (pieceAt s p) ≡ 3 + pairAt s (p + 1)
+  unfolding fieldEnd
+  piece-long = length-slice p (fieldEnd s p) s (w .fits) ∙ omega arith
+
+  piece-byte : (i : ℕ) → i < 3 + pairAt s (p + 1) → getD (pieceAt s p) i 0 ≡ getD s (p + i) 0
+  unfolding fieldEnd
+  piece-byte i j = getD-drop p (take (fieldEnd s p) s) i 0 ∙ getD-take (fieldEnd s p) s (p + i) 0 (omega arith)
+
+  piece-pair : (i : ℕ) → i + 1 < 3 + pairAt s (p + 1) → pairAt (pieceAt s p) i ≡ pairAt s (p + i)
+  unfolding pairAt
+  piece-pair i j =
+      let d : p + (i + 1) ≡ p + i + 1 = omega arith in
+      cc (piece-byte i (omega arith), piece-byte (i + 1) j)
+
+  piece-size : sizeAt (pieceAt s p) 0 ≡ sizeAt s p
+  piece-size = piece-pair 1 (omega arith)
+
+  piece-tag : getD (pieceAt s p) 0 0 ≡ getD s p 0
+  piece-tag = let d : p + 0 ≡ p = omega arith in piece-byte 0 (omega arith) ∙ ap (λ (i : ℕ). getD s i 0) d
+
+  module _ (h : IsClass (pieceAt s p) 0) where
+    size-here : (sizeAt s p ≡ 5) ⊎ (sizeAt s p ≡ 7)
+    size-here = rw piece-size at (h .size)
+
+    size-five : 5 ≤ sizeAt s p
+    size-five = ⊎-elim (λ e. omega arith) (λ e. omega arith) size-here
+
+    step-there : stepAt (pieceAt s p) 0 ≡ stepAt s p
+    unfolding stepAt
+    step-there =
+        by-test (eqb (sizeAt s p) 7)
+        (λ e. let n : sizeAt s p ≡ 7 = eqb-true (sizeAt s p) 7 e in cc (piece-size, piece-pair 8 (omega arith)))
+        (λ e. cc piece-size)
+
+    -- the range of a class is the same in its bytes and in the file
+    range-there : classRange (pieceAt s p) 0 ≡ classRange s p
+    unfolding classRange
+    range-there =
+        let n = size-five in
+        cc (piece-pair 4 (omega arith), piece-pair 6 (omega arith), step-there)
+
+    -- so is that it is a class
+    class-there : IsClass s p
+    class-there =
+        let n = size-five in
+        record {
+          tag = sym piece-tag ∙ h .tag;
+          fits = w .fits;
+          size = size-here;
+          kind = rw (piece-byte 3 (omega arith)) at (h .kind);
+          range = rw (piece-pair 4 (omega arith), piece-pair 6 (omega arith)) at (h .range);
+          step = rw step-there at (h .step);
+        }
+
+  -- A field with the key of a class that is whole.
+  class-piece : classPart (partAt 0x11 s p) ≡ true → keyAt 0x11 s p < 32 → IsClass (pieceAt s p) 0
+  unfolding classPart partAt keyAt
+  class-piece h k =
+      let e : entryWhole (pieceAt s p) 0 ≡ true = rw (lt-leb 32 (keyAt 0x11 s p) k) at h in
+      ⊎-elim (λ c. c)
+      (λ c.
+      let t : getD s p 0 ≡ 0x12 = sym piece-tag ∙ c .tag in
+      let z : keyAt 0x11 s p ≡ 32 + pairAt s (p + 3) = rw t in
+      absurd (omega arith))
+      (entry-facts (pieceAt s p) 0 e)
+
+-- The classes that `lies_at` compares.
+pub classes-here : (a : List ℕ) (p : ℕ) (b : List ℕ) (q : ℕ) → q < length b → (j k : ℕ) → j ≡ keyAt 0x11 a p → k ≡ keyAt 0x11 b q → j ≡ k → j < 32
+    → WholeAt a p → WholeFrom b q → classPart (partAt 0x11 a p) ≡ true → all classPart (partsFrom 0x11 b q) ≡ true → IsClass a p × IsClass b q
+classes-here a p b q there j k ej ek d h wa wb la lb =
+    let l = all-true classPart (partAt 0x11 b q) (partsFrom 0x11 b (fieldEnd b q)) (rw (parts-next 0x11 b q there) at lb) .0 in
+    let wq = whole-here b q wb there in
+    (class-there a p wa (class-piece a p wa la (omega arith)), class-there b q wq (class-piece b q wq l (omega arith)))
 
 -- `lies_at`: j and k are the keys of the entries at p and q
 module _ (a : List ℕ) (p : ℕ) (b : List ℕ) (q : ℕ) (there : q < length b) (j k : ℕ) (ej : j ≡ keyAt 0x11 a p) (ek : k ≡ keyAt 0x11 b q) where
@@ -38,14 +104,15 @@ module _ (a : List ℕ) (p : ℕ) (b : List ℕ) (q : ℕ) (there : q < length b
   unfolding partWithin partAt
   lies-other d = rw (parts-next 0x11 b q there) (cc (ne-eqb j k d))
 
-  pub lies-range : j ≡ k → j < 32 → WholeAt a p → WholeFrom b q → classLong (partAt 0x11 a p) ≡ true → all classLong (partsFrom 0x11 b q) ≡ true
+  pub lies-range : j ≡ k → j < 32 → WholeAt a p → WholeFrom b q → classPart (partAt 0x11 a p) ≡ true → all classPart (partsFrom 0x11 b q) ≡ true
       → (x : Bool) → x ≡ rangeWithin (classRange a p) (classRange b q) → x ≡ leads partWithin (partAt 0x11 a p) (partsFrom 0x11 b q)
   unfolding partWithin partAt
   lies-range d h wa wb la lb x ex =
-      let l : classLong (partAt 0x11 b q) ≡ true = all-true classLong (partAt 0x11 b q) (partsFrom 0x11 b (fieldEnd b q)) (rw (parts-next 0x11 b q there) at lb) .0 in
+      let l : classPart (partAt 0x11 b q) ≡ true = all-true classPart (partAt 0x11 b q) (partsFrom 0x11 b (fieldEnd b q)) (rw (parts-next 0x11 b q there) at lb) .0 in
       let i : keyAt 0x11 b q < 32 = omega arith in
-      let u : classRange (pieceAt a p) 0 ≡ classRange a p = range-there a p wa la (omega arith) in
-      let v : classRange (pieceAt b q) 0 ≡ classRange b q = range-there b q (whole-here b q wb there) l i in
+      let wq = whole-here b q wb there in
+      let u : classRange (pieceAt a p) 0 ≡ classRange a p = range-there a p wa (class-piece a p wa la (omega arith)) in
+      let v : classRange (pieceAt b q) 0 ≡ classRange b q = range-there b q wq (class-piece b q wq l i) in
       rw (parts-next 0x11 b q there) (cc (eq-eqb j k d, lt-ltb j 32 h))
 
   pub lies-same : j ≡ k → 32 ≤ j → (x : Bool) → x ≡ sameNumbers (pieceAt a p) (pieceAt b q) → x ≡ leads partWithin (partAt 0x11 a p) (partsFrom 0x11 b q)
@@ -65,8 +132,8 @@ all-seek f k (a ∷ m) h =
 pub record Containing (a b : List ℕ) (p q : ℕ) : Type 0 where
   pub left : Rest 0x11 a p
   pub right : Rest 0x11 b q
-  pub leftLong : all classLong (partsFrom 0x11 a p) ≡ true
-  pub rightLong : all classLong (partsFrom 0x11 b q) ≡ true
+  pub leftLong : all classPart (partsFrom 0x11 a p) ≡ true
+  pub rightLong : all classPart (partsFrom 0x11 b q) ≡ true
   pub answer : within partWithin (partsFrom 0x11 a p) (partsFrom 0x11 b q) ≡ liesWithin a b
 
 module _ (a b : List ℕ) (p q : ℕ) (h : Containing a b p q) where
@@ -75,16 +142,16 @@ module _ (a b : List ℕ) (p q : ℕ) (h : Containing a b p q) where
   containing-end e = sym (ap (λ (r : List Part). within partWithin r (partsFrom 0x11 b q)) (parts-done 0x11 a p e)) ∙ h .answer
 
   module _ (here : p < length a) where
-    long-here : (classLong (partAt 0x11 a p) ≡ true) × (all classLong (partsFrom 0x11 a (fieldEnd a p)) ≡ true)
-    long-here = all-true classLong (partAt 0x11 a p) (partsFrom 0x11 a (fieldEnd a p)) (rw (parts-next 0x11 a p here) at (h .leftLong))
+    long-here : (classPart (partAt 0x11 a p) ≡ true) × (all classPart (partsFrom 0x11 a (fieldEnd a p)) ≡ true)
+    long-here = all-true classPart (partAt 0x11 a p) (partsFrom 0x11 a (fieldEnd a p)) (rw (parts-next 0x11 a p here) at (h .leftLong))
 
     module _ (key : ℕ) (ek : key ≡ keyAt 0x11 a p) (r : ℕ) (w : SoughtAt 0x11 b q key r) where
-      pub containing-meets : WholeAt a p × WholeFrom b r × (classLong (partAt 0x11 a p) ≡ true) × (all classLong (partsFrom 0x11 b r) ≡ true)
+      pub containing-meets : WholeAt a p × WholeFrom b r × (classPart (partAt 0x11 a p) ≡ true) × (all classPart (partsFrom 0x11 b r) ≡ true)
       containing-meets = (
         whole-here a p (h .left .from) here,
         w .from,
         long-here .0,
-        rw (w .rest) (all-seek classLong key (partsFrom 0x11 b q) (h .rightLong)),
+        rw (w .rest) (all-seek classPart key (partsFrom 0x11 b q) (h .rightLong)),
       )
 
       module _ (lies : Bool) (es : lies ≡ leads partWithin (partAt 0x11 a p) (partsFrom 0x11 b r)) where

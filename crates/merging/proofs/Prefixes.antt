@@ -19,7 +19,7 @@ use Rattle.fields.proofs.Truth.{and-both, equal-numbers}
 use Rattle.fields.proofs.Lists.{all-true}
 use Rattle.fields.proofs.Keyed.{From, is-rising}
 use Rattle.fields.proofs.Places.{end-past, places-done}
-use Rattle.merging.specs.Inner.Parts.{Part, partKey, samePart, partWithin, classLong, bytesOf, pieceAt, partAt, partsFrom, parts, WholeFrom, Sorted, SortedEntries, Alike, Shared, partsClash, agrees, liesWithin, united, removed}
+use Rattle.merging.specs.Inner.Parts.{Part, partKey, samePart, partWithin, classPart, bytesOf, pieceAt, partAt, partsFrom, parts, WholeFrom, Sorted, SortedEntries, Alike, Shared, partsClash, agrees, liesWithin, united, removed}
 use Rattle.fields.proofs.Splices.{slice-join}
 use Rattle.merging.proofs.Walks.{parts-done, parts-next, whole-next}
 use Rattle.merging.proofs.Linear.{union-same, within-same, without-same, differ, self, outside, inside-itself}
@@ -250,8 +250,8 @@ module _ (a b : List ℕ) (r : ℕ) (h : SortedEntries a × SortedEntries b) (s 
       record {
         left = rest-left 0x11 a b r z s;
         right = rest-right 0x11 a b r z s;
-        leftLong = all-last classLong (s .fields) (partsFrom 0x11 a r) (rw (s .left) at (h .0 .classes));
-        rightLong = all-last classLong (s .fields) (partsFrom 0x11 b r) (rw (s .right) at (h .1 .classes));
+        leftLong = all-last classPart (s .fields) (partsFrom 0x11 a r) (rw (s .left) at (h .0 .classes));
+        rightLong = all-last classPart (s .fields) (partsFrom 0x11 b r) (rw (s .right) at (h .1 .classes));
         answer =
             sym (within-alike (s .fields) (partsFrom 0x11 a r) (partsFrom 0x11 b r) 0 (left-rises 0x11 a b r z s))
             ∙ (ap (λ (l : List Part). within partWithin l (s .fields ++ partsFrom 0x11 b r)) (sym (s .left))

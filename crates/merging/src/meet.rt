@@ -2,7 +2,7 @@
 ghost use mathlib.Core.Path.{_≡_};
 ghost use mathlib.Core.Bool.{true};
 ghost use Rattle.fields.specs.Lists.{all, sameNumbers};
-ghost use Rattle.merging.specs.Inner.Parts.{WholeAt, WholeFrom, SoughtAt, pieceAt, samePart, partWithin, classLong, partAt, partsFrom, leads};
+ghost use Rattle.merging.specs.Inner.Parts.{WholeAt, WholeFrom, SoughtAt, pieceAt, samePart, partWithin, classPart, partAt, partsFrom, leads};
 use fields::bytes::to_usize;
 use fields::walk::whole_end;
 use fields::walk::whole_key;
@@ -60,7 +60,7 @@ pub fn stands_at(a: &[u8], p: usize, b: &[u8], q: usize, leading_tag: u8) -> boo
 
 // The entry of a at p lies in the entry of b at q: a class by its range, a production if it is the same.
 pub fn lies_at(a: &[u8], p: usize, b: &[u8], q: usize) -> bool
-    requires { ⌜ WholeAt (now a) p × WholeFrom (now b) q × (classLong (partAt 0x11 (now a) p) ≡ true) × (all classLong (partsFrom 0x11 (now b) q) ≡ true) ⌝ }
+    requires { ⌜ WholeAt (now a) p × WholeFrom (now b) q × (classPart (partAt 0x11 (now a) p) ≡ true) × (all classPart (partsFrom 0x11 (now b) q) ≡ true) ⌝ }
     ensures { λ r. ⌜ r ≡ leads partWithin (partAt 0x11 (now (a .entry)) p) (partsFrom 0x11 (now (b .entry)) q) ⌝ }
 {
     if b.len() <= q {

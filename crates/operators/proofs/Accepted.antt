@@ -1,7 +1,7 @@
--- What is known of the languages and translations that accepted files hold, and of what is made of them.
+-- What is known of languages and translations in their own bytes, and of what is made of them.
 use Prim.Native.Nat.{ℕ, _+_, _≤_, _<_}
-use mathlib.Core.Path.{_≡_, refl, ap, subst, _∙_}
-use mathlib.Core.Bool.{Bool, true, false, _||_}
+use mathlib.Core.Path.{_≡_, refl, sym, ap, subst, _∙_}
+use mathlib.Core.Bool.{Bool, true, false, not, _||_}
 use mathlib.Core.List.{List, _++_, map}
 use native.Mathlib.Omega.{arith}
 use mathlib.Core.Option.{some}
@@ -11,80 +11,108 @@ use lib.Dec.{ltb}
 use borrow.Author.Tests.{le-ltb, lt-ltb}
 use Rattle.fields.specs.Outcome.{Result, value, refused, refuseIf}
 use Rattle.fields.specs.declared.outcome.Outcome.{Outcome}
-use Rattle.fields.specs.declared.outcome.Reason.the-variants.{ValueTooLarge}
+use Rattle.fields.specs.declared.outcome.Reason.the-variants.{BrokenField, ValueTooLarge}
 use Rattle.fields.specs.Fields.{field, byteAt, encodeField, encodeFields}
 use Rattle.fields.specs.Inner.Places.{fieldEnd}
-use Rattle.fields.specs.Lists.{any}
-use Rattle.fields.proofs.Truth.{Mem, or-right, false-any, all-mem}
+use Rattle.fields.specs.Lists.{any, sameNumbers}
+use Rattle.fields.proofs.Truth.{Mem, or-right, false-any, all-mem, numbers-equal, equal-numbers}
 use Rattle.fields.proofs.Keyed.{is-rising}
-use Rattle.fields.proofs.Codec.{Bytes, bytes-from, each-front}
+use Rattle.fields.proofs.Codec.{Bytes, bytes-from, refused-value}
 use Rattle.language.specs.Language.{Language, entryKey}
 use Rattle.language.specs.LanguageFile.{entriesOf, encodeLanguage, languageOf}
-use Rattle.language.proofs.Codec.{entryWhole, language-good, language-length, language-sound, language-bytes, language-back}
+use Rattle.language.proofs.Codec.{entryWhole, GoodLanguage, language-good, language-back}
 use Rattle.language.proofs.Lookup.{clashes-none}
 use Rattle.translation.specs.Translation.{Item, mapping, clause, Translation, itemKey}
 use Rattle.translation.specs.TranslationFile.{itemField, encodeTranslation, translationLimit, translationOf}
 use Rattle.translation.specs.Inner.Parts.{sourceIn, targetIn, bodyIn}
-use Rattle.translation.proofs.Codec.{itemWhole, body-sound, rises-parts, translation-whole, translation-bytes}
-use Rattle.translation.proofs.Cuts.{pieces-in}
+use Rattle.translation.proofs.Codec.{itemWhole, rises-parts, translation-whole}
 use Rattle.operators.specs.Limits.{isDeep, codeIsDeep, languageExceeds, translationExceeds}
-use Rattle.operators.specs.Inner.Values.{languageBytes, translationBytes, Gives}
+use Rattle.operators.specs.Inner.Values.{asWritten, exactLanguage, exactTranslation, languageBytes, translationBytes, Gives}
 use Rattle.operators.proofs.Proper.{Proper, Sound, GoodTranslation, formed-sound}
 use Rattle.fields.specs.declared.copy.Stored.{Stored}
 use Rattle.fields.specs.Inner.Writing.{Stores}
 use Rattle.operators.specs.Inner.Assembled.{assembled, limited}
 use Rattle.operators.proofs.Given.{assembled-is, stored-gives, slice-whole}
+use Rattle.operators.proofs.Encoded.{source-in, target-in, body-at}
 
 -- What is known of the bytes of a slice.
 pub slice-bytes : (s : List ℕ) → ((i : ℕ) → byteAt s i < 256) → Bytes s
 slice-bytes s h = bytes-from s (λ i k. h i)
 
--- An accepted language is written in its file, which is within the limit.
-module _ (s : List ℕ) (l : Language) (e : languageOf s ≡ value l) where
+-- A value in its own bytes: it is what they are read as, and they are what it is written in.
+module _ {A : Type 0} (encode : A → List ℕ) (s : List ℕ) where
+  written-value : (r : Result A) (a : A) → asWritten encode s r ≡ value a → (r ≡ value a) × (s ≡ encode a)
+  written-value (refused x) a e = refused-value e
+  written-value (value b) a e = go (sameNumbers s (encode b)) refl e
+    where
+      go : (t : Bool) → sameNumbers s (encode b) ≡ t → refuseIf (not t) BrokenField (value b) ≡ value a → (value b ≡ value a) × (s ≡ encode a)
+      go false h d = refused-value d
+      go true h d = let z : b ≡ a = cc in (d, numbers-equal s (encode b) h ∙ ap encode z)
+
+  value-written : (r : Result A) (a : A) → r ≡ value a → s ≡ encode a → asWritten encode s r ≡ value a
+  value-written r a e d = rw (e, ← d, equal-numbers s)
+
+pub exact-language : (s : List ℕ) (l : Language) → exactLanguage s ≡ value l → (languageOf s ≡ value l) × (s ≡ encodeLanguage l)
+unfolding exactLanguage
+exact-language s l e = written-value encodeLanguage s (languageOf s) l e
+
+pub language-exact : (s : List ℕ) (l : Language) → languageOf s ≡ value l → s ≡ encodeLanguage l → exactLanguage s ≡ value l
+unfolding exactLanguage
+language-exact s l e d = value-written encodeLanguage s (languageOf s) l e d
+
+pub exact-translation : (s : List ℕ) (f : Translation) → exactTranslation s ≡ value f → (translationOf s ≡ value f) × (s ≡ encodeTranslation f)
+unfolding exactTranslation
+exact-translation s f e = written-value encodeTranslation s (translationOf s) f e
+
+-- What is asked of a translation where it is cut into its parts.
+pub accepted-there : (s : List ℕ) → (f : Translation) × (exactTranslation s ≡ value f) → (f : Translation) × (translationOf s ≡ value f)
+accepted-there s h = (h .0, exact-translation s (h .0) (h .1) .0)
+
+pub translation-exact : (s : List ℕ) (f : Translation) → translationOf s ≡ value f → s ≡ encodeTranslation f → exactTranslation s ≡ value f
+unfolding exactTranslation
+translation-exact s f e d = value-written encodeTranslation s (translationOf s) f e d
+
+-- A language in its own bytes, which are within the limit.
+module _ (s : List ℕ) (l : Language) (e : exactLanguage s ≡ value l) where
+  pub exact-good : GoodLanguage l
+  exact-good = language-good s l (exact-language s l e .0) .1
+
   pub language-entries : entriesOf s ≡ some l
-  language-entries = language-good s l e .0
+  language-entries = language-good s l (exact-language s l e .0) .0
+
+  pub language-written : s ≡ encodeLanguage l
+  language-written = exact-language s l e .1
 
   pub language-short : length s ≤ 1024
-  language-short = let g = language-good s l e in omega (arith, language-length s l (g .0), g .1 .short)
+  language-short = rw language-written (exact-good .short)
 
-  pub language-written : ((i : ℕ) → byteAt s i < 256) → s ≡ encodeLanguage l
-  language-written h = language-bytes s l (slice-bytes s h) e
+-- The parts of a translation in its own bytes are the bytes of its source, target and body, and the first two are accepted.
+module _ (s : List ℕ) (f : Translation) (e : exactTranslation s ≡ value f) where
+  spelt : s ≡ assembled (encodeLanguage (f .source)) (encodeLanguage (f .target)) (encodeFields (map itemField (f .body)))
+  spelt = exact-translation s f e .1 ∙ sym (assembled-is f)
 
--- What is known of the bytes of a part.
-pub take-bytes : (s : List ℕ) (e : ℕ) → Bytes s → Bytes (take e s)
-take-bytes s e b = each-front (λ x. x < 256) (take e s) (drop e s) (rw (take-append-drop e s) b) .0
-
-pub drop-bytes : (s : List ℕ) (p : ℕ) → Bytes s → Bytes (drop p s)
-drop-bytes s p b = each-front (λ x. x < 256) (take p s) (drop p s) (rw (take-append-drop p s) b) .1
-
--- A language that stands in a part of a file.
-part-written : (s : List ℕ) (p e : ℕ) (l : Language) → ((i : ℕ) → byteAt s i < 256) → entriesOf (slice p e s) ≡ some l
-    → slice p e s ≡ encodeLanguage l
-part-written s p e l h d = language-sound (slice p e s) l d (drop-bytes (take e s) p (take-bytes s e (slice-bytes s h)))
-
--- The parts of an accepted translation are the bytes of its source, target and body, and the first two are accepted.
-module _ (s : List ℕ) (f : Translation) (e : translationOf s ≡ value f) (h : (i : ℕ) → byteAt s i < 256) where
   pub source-written : sourceIn s ≡ encodeLanguage (f .source)
-  unfolding sourceIn
-  source-written = part-written s 3 (fieldEnd s 0) (f .source) h (pieces-in s f e .source)
+  source-written = ap sourceIn spelt ∙ source-in _ _ _
 
   pub target-written : targetIn s ≡ encodeLanguage (f .target)
-  unfolding targetIn
-  target-written = part-written s (fieldEnd s 0 + 3) (fieldEnd s (fieldEnd s 0)) (f .target) h (pieces-in s f e .target)
+  target-written = ap targetIn spelt ∙ target-in _ _ _
 
   pub body-written : bodyIn s ≡ encodeFields (map itemField (f .body))
-  unfolding bodyIn
-  body-written = body-sound (bodyIn s) (f .body) (pieces-in s f e .body) (drop-bytes s (fieldEnd s (fieldEnd s 0)) (slice-bytes s h))
+  body-written = ap bodyIn spelt ∙ body-at _ _ _
 
-  pub source-accepted : (x : List ℕ) → x ≡ sourceIn s → languageOf x ≡ value (f .source)
+  pub source-accepted : (x : List ℕ) → x ≡ sourceIn s → exactLanguage x ≡ value (f .source)
   source-accepted x i =
-      let w = translation-whole s f e .1 in
-      rw (i, source-written) (language-back (f .source) (record { whole = w .source; rises = rises-parts f (w .rises) .0; apart = w .source-apart; short = w .source-short }))
+      let w = translation-whole s f (exact-translation s f e .0) .1 in
+      let d : x ≡ encodeLanguage (f .source) = i ∙ source-written in
+      language-exact x (f .source)
+      (rw d (language-back (f .source) (record { whole = w .source; rises = rises-parts f (w .rises) .0; apart = w .source-apart; short = w .source-short }))) d
 
-  pub target-accepted : (x : List ℕ) → x ≡ targetIn s → languageOf x ≡ value (f .target)
+  pub target-accepted : (x : List ℕ) → x ≡ targetIn s → exactLanguage x ≡ value (f .target)
   target-accepted x i =
-      let w = translation-whole s f e .1 in
-      rw (i, target-written) (language-back (f .target) (record { whole = w .target; rises = rises-parts f (w .rises) .1; apart = w .target-apart; short = w .target-short }))
+      let w = translation-whole s f (exact-translation s f e .0) .1 in
+      let d : x ≡ encodeLanguage (f .target) = i ∙ target-written in
+      language-exact x (f .target)
+      (rw d (language-back (f .target) (record { whole = w .target; rises = rises-parts f (w .rises) .1; apart = w .target-apart; short = w .target-short }))) d
 
 -- What is told of bytes within the limit, said of the language that they are.
 pub language-given : (l : Language) (v o o′ : List ℕ) (r : Outcome) → v ≡ encodeLanguage l
@@ -167,11 +195,8 @@ module _ (f : Translation) (s : Sound f) (h : length (encodeLanguage (f .source)
       let e : assembled source target body ≡ encodeTranslation f = cc (assembled-is f) in
       translation-given (assembled source target body) o o′ r e g
 
--- An accepted translation is written in its file, and is good.
+-- An accepted translation is good.
 module _ (s : List ℕ) (f : Translation) (e : translationOf s ≡ value f) where
-  pub translation-written : ((i : ℕ) → byteAt s i < 256) → s ≡ encodeTranslation f
-  translation-written h = translation-bytes s f (slice-bytes s h) e
-
   pub accepted-good : GoodTranslation f
   accepted-good =
       let (p, w, d) = translation-whole s f e in
@@ -191,9 +216,10 @@ module _ (o o′ : List ℕ) (long : length o′ ≡ length o) (x : Stored) (r :
       → Gives (languageBytes (value l)) o o′ r
   language-copied l v e h w d = language-given l v o o′ r e (stored-gives 1024 v o o′ h long x r w d)
 
-  pub translation-copied : (s : List ℕ) (f : Translation) → translationOf s ≡ value f → ((i : ℕ) → byteAt s i < 256)
+  pub translation-copied : (s : List ℕ) (f : Translation) → exactTranslation s ≡ value f
       → 4096 ≤ length o → Stores (slice 0 (length s) s) o o′ 0 x → r ≡ limited 4096 x → Gives (translationBytes (value f)) o o′ r
-  translation-copied s f e b h w d =
-      let g = accepted-good s f e in
-      translation-given f (g .sound) (g .source-short) (g .target-short) (slice 0 (length s) s) o o′ r (slice-whole s ∙ translation-written s f e b)
+  translation-copied s f e h w d =
+      let y = exact-translation s f e in
+      let g = accepted-good s f (y .0) in
+      translation-given f (g .sound) (g .source-short) (g .target-short) (slice 0 (length s) s) o o′ r (slice-whole s ∙ y .1)
       (stored-gives 4096 (slice 0 (length s) s) o o′ h long x r w d)

@@ -2,24 +2,28 @@
 use Prim.Native.Nat.{ℕ, _+_, _*_, _-_, _/_, _%_, _<_, _≤_}
 use mathlib.Core.Path.{_≡_, refl, sym, ap, _∙_}
 use mathlib.Core.Bool.{Bool, true, cond}
-use mathlib.Core.List.{List, [], _∷_, _++_, map, append-assoc}
+use mathlib.Core.List.{List, [], _∷_, _++_, map, append-assoc, append-nil}
+use mathlib.Core.Logic.{⊎-elim}
 use mathlib.Core.Option.{some}
 use native.Mathlib.Omega.{arith}
-use lib.ListN.{length, take, length-append, length-take, length-drop, List·getD-append}
-use lib.Seq.{take-append-seam, drop-append-seam, getD-append-add}
-use lib.Dec.{leb, eqb}
-use borrow.Author.Tests.{lt-ltb, le-ltb, ltb-true, le-leb, eq-eqb, ne-eqb, leb-true}
+use lib.ListN.{length, take, drop, length-append, length-take, length-drop, List·getD-append}
+use lib.Seq.{slice, take-append-seam, drop-append-seam, getD-append-add}
+use lib.Dec.{ltb, leb, eqb}
+use borrow.Author.Tests.{lt-ltb, le-ltb, ltb-true, le-leb, eq-eqb, ne-eqb, leb-true, eqb-true}
 use Rattle.fields.specs.Lists.{all, concatMap, sameNumbers}
-use Rattle.fields.specs.Fields.{Field, field, byteAt, pairAt, encodeField, encodeFields, fieldsOf}
+use Rattle.fields.specs.Fields.{Field, field, byteAt, pairAt, twoBytes, encodeField, encodeFields, fieldsOf}
 use Rattle.fields.specs.Keyed.{union, within, without, agree, rising}
-use Rattle.fields.specs.Inner.Places.{fieldEnd, isWhole, longAt, fieldAt, keyAt, places}
-use Rattle.fields.proofs.Truth.{Mem, and-both, both-and, or-left, or-right, same-truth, numbers-equal, equal-numbers}
+use Rattle.fields.specs.Inner.Places.{fieldEnd, isWhole, longAt, fieldAt, keyAt, placesFrom, places}
+use Rattle.fields.proofs.Truth.{Mem, by-test, and-both, both-and, or-left, or-right, same-truth, numbers-equal, equal-numbers}
 use Rattle.fields.proofs.Codec.{Each, contentsOf, cond-some, fields-encode, field-length}
-use Rattle.fields.proofs.Lists.{all-true, rising-map}
+use Rattle.fields.proofs.Lists.{all-true, rising-map, part-past}
 use Rattle.fields.proofs.Split.{fields-at-places}
-use Rattle.language.specs.Language.{Entry, class, production, Language, entryKey, sameEntry}
-use Rattle.language.specs.LanguageFile.{isKind, entryField, encodeLanguage}
-use Rattle.language.specs.Inner.Entries.{classRange, RisingEntries}
+use Rattle.fields.proofs.Places.{places-next}
+use Rattle.language.specs.Language.{Range, Entry, class, production, Language, entryKey, sameEntry}
+use Rattle.language.specs.LanguageFile.{isKind, rangeWhole, stepBytes, entryField, encodeLanguage}
+use Rattle.language.specs.Inner.Entries.{entryAt, classRange, Holds, RisingEntries}
+use Rattle.language.specs.Inner.Entries as Inner
+use Rattle.language.proofs.Facts.{entry-facts, class-is, production-is}
 use Rattle.language.proofs.Codec.{entryWhole, two-bytes, language-encode}
 use Rattle.language.proofs.Holds.{holds-entries}
 use Rattle.language.proofs.Chain.{rising-is}
@@ -28,8 +32,10 @@ use Rattle.language.proofs.Lookup as Entries
 use Rattle.translation.specs.Translation.{Item, mapping, clause, Body, itemKey, sameItem}
 use Rattle.translation.specs.TranslationFile.{itemField}
 use Rattle.translation.proofs.Lookup as Items
+use Rattle.translation.specs.Inner.Parts.{sourceIn, targetIn, bodyIn}
+use Rattle.operators.specs.Inner.Assembled.{assembled}
 use Rattle.operators.specs.Operators.{languagesFit, languageUnion, languageWithout, entryWithin}
-use Rattle.merging.specs.Inner.Parts.{Part, partKey, samePart, partWithin, classLong, bytesOf, pieceAt, partAt, partsFrom, parts, Sorted, SortedEntries, united, removed, liesWithin, agrees, fitTogether}
+use Rattle.merging.specs.Inner.Parts.{Part, partKey, samePart, partWithin, classPart, bytesOf, pieceAt, partAt, partsFrom, parts, Sorted, SortedEntries, united, removed, liesWithin, agrees, fitTogether}
 use Rattle.fields.proofs.Splices.{slice-is}
 use Rattle.merging.proofs.Walks.{parts-done, parts-next}
 use Rattle.operators.proofs.Mapped.{union-mapped, within-mapped, without-mapped, agree-mapped}
@@ -95,6 +101,31 @@ module _ (front : List ℕ) (tag : ℕ) (c rest : List ℕ) where
   at-part : (first : ℕ) → Long (field tag c) → partAt first file (length front) ≡ fieldPart first (field tag c)
   unfolding partAt
   at-part first h = λ i. record { key = at-key first h i; bytes = at-bytes i }
+
+  at-contents : slice (length front + 3) (fieldEnd file (length front)) file ≡ c
+  unfolding encodeField
+  at-contents = sym (part-past file (length front) (fieldEnd file (length front)) 3) ∙ ap (drop 3) at-bytes
+
+-- The parts of a translation that is written.
+module _ (s t b : List ℕ) where
+  pub source-in : sourceIn (assembled s t b) ≡ s
+  unfolding sourceIn assembled
+  source-in = at-contents [] 0x20 s (encodeField (field 0x21 t) ++ b)
+
+  source-end : fieldEnd (assembled s t b) 0 ≡ length (encodeField (field 0x20 s))
+  unfolding assembled
+  source-end = at-end [] 0x20 s (encodeField (field 0x21 t) ++ b)
+
+  pub target-in : targetIn (assembled s t b) ≡ t
+  unfolding targetIn assembled
+  target-in = rw source-end (at-contents (encodeField (field 0x20 s)) 0x21 t b)
+
+  pub body-at : bodyIn (assembled s t b) ≡ b
+  unfolding bodyIn assembled
+  body-at =
+      let x = encodeField (field 0x20 s) in
+      let y = encodeField (field 0x21 t) in
+      rw (source-end, at-end x 0x21 t b) (ap (drop (length (x ++ y))) (sym (append-assoc x y b)) ∙ drop-append-seam (x ++ y) b)
 
 -- The fields of a file that is written.
 parts-behind : (first : ℕ) (front : List ℕ) (fs : List Field) → Each Long fs
@@ -218,27 +249,43 @@ module _ {A : Type 0} {first : ℕ} {encode : A → Field} {key : A → ℕ} {al
   unfolding agrees
   agrees-of l m = rw (entry-parts l, entry-parts m) (agree-mapped entryPart samePart alike same-is partKey key (kept .keys) l m)
 
--- Languages.
+-- Languages. A step is told by its bytes.
+step-equal : (m n : ℕ) → stepBytes m ≡ stepBytes n → m ≡ n
+unfolding stepBytes
+step-equal m n e =
+    by-test (eqb m 1)
+    (λ a. by-test (eqb n 1)
+    (λ b. eqb-true m 1 a ∙ sym (eqb-true n 1 b))
+    (λ b. let z : [] ≡ twoBytes n = rw (a, b) at e in let l : 0 ≡ 2 = ap length z in absurd (omega arith)))
+    (λ a. by-test (eqb n 1)
+    (λ b. let z : twoBytes m ≡ [] = rw (a, b) at e in let l : 2 ≡ 0 = ap length z in absurd (omega arith))
+    (λ b.
+    let z : twoBytes m ≡ twoBytes n = rw (a, b) at e in
+    let p : m / 256 ≡ n / 256 = cc in
+    let q : m % 256 ≡ n % 256 = cc in
+    omega arith))
+
 entry-equal : (a b : Entry) → entryField a ≡ entryField b → a ≡ b
 unfolding entryField
-entry-equal (class k a b) (class j c d) e =
+entry-equal (class k a) (class j c) e =
     let z : k ≡ j = cc in
-    let p : a / 256 ≡ c / 256 = cc in
-    let q : a % 256 ≡ c % 256 = cc in
-    let r : b / 256 ≡ d / 256 = cc in
-    let s : b % 256 ≡ d % 256 = cc in
-    let x : a ≡ c = omega arith in
-    let y : b ≡ d = omega arith in
-    cc
-entry-equal (class k a b) (production s q js) e = let z : _≡_ {A = ℕ} 0x11 0x12 = cc in absurd (omega arith)
-entry-equal (production r p ks) (class j c d) e = let z : _≡_ {A = ℕ} 0x12 0x11 = cc in absurd (omega arith)
+    let p : a .low / 256 ≡ c .low / 256 = cc in
+    let q : a .low % 256 ≡ c .low % 256 = cc in
+    let r : a .high / 256 ≡ c .high / 256 = cc in
+    let s : a .high % 256 ≡ c .high % 256 = cc in
+    let x : a .low ≡ c .low = omega arith in
+    let y : a .high ≡ c .high = omega arith in
+    let t : a .step ≡ c .step = step-equal (a .step) (c .step) (cc) in
+    λ i. class (z i) (record { low = x i; high = y i; step = t i })
+entry-equal (class k a) (production s q js) e = let z : _≡_ {A = ℕ} 0x11 0x12 = cc in absurd (omega arith)
+entry-equal (production r p ks) (class j c) e = let z : _≡_ {A = ℕ} 0x12 0x11 = cc in absurd (omega arith)
 entry-equal (production r p ks) (production s q js) e = cc
 
 entries : Kept 0x11 entryField entryKey sameEntry
 unfolding entryField entryKey pairAt
 entries = record {
-  long = λ a. elim a [ class k low high ↦ omega arith | production r p ks ↦ omega arith ];
-  keys = λ a. elim a [ class k low high ↦ refl | production r p ks ↦ refl ];
+  long = λ a. elim a [ class k c ↦ omega arith | production r p ks ↦ omega arith ];
+  keys = λ a. elim a [ class k c ↦ refl | production r p ks ↦ refl ];
   tells = entry-equal;
   alike-equal = Entries.same-equal;
   equal-alike = Entries.equal-same;
@@ -265,20 +312,70 @@ module _ (l m : Language) where
 abbrev languagePart : Entry → Part
 languagePart a = fieldPart 0x11 (entryField a)
 
--- A class has its eight bytes, and a production is no class.
-class-long : (a : Entry) → classLong (languagePart a) ≡ true
-unfolding classLong entryField pairAt encodeField
-class-long (class k low high) = or-right (leb 32 k) true refl
-class-long (production r p ks) = or-left (leb 32 (32 + (r * 256 + p))) _ (le-leb 32 (32 + (r * 256 + p)) (omega arith))
+-- A whole entry by itself, in its own bytes.
+module _ (a : Entry) (h : entryWhole a ≡ true) where
+  abbrev own : List ℕ
+  own = encodeField (entryField a)
 
-classes-long : (l : Language) → all classLong (map languagePart l) ≡ true
+  own-holds : Holds own (a ∷ [])
+  unfolding encodeLanguage encodeFields concatMap all
+  own-holds =
+      let w : all entryWhole (a ∷ []) ≡ true = both-and (entryWhole a) true h refl in
+      rw (append-nil own) at (holds-entries (encodeLanguage (a ∷ [])) (a ∷ []) (language-encode (a ∷ []) w))
+
+  own-long : 0 < length own
+  unfolding encodeField
+  own-long = go (entryField a)
+    where
+      go : (f : Field) → 0 < length (encodeField f)
+      go (field tag c) = omega arith
+
+  own-places : places own ≡ 0 ∷ placesFrom own (fieldEnd own 0)
+  own-places = places-next own 0 own-long
+
+  own-whole : Inner.entryWhole own 0 ≡ true
+  own-whole = all-true (Inner.entryWhole own) 0 (placesFrom own (fieldEnd own 0)) (rw own-places at (own-holds .whole)) .0
+
+  own-entry : entryAt own 0 ≡ a
+  own-entry = let e : entryAt own 0 ∷ map (entryAt own) (placesFrom own (fieldEnd own 0)) ≡ a ∷ [] = ap (map (entryAt own)) (sym own-places) ∙ own-holds .entries in cc
+
+-- A class is in its own bytes with its range.
+class-own : (k : ℕ) (c : Range) (h : entryWhole (class k c) ≡ true) → classRange (own (class k c) h) 0 ≡ c
+class-own k c h =
+    let s = own (class k c) h in
+    ⊎-elim
+    (λ w. let e = sym (class-is s 0 w) ∙ own-entry (class k c) h in cc)
+    (λ w. let e = sym (production-is s 0 w) ∙ own-entry (class k c) h in let z : _≡_ {A = ℕ} 0 1 = cc in absurd (omega arith))
+    (entry-facts s 0 (own-whole (class k c) h))
+
+-- The key of a class is its kind, and that is one.
+class-key : (k : ℕ) (c : Range) → languagePart (class k c) .key ≡ k
+unfolding entryField
+class-key k c = refl
+
+production-key : (r p : ℕ) (ks : List ℕ) → languagePart (production r p ks) .key ≡ 32 + (r * 256 + p)
+unfolding entryField pairAt
+production-key r p ks = refl
+
+class-kind : (k : ℕ) (c : Range) → entryWhole (class k c) ≡ true → ltb k 32 ≡ true
+unfolding entryWhole
+class-kind k c h = and-both (isKind k) (rangeWhole c) h .0
+
+-- A class is whole, and a production is no class.
+class-part : (a : Entry) → entryWhole a ≡ true → classPart (languagePart a) ≡ true
+unfolding classPart
+class-part a h = or-right (leb 32 (languagePart a .key)) _ (own-whole a h)
+
+class-parts : (l : Language) → all entryWhole l ≡ true → all classPart (map languagePart l) ≡ true
 unfolding all
-classes-long [] = refl
-classes-long (a ∷ l) = both-and (classLong (languagePart a)) (all classLong (map languagePart l)) (class-long a) (classes-long l)
+class-parts [] h = refl
+class-parts (a ∷ l) h =
+    let w = and-both (entryWhole a) (all entryWhole l) h in
+    both-and (classPart (languagePart a)) (all classPart (map languagePart l)) (class-part a (w .0)) (class-parts l (w .1))
 
-pub sorted-entries : (l : Language) → rising entryKey l ≡ true → SortedEntries (encodeLanguage l)
+pub sorted-entries : (l : Language) → all entryWhole l ≡ true → rising entryKey l ≡ true → SortedEntries (encodeLanguage l)
 unfolding encodeLanguage
-sorted-entries l h = record { sorted = sorted-of entries l h; classes = rw (entry-parts entries l) (classes-long l) }
+sorted-entries l w h = record { sorted = sorted-of entries l h; classes = rw (entry-parts entries l) (class-parts l w) }
 
 -- A field that is no class lies in another if it is the same.
 same-within : (x y : Part) → 32 ≤ x .key → partWithin x y ≡ samePart x y
@@ -287,16 +384,14 @@ same-within x y h = rw (le-ltb (x .key) 32 h)
 
 -- Whole entries lie in each other as their fields do.
 part-within : (a b : Entry) → entryWhole a ≡ true → entryWhole b ≡ true → partWithin (languagePart a) (languagePart b) ≡ entryWithin a b
-unfolding partWithin entryWithin entryField entryWhole classRange pairAt encodeField
-part-within (class k low high) (class j c d) h i =
-    let w = and-both (isKind k) (leb low high) h in
-    rw (w .0, two-bytes low, two-bytes high, two-bytes c, two-bytes d)
-part-within (class k low high) (production s q js) h i =
-    let w = ltb-true k 32 (and-both (isKind k) (leb low high) h .0) in
+unfolding partWithin entryWithin
+part-within (class k c) (class j d) h i = cc (class-key k c, class-key j d, class-kind k c h, class-own k c h, class-own j d i)
+part-within (class k c) (production s q js) h i =
+    let w = ltb-true k 32 (class-kind k c h) in
     let n : k ≡ 32 + (s * 256 + q) → ⊥ = λ e. omega arith in
-    rw (ne-eqb k (32 + (s * 256 + q)) n)
+    cc (class-key k c, production-key s q js, ne-eqb k (32 + (s * 256 + q)) n)
 part-within (production r p ks) b h i =
-    same-within (languagePart (production r p ks)) (languagePart b) (omega arith) ∙ same-is entries (production r p ks) b
+    same-within (languagePart (production r p ks)) (languagePart b) (omega (arith, production-key r p ks)) ∙ same-is entries (production r p ks) b
 
 -- Languages of whole entries lie within each other as their bytes do.
 pub language-within : (l m : Language) → ((a : Entry) → Mem a l → entryWhole a ≡ true) → ((a : Entry) → Mem a m → entryWhole a ≡ true)

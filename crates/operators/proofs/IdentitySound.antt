@@ -11,7 +11,7 @@ use borrow.Author.Tests.{lt-ltb}
 use Rattle.fields.specs.Lists.{keep, concatMap, countUp}
 use Rattle.fields.proofs.Truth.{Mem, both-and, keep-cases, mem-keep, mem-map, map-cases, mem-append, append-cases, mem-concat, concat-cases, mem-count, count-mem}
 use Rattle.fields.proofs.Keyed.{Rising, From, from-weaken, keep-from}
-use Rattle.language.specs.Language.{Entry, class, production, Language, entryKey, between, isIn}
+use Rattle.language.specs.Language.{Entry, class, production, Language, entryKey, isIn}
 use Rattle.language.specs.LanguageFile.{isKind}
 use Rattle.language.proofs.Lookup.{mem-arguments, mem-range, class-in, result-in, argument-in}
 use Rattle.language.proofs.Ranges.{within-itself}
@@ -72,7 +72,7 @@ mappings-from n (k ∷ l) f = (f .0, mappings-from (suc k) l (f .1))
 clauses-from : (n m : ℕ) (l : Language) → From entryKey n l → m ≤ n → From itemKey m (concatMap identityClause l)
 unfolding concatMap identityClause entryKey itemKey
 clauses-from n m [] f h = tt
-clauses-from n m (class k a b ∷ l) f h = clauses-from (suc k) m l (f .1) (omega (arith, f .0))
+clauses-from n m (class k c ∷ l) f h = clauses-from (suc k) m l (f .1) (omega (arith, f .0))
 clauses-from n m (production r p ks ∷ l) f h = (omega (arith, f .0), clauses-from _ _ l (f .1) (omega arith))
 
 -- Clauses come only from productions.
@@ -193,7 +193,7 @@ module _ (l : Language) (s : Proper l) where
   identity-fits = record {
     maps = λ k e. (k, mem-mappings k e);
     mapsOnly = identity-maps;
-    classes = λ k a b m. (between a b, rw (identity-mapped k (class-in l k a b m)) (mem-range l (s .rises) k a b m), within-itself (between a b));
+    classes = λ k c m. (c, rw (identity-mapped k (class-in l k c m)) (mem-range l (s .rises) k c m), within-itself c);
     clauses = λ r p ks m. (write code (node r p (argumentsFrom 1 ks)), mem-clauses r p ks m);
     clausesOnly = λ r p c m. let q = identity-clause r p c m in (q .0, q .1);
     codes = λ r p c m.

@@ -11,7 +11,7 @@ use borrow.Author.Tests.{eqb-true}
 use Rattle.fields.specs.Keyed.{holds, within}
 use Rattle.fields.proofs.Truth.{Mem, and-both, both-and, false-true, all-mem, any-mem, mem-map, map-cases}
 use Rattle.fields.proofs.Keyed.{Rising, map-from}
-use Rattle.language.specs.Language.{Entry, class, production, Range, between, rangeWithin, rangeOf, mentions, isIn, argumentsOf}
+use Rattle.language.specs.Language.{Entry, class, production, Range, rangeWithin, rangeOf, mentions, isIn, argumentsOf}
 use Rattle.language.specs.LanguageFile.{isKind}
 use Rattle.language.proofs.Lookup.{same-equal, range-mem, arguments-mem, mem-range, mem-arguments, in-mem, mem-in, class-in, result-in, argument-in}
 use Rattle.language.proofs.Ranges.{within-both}
@@ -61,9 +61,9 @@ shallow o p (inr e) d q = sym e ∙ q
 -- An entry mentions the kinds of one that lies in it.
 entry-mentions : (k : ℕ) (a b : Entry) → entryWithin a b ≡ true → mentions k a ≡ true → mentions k b ≡ true
 unfolding entryWithin mentions
-entry-mentions k (class i a b) (class j c d) e m =
-    let q : i ≡ j = eqb-true i j (and-both (eqb i j) (rangeWithin (between a b) (between c d)) e .0) in rw (← q) m
-entry-mentions k (class i a b) (production s q js) e m = false-true e
+entry-mentions k (class i c) (class j d) e m =
+    let q : i ≡ j = eqb-true i j (and-both (eqb i j) (rangeWithin c d) e .0) in rw (← q) m
+entry-mentions k (class i c) (production s q js) e m = false-true e
 entry-mentions k (production r p ks) b e m = rw (← same-equal (production r p ks) b e) m
 
 module _ (f g : Translation) (sf : Sound f) (sg : Sound g) (h : joinFits f g ≡ true) where
@@ -79,12 +79,12 @@ module _ (f g : Translation) (sf : Sound f) (sg : Sound g) (h : joinFits f g ≡
       let b = lies (a .0) (a .1) in
       mem-in (f .source) k (b .0) (b .1) (entry-mentions k (a .0) (b .0) (b .2) (a .2))
 
-  class-lies : (k : ℕ) (c : Range) (b : Entry) → Mem b (f .source) → entryWithin (class k (c .low) (c .high)) b ≡ true
+  class-lies : (k : ℕ) (c : Range) (b : Entry) → Mem b (f .source) → entryWithin (class k c) b ≡ true
       → (d : Range) × (rangeOf (f .source) k ≡ some d) × (rangeWithin c d ≡ true)
   unfolding entryWithin
-  class-lies k c (class j x y) m e =
-      let w = and-both (eqb k j) (rangeWithin c (between x y)) e in
-      (between x y, rw (eqb-true k j (w .0)) (mem-range (f .source) (sf .source .rises) j x y m), w .1)
+  class-lies k c (class j d) m e =
+      let w = and-both (eqb k j) (rangeWithin c d) e in
+      (d, rw (eqb-true k j (w .0)) (mem-range (f .source) (sf .source .rises) j d m), w .1)
   class-lies k c (production s q js) m e = false-true e
 
   production-lies : (k p : ℕ) (ks : List ℕ) (b : Entry) → Mem b (f .source) → entryWithin (production k p ks) b ≡ true → Mem (production k p ks) (f .source)
@@ -194,11 +194,11 @@ module _ (f g : Translation) (sf : Sound f) (sg : Sound g) (h : joinFits f g ≡
           let x = sg .fits .mapsOnly s (u .0) (u .1) in
           let y = onward (u .0) (x .1) in
           (x .0, rw (u .2 ∙ y .2) (sf .fits .mapsOnly (u .0) (y .0) (y .1) .1));
-      classes = λ k a b m.
-          let c = sg .fits .classes k a b m in
+      classes = λ k b m.
+          let c = sg .fits .classes k b m in
           let d = target-larger .classes (mapped (g .body) k) (c .0) (c .1) in
-          let e = sf .fits .classes (mapped (g .body) k) (d .0 .low) (d .0 .high) (range-mem (f .source) (mapped (g .body) k) (d .0) (d .1)) in
-          (e .0, rw (join-mapped k (class-in (g .source) k a b m)) (e .1), within-both (between a b) (d .0) (e .0) (within-both (between a b) (c .0) (d .0) (c .2) (d .2)) (e .2));
+          let e = sf .fits .classes (mapped (g .body) k) (d .0) (range-mem (f .source) (mapped (g .body) k) (d .0) (d .1)) in
+          (e .0, rw (join-mapped k (class-in (g .source) k b m)) (e .1), within-both b (d .0) (e .0) (within-both b (c .0) (d .0) (c .2) (d .2)) (e .2));
       clauses = λ r p ks m. let c = sg .fits .clauses r p ks m in (_, mem-join (clause r p (c .0)) (c .1));
       clausesOnly = λ r p c m. let d = from-clause r p c m in sg .fits .clausesOnly r p (d .0) (d .1);
       codes = λ r p c m. (run (clausesOf f) (clausesOf g r p), join-read r p c m);

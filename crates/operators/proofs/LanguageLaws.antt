@@ -1,4 +1,4 @@
--- The operators on languages that stand in accepted files: a law for each return.
+-- The operators on languages in their own bytes: a law for each return.
 use Prim.Native.Nat.{ℕ, _≤_, _<_}
 use mathlib.Core.Path.{_≡_, refl, sym, ap, subst, _∙_}
 use mathlib.Core.Bool.{Bool, true, false}
@@ -8,48 +8,45 @@ use Rattle.fields.specs.Outcome.{value}
 use Rattle.fields.specs.declared.outcome.Outcome.{Outcome}
 use Rattle.fields.specs.declared.outcome.Outcome.the-variants.{Refused}
 use Rattle.fields.specs.declared.outcome.Reason.the-variants.{SumUnfit}
-use Rattle.fields.specs.Fields.{byteAt}
 use Rattle.language.specs.Language.{Language}
-use Rattle.language.specs.LanguageFile.{encodeLanguage, languageOf}
+use Rattle.language.specs.LanguageFile.{encodeLanguage}
 use Rattle.language.specs.Inner.Entries.{RisingEntries}
-use Rattle.language.proofs.Codec.{language-good}
 use Rattle.fields.specs.declared.copy.Stored.{Stored}
 use Rattle.operators.specs.Operators.{languagesFit, languageUnion, languageSum, languageWithout}
 use Rattle.fields.specs.Inner.Writing.{Stores}
 use Rattle.merging.specs.Inner.Parts.{Sorted, united, removed, fitTogether}
-use Rattle.operators.specs.Inner.Values.{languageBytes, Gives}
+use Rattle.operators.specs.Inner.Values.{exactLanguage, languageBytes, Gives}
 use Rattle.operators.proofs.Encoded.{sorted-language, rising-language, united-languages, removed-language, languages-fit}
 use Rattle.operators.specs.Inner.Assembled.{limited}
 use Rattle.operators.proofs.Given.{gives-refused}
-use Rattle.operators.proofs.Accepted.{language-written, language-copied}
+use Rattle.operators.proofs.Accepted.{exact-good, language-written, language-copied}
 
--- The fields of an accepted language rise.
-pub language-sorted : (a : List ℕ) (l : Language) → languageOf a ≡ value l → ((i : ℕ) → byteAt a i < 256) → Sorted 0x11 a
-language-sorted a l e h = subst (Sorted 0x11) (sym (language-written a l e h)) (sorted-language l l (language-good a l e .1 .rises))
+-- The fields of a language rise.
+pub language-sorted : (a : List ℕ) (l : Language) → exactLanguage a ≡ value l → Sorted 0x11 a
+language-sorted a l e = subst (Sorted 0x11) (sym (language-written a l e)) (sorted-language l l (exact-good a l e .rises))
 
--- An accepted language is whole entries whose keys rise.
-pub language-rises : (a : List ℕ) (l : Language) → languageOf a ≡ value l → ((i : ℕ) → byteAt a i < 256) → RisingEntries a
-language-rises a l e h =
-    let g = language-good a l e .1 in
-    subst RisingEntries (sym (language-written a l e h)) (rising-language l (g .whole) (g .rises))
+-- It is whole entries whose keys rise.
+pub language-rises : (a : List ℕ) (l : Language) → exactLanguage a ≡ value l → RisingEntries a
+language-rises a l e =
+    let g = exact-good a l e in
+    subst RisingEntries (sym (language-written a l e)) (rising-language l (g .whole) (g .rises))
 
-module _ (a b : List ℕ) (h : (i : ℕ) → byteAt a i < 256) (k : (i : ℕ) → byteAt b i < 256) (l m : Language)
-    (e : languageOf a ≡ value l) (d : languageOf b ≡ value m) where
+module _ (a b : List ℕ) (l m : Language) (e : exactLanguage a ≡ value l) (d : exactLanguage b ≡ value m) where
   fit-is : fitTogether a b ≡ languagesFit l m
   fit-is =
-      ap (λ (x : List ℕ). fitTogether x b) (language-written a l e h)
-      ∙ (ap (fitTogether (encodeLanguage l)) (language-written b m d k)
-      ∙ languages-fit l m (language-good a l e .1 .whole) (language-good b m d .1 .whole))
+      ap (λ (x : List ℕ). fitTogether x b) (language-written a l e)
+      ∙ (ap (fitTogether (encodeLanguage l)) (language-written b m d)
+      ∙ languages-fit l m (exact-good a l e .whole) (exact-good b m d .whole))
 
   union-is : united 0x11 a b ≡ encodeLanguage (languageUnion l m)
   union-is =
-      ap (λ (x : List ℕ). united 0x11 x b) (language-written a l e h)
-      ∙ (ap (united 0x11 (encodeLanguage l)) (language-written b m d k) ∙ united-languages l m)
+      ap (λ (x : List ℕ). united 0x11 x b) (language-written a l e)
+      ∙ (ap (united 0x11 (encodeLanguage l)) (language-written b m d) ∙ united-languages l m)
 
   removed-is : removed 0x11 a b ≡ encodeLanguage (languageWithout l m)
   removed-is =
-      ap (λ (x : List ℕ). removed 0x11 x b) (language-written a l e h)
-      ∙ (ap (removed 0x11 (encodeLanguage l)) (language-written b m d k) ∙ removed-language l m)
+      ap (λ (x : List ℕ). removed 0x11 x b) (language-written a l e)
+      ∙ (ap (removed 0x11 (encodeLanguage l)) (language-written b m d) ∙ removed-language l m)
 
   pub sum-unfit : (fit : Bool) → fit ≡ fitTogether a b → fit ≡ false → (o : List ℕ) → Gives (languageBytes (languageSum l m)) o o (Refused SumUnfit)
   unfolding languageSum

@@ -17,18 +17,16 @@ use Rattle.fields.specs.Keyed.{rising}
 use Rattle.fields.proofs.Truth.{all-mem}
 use Rattle.fields.proofs.Keyed.{is-rising}
 use Rattle.language.specs.Language.{Language}
-use Rattle.language.specs.LanguageFile.{languageOf}
-use Rattle.language.proofs.Codec.{language-good}
 use Rattle.translation.specs.Translation.{Body, Translation, itemKey}
 use Rattle.translation.specs.TranslationFile.{bodyOf, allRising}
 use Rattle.translation.specs.WellFormed.{wellFormed}
 use Rattle.translation.specs.Inner.Pieces.{Pieces}
 use Rattle.translation.proofs.Codec.{itemWhole, body-whole, body-sound}
-use Rattle.operators.specs.Inner.Values.{translationBytes, Gives}
+use Rattle.operators.specs.Inner.Values.{exactLanguage, translationBytes, Gives}
 use Rattle.operators.proofs.Proper.{good-proper, formed-sound}
 use Rattle.operators.specs.Inner.Assembled.{assembled}
 use Rattle.operators.proofs.Given.{gives-refused}
-use Rattle.operators.proofs.Accepted.{slice-bytes, language-entries, language-short, language-written, assembled-given}
+use Rattle.operators.proofs.Accepted.{slice-bytes, exact-good, language-entries, language-short, language-written, assembled-given}
 
 -- What an outcome of a check says.
 refused-is : {A : Type 0} (x : Result A) (r : Reason) → checked x ≡ Refused r → x ≡ refused r
@@ -43,7 +41,7 @@ value-is (refused q) n e = let z : _≡_ {A = ℕ} 0 1 = cc in absurd (omega ari
 abbrev pub madeOf : Language → Language → Body → Translation
 madeOf l m b = record { source = l; target = m; body = b }
 
-module _ (s t x : List ℕ) (l m : Language) (b : Body) (es : languageOf s ≡ value l) (et : languageOf t ≡ value m) (ex : bodyOf x ≡ some b) where
+module _ (s t x : List ℕ) (l m : Language) (b : Body) (es : exactLanguage s ≡ value l) (et : exactLanguage t ≡ value m) (ex : bodyOf x ≡ some b) where
   pub made-pieces : length x ≤ 32768 → Pieces s t x (madeOf l m b)
   made-pieces h = record {
     source = language-entries s l es;
@@ -56,7 +54,7 @@ module _ (s t x : List ℕ) (l m : Language) (b : Body) (es : languageOf s ≡ v
 
   pub made-rises : rising itemKey b ≡ true → allRising (madeOf l m b) ≡ true
   unfolding allRising
-  made-rises h = rw (language-good s l es .1 .rises, language-good t m et .1 .rises, h)
+  made-rises h = rw (exact-good s l es .rises, exact-good t m et .rises, h)
 
   module _ (o : Outcome) (eo : o ≡ checked (wellFormed (madeOf l m b))) where
     pub make-refused : (r : Reason) → o ≡ Refused r → (out : List ℕ) → Gives (translationBytes (wellFormed (madeOf l m b))) out out (Refused r)
@@ -64,17 +62,17 @@ module _ (s t x : List ℕ) (l m : Language) (b : Body) (es : languageOf s ≡ v
         let z : wellFormed (madeOf l m b) ≡ refused r = refused-is (wellFormed (madeOf l m b)) r (sym eo ∙ h) in
         gives-refused _ out out r (rw z refl) refl
 
-    pub make-given : rising itemKey b ≡ true → ((i : ℕ) → byteAt s i < 256) → ((i : ℕ) → byteAt t i < 256) → ((i : ℕ) → byteAt x i < 256)
+    pub make-given : rising itemKey b ≡ true → ((i : ℕ) → byteAt x i < 256)
         → (n : ℕ) → o ≡ Accepted n → (out out′ : List ℕ) (r : Outcome)
         → Gives (refuseIf (ltb 4096 (length (assembled s t x))) ValueTooLarge (value (assembled s t x))) out out′ r
         → Gives (translationBytes (wellFormed (madeOf l m b))) out out′ r
-    make-given rises bs bt bx n h out out′ r g =
+    make-given rises bx n h out out′ r g =
         let f = madeOf l m b in
-        let y = language-good s l es .1 in
-        let z = language-good t m et .1 in
+        let y = exact-good s l es in
+        let z = exact-good t m et in
         let v = value-is (wellFormed f) n (sym eo ∙ h) in
         let w = formed-sound f (v .0) (good-proper l y) (good-proper m z) (all-mem itemWhole b (body-whole x b ex .0)) (is-rising itemKey b rises) (v .1) in
         let q : wellFormed f ≡ value f = v .1 ∙ ap value (sym (w .1)) in
         rw q
         (assembled-given f (w .0) (y .short) (z .short) s t x out out′ r
-        (language-written s l es bs) (language-written t m et bt) (body-sound x b ex (slice-bytes x bx)) g)
+        (language-written s l es) (language-written t m et) (body-sound x b ex (slice-bytes x bx)) g)

@@ -12,7 +12,7 @@ use Rattle.fields.specs.Outcome.{value}
 use Rattle.fields.proofs.Truth.{Mem, and-both, both-and, or-cases, all-mem, mem-all, any-mem, keep-cases}
 use Rattle.fields.proofs.Keyed.{Rising, is-rising, rising-is, keep-from}
 use Rattle.language.specs.Language.{Entry, class, production, Language, entryKey, isIn, mentions}
-use Rattle.language.specs.LanguageFile.{isKind, encodeLanguage, languageLimit}
+use Rattle.language.specs.LanguageFile.{isKind, rangeWhole, encodeLanguage, languageLimit}
 use Rattle.language.proofs.Lookup.{in-mem, NoClash, clashes-none, none-clashes}
 use Rattle.language.proofs.Codec.{entryWhole, GoodLanguage}
 use Rattle.reader.proofs.RoundTrip.{Apart}
@@ -53,13 +53,13 @@ pub proper-keep : (f : Entry → Bool) (l : Language) → Proper l → Proper (k
 proper-keep f l p = record {
   whole = λ a m. p .whole a (keep-cases f a l m .0);
   rises = keep-from entryKey f 0 l (p .rises);
-  apart = λ k a b q ks m n. p .apart k a b q ks (keep-cases f _ l m .0) (keep-cases f _ l n .0);
+  apart = λ k c q ks m n. p .apart k c q ks (keep-cases f _ l m .0) (keep-cases f _ l n .0);
 }
 
 -- The kinds in a proper language are kinds.
 kind-below : (a : Entry) (k : ℕ) → entryWhole a ≡ true → mentions k a ≡ true → k < 32
 unfolding entryWhole mentions
-kind-below (class j low high) k w e = omega (arith, ltb-true j 32 (and-both (isKind j) (leb low high) w .0), eqb-true j k e)
+kind-below (class j c) k w e = omega (arith, ltb-true j 32 (and-both (isKind j) (rangeWhole c) w .0), eqb-true j k e)
 kind-below (production r p ks) k w e =
     let u = and-both (isKind r) (leb (length ks) 8 && all isKind ks) w in
     let v = and-both (leb (length ks) 8) (all isKind ks) (u .1) in

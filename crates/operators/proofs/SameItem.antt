@@ -15,16 +15,15 @@ use Rattle.fields.specs.declared.outcome.Outcome.{Outcome}
 use Rattle.fields.specs.declared.outcome.Outcome.the-variants.{Refused}
 use Rattle.fields.specs.declared.outcome.Reason.the-variants.{ValueTooLarge}
 use Rattle.fields.specs.Lists.{all, keep, concatMap, countUp}
-use Rattle.fields.specs.Fields.{byteAt, pairAt, encodeField, encodeFields}
+use Rattle.fields.specs.Fields.{byteAt, encodeField, encodeFields}
 use Rattle.fields.specs.Inner.Places.{fieldEnd, placesFrom, places}
 use Rattle.fields.proofs.Codec.{concat-append}
 use Rattle.fields.proofs.Places.{every-here}
 use Rattle.language.specs.Language.{Entry, class, production, Language, isIn}
-use Rattle.language.specs.LanguageFile.{entriesOf, languageOf}
-use Rattle.language.specs.Inner.Entries.{entryWhole, entryAt, IsProduction}
+use Rattle.language.specs.LanguageFile.{entriesOf}
+use Rattle.language.specs.Inner.Entries.{entryWhole, entryAt, classRange, IsProduction}
 use Rattle.language.proofs.Facts.{entry-facts, production-is}
 use Rattle.language.proofs.Holds.{holds-entries}
-use Rattle.language.proofs.Codec.{language-good}
 use Rattle.reader.specs.Syntax.{write}
 use Rattle.reader.proofs.Members.{entries-whole}
 use Rattle.translation.specs.Translation.{mapping, Body}
@@ -34,7 +33,7 @@ use Rattle.fields.specs.declared.copy.Stored.{Stored}
 use Rattle.fields.specs.declared.copy.Stored.the-variants.{To, Full}
 use Rattle.operators.specs.Operators.{argumentsFrom, identityClause, identityOf}
 use Rattle.fields.specs.Inner.Writing.{Stores}
-use Rattle.operators.specs.Inner.Values.{translationBytes, Gives}
+use Rattle.operators.specs.Inner.Values.{exactLanguage, translationBytes, Gives}
 use Rattle.operators.proofs.Proper.{good-proper}
 use Rattle.operators.proofs.IdentitySound.{sound-identity}
 use Rattle.fields.proofs.Splices.{put-unwanted, both-full, both-then}
@@ -43,8 +42,7 @@ use Rattle.operators.specs.Inner.Assembled.{assembled}
 use Rattle.operators.specs.Inner.Kept.{writtenFrom}
 use Rattle.operators.specs.Inner.SameItems.{kindItem, kindItems, clauseItem}
 use Rattle.operators.proofs.Given.{gives-refused, stored-first}
-use Rattle.operators.proofs.Accepted.{language-entries, language-written, assembled-given, body-over}
-use Rattle.operators.proofs.Keeping.{walk-next, walk-done}
+use Rattle.operators.proofs.Accepted.{exact-good, language-entries, language-written, assembled-given, body-over}
 
 -- put_kind
 pub kind-stored : (l : Language) (k : ℕ) (there : Bool) → there ≡ isIn l k → (o o′ : List ℕ) (n : ℕ) (x : Stored)
@@ -100,7 +98,7 @@ module _ (s : List ℕ) (p tag : ℕ) (et : tag ≡ byteAt s p) where
   pub class-stored : tag ≡ 0x11 → (o : List ℕ) (n : ℕ) → n ≤ length o → Stores (clauseItem s p) o o n (To n)
   unfolding clauseItem entryAt identityClause encodeFields concatMap
   class-stored h o n room =
-      let z : entryAt s p ≡ class (byteAt s (p + 3)) (pairAt s (p + 4)) (pairAt s (p + 6)) = cc (eq-eqb tag 0x11 h) in
+      let z : entryAt s p ≡ class (byteAt s (p + 3)) (classRange s p) = cc (eq-eqb tag 0x11 h) in
       let y : [] ≡ clauseItem s p = sym (ap (λ (a : Entry). encodeFields (map itemField (identityClause a))) z) in
       subst (λ (v : List ℕ). Stores v o o n (To n)) y (put-unwanted false [] o n refl room)
 
@@ -128,48 +126,6 @@ module _ (s : List ℕ) (p tag : ℕ) (et : tag ≡ byteAt s p) where
         let h : length ks ≤ 8 = omega (arith, m, b .0, b .1) in
         let d : x ≡ 2 * length ks = omega (arith, m, ex, b .0) in
         subst (λ (v : List ℕ). Stores v o o′ n y) (same-item r q x ks h d ∙ sym (ap (λ (a : Entry). encodeFields (map itemField (identityClause a))) z)) k
-
--- put_clauses: where it is, and what comes of the clauses from there on
-pub record Claused (a o out : List ℕ) (from p n : ℕ) : Type 0 where
-  pub rest : (out′ : List ℕ) (x : Stored) → Stores (writtenFrom (clauseItem a) a p) out out′ n x → Stores (writtenFrom (clauseItem a) a 0) o out′ from x
-  pub whole : all (entryWhole a) (placesFrom a p) ≡ true
-  pub room : n ≤ length out
-  pub long : length out ≡ length o
-
-pub claused-start : (a o : List ℕ) (from : ℕ) → (l : Language) × (entriesOf a ≡ some l) → from ≤ length o → Claused a o o from 0 from
-claused-start a o from e room = record {
-  rest = λ out′ x w. w;
-  whole = entries-whole a e;
-  room = room;
-  long = refl;
-}
-
-module _ (a o out : List ℕ) (from p n : ℕ) (h : Claused a o out from p n) where
-  -- the clause at p is written, or it did not fit
-  module _ (here : p < length a) (e : ℕ) (ee : e ≡ fieldEnd a p) (out′ : List ℕ) (x : Stored) (w : Stores (clauseItem a p) out out′ n x) where
-    pub claused-full : x ≡ Full → Stores (writtenFrom (clauseItem a) a 0) o out′ from Full
-    claused-full f =
-        h .rest out′ Full (subst (λ (v : List ℕ). Stores v out out′ n Full) (sym (walk-next (clauseItem a) a p here e ee))
-        (both-full (clauseItem a p) (writtenFrom (clauseItem a) a e) out out′ n x w f))
-
-    pub claused-next : (m : ℕ) → x ≡ To m → length out′ ≡ length out → Claused a o out′ from e m
-    claused-next m d l = record {
-      rest = λ out″ y u.
-          h .rest out″ y (subst (λ (v : List ℕ). Stores v out out″ n y) (sym (walk-next (clauseItem a) a p here e ee))
-          (both-then (clauseItem a p) (writtenFrom (clauseItem a) a e) out out′ n x w m d out″ y l u));
-      whole = rw ee (every-here (entryWhole a) a p (h .whole) here .1);
-      room = omega (arith, w .done m d .fits);
-      long = l ∙ h .long;
-    }
-
-  -- no clause is left
-  pub claused-done : length a ≤ p → Stores (writtenFrom (clauseItem a) a 0) o out from (To n)
-  claused-done past =
-      h .rest out (To n) (subst (λ (v : List ℕ). Stores v out out n (To n)) (sym (walk-done (clauseItem a) a p past))
-      (put-unwanted false [] out n refl (h .room)))
-
-pub entry-here : (a : List ℕ) (p : ℕ) → all (entryWhole a) (placesFrom a p) ≡ true → p < length a → entryWhole a p ≡ true
-entry-here a p w here = every-here (entryWhole a) a p w here .0
 
 -- The bytes of items, one after the other.
 map-append : {A B : Type 0} (f : A → B) (l m : List A) → map f (l ++ m) ≡ map f l ++ map f m
@@ -208,7 +164,7 @@ same-bytes s l e =
     rw (kinds-bytes l (countUp 32 0), a) (sym (items-append (map (λ k. mapping k k) (keep (isIn l) (countUp 32 0))) (concatMap identityClause l)))
 
 -- identity
-module _ (s : List ℕ) (l : Language) (e : languageOf s ≡ value l) where
+module _ (s : List ℕ) (l : Language) (e : exactLanguage s ≡ value l) where
   pub identity-over : (o : List ℕ) → 4096 < length (kindItems l 0 ++ writtenFrom (clauseItem s) s 0) → Gives (translationBytes (value (identityOf l))) o o (Refused ValueTooLarge)
   identity-over o h = gives-refused _ o o ValueTooLarge (body-over (identityOf l) (omega (arith, ap length (same-bytes s l (language-entries s l e))))) refl
 
@@ -226,12 +182,12 @@ module _ (s : List ℕ) (l : Language) (e : languageOf s ≡ value l) where
     pub clauses-over : (o : List ℕ) → z ≡ Full → Gives (translationBytes (value (identityOf l))) o o (Refused ValueTooLarge)
     clauses-over o f = identity-over o (omega (arith, same-stored .full f))
 
-    pub identity-given : ((i : ℕ) → byteAt s i < 256) → (k : ℕ) → z ≡ To k → (o o′ : List ℕ) (r : Outcome)
+    pub identity-given : (k : ℕ) → z ≡ To k → (o o′ : List ℕ) (r : Outcome)
         → Gives (refuseIf (ltb 4096 (length (assembled s s (take k d₂)))) ValueTooLarge (value (assembled s s (take k d₂)))) o o′ r
         → Gives (translationBytes (value (identityOf l))) o o′ r
     unfolding identityOf
-    identity-given b k ez o o′ r g =
-        let h = language-good s l e .1 in
+    identity-given k ez o o′ r g =
+        let h = exact-good s l e in
         assembled-given (identityOf l) (sound-identity l (good-proper l h)) (h .short) (h .short) s s (take k d₂) o o′ r
-        (language-written s l e b) (language-written s l e b)
+        (language-written s l e) (language-written s l e)
         (stored-first _ d d₂ k z same-stored ez ∙ same-bytes s l (language-entries s l e)) g

@@ -8,7 +8,7 @@ use mathlib.Core.List.{List, []}
 use Rattle.fields.specs.Keyed.{union, agree, without}
 use Rattle.fields.proofs.Truth.{Mem, and-both, not-true, some-is, is-some, keep-cases, mem-keep}
 use Rattle.fields.proofs.Keyed.{Rising, Agree, union-cases, union-mem, union-from, agree-holds, holds-agree, keep-from}
-use Rattle.language.specs.Language.{Entry, class, production, Language, entryKey, sameEntry, between, isIn, argumentsOf, clashes}
+use Rattle.language.specs.Language.{Entry, class, production, Language, entryKey, sameEntry, Range, isIn, argumentsOf, clashes}
 use Rattle.language.proofs.Lookup.{same-equal, equal-same, in-larger, in-union, class-in, result-in, argument-in, arguments-mem, mem-arguments, NoClash, clashes-none, none-clashes}
 use Rattle.language.proofs.Ranges.{within-both}
 use Rattle.reader.specs.Code.{Code}
@@ -62,10 +62,10 @@ unfolding languageUnion
 proper-union l m p q h = record {
   whole = λ a n. ⊎-elim (λ r. p .whole a r) (λ r. q .whole a r) (union-cases entryKey a l m n);
   rises = union-from entryKey 0 l m (p .rises) (q .rises);
-  apart = λ k a b s ks x y.
+  apart = λ k r s ks x y.
       ⊎-elim
-      (λ c. ⊎-elim (λ d. p .apart k a b s ks c d) (λ d. h .left k a b s ks c d) (union-cases entryKey _ l m y))
-      (λ c. ⊎-elim (λ d. h .right k a b s ks c d) (λ d. q .apart k a b s ks c d) (union-cases entryKey _ l m y))
+      (λ c. ⊎-elim (λ d. p .apart k r s ks c d) (λ d. h .left k r s ks c d) (union-cases entryKey _ l m y))
+      (λ c. ⊎-elim (λ d. h .right k r s ks c d) (λ d. q .apart k r s ks c d) (union-cases entryKey _ l m y))
       (union-cases entryKey _ l m x);
 }
 
@@ -95,14 +95,14 @@ module _ (f u : Translation) (w : Fitting f) (h : Part f u) where
   part-larger : Larger (f .target) (u .target)
   part-larger = larger (f .target) (u .target) (h .target-rises) (h .target)
 
-  pub part-class : (k a b : ℕ) → Mem (class k a b) (f .source) → Mem (class k a b) (u .source)
-      → Contains (u .target) (mapped (u .body) k) a b
-  part-class k a b m n =
-      let c = w .classes k a b m in
+  pub part-class : (k : ℕ) (a : Range) → Mem (class k a) (f .source) → Mem (class k a) (u .source)
+      → Contains (u .target) (mapped (u .body) k) a
+  part-class k a m n =
+      let c = w .classes k a m in
       let d = part-larger .classes (mapped (f .body) k) (c .0) (c .1) in (
         d .0,
-        rw (← part-mapped k (class-in (f .source) k a b m) (class-in (u .source) k a b n)) (d .1),
-        within-both (between a b) (c .0) (d .0) (c .2) (d .2),
+        rw (← part-mapped k (class-in (f .source) k a m) (class-in (u .source) k a n)) (d .1),
+        within-both a (c .0) (d .0) (c .2) (d .2),
       )
 
   pub part-code : (r p : ℕ) (ks : List ℕ) (c : List ℕ) → Mem (production r p ks) (f .source) → Mem (production r p ks) (u .source)
@@ -150,7 +150,7 @@ module _ (f g u : Translation) (sf : Fitting f) (sg : Fitting g) (pf : Part f u)
         (λ d. let x = sf .mapsOnly s t d in (in-larger (f .source) (u .source) (sources .left) s (x .0), in-larger (f .target) (u .target) (targets .left) t (x .1)))
         (λ d. let x = sg .mapsOnly s t d in (in-larger (g .source) (u .source) (sources .right) s (x .0), in-larger (g .target) (u .target) (targets .right) t (x .1)))
         (bodies .only _ m);
-    classes = λ k a b m. ⊎-elim (λ d. part-class f u sf pf k a b d m) (λ d. part-class g u sg pg k a b d m) (sources .only _ m);
+    classes = λ k c m. ⊎-elim (λ d. part-class f u sf pf k c d m) (λ d. part-class g u sg pg k c d m) (sources .only _ m);
     clauses = λ r p ks m.
         ⊎-elim (λ d. let c = sf .clauses r p ks d in (c .0, bodies .left _ (c .1))) (λ d. let c = sg .clauses r p ks d in (c .0, bodies .right _ (c .1))) (sources .only _ m);
     clausesOnly = λ r p c m.
@@ -230,7 +230,7 @@ module _ (f : Translation) (l : Language) (s : Sound f) where
   without-fits = record {
     maps = λ k e. let t = s .fits .maps k (in-larger left-source (f .source) left-mem k e) in (t .0, mem-keep (isOf left-source) (mapping k (t .0)) (f .body) (t .1) e);
     mapsOnly = λ k t m. let x = keep-cases (isOf left-source) (mapping k t) (f .body) m in (x .1, s .fits .mapsOnly k t (x .0) .1);
-    classes = λ k a b m. part-class f (translationWithout f l) (s .fits) left-part k a b (left-mem _ m) m;
+    classes = λ k c m. part-class f (translationWithout f l) (s .fits) left-part k c (left-mem _ m) m;
     clauses = λ r p ks m.
         let c = s .fits .clauses r p ks (left-mem _ m) in
         (c .0, mem-keep (isOf left-source) (clause r p (c .0)) (f .body) (c .1) (is-some (argumentsOf left-source r p) (mem-arguments left-source (left-proper .rises) r p ks m)));

@@ -1,4 +1,4 @@
--- The operators on translations that stand in accepted files: a law for each return.
+-- The operators on translations in their own bytes: a law for each return.
 use Prim.Native.Nat.{ℕ, _≤_, _<_}
 use mathlib.Core.Path.{_≡_, refl, sym, ap, subst, _∙_}
 use mathlib.Core.Bool.{Bool, true, false, _&&_}
@@ -10,12 +10,12 @@ use Rattle.fields.specs.Outcome.{value, refuseIf}
 use Rattle.fields.specs.declared.outcome.Outcome.{Outcome}
 use Rattle.fields.specs.declared.outcome.Outcome.the-variants.{Refused}
 use Rattle.fields.specs.declared.outcome.Reason.the-variants.{SumUnfit, ValueTooLarge}
-use Rattle.fields.specs.Fields.{byteAt, encodeFields}
+use Rattle.fields.specs.Fields.{encodeFields}
 use Rattle.fields.specs.Keyed.{agree}
 use Rattle.fields.proofs.Truth.{mem-all}
 use Rattle.fields.proofs.Keyed.{rising-is}
 use Rattle.language.specs.Language.{Language, entryKey}
-use Rattle.language.specs.LanguageFile.{encodeLanguage, languageOf}
+use Rattle.language.specs.LanguageFile.{encodeLanguage}
 use Rattle.language.specs.Inner.Entries.{RisingEntries}
 use Rattle.language.proofs.Codec.{entryWhole}
 use Rattle.translation.specs.Translation.{Translation, itemKey, sameItem}
@@ -26,7 +26,7 @@ use Rattle.fields.specs.declared.copy.Stored.the-variants.{To, Full}
 use Rattle.operators.specs.Operators.{languagesFit, languageWithout, translationsFit, translationUnion, translationSum, translationWithout}
 use Rattle.fields.specs.Inner.Writing.{Stores}
 use Rattle.merging.specs.Inner.Parts.{Sorted, SortedEntries, united, removed, agrees, fitTogether}
-use Rattle.operators.specs.Inner.Values.{translationBytes, Gives}
+use Rattle.operators.specs.Inner.Values.{exactLanguage, exactTranslation, translationBytes, Gives}
 use Rattle.operators.proofs.Proper.{GoodTranslation}
 use Rattle.operators.proofs.Encoded.{bodyBytes, sorted-entries, rising-language, united-languages, removed-language, languages-fit, sorted-body, united-bodies, bodies-agree}
 use Rattle.operators.proofs.SumSound.{fit-translations, sound-union}
@@ -34,16 +34,16 @@ use Rattle.operators.specs.Inner.Assembled.{assembled}
 use Rattle.operators.specs.Inner.EncodedParts.{EncodedParts}
 use Rattle.operators.specs.Inner.Kept.{Left}
 use Rattle.operators.proofs.Given.{gives-refused, stored-first, stored-short}
-use Rattle.operators.proofs.Accepted.{accepted-good, language-written, translation-written, source-written, target-written, body-written, assembled-given, source-over, target-over, body-over}
+use Rattle.operators.proofs.Accepted.{exact-translation, accepted-good, language-written, source-written, target-written, body-written, assembled-given, source-over, target-over, body-over}
 
--- The parts of an accepted translation in its file.
-pub accepted-spelt : (s : List ℕ) (f : Translation) → translationOf s ≡ value f → ((i : ℕ) → byteAt s i < 256)
+-- The parts of a translation in its own bytes.
+pub accepted-spelt : (s : List ℕ) (f : Translation) → exactTranslation s ≡ value f
     → (x y z : List ℕ) → x ≡ sourceIn s → y ≡ targetIn s → z ≡ bodyIn s → EncodedParts x y z f
-accepted-spelt s f e h x y z i j k = record {
-  source = i ∙ source-written s f e h;
-  target = j ∙ target-written s f e h;
-  body = k ∙ body-written s f e h;
-  accepted = subst (λ (x : List ℕ). translationOf x ≡ value f) (translation-written s f e h) e;
+accepted-spelt s f e x y z i j k = record {
+  source = i ∙ source-written s f e;
+  target = j ∙ target-written s f e;
+  body = k ∙ body-written s f e;
+  accepted = let w = exact-translation s f e in subst (λ (x : List ℕ). translationOf x ≡ value f) (w .1) (w .0);
 }
 
 -- What is known of parts.
@@ -52,10 +52,10 @@ module _ (s t b : List ℕ) (f : Translation) (w : EncodedParts s t b f) where
   spelt-good = accepted-good (encodeTranslation f) f (w .accepted)
 
   pub source-entries : SortedEntries s
-  source-entries = subst SortedEntries (sym (w .source)) (sorted-entries (f .source) (rising-is entryKey (f .source) (spelt-good .sound .source .rises)))
+  source-entries = subst SortedEntries (sym (w .source)) (sorted-entries (f .source) (mem-all entryWhole (f .source) (spelt-good .sound .source .whole)) (rising-is entryKey (f .source) (spelt-good .sound .source .rises)))
 
   pub target-entries : SortedEntries t
-  target-entries = subst SortedEntries (sym (w .target)) (sorted-entries (f .target) (rising-is entryKey (f .target) (spelt-good .sound .target .rises)))
+  target-entries = subst SortedEntries (sym (w .target)) (sorted-entries (f .target) (mem-all entryWhole (f .target) (spelt-good .sound .target .whole)) (rising-is entryKey (f .target) (spelt-good .sound .target .rises)))
 
   pub source-sorted : Sorted 0x11 s
   source-sorted = source-entries .sorted
@@ -165,11 +165,11 @@ module _ (f g : Translation) (x : Bool) (e : x ≡ translationsFit f g) where
   fit-given h o o′ r w = let z : translationsFit f g ≡ true = sym e ∙ h in rw z (w z)
 
 -- "Without"
-module _ (s t x b : List ℕ) (f : Translation) (m : Language) (p : EncodedParts s t x f) (e : languageOf b ≡ value m) (h : (i : ℕ) → byteAt b i < 256) where
+module _ (s t x b : List ℕ) (f : Translation) (m : Language) (p : EncodedParts s t x f) (e : exactLanguage b ≡ value m) where
   left-is : removed 0x11 s b ≡ encodeLanguage (languageWithout (f .source) m)
   left-is =
       ap (λ (a : List ℕ). removed 0x11 a b) (p .source)
-      ∙ (ap (removed 0x11 (encodeLanguage (f .source))) (language-written b m e h) ∙ removed-language (f .source) m)
+      ∙ (ap (removed 0x11 (encodeLanguage (f .source))) (language-written b m e) ∙ removed-language (f .source) m)
 
   module _ (d d′ : List ℕ) (r : Stored) (n : length d ≡ 1024) (w : Stores (removed 0x11 s b) d d′ 0 r) where
     pub left-too-long : (o : List ℕ) → r ≡ Full → Gives (translationBytes (value (translationWithout f m))) o o (Refused ValueTooLarge)

@@ -7,7 +7,7 @@ use Rattle.fields.specs.Outcome.{Result, value, refuseIf}
 use Rattle.fields.specs.declared.outcome.Reason.the-variants.{SumUnfit, JoinUnfit}
 use Rattle.fields.specs.Lists.{keep, isSome, concatMap}
 use Rattle.fields.specs.Keyed.{union, without, within, agree}
-use Rattle.language.specs.Language.{Entry, class, production, Language, entryKey, sameEntry, between, rangeWithin, isIn, argumentsOf, clashes}
+use Rattle.language.specs.Language.{Entry, class, production, Language, entryKey, sameEntry, rangeWithin, isIn, argumentsOf, clashes}
 use Rattle.reader.specs.Code.{node, argument, Codes, nil, cons}
 use Rattle.reader.specs.Syntax.{write, code}
 use Rattle.translation.specs.Translation.{Item, mapping, clause, Translation, itemKey, sameItem, mapped}
@@ -60,11 +60,11 @@ translationWithout f l =
     let source = languageWithout (f .source) l in
     record { source = source; target = f .target; body = keep (isOf source) (f .body) }
 
--- An entry lies in another: a class in one of its kind that contains its range (paper 02, 2026-01), a production in
+-- An entry lies in another: a class in one of its kind that contains its range (paper 02, 2026-01 and 2026-10), a production in
 -- an equal one.
 unfoldable pub entryWithin : Entry → Entry → Bool
-entryWithin (class k a b) (class j c d) = eqb k j && rangeWithin (between a b) (between c d)
-entryWithin (class k a b) (production s q js) = false
+entryWithin (class k c) (class j d) = eqb k j && rangeWithin c d
+entryWithin (class k c) (production s q js) = false
 entryWithin (production r p ks) b = sameEntry (production r p ks) b
 
 -- The second's target lies within the first's source (B.8).
@@ -91,7 +91,7 @@ argumentsFrom i (k ∷ ks) = cons (argument i) (argumentsFrom (suc i) ks)
 
 -- The clause of a production that changes nothing: 01 p 03 1 .. 03 k.
 unfoldable pub identityClause : Entry → List Item
-identityClause (class k low high) = []
+identityClause (class k c) = []
 identityClause (production r p ks) = clause r p (write code (node r p (argumentsFrom 1 ks))) ∷ []
 
 -- The identity of a language: each kind to itself, each production to itself (C.17).

@@ -4,10 +4,8 @@ ghost use Prim.Native.Nat.{_≤_};
 ghost use lib.ListN.{length};
 ghost use Rattle.fields.specs.Outcome.{value};
 ghost use Rattle.language.specs.Language.{Language};
-ghost use Rattle.language.specs.LanguageFile.{languageOf};
 ghost use Rattle.translation.specs.Translation.{Translation};
-ghost use Rattle.translation.specs.TranslationFile.{translationOf};
-ghost use Rattle.operators.specs.Inner.Values.{Gives, languageBytes, translationBytes};
+ghost use Rattle.operators.specs.Inner.Values.{exactLanguage, exactTranslation, Gives, languageBytes, translationBytes};
 use super::limit::limited;
 use fields::copy::put;
 use fields::outcome::Outcome;
@@ -16,8 +14,8 @@ use translation::parts::target_of;
 
 // The language itself.
 pub fn language(a: &[u8], out: &mut [u8]) -> Outcome
-    requires { ⌜ ((l : Language) × (languageOf (now a) ≡ value l)) × (1024 ≤ length (now out)) ⌝ }
-    ensures { λ r. ⌜ ((l : Language) → languageOf (now (a .entry)) ≡ value l
+    requires { ⌜ ((l : Language) × (exactLanguage (now a) ≡ value l)) × (1024 ≤ length (now out)) ⌝ }
+    ensures { λ r. ⌜ ((l : Language) → exactLanguage (now (a .entry)) ≡ value l
         → Gives (languageBytes (value l)) (now (out .entry)) (now (out .exit)) r) ⌝ }
 {
     limited(put(a, 0, a.len(), out, 0), 1024)
@@ -25,8 +23,8 @@ pub fn language(a: &[u8], out: &mut [u8]) -> Outcome
 
 // The translation itself.
 pub fn translation(a: &[u8], out: &mut [u8]) -> Outcome
-    requires { ⌜ ((f : Translation) × (translationOf (now a) ≡ value f)) × (4096 ≤ length (now out)) ⌝ }
-    ensures { λ r. ⌜ ((f : Translation) → translationOf (now (a .entry)) ≡ value f
+    requires { ⌜ ((f : Translation) × (exactTranslation (now a) ≡ value f)) × (4096 ≤ length (now out)) ⌝ }
+    ensures { λ r. ⌜ ((f : Translation) → exactTranslation (now (a .entry)) ≡ value f
         → Gives (translationBytes (value f)) (now (out .entry)) (now (out .exit)) r) ⌝ }
 {
     limited(put(a, 0, a.len(), out, 0), 4096)
@@ -34,8 +32,8 @@ pub fn translation(a: &[u8], out: &mut [u8]) -> Outcome
 
 // The source of a translation.
 pub fn source(a: &[u8], out: &mut [u8]) -> Outcome
-    requires { ⌜ ((f : Translation) × (translationOf (now a) ≡ value f)) × (1024 ≤ length (now out)) ⌝ }
-    ensures { λ r. ⌜ ((f : Translation) → translationOf (now (a .entry)) ≡ value f
+    requires { ⌜ ((f : Translation) × (exactTranslation (now a) ≡ value f)) × (1024 ≤ length (now out)) ⌝ }
+    ensures { λ r. ⌜ ((f : Translation) → exactTranslation (now (a .entry)) ≡ value f
         → Gives (languageBytes (value (f .source))) (now (out .entry)) (now (out .exit)) r) ⌝ }
 {
     language(source_of(a), out)
@@ -43,8 +41,8 @@ pub fn source(a: &[u8], out: &mut [u8]) -> Outcome
 
 // The target of a translation.
 pub fn target(a: &[u8], out: &mut [u8]) -> Outcome
-    requires { ⌜ ((f : Translation) × (translationOf (now a) ≡ value f)) × (1024 ≤ length (now out)) ⌝ }
-    ensures { λ r. ⌜ ((f : Translation) → translationOf (now (a .entry)) ≡ value f
+    requires { ⌜ ((f : Translation) × (exactTranslation (now a) ≡ value f)) × (1024 ≤ length (now out)) ⌝ }
+    ensures { λ r. ⌜ ((f : Translation) → exactTranslation (now (a .entry)) ≡ value f
         → Gives (languageBytes (value (f .target))) (now (out .entry)) (now (out .exit)) r) ⌝ }
 {
     language(target_of(a), out)

@@ -7,11 +7,11 @@ ghost use lib.ListN.{length};
 ghost use Rattle.fields.specs.Outcome.{value};
 ghost use Rattle.fields.specs.Inner.Places.{EndsAt};
 ghost use Rattle.language.specs.Language.{Language};
-ghost use Rattle.language.specs.LanguageFile.{entriesOf, languageOf};
+ghost use Rattle.language.specs.LanguageFile.{entriesOf};
 ghost use Rattle.language.specs.Inner.Entries.{entryWhole};
 ghost use Rattle.operators.specs.Operators.{identityOf};
 ghost use Rattle.fields.specs.Inner.Writing.{Stores};
-ghost use Rattle.operators.specs.Inner.Values.{Gives, translationBytes};
+ghost use Rattle.operators.specs.Inner.Values.{exactLanguage, Gives, translationBytes};
 ghost use Rattle.operators.specs.Inner.Kept.{writtenFrom};
 ghost use Rattle.operators.specs.Inner.SameItems.{kindItem, kindItems, clauseItem};
 use super::assemble::assemble;
@@ -86,8 +86,8 @@ fn put_clauses(a: &[u8], out: &mut [u8], from: usize) -> Stored
 
 // The identity of a language.
 pub fn identity(a: &[u8], out: &mut [u8]) -> Outcome
-    requires { ⌜ ((l : Language) × (languageOf (now a) ≡ value l)) × (4096 ≤ length (now out)) ⌝ }
-    ensures { λ r. ⌜ ((l : Language) → languageOf (now (a .entry)) ≡ value l
+    requires { ⌜ ((l : Language) × (exactLanguage (now a) ≡ value l)) × (4096 ≤ length (now out)) ⌝ }
+    ensures { λ r. ⌜ ((l : Language) → exactLanguage (now (a .entry)) ≡ value l
         → Gives (translationBytes (value (identityOf l))) (now (out .entry)) (now (out .exit)) r) ⌝ }
 {
     let mut body = [0u8; 4096];

@@ -4,9 +4,8 @@ ghost use Prim.Native.Nat.{_≤_};
 ghost use lib.ListN.{length};
 ghost use Rattle.fields.specs.Outcome.{value};
 ghost use Rattle.language.specs.Language.{Language};
-ghost use Rattle.language.specs.LanguageFile.{languageOf};
 ghost use Rattle.operators.specs.Operators.{languageSum, languageWithout};
-ghost use Rattle.operators.specs.Inner.Values.{Gives, languageBytes};
+ghost use Rattle.operators.specs.Inner.Values.{exactLanguage, Gives, languageBytes};
 use super::limit::limited;
 use fields::outcome::Outcome;
 use fields::outcome::Reason;
@@ -16,8 +15,8 @@ use merging::merge::remove;
 
 // The sum of two languages: 12 where they do not fit, 11 where the union is over 1,024 bytes.
 pub fn sum(a: &[u8], b: &[u8], out: &mut [u8]) -> Outcome
-    requires { ⌜ ((l : Language) × (languageOf (now a) ≡ value l)) × ((m : Language) × (languageOf (now b) ≡ value m)) × (1024 ≤ length (now out)) ⌝ }
-    ensures { λ r. ⌜ ((l m : Language) → languageOf (now (a .entry)) ≡ value l → languageOf (now (b .entry)) ≡ value m
+    requires { ⌜ ((l : Language) × (exactLanguage (now a) ≡ value l)) × ((m : Language) × (exactLanguage (now b) ≡ value m)) × (1024 ≤ length (now out)) ⌝ }
+    ensures { λ r. ⌜ ((l m : Language) → exactLanguage (now (a .entry)) ≡ value l → exactLanguage (now (b .entry)) ≡ value m
         → Gives (languageBytes (languageSum l m)) (now (out .entry)) (now (out .exit)) r) ⌝ }
 {
     if !languages_fit(a, b) {
@@ -28,8 +27,8 @@ pub fn sum(a: &[u8], b: &[u8], out: &mut [u8]) -> Outcome
 
 // The first language without the entries of the second.
 pub fn without(a: &[u8], b: &[u8], out: &mut [u8]) -> Outcome
-    requires { ⌜ ((l : Language) × (languageOf (now a) ≡ value l)) × ((m : Language) × (languageOf (now b) ≡ value m)) × (1024 ≤ length (now out)) ⌝ }
-    ensures { λ r. ⌜ ((l m : Language) → languageOf (now (a .entry)) ≡ value l → languageOf (now (b .entry)) ≡ value m
+    requires { ⌜ ((l : Language) × (exactLanguage (now a) ≡ value l)) × ((m : Language) × (exactLanguage (now b) ≡ value m)) × (1024 ≤ length (now out)) ⌝ }
+    ensures { λ r. ⌜ ((l m : Language) → exactLanguage (now (a .entry)) ≡ value l → exactLanguage (now (b .entry)) ≡ value m
         → Gives (languageBytes (value (languageWithout l m))) (now (out .entry)) (now (out .exit)) r) ⌝ }
 {
     limited(remove(a, b, 0x11, out), 1024)

@@ -7,20 +7,19 @@ ghost use lib.ListN.{length};
 ghost use Rattle.fields.specs.Outcome.{value};
 ghost use Rattle.fields.specs.Keyed.{rising};
 ghost use Rattle.language.specs.Language.{Language};
-ghost use Rattle.language.specs.LanguageFile.{languageOf};
 ghost use Rattle.translation.specs.Translation.{Body, itemKey};
 ghost use Rattle.translation.specs.TranslationFile.{bodyOf};
 ghost use Rattle.translation.specs.WellFormed.{wellFormed};
-ghost use Rattle.operators.specs.Inner.Values.{Gives, translationBytes};
+ghost use Rattle.operators.specs.Inner.Values.{exactLanguage, Gives, translationBytes};
 use super::assemble::assemble;
 use fields::outcome::Outcome;
 use wellformed::check::check_well_formed;
 
 // The translation of these parts: 5 to 7 where it is not well formed, then 11 where it exceeds a limit.
 pub fn make(source: &[u8], target: &[u8], body: &[u8], out: &mut [u8]) -> Outcome
-    requires { ⌜ ((l : Language) × (languageOf (now source) ≡ value l)) × ((m : Language) × (languageOf (now target) ≡ value m))
+    requires { ⌜ ((l : Language) × (exactLanguage (now source) ≡ value l)) × ((m : Language) × (exactLanguage (now target) ≡ value m))
         × ((b : Body) × (bodyOf (now body) ≡ some b) × (rising itemKey b ≡ true)) × (length (now body) ≤ 32768) × (4096 ≤ length (now out)) ⌝ }
-    ensures { λ r. ⌜ ((l m : Language) (b : Body) → languageOf (now (source .entry)) ≡ value l → languageOf (now (target .entry)) ≡ value m
+    ensures { λ r. ⌜ ((l m : Language) (b : Body) → exactLanguage (now (source .entry)) ≡ value l → exactLanguage (now (target .entry)) ≡ value m
         → bodyOf (now (body .entry)) ≡ some b → rising itemKey b ≡ true
         → Gives (translationBytes (wellFormed (record { source = l; target = m; body = b }))) (now (out .entry)) (now (out .exit)) r) ⌝ }
 {

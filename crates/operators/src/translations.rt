@@ -5,11 +5,9 @@ ghost use Prim.Native.Nat.{_≤_};
 ghost use lib.ListN.{length};
 ghost use Rattle.fields.specs.Outcome.{value};
 ghost use Rattle.language.specs.Language.{Language};
-ghost use Rattle.language.specs.LanguageFile.{languageOf};
 ghost use Rattle.translation.specs.Translation.{Translation};
-ghost use Rattle.translation.specs.TranslationFile.{translationOf};
 ghost use Rattle.operators.specs.Operators.{translationsFit, translationUnion, translationSum, translationWithout};
-ghost use Rattle.operators.specs.Inner.Values.{Gives, translationBytes};
+ghost use Rattle.operators.specs.Inner.Values.{exactLanguage, exactTranslation, Gives, translationBytes};
 ghost use Rattle.operators.specs.Inner.EncodedParts.{EncodedParts};
 use super::assemble::assemble;
 use super::keep::keep_parts;
@@ -112,8 +110,8 @@ fn sum_parts(
 
 // The sum of two translations: 12 where they do not fit, 11 where the union exceeds a limit.
 pub fn sum(a: &[u8], b: &[u8], out: &mut [u8]) -> Outcome
-    requires { ⌜ ((f : Translation) × (translationOf (now a) ≡ value f)) × ((g : Translation) × (translationOf (now b) ≡ value g)) × (4096 ≤ length (now out)) ⌝ }
-    ensures { λ r. ⌜ ((f g : Translation) → translationOf (now (a .entry)) ≡ value f → translationOf (now (b .entry)) ≡ value g
+    requires { ⌜ ((f : Translation) × (exactTranslation (now a) ≡ value f)) × ((g : Translation) × (exactTranslation (now b) ≡ value g)) × (4096 ≤ length (now out)) ⌝ }
+    ensures { λ r. ⌜ ((f g : Translation) → exactTranslation (now (a .entry)) ≡ value f → exactTranslation (now (b .entry)) ≡ value g
         → Gives (translationBytes (translationSum f g)) (now (out .entry)) (now (out .exit)) r) ⌝ }
 {
     sum_parts(
@@ -129,8 +127,8 @@ pub fn sum(a: &[u8], b: &[u8], out: &mut [u8]) -> Outcome
 
 // The parts of a translation, its source without a language.
 fn without_parts(source: &[u8], target: &[u8], body: &[u8], b: &[u8], out: &mut [u8]) -> Outcome
-    requires { ⌜ ((f : Translation) × EncodedParts (now source) (now target) (now body) f) × ((m : Language) × (languageOf (now b) ≡ value m)) × (4096 ≤ length (now out)) ⌝ }
-    ensures { λ r. ⌜ ((f : Translation) (m : Language) → EncodedParts (now (source .entry)) (now (target .entry)) (now (body .entry)) f → languageOf (now (b .entry)) ≡ value m
+    requires { ⌜ ((f : Translation) × EncodedParts (now source) (now target) (now body) f) × ((m : Language) × (exactLanguage (now b) ≡ value m)) × (4096 ≤ length (now out)) ⌝ }
+    ensures { λ r. ⌜ ((f : Translation) (m : Language) → EncodedParts (now (source .entry)) (now (target .entry)) (now (body .entry)) f → exactLanguage (now (b .entry)) ≡ value m
         → Gives (translationBytes (value (translationWithout f m))) (now (out .entry)) (now (out .exit)) r) ⌝ }
 {
     let mut rest = [0u8; 1024];
@@ -142,8 +140,8 @@ fn without_parts(source: &[u8], target: &[u8], body: &[u8], b: &[u8], out: &mut 
 
 // A translation without the entries of a language in its source; clauses and mappings no longer in it go.
 pub fn without(a: &[u8], b: &[u8], out: &mut [u8]) -> Outcome
-    requires { ⌜ ((f : Translation) × (translationOf (now a) ≡ value f)) × ((m : Language) × (languageOf (now b) ≡ value m)) × (4096 ≤ length (now out)) ⌝ }
-    ensures { λ r. ⌜ ((f : Translation) (m : Language) → translationOf (now (a .entry)) ≡ value f → languageOf (now (b .entry)) ≡ value m
+    requires { ⌜ ((f : Translation) × (exactTranslation (now a) ≡ value f)) × ((m : Language) × (exactLanguage (now b) ≡ value m)) × (4096 ≤ length (now out)) ⌝ }
+    ensures { λ r. ⌜ ((f : Translation) (m : Language) → exactTranslation (now (a .entry)) ≡ value f → exactLanguage (now (b .entry)) ≡ value m
         → Gives (translationBytes (value (translationWithout f m))) (now (out .entry)) (now (out .exit)) r) ⌝ }
 {
     without_parts(source_of(a), target_of(a), body_of(a), b, out)

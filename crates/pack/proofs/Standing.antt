@@ -1,6 +1,6 @@
 -- Where the parts of an accepted pack stand: a law for each return of the functions on places.
 use Prim.Native.Nat.{ℕ, zero, suc, _+_, _-_, _<_, _≤_}
-use mathlib.Core.Path.{_≡_, refl, sym, ap, _∙_}
+use mathlib.Core.Path.{_≡_, refl, sym, ap, subst, _∙_}
 use mathlib.Core.Bool.{Bool, true, _&&_}
 use mathlib.Core.List.{List, [], _∷_, map}
 use mathlib.Core.Option.{Option, some}
@@ -13,18 +13,19 @@ use Rattle.fields.specs.Lists.{all, keep}
 use Rattle.fields.specs.Fields.{pairAt}
 use Rattle.fields.specs.Keyed.{rising}
 use Rattle.fields.specs.Outcome.{value}
-use Rattle.fields.specs.Inner.Places.{fieldEnd, isWhole, contentsAt, placesIn, placesFrom, places, tagIs, tagsOrdered}
+use Rattle.fields.specs.Inner.Places.{fieldEnd, isWhole, contentsAt, fieldAt, placesIn, placesFrom, places, tagIs, tagsOrdered}
 use Rattle.fields.proofs.Truth.{by-test, false-true, none-some, some-inj, and-both}
 use Rattle.fields.proofs.Lists.{all-true, part-is}
 use Rattle.fields.proofs.Places.{pass-done, pass-next, end-past, in-done, in-next, whole-end}
-use Rattle.fields.proofs.Codec.{each-at}
+use Rattle.fields.proofs.Codec.{Each, each-at, Within, not-over}
+use Rattle.fields.proofs.Split.{fields-at-places}
 use Rattle.language.specs.Language.{Language}
-use Rattle.language.specs.LanguageFile.{entriesOf, languageOf}
-use Rattle.language.proofs.Codec.{GoodLanguage, language-length}
+use Rattle.language.specs.LanguageFile.{entriesOf, languageLimit, languageOf}
+use Rattle.language.proofs.Codec.{GoodLanguage}
 use Rattle.translation.specs.Translation.{Body, itemKey}
 use Rattle.translation.specs.TranslationFile.{bodyOf}
 use Rattle.translation.proofs.Codec.{GoodBody}
-use Rattle.pack.specs.Pack.{Pack, packOf}
+use Rattle.pack.specs.Pack.{Pack, isLanguageTag, packOf}
 use Rattle.pack.specs.Inner.Parts.{languageAt, bodyAt, partWhole, partsOrdered, tagged, StandsAt}
 use Rattle.pack.proofs.PackCodec.{pack-in, pack-good}
 use Rattle.pack.proofs.ByPlace.{part-cases, HoldsParts, holds-parts, wholes}
@@ -101,6 +102,21 @@ mapped-at f [] n b e = none-some e
 mapped-at f (a ∷ l) zero b e = (a, refl, some-inj e)
 mapped-at f (a ∷ l) (suc n) b e = mapped-at f l n b e
 
+-- A field that was kept is within the limit.
+within-kept : (s : List ℕ) (f : ℕ → Bool) (l : List ℕ) (n q : ℕ) → Each (Within isLanguageTag languageLimit) (map (fieldAt s) l)
+    → getElem? (keep f l) n ≡ some q → Within isLanguageTag languageLimit (fieldAt s q)
+unfolding keep
+within-kept s f [] n q w e = none-some e
+within-kept s f (b ∷ l) n q w e =
+    by-test (f b)
+    (λ d. here n (rw d at e) (λ m i. within-kept s f l m q (w .1) i))
+    (λ d. within-kept s f l n q (w .1) (rw d at e))
+  where
+    here : (n : ℕ) → getElem? (b ∷ keep f l) n ≡ some q → ((m : ℕ) → getElem? (keep f l) m ≡ some q → Within isLanguageTag languageLimit (fieldAt s q))
+        → Within isLanguageTag languageLimit (fieldAt s q)
+    here zero i more = subst (λ (x : ℕ). Within isLanguageTag languageLimit (fieldAt s x)) (some-inj i) (w .0)
+    here (suc n) i more = more n i
+
 -- The contents of a whole field, by the place where they stand.
 module _ (s : List ℕ) (q a b : ℕ) (ea : a ≡ q + 3) (eb : b ≡ fieldEnd s q) where
   contents-stand : isWhole s q ≡ true → slice a b s ≡ contentsAt s q
@@ -113,7 +129,7 @@ module _ (s : List ℕ) (q a b : ℕ) (ea : a ≡ q + 3) (eb : b ≡ fieldEnd s 
 -- language_at and body_at
 module _ (s : List ℕ) (number a b : ℕ) (p : Pack) (e : packOf s ≡ value p) where
   pub language-found : StandsAt 0x30 s number a b → (l : Language) → getElem? (p .languages) number ≡ some l → languageOf (slice a b s) ≡ value l
-  unfolding tagged languageOf
+  unfolding tagged languageOf fieldAt
   language-found w l g =
       let h = accepted-parts s p e in
       let (q, d, is) = mapped-at (languageAt s) (tagged 0x30 s) number l (rw (h .languages) g) in
@@ -124,7 +140,8 @@ module _ (s : List ℕ) (number a b : ℕ) (p : Pack) (e : packOf s ≡ value p)
       part-cases s q good (λ t i. language-is s q i) (λ t u i. false-true (sym t ∙ tag)) (λ t u i. false-true (sym t ∙ tag)) in
       let i : entriesOf (slice a b s) ≡ some l = ap entriesOf c ∙ (j ∙ ap some is) in
       let f = each-at GoodLanguage (p .languages) number l (pack-good s p e .0) g in
-      let n : length (slice a b s) ≤ 1024 = omega (arith, f .short, language-length (slice a b s) l i) in
+      let v = not-over isLanguageTag languageLimit s (map (fieldAt s) (places s)) (fields-at-places s ∙ rw (accepted-whole s p e) refl) (pack-in s p e .within) in
+      let n : length (slice a b s) ≤ 1024 = rw c (within-kept s (tagIs 0x30 s) (places s) number q v d tag) in
       rw (le-ltb 1024 (length (slice a b s)) n, i, f .rises, f .apart)
 
   pub body-found : StandsAt 0x31 s number a b → (x : Body) → getElem? (p .bodies) number ≡ some x

@@ -1,6 +1,6 @@
 -- The index that was built is the index of the language: what is looked up through it is what stands in the language.
 use Prim.Native.Nat.{ℕ, zero, suc, _+_, _-_, _<_, _≤_}
-use mathlib.Core.Path.{_≡_, refl, sym, ap, _∙_}
+use mathlib.Core.Path.{_≡_, refl, sym, ap, subst, _∙_}
 use mathlib.Core.List.{List}
 use mathlib.Core.Bool.{true}
 use mathlib.Core.Option.{some}
@@ -17,7 +17,7 @@ use Rattle.fields.proofs.Truth.{by-test}
 use Rattle.fields.proofs.Lists.{all-true, part-next}
 use Rattle.language.specs.Language.{class, Language, rangeAt, rangeOf, argumentsAt, argumentsOf, kindKey, productionKey}
 use Rattle.language.specs.LanguageFile.{isKind, entriesOf}
-use Rattle.language.specs.Inner.Entries.{entryWhole, entryAt, IsClass, IsProduction, Holds}
+use Rattle.language.specs.Inner.Entries.{entryWhole, entryAt, classRange, IsClass, IsProduction, Holds}
 use Rattle.language.proofs.Facts.{entry-facts, class-is, production-is}
 use Rattle.language.proofs.Holds.{holds-entries}
 use Rattle.reader.specs.Inner.Positions.{KindsIn}
@@ -42,10 +42,6 @@ module _ (s : List ℕ) (p : ℕ) where
   pub production-key : IsProduction s p → keyAt 0x11 s p ≡ productionKey (getD s (p + 3) 0) (getD s (p + 4) 0)
   unfolding keyAt pairAt
   production-key w = let d : p + 3 + 1 ≡ p + 4 = omega arith in cc (w .tag)
-
-  class-fits : IsClass s p → p + 8 ≤ length s
-  unfolding fieldEnd
-  class-fits w = let f = w .fits in let n = w .size in omega arith
 
   production-fits : IsProduction s p → p + 5 ≤ length s
   unfolding fieldEnd
@@ -85,12 +81,11 @@ module _ (s index : List ℕ) (bytes : (i : ℕ) → getD s i 0 < 256) (short : 
       let f = found 0x11 (entryWhole s) s j (places s) (held .whole) (rw k at z) in
       (f .0, k ∙ f .1, f .2, f .3)
 
-  class-at : (k : ℕ) → k < 32 → 0 < getD built (kindKey k) 0 → getD built (kindKey k) 0 + 7 ≤ length s
+  class-at : (k : ℕ) → k < 32 → 0 < getD built (kindKey k) 0 → IsClass s (getD built (kindKey k) 0 - 1)
   class-at k h z =
       let f = found-at k (omega arith) z in
-      let i = f .1 in
-      let b = class-fits s (f .0) (of-first 0x11 s (entryWhole s) (IsClass s) (IsProduction s) (groups s) (f .0) (f .3) (rw (f .2) h)) in
-      omega arith
+      let i : f .0 ≡ getD built (kindKey k) 0 - 1 = omega (arith, f .1) in
+      subst (IsClass s) i (of-first 0x11 s (entryWhole s) (IsClass s) (IsProduction s) (groups s) (f .0) (f .3) (rw (f .2) h))
 
   production-at : (k p : ℕ) → k < 32 → p < 256 → 0 < getD built (productionKey k p) 0
       → (q : ℕ) × (getD built (productionKey k p) 0 ≡ q + 1) × IsProduction s q
@@ -119,7 +114,7 @@ module _ (s index : List ℕ) (bytes : (i : ℕ) → getD s i 0 < 256) (short : 
     range = λ k h.
         ap (first (rangeAt k)) (sym (held .entries))
         ∙ (looked-kind 0x11 s (entryWhole s) (IsClass s) (IsProduction s) (groups s) (entryAt s) (rangeAt k) (rangeBefore s) refl
-        (λ p. record { low = pairAt s (p + 4); high = pairAt s (p + 6) }) (λ p. rw add-one refl) k h
+        (classRange s) (λ p. rw add-one refl) k h
         (λ p c. ap (rangeAt k) (class-is s p c)) (λ p c. ap (rangeAt k) (production-is s p c)) (places s) (held .whole)
         ∙ ap (rangeBefore s) (sym (at-key k (omega arith))));
     arguments = λ k p h j.

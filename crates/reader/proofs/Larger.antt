@@ -23,7 +23,7 @@ pub record Larger (l m : Language) : Type 0 where
 
 pub larger : (l m : Language) → Rising entryKey m → ((a : Entry) → Mem a l → Mem a m) → Larger l m
 larger l m rises h = record {
-  classes = λ k c e. (c, mem-range m rises k (c .low) (c .high) (h _ (range-mem l k c e)), within-itself c);
+  classes = λ k c e. (c, mem-range m rises k c (h _ (range-mem l k c e)), within-itself c);
   productions = λ k p ks e. mem-arguments m rises k p ks (h _ (arguments-mem l k p ks e));
 }
 
@@ -33,7 +33,7 @@ apart l e k p ks q = go (rangeOf l k) refl
   where
     go : (o : Option Range) → rangeOf l k ≡ o → o ≡ none
     go none f = refl
-    go (some c) f = absurd (clashes-none l l e k (c .low) (c .high) p ks (range-mem l k c f) (arguments-mem l k p ks q))
+    go (some c) f = absurd (clashes-none l l e k c p ks (range-mem l k c f) (arguments-mem l k p ks q))
 
 module _ {l m : Language} (w : Larger l m) where
   mutual

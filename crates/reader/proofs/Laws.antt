@@ -9,7 +9,8 @@ use lib.Dec.{ltb, leb, eqb}
 use borrow.Author.Tests.{ltb-true, ltb-false, leb-false, eqb-true, eqb-false, lt-ltb, le-ltb, le-leb, lt-leb, eq-eqb, ne-eqb}
 use Rattle.fields.specs.Fields.{pairAt}
 use Rattle.fields.proofs.Truth.{by-test}
-use Rattle.language.specs.Language.{productionKey}
+use Rattle.language.specs.Language.{productionKey, inRange}
+use Rattle.language.specs.Inner.Entries.{classRange, IsClass}
 use Rattle.reader.specs.declared.node.Syntax.{Syntax}
 use Rattle.reader.specs.declared.node.Syntax.the-variants.{Tree, Code}
 use Rattle.reader.specs.declared.node.Read.{Read}
@@ -29,19 +30,15 @@ module _ (s : List ℕ) (place : ℕ) (b : List ℕ) (at : ℕ) where
   unfolding tokenAt
   token-short h i = simp (ne-eqb place 0 h, lt-ltb (length b - at) 2 i)
 
-  module _ {v w : ℕ} (some : place ≡ 0 → ⊥) (there : 2 ≤ length b - at) (ev : v ≡ pairAt b at) where
-    pub token-low : w ≡ pairAt s (place + 3) → v < w → Broken ≡ tokenAt s place b at
+  module _ {v : ℕ} {x : Bool} (some : place ≡ 0 → ⊥) (there : 2 ≤ length b - at) (ev : v ≡ pairAt b at)
+      (ex : x ≡ inRange (classRange s (place - 1)) v) where
+    pub token-out : x ≡ false → Broken ≡ tokenAt s place b at
     unfolding tokenAt
-    token-low e h = cc (ne-eqb place 0 some, le-ltb (length b - at) 2 there, lt-ltb v w h)
+    token-out h = cc (ne-eqb place 0 some, le-ltb (length b - at) 2 there)
 
-    module _ (ew : w ≡ pairAt s (place + 3)) (low : w ≤ v) where
-      pub token-high : {u : ℕ} → u ≡ pairAt s (place + 5) → u < v → Broken ≡ tokenAt s place b at
-      unfolding tokenAt
-      token-high {u} e h = cc (ne-eqb place 0 some, le-ltb (length b - at) 2 there, le-ltb v w low, lt-ltb u v h)
-
-      pub token-good : {u : ℕ} → u ≡ pairAt s (place + 5) → v ≤ u → End (at + 2) ≡ tokenAt s place b at
-      unfolding tokenAt
-      token-good {u} e h = cc (ne-eqb place 0 some, le-ltb (length b - at) 2 there, le-ltb v w low, le-ltb u v h)
+    pub token-good : x ≡ true → End (at + 2) ≡ tokenAt s place b at
+    unfolding tokenAt
+    token-good h = cc (ne-eqb place 0 some, le-ltb (length b - at) 2 there)
 
 -- name
 module _ (s index : List ℕ) (k : ℕ) (b : List ℕ) (at : ℕ) where
@@ -306,7 +303,7 @@ module _ (index s : List ℕ) (z : Sound index s) {j k : ℕ} (ej : j ≡ k) (ki
   in-kinds : j < 32
   in-kinds = omega arith
 
-  pub class-in : {place : ℕ} → place ≡ getD index j 0 → 0 < place → place + 7 ≤ length s
+  pub class-in : {place : ℕ} → place ≡ getD index j 0 → 0 < place → IsClass s (place - 1)
   class-in e h = rw e (z .class j in-kinds (rw e at h))
 
   module _ {p place : ℕ} (byte : p < 256) (e : place ≡ getD index (productionKey j p) 0) (pos : place ≡ 0 → ⊥) where
@@ -321,7 +318,7 @@ module _ (index s : List ℕ) (z : Sound index s) {j k : ℕ} (ej : j ≡ k) (ki
 
 -- The class of a token of a tree stands in the language.
 pub class-at : (x : Syntax) (s index : List ℕ) {place k : ℕ} → Sound index s → k < 32 → place ≡ classPlace x index k → (place ≡ 0 → ⊥)
-    → place + 7 ≤ length s
+    → IsClass s (place - 1)
 class-at x s index {place} {k} z kind e h =
     let w = in-tree x index k (λ q. h (e ∙ q)) in
     let d : place ≡ getD index k 0 = e ∙ w .1 in

@@ -1,6 +1,7 @@
 -- Reading by position, through the index, is the reading of specs/Syntax.antt.
 use Prim.Native.Nat.{ℕ, zero, suc, _+_, _*_, _-_, _<_, _≤_}
 use mathlib.Core.Path.{_≡_, refl, sym, ap, _∙_}
+use mathlib.Core.Bool.{true, false}
 use mathlib.Core.List.{List, [], _∷_}
 use mathlib.Core.Option.{none, some}
 use native.Mathlib.Omega.{arith}
@@ -14,6 +15,7 @@ use Rattle.fields.proofs.Truth.{by-test}
 use Rattle.fields.proofs.Lists.{part-done, part-next}
 use Rattle.fields.proofs.Split.{front}
 use Rattle.language.specs.Language.{Language, Range, inRange, productionKey}
+use Rattle.language.specs.Inner.Entries.{classRange}
 use Rattle.reader.specs.Code.{node, token, cons}
 use Rattle.reader.specs.Code as C
 use Rattle.reader.specs.Typing.{kindAt}
@@ -57,18 +59,13 @@ token-cut c (x ∷ []) h = refl
 token-cut c (x ∷ y ∷ u) h = absurd (omega arith)
 
 module _ (c : Range) (x y v : ℕ) (u : List ℕ) (e : v ≡ x * 256 + y) where
-  token-low : v < c .low → readToken (some c) (x ∷ y ∷ u) ≡ Meant.broken
-  unfolding readToken inRange
-  token-low h = cc (lt-leb (c .low) v h)
+  token-out : inRange c v ≡ false → readToken (some c) (x ∷ y ∷ u) ≡ Meant.broken
+  unfolding readToken
+  token-out h = cc
 
-  module _ (in-low : c .low ≤ v) where
-    token-high : c .high < v → readToken (some c) (x ∷ y ∷ u) ≡ Meant.broken
-    unfolding readToken inRange
-    token-high h = cc (le-leb (c .low) v in-low, lt-leb v (c .high) h)
-
-    token-good : v ≤ c .high → readToken (some c) (x ∷ y ∷ u) ≡ Meant.done (token v) u
-    unfolding readToken inRange
-    token-good h = cc (le-leb (c .low) v in-low, le-leb v (c .high) h)
+  token-good : inRange c v ≡ true → readToken (some c) (x ∷ y ∷ u) ≡ Meant.done (token v) u
+  unfolding readToken
+  token-good h = cc
 
 two : (b : List ℕ) (at : ℕ) → 2 ≤ length b - at → drop at b ≡ getD b at 0 ∷ getD b (at + 1) 0 ∷ drop (at + 2) b
 two b at h =
@@ -82,13 +79,10 @@ module _ (s : List ℕ) (p : ℕ) (b : List ℕ) (at : ℕ) where
   some-place h = omega arith
 
   abbrev range : Range
-  range = record { low = pairAt s (p + 4); high = pairAt s (p + 6) }
+  range = classRange s p
 
-  low : pairAt s (p + 4) ≡ pairAt s (suc p + 3)
-  low = ap (pairAt s) (omega arith)
-
-  high : pairAt s (p + 6) ≡ pairAt s (suc p + 5)
-  high = ap (pairAt s) (omega arith)
+  here : range ≡ classRange s (suc p - 1)
+  here = ap (classRange s) (omega arith)
 
   value : pairAt b at ≡ getD b at 0 * 256 + getD b (at + 1) 0
   unfolding pairAt
@@ -96,19 +90,10 @@ module _ (s : List ℕ) (p : ℕ) (b : List ℕ) (at : ℕ) where
 
   token-in : 2 ≤ length b - at → restAt b (tokenAt s (suc p) b at) ≡ restOf (readToken (some range) (drop at b))
   token-in h =
-      rw (two b at h) (by-test (ltb (pairAt b at) (pairAt s (p + 4)))
-      (λ d.
-      let k : pairAt b at < pairAt s (p + 4) = ltb-true _ _ d in
-      cc (Laws.token-low s (suc p) b at some-place h refl low k, token-low range _ _ _ (drop (at + 2) b) value k))
-      (λ d.
-      let k : pairAt s (p + 4) ≤ pairAt b at = ltb-false _ _ d in
-      by-test (ltb (pairAt s (p + 6)) (pairAt b at))
-      (λ e.
-      let j : pairAt s (p + 6) < pairAt b at = ltb-true _ _ e in
-      cc (Laws.token-high s (suc p) b at some-place h refl low k high j, token-high range _ _ _ (drop (at + 2) b) value k j))
-      (λ e.
-      let j : pairAt b at ≤ pairAt s (p + 6) = ltb-false _ _ e in
-      cc (Laws.token-good s (suc p) b at some-place h refl low k high j, token-good range _ _ _ (drop (at + 2) b) value k j))))
+      let same : inRange range (pairAt b at) ≡ inRange (classRange s (suc p - 1)) (pairAt b at) = ap (λ (c : Range). inRange c (pairAt b at)) here in
+      rw (two b at h) (by-test (inRange range (pairAt b at))
+      (λ d. cc (Laws.token-good s (suc p) b at some-place h refl same d, token-good range _ _ _ (drop (at + 2) b) value d))
+      (λ d. cc (Laws.token-out s (suc p) b at some-place h refl same d, token-out range _ _ _ (drop (at + 2) b) value d)))
 
   token-short : length b - at < 2 → restAt b (tokenAt s (suc p) b at) ≡ restOf (readToken (some range) (drop at b))
   token-short h =

@@ -20,6 +20,7 @@ use Rattle.language.specs.LanguageFile.{isKind, entriesOf}
 use Rattle.language.specs.Inner.Entries.{entryWhole, entryAt, IsClass, IsProduction}
 use Rattle.language.proofs.Facts.{entry-facts, class-is, production-is}
 use Rattle.language.proofs.Holds.{holds-entries}
+use Rattle.language.proofs.Ranges.{class-long}
 use Rattle.reader.specs.Inner.Positions.{mentionsAt}
 
 -- kind_among
@@ -66,7 +67,7 @@ module _ (s : List ℕ) (k p : ℕ) (x : Bool) (inv : any (mentionsAt s k) (plac
     unfolding fieldEnd
     in-fits =
         ⊎-elim
-        (λ w. let f = w .fits in let n = w .size in (omega arith, ee, omega arith))
+        (λ w. let f = w .fits in let n = class-long s p w in (omega arith, ee, omega arith))
         (λ w. let f = w .fits in let n = w .two in (omega arith, ee, omega arith))
         (entry-facts s p (entries .0))
 

@@ -1,11 +1,13 @@
 // What stands at one position: a leaf, or a production whose operands follow.
 use fields::bytes::pair_in;
 use fields::bytes::to_usize;
+use language::range::in_range;
 ghost use mathlib.Core.Path.{_≡_};
-ghost use Prim.Native.Nat.{ℕ, _+_, _<_, _≤_};
+ghost use Prim.Native.Nat.{ℕ, _+_, _-_, _<_, _≤_};
 ghost use mathlib.Core.Bool.{cond};
 ghost use lib.Dec.{eqb};
 ghost use lib.ListN.{length, getD};
+ghost use Rattle.language.specs.Inner.Entries.{IsClass};
 ghost use Rattle.reader.specs.Inner.Positions.{nameLength, productionPlace, tokenAt, nameAt, argumentIs, argumentAt, treeNode, codeNode, nodeAt, pastAt, EndsBy, NodeIn};
 ghost use Rattle.reader.specs.Inner.Index.{Ready, indexLength};
 
@@ -90,7 +92,7 @@ pub fn production_place(
 
 // A token of the class whose field stands before `place`.
 pub fn token(language: &[u8], place: usize, bytes: &[u8], at: usize) -> Read
-    requires { ⌜ (at ≤ length (now bytes)) × (0 < place → place + 7 ≤ length (now language)) ⌝ }
+    requires { ⌜ (at ≤ length (now bytes)) × (0 < place → IsClass (now language) (place - 1)) ⌝ }
     ensures { λ r. ⌜ (r ≡ tokenAt (now (language .entry)) place (now (bytes .entry)) at) × EndsBy (length (now (bytes .entry))) r ⌝ }
 {
     if place == 0 {
@@ -99,11 +101,7 @@ pub fn token(language: &[u8], place: usize, bytes: &[u8], at: usize) -> Read
     if bytes.len() - at < 2 {
         return Read::Broken;
     }
-    let value = pair_in(bytes, at);
-    if value < pair_in(language, place + 3) {
-        return Read::Broken;
-    }
-    if pair_in(language, place + 5) < value {
+    if !in_range(language, place - 1, pair_in(bytes, at)) {
         return Read::Broken;
     }
     Read::End(at + 2)

@@ -17,6 +17,8 @@ use Rattle.fields.specs.declared.copy.Stored.{Stored}
 use Rattle.fields.specs.declared.copy.Stored.the-variants as Storeds
 use Rattle.operators.specs.Inner.Values as Written
 use Rattle.fields.proofs.Splices.{slice-is}
+use Rattle.language.specs.Language.{Language}
+use Rattle.language.specs.LanguageFile.{languageOf}
 use Rattle.fields.specs.Keyed.{rising}
 use Rattle.translation.specs.Translation.{Body, itemKey}
 use Rattle.translation.specs.TranslationFile.{bodyOf}
@@ -35,6 +37,11 @@ use Rattle.signs.specs.Inner.Values.{slotOf, Holds, Held, Saved, HoldsVa
 
 pub value-as : (s t : Sort) (b d : List ℕ) → s ≡ t → b ≡ d → HoldsValue s b → HoldsValue t d
 value-as s t b d e q h = subst (λ (x : Sort). HoldsValue x d) e (subst (λ (l : List ℕ). HoldsValue s l) q h)
+
+-- A language that stands in a part, as the code takes it out.
+pub language-cut : (s : List ℕ) (start end : ℕ) (l : Language) → start ≤ end → end ≤ length s → languageOf (slice start end s) ≡ value l
+    → languageOf (take (end - start) (drop start s)) ≡ value l
+language-cut s start end l h k e = rw (slice-is s start end h k) at e
 
 -- What is copied of a part.
 pub copied-as : (s t : Sort) (b d out filled : List ℕ) (r : Outcome) → s ≡ t → b ≡ d

@@ -48,7 +48,7 @@ pub fn copy(sort: Sort, bytes: &[u8], start: usize, end: usize, out: &mut [u8]) 
     }
 }
 
-// A constant: the language of the pack that the byte behind the sign numbers.
+// A constant: the language of the pack that the byte behind the sign numbers, as a value writes it.
 pub fn constant(pack: &[u8], at: usize, out: &mut [u8]) -> Evaluated
     requires { ⌜ ((p : Pack) × (packOf (now pack) ≡ value p) × ((l : Language) × (getElem? (p .languages) (getD (now pack) (at + 1) 0) ≡ some l)))
         × (at + 2 ≤ length (now pack)) × (4096 ≤ length (now out)) ⌝ }
@@ -56,10 +56,9 @@ pub fn constant(pack: &[u8], at: usize, out: &mut [u8]) -> Evaluated
         → Wrote languages (value l) (now (out .entry)) (now (out .exit)) (at + 2) r) ⌝ }
 {
     let place = language_at(pack, to_usize(byte_at(pack, at + 1)));
-    finish(
-        copy(Sort::Language, pack, place.start, place.end, out),
-        at + 2,
-    )
+    let start = place.start;
+    let end = place.end;
+    finish(operators::canonical::language(&pack[start..end], out), at + 2)
 }
 
 // A variable: the value that is bound to the number behind the sign.

@@ -17,7 +17,7 @@ use Rattle.fields.proofs.Truth.{by-test, none-some, false-true, and-both, both-
 use Rattle.fields.proofs.Codec.{Each, Bytes, contentsOf, Codec, refused-value, cond-some, two-tags, front-two, fields-encode, fields-sound, fields-length, encode-length, Within, not-over, within-over, entries-encode, entries-whole, entries-length, entries-sound}
 use Rattle.language.specs.Language.{Language, entryKey, clashes}
 use Rattle.language.specs.LanguageFile.{isKind, entriesOf, encodeLanguage, languageLimit}
-use Rattle.language.proofs.Codec.{entryWhole, language-encode, language-whole, language-length, language-sound, open-value, open-rest}
+use Rattle.language.proofs.Codec.{entryWhole, language-encode, language-whole, language-length, open-value, open-rest}
 use Rattle.translation.specs.Translation.{Item, mapping, clause, Body, Translation, itemKey}
 use Rattle.translation.specs.TranslationFile.{mappingField, clauseField, itemOf, itemField, grouped, inGroups, itemsIn, bodyIn, bodyOf, parts, partsIn, partsOfFields, partsOf, translationFields, encodeTranslation, translationLimit, isLanguageTag, allRising, translationOf}
 use Rattle.translation.specs.WellFormed.{wellFormed, mappingFits, clausesFit, codesFit}
@@ -102,7 +102,7 @@ item-gives (field tag c) i h b =
 
 -- Items, one to a field.
 pub itemCodec : Codec itemOf itemField itemWhole
-itemCodec = record { reads = item-reads; wholes = item-wholes; sizes = item-sizes; gives = item-gives }
+itemCodec = record { reads = item-reads; wholes = item-wholes; sizes = λ f i h. omega (arith, item-sizes f i h) }
 
 -- Keys that rise keep the mappings in front of the clauses.
 grouped-from : (n : ℕ) (past : Bool) (b : Body) → (past ≡ true → 32 ≤ n) → risingFrom itemKey n b ≡ true → all itemWhole b ≡ true → grouped past b ≡ true
@@ -160,7 +160,7 @@ body-in (some fs) b e = (fs, refl, e)
 
 module _ (s : List ℕ) (b : Body) (e : bodyOf s ≡ some b) where
   -- The fields of this body.
-  body-from : (fs : List Field) × (fieldsOf s ≡ some fs) × (itemsIn fs ≡ some b)
+  pub body-from : (fs : List Field) × (fieldsOf s ≡ some fs) × (itemsIn fs ≡ some b)
   unfolding bodyOf
   body-from = body-in (fieldsOf s) b e
 
@@ -171,18 +171,12 @@ module _ (s : List ℕ) (b : Body) (e : bodyOf s ≡ some b) where
       let w = items-some fs b t in
       (entries-whole itemCodec fs b (w .0), w .1)
 
-  -- They have as many bytes as they are read from.
-  pub body-length : length (encodeFields (map itemField b)) ≡ length s
-  body-length =
-      let (fs, d, t) = body-from in
-      entries-length itemCodec fs b (items-some fs b t .0) ∙ fields-length s fs d
-
   -- Bytes that are read are those that the items are written in.
   pub body-sound : Bytes s → s ≡ encodeFields (map itemField b)
   body-sound h =
       let (fs, d, t) = body-from in
       let w = fields-sound s fs h d in
-      w .0 ∙ ap encodeFields (sym (entries-sound itemCodec fs b (w .1) (items-some fs b t .0)))
+      w .0 ∙ ap encodeFields (sym (entries-sound itemOf itemField item-gives fs b (w .1) (items-some fs b t .0)))
 
 -- A translation that a file can hold, but for the promises of "well formed".
 pub record WholeTranslation (f : Translation) : Type 0 where
@@ -295,8 +289,8 @@ unfolding partsOf
 parts-in s f e = parts-in-option s (fieldsOf s) f refl e
 
 module _ {s : List ℕ} {f : Translation} (p : PartsIn s f) where
-  -- A translation that is read has as many bytes as it is read from.
-  pub translation-length : length (encodeTranslation f) ≡ length s
+  -- A translation that is read has at most as many bytes as it is read from.
+  pub translation-length : length (encodeTranslation f) ≤ length s
   unfolding encodeTranslation translationFields
   translation-length =
       let a = field 0x20 (encodeLanguage (f .source)) in
@@ -313,18 +307,6 @@ module _ {s : List ℕ} {f : Translation} (p : PartsIn s f) where
         language-length (p .sourceBytes) (f .source) (p .source),
         language-length (p .targetBytes) (f .target) (p .target),
         entries-length itemCodec (p .items) (f .body) (items-some (p .items) (f .body) (p .body) .0),
-      )
-
-  -- Bytes that are read are those that the translation is written in.
-  pub translation-sound : Bytes s → s ≡ encodeTranslation f
-  unfolding encodeTranslation translationFields
-  translation-sound h =
-      let (e, (a, (b, fs))) = fields-sound s (field 0x20 (p .sourceBytes) ∷ field 0x21 (p .targetBytes) ∷ p .items) h (p .fields) in
-      cc (
-        e,
-        language-sound (p .sourceBytes) (f .source) (p .source) (a .contents),
-        language-sound (p .targetBytes) (f .target) (p .target) (b .contents),
-        entries-sound itemCodec (p .items) (f .body) fs (items-some (p .items) (f .body) (p .body) .0),
       )
 
   -- No language says that it is over the limit: both are within it.
@@ -382,6 +364,11 @@ translation-parts s f e =
     let z : o .held ≡ f = well-same (o .held) f (o .made) in
     rw (← z) (o .reads)
 
--- The bytes of a translation that a file holds.
-pub translation-bytes : (s : List ℕ) (f : Translation) → Bytes s → translationOf s ≡ value f → s ≡ encodeTranslation f
-translation-bytes s f b e = translation-sound (translation-whole s f e .0) b
+-- The file is within the limit, and says of no language that it is over its own.
+pub translation-within : (s : List ℕ) (f : Translation) → translationOf s ≡ value f
+    → (length s ≤ translationLimit) × (hasOver isLanguageTag languageLimit s ≡ false)
+unfolding translationOf
+translation-within s f e =
+    let o = open-value allRising eitherClashes wellFormed (ltb translationLimit (length s) || hasOver isLanguageTag languageLimit s) (partsOf s) f e in
+    let (long, over) = or-false (ltb translationLimit (length s)) (hasOver isLanguageTag languageLimit s) (o .fits) in
+    (ltb-false translationLimit (length s) long, over)

@@ -1,33 +1,35 @@
 -- The parts of a translation that was accepted: where they are cut out, and what they hold.
 use Prim.Native.Nat.{ℕ, _+_, _<_, _≤_}
 use mathlib.Core.Path.{_≡_, refl, _∙_}
+use mathlib.Core.Bool.{false}
 use mathlib.Core.List.{List}
 use native.Mathlib.Omega.{arith}
 use lib.ListN.{length, drop, length-drop}
 use lib.Seq.{slice}
+use Rattle.fields.specs.Fields.{hasOver}
 use Rattle.fields.specs.Inner.Places.{fieldEnd}
 use Rattle.fields.specs.Outcome.{value}
-use Rattle.language.specs.LanguageFile.{encodeLanguage}
-use Rattle.language.proofs.Codec.{language-length}
+use Rattle.language.specs.LanguageFile.{languageLimit}
 use Rattle.translation.specs.Translation.{Translation}
-use Rattle.translation.specs.TranslationFile.{translationOf}
+use Rattle.translation.specs.TranslationFile.{isLanguageTag, translationOf}
 use Rattle.translation.specs.Inner.Parts.{Parted, sourceIn, targetIn, bodyIn}
 use Rattle.translation.specs.Inner.Pieces.{Pieces}
-use Rattle.translation.proofs.Codec.{translation-parts, translation-whole, translation-length}
+use Rattle.translation.proofs.Codec.{translation-parts, translation-within}
 use Rattle.translation.proofs.Found.{heads-in, parted, cut, cut-is, rest-is}
 
 -- Parts that are within the limits.
 pub parted-pieces : (s : List ℕ) (a b : ℕ) (f : Translation) → Parted s a b f
-    → (length (encodeLanguage (f .source)) ≤ 1024) × (length (encodeLanguage (f .target)) ≤ 1024) → length s ≤ 4096
+    → hasOver isLanguageTag languageLimit s ≡ false → length s ≤ 4096
     → Pieces (slice 3 a s) (slice (a + 3) b s) (drop b s) f
-parted-pieces s a b f w short long =
+parted-pieces s a b f w within long =
+    let short = w .short languageLimit within in
     let last : length (drop b s) ≤ 32768 = simp length-drop (omega arith) in
     record {
       source = w .source;
       target = w .target;
       body = w .body;
-      source-short = omega (arith, short .0, language-length (slice 3 a s) (f .source) (w .source));
-      target-short = omega (arith, short .1, language-length (slice (a + 3) b s) (f .target) (w .target));
+      source-short = short .0;
+      target-short = short .1;
       body-short = last;
     }
 
@@ -58,14 +60,14 @@ module _ (s : List ℕ) (h : (f : Translation) × (translationOf s ≡ value f))
 -- What the three parts of an accepted translation hold.
 module _ (s : List ℕ) (f : Translation) (e : translationOf s ≡ value f) where
   pub accepted-short : length s ≤ 4096
-  accepted-short = let w = translation-whole s f e in omega (arith, w .1 .short, translation-length (w .0))
+  accepted-short = translation-within s f e .0
 
   pub pieces-in : Pieces (sourceIn s) (targetIn s) (bodyIn s) f
   unfolding sourceIn targetIn bodyIn
   pieces-in =
-      let w = translation-whole s f e .1 in
+      let w = translation-within s f e in
       let p = parts-at s (f, e) (fieldEnd s 0) refl (fieldEnd s (fieldEnd s 0)) refl in
-      parted-pieces s (fieldEnd s 0) (fieldEnd s (fieldEnd s 0)) f p (w .source-short, w .target-short) accepted-short
+      parted-pieces s (fieldEnd s 0) (fieldEnd s (fieldEnd s 0)) f p (w .1) (w .0)
 
   pub body-in-short : length (bodyIn s) ≤ 4096
   unfolding bodyIn

@@ -13,7 +13,7 @@ use Rattle.fields.specs.declared.outcome.Reason.the-variants.{WrongMapping, Wro
 use Rattle.fields.proofs.Truth.{Mem, none-some, some-inj, false-true, and-both, same-truth, all-mem, mem-all, some-is, is-some, mem-count, true-not}
 use Rattle.fields.proofs.Keyed.{Rising}
 use Rattle.fields.proofs.Codec.{refused-value}
-use Rattle.language.specs.Language.{Entry, class, production, Language, entryKey, Range, between, rangeWithin, isIn, rangeOf, argumentsOf}
+use Rattle.language.specs.Language.{Entry, class, production, Language, entryKey, Range, rangeWithin, isIn, rangeOf, argumentsOf}
 use Rattle.language.proofs.Lookup.{range-mem, arguments-mem, mem-arguments}
 use Rattle.reader.specs.Code.{Code}
 use Rattle.reader.specs.Syntax.{Read, done, deep, broken, code}
@@ -25,16 +25,16 @@ use Rattle.translation.specs.WellFormed.{kinds, kindsMapped, reachesTarg
 use Rattle.translation.proofs.Lookup.{mapping-mem, clause-mem, mem-mapping, mem-clause}
 use Rattle.translation.proofs.Preserved.{Carries}
 
--- The class of kind k contains the range from a to b.
-abbrev pub Contains : Language → ℕ → ℕ → ℕ → Type 0
-Contains l k a b = (d : Range) × (rangeOf l k ≡ some d) × (rangeWithin (between a b) d ≡ true)
+-- The class of kind k contains the range.
+abbrev pub Contains : Language → ℕ → Range → Type 0
+Contains l k c = (d : Range) × (rangeOf l k ≡ some d) × (rangeWithin c d ≡ true)
 
 pub record Fitting (f : Translation) : Type 0 where
   -- Exactly the kinds in the source are mapped, each to a kind in the target.
   pub maps : (k : ℕ) → isIn (f .source) k ≡ true → (t : ℕ) × Mem (mapping k t) (f .body)
   pub mapsOnly : (s t : ℕ) → Mem (mapping s t) (f .body) → (isIn (f .source) s ≡ true) × (isIn (f .target) t ≡ true)
   -- A source class maps to a target class that contains its range.
-  pub classes : (k a b : ℕ) → Mem (class k a b) (f .source) → Contains (f .target) (mapped (f .body) k) a b
+  pub classes : (k : ℕ) (c : Range) → Mem (class k c) (f .source) → Contains (f .target) (mapped (f .body) k) c
   -- Each source production has a clause, and there is no other.
   pub clauses : (r p : ℕ) (ks : List ℕ) → Mem (production r p ks) (f .source) → (c : List ℕ) × Mem (clause r p c) (f .body)
   pub clausesOnly : (r p : ℕ) (c : List ℕ) → Mem (clause r p c) (f .body) → (ks : List ℕ) × Mem (production r p ks) (f .source)
@@ -99,7 +99,7 @@ module _ (f : Translation) (below : KindsBelow f) (rises : Rising itemKey (f .bo
           sym (mapped-test (g .0) s (below .1 s t m)) ∙ is-some (mappingOf (f .body) s) (mem-mapping (f .body) rises s t m),
           all-mem (reachesTarget f) (f .body) (g .1) (mapping s t) m,
         );
-        classes = λ k a b m. lies-in (between a b) _ (all-mem (classKept f) (f .source) (g .2) (class k a b) m);
+        classes = λ k b m. lies-in b _ (all-mem (classKept f) (f .source) (g .2) (class k b) m);
         clauses = λ r p ks m.
             let q = some-is (clauseOf (f .body) r p) (all-mem (hasClause f) (f .source) (h .0) (production r p ks) m) in
             (q .0, clause-mem (f .body) r p (q .0) (q .1));
@@ -126,12 +126,12 @@ module _ (f : Translation) (below : KindsBelow f) (rises : Rising itemKey (f .bo
 
     kept : (a : Entry) → Mem a (f .source) → classKept f a ≡ true
     unfolding classKept
-    kept (class k a b) m = let d = w .classes k a b m in rw (d .1) (d .2)
+    kept (class k c) m = let d = w .classes k c m in rw (d .1) (d .2)
     kept (production r p ks) m = refl
 
     has-clause : (a : Entry) → Mem a (f .source) → hasClause f a ≡ true
     unfolding hasClause
-    has-clause (class k a b) m = refl
+    has-clause (class k c) m = refl
     has-clause (production r p ks) m =
         let q = w .clauses r p ks m in is-some (clauseOf (f .body) r p) (mem-clause (f .body) rises r p (q .0) (q .1))
 
@@ -195,7 +195,7 @@ fit-carries f rises w = record {
       let a = w .codes k p (c .0) (c .1) in
       let t = read-done code (f .target) (mappedArguments f k p) codeLevels (mapped (f .body) k) (c .0) (a .0) [] (a .1) in
       rw (clause-code f rises k p (c .0) (a .0) (c .1) (a .1), ← mapped-arguments f k p ks e) (t .0);
-  tokens = λ k c e. w .classes k (c .low) (c .high) (range-mem (f .source) k c e);
+  tokens = λ k c e. w .classes k c (range-mem (f .source) k c e);
 }
 
 -- A clause's code is read alike in another translation, with a larger target, that maps the kinds at hand alike.

@@ -16,13 +16,14 @@ use Rattle.fields.proofs.Truth.{by-test, none-some}
 use Rattle.fields.proofs.Lists.{part-is}
 use Rattle.fields.proofs.Places.{end-past, end-whole}
 use Rattle.fields.proofs.Split.{fields-done, fields-next, fields-cut}
+use Rattle.fields.proofs.Codec.{not-over}
 use Rattle.language.specs.Language.{Language}
 use Rattle.language.specs.LanguageFile.{entriesOf}
 use Rattle.translation.specs.Translation.{Body, Translation}
 use Rattle.translation.specs.TranslationFile.{itemsIn, bodyIn, bodyOf, parts, partsIn, partsOfFields, partsOf, isLanguageTag}
 use Rattle.translation.specs.Inner.Parts.{Parted}
 use Rattle.translation.specs.Inner.Pieces.{partEnd}
-use Rattle.translation.proofs.Codec.{parts-some}
+use Rattle.translation.proofs.Codec.{parts-some, body-from}
 
 -- Parts of a list of fields, by its first two.
 one-field : (x : ℕ) (c : List ℕ) (o : Option (List Field)) → eqb x 0x20 ≡ false → partsOfFields (before (some (field x c)) o) ≡ none
@@ -126,18 +127,28 @@ module _ (s : List ℕ) (a : ℕ) (first : PartAt 0x20 s 0 a) where
       (λ w. rw (fields-cut s a i (leb-false _ _ w))))
 
   module _ (b : ℕ) (second : PartAt 0x21 s a b) where
-    -- With both, the parts are what the three hold.
-    pub parts-are : partsOf s ≡ parts (entriesOf (slice 3 a s)) (entriesOf (slice (a + 3) b s)) (bodyOf (drop b s))
-    unfolding partsOf bodyOf fieldAt
-    parts-are =
+    -- The fields of the file: both parts, then those of the rest.
+    fields-are : fieldsOf s ≡ before (some (field 0x20 (slice 3 a s))) (before (some (field 0x21 (slice (a + 3) b s))) (fieldsOf (drop b s)))
+    unfolding fieldAt
+    fields-are =
         let i : a < length s = tag-in s a 0x20 (eqb-true _ _ (second .is-tag)) in
         let n : fieldsOf (drop a s) ≡ before (some (fieldAt s a)) (fieldsOf (drop b s)) = rw (second .end) (fields-next s a i (rw (← second .end) (second .fits))) in
         let c : contentsAt s 0 ≡ slice 3 a s = rw (first .end) (contents-is s 0 (rw (← first .end) (first .fits))) in
         let d : contentsAt s a ≡ slice (a + 3) b s = rw (second .end) (contents-is s a (rw (← second .end) (second .fits))) in
-        ap partsOfFields source-fields
-        ∙ (ap (λ (o : Option (List Field)). partsOfFields (before (some (fieldAt s 0)) o)) n
-        ∙ (both-fields (getD s 0 0) (getD s a 0) (contentsAt s 0) (contentsAt s a) (fieldsOf (drop b s)) (first .is-tag) (second .is-tag)
-        ∙ cc (c, d)))
+        source-fields ∙ cc (n, c, d, eqb-true (getD s 0 0) 0x20 (first .is-tag), eqb-true (getD s a 0) 0x21 (second .is-tag))
+
+    -- With both, the parts are what the three hold.
+    pub parts-are : partsOf s ≡ parts (entriesOf (slice 3 a s)) (entriesOf (slice (a + 3) b s)) (bodyOf (drop b s))
+    unfolding partsOf bodyOf
+    parts-are = ap partsOfFields fields-are ∙ both-fields 0x20 0x21 (slice 3 a s) (slice (a + 3) b s) (fieldsOf (drop b s)) refl refl
+
+    -- No language says that it is over the limit: both parts are within it.
+    both-within : (fs : List Field) → fieldsOf (drop b s) ≡ some fs → (limit : ℕ) → hasOver isLanguageTag limit s ≡ false
+        → (length (slice 3 a s) ≤ limit) × (length (slice (a + 3) b s) ≤ limit)
+    both-within fs e limit h =
+        let z : fieldsOf s ≡ some (field 0x20 (slice 3 a s) ∷ field 0x21 (slice (a + 3) b s) ∷ fs) = fields-are ∙ rw e refl in
+        let (x, (y, r)) = not-over isLanguageTag limit s (field 0x20 (slice 3 a s) ∷ field 0x21 (slice (a + 3) b s) ∷ fs) z h in
+        (x refl, y refl)
 
 -- A translation whose parts are there has a source and a target.
 record Found (s : List ℕ) (a b : ℕ) : Type 0 where
@@ -181,6 +192,7 @@ module _ (s : List ℕ) (a : ℕ) (ea : a ≡ fieldEnd s 0) where
         source = p;
         target = q;
         body = r;
+        short = let g = body-from (drop b s) (f .body) r in both-within s a x b y (g .0) (g .1);
       }
 
 -- over_limit

@@ -6,7 +6,7 @@ use mathlib.Core.Option.{Option, none, some}
 use Rattle.fields.specs.Outcome.{Result, value, refuseIf}
 use Rattle.fields.specs.declared.outcome.Reason.the-variants.{WrongMapping, WrongClauses, IllegalCode}
 use Rattle.fields.specs.Lists.{all, isSome, countUp}
-use Rattle.language.specs.Language.{Entry, class, production, Range, between, rangeWithin, isIn, rangeOf, argumentsOf}
+use Rattle.language.specs.Language.{Entry, class, production, Range, rangeWithin, isIn, rangeOf, argumentsOf}
 use Rattle.translation.specs.Translation.{Translation, Item, mapping, clause, mappingOf, clauseOf, mapped}
 use Rattle.translation.specs.Running.{readClause, wholeCode}
 
@@ -28,9 +28,9 @@ abbrev pub liesIn : Range → Option Range → Bool
 liesIn c none = false
 liesIn c (some d) = rangeWithin c d
 
--- A source class maps to a target class that contains its range (paper 02, 2026-01).
+-- A source class maps to a target class that contains its range (paper 02, 2026-01 and 2026-10).
 unfoldable pub classKept : Translation → Entry → Bool
-classKept f (class k low high) = liesIn (between low high) (rangeOf (f .target) (mapped (f .body) k))
+classKept f (class k c) = liesIn c (rangeOf (f .target) (mapped (f .body) k))
 classKept f (production r p arguments) = true
 
 -- The mapping is as required: 5 where it is not.
@@ -39,7 +39,7 @@ mappingFits f = kindsMapped f && (all (reachesTarget f) (f .body) && all (classK
 
 -- Each source production has exactly one clause, and there is no other. (A second one is out of order.)
 unfoldable pub hasClause : Translation → Entry → Bool
-hasClause f (class k low high) = true
+hasClause f (class k c) = true
 hasClause f (production r p arguments) = isSome (clauseOf (f .body) r p)
 
 -- Each clause has its production in the source.

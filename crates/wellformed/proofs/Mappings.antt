@@ -14,9 +14,9 @@ use Rattle.fields.specs.Fields.{pairAt}
 use Rattle.fields.specs.Inner.Places.{placesFrom, places, tagIs}
 use Rattle.fields.proofs.Lists.{all-stop, all-next, all-true}
 use Rattle.fields.proofs.Truth.{Mem, by-test, count-mem}
-use Rattle.language.specs.Language.{Entry, Language, between, rangeWithin, isIn, rangeOf}
+use Rattle.language.specs.Language.{Entry, Language, rangeWithin, isIn, rangeOf}
 use Rattle.language.specs.LanguageFile.{entriesOf}
-use Rattle.language.specs.Inner.Entries.{entryWhole, entryAt, classRange}
+use Rattle.language.specs.Inner.Entries.{entryWhole, entryAt, classRange, IsClass}
 use Rattle.language.proofs.Facts.{entry-facts, class-is, production-is}
 use Rattle.language.proofs.Holds.{holds-entries}
 use Rattle.reader.specs.Inner.Index.{rangeBefore, Sound}
@@ -104,19 +104,15 @@ module _ (s t it b ib : List ℕ) (p tag : ℕ) (et : tag ≡ getD s p 0) where
   unfolding keptAt
   kept-class h k place ek ep x ex = cc (eq-eqb tag 0x11 h)
 
+  pub kept-whole : entryWhole s p ≡ true → tag ≡ 0x11 → IsClass s p
+  kept-whole w h = ⊎-elim (λ c. c) (λ c. absurd (omega (arith, et, h, c .tag))) (entry-facts s p w)
+
   pub kept-kind : entryWhole s p ≡ true → (k : ℕ) → k ≡ getD s (p + 3) 0 → k < 32
   kept-kind w k e = rw e (⊎-elim (λ c. c .kind) (λ c. c .kind) (entry-facts s p w))
 
--- The place of a class lies in the language.
-pub place-in : (it t : List ℕ) → Sound it t → (k place : ℕ) → k < 32 → place ≡ getD it k 0 → place ≤ length t
-place-in it t z k place h e =
-    by-test (eqb place 0)
-    (λ d. let i : place ≡ 0 = eqb-true _ _ d in omega arith)
-    (λ d.
-    let n : place ≡ 0 → ⊥ = eqb-false _ _ d in
-    let i : 0 < place = omega arith in
-    let j = z .class k h (rw (← e) i) in
-    omega arith)
+-- The place of a class is that of a whole one.
+pub place-in : (it t : List ℕ) → Sound it t → (k place : ℕ) → k < 32 → place ≡ getD it k 0 → 0 < place → IsClass t (place - 1)
+place-in it t z k place h e i = rw e (z .class k h (rw e at i))
 
 -- What the tests say of the translation.
 all-alike : {A : Type 0} (ok f : ℕ → Bool) (at : ℕ → A) (g : A → Bool) → ((p : ℕ) → ok p ≡ true → f p ≡ g (at p))
@@ -169,8 +165,8 @@ module _ (s t it b ib : List ℕ) (f : Translation) (z : Ready s t it b ib f) wh
       (item-facts b p w))
 
   range-same : (p place k : ℕ) → rangeOf (f .target) k ≡ rangeBefore t place
-      → rangeKept s p t place ≡ liesIn (between (pairAt s (p + 4)) (pairAt s (p + 6))) (rangeOf (f .target) k)
-  unfolding rangeKept classRange
+      → rangeKept s p t place ≡ liesIn (classRange s p) (rangeOf (f .target) k)
+  unfolding rangeKept
   range-same p zero k e = rw e
   range-same p (suc q) k e = let z : suc q - 1 ≡ q = omega arith in rw (e, ne-eqb (suc q) 0 (λ h. omega arith), z)
 

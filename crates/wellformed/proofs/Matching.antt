@@ -18,8 +18,8 @@ use Rattle.fields.proofs.Truth.{Mem, by-test, false-true, both-and, same-truth,
 use Rattle.fields.proofs.Lists.{all-true}
 use Rattle.fields.proofs.Keyed.{From, from-weaken, from-mem, is-rising, rising-ext}
 use Rattle.fields.proofs.Places.{places-done, places-next}
-use Rattle.language.specs.Language.{Entry, class, production, entryKey, argumentsOf}
-use Rattle.language.specs.Inner.Entries.{entryWhole, entryAt, IsProduction}
+use Rattle.language.specs.Language.{Range, Entry, class, production, entryKey, argumentsOf}
+use Rattle.language.specs.Inner.Entries.{entryWhole, classRange, entryAt, IsProduction}
 use Rattle.language.proofs.Facts.{production-is, key-is, production-here}
 use Rattle.language.proofs.Holds.{holds-entries}
 use Rattle.language.proofs.Chain.{rising-is}
@@ -164,7 +164,7 @@ same-name s b x y q p w c e =
     (omega (arith, i, x (q + 4), y (p + 4)), omega (arith, i, x (q + 4), y (p + 4)))
 
 -- What was passed over.
-class-at : (s : List ℕ) (q : ℕ) → getD s q 0 ≡ 0x11 → entryAt s q ≡ class (getD s (q + 3) 0) (pairAt s (q + 4)) (pairAt s (q + 6))
+class-at : (s : List ℕ) (q : ℕ) → getD s q 0 ≡ 0x11 → entryAt s q ≡ class (getD s (q + 3) 0) (classRange s q)
 unfolding entryAt
 class-at s q e = cc (eq-eqb _ _ e)
 
@@ -223,7 +223,7 @@ module _ (s t it b ib : List ℕ) (f : Translation) (a c : ℕ) (z : Divided s t
       let r = map-cases (entryAt s) (production k n ks) (places s) (rw (holds-entries s (f .source) (z .ready .source) .entries) m) in
       (r .0, mem-rest 0x11 s a (z .classes) (r .0) (r .1) (λ e. not-class (r .2 ∙ class-at s (r .0) e)), r .2)
     where
-      not-class : {i x y : ℕ} → production k n ks ≡ class i x y → ⊥
+      not-class : {i : ℕ} {x : Range} → production k n ks ≡ class i x → ⊥
       not-class e = let d : _≡_ {A = ℕ} 0 1 = cc in omega arith
 
   clause-at : (k n : ℕ) (v : List ℕ) → Mem (clause k n v) (f .body) → (p : ℕ) × Mem p clauses × (clause k n v ≡ itemAt b p)
@@ -303,7 +303,7 @@ module _ (s t it b ib : List ℕ) (f : Translation) (a c : ℕ) (z : Divided s t
 
       has-clause : (e : Entry) → Mem e (f .source) → hasClause f e ≡ true
       unfolding hasClause
-      has-clause (class k x y) m = refl
+      has-clause (class k c) m = refl
       has-clause (production k n ks) m = let r = production-at k n ks m in ap (hasClause f) (r .2) ∙ clause-of (r .0) (r .1)
 
       has-production : (e : Item) → Mem e (f .body) → hasProduction f e ≡ true

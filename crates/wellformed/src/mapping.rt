@@ -2,11 +2,11 @@
 ghost use mathlib.Core.Path.{_≡_};
 ghost use mathlib.Core.Bool.{true};
 ghost use mathlib.Core.Option.{some};
-ghost use Prim.Native.Nat.{_+_, _<_, _≤_};
+ghost use Prim.Native.Nat.{_+_, _-_, _<_, _≤_};
 ghost use lib.ListN.{length};
 ghost use Rattle.fields.specs.Lists.{all, countUp};
 ghost use Rattle.fields.specs.Inner.Places.{places};
-ghost use Rattle.language.specs.Inner.Entries.{entryWhole};
+ghost use Rattle.language.specs.Inner.Entries.{entryWhole, IsClass};
 ghost use Rattle.reader.specs.Inner.Index.{Sound};
 ghost use Rattle.translation.specs.Translation.{Body, Translation};
 ghost use Rattle.translation.specs.TranslationFile.{bodyOf};
@@ -83,7 +83,7 @@ fn targets_marked(s: &[u8], kinds: &[bool]) -> bool
 
 // The range of the class at p of s lies in that of the class in t before `place`; there is no class at 0.
 fn range_kept(s: &[u8], p: usize, t: &[u8], place: usize) -> bool
-    requires { ⌜ (p ≤ length (now s)) × (place ≤ length (now t)) ⌝ }
+    requires { ⌜ IsClass (now s) p × (0 < place → IsClass (now t) (place - 1)) ⌝ }
     ensures { λ r. ⌜ r ≡ rangeKept (now (s .entry)) p (now (t .entry)) place ⌝ }
 {
     if place == 0 {

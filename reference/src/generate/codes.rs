@@ -3,6 +3,7 @@
 use super::damage::damage_bytes;
 use super::heights::Heights;
 use super::random::Random;
+use super::ranges::{edge_value, legal_value};
 use crate::code::{Symbol, CODE_LEVELS};
 use crate::language::{Class, Language, Production};
 
@@ -155,8 +156,7 @@ impl Coder<'_> {
             }
             5 => match self.class(kind) {
                 Some(class) => {
-                    let value =
-                        random.pick(&[class.low.wrapping_sub(1), class.high.wrapping_add(1)]);
+                    let value = edge_value(random, class);
                     wrong.clear();
                     Symbol::Token(value).put(&mut wrong);
                 }
@@ -170,10 +170,5 @@ impl Coder<'_> {
 
 /// A token of the class, often its lowest or highest.
 fn token(random: &mut Random, class: &Class) -> Symbol {
-    let spread = usize::from(class.high - class.low) + 1;
-    Symbol::Token(match random.below(3) {
-        0 => class.low,
-        1 => class.high,
-        _ => class.low + random.below(spread) as u16,
-    })
+    Symbol::Token(legal_value(random, class))
 }

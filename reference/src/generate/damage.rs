@@ -9,9 +9,9 @@ const CONTAINERS: [u8; 4] = [0x20, 0x21, 0x30, 0x31];
 const TAGS: [u8; 9] = [0x11, 0x12, 0x20, 0x21, 0x22, 0x23, 0x30, 0x31, 0x32];
 
 /// A field taken apart.
-struct Part {
-    tag: u8,
-    contents: Vec<u8>,
+pub struct Part {
+    pub tag: u8,
+    pub contents: Vec<u8>,
 }
 
 /// Damages a file once.
@@ -92,13 +92,13 @@ fn with_wrong_length(random: &mut Random, parts: &[Part], place: usize) -> Vec<u
 }
 
 /// The fields of a file, if all are whole.
-fn take_apart(bytes: &[u8]) -> Option<Vec<Part>> {
+pub fn take_apart(bytes: &[u8]) -> Option<Vec<Part>> {
     let part = |field: Field| Part { tag: field.tag, contents: field.contents.to_vec() };
     Fields::new(bytes).map(|field| field.ok().map(part)).collect()
 }
 
 /// The bytes of the fields.
-fn put_together(parts: &[Part]) -> Vec<u8> {
+pub fn put_together(parts: &[Part]) -> Vec<u8> {
     let mut bytes = Vec::new();
     for part in parts {
         put_header(&mut bytes, part.tag, part.contents.len());

@@ -2,6 +2,8 @@
 
 use super::damage::damage;
 use super::random::Random;
+use super::ranges::step;
+use super::written::{full_with_steps, write_steps};
 use crate::language::{bit, Class, Language, Production, ARGUMENTS, KINDS, LANGUAGE_LIMIT};
 use std::collections::btree_map::{BTreeMap, Entry};
 
@@ -34,7 +36,8 @@ pub fn roles(random: &mut Random) -> Roles {
     Roles { classes, results }
 }
 
-/// A class with ranges that are often narrow or end at the lowest or highest value.
+/// A class with ranges that are often narrow or end at the lowest or highest value, and mostly
+/// step 1.
 fn class(random: &mut Random, kind: u8) -> Class {
     let low = if random.percent(30) { 0 } else { random.bits() as u16 };
     let high = match random.below(4) {
@@ -43,7 +46,7 @@ fn class(random: &mut Random, kind: u8) -> Class {
         2 => low.saturating_add(random.below(300) as u16),
         _ => low.max(random.bits() as u16),
     };
-    Class { kind, low, high }
+    Class { kind, low, high, step: step(random, low, high) }
 }
 
 /// A production name, often a small one or the last.
@@ -151,14 +154,22 @@ fn clash(random: &mut Random, language: &mut Language) {
     language.classes.insert(place, class);
 }
 
+/// A class with low and high about the same, any step, and a length that may be wrong.
+fn edge_class(random: &mut Random, kind: u8) -> Vec<u8> {
+    let low = random.bits() as u16;
+    let high = random.pick(&[low, low, low.wrapping_sub(1), low.wrapping_add(1)]);
+    let step = random.pick(&[0, 1, 1, 2, 9, 256, u16::MAX]);
+    let numbers = [low, high, step, 0].map(u16::to_be_bytes).concat();
+    let length = random.pick(&[5, 5, 5, 4, 6, 7, 7, 7, 7, 8, 9]);
+    let contents = [&[kind], &numbers[..]].concat();
+    [&[0x11, 0, length as u8], &contents[..length]].concat()
+}
+
 /// The bytes of a language with one field out of the common: a limit or one past it.
 fn edge_field(random: &mut Random) -> Vec<u8> {
-    let kind = random.pick(&[0, 31, 32, 255]);
-    let low = random.bits() as u16;
-    let high = random.pick(&[low, low.wrapping_sub(1), low.wrapping_add(1)]);
-    let class_field = [&[0x11, 0, 5, kind], &low.to_be_bytes()[..], &high.to_be_bytes()[..]];
-    if random.percent(40) {
-        return class_field.concat();
+    let kind = random.pick(&[0, 31, 31, 31, 32, 255]);
+    if random.percent(50) {
+        return edge_class(random, kind);
     }
     let count = random.pick(&[0, 1, 8, 9, 10]);
     let length = 2 + count as u8;
@@ -167,20 +178,38 @@ fn edge_field(random: &mut Random) -> Vec<u8> {
     field
 }
 
+/// The bytes of a well-formed language of exactly so many; some steps of 1 may be written.
+pub fn full_language_file(random: &mut Random, bytes: usize) -> Vec<u8> {
+    if random.percent(50) {
+        return encoded(&full_language(random, bytes));
+    }
+    let steps = random.within(1..=3);
+    full_with_steps(random, bytes, steps).1
+}
+
+/// The bytes of a well-formed language; some steps of 1 may be written.
+pub fn written(random: &mut Random, language: &Language) -> Vec<u8> {
+    let mut bytes = encoded(language);
+    if random.percent(30) {
+        write_steps(random, 50, &mut bytes);
+    }
+    bytes
+}
+
 /// The bytes of a language: valid, at a limit, or damaged.
 pub fn language_file(random: &mut Random) -> Vec<u8> {
     match random.below(20) {
-        0 => encoded(&full_language(random, LANGUAGE_LIMIT)),
-        1 => encoded(&full_language(random, LANGUAGE_LIMIT + 1)),
+        0 => full_language_file(random, LANGUAGE_LIMIT),
+        1 => full_language_file(random, LANGUAGE_LIMIT + 1),
         2 => {
-            let mut bytes = encoded(&full_language(random, LANGUAGE_LIMIT));
+            let mut bytes = full_language_file(random, LANGUAGE_LIMIT);
             damage(random, &mut bytes);
             bytes
         }
         3 | 4 => {
             let mut language = language(random);
             clash(random, &mut language);
-            let mut bytes = encoded(&language);
+            let mut bytes = written(random, &language);
             if random.percent(20) {
                 damage(random, &mut bytes);
             }
@@ -188,9 +217,13 @@ pub fn language_file(random: &mut Random) -> Vec<u8> {
         }
         5 | 6 => edge_field(random),
         7 => (0..random.below(12)).map(|_| random.byte()).collect(),
-        8..=13 => encoded(&language(random)),
+        8..=13 => {
+            let language = language(random);
+            written(random, &language)
+        }
         _ => {
-            let mut bytes = encoded(&language(random));
+            let language = language(random);
+            let mut bytes = written(random, &language);
             for _ in 0..random.within(1..=2) {
                 damage(random, &mut bytes);
             }

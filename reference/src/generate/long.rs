@@ -3,7 +3,8 @@
 use super::languages::language;
 use super::lengths::{Bounds, Lengths};
 use super::random::Random;
-use super::translations::{arrangement, endomorphism, translation, RunCase};
+use super::ranges::legal_value;
+use super::translations::{arrangement, endomorphism, translation, translation_bytes, RunCase};
 use crate::code::{symbols, Symbol};
 use crate::language::{Class, Language, ARGUMENTS, KINDS};
 use crate::run::result_length;
@@ -98,7 +99,7 @@ impl<'a> LongGrower<'a> {
     /// Appends a tree of the kind.
     fn grow(&mut self, random: &mut Random, kind: u8, wish: Wish) {
         if let Some(class) = self.classes[kind as usize] {
-            return self.tree.extend_from_slice(&token(random, class).to_be_bytes());
+            return self.tree.extend_from_slice(&legal_value(random, &class).to_be_bytes());
         }
         let (start, level) = (self.tree.len(), self.habit.levels - wish.levels + 1);
         self.levels = self.levels.max(level);
@@ -210,11 +211,6 @@ fn uses(code: &[u8]) -> [u64; ARGUMENTS] {
     uses
 }
 
-/// A value of the class.
-fn token(random: &mut Random, class: Class) -> u16 {
-    class.low + random.below(usize::from(class.high - class.low) + 1) as u16
-}
-
 /// The length of a tree to grow: the shorter the more often, some about once or twice 4,096.
 fn wanted_length(random: &mut Random) -> usize {
     match random.below(8) {
@@ -323,7 +319,8 @@ fn try_long_run_case(random: &mut Random, length: usize) -> Option<LongRunCase> 
         damage_late(random, &mut grower);
     }
     let LongGrower { tree, levels, subtrees, .. } = grower;
-    let case = RunCase { translation: value.encode(), root: u32::from(root), tree, output };
+    let translation = translation_bytes(random, &value);
+    let case = RunCase { translation, root: u32::from(root), tree, output };
     Some(LongRunCase { case, levels, subtrees })
 }
 

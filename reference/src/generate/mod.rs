@@ -12,6 +12,7 @@ mod ranges;
 mod terms;
 mod translations;
 mod trees;
+mod written;
 
 pub use languages::language_file;
 pub use long::{long_run_case, LongRunCase, LONG_TREE};

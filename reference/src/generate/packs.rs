@@ -1,17 +1,19 @@
 //! Packs: ones that reduce, ones that end in each refusal, and damaged ones.
 
 use super::damage::{damage, damage_bytes, damage_fields};
-use super::languages::{encoded, full_language, language};
+use super::languages::{encoded, full_language, full_language_file, language};
 use super::random::Random;
 use super::ranges::{around, inside, related, with_one_range, with_ranges};
 use super::terms::{deepened, Names, TermWriter};
 use super::translations::{
-    chain_code, chain_code_with_end, counting_language, counting_translation, counting_with_tokens,
-    cut_mapping, endomorphism, full_translation, single_translation, translation_file, wrong_body,
+    chain_code, chain_code_with_end, counting_language, counting_translation, counting_with_class,
+    counting_with_tokens, cut_mapping, endomorphism, full_translation, full_translation_into,
+    single_translation, translation_file, wrong_body,
 };
+use super::written::{full_with_steps, write_steps, write_steps_within};
 use crate::body::{Body, Clause};
 use crate::field::{put_header, Fields};
-use crate::language::{Class, Language, Production, KINDS, LANGUAGE_LIMIT};
+use crate::language::{bit, Class, Language, Production, ARGUMENTS, KINDS, LANGUAGE_LIMIT};
 use crate::pack::{BODY_TAG, LANGUAGE_TAG, PACK_LIMIT, TERM_TAG};
 use crate::reduce::{OUTPUT_LEAST, WORKSPACE_LEAST};
 use crate::term::TERM_LEVELS;
@@ -67,6 +69,13 @@ impl Constants {
             put_header(&mut pack, tag, contents.len());
             pack.extend_from_slice(contents);
         }
+        pack
+    }
+
+    /// The pack with a term; some steps of 1 are written.
+    fn pack_with_steps(&self, random: &mut Random, term: &[u8]) -> Vec<u8> {
+        let mut pack = self.pack(term);
+        write_steps_within(random, &mut pack);
         pack
     }
 
@@ -215,6 +224,9 @@ fn full_language_sum(random: &mut Random) -> Vec<u8> {
     }
     let left = constants.language(&left);
     let right = constants.language(&right);
+    if random.percent(50) {
+        constants.languages.iter_mut().for_each(|bytes| write_steps(random, 100, bytes));
+    }
     let empty = constants.language(&Language::default());
     let body = constants.body(empty, empty, &Body::default());
     let from_empty = |target| [0x50, 0x40, empty, 0x40, target, body];
@@ -225,6 +237,43 @@ fn full_language_sum(random: &mut Random) -> Vec<u8> {
         _ => vec![0x52, 0x55, 0x43, 0x40, right, 0x40, left, 0x40, left],
     };
     constants.pack(&term)
+}
+
+/// A constant of exactly 1,024 or 1,025 bytes that is shorter without its steps of 1, alone or in
+/// a sum of about 1,024 bytes.
+fn shorter_constant(random: &mut Random) -> Vec<u8> {
+    let mut constants = Constants::default();
+    let bytes = LANGUAGE_LIMIT + usize::from(random.percent(15));
+    let steps = random.within(3..=6);
+    let (language, file) = full_with_steps(random, bytes, steps);
+    constants.languages.push(file);
+    let room = 2 * steps - 5;
+    let kinds = vec![31; random.within(room - 1..=room + 1).min(ARGUMENTS)];
+    let more = constants.language(&Language {
+        classes: vec![],
+        productions: vec![new_production(random, &language, &kinds)],
+    });
+    let empty = constants.language(&Language::default());
+    let body = constants.body(empty, empty, &Body::default());
+    let from_empty = |target: &[u8]| [&[0x50, 0x40, empty], target, &[body]].concat();
+    constants.pack(&match random.below(5) {
+        0 => from_empty(&[0x40, 0]),
+        1 => vec![0x55, 0x40, 0],
+        2 => [vec![0x53], from_empty(&[0x40, 0]), from_empty(&[0x40, more])].concat(),
+        _ => from_empty(&[0x43, 0x40, 0, 0x40, more]),
+    })
+}
+
+/// A production that fits a language and is not in it.
+fn new_production(random: &mut Random, language: &Language, kinds: &[u8]) -> Production {
+    loop {
+        let production = Production::new(random.below(KINDS) as u8, random.byte(), kinds);
+        let has_class = language.class_kinds() & bit(production.result) != 0;
+        let is_new = |other: &Production| other.key() != production.key();
+        if !has_class && language.productions.iter().all(is_new) {
+            return production;
+        }
+    }
 }
 
 /// Changes a class or production so that the language fits fewer others.
@@ -375,10 +424,11 @@ fn overfull_body(random: &mut Random) -> Vec<u8> {
 fn full_translation_pack(random: &mut Random) -> Vec<u8> {
     let mut constants = Constants::default();
     let bytes = TRANSLATION_LIMIT + random.below(2);
-    let whole = full_translation(random, bytes);
+    let target = if random.percent(50) { counting_language() } else { counting_with_class(random) };
+    let whole = full_translation_into(random, target, bytes);
     if random.percent(40) {
         let term = constants.translation(&whole);
-        return constants.pack(&term);
+        return constants.pack_with_steps(random, &term);
     }
     let (mut left, mut right) = (whole.source.clone(), whole.source.clone());
     let middle = left.productions.len() / 2;
@@ -390,7 +440,7 @@ fn full_translation_pack(random: &mut Random) -> Vec<u8> {
     }
     let left = constants.translation(&left);
     let right = constants.translation(&right);
-    constants.pack(&[&[0x53][..], &left, &right].concat())
+    constants.pack_with_steps(random, &[&[0x53][..], &left, &right].concat())
 }
 
 /// A join whose code has about 16 levels: a chain through a clause that adds levels.
@@ -453,7 +503,7 @@ fn long_join(random: &mut Random) -> Vec<u8> {
         counting_translation([&chain_code(16), &[1, 1, 1, 1, 3, 1], &wide])
     };
     if random.percent(15) {
-        inner.target.classes.push(Class { kind: 9, low: 0, high: 9 });
+        inner.target.classes.push(Class::plain(9, 0, 9));
     }
     let outer = constants.translation(&outer);
     let inner = constants.translation(&inner);
@@ -520,8 +570,8 @@ fn wrong_constants(random: &mut Random) -> Vec<u8> {
     let place = random.below(constants.languages.len());
     let term = [0x55, 0x40, 0];
     match random.below(8) {
-        0 => constants.languages[place] = encoded(&full_language(random, LANGUAGE_LIMIT)),
-        1 => constants.languages[place] = encoded(&full_language(random, LANGUAGE_LIMIT + 1)),
+        0 => constants.languages[place] = full_language_file(random, LANGUAGE_LIMIT),
+        1 => constants.languages[place] = full_language_file(random, LANGUAGE_LIMIT + 1),
         2 | 3 => constants.languages[place] = vec![0x11, 0, 5, 1, 0, 0, 0, 1, 0x12, 0, 2, 1, 0],
         4 => constants.languages[place] = [0x12, 0, 2, 1, 0].repeat(2),
         5 => constants.bodies.push([0x22, 0, 2, 1, 1].repeat(2)),
@@ -564,6 +614,7 @@ fn pack_file(random: &mut Random) -> Vec<u8> {
         24 => sum_with_change(random),
         25 => scoped_pack(random),
         26..=28 => widening_join(random),
+        29 => shorter_constant(random),
         _ => random_pack(random),
     }
 }
@@ -582,7 +633,11 @@ pub fn reduce_case(random: &mut Random) -> ReduceCase {
         2 => OUTPUT_LEAST + random.below(40),
         _ => OUTPUT_LEAST,
     };
-    ReduceCase { pack: pack_file(random), workspace, output }
+    let mut pack = pack_file(random);
+    if pack.len() < PACK_LIMIT && random.percent(15) {
+        write_steps_within(random, &mut pack);
+    }
+    ReduceCase { pack, workspace, output }
 }
 
 /// A pack for the laws: constants and some translation terms over them.
@@ -624,21 +679,47 @@ mod tests {
         source.classes.iter().any(|class| !target.classes.contains(class))
     }
 
-    #[test]
-    fn joins_that_widen_are_accepted_or_refused_by_their_ranges() {
+    /// Reduces packs by a generator and counts the numbers; accepted values are looked at.
+    fn count(
+        cases: usize,
+        pack: fn(&mut Random) -> Vec<u8>,
+        mut look: impl FnMut(Translation),
+    ) -> [usize; 18] {
         let mut random = Random::new(1);
-        let (mut numbers, mut widened) = ([0; 18], 0);
-        for _ in 0..3000 {
+        let mut numbers = [0; 18];
+        for _ in 0..cases {
             let (mut workspace, mut output) = (vec![0; WORKSPACE_LEAST], vec![0; OUTPUT_LEAST]);
-            let outcome = reduce(&widening_join(&mut random), &mut workspace, &mut output);
+            let pack = pack(&mut random);
+            let outcome = reduce(&pack, &mut workspace, &mut output);
             numbers[outcome.number() as usize] += 1;
             if outcome.number() == 0 {
                 let value = read_translation(&output[..outcome.length() as usize]);
-                let value = value.expect("what reduces is well formed");
-                widened += usize::from(differ(&value.source, &value.target));
+                look(value.expect("what reduces is well formed"));
             }
         }
+        numbers
+    }
+
+    #[test]
+    fn joins_that_widen_are_accepted_or_refused_by_their_ranges() {
+        let mut widened = 0;
+        let numbers = count(3000, widening_join, |value| {
+            widened += usize::from(differ(&value.source, &value.target));
+        });
         let refused = [5, 13].map(|number| numbers[number]);
         assert!(widened > 500 && refused.iter().all(|&count| count > 30), "{widened} {numbers:?}");
+    }
+
+    #[test]
+    fn constants_become_shorter_and_sums_fit_only_then() {
+        let (mut shorter, mut full) = (0, 0);
+        let numbers = count(1000, shorter_constant, |value| {
+            let length = value.target.encoded_length();
+            shorter += usize::from(length < LANGUAGE_LIMIT);
+            full += usize::from(length == LANGUAGE_LIMIT);
+        });
+        let refused = [1, 11].map(|number| numbers[number]);
+        assert!(shorter > 100 && full > 100, "{shorter} {full} {numbers:?}");
+        assert!(refused.iter().all(|&count| count > 50), "{numbers:?}");
     }
 }

@@ -3,17 +3,19 @@
 use super::codes::Coder;
 use super::damage::{damage, damage_fields};
 use super::heights::Heights;
-use super::languages::{arguments, full_language, language, name};
+use super::languages::{arguments, encoded, full_language, language, name};
 use super::long::long_run_case;
 use super::random::Random;
-use super::ranges::{inside, outside, related, with_one_range, with_ranges};
+use super::ranges::{inside, outside, related, step, with_one_range, with_ranges};
 use super::trees::{chain_language, chain_tree, root_and_tree};
+use super::written::{write_steps, write_steps_within};
 use crate::body::{Body, Clause, Clauses, Mapping};
 use crate::code::{Symbol, CODE_LEVELS};
+use crate::field::put_header;
 use crate::language::{bit, Class, Language, Production, KINDS, LANGUAGE_LIMIT};
 use crate::operators::identity;
 use crate::run::run;
-use crate::translation::{Translation, TRANSLATION_LIMIT};
+use crate::translation::{Translation, SOURCE_TAG, TARGET_TAG, TRANSLATION_LIMIT};
 use std::collections::BTreeMap;
 
 /// The input of a run.
@@ -224,9 +226,21 @@ pub fn chain_code(levels: usize) -> Vec<u8> {
     code
 }
 
+/// The counting language with a class that no production uses, mostly of step 1.
+pub fn counting_with_class(random: &mut Random) -> Language {
+    let (low, high) = random.pick(&[(0, 9), (5, 5), (0, u16::MAX), (3, 64)]);
+    let step = step(random, low, high);
+    let classes = vec![Class { kind: 9, low, high, step }];
+    Language { classes, ..counting_language() }
+}
+
 /// A well-formed translation of exactly so many bytes, into the counting language.
 pub fn full_translation(random: &mut Random, bytes: usize) -> Translation {
-    let target = counting_language();
+    full_translation_into(random, counting_language(), bytes)
+}
+
+/// The same into the counting language with some more in it.
+pub fn full_translation_into(random: &mut Random, target: Language, bytes: usize) -> Translation {
     let count = random.within(1..=bytes / 60);
     let mut names: Vec<u8> = (0..count).map(|_| random.byte()).collect();
     names.sort_unstable();
@@ -257,6 +271,32 @@ pub fn full_translation(random: &mut Random, bytes: usize) -> Translation {
     let source = Language { classes: vec![], productions };
     let mapping = cut_mapping(&source, |_| 1);
     Translation { source, target, body: Body { mapping, clauses } }
+}
+
+/// The bytes of a translation; some steps of 1 may be written.
+pub fn translation_bytes(random: &mut Random, translation: &Translation) -> Vec<u8> {
+    let mut bytes = translation.encode();
+    if random.percent(20) {
+        write_steps_within(random, &mut bytes);
+    }
+    bytes
+}
+
+/// The bytes of a well-formed translation of exactly so many, with one step of 1 written.
+fn full_translation_with_step(random: &mut Random, bytes: usize) -> Vec<u8> {
+    let mut target = counting_language();
+    target.classes.push(Class::plain(9, 0, 9));
+    let translation = full_translation_into(random, target, bytes - 2);
+    let Translation { source, target, body } = &translation;
+    let (source, mut target) = (encoded(source), encoded(target));
+    write_steps(random, 100, &mut target);
+    let mut file = Vec::new();
+    for (tag, contents) in [(SOURCE_TAG, source), (TARGET_TAG, target)] {
+        put_header(&mut file, tag, contents.len());
+        file.extend(contents);
+    }
+    body.encode(&mut file);
+    file
 }
 
 /// A translation from one language of exactly so many bytes, with the empty one as the other.
@@ -334,7 +374,7 @@ fn wrong_codes(random: &mut Random, translation: &mut Translation) {
 /// The counting language with a class 2 and production 1.3 of one token.
 pub fn counting_with_tokens() -> Language {
     let mut language = counting_language();
-    language.classes.push(Class { kind: 2, low: 5, high: 9 });
+    language.classes.push(Class::plain(2, 5, 9));
     language.productions.push(Production::new(1, 3, &[2]));
     language
 }
@@ -373,7 +413,7 @@ fn clash(random: &mut Random, translation: &mut Translation) {
     let language =
         if random.percent(50) { &mut translation.source } else { &mut translation.target };
     if let Some(production) = language.productions.first() {
-        let class = Class { kind: production.result, low: 0, high: 1 };
+        let class = Class::plain(production.result, 0, 1);
         let place = language.classes.partition_point(|other| other.kind < class.kind);
         language.classes.insert(place, class);
     }
@@ -399,6 +439,9 @@ fn several_wrong(random: &mut Random, translation: &mut Translation) {
 /// The bytes of a translation: valid, at a limit, wrong in one way, or damaged.
 pub fn translation_file(random: &mut Random) -> Vec<u8> {
     let choice = random.below(32);
+    if choice <= 1 && random.percent(30) {
+        return full_translation_with_step(random, TRANSLATION_LIMIT + choice);
+    }
     let mut value = match choice {
         0 => full_translation(random, TRANSLATION_LIMIT),
         1 => full_translation(random, TRANSLATION_LIMIT + 1),
@@ -417,6 +460,9 @@ pub fn translation_file(random: &mut Random) -> Vec<u8> {
         _ => {}
     }
     let mut bytes = value.encode();
+    if choice > 4 && random.percent(20) {
+        write_steps_within(random, &mut bytes);
+    }
     match choice {
         17..=20 => damage_fields(random, &mut bytes),
         21..=23 => damage(random, &mut bytes),
@@ -503,7 +549,7 @@ pub fn run_case(random: &mut Random) -> RunCase {
         }
     };
     let (root, tree) = root_and_tree(random, &value.source);
-    let translation = value.encode();
+    let translation = translation_bytes(random, &value);
     let output = output_length(random, &translation, root, &tree);
     RunCase { translation, root, tree, output }
 }

@@ -2,8 +2,9 @@
 
 use super::damage::damage_bytes;
 use super::heights::Heights;
-use super::languages::{encoded, full_language, language, language_file};
+use super::languages::{encoded, full_language, language, language_file, written};
 use super::random::Random;
+use super::ranges::{edge_value, legal_value};
 use crate::language::{bit, Class, Language, Production, KINDS, LANGUAGE_LIMIT};
 use crate::tree::TREE_LEVELS;
 
@@ -19,7 +20,7 @@ pub struct TreeCase {
 pub struct Grower<'a> {
     language: &'a Language,
     pub heights: Heights,
-    /// Whether tokens may be one past their range.
+    /// Whether tokens may be one past their range or off its steps.
     pub wild: bool,
     /// About how many bytes may still be grown beside what must be there.
     pub budget: usize,
@@ -99,16 +100,12 @@ impl<'a> Grower<'a> {
         *random.pick(&list)
     }
 
-    /// A value of the class, often its lowest or highest; a wild one may be one past it.
+    /// A legal value of the class, often its lowest or highest; a wild one may be one past it.
     fn token(&self, random: &mut Random, class: &Class) -> u16 {
         if self.wild && random.percent(15) {
-            return random.pick(&[class.low.wrapping_sub(1), class.high.wrapping_add(1)]);
+            return edge_value(random, class);
         }
-        match random.below(3) {
-            0 => class.low,
-            1 => class.high,
-            _ => class.low + random.below(usize::from(class.high - class.low) + 1) as u16,
-        }
+        legal_value(random, class)
     }
 }
 
@@ -228,7 +225,7 @@ pub fn chain_language(random: &mut Random) -> (Language, u8) {
         &[gap, token],
     ];
     let productions = (LEAF..).zip(arguments).map(|(name, of)| Production::new(kind, name, of));
-    let classes = vec![Class { kind: token, low: 5, high: 9 }];
+    let classes = vec![Class::plain(token, 5, 9)];
     (Language { classes, productions: productions.collect() }, kind)
 }
 
@@ -285,7 +282,7 @@ pub fn tree_case(random: &mut Random) -> TreeCase {
         _ => language(random),
     };
     let (root, tree) = root_and_tree(random, &language);
-    TreeCase { language: encoded(&language), root, tree }
+    TreeCase { language: written(random, &language), root, tree }
 }
 
 /// A root kind and a tree of a well-formed language, legal but for its height, if there is one.

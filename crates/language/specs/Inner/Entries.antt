@@ -2,26 +2,38 @@
 -- `proofs/Holds.antt` shows that they are the entries of `entriesOf`.
 use Prim.Native.Nat.{ℕ, _+_, _<_, _≤_}
 use mathlib.Core.Path.{_≡_}
-use mathlib.Core.Bool.{Bool, true, false, cond, _&&_}
+use mathlib.Core.Bool.{Bool, true, false, cond, _&&_, _||_}
+use mathlib.Core.Logic.{_⊎_}
 use mathlib.Core.List.{List, [], _∷_, map}
 use lib.ListN.{length, getD, set, replicate}
 use lib.Seq.{slice}
-use lib.Dec.{leb, eqb}
+use lib.Dec.{ltb, leb, eqb}
 use Rattle.fields.specs.Lists.{all, any}
 use Rattle.fields.specs.Fields.{byteAt, pairAt}
 use Rattle.fields.specs.Keyed.{rising}
 use Rattle.fields.specs.Inner.Places.{fieldEnd, isWhole, placesFrom, places, keyAt, tagIs}
-use Rattle.language.specs.Language.{Entry, class, production, Language, Range, between}
+use Rattle.language.specs.Language.{Entry, class, production, Language, Range, range}
 use Rattle.language.specs.LanguageFile.{isKind}
 
 -- The length of the contents of the field at p.
 abbrev pub sizeAt : List ℕ → ℕ → ℕ
 sizeAt s p = pairAt s (p + 1)
 
+-- The step of the class at p: in length 7 it is written, in length 5 it is 1.
+unfoldable pub stepAt : List ℕ → ℕ → ℕ
+stepAt s p = cond (eqb (sizeAt s p) 7) (pairAt s (p + 8)) 1
+
+-- The range of the class at p.
+unfoldable pub classRange : List ℕ → ℕ → Range
+classRange s p = range (pairAt s (p + 4)) (pairAt s (p + 6)) (stepAt s p)
+
+-- The contents of the field at p have the length of a class, and a step that is not 0.
+unfoldable pub stepWhole : List ℕ → ℕ → Bool
+stepWhole s p = (eqb (sizeAt s p) 5 || eqb (sizeAt s p) 7) && ltb 0 (stepAt s p)
+
 -- The contents of the field at p are those of a class.
 unfoldable pub classWhole : List ℕ → ℕ → Bool
-classWhole s p =
-    eqb (sizeAt s p) 5 && (isKind (byteAt s (p + 3)) && leb (pairAt s (p + 4)) (pairAt s (p + 6)))
+classWhole s p = stepWhole s p && (isKind (byteAt s (p + 3)) && leb (pairAt s (p + 4)) (pairAt s (p + 6)))
 
 -- The contents of the field at p are those of a production.
 unfoldable pub productionWhole : List ℕ → ℕ → Bool
@@ -43,20 +55,17 @@ entryWhole s p = isWhole s p && entryGood s p
 unfoldable pub entryAt : List ℕ → ℕ → Entry
 entryAt s p =
     cond (eqb (byteAt s p) 0x11)
-    (class (byteAt s (p + 3)) (pairAt s (p + 4)) (pairAt s (p + 6)))
+    (class (byteAt s (p + 3)) (classRange s p))
     (production (byteAt s (p + 3)) (byteAt s (p + 4)) (slice (p + 5) (fieldEnd s p) s))
-
--- The range of the class at p.
-unfoldable pub classRange : List ℕ → ℕ → Range
-classRange s p = between (pairAt s (p + 4)) (pairAt s (p + 6))
 
 -- The field at p is a whole class.
 pub record IsClass (s : List ℕ) (p : ℕ) : Type 0 where
   pub tag : byteAt s p ≡ 0x11
   pub fits : fieldEnd s p ≤ length s
-  pub size : sizeAt s p ≡ 5
+  pub size : (sizeAt s p ≡ 5) ⊎ (sizeAt s p ≡ 7)
   pub kind : byteAt s (p + 3) < 32
   pub range : pairAt s (p + 4) ≤ pairAt s (p + 6)
+  pub step : 0 < stepAt s p
 
 -- The field at p is a whole production.
 pub record IsProduction (s : List ℕ) (p : ℕ) : Type 0 where

@@ -11,7 +11,7 @@ use Rattle.fields.specs.Lists.{all, concatMap, sameNumbers}
 use Rattle.fields.specs.Keyed.{rising, union, without, within, agree}
 use Rattle.fields.specs.Inner.Places.{fieldEnd, isWhole, longAt, placesFrom, keyAt}
 use Rattle.language.specs.Language.{rangeWithin}
-use Rattle.language.specs.Inner.Entries.{classRange, resultsMeet}
+use Rattle.language.specs.Inner.Entries.{entryWhole, classRange, resultsMeet}
 
 -- A field: its key, and all its bytes.
 pub record Part : Type 0 where
@@ -99,14 +99,14 @@ partWithin a b =
     eqb (a .key) (b .key)
     && cond (ltb (a .key) 32) (rangeWithin (classRange (a .bytes) 0) (classRange (b .bytes) 0)) (sameNumbers (a .bytes) (b .bytes))
 
--- A field whose key is below 32 has the eight bytes of a class.
-unfoldable pub classLong : Part → Bool
-classLong a = leb 32 (a .key) || leb 8 (length (a .bytes))
+-- A field whose key is below 32 is a whole class.
+unfoldable pub classPart : Part → Bool
+classPart a = leb 32 (a .key) || entryWhole (a .bytes) 0
 
 -- The file is the entries of a language, and their keys rise.
 pub record SortedEntries (s : List ℕ) : Type 0 where
   pub sorted : Sorted 0x11 s
-  pub classes : all classLong (parts 0x11 s) ≡ true
+  pub classes : all classPart (parts 0x11 s) ≡ true
 
 -- The list begins with a field to which this one stands by the test.
 abbrev pub leads : (Part → Part → Bool) → Part → List Part → Bool

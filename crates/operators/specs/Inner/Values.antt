@@ -1,16 +1,30 @@
 -- What the operators on bytes give: the bytes of a value at the start of a lent buffer, or why there is none.
 use Prim.Native.Nat.{ℕ, _≤_}
 use mathlib.Core.Path.{_≡_}
+use mathlib.Core.Bool.{not}
 use mathlib.Core.List.{List}
 use lib.ListN.{length, take}
 use Rattle.fields.specs.Outcome.{Result, value, refuseIf, _>>=_, written}
 use Rattle.fields.specs.declared.outcome.Outcome.{Outcome}
-use Rattle.fields.specs.declared.outcome.Reason.the-variants.{ValueTooLarge}
+use Rattle.fields.specs.declared.outcome.Reason.the-variants.{BrokenField, ValueTooLarge}
+use Rattle.fields.specs.Lists.{sameNumbers}
 use Rattle.language.specs.Language.{Language}
-use Rattle.language.specs.LanguageFile.{encodeLanguage}
+use Rattle.language.specs.LanguageFile.{encodeLanguage, languageOf}
 use Rattle.translation.specs.Translation.{Translation}
-use Rattle.translation.specs.TranslationFile.{encodeTranslation}
+use Rattle.translation.specs.TranslationFile.{encodeTranslation, translationOf}
 use Rattle.operators.specs.Limits.{languageExceeds, translationExceeds}
+
+-- The value of bytes that are just those that it is written in. (A file may hold it in others: with a step of 1 written.)
+abbrev pub asWritten : {A : Type 0} → (A → List ℕ) → List ℕ → Result A → Result A
+asWritten encode s r = r >>= λ a. refuseIf (not (sameNumbers s (encode a))) BrokenField (value a)
+
+-- The language whose own bytes these are.
+unfoldable pub exactLanguage : List ℕ → Result Language
+exactLanguage s = asWritten encodeLanguage s (languageOf s)
+
+-- The translation whose own bytes these are.
+unfoldable pub exactTranslation : List ℕ → Result Translation
+exactTranslation s = asWritten encodeTranslation s (translationOf s)
 
 -- The bytes of a language, or 11 where it exceeds a limit.
 abbrev pub languageBytes : Result Language → Result (List ℕ)

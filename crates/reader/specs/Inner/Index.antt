@@ -1,6 +1,6 @@
 -- The index of a language: for the key of an entry the place of its field in the language's bytes, and one more; 0
 -- where there is no such entry. A class of kind k is at k, production r.p at 32 + (r * 256 + p).
-use Prim.Native.Nat.{ℕ, zero, suc, _+_, _<_, _≤_}
+use Prim.Native.Nat.{ℕ, zero, suc, _+_, _-_, _<_, _≤_}
 use mathlib.Core.Path.{_≡_}
 use mathlib.Core.Bool.{cond}
 use mathlib.Core.List.{List, [], _∷_}
@@ -12,6 +12,7 @@ use Rattle.fields.specs.Fields.{pairAt}
 use Rattle.fields.specs.Inner.Places.{fieldEnd, keyAt}
 use Rattle.language.specs.Language.{Language, Range, rangeOf, argumentsOf, kindKey, productionKey}
 use Rattle.language.specs.LanguageFile.{entriesOf}
+use Rattle.language.specs.Inner.Entries.{classRange, IsClass}
 use Rattle.reader.specs.Inner.Positions.{KindsIn}
 
 -- How many numbers an index has: one for each kind, and one for each production.
@@ -25,7 +26,7 @@ tableLength = 25664
 -- The range in the field before `place`.
 abbrev pub rangeBefore : List ℕ → ℕ → Option Range
 rangeBefore s zero = none
-rangeBefore s (suc p) = some (record { low = pairAt s (p + 4); high = pairAt s (p + 6) })
+rangeBefore s (suc p) = some (classRange s p)
 
 -- The argument kinds in the field before `place`.
 abbrev pub argumentsBefore : List ℕ → ℕ → Option (List ℕ)
@@ -45,7 +46,7 @@ putAll first s index (p ∷ l) = putAll first s (putAt index (keyAt first s p) (
 pub record Sound (index s : List ℕ) : Type 0 where
   pub long : indexLength ≤ length index
   pub short : length s ≤ 1024
-  pub class : (k : ℕ) → k < 32 → 0 < getD index (kindKey k) 0 → getD index (kindKey k) 0 + 7 ≤ length s
+  pub class : (k : ℕ) → k < 32 → 0 < getD index (kindKey k) 0 → IsClass s (getD index (kindKey k) 0 - 1)
   pub name : (k p : ℕ) → k < 32 → p < 256 → 0 < getD index (productionKey k p) 0
       → getD index (productionKey k p) 0 + 4 ≤ length s
   pub operands : (k p : ℕ) → k < 32 → p < 256 → 0 < getD index (productionKey k p) 0

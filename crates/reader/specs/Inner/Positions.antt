@@ -5,8 +5,8 @@ use mathlib.Core.List.{List}
 use lib.ListN.{length, getD, drop}
 use lib.Dec.{ltb, leb, eqb}
 use Rattle.fields.specs.Fields.{pairAt}
-use Rattle.language.specs.Language.{productionKey, mentions}
-use Rattle.language.specs.Inner.Entries.{entryAt}
+use Rattle.language.specs.Language.{productionKey, inRange, mentions}
+use Rattle.language.specs.Inner.Entries.{entryAt, classRange}
 use Rattle.reader.specs.Syntax as Meant
 use Rattle.reader.specs.declared.node.Syntax.{Syntax}
 use Rattle.reader.specs.declared.node.Syntax.the-variants.{Tree, Code}
@@ -20,9 +20,7 @@ unfoldable pub tokenAt : List ℕ → ℕ → List ℕ → ℕ → Read
 tokenAt s place b at =
     cond (eqb place 0) Broken
     (cond (ltb (length b - at) 2) Broken
-    (cond (ltb (pairAt b at) (pairAt s (place + 3))) Broken
-    (cond (ltb (pairAt s (place + 5)) (pairAt b at)) Broken
-    (End (at + 2)))))
+    (cond (inRange (classRange s (place - 1)) (pairAt b at)) (End (at + 2)) Broken))
 
 -- The operands of the production whose field stands before `place`; there is no production at 0.
 unfoldable pub operandsAt : List ℕ → ℕ → ℕ → Node

@@ -3,8 +3,9 @@ use Prim.Native.Nat.{ℕ}
 use mathlib.Core.List.{List}
 use Rattle.fields.specs.Outcome.{Result, value, refuseIf, _>>=_}
 use Rattle.fields.specs.declared.outcome.Reason.the-variants.{ValueTooLarge}
-use Rattle.language.specs.LanguageFile.{encodeLanguage, languageOf}
-use Rattle.translation.specs.TranslationFile.{encodeTranslation, translationOf}
+use Rattle.language.specs.LanguageFile.{encodeLanguage}
+use Rattle.translation.specs.TranslationFile.{encodeTranslation}
+use Rattle.operators.specs.Inner.Values.{exactLanguage, exactTranslation}
 use Rattle.operators.specs.Operators.{languageSum, languageWithout, translationSum, translationWithout, translationJoin, identityOf}
 use Rattle.pack.specs.Terms.{Sort, languages, translations, Term, sourceOf, targetOf, identity, join, without, sum}
 use Rattle.signs.specs.declared.sorts.Sort as Told
@@ -25,10 +26,10 @@ abbrev pub encodeAs : (s : Sort) → Value s → List ℕ
 encodeAs languages l = encodeLanguage l
 encodeAs translations f = encodeTranslation f
 
--- The value that bytes hold.
+-- The value whose own bytes these are.
 abbrev pub valueIn : (s : Sort) → List ℕ → Result (Value s)
-valueIn languages b = languageOf b
-valueIn translations b = translationOf b
+valueIn languages b = exactLanguage b
+valueIn translations b = exactTranslation b
 
 -- The bytes of what a sign comes to, or 11 where it exceeds a limit.
 abbrev pub bytesOf : (s : Sort) → Result (Value s) → Result (List ℕ)

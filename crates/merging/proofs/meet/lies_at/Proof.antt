@@ -1,7 +1,7 @@
 use native.Mathlib.Omega.{arith}
 use Rattle.merging.specs.Inner.Parts.{partWithin}
 use Rattle.merging.proofs.Walks.{whole-here, key-here, stands-end}
-use Rattle.merging.proofs.Containing.{lies-other, lies-range, lies-same}
+use Rattle.merging.proofs.Containing.{classes-here, lies-other, lies-range, lies-same}
 use borrow.Author.Needs.{needs}
 use Rattle.merging.proofs.meet.lies_at.Statement.{statement}
 use Rattle.merging.proofs.meet.lies_at.Tie as tie
@@ -21,6 +21,9 @@ whole-key-requires-2 c κs = key-here _ _ (c .before .before .before .before .pr
 returns-2 : tie.Need-returns-2
 returns-2 c = lies-other (c .before .before .before .before .before .before .args .a .now) (c .before .before .before .before .before .before .args .p) (c .before .before .before .before .before .before .args .b .now) (c .before .before .before .before .before .before .args .q) (c .before .before .before .if1 .left) _ _ (c .before .before .whole-key .ensures .0) (c .before .whole-key2 .ensures .0) (c .if2 .taken)
 
+range-within-requires : tie.Need-range-within-requires
+range-within-requires c κs = classes-here (c .before .before .before .before .before .before .before .before .args .a .now) (c .before .before .before .before .before .before .before .before .args .p) (c .before .before .before .before .before .before .before .before .args .b .now) (c .before .before .before .before .before .before .before .before .args .q) (c .before .before .before .before .before .if1 .left) _ _ (c .before .before .before .before .whole-key .ensures .0) (c .before .before .before .whole-key2 .ensures .0) (c .before .before .if2 .left) (omega (arith, c .if3 .taken, c .before .to-usize .ensures .0)) (c .before .before .before .before .before .before .before .before .pre .0) (c .before .before .before .before .before .before .before .before .pre .1) (c .before .before .before .before .before .before .before .before .pre .2) (c .before .before .before .before .before .before .before .before .pre .3)
+
 returns-3 : tie.Need-returns-3
 returns-3 c = lies-range (c .before .before .before .before .before .before .before .before .before .args .a .now) (c .before .before .before .before .before .before .before .before .before .args .p) (c .before .before .before .before .before .before .before .before .before .args .b .now) (c .before .before .before .before .before .before .before .before .before .args .q) (c .before .before .before .before .before .before .if1 .left) _ _ (c .before .before .before .before .before .whole-key .ensures .0) (c .before .before .before .before .whole-key2 .ensures .0) (c .before .before .before .if2 .left) (omega (arith, c .before .if3 .taken, c .before .before .to-usize .ensures .0)) (c .before .before .before .before .before .before .before .before .before .pre .0) (c .before .before .before .before .before .before .before .before .before .pre .1) (c .before .before .before .before .before .before .before .before .before .pre .2) (c .before .before .before .before .before .before .before .before .before .pre .3) _ (c .range-within .ensures)
 
@@ -39,7 +42,7 @@ lies-at-spec =
     whole-key-requires-2
     returns-2
     (λ c κs. search needs)
-    (λ c κs. search needs)
+    range-within-requires
     returns-3
     same-field-requires
     returns-4)

@@ -7,7 +7,7 @@ use Rattle.operators.proofs.copy.language.Statement.{statement}
 use Rattle.operators.proofs.copy.language.Tie as tie
 
 returns : tie.Need-returns
-returns c = λ l e. language-copied _ _ (c .before .before .before .put .kept .1 .1 .1 .0) _ _ l _ (slice-whole (c .before .before .before .before .before .before .before .args .a .now) ∙ language-written _ l e (λ i. omega (arith, c .before .before .before .before .before .before .shared-slice-known .given i))) (c .before .before .before .before .before .before .before .pre .1) (c .before .before .before .put .ensures) (c .limited .ensures)
+returns c = λ l e. language-copied _ _ (c .before .before .before .put .kept .1 .1 .1 .0) _ _ l _ (slice-whole (c .before .before .before .before .before .before .before .args .a .now) ∙ language-written _ l e) (c .before .before .before .before .before .before .before .pre .1) (c .before .before .before .put .ensures) (c .limited .ensures)
 
 pub language-spec : {M : Type 1} → statement M
 language-spec = tie.close (tie.spec (λ c κs. search needs) (λ c κs. search needs) (λ c. search needs) returns)

@@ -1,14 +1,18 @@
 use native.Mathlib.Omega.{arith}
 use Rattle.operators.proofs.Accepted.{source-accepted}
+use Rattle.operators.proofs.Accepted.{accepted-there}
 use borrow.Author.Needs.{needs}
 use Rattle.operators.proofs.copy.source.Statement.{statement}
 use Rattle.operators.proofs.copy.source.Tie as tie
 
 language-requires : tie.Need-language-requires
-language-requires c κs = ((_, source-accepted _ _ (c .before .before .before .before .pre .0 .1) (λ i. omega (arith, c .before .before .before .shared-slice-known .given i)) _ (c .before .source-of .ensures)), c .before .before .before .before .pre .1)
+language-requires c κs = ((_, source-accepted _ _ (c .before .before .before .before .pre .0 .1) _ (c .before .source-of .ensures)), c .before .before .before .before .pre .1)
+
+source-of-requires : tie.Need-source-of-requires
+source-of-requires c κs = accepted-there _ (c .before .before .pre .0)
 
 returns : tie.Need-returns
-returns c = λ f e. c .before .before .language .ensures (f .source) (source-accepted _ f e (λ i. omega (arith, c .before .before .before .before .before .before .shared-slice-known .given i)) _ (c .before .before .before .before .source-of .ensures))
+returns c = λ f e. c .before .before .language .ensures (f .source) (source-accepted _ f e _ (c .before .before .before .before .source-of .ensures))
 
 pub source-spec : {M : Type 1} → statement M
-source-spec = tie.close (tie.spec (λ c κs. search needs) language-requires (λ c. search needs) returns)
+source-spec = tie.close (tie.spec source-of-requires language-requires (λ c. search needs) returns)

@@ -29,7 +29,7 @@ assemble-requires : tie.Need-assemble-requires
 assemble-requires c κs = (language-short _ (c .before .before .before .before .before .before .before .before .before .before .before .before .before .before .before .before .pre .0 .0) (c .before .before .before .before .before .before .before .before .before .before .before .before .before .before .before .before .pre .0 .1), language-short _ (c .before .before .before .before .before .before .before .before .before .before .before .before .before .before .before .before .pre .0 .0) (c .before .before .before .before .before .before .before .before .before .before .before .before .before .before .before .before .pre .0 .1), c .before .before .before .before .before .before .before .before .before .before .before .before .before .before .before .before .pre .1)
 
 returns-3 : tie.Need-returns-3
-returns-3 c = λ l e. identity-given _ l e _ _ _ refl (c .before .before .before .before .before .before .before .before .before .before .before .before .before .before .before .put-kinds .kept .1 .0) _ _ (c .before .before .before .before .before .before .before .before .before .before .before .before .before .before .before .put-kinds .ensures l (language-entries _ l e)) (c .before .before .before .before .before .before .before .before .before .before .before .before .i .given .1) _ (c .before .before .before .before .before .before .before .before .before .put-clauses .ensures) (λ i. omega (arith, c .before .before .before .before .before .before .before .before .before .before .before .before .before .before .before .before .before .before .shared-slice-known .given i)) _ (c .before .before .before .before .before .before .k .given .1) _ _ _ (c .before .before .assemble .ensures)
+returns-3 c = λ l e. identity-given _ l e _ _ _ refl (c .before .before .before .before .before .before .before .before .before .before .before .before .before .before .before .put-kinds .kept .1 .0) _ _ (c .before .before .before .before .before .before .before .before .before .before .before .before .before .before .before .put-kinds .ensures l (language-entries _ l e)) (c .before .before .before .before .before .before .before .before .before .before .before .before .i .given .1) _ (c .before .before .before .before .before .before .before .before .before .put-clauses .ensures) _ (c .before .before .before .before .before .before .k .given .1) _ _ _ (c .before .before .assemble .ensures)
 
 pub identity-spec : {M : Type 1} → statement M
 identity-spec =

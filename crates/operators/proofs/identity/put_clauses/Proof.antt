@@ -1,30 +1,31 @@
 use borrow.Author.Needs.{needs}
 use Prim.Native.Nat.{_-_}
 use lib.ListN.{length}
-use Rattle.operators.proofs.SameItem.{Claused, claused-start, claused-full, claused-next, claused-done, entry-here}
+use Rattle.operators.specs.Inner.SameItems.{clauseItem}
+use Rattle.operators.proofs.Walking.{Walked, walked-start, walked-full, walked-next, walked-done, entry-here}
 use Rattle.operators.proofs.identity.put_clauses.Statement.{statement}
 use Rattle.operators.proofs.identity.put_clauses.Tie as tie
 
 abbrev Inv-loop : tie.InvT-loop
-Inv-loop a out₀ from p₀ n₀ out p n = Claused a out₀ out from p n
+Inv-loop a out₀ from p₀ n₀ out p n = Walked (clauseItem a) a out₀ out from p n
 
 abbrev μ-loop : tie.MeasureT-loop
 μ-loop a out₀ from p₀ n₀ out p n = length a - p
 
 loop-holds : tie.Need-loop-holds Inv-loop μ-loop
-loop-holds c = claused-start _ _ _ (c .before .before .pre .0) (c .before .before .pre .1)
+loop-holds c = walked-start _ _ _ _ (c .before .before .pre .0) (c .before .before .pre .1)
 
 put-clause-requires : tie.Need-put-clause-requires Inv-loop μ-loop
 put-clause-requires c κs = (entry-here _ _ (c .before .before .before .loop .inv .whole) (c .before .before .loop-test .taken), c .before .field-end .ensures, c .before .before .loop-test .taken, c .before .before .before .loop .inv .room)
 
 returns : tie.Need-returns Inv-loop μ-loop
-returns c = claused-full _ _ _ _ _ _ (c .before .before .before .before .before .before .before .before .loop .inv) (c .before .before .before .before .before .before .before .loop-test .taken) _ (c .before .before .before .before .before .before .field-end .ensures .is) _ _ (c .before .before .before .before .put-clause .ensures) (c .enum-told .given .1)
+returns c = walked-full _ _ _ _ _ _ _ (c .before .before .before .before .before .before .before .before .loop .inv) (c .before .before .before .before .before .before .before .loop-test .taken) _ (c .before .before .before .before .before .before .field-end .ensures .is) _ _ (c .before .before .before .before .put-clause .ensures) (c .enum-told .given .1)
 
 loop-again : tie.Need-loop-again Inv-loop μ-loop
-loop-again c = claused-next _ _ _ _ _ _ (c .before .before .before .before .before .before .before .before .before .loop .inv) (c .before .before .before .before .before .before .before .before .loop-test .taken) _ (c .before .before .before .before .before .before .before .field-end .ensures .is) _ _ (c .before .before .before .before .before .put-clause .ensures) _ (c .before .m .given .1) (c .before .before .before .before .before .put-clause .kept .1 .1 .1 .0)
+loop-again c = walked-next _ _ _ _ _ _ _ (c .before .before .before .before .before .before .before .before .before .loop .inv) (c .before .before .before .before .before .before .before .before .loop-test .taken) _ (c .before .before .before .before .before .before .before .field-end .ensures .is) _ _ (c .before .before .before .before .before .put-clause .ensures) _ (c .before .m .given .1) (c .before .before .before .before .before .put-clause .kept .1 .1 .1 .0)
 
 returns-2 : tie.Need-returns-2 Inv-loop μ-loop
-returns-2 c = claused-done _ _ _ _ _ _ (c .before .loop .inv) (c .loop-test .left)
+returns-2 c = walked-done _ _ _ _ _ _ _ (c .before .loop .inv) (c .loop-test .left)
 
 pub put-clauses-spec : {M : Type 1} → statement M
 put-clauses-spec =

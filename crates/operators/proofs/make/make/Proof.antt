@@ -15,7 +15,7 @@ assemble-requires : tie.Need-assemble-requires
 assemble-requires c κs = (language-short _ (c .before .before .before .before .before .before .before .before .pre .0 .0) (c .before .before .before .before .before .before .before .before .pre .0 .1), language-short _ (c .before .before .before .before .before .before .before .before .pre .1 .0) (c .before .before .before .before .before .before .before .before .pre .1 .1), c .before .before .before .before .before .before .before .before .pre .4)
 
 returns-2 : tie.Need-returns-2
-returns-2 c = λ l m b d e f g. make-given _ _ _ l m b d e f _ (c .before .before .before .before .before .before .check-well-formed .ensures _ (made-pieces _ _ _ l m b d e f (c .before .before .before .before .before .before .before .before .before .before .before .pre .3)) (made-rises _ _ _ l m b d e f g)) g (λ i. omega (arith, c .before .before .before .before .before .before .before .before .before .before .shared-slice-known .given i)) (λ i. omega (arith, c .before .before .before .before .before .before .before .before .before .shared-slice-known2 .given i)) (λ i. omega (arith, c .before .before .before .before .before .before .before .before .shared-slice-known3 .given i)) _ (c .before .before .before .before .enum-told .given .1) _ _ _ (c .before .before .assemble .ensures)
+returns-2 c = λ l m b d e f g. make-given _ _ _ l m b d e f _ (c .before .before .before .before .before .before .check-well-formed .ensures _ (made-pieces _ _ _ l m b d e f (c .before .before .before .before .before .before .before .before .before .before .before .pre .3)) (made-rises _ _ _ l m b d e f g)) g (λ i. omega (arith, c .before .before .before .before .before .before .before .before .shared-slice-known3 .given i)) _ (c .before .before .before .before .enum-told .given .1) _ _ _ (c .before .before .assemble .ensures)
 
 pub make-spec : {M : Type 1} → statement M
 make-spec =

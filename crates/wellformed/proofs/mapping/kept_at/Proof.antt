@@ -3,7 +3,7 @@ use mathlib.Core.Path.{_∙_, ap}
 use lib.ListN.{getD}
 use Prim.Native.Nat.{ℕ}
 use Rattle.translation.specs.Inner.ItemIndex.{mappedAt}
-use Rattle.wellformed.proofs.Mappings.{kept-other, kept-class, kept-kind, place-in}
+use Rattle.wellformed.proofs.Mappings.{kept-other, kept-class, kept-kind, kept-whole, place-in}
 use borrow.Author.Needs.{needs}
 use Rattle.wellformed.proofs.mapping.kept_at.Statement.{statement}
 use Rattle.wellformed.proofs.mapping.kept_at.Tie as tie
@@ -22,7 +22,7 @@ target-kind-requires : tie.Need-target-kind-requires
 target-kind-requires c κs = (c .before .before .before .before .before .before .before .before .pre .3, kept-kind _ (c .before .before .before .before .before .before .before .before .args .target .now) (c .before .before .before .before .before .before .before .before .args .targets .now) (c .before .before .before .before .before .before .before .before .args .body .now) (c .before .before .before .before .before .before .before .before .args .items .now) _ _ (c .before .before .byte-at .ensures) (c .before .before .before .before .before .before .before .before .pre .1) _ (c .byte-at2 .ensures))
 
 range-kept-requires : tie.Need-range-kept-requires
-range-kept-requires c κs = (c .before .before .before .before .before .before .before .before .before .before .before .pre .0, place-in _ _ (c .before .before .before .before .before .before .before .before .before .before .before .pre .2) _ _ (c .before .before .target-kind .ensures .1) (c .place-at .ensures ∙ ap (λ (i : ℕ). getD (c .before .before .before .before .before .before .before .before .before .before .before .args .targets .now) i 0) (c .before .to-usize .ensures .0)))
+range-kept-requires c κs = (kept-whole _ (c .before .before .before .before .before .before .before .before .before .before .before .args .target .now) (c .before .before .before .before .before .before .before .before .before .before .before .args .targets .now) (c .before .before .before .before .before .before .before .before .before .before .before .args .body .now) (c .before .before .before .before .before .before .before .before .before .before .before .args .items .now) _ _ (c .before .before .before .before .before .byte-at .ensures) (c .before .before .before .before .before .before .before .before .before .before .before .pre .1) (c .before .before .before .before .if1 .left), place-in _ _ (c .before .before .before .before .before .before .before .before .before .before .before .pre .2) _ _ (c .before .before .target-kind .ensures .1) (c .place-at .ensures ∙ ap (λ (i : ℕ). getD (c .before .before .before .before .before .before .before .before .before .before .before .args .targets .now) i 0) (c .before .to-usize .ensures .0)))
 
 returns-2 : tie.Need-returns-2
 returns-2 c = kept-class _ _ _ _ _ _ _ (c .before .before .before .before .before .before .byte-at .ensures) (c .before .before .before .before .before .if1 .left) _ _ (c .before .before .before .target-kind .ensures .0 ∙ ap (λ (i : ℕ). mappedAt (c .before .before .before .before .before .before .before .before .before .before .before .before .args .body .now) (c .before .before .before .before .before .before .before .before .before .before .before .before .args .items .now) i) (c .before .before .before .before .byte-at2 .ensures)) (c .before .place-at .ensures ∙ ap (λ (i : ℕ). getD (c .before .before .before .before .before .before .before .before .before .before .before .before .args .targets .now) i 0) (c .before .before .to-usize .ensures .0)) _ (c .range-kept .ensures)
