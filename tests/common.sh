@@ -30,10 +30,14 @@ equal() {
     count "$1: $3 in place of $2" $?
 }
 
-# Builds the program that asks the library.
+# Builds the program that asks the library; without it there is nothing to test.
 build_ask() {
     ask=$room/ask
-    gcc -std=c99 -O2 -Wall -Wextra -Wpedantic -Werror -Iinclude tests/ask.c "$library" -o "$ask"
+    if ! gcc -std=c99 -O2 -Wall -Wextra -Wpedantic -Werror -Iinclude tests/ask.c "$library" -o "$ask"; then
+        count 'tests/ask.c can be built' 1
+        finish
+        exit 1
+    fi
 }
 
 # Says how many passed and failed, and gives the status.
