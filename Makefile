@@ -7,11 +7,11 @@ LIBDIR ?= $(PREFIX)/lib
 INCLUDEDIR ?= $(PREFIX)/include
 PKGCONFIGDIR ?= $(LIBDIR)/pkgconfig
 
-# The folder of the archive: an archive that is there already can be named.
+# The folder of the archive. Where it is named, the archive is taken from there as it is.
+BUILT_ARCHIVE := $(if $(ALGEBRA_LIB_DIR),,$(CURDIR)/target/staticlib/libalgebra.a)
 ALGEBRA_LIB_DIR ?= target/staticlib
 export ALGEBRA_LIB_DIR := $(abspath $(ALGEBRA_LIB_DIR))
 ARCHIVE := $(ALGEBRA_LIB_DIR)/libalgebra.a
-BUILT_ARCHIVE := $(CURDIR)/target/staticlib/libalgebra.a
 COMMAND := target/command/release/algebra
 SHARED := target/lib/$(SONAME)
 PROVED := crates.txt $(shell find crates -name '*.rt' -o -name '*.antt')

@@ -3,7 +3,8 @@
 # target/staticlib; the listing program is LISTING, or else target/bin/listing.
 passed=0
 failed=0
-library=${ALGEBRA_LIB_DIR:-$PWD/target/staticlib}/libalgebra.a
+export ALGEBRA_LIB_DIR=${ALGEBRA_LIB_DIR:-$PWD/target/staticlib}
+library=$ALGEBRA_LIB_DIR/libalgebra.a
 listing=${LISTING:-$PWD/target/bin/listing}
 room=$(mktemp -d)
 trap 'rm -rf "$room"' EXIT
