@@ -25,8 +25,6 @@ pub mod examples;
 pub mod files;
 pub mod generate;
 pub mod laws;
-#[cfg(feature = "library")]
-pub mod library;
 pub mod listing;
 pub mod stack;
 
