@@ -207,7 +207,8 @@ pub fn run(
 /// most `limit` bytes. A small tree can have a result that fits no memory.
 ///
 /// A result that does not fit the first output, of about the length of the tree, costs a pass
-/// over the tree for each time that the output is made longer.
+/// over the tree for each time that the output is made longer. Where memory has no room for a
+/// longer output, the answer is 17 too.
 ///
 /// Refusals: 1 to 7, 14 to 17.
 ///
@@ -227,7 +228,7 @@ pub fn run_to_vec(
 ) -> Result<Vec<u8>, Refusal> {
     let mut room = tree.len().max(FIRST_OUTPUT).min(limit);
     loop {
-        let mut output = vec![0; room];
+        let mut output = output_of(room).ok_or(Refusal::OutputTooShort)?;
         match run(translation, root, tree, &mut output) {
             Err(Refusal::OutputTooShort) if room < limit => {
                 room = room.saturating_mul(OUTPUT_GROWTH).min(limit);
@@ -238,4 +239,13 @@ pub fn run_to_vec(
             }
         }
     }
+}
+
+/// An output of so many bytes, if memory has room for it. What is tried is given back first, since
+/// only a whole allocation comes zeroed without being written to.
+fn output_of(bytes: usize) -> Option<Vec<u8>> {
+    let mut attempt = Vec::<u8>::new();
+    attempt.try_reserve_exact(bytes).ok()?;
+    drop(std::hint::black_box(attempt));
+    Some(vec![0; bytes])
 }

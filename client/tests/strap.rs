@@ -41,6 +41,8 @@ fn a_long_result_is_allocated_up_to_the_limit() {
     assert_eq!(run(1 << 20), run(length));
     assert_eq!(run(length - 1), Err(Refusal::OutputTooShort));
     assert_eq!(run(0), Err(Refusal::OutputTooShort));
+    let endless = algebra::run_to_vec(&twice(), 1, &nested(63), usize::MAX);
+    assert_eq!(endless, Err(Refusal::OutputTooShort));
 }
 
 #[test]
