@@ -25,7 +25,8 @@ impl Lines {
 
     /// Adds a title with the number of bytes that it stands for.
     fn title(&mut self, depth: usize, name: &str, bytes: usize) {
-        self.add(depth, &format!("{name}, {bytes} bytes"));
+        let plural = if bytes == 1 { "" } else { "s" };
+        self.add(depth, &format!("{name}, {bytes} byte{plural}"));
     }
 
     /// Adds the entries of a language or a body.

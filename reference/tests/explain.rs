@@ -139,7 +139,7 @@ fn a_body_at_fault_is_shown_with_its_sign() {
     let term = [0x57, 3, 0x50, 0x40, 0, 0x40, 0, 0, 0x51, 3];
     let found = text(explain::reduce(&pack(&[language], &bodies, &term), 65_536, 4096));
     let expected =
-        "where: byte 18 of the pack, sign 50 (translation with body 0), operand 1, body 0\n\
+        "where: byte 16 of the pack, sign 50 (translation with body 0), operand 1, body 0\n\
                     fault: production 1.4 of the source has no clause";
     assert_eq!(found, expected);
 }
@@ -148,6 +148,6 @@ fn a_body_at_fault_is_shown_with_its_sign() {
 fn a_length_that_passes_the_end_is_shown_at_the_length() {
     let file = [&field(0x11, &[2, 0, 1, 0, 9])[..], &[0x12, 0, 4, 1, 2, 1]].concat();
     let expected = "where: byte 9 of the language\n\
-                    fault: field 12 states 4 bytes, and 3 are left";
+                    fault: field 12 states the length 4, and 3 is left";
     assert_eq!(text(explain::language(&file)), expected);
 }

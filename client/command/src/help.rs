@@ -40,15 +40,15 @@ fn synopsis(verb: Verb) -> &'static str {
 /// What a verb does, in a line.
 fn summary(verb: Verb) -> &'static str {
     match verb {
-        Verb::CheckLanguage => "check a language",
-        Verb::CheckTranslation => "check a translation",
-        Verb::CheckTree => "check a tree of a root kind",
-        Verb::Reduce => "reduce a pack to one translation",
-        Verb::Run => "run a translation, or what a pack reduces to, on a tree",
-        Verb::List => "list the clauses of what a pack reduces to",
-        Verb::Show => "show a language, a translation, a pack or a tree in words",
-        Verb::Explain => "tell where the fault is that an operation refuses",
-        Verb::Steps => "show a join's runs in turn beside the run of the join",
+        Verb::CheckLanguage => "Check a language",
+        Verb::CheckTranslation => "Check a translation",
+        Verb::CheckTree => "Check a tree of a root kind",
+        Verb::Reduce => "Reduce a pack to one translation",
+        Verb::Run => "Run a translation, or what a pack reduces to, on a tree",
+        Verb::List => "List the clauses of what a pack reduces to",
+        Verb::Show => "Show a language, a translation, a pack or a tree in words",
+        Verb::Explain => "Tell where the fault is that an operation refuses",
+        Verb::Steps => "Show a join's runs in turn beside the run of the join",
     }
 }
 

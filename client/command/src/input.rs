@@ -60,8 +60,10 @@ impl Text {
                 self.half = None;
                 Ok(Some(16 * half + digit))
             }
-            (None, Some(_)) => Err(format!("line {line}: a digit stands alone")),
-            (None, None) => {
+            (None, Some(_)) if b" \t\r\n#".contains(&character) => {
+                Err(format!("line {line}: a digit stands alone"))
+            }
+            (None, _) => {
                 let character = character.escape_ascii();
                 Err(format!("line {line}: '{character}' is no hexadecimal digit"))
             }
@@ -169,6 +171,8 @@ mod tests {
     fn wrong_text_is_told_with_its_line() {
         assert_eq!(hexadecimal(b"00\n0 0"), Err("line 2: a digit stands alone".to_string()));
         assert_eq!(hexadecimal(b"00\n0"), Err("line 2: a digit stands alone".to_string()));
+        assert_eq!(hexadecimal(b"0#"), Err("line 1: a digit stands alone".to_string()));
+        assert_eq!(hexadecimal(b"0g"), Err("line 1: 'g' is no hexadecimal digit".to_string()));
         assert_eq!(hexadecimal(b"\n\nx"), Err("line 3: 'x' is no hexadecimal digit".to_string()));
         assert_eq!(
             hexadecimal(b"\xff"),

@@ -118,7 +118,7 @@ fn run(translation: &[u8], start: &Rooted, limit: usize) -> Result<Rooted, Refus
 /// The line that shows a tree: the one place that decides in which format it is shown.
 fn tree_line(name: &str, rooted: &Rooted) -> String {
     let Rooted { kind, tree } = rooted;
-    format!("{name}, kind {kind}, {} bytes: {}\n", tree.len(), digits(tree))
+    format!("{name}, kind {kind}, length {}: {}\n", tree.len(), digits(tree))
 }
 
 #[cfg(test)]

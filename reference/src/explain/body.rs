@@ -64,13 +64,19 @@ impl<'a> Between<'a> {
         spot.map(|spot| spot.contents[1])
     }
 
+    /// Where a field that is missing would stand.
+    fn place_of(&self, key: (u8, u16)) -> usize {
+        let mut behind = self.mappings.iter().chain(&self.clauses).filter(|spot| spot.key() > key);
+        behind.next().map_or(self.piece.end(), |spot| spot.at)
+    }
+
     /// Refuses a kind of the source that is not mapped.
     fn check_mapped(&self) -> Result<(), Fault> {
         let kinds = (0..KINDS as u8).filter(|&kind| self.source.kinds() & bit(kind) != 0);
         let missing = kinds.into_iter().find(|&kind| self.mapped(kind).is_none());
         missing.map_or(Ok(()), |kind| {
             let what = format!("kind {kind} is in the source and is not mapped");
-            Err(self.piece.fault_somewhere(Refusal::Mapping, what))
+            Err(self.piece.fault(Refusal::Mapping, self.place_of((0x22, u16::from(kind))), what))
         })
     }
 
@@ -109,7 +115,8 @@ impl<'a> Between<'a> {
             self.source.productions.iter().find(|production| !has_clause(production.key()));
         if let Some(production) = missing {
             let what = format!("production {} of the source has no clause", production.title());
-            return Err(self.piece.fault_somewhere(Refusal::Clauses, what));
+            let place = self.place_of((0x23, production.key()));
+            return Err(self.piece.fault(Refusal::Clauses, place, what));
         }
         let extra = self.clauses.iter().find(|spot| !has_production(spot.key().1));
         extra.map_or(Ok(()), |spot| {

@@ -24,7 +24,7 @@ pub fn code_fault(
     let mut reader = Reader { target, arguments, code, at: 0 };
     reader.read(kind, CODE_LEVELS).err().or_else(|| {
         let left = code.len() - reader.at;
-        (left > 0).then(|| (reader.at, format!("{left} bytes are left behind the code")))
+        (left > 0).then(|| (reader.at, format!("more bytes follow the code: {left}")))
     })
 }
 

@@ -32,7 +32,7 @@ fn check_room(workspace: usize, output: usize) -> Result<(), Fault> {
     let rooms = [("workspace", workspace, WORKSPACE_LEAST), ("output", output, OUTPUT_LEAST)];
     let short = rooms.into_iter().find(|(_, room, least)| room < least);
     short.map_or(Ok(()), |(name, room, least)| {
-        let what = format!("it has {room} bytes, and {least} are needed");
+        let what = format!("its length is {room}, and {least} is needed");
         Err(Piece::whole(name, &[]).fault_somewhere(Refusal::Room, what))
     })
 }

@@ -107,7 +107,7 @@ impl<'a> Piece<'a> {
         while let Some(&[tag, high, low]) = self.bytes.get(at..at + HEADER) {
             let length = usize::from(two_bytes(high, low));
             if tags.contains(&tag) && length > limit {
-                let what = format!("field {tag:02X} states {length} bytes, more than {limit}");
+                let what = format!("field {tag:02X} states the length {length}, more than {limit}");
                 return Err(self.fault(Refusal::TooLong, self.base + at, what));
             }
             at += HEADER + length;
@@ -138,7 +138,7 @@ impl<'a> Piece<'a> {
     fn spot(&self, offset: usize) -> Result<Spot<'a>, Fault> {
         let (at, rest) = (self.base + offset, &self.bytes[offset..]);
         let &[tag, high, low, ref behind @ ..] = rest else {
-            let what = format!("a field starts with {HEADER} bytes, and {} are left", rest.len());
+            let what = format!("a field starts with {HEADER} bytes, and fewer are left");
             return Err(self.fault(Refusal::Broken, at, what));
         };
         let length = usize::from(two_bytes(high, low));
@@ -146,7 +146,8 @@ impl<'a> Piece<'a> {
             Some(contents) => Ok(Spot { at, tag, contents }),
             None => {
                 let left = behind.len();
-                let what = format!("field {tag:02X} states {length} bytes, and {left} are left");
+                let what =
+                    format!("field {tag:02X} states the length {length}, and {left} is left");
                 Err(self.fault(Refusal::Broken, at + 1, what))
             }
         }

@@ -111,7 +111,7 @@ pub(crate) fn read_term(piece: &Piece, languages: usize, bodies: usize) -> Resul
     let left = piece.bytes.len() - reader.offset;
     match left {
         0 => Ok(sign),
-        _ => Err(reader.fault(format!("{left} bytes are left behind the term"))),
+        _ => Err(reader.fault(format!("more bytes follow the term: {left}"))),
     }
 }
 

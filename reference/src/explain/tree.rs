@@ -35,7 +35,7 @@ pub fn check_run(bytes: &[u8], root: u32, tree: &[u8], output: usize) -> Result<
     match result_length(&translation, root, tree) {
         Some(length) if length > output as u64 => {
             let more = if length == u64::MAX { " or more" } else { "" };
-            let what = format!("it has {output} bytes, and the result {length}{more}");
+            let what = format!("its length is {output}, and that of the result {length}{more}");
             Err(Piece::whole("output", &[]).fault_somewhere(Refusal::Output, what))
         }
         _ => Ok(()),
@@ -54,7 +54,7 @@ fn check_rooted(language: &Language, name: &str, root: u32, tree: &[u8]) -> Resu
     reader.read(kind, TREE_LEVELS)?;
     let left = tree.len() - reader.at;
     if left > 0 {
-        let what = format!("{left} bytes are left behind the tree");
+        let what = format!("more bytes follow the tree: {left}");
         return Err(reader.piece.fault(Refusal::Tree, reader.at, what));
     }
     Ok(kind)

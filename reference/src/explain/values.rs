@@ -122,8 +122,7 @@ impl<'a> Node<'a> {
             if let (Ok(source), Ok(target)) = values {
                 let between = Between::new(&source, &target, &parts.bodies[*body]);
                 if let Err(fault) = between.check() {
-                    let within = [self.place(), fault.within].concat();
-                    return Fault { byte: fault.byte.or(Some(self.sign.at)), within, ..fault };
+                    return Fault { within: [self.place(), fault.within].concat(), ..fault };
                 }
             }
         }
