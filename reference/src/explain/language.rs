@@ -1,0 +1,103 @@
+//! Faults of languages.
+
+use super::{Fault, Piece, Spot};
+use crate::field::two_bytes;
+use crate::language::{bit, Language, ARGUMENTS, KINDS, LANGUAGE_LIMIT};
+use crate::outcome::Refusal;
+
+/// Where a fault stands in a field, counted from its tag, and what it is.
+type Local = (usize, String);
+
+/// Looks for any fault.
+pub fn check(piece: &Piece) -> Result<(), Fault> {
+    piece.limit(LANGUAGE_LIMIT)?;
+    check_fields(piece)?;
+    piece.check_order()?;
+    check_clash(piece)
+}
+
+/// Looks for a broken field.
+pub fn check_fields(piece: &Piece) -> Result<(), Fault> {
+    piece.walk().try_for_each(|spot| language_entry(piece, &spot?))
+}
+
+/// Refuses a field that is neither a class nor a production.
+pub(crate) fn language_entry(piece: &Piece, spot: &Spot) -> Result<(), Fault> {
+    let local = match spot.tag {
+        0x11 => class_fault(spot.contents),
+        0x12 => production_fault(spot.contents),
+        tag => Some((0, format!("a language has fields 11 and 12, and this is {tag:02X}"))),
+    };
+    local.map_or(Ok(()), |(offset, what)| Err(piece.fault(Refusal::Broken, spot.at + offset, what)))
+}
+
+/// What is wrong with the contents of a field 11.
+fn class_fault(contents: &[u8]) -> Option<Local> {
+    let length = contents.len();
+    let [kind, low_high, low_low, high_high, high_low, ref step @ ..] = *contents else {
+        return Some((1, format!("a token class has length 5 or 7, not {length}")));
+    };
+    let (low, high) = (two_bytes(low_high, low_low), two_bytes(high_high, high_low));
+    match step {
+        [] | [_, _] => (),
+        _ => return Some((1, format!("a token class has length 5 or 7, not {length}"))),
+    }
+    kind_fault(3, kind)
+        .or((low > high)
+            .then(|| (4, format!("the lowest value {low} is above the highest {high}"))))
+        .or((*step == [0, 0]).then(|| (8, "the step is 0".to_string())))
+}
+
+/// What is wrong with the contents of a field 12.
+fn production_fault(contents: &[u8]) -> Option<Local> {
+    let (least, most) = (2, 2 + ARGUMENTS);
+    let [result, _, arguments @ ..] = contents else {
+        return Some((
+            1,
+            format!("a production has length {least} to {most}, not {}", contents.len()),
+        ));
+    };
+    if arguments.len() > ARGUMENTS {
+        return Some((
+            1,
+            format!("a production has length {least} to {most}, not {}", contents.len()),
+        ));
+    }
+    let arguments = arguments.iter().enumerate();
+    let argument = |(place, &kind): (usize, &u8)| kind_fault(5 + place, kind);
+    kind_fault(3, *result).or_else(|| arguments.into_iter().find_map(argument))
+}
+
+/// What is wrong with a kind at a place of a field.
+pub fn kind_fault(place: usize, kind: u8) -> Option<Local> {
+    (usize::from(kind) >= KINDS).then(|| (place, format!("kind {kind} is above {}", KINDS - 1)))
+}
+
+/// Refuses a kind that is both a class and a result.
+pub fn check_clash(piece: &Piece) -> Result<(), Fault> {
+    let spots = piece.spots();
+    let class = |kind: u8| spots.iter().find(|spot| spot.tag == 0x11 && spot.contents[0] == kind);
+    let productions = spots.iter().filter(|spot| spot.tag == 0x12);
+    let clash = productions.filter_map(|spot| Some((spot, class(spot.contents[0])?))).next();
+    clash.map_or(Ok(()), |(spot, class)| {
+        let kind = spot.contents[0];
+        let what = format!(
+            "kind {kind} is the result of {}, and a token class at byte {}",
+            spot.name(),
+            class.at
+        );
+        Err(piece.fault(Refusal::Clash, spot.at, what))
+    })
+}
+
+/// What a kind is in a language, for a sentence.
+pub fn kind_in(language: &Language, kind: u8) -> String {
+    let class = language.classes.iter().find(|class| class.kind == kind);
+    let is = |kinds: u32| kinds & bit(kind) != 0;
+    match class {
+        Some(class) => format!("kind {kind} ({})", class.range()),
+        None if is(language.result_kinds()) => format!("kind {kind}, which has productions"),
+        None if is(language.kinds()) => format!("kind {kind}, which is undefined"),
+        None => format!("kind {kind}, which is not in it"),
+    }
+}
