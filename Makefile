@@ -12,7 +12,7 @@ BUILT_ARCHIVE := $(if $(ALGEBRA_LIB_DIR),,$(CURDIR)/target/staticlib/libalgebra.
 ALGEBRA_LIB_DIR ?= target/staticlib
 export ALGEBRA_LIB_DIR := $(abspath $(ALGEBRA_LIB_DIR))
 ARCHIVE := $(ALGEBRA_LIB_DIR)/libalgebra.a
-COMMAND := target/command/release/algebra
+COMMAND := client/command/target/release/algebra
 SHARED := target/lib/$(SONAME)
 PROVED := crates.txt $(shell find crates -name '*.rt' -o -name '*.antt')
 
@@ -41,7 +41,7 @@ $(BUILT_ARCHIVE): $(PROVED)
 	rt staticlib algebra
 
 command: $(ARCHIVE)
-	cargo build --quiet --release --offline --manifest-path client/command/Cargo.toml --target-dir target/command
+	cargo build --quiet --release --offline --manifest-path client/command/Cargo.toml
 
 examples: $(ARCHIVE)
 	bash examples/write
