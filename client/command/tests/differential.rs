@@ -63,7 +63,7 @@ impl Folder {
         let hexadecimal = random.percent(30);
         let piped = random.below(2 * operands.len());
         let mut arguments: Vec<OsString> = verbs.iter().map(OsString::from).collect();
-        let mut input: Vec<u8> = vec![];
+        let mut input = vec![];
         for (place, operand) in operands.iter().enumerate() {
             arguments.push(match operand {
                 Root(root) => root.to_string().into(),
@@ -71,16 +71,19 @@ impl Folder {
                     input = encoded(bytes, hexadecimal);
                     "-".into()
                 }
-                File(bytes) => {
-                    let path = self.0.join(format!("operand{place}"));
-                    fs::write(&path, encoded(bytes, hexadecimal)).expect("a file can be written");
-                    path.into_os_string()
-                }
+                File(bytes) => self.operand(place, &encoded(bytes, hexadecimal)),
             });
         }
         arguments.extend(options.iter().map(OsString::from));
         arguments.extend(hexadecimal.then(|| "--hex".into()));
         Printed { hexadecimal, ..called(&arguments, &input) }
+    }
+
+    /// Writes the file of an operand and gives its name.
+    fn operand(&self, place: usize, bytes: &[u8]) -> OsString {
+        let path = self.0.join(format!("operand{place}"));
+        fs::write(&path, bytes).expect("a file can be written");
+        path.into_os_string()
     }
 
     /// The file that `-o` names.
