@@ -12,11 +12,11 @@ use std::fs;
 use std::path::PathBuf;
 
 /// So many cases of each verb are generated.
-const CASES: u64 = 1000;
+const CASES: u64 = 700;
 /// So many of them have long trees.
 const LONG_CASES: u64 = 10;
 /// In so many of a hundred cases the result is written to a file, down to the disk.
-const WRITTEN: usize = 10;
+const WRITTEN: usize = 4;
 /// What the file of `-o` holds before a call.
 const OLD: &[u8] = b"old";
 /// The length of an output that is long enough for most results.
@@ -350,7 +350,7 @@ fn run_of_packs_and_steps() {
         equal += usize::from(printed.text().contains("\nequal: "));
         refused += usize::from(answer.is_err());
     }
-    assert!(equal > 100 && refused > 100, "{equal} equal, {refused} refused");
+    assert!(equal > 70 && refused > 70, "{equal} equal, {refused} refused");
 }
 
 #[test]
