@@ -50,12 +50,12 @@
 //! # Linking
 //!
 //! `libalgebra.a` is looked for in the folder that the variable `ALGEBRA_LIB_DIR` names at build
-//! time (from the root, or seen from this package), or else in `../target/staticlib`.
+//! time (from the root, or seen from this package), or else in `../target/staticlib`. Crate and
+//! library are of the same version: a number that the crate does not know ends in a panic.
 #![deny(unsafe_code)]
 #![warn(missing_docs)]
 
 mod limits;
-#[allow(missing_docs)]
 pub mod raw;
 mod refusal;
 

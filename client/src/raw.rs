@@ -39,7 +39,9 @@ extern "C" {
 /// A number, 0 for accepted, and a length, as the library gives them.
 #[derive(Clone, Copy, Debug, PartialEq, Eq)]
 pub struct Answer {
+    /// 0, or the number of the refusal.
     pub number: u32,
+    /// The length of the result, 0 for a refusal.
     pub length: u64,
 }
 

@@ -199,14 +199,28 @@ fn call(verb: Verb, operands: Vec<OsString>, options: Options) -> Result<Call, F
         }
         operands.remove(0);
     }
-    if !explained.unwrap_or(verb).operand_counts().contains(&operands.len()) {
-        let what = format!("{} operands are not what {} takes", operands.len(), verb.name());
-        return Err(misuse(Some(verb), &what));
+    let call = Call { verb, operands, options, explained };
+    call.check().map_err(|what| misuse(Some(verb), &what))?;
+    Ok(call)
+}
+
+impl Call {
+    /// Says what is wrong with the operands and options of a call, if anything.
+    fn check(&self) -> Result<(), String> {
+        let (operation, count) = (self.explained.unwrap_or(self.verb), self.operands.len());
+        if !operation.operand_counts().contains(&count) {
+            return Err(format!("{count} operands are not what {} takes", operation.name()));
+        }
+        let (limit, sort) = (self.options.limit.is_some(), self.options.sort.is_some());
+        let mut given = [("--limit", limit), ("--as", sort)].into_iter();
+        if let Some((option, _)) = given.find(|(option, is)| *is && !operation.takes(option)) {
+            return Err(format!("{} does not take {option}", operation.name()));
+        }
+        if self.operands.iter().filter(|operand| *operand == "-").count() > 1 {
+            return Err("the standard input can be only one of the files".to_string());
+        }
+        Ok(())
     }
-    if operands.iter().filter(|operand| *operand == "-").count() > 1 {
-        return Err(misuse(Some(verb), "the standard input can be only one of the files"));
-    }
-    Ok(Call { verb, operands, options, explained })
 }
 
 #[cfg(test)]
@@ -252,7 +266,8 @@ mod tests {
         let call = right("explain check-tree a 1 b");
         assert_eq!((call.explained, call.operands.len()), (Some(Verb::CheckTree), 3));
         assert_eq!(wrong("explain show a"), "a verb that can be explained is needed");
-        assert_eq!(wrong("explain run a 1"), "2 operands are not what explain takes");
+        assert_eq!(wrong("explain run a 1"), "2 operands are not what run takes");
+        assert_eq!(wrong("explain reduce a --as pack"), "reduce does not take --as");
     }
 
     #[test]

@@ -15,8 +15,10 @@ use std::path::PathBuf;
 const CASES: u64 = 1000;
 /// So many of them have long trees.
 const LONG_CASES: u64 = 10;
-/// In so many of a hundred cases the result is written to a file, down to the disk.
-const WRITTEN: usize = 10;
+/// In so many of a hundred cases the result is written to a file.
+const WRITTEN: usize = 50;
+/// Files are made here if it is there, since the command writes down to the disk.
+const MEMORY_FOLDER: &str = "/dev/shm";
 /// What the file of `-o` holds before a call.
 const OLD: &[u8] = b"old";
 /// The length of an output that is long enough for most results.
@@ -46,7 +48,9 @@ impl Folder {
     /// A new folder.
     fn new(name: &str) -> Folder {
         let name = format!("algebra-differential-{name}-{}", std::process::id());
-        let path = std::env::temp_dir().join(name);
+        let memory = PathBuf::from(MEMORY_FOLDER);
+        let parent = if memory.is_dir() { memory } else { std::env::temp_dir() };
+        let path = parent.join(name);
         fs::create_dir_all(&path).expect("a folder can be made");
         Folder(path)
     }
@@ -63,7 +67,7 @@ impl Folder {
         let hexadecimal = random.percent(30);
         let piped = random.below(2 * operands.len());
         let mut arguments: Vec<OsString> = verbs.iter().map(OsString::from).collect();
-        let mut input: Vec<u8> = vec![];
+        let mut input = vec![];
         for (place, operand) in operands.iter().enumerate() {
             arguments.push(match operand {
                 Root(root) => root.to_string().into(),
@@ -71,16 +75,19 @@ impl Folder {
                     input = encoded(bytes, hexadecimal);
                     "-".into()
                 }
-                File(bytes) => {
-                    let path = self.0.join(format!("operand{place}"));
-                    fs::write(&path, encoded(bytes, hexadecimal)).expect("a file can be written");
-                    path.into_os_string()
-                }
+                File(bytes) => self.operand(place, &encoded(bytes, hexadecimal)),
             });
         }
         arguments.extend(options.iter().map(OsString::from));
         arguments.extend(hexadecimal.then(|| "--hex".into()));
         Printed { hexadecimal, ..called(&arguments, &input) }
+    }
+
+    /// Writes the file of an operand and gives its name.
+    fn operand(&self, place: usize, bytes: &[u8]) -> OsString {
+        let path = self.0.join(format!("operand{place}"));
+        fs::write(&path, bytes).expect("a file can be written");
+        path.into_os_string()
     }
 
     /// The file that `-o` names.
@@ -356,7 +363,9 @@ fn everything_that_is_not_broken_is_shown() {
     for case in 0..CASES {
         let random = &mut Random::new(case);
         let (file, pack) = (translation_file(random), reduce_case(random).pack);
+        let language = language_file(random);
         for (kind, bytes, number) in [
+            ("language", &language, reference::check_language(&language).number()),
             ("translation", &file, reference::check_translation(&file).number()),
             ("pack", &pack, reference::reduce(&pack, &mut [], &mut []).number()),
         ] {

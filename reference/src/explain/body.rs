@@ -31,7 +31,7 @@ fn check_entry(piece: &Piece, spot: &Spot, last: u8) -> Result<(), Fault> {
         (0x23, _) => Some((1, format!("a clause has length 2 or more, not {length}"))),
         (tag, _) => Some((0, format!("field 22 or 23 is needed, and this is {tag:02X}"))),
     };
-    local.map_or(Ok(()), |(offset, what)| Err(piece.fault(Refusal::Broken, spot.at + offset, what)))
+    local.map_or(Ok(()), |local| Err(piece.fault_in(spot, local)))
 }
 
 /// A body between two languages, with its fields.

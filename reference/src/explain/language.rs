@@ -1,12 +1,10 @@
 //! Faults of languages.
 
+use super::piece::Local;
 use super::{Fault, Piece, Spot};
 use crate::field::two_bytes;
 use crate::language::{bit, Language, ARGUMENTS, KINDS, LANGUAGE_LIMIT};
 use crate::outcome::Refusal;
-
-/// Where a fault stands in a field, counted from its tag, and what it is.
-type Local = (usize, String);
 
 /// Looks for any fault.
 pub fn check(piece: &Piece) -> Result<(), Fault> {
@@ -28,7 +26,7 @@ pub(crate) fn language_entry(piece: &Piece, spot: &Spot) -> Result<(), Fault> {
         0x12 => production_fault(spot.contents),
         tag => Some((0, format!("a language has fields 11 and 12, and this is {tag:02X}"))),
     };
-    local.map_or(Ok(()), |(offset, what)| Err(piece.fault(Refusal::Broken, spot.at + offset, what)))
+    local.map_or(Ok(()), |local| Err(piece.fault_in(spot, local)))
 }
 
 /// What is wrong with the contents of a field 11.

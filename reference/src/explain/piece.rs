@@ -21,6 +21,9 @@ pub(crate) struct Spot<'a> {
     pub contents: &'a [u8],
 }
 
+/// Where a fault stands in a field, counted from its tag, and what it is.
+pub type Local = (usize, String);
+
 impl Spot<'_> {
     /// Where the contents start in the input.
     pub fn inside(&self) -> usize {
@@ -85,6 +88,12 @@ impl<'a> Piece<'a> {
     /// A fault at a byte of the input.
     pub fn fault(&self, reason: Refusal, byte: usize, what: String) -> Fault {
         Fault { byte: Some(byte), ..self.fault_somewhere(reason, what) }
+    }
+
+    /// A broken field.
+    pub fn fault_in(&self, spot: &Spot, (offset, what): Local) -> Fault {
+        let field = self.named(format!("field {:02X} at byte {}", spot.tag, spot.at));
+        field.fault(Refusal::Broken, spot.at + offset, what)
     }
 
     /// A fault of the piece that no byte shows.

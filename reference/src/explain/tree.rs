@@ -33,7 +33,7 @@ pub fn check_run(bytes: &[u8], root: u32, tree: &[u8], output: usize) -> Result<
     let translation = read_translation(bytes).map_err(broken)?;
     let root = check_rooted(&translation.source, "source", root, tree)?;
     match result_length(&translation, root, tree) {
-        Some(length) if length > output as u64 => {
+        Some(length) if length > output as u64 || length == u64::MAX => {
             let more = if length == u64::MAX { " or more" } else { "" };
             let what = format!("its length is {output}, and that of the result {length}{more}");
             Err(Piece::whole("output", &[]).fault_somewhere(Refusal::Output, what))

@@ -45,39 +45,38 @@ impl<'a> Term<'a> {
 
     /// The operands in order.
     fn operands(self) -> Vec<Term<'a>> {
-        use Term::{Language, Translation};
         match self {
-            Language(term) => match term {
-                LanguageTerm::Constant(_) | LanguageTerm::Variable(_) => vec![],
-                LanguageTerm::Without(first, second)
-                | LanguageTerm::Sum(first, second)
-                | LanguageTerm::LetLanguage(_, first, second) => {
-                    vec![Language(first), Language(second)]
-                }
-                LanguageTerm::Source(of) | LanguageTerm::Target(of) => vec![Translation(of)],
-                LanguageTerm::LetTranslation(_, value, within) => {
-                    vec![Translation(value), Language(within)]
-                }
-            },
-            Translation(term) => match term {
-                TranslationTerm::Variable(_) => vec![],
-                TranslationTerm::Body(source, target, _) => {
-                    vec![Language(source), Language(target)]
-                }
-                TranslationTerm::Without(first, second) => {
-                    vec![Translation(first), Language(second)]
-                }
-                TranslationTerm::Sum(first, second)
-                | TranslationTerm::Join(first, second)
-                | TranslationTerm::LetTranslation(_, first, second) => {
-                    vec![Translation(first), Translation(second)]
-                }
-                TranslationTerm::Identity(of) => vec![Language(of)],
-                TranslationTerm::LetLanguage(_, value, within) => {
-                    vec![Language(value), Translation(within)]
-                }
-            },
+            Term::Language(term) => language_operands(term),
+            Term::Translation(term) => translation_operands(term),
         }
+    }
+}
+
+/// The operands of a language term in order.
+fn language_operands(term: &LanguageTerm) -> Vec<Term<'_>> {
+    use LanguageTerm::*;
+    match term {
+        Constant(_) | Variable(_) => vec![],
+        Without(first, second) | Sum(first, second) | LetLanguage(_, first, second) => {
+            vec![Term::Language(first), Term::Language(second)]
+        }
+        Source(of) | Target(of) => vec![Term::Translation(of)],
+        LetTranslation(_, value, within) => vec![Term::Translation(value), Term::Language(within)],
+    }
+}
+
+/// The operands of a translation term in order.
+fn translation_operands(term: &TranslationTerm) -> Vec<Term<'_>> {
+    use TranslationTerm::*;
+    match term {
+        Variable(_) => vec![],
+        Body(source, target, _) => vec![Term::Language(source), Term::Language(target)],
+        Without(first, second) => vec![Term::Translation(first), Term::Language(second)],
+        Sum(first, second) | Join(first, second) | LetTranslation(_, first, second) => {
+            vec![Term::Translation(first), Term::Translation(second)]
+        }
+        Identity(of) => vec![Term::Language(of)],
+        LetLanguage(_, value, within) => vec![Term::Language(value), Term::Translation(within)],
     }
 }
 
