@@ -1,13 +1,14 @@
 //! Files and trees in words, a line for each entry. What has broken fields is refused, and so is
 //! a tree that is not legal; anything else is shown, whether or not an operation accepts it.
 
+use crate::body::MAPPING_TAG;
 use crate::code::Symbol;
 use crate::explain::{
     self, language_entry, pack_parts, read_term, translation_pieces, Fault, Piece, Sign, Spot,
 };
 use crate::field::two_bytes;
 use crate::grammar::Grammar;
-use crate::language::{Language, LANGUAGE_LIMIT};
+use crate::language::{Language, CLASS_TAG, LANGUAGE_LIMIT, PRODUCTION_TAG};
 
 /// Lines, each indented by its depth.
 #[derive(Default)]
@@ -46,12 +47,12 @@ impl Lines {
 /// The line of a field of a language or a body.
 fn entry(spot: &Spot) -> String {
     match (spot.tag, spot.contents) {
-        (0x11, [_, numbers @ ..]) => format!("{}: {}", spot.name(), range(numbers)),
-        (0x12, [_, _, arguments @ ..]) => {
+        (CLASS_TAG, [_, numbers @ ..]) => format!("{}: {}", spot.name(), range(numbers)),
+        (PRODUCTION_TAG, [_, _, arguments @ ..]) => {
             let kinds: Vec<String> = arguments.iter().map(u8::to_string).collect();
             format!("{} ({})", spot.name(), kinds.join(" "))
         }
-        (0x22, [source, target]) => format!("mapping {source} to {target}"),
+        (MAPPING_TAG, [source, target]) => format!("mapping {source} to {target}"),
         (_, [_, _, code @ ..]) => format!("{}: {}", spot.name(), code_in_words(code)),
         _ => spot.name(),
     }

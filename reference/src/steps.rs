@@ -1,8 +1,10 @@
 //! A join taken apart into the steps that run one after the other.
 
+use crate::body::MAPPING_TAG;
 use crate::explain::{pack_parts, read_term, translation_pieces, Sign};
 use crate::field::HEADER;
 use crate::files::field;
+use crate::pack::TERM_TAG;
 
 /// One of the translations that a join runs in turn.
 #[derive(Clone, Debug, PartialEq, Eq)]
@@ -21,7 +23,7 @@ pub fn steps(pack: &[u8]) -> Option<Vec<Step>> {
     let sign = read_term(&parts.term, parts.languages.len(), parts.bodies.len()).ok()?;
     let before = &pack[..parts.term.start() - HEADER];
     let terms = terms_in_turn(pack, &sign, &[]).into_iter();
-    let step = |term: Vec<u8>| Step { pack: [before, &field(0x32, &term)].concat(), term };
+    let step = |term: Vec<u8>| Step { pack: [before, &field(TERM_TAG, &term)].concat(), term };
     Some(terms.map(step).collect())
 }
 
@@ -42,7 +44,8 @@ fn terms_in_turn(pack: &[u8], sign: &Sign, lets: &[u8]) -> Vec<Vec<u8>> {
 pub fn mapped_kind(translation: &[u8], kind: u32) -> Option<u32> {
     let pieces = translation_pieces(translation).ok()?;
     let spots = pieces.body.spots();
-    let mapping = spots.iter().find(|spot| spot.tag == 0x22 && u32::from(spot.contents[0]) == kind);
+    let mapping =
+        spots.iter().find(|spot| spot.tag == MAPPING_TAG && u32::from(spot.contents[0]) == kind);
     mapping.map(|spot| u32::from(spot.contents[1]))
 }
 

@@ -3,6 +3,7 @@
 use super::code::code_fault;
 use super::language::{kind_fault, kind_in};
 use super::{Fault, Piece, Spot};
+use crate::body::{CLAUSE_TAG, MAPPING_TAG};
 use crate::code::ArgumentKinds;
 use crate::field::two_bytes;
 use crate::grammar::Grammar;
@@ -11,7 +12,7 @@ use crate::outcome::Refusal;
 
 /// Looks for a broken field, or a mapping behind a clause.
 pub fn check_fields(piece: &Piece) -> Result<(), Fault> {
-    let mut last = 0x22;
+    let mut last = MAPPING_TAG;
     piece.walk().try_for_each(|spot| {
         let spot = spot?;
         check_entry(piece, &spot, last)?;
@@ -24,11 +25,15 @@ pub fn check_fields(piece: &Piece) -> Result<(), Fault> {
 fn check_entry(piece: &Piece, spot: &Spot, last: u8) -> Result<(), Fault> {
     let length = spot.contents.len();
     let local = match (spot.tag, spot.contents) {
-        (0x22, _) if last == 0x23 => Some((0, "a mapping stands behind a clause".to_string())),
-        (0x22, [source, target]) => kind_fault(3, *source).or_else(|| kind_fault(4, *target)),
-        (0x22, _) => Some((1, format!("a mapping has length 2, not {length}"))),
-        (0x23, [result, _, ..]) => kind_fault(3, *result),
-        (0x23, _) => Some((1, format!("a clause has length 2 or more, not {length}"))),
+        (MAPPING_TAG, _) if last == CLAUSE_TAG => {
+            Some((0, "a mapping stands behind a clause".to_string()))
+        }
+        (MAPPING_TAG, [source, target]) => {
+            kind_fault(3, *source).or_else(|| kind_fault(4, *target))
+        }
+        (MAPPING_TAG, _) => Some((1, format!("a mapping has length 2, not {length}"))),
+        (CLAUSE_TAG, [result, _, ..]) => kind_fault(3, *result),
+        (CLAUSE_TAG, _) => Some((1, format!("a clause has length 2 or more, not {length}"))),
         (tag, _) => Some((0, format!("field 22 or 23 is needed, and this is {tag:02X}"))),
     };
     local.map_or(Ok(()), |local| Err(piece.fault_in(spot, local)))
@@ -46,7 +51,8 @@ pub struct Between<'a> {
 impl<'a> Between<'a> {
     /// A body whose fields are whole and in order.
     pub fn new(source: &'a Language, target: &'a Language, piece: &'a Piece<'a>) -> Between<'a> {
-        let (mappings, clauses) = piece.spots().into_iter().partition(|spot| spot.tag == 0x22);
+        let (mappings, clauses) =
+            piece.spots().into_iter().partition(|spot| spot.tag == MAPPING_TAG);
         Between { source, target, piece, mappings, clauses }
     }
 
@@ -76,7 +82,11 @@ impl<'a> Between<'a> {
         let missing = kinds.into_iter().find(|&kind| self.mapped(kind).is_none());
         missing.map_or(Ok(()), |kind| {
             let what = format!("kind {kind} is in the source and is not mapped");
-            Err(self.piece.fault(Refusal::Mapping, self.place_of((0x22, u16::from(kind))), what))
+            Err(self.piece.fault(
+                Refusal::Mapping,
+                self.place_of((MAPPING_TAG, u16::from(kind))),
+                what,
+            ))
         })
     }
 
@@ -115,7 +125,7 @@ impl<'a> Between<'a> {
             self.source.productions.iter().find(|production| !has_clause(production.key()));
         if let Some(production) = missing {
             let what = format!("production {} of the source has no clause", production.title());
-            let place = self.place_of((0x23, production.key()));
+            let place = self.place_of((CLAUSE_TAG, production.key()));
             return Err(self.piece.fault(Refusal::Clauses, place, what));
         }
         let extra = self.clauses.iter().find(|spot| !has_production(spot.key().1));

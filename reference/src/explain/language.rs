@@ -3,7 +3,7 @@
 use super::piece::Local;
 use super::{Fault, Piece, Spot};
 use crate::field::two_bytes;
-use crate::language::{bit, Language, ARGUMENTS, KINDS, LANGUAGE_LIMIT};
+use crate::language::{bit, Language, ARGUMENTS, CLASS_TAG, KINDS, LANGUAGE_LIMIT, PRODUCTION_TAG};
 use crate::outcome::Refusal;
 
 /// Looks for any fault.
@@ -22,8 +22,8 @@ pub fn check_fields(piece: &Piece) -> Result<(), Fault> {
 /// Refuses a field that is neither a class nor a production.
 pub(crate) fn language_entry(piece: &Piece, spot: &Spot) -> Result<(), Fault> {
     let local = match spot.tag {
-        0x11 => class_fault(spot.contents),
-        0x12 => production_fault(spot.contents),
+        CLASS_TAG => class_fault(spot.contents),
+        PRODUCTION_TAG => production_fault(spot.contents),
         tag => Some((0, format!("a language has fields 11 and 12, and this is {tag:02X}"))),
     };
     local.map_or(Ok(()), |local| Err(piece.fault_in(spot, local)))
@@ -31,39 +31,34 @@ pub(crate) fn language_entry(piece: &Piece, spot: &Spot) -> Result<(), Fault> {
 
 /// What is wrong with the contents of a field 11.
 fn class_fault(contents: &[u8]) -> Option<Local> {
-    let length = contents.len();
-    let [kind, low_high, low_low, high_high, high_low, ref step @ ..] = *contents else {
-        return Some((1, format!("a token class has length 5 or 7, not {length}")));
+    let (kind, low, high, step) = match *contents {
+        [kind, a, b, c, d] => (kind, two_bytes(a, b), two_bytes(c, d), 1),
+        [kind, a, b, c, d, e, f] => (kind, two_bytes(a, b), two_bytes(c, d), two_bytes(e, f)),
+        _ => {
+            let length = contents.len();
+            return Some((1, format!("a token class has length 5 or 7, not {length}")));
+        }
     };
-    let (low, high) = (two_bytes(low_high, low_low), two_bytes(high_high, high_low));
-    match step {
-        [] | [_, _] => (),
-        _ => return Some((1, format!("a token class has length 5 or 7, not {length}"))),
-    }
+    let falls = || (4, format!("the lowest value {low} is above the highest {high}"));
     kind_fault(3, kind)
-        .or((low > high)
-            .then(|| (4, format!("the lowest value {low} is above the highest {high}"))))
-        .or((*step == [0, 0]).then(|| (8, "the step is 0".to_string())))
+        .or_else(|| (low > high).then(falls))
+        .or_else(|| (step == 0).then(|| (8, "the step is 0".to_string())))
 }
 
 /// What is wrong with the contents of a field 12.
 fn production_fault(contents: &[u8]) -> Option<Local> {
     let (least, most) = (2, 2 + ARGUMENTS);
-    let [result, _, arguments @ ..] = contents else {
-        return Some((
-            1,
-            format!("a production has length {least} to {most}, not {}", contents.len()),
-        ));
-    };
-    if arguments.len() > ARGUMENTS {
-        return Some((
-            1,
-            format!("a production has length {least} to {most}, not {}", contents.len()),
-        ));
+    match contents {
+        [result, _, arguments @ ..] if arguments.len() <= ARGUMENTS => {
+            let mut arguments = arguments.iter().enumerate();
+            let argument = |(place, kind): (usize, &u8)| kind_fault(5 + place, *kind);
+            kind_fault(3, *result).or_else(|| arguments.find_map(argument))
+        }
+        _ => {
+            let length = contents.len();
+            Some((1, format!("a production has length {least} to {most}, not {length}")))
+        }
     }
-    let arguments = arguments.iter().enumerate();
-    let argument = |(place, &kind): (usize, &u8)| kind_fault(5 + place, kind);
-    kind_fault(3, *result).or_else(|| arguments.into_iter().find_map(argument))
 }
 
 /// What is wrong with a kind at a place of a field.
@@ -74,8 +69,9 @@ pub fn kind_fault(place: usize, kind: u8) -> Option<Local> {
 /// Refuses a kind that is both a class and a result.
 pub fn check_clash(piece: &Piece) -> Result<(), Fault> {
     let spots = piece.spots();
-    let class = |kind: u8| spots.iter().find(|spot| spot.tag == 0x11 && spot.contents[0] == kind);
-    let productions = spots.iter().filter(|spot| spot.tag == 0x12);
+    let class =
+        |kind: u8| spots.iter().find(|spot| spot.tag == CLASS_TAG && spot.contents[0] == kind);
+    let productions = spots.iter().filter(|spot| spot.tag == PRODUCTION_TAG);
     let clash = productions.filter_map(|spot| Some((spot, class(spot.contents[0])?))).next();
     clash.map_or(Ok(()), |(spot, class)| {
         let kind = spot.contents[0];

@@ -4,7 +4,7 @@ use super::values::check_values;
 use super::{body, language, read_term, Fault, Piece, Spot};
 use crate::language::LANGUAGE_LIMIT;
 use crate::outcome::Refusal;
-use crate::pack::{read_pack, CONSTANTS, PACK_LIMIT};
+use crate::pack::{read_pack, BODY_TAG, CONSTANTS, LANGUAGE_TAG, PACK_LIMIT, TERM_TAG};
 use crate::reduce::{OUTPUT_LEAST, WORKSPACE_LEAST};
 
 /// The parts of a pack.
@@ -41,14 +41,14 @@ fn check_room(workspace: usize, output: usize) -> Result<(), Fault> {
 pub(crate) fn pack_parts(bytes: &[u8]) -> Result<Parts<'_>, Fault> {
     let whole = Piece::whole("pack", bytes);
     whole.limit(PACK_LIMIT)?;
-    whole.limit_stated(&[0x30], LANGUAGE_LIMIT)?;
+    whole.limit_stated(&[LANGUAGE_TAG], LANGUAGE_LIMIT)?;
     let (mut languages, mut bodies, mut term) = (vec![], vec![], None);
     for spot in whole.walk() {
         let spot = spot?;
         check_group(&whole, &spot, [languages.len(), bodies.len(), usize::from(term.is_some())])?;
         match spot.tag {
-            0x30 => languages.push(language_part(&whole, &spot, languages.len())?),
-            0x31 => bodies.push(body_part(&whole, &spot, bodies.len())?),
+            LANGUAGE_TAG => languages.push(language_part(&whole, &spot, languages.len())?),
+            BODY_TAG => bodies.push(body_part(&whole, &spot, bodies.len())?),
             _ => term = Some(whole.contents(&spot, "term".to_string())),
         }
     }
@@ -81,10 +81,12 @@ fn check_group(whole: &Piece, spot: &Spot, before: [usize; 3]) -> Result<(), Fau
     let fault = |what: String| Err(whole.fault(Refusal::Broken, spot.at, what));
     match tag {
         _ if terms > 0 => fault(format!("field {tag:02X} stands behind field 32")),
-        0x30 if bodies > 0 => fault("field 30 stands behind a field 31".to_string()),
-        0x30 if languages == CONSTANTS => fault(format!("field 30 is one more than {CONSTANTS}")),
-        0x31 if bodies == CONSTANTS => fault(format!("field 31 is one more than {CONSTANTS}")),
-        0x30..=0x32 => Ok(()),
+        LANGUAGE_TAG if bodies > 0 => fault("field 30 stands behind a field 31".to_string()),
+        LANGUAGE_TAG if languages == CONSTANTS => {
+            fault(format!("field 30 is one more than {CONSTANTS}"))
+        }
+        BODY_TAG if bodies == CONSTANTS => fault(format!("field 31 is one more than {CONSTANTS}")),
+        LANGUAGE_TAG | BODY_TAG | TERM_TAG => Ok(()),
         _ => fault(format!("a pack has fields 30, 31 and 32, and this is {tag:02X}")),
     }
 }

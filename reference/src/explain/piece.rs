@@ -1,7 +1,9 @@
 //! Parts of a file that know where they stand in it.
 
 use super::Fault;
+use crate::body::{CLAUSE_TAG, MAPPING_TAG};
 use crate::field::{two_bytes, HEADER};
+use crate::language::{CLASS_TAG, PRODUCTION_TAG};
 use crate::outcome::Refusal;
 
 /// A run of bytes of an input, where it starts, and what it is.
@@ -33,7 +35,7 @@ impl Spot<'_> {
     /// The key by which the fields of a language or a body rise: the tag, then its number.
     pub fn key(&self) -> (u8, u16) {
         let number = match (self.tag, self.contents) {
-            (0x12 | 0x23, [result, name, ..]) => two_bytes(*result, *name),
+            (PRODUCTION_TAG | CLAUSE_TAG, [result, name, ..]) => two_bytes(*result, *name),
             (_, [kind, ..]) => u16::from(*kind),
             _ => 0,
         };
@@ -44,10 +46,10 @@ impl Spot<'_> {
     pub fn name(&self) -> String {
         let [high, low] = self.key().1.to_be_bytes();
         match self.tag {
-            0x11 => format!("class {low}"),
-            0x12 => format!("production {high}.{low}"),
-            0x22 => format!("mapping of kind {low}"),
-            0x23 => format!("clause {high}.{low}"),
+            CLASS_TAG => format!("class {low}"),
+            PRODUCTION_TAG => format!("production {high}.{low}"),
+            MAPPING_TAG => format!("mapping of kind {low}"),
+            CLAUSE_TAG => format!("clause {high}.{low}"),
             tag => format!("field {tag:02X}"),
         }
     }

@@ -4,7 +4,7 @@ use super::body::{self, Between};
 use super::{language, Fault, Piece};
 use crate::language::{Language, LANGUAGE_LIMIT};
 use crate::outcome::Refusal;
-use crate::translation::TRANSLATION_LIMIT;
+use crate::translation::{SOURCE_TAG, TARGET_TAG, TRANSLATION_LIMIT};
 
 /// The parts of a translation.
 pub(crate) struct Pieces<'a> {
@@ -34,9 +34,9 @@ pub fn decoded(piece: &Piece) -> Result<Language, Fault> {
 pub(crate) fn translation_pieces(bytes: &[u8]) -> Result<Pieces<'_>, Fault> {
     let whole = Piece::whole("translation", bytes);
     whole.limit(TRANSLATION_LIMIT)?;
-    whole.limit_stated(&[0x20, 0x21], LANGUAGE_LIMIT)?;
-    let source = language_piece(&whole, 0, 0x20, "source")?;
-    let target = language_piece(&whole, source.end(), 0x21, "target")?;
+    whole.limit_stated(&[SOURCE_TAG, TARGET_TAG], LANGUAGE_LIMIT)?;
+    let source = language_piece(&whole, 0, SOURCE_TAG, "source")?;
+    let target = language_piece(&whole, source.end(), TARGET_TAG, "target")?;
     let body = whole.part(target.end(), &bytes[target.end()..], "body".to_string());
     body::check_fields(&body)?;
     Ok(Pieces { source, target, body })
