@@ -183,8 +183,8 @@ fn compare_check(
     compare_explanation(folder, case, verb, operands, &[], answer.map(|()| 0), expected);
 }
 
-/// Calls an explanation. It has the library's first line, and a note exactly if the second
-/// implementation answers with another number.
+/// Calls an explanation. It has the library's first line, and no note, since the second
+/// implementation answers with the same number.
 fn compare_explanation(
     folder: &Folder,
     case: u64,
@@ -197,8 +197,8 @@ fn compare_explanation(
     let printed = folder.call(&mut Random::new(case), &["explain", verb], operands, options);
     printed.compare(case, &answer, |length| *length);
     let number = answer.err().map_or(0, Refusal::number);
-    let noted = printed.text().contains("\nnote: ");
-    assert_eq!(noted, number != expected, "case {case}: {}", printed.text());
+    assert_eq!(number, expected, "case {case}");
+    assert!(!printed.text().contains("\nnote: "), "case {case}: {}", printed.text());
     assert_eq!(printed.text().contains("\nfault: "), expected != 0, "case {case}");
 }
 
