@@ -1,10 +1,11 @@
-/* What the header says of null pointers: with length 0 a slice may be null, and the answer is
- * that of an empty slice elsewhere. The last line says how many passed and failed. */
+/* What the header says. Of null pointers: with length 0 a slice may be null, and the answer is
+ * that of an empty slice elsewhere. Of limits: each constant is accepted, and one more is not.
+ * The last line says how many passed and failed. */
 #include "algebra.h"
 #include <stdio.h>
 #include <string.h>
 
-enum { WORKSPACE = 65536, OUTPUT = 4096, MARK = 0xEE };
+enum { WORKSPACE = ALGEBRA_WORKSPACE_BYTES, OUTPUT = ALGEBRA_OUTPUT_BYTES, MARK = 0xEE };
 
 /* One production without arguments, 1.0; its identity; a pack that reduces to it. */
 static const uint8_t language[] = { 0x12, 0, 2, 1, 0 };
@@ -32,6 +33,12 @@ static void count(const char *what, int holds)
 static void same(const char *what, uint32_t due, uint32_t null, uint32_t empty)
 {
     count(what, null == due && empty == due);
+}
+
+/* Compares an answer with the one that is due. */
+static void gives(const char *what, uint32_t due, uint32_t found)
+{
+    count(what, found == due);
 }
 
 /* Calls reduce; a refusal must store length 0. */
@@ -98,11 +105,135 @@ static void runs(void)
     count("run", run(translation, sizeof translation, tree, sizeof tree, output, OUTPUT) == 0);
 }
 
+/* A file that is put together, and how long it is. */
+static uint8_t built[ALGEBRA_PACK_BYTES + 1];
+static size_t built_length;
+
+/* Adds bytes to the file, so many times. */
+static void add(const char *bytes, size_t length, size_t times)
+{
+    for (size_t i = 0; i < times; i++) {
+        memcpy(built + built_length, bytes, length);
+        built_length += length;
+    }
+}
+
+/* Reduces the file. */
+static uint32_t reduce_built(void)
+{
+    uint64_t length;
+    return algebra_reduce(built, built_length, workspace, WORKSPACE, output, OUTPUT, &length);
+}
+
+/* A limit of bytes, on files of zeros, whose fields are all broken. */
+static void lengths(void)
+{
+    memset(built, 0, sizeof built);
+    gives("bytes of a language", ALGEBRA_BROKEN_FIELD, algebra_check_language(built, ALGEBRA_LANGUAGE_BYTES));
+    gives("one more than that", ALGEBRA_TOO_LONG, algebra_check_language(built, ALGEBRA_LANGUAGE_BYTES + 1));
+    gives("bytes of a translation", ALGEBRA_BROKEN_FIELD, algebra_check_translation(built, ALGEBRA_TRANSLATION_BYTES));
+    gives("one more than that", ALGEBRA_TOO_LONG, algebra_check_translation(built, ALGEBRA_TRANSLATION_BYTES + 1));
+    built_length = ALGEBRA_PACK_BYTES;
+    gives("bytes of a pack", ALGEBRA_BROKEN_FIELD, reduce_built());
+    built_length = ALGEBRA_PACK_BYTES + 1;
+    gives("one more than that", ALGEBRA_TOO_LONG, reduce_built());
+}
+
+/* The least room to reduce in. */
+static void rooms(void)
+{
+    gives("the workspace", ALGEBRA_BUFFERS_TOO_SHORT, reduce(pack, sizeof pack, workspace, WORKSPACE - 1, output, OUTPUT));
+    gives("the output", ALGEBRA_BUFFERS_TOO_SHORT, reduce(pack, sizeof pack, workspace, WORKSPACE, output, OUTPUT - 1));
+}
+
+/* A tree of so many levels: 0.0 around 0.0, and 0.1 inside. */
+static uint32_t tree_of(size_t levels)
+{
+    static const uint8_t chain[] = { 0x12, 0, 3, 0, 0, 0, 0x12, 0, 2, 0, 1 };
+    built_length = 0;
+    add("\0", 1, levels - 1);
+    add("\1", 1, 1);
+    return algebra_check_tree(chain, sizeof chain, 0, built, built_length);
+}
+
+/* A translation whose code has so many levels: 0.0 around 0.0, and the argument inside. */
+static uint32_t code_of(size_t levels)
+{
+    built_length = 0;
+    add("\x20\0\6\x12\0\3\0\0\0\x21\0\6\x12\0\3\0\0\0\x22\0\2\0\0\x23\0", 25, 1);
+    built[built_length++] = (uint8_t)(2 + 2 * levels);
+    add("\0\0", 2, 1);
+    add("\1\0", 2, levels - 1);
+    add("\3\1", 2, 1);
+    return algebra_check_translation(built, built_length);
+}
+
+/* A term of so many levels: the identity of the empty language, without itself and so on. */
+static uint32_t term_of(size_t levels)
+{
+    built_length = 0;
+    add("\x30\0\0\x32\0", 5, 1);
+    built[built_length++] = (uint8_t)(3 + 3 * (levels - 2));
+    add("\x55", 1, 1);
+    add("\x42\x40\0", 3, levels - 2);
+    add("\x40\0", 2, 1);
+    return reduce_built();
+}
+
+/* The levels of trees, codes and terms. */
+static void levels(void)
+{
+    gives("levels of a tree", ALGEBRA_ACCEPTED, tree_of(ALGEBRA_TREE_LEVELS));
+    gives("one more than that", ALGEBRA_TOO_DEEP, tree_of(ALGEBRA_TREE_LEVELS + 1));
+    gives("levels of a code", ALGEBRA_ACCEPTED, code_of(ALGEBRA_CODE_LEVELS));
+    gives("one more than that", ALGEBRA_ILLEGAL_CODE, code_of(ALGEBRA_CODE_LEVELS + 1));
+    gives("levels of a term", ALGEBRA_ACCEPTED, term_of(ALGEBRA_TERM_LEVELS));
+    gives("one more than that", ALGEBRA_ILLEGAL_TERM, term_of(ALGEBRA_TERM_LEVELS + 1));
+}
+
+/* A production of a kind, with so many arguments of that kind. */
+static uint32_t production_of(uint8_t kind, uint8_t arguments)
+{
+    uint8_t field[] = { 0x12, 0, (uint8_t)(2 + arguments), kind, 0, kind, kind, kind, kind,
+                        kind, kind, kind, kind, kind };
+    return algebra_check_language(field, 5u + arguments);
+}
+
+/* A pack with so many languages and bodies, all empty, and a variable as its term. */
+static uint32_t pack_of(size_t languages, size_t bodies, uint8_t variable)
+{
+    built_length = 0;
+    add("\x30\0\0", 3, languages);
+    add("\x31\0\0", 3, bodies);
+    add("\x32\0\2\x51", 4, 1);
+    built[built_length++] = variable;
+    return reduce_built();
+}
+
+/* How many kinds, arguments, variables, languages and bodies there are. */
+static void numbers(void)
+{
+    gives("kinds", ALGEBRA_ACCEPTED, production_of(ALGEBRA_KINDS - 1, 0));
+    gives("one more than that", ALGEBRA_BROKEN_FIELD, production_of(ALGEBRA_KINDS, 0));
+    gives("arguments", ALGEBRA_ACCEPTED, production_of(0, ALGEBRA_ARGUMENTS));
+    gives("one more than that", ALGEBRA_BROKEN_FIELD, production_of(0, ALGEBRA_ARGUMENTS + 1));
+    gives("variables", ALGEBRA_UNBOUND_VARIABLE, pack_of(0, 0, ALGEBRA_VARIABLES - 1));
+    gives("one more than that", ALGEBRA_ILLEGAL_TERM, pack_of(0, 0, ALGEBRA_VARIABLES));
+    gives("languages", ALGEBRA_UNBOUND_VARIABLE, pack_of(ALGEBRA_PACK_LANGUAGES, 0, 0));
+    gives("one more than that", ALGEBRA_BROKEN_FIELD, pack_of(ALGEBRA_PACK_LANGUAGES + 1, 0, 0));
+    gives("bodies", ALGEBRA_UNBOUND_VARIABLE, pack_of(0, ALGEBRA_PACK_BODIES, 0));
+    gives("one more than that", ALGEBRA_BROKEN_FIELD, pack_of(0, ALGEBRA_PACK_BODIES + 1, 0));
+}
+
 int main(void)
 {
     checks();
     reductions();
     runs();
+    lengths();
+    rooms();
+    levels();
+    numbers();
     count("nothing is written elsewhere", no_bytes[0] == MARK && elsewhere[0] == MARK);
     printf("%d passed, %d failed\n", passed, failed);
     return failed != 0;

@@ -1,10 +1,10 @@
 //! A call of one of the five operations, by the reference or by the library.
 
 use crate::generate::{ReduceCase, RunCase, TreeCase};
-#[cfg(all(feature = "translation", feature = "run", feature = "reduce"))]
-use crate::library;
 use crate::outcome::Outcome;
 use crate::{check_language, check_translation, check_tree, reduce, run};
+#[cfg(feature = "library")]
+use algebra::raw as library;
 
 /// An operation with its inputs.
 #[derive(Clone, Debug)]
@@ -75,7 +75,7 @@ impl Call {
     }
 
     /// Calls the library.
-    #[cfg(all(feature = "translation", feature = "run", feature = "reduce"))]
+    #[cfg(feature = "library")]
     pub fn by_library(&self, buffers: &mut Buffers) -> Answer {
         let Buffers { workspace, output } = buffers;
         let checked = |number| Answer { number, length: 0 };
@@ -93,7 +93,7 @@ impl Call {
     }
 }
 
-#[cfg(all(feature = "translation", feature = "run", feature = "reduce"))]
+#[cfg(feature = "library")]
 impl From<library::Answer> for Answer {
     fn from(answer: library::Answer) -> Answer {
         Answer { number: answer.number, length: answer.length }

@@ -92,7 +92,7 @@ impl ArgumentKinds {
     }
 
     /// The kind of the argument with that number, counted from 0.
-    fn get(&self, number: u8) -> Option<u8> {
+    pub fn get(&self, number: u8) -> Option<u8> {
         self.kinds[..self.count].get(number as usize).copied()
     }
 }

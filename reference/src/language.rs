@@ -56,6 +56,15 @@ impl Class {
             && (last == other.low || other.step.get() % self.step == 0)
     }
 
+    /// The legal values in words.
+    pub fn range(&self) -> String {
+        let Class { low, high, step, .. } = self;
+        match step.get() {
+            1 => format!("{low} to {high}"),
+            step => format!("{low} to {high} in steps of {step}"),
+        }
+    }
+
     /// The length of the field's contents: a step of 1 is not written.
     fn length(&self) -> usize {
         if self.step == NonZeroU16::MIN {
@@ -112,6 +121,17 @@ impl Production {
     #[inline]
     pub fn arguments(&self) -> &[u8] {
         &self.arguments[..self.count as usize]
+    }
+
+    /// Result, point and name.
+    pub fn title(&self) -> String {
+        format!("{}.{}", self.result, self.name)
+    }
+
+    /// The argument kinds in brackets.
+    pub fn argument_list(&self) -> String {
+        let kinds: Vec<String> = self.arguments().iter().map(u8::to_string).collect();
+        format!("({})", kinds.join(" "))
     }
 
     /// Result and name as one number: productions stand in its rising order.

@@ -22,13 +22,14 @@ mod tree;
 
 pub mod call;
 pub mod examples;
+pub mod explain;
 pub mod files;
 pub mod generate;
 pub mod laws;
-#[cfg(feature = "library")]
-pub mod library;
 pub mod listing;
+pub mod show;
 pub mod stack;
+pub mod steps;
 
 pub use language::check_language;
 pub use outcome::{Outcome, Refusal};

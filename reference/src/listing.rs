@@ -1,7 +1,8 @@
 //! What the listing program prints for a pack.
 
+use crate::body::CLAUSE_TAG;
+use crate::field::Fields;
 use crate::reduce::{reduce, OUTPUT_LEAST, WORKSPACE_LEAST};
-use crate::translation::read_translation;
 
 /// The first line, and one for each clause of the translation that the pack reduces to.
 pub fn listing(pack: &[u8]) -> String {
@@ -15,12 +16,17 @@ pub fn listing(pack: &[u8]) -> String {
 }
 
 /// Result, point, name, a space and the code in capitals, for each clause of a translation.
-fn clause_lines(translation: &[u8]) -> String {
-    let translation = read_translation(translation).expect("what reduces is well formed");
-    let line = |key: u16, code: &[u8]| {
-        let [result, name] = key.to_be_bytes();
-        let code: String = code.iter().map(|byte| format!("{byte:02X}")).collect();
-        format!("{result}.{name} {code}\n")
+pub fn clause_lines(translation: &[u8]) -> String {
+    let fields = Fields::new(translation).map_while(Result::ok);
+    let clauses = fields.filter(|field| field.tag == CLAUSE_TAG);
+    clauses.map(|field| clause_line(field.contents)).collect()
+}
+
+/// The line of a clause.
+fn clause_line(contents: &[u8]) -> String {
+    let [result, name, code @ ..] = contents else {
+        return String::new();
     };
-    translation.body.clauses.iter().map(|clause| line(clause.key, clause.code)).collect()
+    let code: String = code.iter().map(|byte| format!("{byte:02X}")).collect();
+    format!("{result}.{name} {code}\n")
 }

@@ -49,7 +49,7 @@ fn clause_key(clause: &Clause) -> u16 {
 }
 
 /// The sum of two languages; `None` if they do not fit.
-fn unite_languages(left: &Language, right: &Language) -> Option<Language> {
+pub fn unite_languages(left: &Language, right: &Language) -> Option<Language> {
     let classes = union(&left.classes, &right.classes, class_key)?;
     let productions = union(&left.productions, &right.productions, Production::key)?;
     let sum = Language { classes, productions };
@@ -99,7 +99,7 @@ fn unite_mappings(left: &Mapping, right: &Mapping) -> Option<Mapping> {
 }
 
 /// The sum of two translations; `None` if they do not fit.
-fn unite_translations(left: &Translation, right: &Translation) -> Option<Translation> {
+pub fn unite_translations(left: &Translation, right: &Translation) -> Option<Translation> {
     let source = unite_languages(&left.source, &right.source)?;
     let target = unite_languages(&left.target, &right.target)?;
     let mapping = unite_mappings(&left.body.mapping, &right.body.mapping)?;
@@ -279,17 +279,45 @@ fn chain_mappings(outer: &Translation, inner: &Translation) -> Mapping {
     inner.body.mapping.map(|kind| kind.map(|kind| outer.mapped(kind)))
 }
 
+/// The codes of a join's operands, taken apart.
+struct JoinCodes {
+    outer: Vec<OuterClause>,
+    inner: Vec<Vec<Node>>,
+}
+
+impl JoinCodes {
+    /// Takes apart the codes of two translations that fit.
+    fn new(outer: &Translation, inner: &Translation) -> JoinCodes {
+        let outer = clause_nodes(outer).into_iter().map(OuterClause::new).collect();
+        JoinCodes { outer, inner: clause_nodes(inner) }
+    }
+
+    /// The bytes of the join, saturating, and the most levels of its codes.
+    fn size(&self, joiner: &Joiner, outer: &Translation, inner: &Translation) -> Size {
+        let mut bytes = 2 * HEADER + inner.source.encoded_length() + outer.target.encoded_length();
+        bytes += inner.body.encoded_length() - inner.body.clauses.code_bytes();
+        let mut total = Size { bytes: bytes as u64, levels: 0 };
+        for nodes in &self.inner {
+            let size = joiner.measure(nodes, 0);
+            total.bytes = total.bytes.saturating_add(size.bytes);
+            total.levels = size.levels.max(total.levels);
+        }
+        total
+    }
+}
+
 /// The join of two translations of which the inner runs first, or its refusal.
 pub fn join(outer: &Translation, inner: &Translation) -> Result<Translation, Refusal> {
     require(is_within(&inner.target, &outer.source), Refusal::Join)?;
-    let outer_clauses: Vec<_> = clause_nodes(outer).into_iter().map(OuterClause::new).collect();
+    let codes = JoinCodes::new(outer, inner);
     let source = Grammar::new(&outer.source);
-    let joiner = Joiner { source: &source, clauses: &outer_clauses };
-    let inner_codes = clause_nodes(inner);
-    require(join_is_within_limits(&joiner, outer, inner, &inner_codes), Refusal::Limit)?;
+    let joiner = Joiner { source: &source, clauses: &codes.outer };
+    let Size { bytes, levels } = codes.size(&joiner, outer, inner);
+    let within = bytes <= TRANSLATION_LIMIT as u64 && levels <= CODE_LEVELS;
+    require(within, Refusal::Limit)?;
     let mut clauses = Clauses::default();
     let mut code = Vec::new();
-    for (production, nodes) in inner.source.productions.iter().zip(&inner_codes) {
+    for (production, nodes) in inner.source.productions.iter().zip(&codes.inner) {
         code.clear();
         joiner.write(nodes, 0, &mut code);
         clauses.push(Clause { key: production.key(), code: &code });
@@ -298,21 +326,11 @@ pub fn join(outer: &Translation, inner: &Translation) -> Result<Translation, Ref
     Ok(Translation { source: inner.source.clone(), target: outer.target.clone(), body })
 }
 
-/// Measures a join before it is written: its bytes and the levels of its codes.
-fn join_is_within_limits(
-    joiner: &Joiner,
-    outer: &Translation,
-    inner: &Translation,
-    inner_codes: &[Vec<Node>],
-) -> bool {
-    let mut bytes = 2 * HEADER + inner.source.encoded_length() + outer.target.encoded_length();
-    bytes += inner.body.encoded_length() - inner.body.clauses.code_bytes();
-    let mut total = bytes as u64;
-    let mut levels = 0;
-    for nodes in inner_codes {
-        let size = joiner.measure(nodes, 0);
-        total = total.saturating_add(size.bytes);
-        levels = size.levels.max(levels);
-    }
-    total <= TRANSLATION_LIMIT as u64 && levels <= CODE_LEVELS
+/// The bytes and levels of the join of two translations that fit, measured without writing it.
+pub fn join_size(outer: &Translation, inner: &Translation) -> (u64, u32) {
+    let codes = JoinCodes::new(outer, inner);
+    let source = Grammar::new(&outer.source);
+    let joiner = Joiner { source: &source, clauses: &codes.outer };
+    let size = codes.size(&joiner, outer, inner);
+    (size.bytes, size.levels)
 }

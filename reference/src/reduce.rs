@@ -18,16 +18,16 @@ pub const WORKSPACE_LEAST: usize = 65_536;
 pub const OUTPUT_LEAST: usize = TRANSLATION_LIMIT;
 
 /// Works out terms: the constants of the pack and the values of the variables.
-struct Reducer<'a> {
+pub struct Reducer<'a> {
     constants: &'a [Rc<Language>],
-    bodies: &'a [Body],
+    pub bodies: &'a [Body],
     languages: [Option<Rc<Language>>; VARIABLES],
     translations: [Option<Rc<Translation>>; VARIABLES],
 }
 
 impl<'a> Reducer<'a> {
     /// Starts with no variable bound.
-    fn new(pack: &'a Pack) -> Reducer<'a> {
+    pub fn new(pack: &'a Pack) -> Reducer<'a> {
         Reducer {
             constants: &pack.languages,
             bodies: &pack.bodies,
@@ -37,7 +37,7 @@ impl<'a> Reducer<'a> {
     }
 
     /// Works out a language term.
-    fn language(&mut self, term: &LanguageTerm) -> Result<Rc<Language>, Refusal> {
+    pub fn language(&mut self, term: &LanguageTerm) -> Result<Rc<Language>, Refusal> {
         use LanguageTerm::*;
         match term {
             Constant(number) => Ok(self.constants[*number].clone()),
@@ -62,7 +62,7 @@ impl<'a> Reducer<'a> {
     }
 
     /// Works out a translation term.
-    fn translation(&mut self, term: &TranslationTerm) -> Result<Rc<Translation>, Refusal> {
+    pub fn translation(&mut self, term: &TranslationTerm) -> Result<Rc<Translation>, Refusal> {
         use TranslationTerm::*;
         match term {
             Body(source, target, body) => {
@@ -107,7 +107,7 @@ impl<'a> Reducer<'a> {
     }
 
     /// Works out what stands within the let of a language variable.
-    fn with_language<T>(
+    pub fn with_language<T>(
         &mut self,
         number: usize,
         value: &LanguageTerm,
@@ -121,7 +121,7 @@ impl<'a> Reducer<'a> {
     }
 
     /// Works out what stands within the let of a translation variable.
-    fn with_translation<T>(
+    pub fn with_translation<T>(
         &mut self,
         number: usize,
         value: &TranslationTerm,

@@ -10,22 +10,39 @@ use Rattle.fields.specs.declared.outcome.Outcome.the-variants.{Accepted,
 
 -- The number of each refusal.
 abbrev pub reasonNumber : Reason → ℕ
+-- a file, or a language inside it, is longer than its limit
 reasonNumber TooLong = 1
+-- a field is broken: its tag, its length, a number in it, or the end of the input
 reasonNumber BrokenField = 2
+-- fields are out of order, or a key occurs twice
 reasonNumber OutOfOrder = 3
+-- a kind is both a token class and the result of a production
 reasonNumber ClassIsResult = 4
+-- the mapping is not as required
 reasonNumber WrongMapping = 5
+-- a clause is missing, or has no production in the source
 reasonNumber WrongClauses = 6
+-- a code is broken, not of its kind, or over 16 levels
 reasonNumber IllegalCode = 7
+-- field 32 is not exactly one translation term
 reasonNumber IllegalTerm = 8
+-- the workspace or the output is too short to reduce
 reasonNumber BuffersTooShort = 9
+-- a variable has no value
 reasonNumber UnboundVariable = 10
+-- the value of a sign exceeds a limit of bytes or levels
 reasonNumber ValueTooLarge = 11
+-- the operands of a sum do not fit together
 reasonNumber SumUnfit = 12
+-- the target of a join's second operand does not lie within the source of its first
 reasonNumber JoinUnfit = 13
+-- the root kind is not in the language
 reasonNumber UnknownRoot = 14
+-- the tree is not legal
 reasonNumber IllegalTree = 15
+-- the tree has more than 64 levels
 reasonNumber TooDeep = 16
+-- the result is longer than the output
 reasonNumber OutputTooShort = 17
 
 -- The number that an outsider sees.

@@ -5,8 +5,10 @@
 
 #![forbid(unsafe_code)]
 
-use reference::generate::{language_file, tree_case, Random, LONG_TREE};
-use reference::library;
+use algebra::raw as library;
+use reference::generate::{
+    language_file, reduce_case, run_case, translation_file, tree_case, Random, LONG_TREE,
+};
 use std::fmt::Write as _;
 use std::process::ExitCode;
 use std::time::Instant;
@@ -54,7 +56,7 @@ struct Operation {
     find: fn(&mut Random) -> Finding,
 }
 
-/// The operations that this build can compare.
+/// The operations that can be compared.
 const OPERATIONS: &[Operation] = &[
     Operation {
         name: "check_language",
@@ -68,28 +70,24 @@ const OPERATIONS: &[Operation] = &[
         label: answer_label,
         find: |random| compare_check_tree(random).finding(),
     },
-    #[cfg(feature = "translation")]
     Operation {
         name: "check_translation",
         possible: &[0, 1, 2, 3, 4, 5, 6, 7],
         label: answer_label,
-        find: |random| translation::compare(random).finding(),
+        find: |random| compare_check_translation(random).finding(),
     },
-    #[cfg(feature = "run")]
     Operation {
         name: "run",
         possible: &[0, 1, 2, 3, 4, 5, 6, 7, 14, 15, 16, 17],
         label: answer_label,
-        find: |random| run::compare(random).finding(),
+        find: |random| compare_run(random).finding(),
     },
-    #[cfg(feature = "reduce")]
     Operation {
         name: "reduce",
         possible: &[0, 1, 2, 3, 4, 5, 6, 7, 8, 9, 10, 11, 12, 13],
         label: answer_label,
-        find: |random| reduce::compare(random).finding(),
+        find: |random| compare_reduce(random).finding(),
     },
-    #[cfg(all(feature = "run", feature = "reduce"))]
     Operation {
         name: "laws",
         possible: &[0, 1, 2, 3, 4],
@@ -136,101 +134,81 @@ fn compare_check_tree(random: &mut Random) -> Comparison {
     }
 }
 
-#[cfg(feature = "translation")]
-mod translation {
-    use super::*;
-    use reference::generate::translation_file;
-
-    /// Compares one check of a translation.
-    pub fn compare(random: &mut Random) -> Comparison {
-        let translation = translation_file(random);
-        let expected = reference::check_translation(&translation);
-        Comparison {
-            library: Answer::of_check(library::check_translation(&translation)),
-            reference: Answer::of_check(expected.number()),
-            inputs: vec![("translation", Input::Bytes(translation))],
-        }
+/// Compares one check of a translation.
+fn compare_check_translation(random: &mut Random) -> Comparison {
+    let translation = translation_file(random);
+    let expected = reference::check_translation(&translation);
+    Comparison {
+        library: Answer::of_check(library::check_translation(&translation)),
+        reference: Answer::of_check(expected.number()),
+        inputs: vec![("translation", Input::Bytes(translation))],
     }
 }
 
 /// A buffer with contents that show what was written.
-#[cfg(any(feature = "run", feature = "reduce"))]
 fn marked_buffer(random: &mut Random, length: usize) -> Vec<u8> {
     let start = random.byte();
     (0..length).map(|place| start.wrapping_add((place % 251) as u8)).collect()
 }
 
-#[cfg(feature = "run")]
-mod run {
-    use super::*;
-    use reference::generate::run_case;
-
-    /// Compares one run, with the whole output.
-    pub fn compare(random: &mut Random) -> Comparison {
-        let case = run_case(random);
-        let mut output = marked_buffer(random, case.output);
-        let mut library_output = output.clone();
-        let expected = reference::run(&case.translation, case.root, &case.tree, &mut output);
-        let found = library::run(&case.translation, case.root, &case.tree, &mut library_output);
-        Comparison {
-            library: Answer {
-                number: found.number,
-                length: found.length,
-                output: library_output,
-                workspace: vec![],
-            },
-            reference: Answer {
-                number: expected.number(),
-                length: expected.length(),
-                output,
-                workspace: vec![],
-            },
-            inputs: vec![
-                ("translation", Input::Bytes(case.translation)),
-                ("root", Input::Number(u64::from(case.root))),
-                ("tree", Input::Bytes(case.tree)),
-                ("output length", Input::Number(case.output as u64)),
-            ],
-        }
+/// Compares one run, with the whole output.
+fn compare_run(random: &mut Random) -> Comparison {
+    let case = run_case(random);
+    let mut output = marked_buffer(random, case.output);
+    let mut library_output = output.clone();
+    let expected = reference::run(&case.translation, case.root, &case.tree, &mut output);
+    let found = library::run(&case.translation, case.root, &case.tree, &mut library_output);
+    Comparison {
+        library: Answer {
+            number: found.number,
+            length: found.length,
+            output: library_output,
+            workspace: vec![],
+        },
+        reference: Answer {
+            number: expected.number(),
+            length: expected.length(),
+            output,
+            workspace: vec![],
+        },
+        inputs: vec![
+            ("translation", Input::Bytes(case.translation)),
+            ("root", Input::Number(u64::from(case.root))),
+            ("tree", Input::Bytes(case.tree)),
+            ("output length", Input::Number(case.output as u64)),
+        ],
     }
 }
 
-#[cfg(feature = "reduce")]
-mod reduce {
-    use super::*;
-    use reference::generate::reduce_case;
-
-    /// Compares one reduction, with the whole output and workspace.
-    pub fn compare(random: &mut Random) -> Comparison {
-        let case = reduce_case(random);
-        let mut output = marked_buffer(random, case.output);
-        let mut workspace = marked_buffer(random, case.workspace);
-        let (mut library_output, mut library_workspace) = (output.clone(), workspace.clone());
-        let expected = reference::reduce(&case.pack, &mut workspace, &mut output);
-        let found = library::reduce(&case.pack, &mut library_workspace, &mut library_output);
-        Comparison {
-            library: Answer {
-                number: found.number,
-                length: found.length,
-                output: library_output,
-                workspace: library_workspace,
-            },
-            reference: Answer {
-                number: expected.number(),
-                length: expected.length(),
-                output,
-                workspace,
-            },
-            inputs: vec![
-                ("pack", Input::Bytes(case.pack)),
-                ("workspace length", Input::Number(case.workspace as u64)),
-                ("output length", Input::Number(case.output as u64)),
-            ],
-        }
+/// Compares one reduction, with the whole output and workspace.
+fn compare_reduce(random: &mut Random) -> Comparison {
+    let case = reduce_case(random);
+    let mut output = marked_buffer(random, case.output);
+    let mut workspace = marked_buffer(random, case.workspace);
+    let (mut library_output, mut library_workspace) = (output.clone(), workspace.clone());
+    let expected = reference::reduce(&case.pack, &mut workspace, &mut output);
+    let found = library::reduce(&case.pack, &mut library_workspace, &mut library_output);
+    Comparison {
+        library: Answer {
+            number: found.number,
+            length: found.length,
+            output: library_output,
+            workspace: library_workspace,
+        },
+        reference: Answer {
+            number: expected.number(),
+            length: expected.length(),
+            output,
+            workspace,
+        },
+        inputs: vec![
+            ("pack", Input::Bytes(case.pack)),
+            ("workspace length", Input::Number(case.workspace as u64)),
+            ("output length", Input::Number(case.output as u64)),
+        ],
     }
 }
 
-#[cfg(all(feature = "run", feature = "reduce"))]
 mod laws {
     use super::*;
     use reference::generate::law_pack;
@@ -319,7 +297,7 @@ fn number(argument: Option<String>) -> Result<u64, String> {
 /// The operation with that name.
 fn operation(name: &str) -> Result<&'static Operation, String> {
     let found = OPERATIONS.iter().find(|operation| operation.name == name);
-    found.ok_or_else(|| format!("{name} is not an operation of this build"))
+    found.ok_or_else(|| format!("{name} is not an operation"))
 }
 
 /// The seed of one case, from the seed of all, the operation and the case's number.

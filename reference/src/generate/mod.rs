@@ -20,4 +20,4 @@ pub use packs::{law_pack, pack_with_term, reduce_case, LawPack, ReduceCase};
 pub use random::Random;
 pub use translations::{run_case, translation_file, RunCase};
 pub(crate) use trees::legal_tree;
-pub use trees::{tree_case, TreeCase};
+pub use trees::{source_tree, tree_case, TreeCase};

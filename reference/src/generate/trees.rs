@@ -6,6 +6,7 @@ use super::languages::{encoded, full_language, language, language_file, written}
 use super::random::Random;
 use super::ranges::{edge_value, legal_value};
 use crate::language::{bit, Class, Language, Production, KINDS, LANGUAGE_LIMIT};
+use crate::translation::read_translation;
 use crate::tree::TREE_LEVELS;
 
 /// The input of a check of a tree.
@@ -294,4 +295,9 @@ pub fn legal_tree(random: &mut Random, language: &Language) -> Option<(u8, Vec<u
     }
     let kind = random.pick(&grown);
     Some((kind, tree_of(random, &mut grower, kind)))
+}
+
+/// A root kind and a tree of a translation's source, legal but for its height, if there is one.
+pub fn source_tree(random: &mut Random, translation: &[u8]) -> Option<(u8, Vec<u8>)> {
+    legal_tree(random, &read_translation(translation).ok()?.source)
 }

@@ -89,7 +89,6 @@ fn put_token(random: &mut Random, tree: &mut Vec<u8>) {
     tree.extend_from_slice(&(random.bits() as u16).to_be_bytes());
 }
 
-#[cfg(feature = "run")]
 pub mod runs {
     use super::{field, tree_language};
 
@@ -165,7 +164,6 @@ pub mod runs {
     }
 }
 
-#[cfg(feature = "reduce")]
 pub mod packs {
     use super::{field, full_language, production};
     use reference::files::pack;

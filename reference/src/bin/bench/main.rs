@@ -3,13 +3,14 @@
 //! The ratio is the reference's time over the library's: 1.0 or more if the library is
 //! at least as fast.
 
-#![forbid(unsafe_code)]
+#![deny(unsafe_code)]
 
+mod clock;
 mod inputs;
 mod measure;
 
+use algebra::raw as library;
 use measure::{compare, growth, Growth, Timing};
-use reference::library;
 use std::hint::black_box;
 
 /// Sizes of the trees in bytes, about.
@@ -82,7 +83,7 @@ fn print_growth(name: &str, growth: Growth) {
     );
 }
 
-#[cfg(feature = "translation")]
+/// Measures the check of a translation from the empty language into a full one.
 fn bench_check_translation() {
     let mut translation = [0x20, 0, 0, 0x21, 4, 0].to_vec();
     translation.extend(inputs::full_language());
@@ -95,7 +96,6 @@ fn bench_check_translation() {
     print_line("check_translation, empty to 1,024 bytes", translation.len(), timing);
 }
 
-#[cfg(feature = "run")]
 mod run {
     use super::*;
     use inputs::runs;
@@ -164,7 +164,6 @@ mod run {
     }
 }
 
-#[cfg(feature = "reduce")]
 mod reduce {
     use super::*;
     use inputs::packs;
@@ -202,10 +201,7 @@ fn main() {
     print_heading();
     bench_check_language();
     bench_check_tree();
-    #[cfg(feature = "translation")]
     bench_check_translation();
-    #[cfg(feature = "run")]
     run::bench();
-    #[cfg(feature = "reduce")]
     reduce::bench();
 }

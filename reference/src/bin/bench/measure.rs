@@ -3,7 +3,7 @@
 //!
 //! Times are processor times of the thread, so other programs disturb them less.
 
-use reference::library::processor_time;
+use crate::clock::processor_time;
 use std::hint::black_box;
 use std::time::Duration;
 

@@ -9,13 +9,13 @@ mod mixed;
 mod packs;
 mod shapes;
 
+use algebra::STACK_BYTES;
 use mixed::Mixed;
 use reference::call::{Answer, Buffers, Call};
 use reference::generate::{
     language_file, long_run_case, reduce_case, run_case, translation_file, tree_case, Random,
     ReduceCase, RunCase, TreeCase,
 };
-use reference::library::STACK_BYTES;
 use reference::stack::{on_large_stack, LargeStack};
 use shapes::{shapes, Detour, Order, Shape, Size, ROOT, TREE_LEVELS};
 use std::process::ExitCode;

@@ -1,0 +1,71 @@
+# What there is to make; `make` alone says it. README.md tells more.
+
+VERSION := 0.1.0
+SONAME := libalgebra.so.0
+PREFIX ?= /usr/local
+LIBDIR ?= $(PREFIX)/lib
+INCLUDEDIR ?= $(PREFIX)/include
+PKGCONFIGDIR ?= $(LIBDIR)/pkgconfig
+
+# The folder of the archive. Where it is named, the archive is taken from there as it is.
+BUILT_ARCHIVE := $(if $(ALGEBRA_LIB_DIR),,$(CURDIR)/target/staticlib/libalgebra.a)
+ALGEBRA_LIB_DIR ?= target/staticlib
+export ALGEBRA_LIB_DIR := $(abspath $(ALGEBRA_LIB_DIR))
+ARCHIVE := $(ALGEBRA_LIB_DIR)/libalgebra.a
+COMMAND := client/command/target/release/algebra
+SHARED := target/lib/$(SONAME)
+PROVED := crates.txt $(shell find crates -name '*.rt' -o -name '*.antt')
+
+.PHONY: help run test library command examples install uninstall
+
+help:
+	@echo 'make run        builds what is needed and shows a session: check, reduce, list, run'
+	@echo 'make test       all tests, as .ci/run does'
+	@echo 'make library    the archive target/staticlib/libalgebra.a and the listing program, proved'
+	@echo 'make command    the command $(COMMAND)'
+	@echo 'make install    header, archive, shared library and algebra.pc below PREFIX ($(PREFIX)); DESTDIR too'
+	@echo 'make uninstall  takes them away again'
+	@echo 'make examples   writes the made files of examples/ anew'
+
+run: library command
+	@COMMAND=$(COMMAND) bash examples/tour
+
+test:
+	bash tests/all
+
+library: $(ARCHIVE)
+
+# The libraries and the listing program first, two at a time; then the archive, which proves the C interface.
+$(BUILT_ARCHIVE): $(PROVED)
+	rt check runner listing
+	rt staticlib algebra
+
+command: $(ARCHIVE)
+	cargo build --quiet --release --offline --manifest-path client/command/Cargo.toml
+
+examples: $(ARCHIVE)
+	bash examples/write
+
+$(SHARED): $(ARCHIVE)
+	mkdir -p $(@D)
+	$(CC) -shared -Wl,-soname,$(SONAME) -Wl,-z,noexecstack -Wl,--no-undefined \
+	    -Wl,--whole-archive $(ARCHIVE) -Wl,--no-whole-archive -o $@
+
+target/lib/algebra.pc: include/algebra.pc.in FORCE
+	mkdir -p $(@D)
+	sed -e 's|@PREFIX@|$(PREFIX)|' -e 's|@LIBDIR@|$(LIBDIR)|' -e 's|@INCLUDEDIR@|$(INCLUDEDIR)|' \
+	    -e 's|@VERSION@|$(VERSION)|' $< > $@
+
+FORCE:
+
+install: $(ARCHIVE) $(SHARED) target/lib/algebra.pc
+	install -d $(DESTDIR)$(INCLUDEDIR) $(DESTDIR)$(LIBDIR) $(DESTDIR)$(PKGCONFIGDIR)
+	install -m 644 include/algebra.h $(DESTDIR)$(INCLUDEDIR)
+	install -m 644 $(ARCHIVE) $(DESTDIR)$(LIBDIR)
+	install -m 755 $(SHARED) $(DESTDIR)$(LIBDIR)
+	ln -sf $(SONAME) $(DESTDIR)$(LIBDIR)/libalgebra.so
+	install -m 644 target/lib/algebra.pc $(DESTDIR)$(PKGCONFIGDIR)
+
+uninstall:
+	rm -f $(DESTDIR)$(INCLUDEDIR)/algebra.h $(DESTDIR)$(PKGCONFIGDIR)/algebra.pc
+	rm -f $(addprefix $(DESTDIR)$(LIBDIR)/,libalgebra.a $(SONAME) libalgebra.so)

@@ -1,0 +1,136 @@
+//! The texts of help and usage.
+
+use crate::arguments::{Verb, VERBS};
+
+/// What stands above the verbs.
+const HEADING: &str = "\
+algebra: checks, reduces, runs and shows session languages and their translations
+
+usage: algebra VERB OPERANDS [OPTIONS]
+";
+
+/// What stands below the verbs.
+const CLOSING: &str = "
+A file is given by its name, or as - for the standard input. Options of every verb:
+  --hex      files are hexadecimal text: two digits a byte, spaces between bytes as you like,
+             # starts a comment that ends with its line; results are written as such text too
+  --help     tell more about the verb
+  --version  tell the version of the command
+
+The first line is 'accepted' with the length of the result, or 'refused' with a number and a
+sentence. The status is 0 for accepted, 1 for refused, and 2 if there is no answer: wrong
+arguments, a file that cannot be read or written.
+";
+
+/// How a verb is used, in a line.
+fn synopsis(verb: Verb) -> &'static str {
+    match verb {
+        Verb::CheckLanguage => "FILE",
+        Verb::CheckTranslation => "FILE",
+        Verb::CheckTree => "LANGUAGE ROOT TREE",
+        Verb::Reduce => "PACK [-o FILE] [--limit BYTES]",
+        Verb::Run => "TRANSLATION-OR-PACK ROOT TREE [-o FILE] [--limit BYTES] [--as SORT]",
+        Verb::List => "PACK",
+        Verb::Show => "FILE [--as SORT] | LANGUAGE ROOT TREE",
+        Verb::Explain => "VERB OPERANDS [--limit BYTES] [--as SORT]",
+        Verb::Steps => "PACK ROOT TREE [--limit BYTES]",
+    }
+}
+
+/// What a verb does, in a line.
+fn summary(verb: Verb) -> &'static str {
+    match verb {
+        Verb::CheckLanguage => "Check a language",
+        Verb::CheckTranslation => "Check a translation",
+        Verb::CheckTree => "Check a tree of a root kind",
+        Verb::Reduce => "Reduce a pack to one translation",
+        Verb::Run => "Run a translation, or what a pack reduces to, on a tree",
+        Verb::List => "List the clauses of what a pack reduces to",
+        Verb::Show => "Show a language, a translation, a pack or a tree in words",
+        Verb::Explain => "Tell where the fault is that an operation refuses",
+        Verb::Steps => "Show a join's runs in turn beside the run of the join",
+    }
+}
+
+/// What else is to be known of a verb.
+fn details(verb: Verb) -> &'static str {
+    match verb {
+        Verb::CheckLanguage => "Refusals: 1 to 4.\n",
+        Verb::CheckTranslation => "Refusals: 1 to 7.\n",
+        Verb::CheckTree => "ROOT is the number of a kind. Refusals: 1 to 4, 14 to 16.\n",
+        Verb::Reduce => {
+            "\
+The translation is printed in hexadecimal digits below the first line.
+  -o FILE        write it to the file instead, as bytes, or as text with --hex. The file is
+                 written whole or not at all. With - the translation alone goes to the
+                 standard output, and the first line to the standard error.
+  --limit BYTES  lend an output of that many bytes; without it, 4096, which always suffices
+Refusals: 1 to 13.
+"
+        }
+        Verb::Run => {
+            "\
+A pack is reduced first; it is told from a translation by its first byte. ROOT is the number of
+a kind. The result is printed in hexadecimal digits below the first line.
+  -o FILE        write it to the file instead, as bytes, or as text with --hex. The file is
+                 written whole or not at all. With - the result alone goes to the standard
+                 output, and the first line to the standard error.
+  --limit BYTES  lend an output of that many bytes; without it, 268435456
+  --as SORT      take the first file as a 'translation' or a 'pack', whatever its first byte
+Refusals: 1 to 7, 14 to 17; of a pack also 8 to 13.
+"
+        }
+        Verb::List => {
+            "\
+Prints what the listing program prints: 'accepted' and the length of the translation, and for
+each clause its result, name and code; or 'refused' and the number.
+"
+        }
+        Verb::Show => {
+            "\
+Prints a line for each entry. What the file is, its first byte tells. A file is shown whether
+or not it is accepted, unless it is refused with 1 or 2; a tree is shown if it is legal.
+  --as SORT      take the file as a 'language', a 'translation' or a 'pack'
+"
+        }
+        Verb::Explain => {
+            "\
+VERB is one of check-language, check-translation, check-tree, reduce and run, with its operands.
+Below the first line stands where the fault is (the byte, counted from 0, the field, the clause,
+the path of argument numbers in a tree, the operand in a term) and what it is. These lines come
+from a second implementation; if it does not come to the same number, that is said.
+  --limit BYTES  explain the call with an output of that many bytes
+  --as SORT      for run: take the first file as a 'translation' or a 'pack'
+"
+        }
+        Verb::Steps => {
+            "\
+Where the pack's term is a join, runs its operands in turn, the second first, and prints each
+tree between them; then the result of the last run and that of the join, and that they are
+equal. Operands that are joins are taken apart too, and lets around a join go into each step. A
+tree between can be too deep or too long to be run: then that is said.
+  --limit BYTES  lend outputs of that many bytes; without it, 268435456
+"
+        }
+    }
+}
+
+/// The line that says how a verb, or the command, is used.
+pub fn usage(verb: Option<Verb>) -> String {
+    match verb {
+        Some(verb) => format!("usage: algebra {} {}", verb.name(), synopsis(verb)),
+        None => {
+            "usage: algebra VERB OPERANDS [OPTIONS]; algebra --help tells the verbs".to_string()
+        }
+    }
+}
+
+/// The help for a verb, or for the command.
+pub fn help(verb: Option<Verb>) -> String {
+    if let Some(verb) = verb {
+        return format!("{}\n\n{}.\n{}", usage(Some(verb)), summary(verb), details(verb));
+    }
+    let line = |(name, verb): (&str, Verb)| format!("  {name:17}  {}\n", summary(verb));
+    let verbs: String = VERBS.into_iter().map(line).collect();
+    format!("{HEADING}\n{verbs}{CLOSING}")
+}

@@ -1,0 +1,172 @@
+//! An operation of the library with its inputs: what the library answers, and where the second
+//! implementation finds the fault.
+
+use crate::arguments::{misuse, number, Call, Sort, Verb};
+use crate::input::read_file;
+use crate::{Failure, Streams};
+use algebra::{Refusal, LANGUAGE_BYTES, PACK_BYTES, TRANSLATION_BYTES, WORKSPACE_BYTES};
+use reference::explain::{self, Fault};
+
+/// The length of the output of a run, unless the arguments give one.
+const RUN_BYTES: usize = 1 << 28;
+/// Trees may have any length.
+const TREE_BYTES: usize = usize::MAX - 1;
+
+/// The inputs of one operation.
+pub enum Job {
+    CheckLanguage(Vec<u8>),
+    CheckTranslation(Vec<u8>),
+    CheckTree { language: Vec<u8>, root: u32, tree: Vec<u8> },
+    Reduce { pack: Vec<u8>, limit: usize },
+    Run(Run),
+}
+
+/// The inputs of a run.
+pub struct Run {
+    pub translator: Translator,
+    pub root: u32,
+    pub tree: Vec<u8>,
+    pub limit: usize,
+}
+
+/// What is run: a translation, or what a pack reduces to.
+pub enum Translator {
+    Translation(Vec<u8>),
+    Pack(Vec<u8>),
+}
+
+/// What a file is by its first byte, if that tells it; no bytes are the empty language.
+pub fn sort_of(file: &[u8]) -> Option<Sort> {
+    match file.first() {
+        None | Some(0x11 | 0x12) => Some(Sort::Language),
+        Some(0x20..=0x23) => Some(Sort::Translation),
+        Some(0x30..=0x32) => Some(Sort::Pack),
+        Some(_) => None,
+    }
+}
+
+/// Reads the file at a place among the operands, of which so many bytes matter.
+pub fn operand(
+    call: &Call,
+    place: usize,
+    limit: usize,
+    streams: &mut Streams,
+) -> Result<Vec<u8>, Failure> {
+    read_file(&call.operands[place], call.options.hexadecimal, limit, streams)
+}
+
+/// The root, which is the second operand.
+pub fn root(call: &Call) -> Result<u32, Failure> {
+    number(call.verb, "root", &call.operands[1])
+}
+
+/// The tree, which is the third operand.
+pub fn tree(call: &Call, streams: &mut Streams) -> Result<Vec<u8>, Failure> {
+    operand(call, 2, TREE_BYTES, streams)
+}
+
+/// The length of the output of a run.
+pub fn run_limit(call: &Call) -> usize {
+    call.options.limit.unwrap_or(RUN_BYTES)
+}
+
+impl Job {
+    /// Reads the inputs of a verb that is an operation.
+    pub fn load(verb: Verb, call: &Call, streams: &mut Streams) -> Result<Job, Failure> {
+        match verb {
+            Verb::CheckLanguage => {
+                operand(call, 0, LANGUAGE_BYTES, streams).map(Job::CheckLanguage)
+            }
+            Verb::CheckTranslation => {
+                operand(call, 0, TRANSLATION_BYTES, streams).map(Job::CheckTranslation)
+            }
+            Verb::CheckTree => {
+                let (root, language) = (root(call)?, operand(call, 0, LANGUAGE_BYTES, streams)?);
+                Ok(Job::CheckTree { language, root, tree: tree(call, streams)? })
+            }
+            Verb::Reduce | Verb::List => {
+                let pack = operand(call, 0, PACK_BYTES, streams)?;
+                Ok(Job::Reduce { pack, limit: call.options.limit.unwrap_or(TRANSLATION_BYTES) })
+            }
+            Verb::Run => Run::load(call, streams).map(Job::Run),
+            _ => Err(misuse(Some(verb), "this is no operation")),
+        }
+    }
+
+    /// The length of the tree, if there is one.
+    pub fn tree_length(&self) -> usize {
+        match self {
+            Job::CheckTree { tree, .. } | Job::Run(Run { tree, .. }) => tree.len(),
+            _ => 0,
+        }
+    }
+
+    /// What the library answers; a check has no result.
+    pub fn answer(&self) -> Result<Vec<u8>, Refusal> {
+        match self {
+            Job::CheckLanguage(file) => algebra::check_language(file).map(|()| vec![]),
+            Job::CheckTranslation(file) => algebra::check_translation(file).map(|()| vec![]),
+            Job::CheckTree { language, root, tree } => {
+                algebra::check_tree(language, *root, tree).map(|()| vec![])
+            }
+            Job::Reduce { pack, limit } => reduced(pack, *limit),
+            Job::Run(run) => run.answer(),
+        }
+    }
+
+    /// Where the second implementation finds a fault, if it does.
+    pub fn fault(&self) -> Option<Fault> {
+        match self {
+            Job::CheckLanguage(file) => explain::language(file),
+            Job::CheckTranslation(file) => explain::translation(file),
+            Job::CheckTree { language, root, tree } => explain::tree(language, *root, tree),
+            Job::Reduce { pack, limit } => explain::reduce(pack, WORKSPACE_BYTES, *limit),
+            Job::Run(run) => run.fault(),
+        }
+    }
+}
+
+/// Reduces a pack into an output of so many bytes.
+fn reduced(pack: &[u8], limit: usize) -> Result<Vec<u8>, Refusal> {
+    let mut output = vec![0; limit.min(TRANSLATION_BYTES)];
+    let length = algebra::reduce(pack, &mut output)?;
+    output.truncate(length);
+    Ok(output)
+}
+
+impl Run {
+    /// Reads the inputs.
+    fn load(call: &Call, streams: &mut Streams) -> Result<Run, Failure> {
+        let (root, file) = (root(call)?, operand(call, 0, PACK_BYTES, streams)?);
+        let translator = match call.options.sort.or(sort_of(&file)) {
+            Some(Sort::Pack) => Translator::Pack(file),
+            _ => Translator::Translation(file),
+        };
+        Ok(Run { translator, root, tree: tree(call, streams)?, limit: run_limit(call) })
+    }
+
+    /// What the library answers.
+    fn answer(&self) -> Result<Vec<u8>, Refusal> {
+        let run = |translation: &[u8]| {
+            algebra::run_to_vec(translation, self.root, &self.tree, self.limit)
+        };
+        match &self.translator {
+            Translator::Translation(translation) => run(translation),
+            Translator::Pack(pack) => run(&algebra::reduce_to_vec(pack)?),
+        }
+    }
+
+    /// Where the second implementation finds a fault, if it does.
+    fn fault(&self) -> Option<Fault> {
+        let run = |translation: &[u8]| explain::run(translation, self.root, &self.tree, self.limit);
+        match &self.translator {
+            Translator::Translation(translation) => run(translation),
+            Translator::Pack(pack) => {
+                let mut output = vec![0; TRANSLATION_BYTES];
+                let outcome = reference::reduce(pack, &mut vec![0; WORKSPACE_BYTES], &mut output);
+                explain::reduce(pack, WORKSPACE_BYTES, TRANSLATION_BYTES)
+                    .or_else(|| run(&output[..outcome.length() as usize]))
+            }
+        }
+    }
+}

@@ -1,0 +1,148 @@
+//! A join's runs in turn, beside the run of the join.
+
+use crate::arguments::Call;
+use crate::job::{operand, root, run_limit, tree};
+use crate::output::digits;
+use crate::verbs::{answer_line, printed};
+use crate::work::work;
+use crate::{Failure, Printed, Streams, REFUSED};
+use algebra::{Refusal, PACK_BYTES};
+use reference::steps::{mapped_kind, Step};
+
+/// A tree and the kind of its root.
+#[derive(Clone, Debug, PartialEq, Eq)]
+struct Rooted {
+    kind: u32,
+    tree: Vec<u8>,
+}
+
+/// What the steps came to: the last tree, or the number of the step that refused.
+type InTurn = Result<Rooted, (usize, Refusal)>;
+
+/// How both routes compare.
+#[derive(Clone, Copy, Debug, PartialEq, Eq)]
+enum Verdict {
+    Equal,
+    RefusedAlike,
+    TooDeep,
+    TooLong,
+    Different,
+}
+
+impl Verdict {
+    /// Compares the steps in turn, so many of them, with the join.
+    fn new(in_turn: &InTurn, joined: &Result<Rooted, Refusal>, count: usize) -> Verdict {
+        match (in_turn, joined) {
+            (Ok(one), Ok(other)) if one == other => Verdict::Equal,
+            (Err((step, Refusal::TooDeep)), _) if *step > 0 => Verdict::TooDeep,
+            (Err((step, Refusal::OutputTooShort)), _) if *step + 1 < count => Verdict::TooLong,
+            (Err((_, one)), Err(other)) if one == other => Verdict::RefusedAlike,
+            _ => Verdict::Different,
+        }
+    }
+
+    /// The verdict in words.
+    fn text(self) -> &'static str {
+        match self {
+            Verdict::Equal => "equal: the steps in turn and the join give the same tree",
+            Verdict::RefusedAlike => "equal: the steps in turn and the join are refused alike",
+            Verdict::TooDeep => "not compared: a tree between is too deep to be run",
+            Verdict::TooLong => "not compared: a tree between is too long for the output",
+            Verdict::Different => "DIFFERENT: the steps in turn and the join do not agree",
+        }
+    }
+}
+
+/// Prints the steps of a pack's join on a tree.
+pub fn steps(call: &Call, streams: &mut Streams) -> Result<Printed, Failure> {
+    let (root, pack) = (root(call)?, operand(call, 0, PACK_BYTES, streams)?);
+    let (tree, limit) = (tree(call, streams)?, run_limit(call));
+    let bytes = tree.len();
+    let start = Rooted { kind: root, tree };
+    work(bytes, streams, || both_routes(&pack, start, limit))
+}
+
+/// What is printed for both routes.
+fn both_routes(pack: &[u8], start: Rooted, limit: usize) -> Printed {
+    let translation = match algebra::reduce_to_vec(pack) {
+        Ok(translation) => translation,
+        Err(refusal) => return printed(Err(refusal), "the pack is refused\n"),
+    };
+    let steps = reference::steps::steps(pack).unwrap_or_default();
+    let joined = run(&translation, &start, limit);
+    let mut lines = tree_line("tree", &start);
+    let in_turn = run_in_turn(&steps, start, limit, &mut lines);
+    if let Ok(result) = &joined {
+        lines.push_str(&tree_line("joined", result));
+    }
+    let verdict = Verdict::new(&in_turn, &joined, steps.len());
+    let answer = joined.map(|result| result.tree.len());
+    match steps.len() {
+        0 => lines.push_str("note: the second implementation cannot read the pack\n"),
+        1 => lines.push_str("the term is no join: there is one step\n"),
+        _ => lines.push_str(&format!("{}\n", verdict.text())),
+    }
+    let printed = printed(answer, &lines);
+    match verdict {
+        Verdict::Different => Printed { status: REFUSED, ..printed },
+        _ => printed,
+    }
+}
+
+/// Runs the steps one after the other, and adds a line for each run and each tree.
+fn run_in_turn(steps: &[Step], start: Rooted, limit: usize, lines: &mut String) -> InTurn {
+    let mut current = start;
+    for (place, step) in steps.iter().enumerate() {
+        let translation = algebra::reduce_to_vec(&step.pack).map_err(|refusal| (place, refusal));
+        let answer = translation.and_then(|translation| {
+            run(&translation, &current, limit).map_err(|refusal| (place, refusal))
+        });
+        let length = answer.as_ref().map(|result| result.tree.len()).map_err(|refused| refused.1);
+        let (number, count, term) = (place + 1, steps.len(), digits(&step.term));
+        let answered = answer_line(length);
+        lines.push_str(&format!("step {number} of {count}, term {term}: {answered}\n"));
+        current = answer?;
+        let name = if number < count { "between" } else { "in turn" };
+        lines.push_str(&tree_line(name, &current));
+    }
+    Ok(current)
+}
+
+/// Runs a translation on a tree.
+fn run(translation: &[u8], start: &Rooted, limit: usize) -> Result<Rooted, Refusal> {
+    let tree = algebra::run_to_vec(translation, start.kind, &start.tree, limit)?;
+    let kind = mapped_kind(translation, start.kind).ok_or(Refusal::UnknownRoot)?;
+    Ok(Rooted { kind, tree })
+}
+
+/// The line that shows a tree: the one place that decides in which format it is shown.
+fn tree_line(name: &str, rooted: &Rooted) -> String {
+    let Rooted { kind, tree } = rooted;
+    format!("{name}, kind {kind}, length {}: {}\n", tree.len(), digits(tree))
+}
+
+#[cfg(test)]
+mod tests {
+    use super::*;
+
+    /// A tree of kind 1 with one byte.
+    fn rooted(byte: u8) -> Rooted {
+        Rooted { kind: 1, tree: vec![byte] }
+    }
+
+    #[test]
+    fn verdicts() {
+        let verdict = |in_turn: &InTurn, joined| Verdict::new(in_turn, &joined, 3);
+        let deep = Err((1, Refusal::TooDeep));
+        assert_eq!(verdict(&Ok(rooted(1)), Ok(rooted(1))), Verdict::Equal);
+        assert_eq!(verdict(&Ok(rooted(1)), Ok(rooted(2))), Verdict::Different);
+        assert_eq!(verdict(&deep, Ok(rooted(1))), Verdict::TooDeep);
+        let short = Refusal::OutputTooShort;
+        assert_eq!(verdict(&Err((0, short)), Ok(rooted(1))), Verdict::TooLong);
+        assert_eq!(verdict(&Err((2, short)), Err(short)), Verdict::RefusedAlike);
+        assert_eq!(verdict(&Err((2, short)), Ok(rooted(1))), Verdict::Different);
+        let illegal = Refusal::IllegalTree;
+        assert_eq!(verdict(&Err((0, illegal)), Err(illegal)), Verdict::RefusedAlike);
+        assert_eq!(verdict(&Err((1, illegal)), Ok(rooted(1))), Verdict::Different);
+    }
+}

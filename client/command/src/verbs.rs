@@ -1,0 +1,127 @@
+//! What each verb prints.
+
+use crate::arguments::{misuse, Call, Sort, Verb};
+use crate::explanation::explanation;
+use crate::job::{operand, root, sort_of, tree, Job};
+use crate::output::{hexadecimal_lines, write_file};
+use crate::work::work;
+use crate::{steps, Failure, Printed, Streams, ACCEPTED, REFUSED};
+use algebra::{Refusal, LANGUAGE_BYTES, PACK_BYTES};
+use reference::explain::Fault;
+use reference::listing::clause_lines;
+use reference::show;
+
+/// Carries out a call.
+pub fn carry_out(call: &Call, streams: &mut Streams) -> Result<Printed, Failure> {
+    match call.verb {
+        Verb::List => list(call, streams),
+        Verb::Show => show(call, streams),
+        Verb::Explain => explain(call, streams),
+        Verb::Steps => steps::steps(call, streams),
+        verb => operate(verb, call, streams),
+    }
+}
+
+/// The first line of an answer, without its end.
+pub fn answer_line(answer: Result<usize, Refusal>) -> String {
+    match answer {
+        Ok(length) => format!("accepted {length}"),
+        Err(refusal) => format!("refused {}: {refusal}", refusal.number()),
+    }
+}
+
+/// What is printed for an answer: its first line and others.
+pub fn printed(answer: Result<usize, Refusal>, lines: &str) -> Printed {
+    let status = if answer.is_ok() { ACCEPTED } else { REFUSED };
+    let output = format!("{}\n{lines}", answer_line(answer)).into_bytes();
+    Printed { output, messages: String::new(), status }
+}
+
+/// The length of an answer's result.
+fn length(answer: &Result<Vec<u8>, Refusal>) -> Result<usize, Refusal> {
+    answer.as_ref().map(Vec::len).map_err(|refusal| *refusal)
+}
+
+/// Calls the library, and prints or writes the result.
+fn operate(verb: Verb, call: &Call, streams: &mut Streams) -> Result<Printed, Failure> {
+    let job = Job::load(verb, call, streams)?;
+    let answer = work(job.tree_length(), streams, || job.answer())?;
+    let first = length(&answer);
+    let Ok(result) = answer else { return Ok(printed(first, "")) };
+    let file = match &call.options.output {
+        None => return Ok(printed(first, &hexadecimal_lines(&result))),
+        Some(file) => file,
+    };
+    let bytes = match call.options.hexadecimal {
+        true => hexadecimal_lines(&result).into_bytes(),
+        false => result,
+    };
+    if file == "-" {
+        let messages = format!("{}\n", answer_line(first));
+        return Ok(Printed { output: bytes, messages, status: ACCEPTED });
+    }
+    write_file(file, &bytes)?;
+    Ok(printed(first, ""))
+}
+
+/// Prints what the listing program prints.
+fn list(call: &Call, streams: &mut Streams) -> Result<Printed, Failure> {
+    let job = Job::load(Verb::List, call, streams)?;
+    Ok(match work(0, streams, || job.answer())? {
+        Ok(translation) => printed(Ok(translation.len()), &clause_lines(&translation)),
+        Err(refusal) => {
+            let output = format!("refused {}\n", refusal.number()).into_bytes();
+            Printed { output, messages: String::new(), status: REFUSED }
+        }
+    })
+}
+
+/// Prints the answer of an operation, and where the fault is.
+fn explain(call: &Call, streams: &mut Streams) -> Result<Printed, Failure> {
+    let job = Job::load(call.explained.unwrap_or(call.verb), call, streams)?;
+    let task = || (length(&job.answer()), job.fault());
+    let (answer, fault) = work(job.tree_length(), streams, task)?;
+    Ok(printed(answer, &explanation(answer.map(|_| ()), fault.as_ref())))
+}
+
+/// Prints a file or a tree in words.
+fn show(call: &Call, streams: &mut Streams) -> Result<Printed, Failure> {
+    if call.operands.len() == 1 {
+        return show_file(call, streams);
+    }
+    if call.options.sort.is_some() {
+        return Err(misuse(Some(Verb::Show), "--as does not go with a tree"));
+    }
+    let (root, language) = (root(call)?, operand(call, 0, LANGUAGE_BYTES, streams)?);
+    let tree = tree(call, streams)?;
+    work(tree.len(), streams, || show::tree(&language, root, &tree)).map(shown)
+}
+
+/// Prints a file in words.
+fn show_file(call: &Call, streams: &mut Streams) -> Result<Printed, Failure> {
+    let file = operand(call, 0, PACK_BYTES, streams)?;
+    let Some(sort) = call.options.sort.or(sort_of(&file)) else {
+        let name = call.operands[0].display();
+        let what = format!("{name}: the first byte does not tell what the file is");
+        return Err(misuse(Some(Verb::Show), &what));
+    };
+    let task = || match sort {
+        Sort::Language => show::language(&file),
+        Sort::Translation => show::translation(&file),
+        Sort::Pack => show::pack(&file),
+    };
+    work(0, streams, task).map(shown)
+}
+
+/// What is printed for something that can be shown, or not.
+fn shown(text: Result<String, Fault>) -> Printed {
+    match text {
+        Ok(text) => Printed { output: text.into(), messages: String::new(), status: ACCEPTED },
+        Err(fault) => printed(Err(refusal_of(&fault)), &format!("{fault}\n")),
+    }
+}
+
+/// The refusal of a fault, by its number.
+fn refusal_of(fault: &Fault) -> Refusal {
+    Refusal::try_from(fault.reason as u32).expect("both implementations have the same numbers")
+}

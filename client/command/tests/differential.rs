@@ -1,0 +1,380 @@
+//! The command on generated cases, in process: its first line, status and result are those of the
+//! library, a refusal leaves the file of `-o` as it was, and both routes of a join are equal.
+
+use algebra::{Refusal, TRANSLATION_BYTES};
+use algebra_command::{command, Streams, ACCEPTED, REFUSED};
+use reference::generate::{
+    language_file, law_pack, long_run_case, pack_with_term, reduce_case, run_case, source_tree,
+    translation_file, tree_case, Random,
+};
+use std::ffi::OsString;
+use std::fs;
+use std::path::PathBuf;
+
+/// So many cases of each verb are generated.
+const CASES: u64 = 1000;
+/// So many of them have long trees.
+const LONG_CASES: u64 = 10;
+/// In so many of a hundred cases the result is written to a file.
+const WRITTEN: usize = 50;
+/// Files are made here if it is there, since the command writes down to the disk.
+const MEMORY_FOLDER: &str = "/dev/shm";
+/// What the file of `-o` holds before a call.
+const OLD: &[u8] = b"old";
+/// The length of an output that is long enough for most results.
+const LIMIT: usize = 20_000;
+
+/// A folder with the files of one case.
+struct Folder(PathBuf);
+
+/// What a call printed, and its status.
+struct Printed {
+    status: u8,
+    output: Vec<u8>,
+    messages: String,
+    /// Whether files were hexadecimal text.
+    hexadecimal: bool,
+}
+
+/// An input of a call, or a root.
+enum Operand<'a> {
+    File(&'a [u8]),
+    Root(u32),
+}
+
+use Operand::{File, Root};
+
+impl Folder {
+    /// A new folder.
+    fn new(name: &str) -> Folder {
+        let name = format!("algebra-differential-{name}-{}", std::process::id());
+        let memory = PathBuf::from(MEMORY_FOLDER);
+        let parent = if memory.is_dir() { memory } else { std::env::temp_dir() };
+        let path = parent.join(name);
+        fs::create_dir_all(&path).expect("a folder can be made");
+        Folder(path)
+    }
+
+    /// Calls the command on files with these contents; one of them may come from the standard
+    /// input, and all may be hexadecimal text.
+    fn call(
+        &self,
+        random: &mut Random,
+        verbs: &[&str],
+        operands: &[Operand],
+        options: &[String],
+    ) -> Printed {
+        let hexadecimal = random.percent(30);
+        let piped = random.below(2 * operands.len());
+        let mut arguments: Vec<OsString> = verbs.iter().map(OsString::from).collect();
+        let mut input = vec![];
+        for (place, operand) in operands.iter().enumerate() {
+            arguments.push(match operand {
+                Root(root) => root.to_string().into(),
+                File(bytes) if place == piped => {
+                    input = encoded(bytes, hexadecimal);
+                    "-".into()
+                }
+                File(bytes) => self.operand(place, &encoded(bytes, hexadecimal)),
+            });
+        }
+        arguments.extend(options.iter().map(OsString::from));
+        arguments.extend(hexadecimal.then(|| "--hex".into()));
+        Printed { hexadecimal, ..called(&arguments, &input) }
+    }
+
+    /// Writes the file of an operand and gives its name.
+    fn operand(&self, place: usize, bytes: &[u8]) -> OsString {
+        let path = self.0.join(format!("operand{place}"));
+        fs::write(&path, bytes).expect("a file can be written");
+        path.into_os_string()
+    }
+
+    /// The file that `-o` names.
+    fn result(&self) -> PathBuf {
+        self.0.join("result")
+    }
+
+    /// The options that name the file, after it is made to hold what is old.
+    fn output_options(&self) -> Vec<String> {
+        fs::write(self.result(), OLD).expect("a file can be written");
+        vec!["-o".to_string(), self.result().display().to_string()]
+    }
+
+    /// The bytes of the file after a call.
+    fn written(&self, printed: &Printed) -> Vec<u8> {
+        let file = fs::read(self.result()).expect("the file is there");
+        if printed.status != ACCEPTED || !printed.hexadecimal {
+            return file;
+        }
+        let text = String::from_utf8(file).expect("hexadecimal text");
+        decoded(&text).expect("hexadecimal text")
+    }
+}
+
+impl Drop for Folder {
+    /// Removes the folder.
+    fn drop(&mut self) {
+        let _ = fs::remove_dir_all(&self.0);
+    }
+}
+
+/// The bytes of lines of digits.
+fn decoded(text: &str) -> Option<Vec<u8>> {
+    let digits: Vec<u32> =
+        text.lines().flat_map(str::chars).map_while(|c| c.to_digit(16)).collect();
+    let whole = digits.len() == text.lines().map(str::len).sum();
+    whole.then(|| digits.chunks(2).map(|pair| (16 * pair[0] + pair[1]) as u8).collect())
+}
+
+/// Bytes as they are, or as hexadecimal text.
+fn encoded(bytes: &[u8], hexadecimal: bool) -> Vec<u8> {
+    match hexadecimal {
+        true => bytes.iter().flat_map(|byte| format!("{byte:02x} ").into_bytes()).collect(),
+        false => bytes.to_vec(),
+    }
+}
+
+/// Calls the command with arguments and a standard input.
+fn called(arguments: &[OsString], mut input: &[u8]) -> Printed {
+    let (mut output, mut messages) = (vec![], vec![]);
+    let mut streams = Streams {
+        input: &mut input,
+        output: &mut output,
+        messages: &mut messages,
+        terminal: false,
+    };
+    let status = command(arguments, &mut streams);
+    let messages = String::from_utf8(messages).expect("text");
+    Printed { status, output, messages, hexadecimal: false }
+}
+
+impl Printed {
+    /// The text of the standard output.
+    fn text(&self) -> &str {
+        std::str::from_utf8(&self.output).expect("text")
+    }
+
+    /// Compares the first line, the status and the messages with an answer of the library.
+    fn compare<T>(&self, case: u64, answer: &Result<T, Refusal>, length: impl Fn(&T) -> usize) {
+        let (line, status) = match answer {
+            Ok(result) => (format!("accepted {}", length(result)), ACCEPTED),
+            Err(refusal) => (format!("refused {}: {refusal}", refusal.number()), REFUSED),
+        };
+        assert_eq!(self.messages, "", "case {case}");
+        assert_eq!(self.text().lines().next(), Some(line.as_str()), "case {case}");
+        assert_eq!(self.status, status, "case {case}");
+    }
+}
+
+/// Calls a check, and its explanation, and compares both with the library's answer.
+fn compare_check(
+    folder: &Folder,
+    case: u64,
+    verb: &str,
+    operands: &[Operand],
+    answer: Result<(), Refusal>,
+    expected: u32,
+) {
+    let random = &mut Random::new(case);
+    let printed = folder.call(random, &[verb], operands, &[]);
+    printed.compare(case, &answer, |_| 0);
+    assert_eq!(printed.text().lines().count(), 1, "case {case}");
+    compare_explanation(folder, case, verb, operands, &[], answer.map(|()| 0), expected);
+}
+
+/// Calls an explanation. It has the library's first line, and no note, since the second
+/// implementation answers with the same number.
+fn compare_explanation(
+    folder: &Folder,
+    case: u64,
+    verb: &str,
+    operands: &[Operand],
+    options: &[String],
+    answer: Result<usize, Refusal>,
+    expected: u32,
+) {
+    let printed = folder.call(&mut Random::new(case), &["explain", verb], operands, options);
+    printed.compare(case, &answer, |length| *length);
+    let number = answer.err().map_or(0, Refusal::number);
+    assert_eq!(number, expected, "case {case}");
+    assert!(!printed.text().contains("\nnote: "), "case {case}: {}", printed.text());
+    assert_eq!(printed.text().contains("\nfault: "), expected != 0, "case {case}");
+}
+
+/// Calls a verb with a result, which is written to a file in some cases and printed in others.
+fn compare_result(
+    folder: &Folder,
+    case: u64,
+    verb: &str,
+    operands: &[Operand],
+    options: &[String],
+    answer: Result<&[u8], Refusal>,
+) {
+    let random = &mut Random::new(case);
+    if random.percent(WRITTEN) {
+        let options = [folder.output_options(), options.to_vec()].concat();
+        let printed = folder.call(random, &[verb], operands, &options);
+        printed.compare(case, &answer, |result| result.len());
+        assert_eq!(folder.written(&printed), answer.unwrap_or(OLD), "case {case}");
+    } else {
+        let printed = folder.call(random, &[verb], operands, options);
+        printed.compare(case, &answer, |result| result.len());
+        let (_, digits) = printed.text().split_once('\n').expect("a first line");
+        assert_eq!(decoded(digits).as_deref(), Some(answer.unwrap_or_default()), "case {case}");
+    }
+}
+
+#[test]
+fn check_language() {
+    let folder = Folder::new("language");
+    for case in 0..CASES {
+        let file = language_file(&mut Random::new(case));
+        let answer = algebra::check_language(&file);
+        let expected = reference::check_language(&file).number();
+        compare_check(&folder, case, "check-language", &[File(&file)], answer, expected);
+    }
+}
+
+#[test]
+fn check_translation() {
+    let folder = Folder::new("translation");
+    for case in 0..CASES {
+        let file = translation_file(&mut Random::new(case));
+        let answer = algebra::check_translation(&file);
+        let expected = reference::check_translation(&file).number();
+        compare_check(&folder, case, "check-translation", &[File(&file)], answer, expected);
+    }
+}
+
+#[test]
+fn check_tree() {
+    let folder = Folder::new("tree");
+    for case in 0..CASES {
+        let input = tree_case(&mut Random::new(case));
+        let operands = [File(&input.language), Root(input.root), File(&input.tree)];
+        let answer = algebra::check_tree(&input.language, input.root, &input.tree);
+        let expected = reference::check_tree(&input.language, input.root, &input.tree).number();
+        compare_check(&folder, case, "check-tree", &operands, answer, expected);
+    }
+}
+
+#[test]
+fn reduce_and_list() {
+    let folder = Folder::new("reduce");
+    for case in 0..CASES {
+        let random = &mut Random::new(case);
+        let input = reduce_case(random);
+        let (pack, limit) = (&input.pack, input.output.min(TRANSLATION_BYTES));
+        let mut output = vec![0; limit];
+        let answer = algebra::reduce(pack, &mut output);
+        let limit = vec!["--limit".to_string(), input.output.to_string()];
+        let result = answer.map(|length| &output[..length]);
+        compare_result(&folder, case, "reduce", &[File(pack)], &limit, result);
+        let mut workspace = vec![0; algebra::WORKSPACE_BYTES];
+        let second = reference::reduce(pack, &mut workspace, &mut vec![0; input.output]).number();
+        compare_explanation(&folder, case, "reduce", &[File(pack)], &limit, answer, second);
+        compare_list(&folder, case, pack);
+    }
+}
+
+/// Compares a listing with the library's answer, and all of it with the second implementation.
+fn compare_list(folder: &Folder, case: u64, pack: &[u8]) {
+    let answer = algebra::reduce_to_vec(pack);
+    let printed = folder.call(&mut Random::new(case), &["list"], &[File(pack)], &[]);
+    let first = match &answer {
+        Ok(translation) => format!("accepted {}", translation.len()),
+        Err(refusal) => format!("refused {}", refusal.number()),
+    };
+    assert_eq!(printed.text().lines().next(), Some(first.as_str()), "case {case}");
+    assert_eq!(printed.status, u8::from(answer.is_err()), "case {case}");
+    let listing = reference::listing::listing(pack);
+    if listing.lines().next() == Some(first.as_str()) {
+        assert_eq!(printed.text(), listing, "case {case}");
+    }
+}
+
+/// Runs a translation by the command and compares all that it leaves with the library's answer.
+fn compare_run(
+    folder: &Folder,
+    case: u64,
+    translation: &[u8],
+    root: u32,
+    tree: &[u8],
+    room: usize,
+) {
+    let mut output = vec![0; room];
+    let answer = algebra::run(translation, root, tree, &mut output);
+    let limit = vec!["--limit".to_string(), room.to_string()];
+    let kind = vec!["--as".to_string(), "translation".to_string()];
+    let options = [limit, kind].concat();
+    let operands = [File(translation), Root(root), File(tree)];
+    let result = answer.map(|length| &output[..length]);
+    compare_result(folder, case, "run", &operands, &options, result);
+    let second = reference::run(translation, root, tree, &mut vec![0; room]).number();
+    compare_explanation(folder, case, "run", &operands, &options, answer, second);
+}
+
+#[test]
+fn run() {
+    let folder = Folder::new("run");
+    for case in 0..CASES {
+        let input = run_case(&mut Random::new(case));
+        let (root, room) = (input.root, input.output);
+        compare_run(&folder, case, &input.translation, root, &input.tree, room);
+    }
+    for case in 0..LONG_CASES {
+        let input = long_run_case(&mut Random::new(case)).case;
+        let (root, room) = (input.root, input.output);
+        compare_run(&folder, case, &input.translation, root, &input.tree, room);
+    }
+}
+
+#[test]
+fn run_of_packs_and_steps() {
+    let folder = Folder::new("steps");
+    let (mut equal, mut refused) = (0, 0);
+    for case in 0..CASES {
+        let random = &mut Random::new(case);
+        let pack = law_pack(random);
+        let mut term = || pack.terms[random.below(pack.terms.len())].clone();
+        let join = [vec![0x54], term(), term()].concat();
+        let pack = pack_with_term(&pack, &join);
+        let reduced = algebra::reduce_to_vec(&pack);
+        let source = reduced.as_ref().map_or(&[][..], |translation| translation);
+        let (root, tree) = source_tree(random, source).unwrap_or_default();
+        let root = u32::from(root);
+        let operands = [File(&pack), Root(root), File(&tree)];
+        let limit = ["--limit".to_string(), LIMIT.to_string()];
+        let answer = reduced.and_then(|of| algebra::run_to_vec(&of, root, &tree, LIMIT));
+        folder.call(random, &["run"], &operands, &limit).compare(case, &answer, Vec::len);
+        let printed = folder.call(random, &["steps"], &operands, &limit);
+        printed.compare(case, &answer, Vec::len);
+        assert!(!printed.text().contains("DIFFERENT"), "case {case}: {}", printed.text());
+        equal += usize::from(printed.text().contains("\nequal: "));
+        refused += usize::from(answer.is_err());
+    }
+    assert!(equal > 100 && refused > 100, "{equal} equal, {refused} refused");
+}
+
+#[test]
+fn everything_that_is_not_broken_is_shown() {
+    let folder = Folder::new("show");
+    for case in 0..CASES {
+        let random = &mut Random::new(case);
+        let (file, pack) = (translation_file(random), reduce_case(random).pack);
+        let language = language_file(random);
+        for (kind, bytes, number) in [
+            ("language", &language, reference::check_language(&language).number()),
+            ("translation", &file, reference::check_translation(&file).number()),
+            ("pack", &pack, reference::reduce(&pack, &mut [], &mut []).number()),
+        ] {
+            let options = ["--as".to_string(), kind.to_string()];
+            let printed = folder.call(random, &["show"], &[File(bytes)], &options);
+            let refused = number == 1 || number == 2;
+            assert_eq!(printed.status, u8::from(refused), "case {case}");
+            let title = if refused { "refused " } else { kind };
+            assert!(printed.text().starts_with(title), "case {case}");
+        }
+    }
+}

@@ -1,0 +1,18 @@
+//! The limits of the formats, and what a call asks for.
+
+/// A language has at most this many bytes.
+pub const LANGUAGE_BYTES: usize = 1024;
+/// A translation has at most this many bytes.
+pub const TRANSLATION_BYTES: usize = 4096;
+/// A pack has at most this many bytes.
+pub const PACK_BYTES: usize = 32_768;
+/// A tree that is handed in has at most this many levels; a token is none.
+pub const TREE_LEVELS: usize = 64;
+/// The code of a clause has at most this many levels; a token is none.
+pub const CODE_LEVELS: usize = 16;
+/// A term has at most this many levels.
+pub const TERM_LEVELS: usize = 12;
+/// The workspace of [`raw::reduce`](crate::raw::reduce) has at least this many bytes.
+pub const WORKSPACE_BYTES: usize = 65_536;
+/// A call uses at most this many bytes of stack.
+pub const STACK_BYTES: usize = 327_680;

@@ -1,0 +1,135 @@
+//! Why an operation refuses.
+
+use std::error::Error;
+use std::fmt;
+
+/// Defines the refusals with their numbers and sentences.
+macro_rules! refusals {
+    ($($number:literal $name:ident $sentence:literal)*) => {
+        /// Why an operation refuses. Later versions add reasons.
+        ///
+        /// ```
+        /// use algebra::Refusal;
+        ///
+        /// let refusal = Refusal::try_from(14).unwrap();
+        /// assert_eq!(refusal, Refusal::UnknownRoot);
+        /// assert_eq!(refusal.number(), 14);
+        /// assert_eq!(refusal.to_string(), "the root kind is not in the language");
+        /// assert!(Refusal::try_from(0).is_err());
+        /// ```
+        #[derive(Clone, Copy, Debug, PartialEq, Eq, PartialOrd, Ord, Hash)]
+        #[repr(u32)]
+        #[non_exhaustive]
+        pub enum Refusal {
+            $(
+                #[doc = concat!(stringify!($number), ": ", $sentence, ".")]
+                $name = $number,
+            )*
+        }
+
+        impl Refusal {
+            /// Every reason, by rising number.
+            pub const ALL: &'static [Refusal] = &[$(Refusal::$name),*];
+
+            /// The sentence that says what is wrong.
+            pub const fn sentence(self) -> &'static str {
+                match self {
+                    $(Refusal::$name => $sentence,)*
+                }
+            }
+        }
+    };
+}
+
+refusals! {
+    1 TooLong "a file, or a language inside it, is longer than its limit"
+    2 BrokenField "a field is broken: its tag, its length, a number in it, or the end of the input"
+    3 OutOfOrder "fields are out of order, or a key occurs twice"
+    4 ClassIsResult "a kind is both a token class and the result of a production"
+    5 WrongMapping "the mapping is not as required"
+    6 WrongClauses "a clause is missing, or has no production in the source"
+    7 IllegalCode "a code is broken, not of its kind, or over 16 levels"
+    8 IllegalTerm "field 32 is not exactly one translation term"
+    9 BuffersTooShort "the workspace or the output is too short to reduce"
+    10 UnboundVariable "a variable has no value"
+    11 ValueTooLarge "the value of a sign exceeds a limit of bytes or levels"
+    12 SumUnfit "the operands of a sum do not fit together"
+    13 JoinUnfit "the target of a join's second operand does not lie within the source of its first"
+    14 UnknownRoot "the root kind is not in the language"
+    15 IllegalTree "the tree is not legal"
+    16 TooDeep "the tree has more than 64 levels"
+    17 OutputTooShort "the result is longer than the output"
+}
+
+impl Refusal {
+    /// The number of the reason, as the C interface gives it.
+    pub const fn number(self) -> u32 {
+        self as u32
+    }
+}
+
+impl fmt::Display for Refusal {
+    /// Writes the sentence.
+    fn fmt(&self, formatter: &mut fmt::Formatter) -> fmt::Result {
+        formatter.pad(self.sentence())
+    }
+}
+
+impl Error for Refusal {}
+
+impl From<Refusal> for u32 {
+    fn from(refusal: Refusal) -> u32 {
+        refusal.number()
+    }
+}
+
+/// A number that no refusal has; 0, which stands for accepted, is one.
+#[derive(Clone, Copy, Debug, PartialEq, Eq)]
+pub struct UnknownNumber(pub u32);
+
+impl fmt::Display for UnknownNumber {
+    fn fmt(&self, formatter: &mut fmt::Formatter) -> fmt::Result {
+        write!(formatter, "{} is not the number of a refusal", self.0)
+    }
+}
+
+impl Error for UnknownNumber {}
+
+impl TryFrom<u32> for Refusal {
+    type Error = UnknownNumber;
+
+    fn try_from(number: u32) -> Result<Refusal, UnknownNumber> {
+        let mut all = Refusal::ALL.iter().copied();
+        all.find(|refusal| refusal.number() == number).ok_or(UnknownNumber(number))
+    }
+}
+
+#[cfg(test)]
+mod tests {
+    use super::*;
+
+    #[test]
+    fn numbers_rise_from_1_without_a_gap() {
+        let numbers = Refusal::ALL.iter().map(|refusal| refusal.number());
+        assert!(numbers.eq(1..=Refusal::ALL.len() as u32));
+    }
+
+    #[test]
+    fn every_number_gives_its_refusal_back() {
+        for &refusal in Refusal::ALL {
+            assert_eq!(Refusal::try_from(u32::from(refusal)), Ok(refusal));
+        }
+        for number in [0, Refusal::ALL.len() as u32 + 1, u32::MAX] {
+            assert_eq!(Refusal::try_from(number), Err(UnknownNumber(number)));
+        }
+    }
+
+    #[test]
+    fn sentences_differ_and_are_what_is_displayed() {
+        for (place, refusal) in Refusal::ALL.iter().enumerate() {
+            assert_eq!(refusal.to_string(), refusal.sentence());
+            let others = &Refusal::ALL[place + 1..];
+            assert!(others.iter().all(|other| other.sentence() != refusal.sentence()));
+        }
+    }
+}

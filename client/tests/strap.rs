@@ -1,0 +1,79 @@
+//! The functions on the strap's translation "twice": what they answer and what they leave alone.
+
+use algebra::{raw, Refusal, TRANSLATION_BYTES, WORKSPACE_BYTES};
+
+/// The pack of the example: the sum of "twice" and the identity of the strap.
+const PACK: &[u8] = include_bytes!("../../examples/plan.pack");
+
+/// What fills a buffer before a call.
+const MARK: u8 = 0xEE;
+
+/// The translation that the pack reduces to.
+fn twice() -> Vec<u8> {
+    algebra::reduce_to_vec(PACK).expect("the example reduces")
+}
+
+/// So many times twice, around a row of 5 minutes.
+fn nested(levels: usize) -> Vec<u8> {
+    [vec![4; levels], vec![1, 0, 5]].concat()
+}
+
+#[test]
+fn an_output_is_left_alone_behind_the_result() {
+    let mut output = [MARK; 9];
+    assert_eq!(algebra::run(&twice(), 1, &nested(1), &mut output), Ok(7));
+    assert_eq!(output, [2, 1, 0, 5, 1, 0, 5, MARK, MARK]);
+}
+
+#[test]
+fn a_refusal_leaves_the_output_alone() {
+    let mut output = [MARK; 6];
+    let refused = algebra::run(&twice(), 1, &nested(1), &mut output);
+    assert_eq!(refused, Err(Refusal::OutputTooShort));
+    assert_eq!(output, [MARK; 6]);
+}
+
+#[test]
+fn a_long_result_is_allocated_up_to_the_limit() {
+    let (tree, length) = (nested(12), 4 * (1 << 12) - 1);
+    let run = |limit| algebra::run_to_vec(&twice(), 1, &tree, limit);
+    assert_eq!(run(length).map(|result| result.len()), Ok(length));
+    assert_eq!(run(1 << 20), run(length));
+    assert_eq!(run(length - 1), Err(Refusal::OutputTooShort));
+    assert_eq!(run(0), Err(Refusal::OutputTooShort));
+    let endless = algebra::run_to_vec(&twice(), 1, &nested(63), usize::MAX);
+    assert_eq!(endless, Err(Refusal::OutputTooShort));
+}
+
+#[test]
+fn levels_are_refused_before_the_length() {
+    let run = |levels| algebra::run_to_vec(&twice(), 1, &nested(levels), 1000);
+    assert_eq!(run(63), Err(Refusal::OutputTooShort));
+    assert_eq!(run(64), Err(Refusal::TooDeep));
+}
+
+#[test]
+fn the_raw_interface_shows_workspace_and_length() {
+    let (mut workspace, mut output) = (vec![MARK; WORKSPACE_BYTES], vec![MARK; TRANSLATION_BYTES]);
+    let short = raw::reduce(PACK, &mut workspace[1..], &mut output);
+    assert_eq!(short, raw::Answer { number: 9, length: 0 });
+    assert!(workspace.iter().chain(&output).all(|&byte| byte == MARK));
+    let answer = raw::reduce(PACK, &mut workspace, &mut output);
+    assert_eq!(answer, raw::Answer { number: 0, length: 116 });
+    assert!(workspace.iter().all(|&byte| byte == 0));
+    assert_eq!(output[..116], twice());
+}
+
+#[test]
+fn threads_call_at_the_same_time() {
+    let translation = twice();
+    std::thread::scope(|scope| {
+        for levels in 1..8 {
+            let translation = &translation;
+            scope.spawn(move || {
+                let result = algebra::run_to_vec(translation, 1, &nested(levels), 10_000);
+                assert_eq!(result.map(|result| result.len()), Ok(4 * (1 << levels) - 1));
+            });
+        }
+    });
+}

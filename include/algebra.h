@@ -1,0 +1,133 @@
+/* The C interface of the library algebra: three checks, reduce and run.
+ *
+ * Each function returns the number of the answer: ALGEBRA_ACCEPTED, or the number of a
+ * refusal (enum algebra_answer). Where there is a length it is stored through the last
+ * pointer; a refusal stores 0 and leaves the output unchanged. Accepted, the output holds the
+ * result first, and its other bytes are unchanged.
+ *
+ * What is asked of the caller, and not checked:
+ *
+ * - A slice is a pointer and a length. The pointer is valid for that many bytes: for reading,
+ *   or for reading and writing if it is an output or a workspace. If the length is 0 nothing
+ *   is read or written through the pointer, and it may be null; otherwise it must not be.
+ * - The pointer called length is never null: it points to a uint64_t that can be written.
+ * - An output, a workspace and the length overlap neither an input nor each other. Inputs may
+ *   overlap each other. While a call is at work no other thread writes its inputs, or reads or
+ *   writes its output, workspace and length.
+ * - When a function is called, at least ALGEBRA_STACK_BYTES bytes of stack are left to it. The
+ *   stack is bounded since all depths are (64 levels of a tree, 16 of a code, 12 of a term);
+ *   the figure is measured, on inputs built to be the worst.
+ *
+ * Nothing else is asked: every content of the inputs, every length and every root has an
+ * answer, and every call ends. The library has no global state, allocates nothing, and calls
+ * only memcpy, memset, memmove and memcmp. What a call answers depends on its arguments alone,
+ * and any number of threads may call at the same time.
+ *
+ * Platform: Linux on x86-64, the System V calling convention, ELF. The code is position
+ * independent and uses no instruction beyond the base set of x86-64. */
+#ifndef ALGEBRA_H
+#define ALGEBRA_H
+
+#include <stddef.h>
+#include <stdint.h>
+
+/* A call needs at most so many bytes of stack. */
+#define ALGEBRA_STACK_BYTES 327680
+
+/* The longest files, in bytes: over these is ALGEBRA_TOO_LONG. A tree may have any length. */
+#define ALGEBRA_LANGUAGE_BYTES 1024
+#define ALGEBRA_TRANSLATION_BYTES 4096
+#define ALGEBRA_PACK_BYTES 32768
+
+/* Reduce needs a workspace and an output of at least so many bytes. What it accepts is at most
+ * ALGEBRA_TRANSLATION_BYTES long. */
+#define ALGEBRA_WORKSPACE_BYTES 65536
+#define ALGEBRA_OUTPUT_BYTES 4096
+
+/* The most levels of a tree handed in, of a code and of a term. A token is no level. */
+#define ALGEBRA_TREE_LEVELS 64
+#define ALGEBRA_CODE_LEVELS 16
+#define ALGEBRA_TERM_LEVELS 12
+
+/* Kinds are 0 to 31, a production has at most 8 arguments, variables are 0 to 15, and a pack
+ * has at most 32 languages and 32 bodies. */
+#define ALGEBRA_KINDS 32
+#define ALGEBRA_ARGUMENTS 8
+#define ALGEBRA_VARIABLES 16
+#define ALGEBRA_PACK_LANGUAGES 32
+#define ALGEBRA_PACK_BODIES 32
+
+/* The answers. */
+enum algebra_answer {
+    ALGEBRA_ACCEPTED = 0,
+    /* a file, or a language inside it, is longer than its limit */
+    ALGEBRA_TOO_LONG = 1,
+    /* a field is broken: its tag, its length, a number in it, or the end of the input */
+    ALGEBRA_BROKEN_FIELD = 2,
+    /* fields are out of order, or a key occurs twice */
+    ALGEBRA_OUT_OF_ORDER = 3,
+    /* a kind is both a token class and the result of a production */
+    ALGEBRA_CLASS_IS_RESULT = 4,
+    /* the mapping is not as required */
+    ALGEBRA_WRONG_MAPPING = 5,
+    /* a clause is missing, or has no production in the source */
+    ALGEBRA_WRONG_CLAUSES = 6,
+    /* a code is broken, not of its kind, or over 16 levels */
+    ALGEBRA_ILLEGAL_CODE = 7,
+    /* field 32 is not exactly one translation term */
+    ALGEBRA_ILLEGAL_TERM = 8,
+    /* the workspace or the output is too short to reduce */
+    ALGEBRA_BUFFERS_TOO_SHORT = 9,
+    /* a variable has no value */
+    ALGEBRA_UNBOUND_VARIABLE = 10,
+    /* the value of a sign exceeds a limit of bytes or levels */
+    ALGEBRA_VALUE_TOO_LARGE = 11,
+    /* the operands of a sum do not fit together */
+    ALGEBRA_SUM_UNFIT = 12,
+    /* the target of a join's second operand does not lie within the source of its first */
+    ALGEBRA_JOIN_UNFIT = 13,
+    /* the root kind is not in the language */
+    ALGEBRA_UNKNOWN_ROOT = 14,
+    /* the tree is not legal */
+    ALGEBRA_ILLEGAL_TREE = 15,
+    /* the tree has more than 64 levels */
+    ALGEBRA_TOO_DEEP = 16,
+    /* the result is longer than the output */
+    ALGEBRA_OUTPUT_TOO_SHORT = 17
+};
+
+#ifdef __cplusplus
+extern "C" {
+#endif
+
+/* Checks a language: 0 to 4. */
+uint32_t algebra_check_language(const uint8_t *language, size_t language_length);
+
+/* Checks a translation: 0 to 7. */
+uint32_t algebra_check_translation(const uint8_t *translation, size_t translation_length);
+
+/* Checks that a tree is legal for a root kind of a language: 0 to 4, 14 to 16. */
+uint32_t algebra_check_tree(const uint8_t *language, size_t language_length,
+                            uint32_t root,
+                            const uint8_t *tree, size_t tree_length);
+
+/* Reduces a pack to one translation: 0 to 13. The workspace is all zero at the end unless the
+ * answer is 1 to 4, 8 or 9, which leave it unchanged. */
+uint32_t algebra_reduce(const uint8_t *pack, size_t pack_length,
+                        uint8_t *workspace, size_t workspace_length,
+                        uint8_t *output, size_t output_length,
+                        uint64_t *length);
+
+/* Runs a translation on a tree of a root kind: 0 to 7, 14 to 17. A result may be longer than
+ * any memory: ALGEBRA_OUTPUT_TOO_SHORT does not say how much longer. */
+uint32_t algebra_run(const uint8_t *translation, size_t translation_length,
+                     uint32_t root,
+                     const uint8_t *tree, size_t tree_length,
+                     uint8_t *output, size_t output_length,
+                     uint64_t *length);
+
+#ifdef __cplusplus
+}
+#endif
+
+#endif

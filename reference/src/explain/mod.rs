@@ -1,0 +1,71 @@
+//! Where an input is at fault. Each function looks for what its operation refuses, number by
+//! number, and gives the first place at which it stands; `None` means accepted.
+
+mod body;
+mod code;
+mod differences;
+mod language;
+mod pack;
+mod piece;
+mod term;
+mod translation;
+mod tree;
+mod values;
+
+use crate::outcome::Refusal;
+use std::fmt;
+
+pub(crate) use language::language_entry;
+pub(crate) use pack::pack_parts;
+pub(crate) use piece::{Piece, Spot};
+pub(crate) use term::{read_term, Sign};
+pub(crate) use translation::translation_pieces;
+
+/// Why an input is refused, and where.
+#[derive(Clone, Debug, PartialEq, Eq)]
+pub struct Fault {
+    pub reason: Refusal,
+    /// The input that is at fault.
+    pub input: &'static str,
+    /// The first byte that is at fault, counted from 0, if it is one.
+    pub byte: Option<usize>,
+    /// What the fault stands in, from the outside in: fields, a clause, a path.
+    pub within: Vec<String>,
+    /// What is wrong.
+    pub what: String,
+}
+
+impl fmt::Display for Fault {
+    /// A line that says where, and one that says what.
+    fn fmt(&self, formatter: &mut fmt::Formatter) -> fmt::Result {
+        let byte = self.byte.map(|byte| format!("byte {byte} of the {}", self.input));
+        let place = byte.unwrap_or_else(|| format!("the {}", self.input));
+        let place = [vec![place], self.within.clone()].concat().join(", ");
+        write!(formatter, "where: {place}\nfault: {}", self.what)
+    }
+}
+
+/// Looks for a fault of a language.
+pub fn language(bytes: &[u8]) -> Option<Fault> {
+    language::check(&Piece::whole("language", bytes)).err()
+}
+
+/// Looks for a fault of a translation.
+pub fn translation(bytes: &[u8]) -> Option<Fault> {
+    translation::check(bytes).err()
+}
+
+/// Looks for a fault of a language, a root and a tree.
+pub fn tree(language: &[u8], root: u32, tree: &[u8]) -> Option<Fault> {
+    tree::check(language, root, tree).err()
+}
+
+/// Looks for a fault of a pack, of the room to reduce it, and of its term.
+pub fn reduce(pack: &[u8], workspace: usize, output: usize) -> Option<Fault> {
+    pack::check(pack, workspace, output).err()
+}
+
+/// Looks for a fault of a translation, a root and a tree, and of the output's length.
+pub fn run(translation: &[u8], root: u32, tree: &[u8], output: usize) -> Option<Fault> {
+    tree::check_run(translation, root, tree, output).err()
+}

@@ -1,0 +1,122 @@
+//! Faults of trees, and of runs.
+
+use super::{language, translation, Fault, Piece};
+use crate::grammar::Grammar;
+use crate::language::{Class, Language};
+use crate::outcome::Refusal;
+use crate::run::result_length;
+use crate::translation::read_translation;
+use crate::tree::{root_kind, TREE_LEVELS};
+
+/// Reads a tree from left to right and knows the path to the node that it reads.
+struct Reader<'a> {
+    grammar: &'a Grammar<'a>,
+    piece: Piece<'a>,
+    at: usize,
+    path: Vec<usize>,
+}
+
+/// Looks for any fault of a language, a root and a tree.
+pub fn check(language: &[u8], root: u32, tree: &[u8]) -> Result<(), Fault> {
+    let piece = Piece::whole("language", language);
+    language::check(&piece)?;
+    check_rooted(&translation::decoded(&piece)?, "language", root, tree).map(|_| ())
+}
+
+/// Looks for any fault of a run, with an output of so many bytes.
+pub fn check_run(bytes: &[u8], root: u32, tree: &[u8], output: usize) -> Result<(), Fault> {
+    translation::check(bytes)?;
+    let broken = |reason| {
+        let what = "the translation is not well formed".to_string();
+        Piece::whole("translation", bytes).fault_somewhere(reason, what)
+    };
+    let translation = read_translation(bytes).map_err(broken)?;
+    let root = check_rooted(&translation.source, "source", root, tree)?;
+    match result_length(&translation, root, tree) {
+        Some(length) if length > output as u64 || length == u64::MAX => {
+            let more = if length == u64::MAX { " or more" } else { "" };
+            let what = format!("its length is {output}, and that of the result {length}{more}");
+            Err(Piece::whole("output", &[]).fault_somewhere(Refusal::Output, what))
+        }
+        _ => Ok(()),
+    }
+}
+
+/// Looks for a fault of the root and the tree; gives the root as a kind.
+fn check_rooted(language: &Language, name: &str, root: u32, tree: &[u8]) -> Result<u8, Fault> {
+    let unknown = |reason| {
+        let what = format!("kind {root} is not in the {name}");
+        Piece::whole("root", &[]).fault_somewhere(reason, what)
+    };
+    let kind = root_kind(language, root).map_err(unknown)?;
+    let (grammar, piece) = (Grammar::new(language), Piece::whole("tree", tree));
+    let mut reader = Reader { grammar: &grammar, piece, at: 0, path: vec![] };
+    reader.read(kind, TREE_LEVELS)?;
+    let left = tree.len() - reader.at;
+    if left > 0 {
+        let what = format!("more bytes follow the tree: {left}");
+        return Err(reader.piece.fault(Refusal::Tree, reader.at, what));
+    }
+    Ok(kind)
+}
+
+impl Reader<'_> {
+    /// Reads a tree of a kind with so many levels left.
+    fn read(&mut self, kind: u8, levels: usize) -> Result<(), Fault> {
+        match self.grammar.class(kind) {
+            Some(class) => self.read_token(class),
+            None => self.read_production(kind, levels),
+        }
+    }
+
+    /// Reads a token of a class.
+    fn read_token(&mut self, class: Class) -> Result<(), Fault> {
+        let kind = class.kind;
+        let Some(&[high, low]) = self.piece.bytes.get(self.at..self.at + 2) else {
+            return self.fault(Refusal::Tree, format!("the tree ends in a token of class {kind}"));
+        };
+        let value = u16::from_be_bytes([high, low]);
+        if !class.has(value) {
+            let what = format!("the token {value} is not in class {kind}: {}", class.range());
+            return self.fault(Refusal::Tree, what);
+        }
+        self.at += 2;
+        Ok(())
+    }
+
+    /// Reads a production and its arguments.
+    fn read_production(&mut self, kind: u8, levels: usize) -> Result<(), Fault> {
+        if levels == 0 {
+            let what = format!("a block at level {} is over {TREE_LEVELS}", TREE_LEVELS + 1);
+            return self.fault(Refusal::Depth, what);
+        }
+        let Some(&name) = self.piece.bytes.get(self.at) else {
+            return self.fault(Refusal::Tree, format!("the tree ends where kind {kind} is needed"));
+        };
+        let Some(place) = self.grammar.place(kind, name) else {
+            return self.fault(Refusal::Tree, format!("there is no production {kind}.{name}"));
+        };
+        self.at += 1;
+        self.read_arguments(self.grammar.production(place).arguments(), levels - 1)
+    }
+
+    /// Reads arguments, each with its number at the end of the path.
+    fn read_arguments(&mut self, arguments: &[u8], levels: usize) -> Result<(), Fault> {
+        for (place, &kind) in arguments.iter().enumerate() {
+            self.path.push(place + 1);
+            self.read(kind, levels)?;
+            self.path.pop();
+        }
+        Ok(())
+    }
+
+    /// A fault at the node that is read.
+    fn fault(&self, reason: Refusal, what: String) -> Result<(), Fault> {
+        let path: Vec<String> = self.path.iter().map(usize::to_string).collect();
+        let path = match path.is_empty() {
+            true => "the root".to_string(),
+            false => format!("path {}", path.join(".")),
+        };
+        Err(self.piece.named(path).fault(reason, self.at, what))
+    }
+}

@@ -1,0 +1,153 @@
+//! Explanations: on generated cases each comes to the number of its operation; on a few files the
+//! place is looked at.
+
+mod build;
+
+use build::{class, clause, field, mapping, pack, production, translation};
+use reference::explain::{self, Fault};
+use reference::generate::{
+    language_file, long_run_case, reduce_case, run_case, translation_file, tree_case, Random,
+};
+use reference::{check_language, check_translation, check_tree, reduce, run, Outcome};
+
+/// So many cases of each operation are generated.
+const CASES: u64 = 4000;
+/// So many of them have long trees.
+const LONG_CASES: u64 = 20;
+
+/// What stands where no reason was found: it must not be reached.
+const VAGUE: [&str; 4] = [
+    "it has no value",
+    "a field is broken",
+    "the pack cannot be read",
+    "the translation is not well formed",
+];
+
+/// Compares an explanation with the answer that it explains; gives the number.
+fn compare(case: u64, outcome: Outcome, fault: Option<Fault>) -> usize {
+    let number = fault.as_ref().map_or(0, |fault| fault.reason as u32);
+    assert_eq!(number, outcome.number(), "case {case}: {fault:?}");
+    let what = fault.map_or(String::new(), |fault| fault.what);
+    assert!(!VAGUE.contains(&what.as_str()), "case {case}: {what}");
+    number as usize
+}
+
+/// Compares so many cases, and asks that each of the numbers was reached.
+fn compare_all(cases: u64, numbers: &[usize], mut one: impl FnMut(&mut Random, u64) -> usize) {
+    let mut reached = [0; 18];
+    for case in 0..cases {
+        reached[one(&mut Random::new(0xE0 + case), case)] += 1;
+    }
+    for &number in numbers {
+        assert!(reached[number] > 0, "{number} was not reached: {reached:?}");
+    }
+}
+
+#[test]
+fn languages() {
+    compare_all(CASES, &[0, 1, 2, 3, 4], |random, case| {
+        let file = language_file(random);
+        compare(case, check_language(&file), explain::language(&file))
+    });
+}
+
+#[test]
+fn translations() {
+    compare_all(CASES, &[0, 1, 2, 3, 4, 5, 6, 7], |random, case| {
+        let file = translation_file(random);
+        compare(case, check_translation(&file), explain::translation(&file))
+    });
+}
+
+#[test]
+fn trees() {
+    compare_all(CASES, &[0, 1, 2, 3, 4, 14, 15, 16], |random, case| {
+        let input = tree_case(random);
+        let outcome = check_tree(&input.language, input.root, &input.tree);
+        compare(case, outcome, explain::tree(&input.language, input.root, &input.tree))
+    });
+}
+
+#[test]
+fn reductions() {
+    compare_all(2 * CASES, &[0, 1, 2, 3, 4, 5, 6, 7, 8, 9, 10, 11, 12, 13], |random, case| {
+        let input = reduce_case(random);
+        let (mut workspace, mut output) = (vec![0; input.workspace], vec![0; input.output]);
+        let outcome = reduce(&input.pack, &mut workspace, &mut output);
+        compare(case, outcome, explain::reduce(&input.pack, input.workspace, input.output))
+    });
+}
+
+#[test]
+fn runs() {
+    compare_all(CASES, &[0, 1, 2, 3, 4, 5, 6, 7, 14, 15, 16, 17], |random, case| {
+        let input = run_case(random);
+        let outcome = run(&input.translation, input.root, &input.tree, &mut vec![0; input.output]);
+        let fault = explain::run(&input.translation, input.root, &input.tree, input.output);
+        compare(case, outcome, fault)
+    });
+}
+
+#[test]
+fn long_runs() {
+    compare_all(LONG_CASES, &[0], |random, case| {
+        let input = long_run_case(random).case;
+        let outcome = run(&input.translation, input.root, &input.tree, &mut vec![0; input.output]);
+        let fault = explain::run(&input.translation, input.root, &input.tree, input.output);
+        compare(case, outcome, fault)
+    });
+}
+
+/// The text of a fault that is there.
+fn text(fault: Option<Fault>) -> String {
+    fault.expect("the input is refused").to_string()
+}
+
+#[test]
+fn the_place_in_a_tree_is_a_path() {
+    let language = [class(2, 1, 240), production(1, 1, &[2]), production(1, 2, &[1, 1])].concat();
+    let found = text(explain::tree(&language, 1, &[2, 1, 0, 5, 2, 1, 0, 6, 1, 1, 0]));
+    let expected = "where: byte 9 of the tree, path 2.2.1\n\
+                    fault: the token 256 is not in class 2: 1 to 240";
+    assert_eq!(found, expected);
+}
+
+#[test]
+fn the_place_in_a_code_is_a_clause_and_a_byte() {
+    let language = [class(2, 1, 240), production(1, 1, &[2])].concat();
+    let body = [mapping(1, 1), mapping(2, 2), clause(1, 1, &[1, 1, 2, 1, 0])].concat();
+    let found = text(explain::translation(&translation(&language, &language, &body)));
+    let expected = "where: byte 51 of the translation, body, clause 1.1, byte 2 of its code\n\
+                    fault: the token 256 is not in class 2: 1 to 240";
+    assert_eq!(found, expected);
+}
+
+#[test]
+fn the_place_in_a_term_is_a_sign_and_an_operand() {
+    let languages = [production(1, 4, &[1]), production(1, 4, &[2])];
+    let term = [0x53, 0x55, 0x40, 0, 0x55, 0x43, 0x40, 0, 0x40, 1];
+    let found = text(explain::reduce(&pack(&languages, &[], &term), 65_536, 4096));
+    let expected = "where: byte 26 of the pack, term, sign 43 (sum), operand 2.1\n\
+                    fault: production 1.4 has the arguments (1) in the first and (2) in the second";
+    assert_eq!(found, expected);
+}
+
+#[test]
+fn a_body_at_fault_is_shown_with_its_sign() {
+    let language = production(1, 4, &[]);
+    let bodies = [mapping(1, 1)];
+    let term = [0x57, 3, 0x50, 0x40, 0, 0x40, 0, 0, 0x51, 3];
+    let found = text(explain::reduce(&pack(&[language], &bodies, &term), 65_536, 4096));
+    let expected =
+        "where: byte 16 of the pack, sign 50 (translation with body 0), operand 1, body 0\n\
+                    fault: production 1.4 of the source has no clause";
+    assert_eq!(found, expected);
+}
+
+#[test]
+fn a_length_that_passes_the_end_is_shown_at_the_length() {
+    let file = [&field(0x11, &[2, 0, 1, 0, 9])[..], &[0x12, 0, 4, 1, 2, 1]].concat();
+    let expected = "where: byte 9 of the language\n\
+                    fault: field 12 states the length 4, and 3 is left";
+    assert_eq!(text(explain::language(&file)), expected);
+}

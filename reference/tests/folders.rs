@@ -1,0 +1,89 @@
+//! The folders of examples, on the reference: packs, what they reduce to, their listings and the runs of trees.
+
+use reference::listing::listing;
+use reference::{reduce, run};
+use std::fs;
+use std::path::{Path, PathBuf};
+
+/// Room to reduce with, and for the results of the runs.
+const WORKSPACE: usize = 65_536;
+const OUTPUT: usize = 1 << 16;
+
+/// The files of all folders of examples that have this ending.
+fn files(ending: &str) -> Vec<PathBuf> {
+    let examples = Path::new(env!("CARGO_MANIFEST_DIR")).join("../examples");
+    let entries = |folder: &Path| -> Vec<PathBuf> {
+        let entries = fs::read_dir(folder).expect("a folder of examples can be read");
+        entries.map(|entry| entry.expect("an entry can be read").path()).collect()
+    };
+    let folders = entries(&examples).into_iter().filter(|path| path.is_dir());
+    let all = folders.flat_map(|folder| entries(&folder));
+    all.filter(|path| path.to_string_lossy().ends_with(ending)).collect()
+}
+
+/// The bytes of a file.
+fn bytes(path: &Path) -> Vec<u8> {
+    fs::read(path).unwrap_or_else(|error| panic!("{}: {error}", path.display()))
+}
+
+/// The text of a file.
+fn text(path: &Path) -> String {
+    String::from_utf8(bytes(path)).expect("a file of text")
+}
+
+/// What a pack reduces to.
+fn reduced(pack: &Path) -> Vec<u8> {
+    let mut output = vec![0; OUTPUT];
+    let outcome = reduce(&bytes(pack), &mut vec![0; WORKSPACE], &mut output);
+    assert_eq!(outcome.number(), 0, "{}", pack.display());
+    output[..outcome.length() as usize].to_vec()
+}
+
+/// The pack and the root that the first line of a tree's source names.
+fn run_by(source: &Path) -> (PathBuf, u32) {
+    let text = text(source);
+    let line = text.lines().next().and_then(|line| line.strip_prefix("# Run by "));
+    let words =
+        line.and_then(|line| line.strip_suffix('.')).and_then(|line| line.split_once(", root "));
+    let (pack, root) = words.expect("the first line names a pack and a root");
+    (source.with_file_name(pack), root.parse().expect("a root"))
+}
+
+/// What the run of a tree gives, as its file of the result has it.
+fn result(source: &Path) -> String {
+    let (pack, root) = run_by(source);
+    let tree = bytes(&source.with_extension(""));
+    let mut output = vec![0; OUTPUT];
+    let outcome = run(&reduced(&pack), root, &tree, &mut output);
+    if outcome.number() != 0 {
+        return format!("refused {}\n", outcome.number());
+    }
+    let bytes = &output[..outcome.length() as usize];
+    let digits: Vec<String> = bytes.iter().map(|byte| format!("{byte:02X}")).collect();
+    format!("accepted {}\n{}\n", bytes.len(), digits.join(" "))
+}
+
+#[test]
+fn packs_reduce_to_the_translations_beside_them() {
+    let packs = files(".pack");
+    assert!(!packs.is_empty());
+    for pack in packs {
+        assert_eq!(
+            reduced(&pack),
+            bytes(&pack.with_extension("translation")),
+            "{}",
+            pack.display()
+        );
+        assert_eq!(listing(&bytes(&pack)), text(&pack.with_extension("expected")));
+    }
+}
+
+#[test]
+fn trees_run_to_the_results_beside_them() {
+    let sources = files(".tree.hex");
+    assert!(!sources.is_empty());
+    for source in sources {
+        let beside = source.with_extension("").with_extension("result");
+        assert_eq!(result(&source), text(&beside), "{}", source.display());
+    }
+}

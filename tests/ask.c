@@ -1,0 +1,170 @@
+/* Asks the library about files that are written as text: two hexadecimal digits for each byte, `xN` behind a byte for N
+ * bytes like it, and `#` for a comment up to the end of the line. The tests of the pages and of the examples use it.
+ *
+ *   ask language FILE                          ask translation FILE
+ *   ask tree LANGUAGE ROOT TREE                ask reduce PACK [WORKSPACE-BYTES [OUTPUT-BYTES]]
+ *   ask run TRANSLATION ROOT TREE [OUTPUT-BYTES]
+ *   ask bytes FILE                             writes the bytes themselves
+ *
+ * Prints `accepted LENGTH`, and the bytes of a result on a second line, or `refused NUMBER`. */
+#include "algebra.h"
+#include <stdio.h>
+#include <stdlib.h>
+#include <string.h>
+
+/* The most bytes of a file, and of an output unless told otherwise. */
+enum { LONGEST = 1 << 20 };
+
+/* The bytes of a file. */
+struct bytes {
+    uint8_t *at;
+    size_t length;
+};
+
+/* Ends the program, which was asked what it cannot answer. */
+static void give_up(const char *why, const char *what)
+{
+    fprintf(stderr, "ask: %s: %s\n", what, why);
+    exit(2);
+}
+
+/* Memory, or the end of the program. */
+static uint8_t *room_for(size_t length)
+{
+    uint8_t *room = calloc(length + 1, 1);
+    if (room == NULL)
+        give_up("no memory", "a buffer");
+    return room;
+}
+
+/* Adds one byte so many times. */
+static void repeat(struct bytes *bytes, uint8_t byte, size_t times, const char *name)
+{
+    if (times > LONGEST - bytes->length)
+        give_up("too long", name);
+    memset(bytes->at + bytes->length, byte, times);
+    bytes->length += times;
+}
+
+/* Adds what one word says: a byte, or more of the byte before. */
+static void add_word(struct bytes *bytes, const char *word, const char *name)
+{
+    char *end;
+    unsigned long value = strtoul(word[0] == 'x' ? word + 1 : word, &end, word[0] == 'x' ? 10 : 16);
+    if (*end != '\0' || (word[0] != 'x' && strlen(word) != 2) || (word[0] == 'x' && (bytes->length == 0 || value == 0)))
+        give_up(word, name);
+    if (word[0] == 'x')
+        repeat(bytes, bytes->at[bytes->length - 1], value - 1, name);
+    else
+        repeat(bytes, (uint8_t)value, 1, name);
+}
+
+/* Adds the words of one line. */
+static void add_line(struct bytes *bytes, char *line, const char *name)
+{
+    line[strcspn(line, "#")] = '\0';
+    for (char *word = strtok(line, " \t\r\n"); word != NULL; word = strtok(NULL, " \t\r\n"))
+        add_word(bytes, word, name);
+}
+
+/* Reads a file of text. */
+static struct bytes load(const char *name)
+{
+    char line[1024];
+    struct bytes bytes = { room_for(LONGEST), 0 };
+    FILE *file = fopen(name, "r");
+    if (file == NULL)
+        give_up("it cannot be read", name);
+    while (fgets(line, sizeof line, file) != NULL)
+        add_line(&bytes, line, name);
+    fclose(file);
+    return bytes;
+}
+
+/* Prints the answer of an operation, and the bytes that it gave. */
+static void answer(uint32_t number, uint64_t length, const uint8_t *output)
+{
+    if (number != ALGEBRA_ACCEPTED)
+        printf("refused %u\n", (unsigned)number);
+    else
+        printf("accepted %u\n", (unsigned)length);
+    for (uint64_t i = 0; i < length; i++)
+        printf("%02X%c", output[i], i + 1 == length ? '\n' : ' ');
+}
+
+/* The number in a word that may be missing. */
+static size_t number_or(char *word, size_t otherwise)
+{
+    return word == NULL ? otherwise : strtoul(word, NULL, 10);
+}
+
+/* Reduces a pack. */
+static void reduce(char **words)
+{
+    struct bytes pack = load(words[0]);
+    size_t workspace = number_or(words[1], ALGEBRA_WORKSPACE_BYTES);
+    size_t output = number_or(words[1] == NULL ? NULL : words[2], ALGEBRA_OUTPUT_BYTES);
+    uint8_t *result = room_for(output);
+    uint64_t length;
+    uint32_t number = algebra_reduce(pack.at, pack.length, room_for(workspace), workspace, result, output, &length);
+    answer(number, length, result);
+}
+
+/* Runs a translation. */
+static void run(char **words)
+{
+    struct bytes translation = load(words[0]), tree = load(words[2]);
+    size_t output = number_or(words[3], LONGEST);
+    uint8_t *result = room_for(output);
+    uint64_t length;
+    uint32_t number = algebra_run(translation.at, translation.length, (uint32_t)number_or(words[1], 0), tree.at,
+                                  tree.length, result, output, &length);
+    answer(number, length, result);
+}
+
+/* Checks a language, a translation or a tree. */
+static void check(const char *verb, char **words)
+{
+    struct bytes file = load(words[0]), tree = { NULL, 0 };
+    if (strcmp(verb, "tree") == 0)
+        tree = load(words[2]);
+    if (strcmp(verb, "language") == 0)
+        answer(algebra_check_language(file.at, file.length), 0, NULL);
+    else if (strcmp(verb, "translation") == 0)
+        answer(algebra_check_translation(file.at, file.length), 0, NULL);
+    else
+        answer(algebra_check_tree(file.at, file.length, (uint32_t)number_or(words[1], 0), tree.at, tree.length), 0, NULL);
+}
+
+/* Writes the bytes of a file of text. */
+static void write_bytes(const char *name)
+{
+    struct bytes bytes = load(name);
+    fwrite(bytes.at, 1, bytes.length, stdout);
+}
+
+/* How many words each verb needs at least, and takes at most. */
+static const struct {
+    const char *verb;
+    int least, most;
+} verbs[] = { { "language", 1, 1 }, { "translation", 1, 1 }, { "tree", 3, 3 },
+              { "reduce", 1, 3 },   { "run", 3, 4 },         { "bytes", 1, 1 } };
+
+int main(int count, char **words)
+{
+    const char *verb = count > 1 ? words[1] : "";
+    size_t i = 0, all = sizeof verbs / sizeof verbs[0];
+    while (i < all && strcmp(verb, verbs[i].verb) != 0)
+        i++;
+    if (i == all || count - 2 < verbs[i].least || count - 2 > verbs[i].most)
+        give_up("no such question", verb);
+    if (strcmp(verb, "reduce") == 0)
+        reduce(words + 2);
+    else if (strcmp(verb, "run") == 0)
+        run(words + 2);
+    else if (strcmp(verb, "bytes") == 0)
+        write_bytes(words[2]);
+    else
+        check(verb, words + 2);
+    return ferror(stdout) || fflush(stdout) != 0 ? 2 : 0;
+}
