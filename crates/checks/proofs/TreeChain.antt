@@ -78,6 +78,10 @@ module _ (b : List ℕ) (k : ℕ) (l : Language) {r : Bool} (er : r ≡ isIn l k
 not-below : {k : ℕ} → 31 < k → k < 32 → ⊥
 not-below h i = omega arith
 
+-- A refusal is no acceptance.
+pub unaccepted : {o : Outcome} {r : Reason} {n : ℕ} {A : Type 0} → o ≡ Refused r → o ≡ Accepted n → A
+unaccepted {r = r} {n = n} h i = refused-not {n = n} {r = r} (sym h ∙ i)
+
 -- What a language that was accepted holds.
 pub record Accepts (s : List ℕ) : Type 0 where
   pub language : Language

@@ -4,11 +4,11 @@ use mathlib.Core.Bool.{Bool, true, false}
 use mathlib.Core.List.{List, _++_}
 use lib.ListN.{length, drop}
 use Rattle.fields.specs.declared.outcome.Reason.{Reason}
-use Rattle.fields.specs.declared.outcome.Reason.the-variants.{TooLong, BrokenField, OutOfOrder, ClassIsResult, WrongMapping, WrongClauses, IllegalCode, IllegalTerm, BuffersTooShort, UnboundVariable, ValueTooLarge, SumUnfit, JoinUnfit, UnknownRoot, IllegalTree, TooDeep, OutputTooShort}
+use Rattle.fields.specs.declared.outcome.Reason.the-variants.{TooLong, BrokenField, OutOfOrder, ClassIsResult, WrongMapping, WrongClauses, IllegalCode, IllegalTerm, BuffersTooShort, UnboundVariable, ValueTooLarge, SumUnfit, JoinUnfit, UnknownRoot, IllegalTree, TooDeep, OutputTooShort, NoBlock}
 use Rattle.fields.specs.declared.outcome.Outcome.{Outcome}
 use Rattle.fields.specs.declared.outcome.Outcome.the-variants.{Accepted, Refused}
 
--- The number of each refusal.
+-- The number of each refusal; 21 is of paper 02, 2026-06.
 abbrev pub reasonNumber : Reason → ℕ
 reasonNumber TooLong = 1
 reasonNumber BrokenField = 2
@@ -27,6 +27,7 @@ reasonNumber UnknownRoot = 14
 reasonNumber IllegalTree = 15
 reasonNumber TooDeep = 16
 reasonNumber OutputTooShort = 17
+reasonNumber NoBlock = 21
 
 -- The number that an outsider sees.
 abbrev pub numberOf : Outcome → ℕ
