@@ -1,2 +1,4 @@
 pub mod Lying
 pub mod Steps
+pub mod Nodes
+pub mod Paths

@@ -44,14 +44,14 @@ first-byte b at y v h e =
     (l, c .0, c .1)
 
 -- The arguments of a production.
-module _ (l : Language) (b : List ℕ) (at k p : ℕ) (ts : Codes) (h : Lies l b at k (node k p ts)) (ks : List ℕ) where
-  node-byte : (at < length b) × (getD b at 0 ≡ p) × (drop (at + 1) b ≡ writeAll tree ts ++ h .rest)
+module _ (l : Language) (b : List ℕ) (at k p : ℕ) (ts : Codes) (h : Lies l b at k (node k p ts)) where
+  pub node-byte : (at < length b) × (getD b at 0 ≡ p) × (drop (at + 1) b ≡ writeAll tree ts ++ h .rest)
   unfolding write
   node-byte = first-byte b at p (writeAll tree ts ++ h .rest) (h .inside) (h .is)
 
-  pub node-lies : argumentsOf l k p ≡ some ks → TypedAll l [] ts ks → LieAll l b (at + 1) ks ts
+  pub node-lies : (ks : List ℕ) → argumentsOf l k p ≡ some ks → TypedAll l [] ts ks → LieAll l b (at + 1) ks ts
   unfolding levels
-  node-lies e typed =
+  node-lies ks e typed =
       let w = node-byte in
       let d = h .within in
       record {

@@ -1,3 +1,6 @@
+use Rattle.block.proofs.Steps.{there-ready}
+use Rattle.block.proofs.Nodes.{zero-none, at-leaf, opened, opened-kinds, at-operands}
+use native.Mathlib.Omega.{arith}
 use borrow.Author.Needs.{needs}
 use Rattle.block.proofs.descent.argument.Statement.{statement}
 use Rattle.block.proofs.descent.argument.Tie as tie
@@ -8,7 +11,7 @@ use Rattle.reader.proofs.node.node_at.Reads as node-at-reads
 
 -- src/descent.rt:82:9
 returns : tie.Need-returns
-returns c = ?
+returns c = λ l t h. zero-none l _ t _ (c .if1 .taken)
 
 -- src/descent.rt:84:50
 slice-aggregate-node-at : tie.Need-slice-aggregate-node-at
@@ -16,7 +19,7 @@ slice-aggregate-node-at c = search needs
 
 -- src/descent.rt:84:11
 node-at-requires : tie.Need-node-at-requires
-node-at-requires c κs = ?
+node-at-requires c κs = there-ready _ _ _ _ _ _ _ (c .before .before .before .before .before .pre .2)
 
 -- src/descent.rt:85:20
 enum-known-token : tie.Need-enum-known-token
@@ -28,15 +31,15 @@ enum-known-first c = search needs
 
 -- src/descent.rt:86:44
 argument-among-requires : tie.Need-argument-among-requires
-argument-among-requires c κs = ?
+argument-among-requires c κs = let p = c .before .before .before .before .before .before .before .before .before .pre in let o = opened _ _ _ _ _ (p .0) (p .1) (p .2) (λ i. omega (arith, c .before .before .before .before .before .before .shared-slice-known3 .given i)) _ (c .before .before .before .node-at .ensures .0) _ _ _ (c .before .first .given .1) in (omega (arith, c .before .before .before .before .before .if1 .left), opened-kinds _ _ _ _ _ (p .0) (p .1) (p .2) (λ i. omega (arith, c .before .before .before .before .before .before .shared-slice-known3 .given i)) _ (c .before .before .before .node-at .ensures .0) _ _ _ (c .before .first .given .1) (c .before .before .before .node-at .ensures .1), (p .0, o .operands, o .row))
 
 -- src/descent.rt:69:1
 returns-2 : tie.Need-returns-2
-returns-2 c = ?
+returns-2 c = λ l t h. at-leaf _ _ _ _ _ l t h (λ i. omega (arith, c .before .before .before .before .before .before .shared-slice-known3 .given i)) _ (c .before .before .before .node-at .ensures .0) _ (c .before .token .given .1) _
 
 -- src/descent.rt:69:1
 returns-3 : tie.Need-returns-3
-returns-3 c = ?
+returns-3 c = λ l t h. at-operands _ _ _ _ _ l t h (λ i. omega (arith, c .before .before .before .before .before .before .before .shared-slice-known3 .given i)) _ (c .before .before .before .before .node-at .ensures .0) _ _ _ (c .before .before .first .given .1) _ (c .before .before .before .before .before .before .if1 .left) (c .argument-among .ensures l _ (opened _ _ _ _ _ l t h (λ i. omega (arith, c .before .before .before .before .before .before .before .shared-slice-known3 .given i)) _ (c .before .before .before .before .node-at .ensures .0) _ _ _ (c .before .before .first .given .1) .row))
 
 pub argument-spec : {M : Type 1} → statement M
 argument-spec =

@@ -18,39 +18,21 @@ Inv-loop language index first last tree at number q₀ to₀ left₀ q to left =
 abbrev μ-loop : tie.MeasureT-loop
 μ-loop language index first last tree at number q₀ to₀ left₀ q to left = last - q
 
--- src/descent.rt:56:5
 loop-holds : tie.Need-loop-holds Inv-loop μ-loop
 loop-holds c = (c .before .before .before .pre .0, omega arith, λ l ts h. record { others = ts; row = h; same = refl })
 
--- src/descent.rt:57:20
 shared-slice-read-kind : tie.Need-shared-slice-read-kind Inv-loop μ-loop
 shared-slice-read-kind c = c .before .before .before .before .before .before .pre .1 _ (c .before .before .loop .inv .1) (c .before .loop-test .taken) .0
 
--- src/descent.rt:59:13
 returns : tie.Need-returns Inv-loop μ-loop
 returns c = λ l ts h. walk-here _ _ _ _ _ _ _ _ _ _ l ts (c .before .before .before .loop .inv .2 l ts h) (c .before .before .before .before .before .before .before .pre .1) (c .before .before .before .loop .inv .1) (c .before .before .loop-test .taken) (c .if1 .taken)
 
--- src/descent.rt:61:9
 end-of-requires : tie.Need-end-of-requires Inv-loop μ-loop
 end-of-requires c κs = let p = c .before .before .before .before .before .before .before .pre .2 in let w = walk-turn _ _ _ _ _ _ _ _ _ _ (p .0) (p .1) (c .before .before .before .loop .inv .2 (p .0) (p .1) (p .2)) (c .before .before .before .before .before .before .before .pre .1) (c .before .before .before .loop .inv .1) (c .before .before .loop-test .taken) in (p .0, w .head, w .there)
 
--- src/descent.rt:62:9
-sub-left : tie.Need-sub-left Inv-loop μ-loop
-sub-left c = search needs
-
--- src/descent.rt:63:9
-add-q : tie.Need-add-q Inv-loop μ-loop
-add-q c = search needs
-
--- src/descent.rt:56:5
-loop-less : tie.Need-loop-less Inv-loop μ-loop
-loop-less c = search needs
-
--- src/descent.rt:56:5
 loop-again : tie.Need-loop-again Inv-loop μ-loop
 loop-again c = (omega (arith, c .before .before .before .before .loop .inv .0, c .before .if1 .left), omega (arith, c .before .before .before .before .loop .inv .1), λ l ts h. let w = c .before .before .before .before .loop .inv .2 l ts h in walk-next _ _ _ _ _ _ _ _ _ _ l ts w (c .before .before .before .before .before .before .before .before .pre .1) (c .before .before .before .before .loop .inv .1) (c .before .before .before .loop-test .taken) (c .before .if1 .left) (c .before .before .before .before .loop .inv .0) _ (c .end-of .ensures l _ (walk-turn _ _ _ _ _ _ _ _ _ _ l ts w (c .before .before .before .before .before .before .before .before .pre .1) (c .before .before .before .before .loop .inv .1) (c .before .before .before .loop-test .taken) .there)))
 
--- src/descent.rt:39:1
 returns-2 : tie.Need-returns-2 Inv-loop μ-loop
 returns-2 c = λ l ts h. walk-done _ _ _ _ _ _ _ _ _ _ l ts (c .before .loop .inv .2 l ts h) (c .loop-test .left)
 
@@ -64,8 +46,8 @@ argument-among-spec =
     shared-slice-read-kind
     returns
     end-of-requires
-    sub-left
-    add-q
-    loop-less
+    (λ c. search needs)
+    (λ c. search needs)
+    (λ c. search needs)
     loop-again
     returns-2)

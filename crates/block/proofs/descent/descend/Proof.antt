@@ -1,3 +1,11 @@
+use Rattle.block.proofs.Paths.{Reached, path-done, path-stops, path-next}
+use Prim.Native.Nat.{_-_}
+use mathlib.Core.Path.{refl}
+use lib.ListN.{length}
+use Rattle.language.specs.Language.{Language}
+use Rattle.reader.specs.Code.{Code}
+use Rattle.block.specs.Inner.Lying.{There}
+use borrow.Author.Needs.{needs}
 use Rattle.block.proofs.descent.descend.Statement.{statement}
 use Rattle.block.proofs.descent.descend.Tie as tie
 use Rattle.block.proofs.descent.descend.Reads as reads
@@ -5,50 +13,50 @@ use Rattle.block.proofs.descent.descend.Lts as lts
 use Rattle.block.proofs.descent.argument.Reads as argument-reads
 
 abbrev Inv-loop : tie.InvT-loop
-Inv-loop language index kind tree path at₀ of₀ i₀ at of i = ?
+Inv-loop language index kind tree path at₀ of₀ i₀ at of i = (l : Language) (t : Code) → There index language tree 0 kind l t → Reached index language tree path kind at of i l t
 
 abbrev μ-loop : tie.MeasureT-loop
-μ-loop language index kind tree path at₀ of₀ i₀ at of i = ?
+μ-loop language index kind tree path at₀ of₀ i₀ at of i = length path - i
 
 -- src/descent.rt:99:5
 loop-holds : tie.Need-loop-holds Inv-loop μ-loop
-loop-holds c = ?
+loop-holds c = λ l t h. record { subtree = t; there = h; same = refl }
 
 -- src/descent.rt:100:77
 shared-slice-read-argument : tie.Need-shared-slice-read-argument Inv-loop μ-loop
-shared-slice-read-argument c = ?
+shared-slice-read-argument c = search needs
 
 -- src/descent.rt:100:37
 argument-requires : tie.Need-argument-requires Inv-loop μ-loop
-argument-requires c κs = ?
+argument-requires c κs = let p = c .before .before .before .before .before .before .before .pre in let w = c .before .before .loop .inv (p .0) (p .1) (p .2) in (p .0, w .subtree, w .there)
 
 -- src/descent.rt:100:22
 enum-known-start : tie.Need-enum-known-start Inv-loop μ-loop
-enum-known-start c = ?
+enum-known-start c = search needs
 
 -- src/descent.rt:101:13
 enum-told : tie.Need-enum-told Inv-loop μ-loop
-enum-told c = ?
+enum-told c = search needs
 
 -- src/descent.rt:101:13
 returns : tie.Need-returns Inv-loop μ-loop
-returns c = ?
+returns c = λ l t h. let w = c .before .before .before .before .before .loop .inv l t h in path-stops _ _ _ _ _ _ _ _ l t w (c .before .before .before .before .loop-test .taken) _ (c .before .before .argument .ensures l _ (w .there)) (c .enum-told .given .1)
 
 -- src/descent.rt:105:9
 add-i : tie.Need-add-i Inv-loop μ-loop
-add-i c = ?
+add-i c = search needs
 
 -- src/descent.rt:99:5
 loop-less : tie.Need-loop-less Inv-loop μ-loop
-loop-less c = ?
+loop-less c = search needs
 
 -- src/descent.rt:99:5
 loop-again : tie.Need-loop-again Inv-loop μ-loop
-loop-again c = ?
+loop-again c = λ l t h. let w = c .before .before .before .before .before .before .loop .inv l t h in path-next _ _ _ _ _ _ _ _ l t w (c .before .before .before .before .before .loop-test .taken) _ (c .before .before .before .argument .ensures l _ (w .there)) _ _ (c .before .start .given .1)
 
 -- src/descent.rt:91:1
 returns-2 : tie.Need-returns-2 Inv-loop μ-loop
-returns-2 c = ?
+returns-2 c = λ l t h. path-done _ _ _ _ _ _ _ _ l t (c .before .loop .inv l t h) (c .loop-test .left)
 
 pub descend-spec : {M : Type 1} → statement M
 descend-spec =

@@ -6,35 +6,15 @@ use Rattle.block.proofs.descent.end_of.Reads as reads
 use Rattle.block.proofs.descent.end_of.Lts as lts
 use Rattle.reader.proofs.read.read.Reads as read-reads
 
--- src/descent.rt:30:47
-slice-aggregate-read : tie.Need-slice-aggregate-read
-slice-aggregate-read c = search needs
-
--- src/descent.rt:30:11
 read-requires : tie.Need-read-requires
 read-requires c κs = there-ready _ _ _ _ _ _ _ (c .before .before .before .before .pre .2)
 
--- src/descent.rt:31:19
-enum-known-e : tie.Need-enum-known-e
-enum-known-e c = search needs
-
--- src/descent.rt:32:23
-enum-told : tie.Need-enum-told
-enum-told c = search needs
-
--- src/descent.rt:33:25
-enum-told-2 : tie.Need-enum-told-2
-enum-told-2 c = search needs
-
--- src/descent.rt:25:1
 returns : tie.Need-returns
 returns c = λ l t h. ends-there _ _ _ _ _ l t h _ (c .before .before .before .read .ensures .0 l (h .index-of .indexed)) _ (c .before .e .given .1) (c .before .before .before .read .ensures .1)
 
--- src/descent.rt:25:1
 returns-2 : tie.Need-returns-2
 returns-2 c = λ l t h. not-deep _ _ _ _ _ l t h _ (c .before .before .read .ensures .0 l (h .index-of .indexed)) (c .enum-told .given .1)
 
--- src/descent.rt:25:1
 returns-3 : tie.Need-returns-3
 returns-3 c = λ l t h. not-broken _ _ _ _ _ l t h _ (c .before .before .read .ensures .0 l (h .index-of .indexed)) (c .enum-told2 .given .1)
 
@@ -42,11 +22,11 @@ pub end-of-spec : {M : Type 1} → statement M
 end-of-spec =
     tie.close
     (tie.spec
-    slice-aggregate-read
+    (λ c. search needs)
     read-requires
-    enum-known-e
-    enum-told
-    enum-told-2
+    (λ c. search needs)
+    (λ c. search needs)
+    (λ c. search needs)
     returns
     returns-2
     returns-3)
