@@ -2,3 +2,4 @@ pub mod Lying
 pub mod Steps
 pub mod Nodes
 pub mod Paths
+pub mod Answers

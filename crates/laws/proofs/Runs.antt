@@ -21,8 +21,8 @@ use Rattle.reader.specs.Code.{Code, levels}
 use Rattle.reader.specs.Typing.{Typed}
 use Rattle.reader.specs.Syntax.{Read, done, deep, broken, read, write, tree}
 use Rattle.reader.specs.Operations.{treeLevels, wholeTree, treeOf}
-use Rattle.reader.proofs.Sound.{read-done}
 use Rattle.reader.proofs.Larger.{typed-larger}
+use Rattle.checks.proofs.Legal.{tree-right, tree-of}
 use Rattle.translation.specs.Translation.{Translation, mapped}
 use Rattle.translation.specs.Running.{transform}
 use Rattle.translation.specs.TranslationFile.{encodeTranslation, translationOf}
@@ -49,22 +49,8 @@ unfolding transform
 transform-typed f s t k h = typed-run (fit-carries f (s .rises) (s .fits)) h
 
 -- What is a tree is typed.
-pub tree-done : (o : Read Code) (t : Code) → wholeTree o ≡ value t → o ≡ done t []
-tree-done (done u []) t e = ap (λ (x : Code). done x []) (value-inj e)
-tree-done (done u (b ∷ s)) t e = refused-value e
-tree-done deep t e = refused-value e
-tree-done broken t e = refused-value e
-
 tree-typed : (l : Language) (k : ℕ) (bytes : List ℕ) (t : Code) → treeOf l k bytes ≡ value t → Typed l [] t k × (isIn l k ≡ true)
-unfolding treeOf
-tree-typed l k bytes t e =
-    let r = refuse-value (not (isIn l k)) UnknownRoot (wholeTree (read tree l [] treeLevels k bytes)) e in
-    (read-done tree l [] treeLevels k bytes t [] (tree-done _ t (r .1)) .0, true-not (isIn l k) (r .0))
-
--- A tree that was read, of a kind that is in the language.
-tree-of : (l : Language) (k : ℕ) (bytes : List ℕ) (o : Read Code) → isIn l k ≡ true → read tree l [] treeLevels k bytes ≡ o → treeOf l k bytes ≡ wholeTree o
-unfolding treeOf
-tree-of l k bytes o i e = rw (i, e)
+tree-typed l k bytes t e = let r = tree-right l k bytes t e in (r .1 .0, r .0)
 
 -- A written tree is read back, or is too deep to be handed in.
 written-tree : (l : Language) (k : ℕ) (t : Code) → clashes l l ≡ false → isIn l k ≡ true → Typed l [] t k

@@ -18,43 +18,18 @@ Inv-loop language index kind tree path at₀ of₀ i₀ at of i = (l : Language)
 abbrev μ-loop : tie.MeasureT-loop
 μ-loop language index kind tree path at₀ of₀ i₀ at of i = length path - i
 
--- src/descent.rt:99:5
 loop-holds : tie.Need-loop-holds Inv-loop μ-loop
 loop-holds c = λ l t h. record { subtree = t; there = h; same = refl }
 
--- src/descent.rt:100:77
-shared-slice-read-argument : tie.Need-shared-slice-read-argument Inv-loop μ-loop
-shared-slice-read-argument c = search needs
-
--- src/descent.rt:100:37
 argument-requires : tie.Need-argument-requires Inv-loop μ-loop
 argument-requires c κs = let p = c .before .before .before .before .before .before .before .pre in let w = c .before .before .loop .inv (p .0) (p .1) (p .2) in (p .0, w .subtree, w .there)
 
--- src/descent.rt:100:22
-enum-known-start : tie.Need-enum-known-start Inv-loop μ-loop
-enum-known-start c = search needs
-
--- src/descent.rt:101:13
-enum-told : tie.Need-enum-told Inv-loop μ-loop
-enum-told c = search needs
-
--- src/descent.rt:101:13
 returns : tie.Need-returns Inv-loop μ-loop
 returns c = λ l t h. let w = c .before .before .before .before .before .loop .inv l t h in path-stops _ _ _ _ _ _ _ _ l t w (c .before .before .before .before .loop-test .taken) _ (c .before .before .argument .ensures l _ (w .there)) (c .enum-told .given .1)
 
--- src/descent.rt:105:9
-add-i : tie.Need-add-i Inv-loop μ-loop
-add-i c = search needs
-
--- src/descent.rt:99:5
-loop-less : tie.Need-loop-less Inv-loop μ-loop
-loop-less c = search needs
-
--- src/descent.rt:99:5
 loop-again : tie.Need-loop-again Inv-loop μ-loop
 loop-again c = λ l t h. let w = c .before .before .before .before .before .before .loop .inv l t h in path-next _ _ _ _ _ _ _ _ l t w (c .before .before .before .before .before .loop-test .taken) _ (c .before .before .before .argument .ensures l _ (w .there)) _ _ (c .before .start .given .1)
 
--- src/descent.rt:91:1
 returns-2 : tie.Need-returns-2 Inv-loop μ-loop
 returns-2 c = λ l t h. path-done _ _ _ _ _ _ _ _ l t (c .before .loop .inv l t h) (c .loop-test .left)
 
@@ -65,12 +40,12 @@ descend-spec =
     Inv-loop
     μ-loop
     loop-holds
-    shared-slice-read-argument
+    (λ c. search needs)
     argument-requires
-    enum-known-start
-    enum-told
+    (λ c. search needs)
+    (λ c. search needs)
     returns
-    add-i
-    loop-less
+    (λ c. search needs)
+    (λ c. search needs)
     loop-again
     returns-2)
