@@ -1,35 +1,33 @@
--- The operation that shows a block: a law for each return, and what is said of every block.
-use Prim.Native.Nat.{ℕ, _+_, _-_, _<_, _≤_}
+-- The operation that shows a block: a law for each return.
+use Prim.Native.Nat.{ℕ, _+_, _-_, _<_}
 use mathlib.Core.Path.{_≡_, refl, sym, ap, _∙_}
-use mathlib.Core.List.{List, [], _++_, append-nil}
-use mathlib.Core.Option.{Option, none, some}
+use mathlib.Core.Bool.{false}
+use mathlib.Core.List.{List, [], append-nil}
+use mathlib.Core.Option.{Option, some}
 use native.Mathlib.Omega.{arith}
-use lib.ListN.{length, getD, take, drop, length-take, length-drop}
+use lib.ListN.{length, getD, take, drop}
 use denote.Ref.{RefT, ptr, now}
 use Rattle.fields.specs.Fields.{byteAt}
-use Rattle.fields.specs.Outcome.{Result, value, refused, numberOf, _>>=_}
+use Rattle.fields.specs.Outcome.{Result, value, refused, numberOf, lengthOf}
 use Rattle.fields.specs.declared.outcome.Outcome.{Outcome}
 use Rattle.fields.specs.declared.outcome.Outcome.the-variants.{Accepted, Refused}
 use Rattle.fields.specs.declared.outcome.Reason.{Reason}
 use Rattle.fields.specs.declared.outcome.Reason.the-variants.{NoBlock}
-use Rattle.fields.proofs.Codec.{bytes-from, refused-value}
-use Rattle.language.specs.Language.{Language}
+use Rattle.fields.proofs.Codec.{bytes-from, value-inj}
+use Rattle.language.specs.Language.{Language, clashes}
 use Rattle.language.specs.LanguageFile.{entriesOf, languageOf}
 use Rattle.language.specs.Operations.{checkLanguage}
 use Rattle.reader.specs.Code.{Code}
-use Rattle.reader.specs.Syntax.{done, read, write, tree}
-use Rattle.reader.specs.Operations.{treeLevels, treeOf, checkTree}
+use Rattle.reader.specs.Syntax.{write, tree}
+use Rattle.reader.specs.Operations.{treeOf, checkTree}
 use Rattle.reader.specs.Inner.Index.{Indexed}
-use Rattle.reader.proofs.Larger.{apart}
 use Rattle.reader.proofs.Members.{in-below}
-use Rattle.reader.proofs.RoundTrip.{round, as-tree}
-use Rattle.checks.proofs.TreeChain.{Accepts, accepts}
-use Rattle.checks.proofs.Legal.{tree-right, tree-of, Checked, accepted-tree, refused-tree}
-use Rattle.block.specs.Blocks.{Block, blockOf, bytesOf, blockAt}
+use Rattle.checks.proofs.TreeChain.{accepts}
+use Rattle.checks.proofs.Legal.{tree-right, Checked, accepted-tree, refused-tree}
+use Rattle.block.specs.Blocks.{Block, blockOf, blockAt}
 use Rattle.block.specs.Operations.{found, findBlock, Shown, shown, showBlock}
-use Rattle.block.specs.Parts.{PartOf, Places, Handed}
-use Rattle.block.specs.Legal.{LegalPart, BlocksAreLegal, EmptyPathIsWhole}
-use Rattle.block.specs.Inner.Lying.{Lies, Index, There, stepOf}
+use Rattle.block.specs.Parts.{PartOf, Places, Handed, Told}
+use Rattle.block.specs.Inner.Lying.{Lies, There, stepOf}
 use Rattle.block.specs.declared.show.Placed.{Placed}
 use Rattle.block.specs.declared.descent.Step.{Step}
 use Rattle.block.specs.declared.descent.Step.the-variants.{To, Nowhere}
@@ -86,28 +84,32 @@ module _ (index s b path : List ℕ) (kind : ℕ) (l : Language) (t : Code) (h :
         bytes = part-is b a (write tree (w .subtree)) _ (v .inside) (v .is);
       })
 
--- A tree that was accepted lies in its bytes.
-tree-lies : (l : Language) (k : ℕ) (b : List ℕ) (t : Code) → ((i : ℕ) → byteAt b i < 256) → treeOf l k b ≡ value t → Lies l b 0 k t
+-- A tree that was accepted is its bytes, and lies in them.
+pub tree-bytes : (l : Language) (k : ℕ) (b : List ℕ) (t : Code) → ((i : ℕ) → byteAt b i < 256) → treeOf l k b ≡ value t → write tree t ≡ b
+tree-bytes l k b t bytes e = sym (tree-right l k b t e .1 .2 (bytes-from b (λ i j. bytes i)) .0 ∙ append-nil (write tree t))
+
+pub tree-lies : (l : Language) (k : ℕ) (b : List ℕ) (t : Code) → ((i : ℕ) → byteAt b i < 256) → treeOf l k b ≡ value t → Lies l b 0 k t
 tree-lies l k b t bytes e =
     let w = tree-right l k b t e in
     record {
       rest = [];
-      is = w .1 .2 (bytes-from b (λ i j. bytes i)) .0;
+      is = sym (append-nil (write tree t) ∙ tree-bytes l k b t bytes e);
       inside = omega arith;
       typed = w .1 .0;
       within = w .1 .1;
       known = w .0;
     }
 
+-- What is known of a language that was accepted.
 accepted-language : (s : List ℕ) (l : Language) → languageOf s ≡ value l → checkLanguage s ≡ Accepted 0
 unfolding checkLanguage
 accepted-language s l e = rw e
 
-language-index : (s index : List ℕ) (l : Language) → languageOf s ≡ value l → ((m : Language) → entriesOf s ≡ some m → Indexed index s m) → Index index s l
-language-index s index l e f =
+pub language-facts : (s : List ℕ) (l : Language) → languageOf s ≡ value l → (entriesOf s ≡ some l) × (clashes l l ≡ false)
+language-facts s l e =
     let a = accepts s {o = checkLanguage s} refl {n = 0} (accepted-language s l e) in
-    let z : a .language ≡ l = let y : value (a .language) ≡ value l = sym (a .is) ∙ e in cc in
-    record { indexed = f l (a .entries ∙ ap some z); apart = rw z at (a .apart) }
+    let z : a .language ≡ l = value-inj (sym (a .is) ∙ e) in
+    (a .entries ∙ ap some z, rw z at (a .apart))
 
 -- place
 module _ (s : List ℕ) (root : ℕ) (b : List ℕ) {o : Outcome} (eo : o ≡ checkTree s root b) where
@@ -124,17 +126,16 @@ module _ (s : List ℕ) (root : ℕ) (b : List ℕ) {o : Outcome} (eo : o ≡ ch
     pub root-small : root < 32
     root-small =
         let c = checked-tree in
-        let a = accepts s {o = checkLanguage s} refl {n = 0} (accepted-language s (c .language) (c .is)) in
-        let z : a .language ≡ c .language = let y : value (a .language) ≡ value (c .language) = sym (a .is) ∙ c .is in cc in
-        in-below s root (c .language) (a .entries ∙ ap some z) (tree-right (c .language) root b (c .subject) (c .tree-is) .0)
+        in-below s root (c .language) (language-facts s (c .language) (c .is) .0) (tree-right (c .language) root b (c .subject) (c .tree-is) .0)
 
     module _ (index : List ℕ) (bytes : (i : ℕ) → getD b i 0 < 256)
         (indexed : (m : ℕ) (l : Language) → o ≡ Accepted m → entriesOf s ≡ some l → Indexed index s l) where
       pub tree-there : There index s b 0 root (checked-tree .language) (checked-tree .subject)
       tree-there =
           let c = checked-tree in
+          let f = language-facts s (c .language) (c .is) in
           record {
-            index-of = language-index s index (c .language) (c .is) (λ m e. indexed n m accepted e);
+            index-of = record { indexed = indexed n (c .language) accepted (f .0); apart = f .1 };
             lies = tree-lies (c .language) root b (c .subject) bytes (c .tree-is);
           }
 
@@ -144,21 +145,42 @@ module _ (s : List ℕ) (root : ℕ) (b : List ℕ) {o : Outcome} (eo : o ≡ ch
       place-found path p w = let c = checked-tree in rw (c .is, c .tree-is) w
 
 -- block
-module _ (d : Shown) (s : RefT (List ℕ)) (r : Placed) (w : Places d (now s) r) where
-  pub in-order : r .start ≤ r .stop
-  in-order = omega (arith, w .start, w .stop)
+module _ (d : Shown) (s : RefT (List ℕ)) (r : Placed) (w : Places d (now s) r)
+    (x : RefT (List ℕ)) (ex : now x ≡ take (r .stop - r .start) (drop (r .start) (now s))) (px : ptr x ≡ (ptr s .0, r .start + ptr s .1)) where
+  handed-bytes : now x ≡ d .bytes
+  handed-bytes =
+      let n : r .stop - r .start ≡ length (d .bytes) = omega (arith, w .start, w .stop) in
+      ex ∙ (ap (λ (m : ℕ). take m (drop (r .start) (now s))) n ∙ (ap (λ (m : ℕ). take (length (d .bytes)) (drop m (now s))) (w .start) ∙ w .bytes))
 
-  module _ (x : RefT (List ℕ)) (ex : now x ≡ take (r .stop - r .start) (drop (r .start) (now s))) (px : ptr x ≡ (ptr s .0, r .start + ptr s .1)) where
-    handed-bytes : now x ≡ d .bytes
-    handed-bytes =
-        let n : r .stop - r .start ≡ length (d .bytes) = omega (arith, w .start, w .stop) in
-        ex ∙ (ap (λ (m : ℕ). take m (drop (r .start) (now s))) n ∙ (ap (λ (m : ℕ). take (length (d .bytes)) (drop m (now s))) (w .start) ∙ w .bytes))
+  handed-part : PartOf s (d .start) x
+  handed-part = record {
+    place = rw (← (w .start)) px;
+    inside = rw handed-bytes (omega (arith, w .stop, w .inside));
+  }
 
-    handed-part : PartOf s (d .start) x
-    handed-part = record {
-      place = rw (← (w .start)) px;
-      inside = rw handed-bytes (omega (arith, w .stop, w .inside));
-    }
+  pub hands : (n : ℕ) → n ≡ numberOf (r .outcome) → Handed d s n (r .kind) x
+  hands n q = record { number-is = q ∙ ap numberOf (w .outcome); kind-is = w .kind; bytes = handed-bytes; part = handed-part }
 
-    pub hands : (n : ℕ) → n ≡ numberOf (r .outcome) → Handed d s n (r .kind) x
-    hands n q = record { number-is = q ∙ ap numberOf (w .outcome); kind-is = w .kind; bytes = handed-bytes; part = handed-part }
+-- The same, told by numbers.
+shown-length : (m : Result Block) → lengthOf (shown m .outcome) ≡ length (shown m .bytes)
+shown-length (value b) = refl
+shown-length (refused r) = refl
+
+module _ (s : List ℕ) (root : ℕ) (b path : List ℕ) (r : Placed) (w : Places (showBlock s root b path) b r) where
+  block-length : lengthOf (showBlock s root b path .outcome) ≡ length (showBlock s root b path .bytes)
+  unfolding showBlock
+  block-length = shown-length (findBlock s root b path)
+
+  pub tells : (n m : ℕ) → n ≡ numberOf (r .outcome) → m ≡ lengthOf (r .outcome) → Told (showBlock s root b path) b n (r .start) m (r .kind)
+  tells n m en em =
+      let d = showBlock s root b path in
+      let y : m ≡ lengthOf (d .outcome) = em ∙ ap lengthOf (w .outcome) in
+      let z : m ≡ length (d .bytes) = y ∙ block-length in
+      record {
+        number-is = en ∙ ap numberOf (w .outcome);
+        start-is = w .start;
+        long-is = y;
+        kind-is = w .kind;
+        inside = omega (arith, w .start, w .stop, w .inside);
+        bytes = rw (z, w .start) (w .bytes);
+      }

@@ -3,3 +3,4 @@ pub mod Steps
 pub mod Nodes
 pub mod Paths
 pub mod Answers
+pub mod Legal

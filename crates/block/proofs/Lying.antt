@@ -1,22 +1,20 @@
 -- Trees that lie in bytes: what lies behind them, their arguments, and the block at a path.
 use Prim.Native.Nat.{ℕ, zero, suc, _+_, _-_, _<_, _≤_}
 use mathlib.Core.Path.{_≡_, refl, sym, ap, _∙_}
-use mathlib.Core.Bool.{true}
 use mathlib.Core.List.{List, [], _∷_, _++_, append-assoc}
 use mathlib.Core.Option.{Option, none, some, Option·getD}
 use native.Mathlib.Omega.{arith}
 use lib.ListN.{length, getD, take, drop, length-append, length-drop}
 use lib.Seq.{drop-drop, drop-append-seam, take-append-seam}
-use Rattle.fields.specs.Lists.{all}
-use Rattle.fields.proofs.Truth.{Mem, mem-all, none-some, some-inj}
+use Rattle.fields.proofs.Truth.{mem-all, none-some, some-inj}
 use Rattle.fields.proofs.Lists.{all-true}
 use Rattle.fields.proofs.Split.{front}
 use Rattle.language.specs.Language.{Language, isIn, argumentsOf}
 use Rattle.language.proofs.Lookup.{arguments-mem, argument-in}
-use Rattle.reader.specs.Code.{Code, node, token, argument, Codes, nil, cons, levels, levelsAll}
-use Rattle.reader.specs.Typing.{Typed, TypedAll, typed-node, typed-token, typed-argument, typed-nil, typed-cons}
+use Rattle.reader.specs.Code.{Code, node, Codes, nil, cons, levels}
+use Rattle.reader.specs.Typing.{Typed, TypedAll, typed-node, typed-token, typed-argument, typed-cons}
 use Rattle.reader.specs.Syntax.{write, writeAll, tree}
-use Rattle.block.specs.Blocks.{Block, blockOf, bytesOf, argumentAfter, argumentOf, blockAt}
+use Rattle.block.specs.Blocks.{Block, argumentAfter, argumentOf, blockAt}
 use Rattle.block.specs.Inner.Lying.{Lies, LieAll}
 
 -- What lies behind bytes that lie somewhere.

@@ -4,7 +4,7 @@ use mathlib.Core.Path.{_≡_, refl, sym, ap, _∙_}
 use mathlib.Core.List.{List, []}
 use mathlib.Core.Option.{Option, none, some, Option·getD}
 use native.Mathlib.Omega.{arith}
-use lib.ListN.{length, getD}
+use lib.ListN.{getD}
 use lib.Seq.{slice}
 use Rattle.fields.specs.Fields.{pairAt}
 use Rattle.fields.specs.Inner.Places.{fieldEnd}
@@ -56,9 +56,12 @@ module _ (index s b : List ℕ) (at k : ℕ) (l : Language) (x : Index index s l
       let byte : p < 256 = rw (← (w .1)) (bytes at) in
       let class : getD index k 0 ≡ 0 = no-class s (getD index k 0) (sym (x .indexed .range k kind) ∙ apart l (x .apart) k p ks e) in
       let place = getD index (productionKey k p) 0 in
-      let f = some-production s place (sym (x .indexed .arguments k p kind byte) ∙ e) in
-      (place + 4, place + 2 + pairAt s place, f .1,
-      node-tree s index [] k b at refl (tree-name s index k b at refl refl class (name-known s index k b at (w .0) refl (sym (w .1)) refl (f .0) refl)))
+      let f = some-production s place (sym (x .indexed .arguments k p kind byte) ∙ e) in (
+        place + 4,
+        place + 2 + pairAt s place,
+        f .1,
+        node-tree s index [] k b at refl (tree-name s index k b at refl refl class (name-known s index k b at (w .0) refl (sym (w .1)) refl (f .0) refl)),
+      )
 
   token-place : {c : Range} → rangeOf l k ≡ some c → Leaf (tokenAt s (getD index k 0) b at) ≡ nodeAt Tree s index [] k b at
   token-place e =

@@ -1,8 +1,8 @@
 -- Steps along a path: a law for each return and turn of the functions of the descent.
-use Prim.Native.Nat.{ℕ, zero, suc, _+_, _-_, _<_, _≤_}
+use Prim.Native.Nat.{ℕ, suc, _+_, _-_, _<_, _≤_}
 use mathlib.Core.Path.{_≡_, refl, sym, ap, _∙_}
-use mathlib.Core.List.{List, [], _∷_, _++_}
-use mathlib.Core.Option.{none, some}
+use mathlib.Core.List.{List, [], _∷_}
+use mathlib.Core.Option.{some}
 use native.Mathlib.Omega.{arith}
 use lib.ListN.{length, getD, drop, length-drop}
 use lib.Seq.{slice}
@@ -21,8 +21,7 @@ use Rattle.reader.proofs.Larger.{apart}
 use Rattle.reader.proofs.Members.{in-below}
 use Rattle.reader.proofs.RoundTrip.{round, as-tree}
 use Rattle.block.specs.Blocks.{blockOf, argumentAfter}
-use Rattle.block.specs.Inner.Lying.{Lies, LieAll, Index, There, Row, stepOf}
-use Rattle.block.specs.declared.descent.Step.{Step}
+use Rattle.block.specs.Inner.Lying.{LieAll, Index, There, Row, stepOf}
 use Rattle.block.specs.declared.descent.Step.the-variants.{To, Nowhere}
 use Rattle.block.proofs.Lying.{past-inside, past-is, head-lies, tail-lie}
 

@@ -4,7 +4,7 @@ use mathlib.Core.Path.{_≡_}
 use mathlib.Core.List.{List}
 use lib.ListN.{length, take, drop}
 use denote.Ref.{RefT, ptr, now}
-use Rattle.fields.specs.Outcome.{numberOf}
+use Rattle.fields.specs.Outcome.{numberOf, lengthOf}
 use Rattle.block.specs.Operations.{Shown}
 use Rattle.block.specs.declared.show.Placed.{Placed}
 
@@ -28,3 +28,13 @@ pub record Handed (d : Shown) (tree : RefT (List ℕ)) (number kind : ℕ) (r : 
   pub kind-is : kind ≡ d .kind
   pub bytes : now r ≡ d .bytes
   pub part : PartOf tree (d .start) r
+
+-- What is shown is told by numbers, for a caller to whom no slice can be handed: the so many bytes of the tree from the
+-- start on are the block's.
+pub record Told (d : Shown) (tree : List ℕ) (number start long kind : ℕ) : Type 0 where
+  pub number-is : number ≡ numberOf (d .outcome)
+  pub start-is : start ≡ d .start
+  pub long-is : long ≡ lengthOf (d .outcome)
+  pub kind-is : kind ≡ d .kind
+  pub inside : start + long ≤ length tree
+  pub bytes : take long (drop start tree) ≡ d .bytes

@@ -5,7 +5,7 @@ use reader::node::Syntax;
 use reader::node::node_at;
 use reader::read::read;
 ghost use mathlib.Core.Path.{_≡_};
-ghost use Prim.Native.Nat.{ℕ, _+_, _-_, _<_};
+ghost use Prim.Native.Nat.{_+_, _-_, _<_};
 ghost use lib.ListN.{length};
 ghost use lib.Seq.{slice};
 ghost use Rattle.language.specs.Language.{Language};
@@ -83,7 +83,15 @@ pub fn argument(
     }
     match node_at(Syntax::Tree, language, index, &[], kind, tree, at) {
         Node::Leaf(token) => Step::Nowhere,
-        Node::Operands(first, last, to) => argument_among(language, index, first, last, tree, to, number),
+        Node::Operands(first, last, to) => argument_among(
+            language,
+            index,
+            first,
+            last,
+            tree,
+            to,
+            number,
+        ),
     }
 }
 

@@ -1,14 +1,13 @@
 // The operation that shows one block of a tree.
-use checks::trees::check_indexed;
 use crate::descent::Step;
 use crate::descent::descend;
 use crate::descent::end_of;
+use checks::trees::check_indexed;
 use fields::outcome::Outcome;
 use fields::outcome::Reason;
 use fields::outcome::number;
 use reader::index::INDEX;
 ghost use mathlib.Core.Path.{_≡_};
-ghost use Prim.Native.Nat.{ℕ};
 ghost use Rattle.language.specs.Language.{Language};
 ghost use Rattle.reader.specs.Code.{Code};
 ghost use Rattle.block.specs.Blocks.{blockOf, blockAt};

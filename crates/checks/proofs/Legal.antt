@@ -1,6 +1,6 @@
 -- What a tree that was accepted is.
 use Prim.Native.Nat.{ℕ}
-use mathlib.Core.Path.{_≡_, refl, sym, ap, _∙_}
+use mathlib.Core.Path.{_≡_, refl, sym, ap}
 use mathlib.Core.Bool.{true, not}
 use mathlib.Core.List.{List, [], _∷_}
 use Rattle.fields.specs.Outcome.{Result, value, refused, checked, _>>=_}
@@ -8,7 +8,7 @@ use Rattle.fields.specs.declared.outcome.Outcome.the-variants.{Accepted, Refuse
 use Rattle.fields.specs.declared.outcome.Reason.{Reason}
 use Rattle.fields.specs.declared.outcome.Reason.the-variants.{UnknownRoot}
 use Rattle.fields.proofs.Truth.{true-not}
-use Rattle.fields.proofs.Codec.{refused-value}
+use Rattle.fields.proofs.Codec.{refused-value, value-inj}
 use Rattle.language.specs.Language.{Language, isIn}
 use Rattle.language.specs.LanguageFile.{languageOf}
 use Rattle.reader.specs.Code.{Code}
@@ -20,7 +20,7 @@ use Rattle.translation.proofs.Accepted.{refused-not}
 
 -- A whole tree was read to its end.
 pub tree-done : (o : Read Code) (t : Code) → wholeTree o ≡ value t → o ≡ done t []
-tree-done (done u []) t e = cc
+tree-done (done u []) t e = ap (λ (x : Code). done x []) (value-inj e)
 tree-done (done u (b ∷ s)) t e = refused-value e
 tree-done deep t e = refused-value e
 tree-done broken t e = refused-value e

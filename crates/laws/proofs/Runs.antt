@@ -2,8 +2,8 @@
 use Prim.Native.Nat.{ℕ}
 use mathlib.Core.Path.{_≡_, refl, ap, sym, subst, _∙_}
 use mathlib.Core.Logic.{_⊎_, inl, inr, ⊎-elim}
-use mathlib.Core.Bool.{Bool, true, false, not}
-use mathlib.Core.List.{List, [], _∷_, _++_, append-nil}
+use mathlib.Core.Bool.{Bool, true, false}
+use mathlib.Core.List.{List, [], _++_, append-nil}
 use native.Mathlib.Omega.{arith}
 use lib.ListN.{length}
 use lib.Dec.{ltb}
@@ -13,14 +13,13 @@ use Rattle.fields.specs.Fields.{Field}
 use Rattle.fields.specs.declared.outcome.Reason.{Reason}
 use Rattle.fields.specs.declared.outcome.Reason.the-variants.{UnknownRoot, IllegalTree, TooDeep, OutputTooShort}
 use Rattle.fields.specs.declared.outcome.Outcome.the-variants.{Accepted, Refused}
-use Rattle.fields.proofs.Truth.{by-test, true-not}
-use Rattle.fields.proofs.Codec.{refused-value}
+use Rattle.fields.proofs.Truth.{by-test}
 use Rattle.language.specs.Language.{Language, isIn, clashes}
 use Rattle.language.proofs.Lookup.{none-clashes}
 use Rattle.reader.specs.Code.{Code, levels}
 use Rattle.reader.specs.Typing.{Typed}
-use Rattle.reader.specs.Syntax.{Read, done, deep, broken, read, write, tree}
-use Rattle.reader.specs.Operations.{treeLevels, wholeTree, treeOf}
+use Rattle.reader.specs.Syntax.{done, deep, read, write, tree}
+use Rattle.reader.specs.Operations.{treeLevels, treeOf}
 use Rattle.reader.proofs.Larger.{typed-larger}
 use Rattle.checks.proofs.Legal.{tree-right, tree-of}
 use Rattle.translation.specs.Translation.{Translation, mapped}

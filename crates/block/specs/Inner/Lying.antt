@@ -1,5 +1,5 @@
 -- Trees of a kind that lie in bytes, and what the steps along a path ask for and give.
-use Prim.Native.Nat.{ℕ, _+_, _-_, _≤_}
+use Prim.Native.Nat.{ℕ, _+_, _≤_}
 use mathlib.Core.Path.{_≡_}
 use mathlib.Core.Bool.{true, false}
 use mathlib.Core.List.{List, [], _++_}
@@ -13,7 +13,6 @@ use Rattle.reader.specs.Typing.{Typed, TypedAll}
 use Rattle.reader.specs.Syntax.{write, writeAll, tree}
 use Rattle.reader.specs.Operations.{treeLevels}
 use Rattle.reader.specs.Inner.Index.{Indexed}
-use Rattle.reader.specs.Inner.Positions.{KindsIn}
 use Rattle.block.specs.Blocks.{Block}
 use Rattle.block.specs.declared.descent.Step.{Step}
 use Rattle.block.specs.declared.descent.Step.the-variants.{To, Nowhere}

@@ -9,39 +9,15 @@ use Rattle.block.proofs.descent.descend.Reads as descend-reads
 use Rattle.block.proofs.descent.end_of.Reads as end-of-reads
 use Rattle.block.proofs.show.nothing.Reads as nothing-reads
 
--- src/show.rt:45:31
-descend-requires : tie.Need-descend-requires
-descend-requires c κs = search needs
-
--- src/show.rt:45:18
-enum-known-start : tie.Need-enum-known-start
-enum-known-start c = search needs
-
--- src/show.rt:46:24
-enum-told : tie.Need-enum-told
-enum-told c = search needs
-
--- src/show.rt:46:9
-nothing-requires : tie.Need-nothing-requires
-nothing-requires c κs = search needs
-
--- src/show.rt:46:9
 returns : tie.Need-returns
 returns c = λ l t h. placed-nothing _ _ _ _ _ l t h _ (c .before .before .before .descend .ensures l t h) (c .before .enum-told .given .1) _ (c .nothing .ensures)
 
--- src/show.rt:48:9
 end-of-requires : tie.Need-end-of-requires
 end-of-requires c κs = let p = c .before .before .before .before .before .before .before .before .pre in let w = block-there _ _ _ _ _ (p .0) (p .1) (p .2) _ (c .before .before .before .descend .ensures (p .0) (p .1) (p .2)) _ _ (c .before .start .given .1) in (p .0, w .subtree, w .there)
 
--- src/show.rt:50:36
 sub-t11 : tie.Need-sub-t11
 sub-t11 c = let p = c .before .before .before .before .before .before .before .before .before .pre in let w = block-there _ _ _ _ _ (p .0) (p .1) (p .2) _ (c .before .before .before .before .descend .ensures (p .0) (p .1) (p .2)) _ _ (c .before .before .start .given .1) in omega (arith, c .end-of .ensures (p .0) _ (w .there))
 
--- src/show.rt:53:15
-cast-t13 : tie.Need-cast-t13
-cast-t13 c = search needs
-
--- src/show.rt:40:1
 returns-2 : tie.Need-returns-2
 returns-2 c = λ l t h. let w = block-there _ _ _ _ _ l t h _ (c .before .before .before .before .descend .ensures l t h) _ _ (c .before .before .start .given .1) in placed-block _ _ _ _ _ l t h _ (c .before .before .before .before .descend .ensures l t h) _ _ w _ (c .end-of .ensures l _ (w .there))
 
@@ -49,12 +25,12 @@ pub place-in-spec : {M : Type 1} → statement M
 place-in-spec =
     tie.close
     (tie.spec
-    descend-requires
-    enum-known-start
-    enum-told
-    nothing-requires
+    (λ c κs. search needs)
+    (λ c. search needs)
+    (λ c. search needs)
+    (λ c κs. search needs)
     returns
     end-of-requires
     sub-t11
-    cast-t13
+    (λ c. search needs)
     returns-2)
