@@ -66,7 +66,7 @@ fn argument_among(
 }
 
 // The argument of a number, counted from 1, of the tree of a kind that starts at a position.
-pub fn argument(
+fn argument(
     language: &[u8],
     index: &[u16],
     kind: u8,
