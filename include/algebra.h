@@ -1,19 +1,19 @@
-/* The C interface of the library algebra: three checks, reduce and run.
+/* The C interface of the library algebra: three checks, reduce, run and block.
  *
  * Each function returns the number of the answer: ALGEBRA_ACCEPTED, or the number of a
- * refusal (enum algebra_answer). Where there is a length it is stored through the last
- * pointer; a refusal stores 0 and leaves the output unchanged. Accepted, the output holds the
- * result first, and its other bytes are unchanged.
+ * refusal (enum algebra_answer). Figures of the answer, such as a length, are stored through
+ * pointers behind the slices; a refusal stores 0 and leaves the output unchanged. Accepted, the
+ * output holds the result first, and its other bytes are unchanged.
  *
  * What is asked of the caller, and not checked:
  *
  * - A slice is a pointer and a length. The pointer is valid for that many bytes: for reading,
  *   or for reading and writing if it is an output or a workspace. If the length is 0 nothing
  *   is read or written through the pointer, and it may be null; otherwise it must not be.
- * - The pointer called length is never null: it points to a uint64_t that can be written.
- * - An output, a workspace and the length overlap neither an input nor each other. Inputs may
+ * - Pointers to figures are never null: each points to a number that can be written.
+ * - An output, a workspace and the figures overlap neither an input nor each other. Inputs may
  *   overlap each other. While a call is at work no other thread writes its inputs, or reads or
- *   writes its output, workspace and length.
+ *   writes its output, workspace and figures.
  * - When a function is called, at least ALGEBRA_STACK_BYTES bytes of stack are left to it. The
  *   stack is bounded since all depths are (64 levels of a tree, 16 of a code, 12 of a term);
  *   the figure is measured, on inputs built to be the worst.
@@ -93,7 +93,9 @@ enum algebra_answer {
     /* the tree has more than 64 levels */
     ALGEBRA_TOO_DEEP = 16,
     /* the result is longer than the output */
-    ALGEBRA_OUTPUT_TOO_SHORT = 17
+    ALGEBRA_OUTPUT_TOO_SHORT = 17,
+    /* a path number is 0, or there is no such argument */
+    ALGEBRA_NO_BLOCK = 21
 };
 
 #ifdef __cplusplus
@@ -125,6 +127,15 @@ uint32_t algebra_run(const uint8_t *translation, size_t translation_length,
                      const uint8_t *tree, size_t tree_length,
                      uint8_t *output, size_t output_length,
                      uint64_t *length);
+
+/* Looks up the block of a tree at a path of argument numbers, one byte each, from 1: 0 to 4, 14
+ * to 16, 21. The block is the part of the tree from start on with that length, a legal tree of
+ * the kind. The empty path gives the whole tree. */
+uint32_t algebra_block(const uint8_t *language, size_t language_length,
+                       uint32_t root,
+                       const uint8_t *tree, size_t tree_length,
+                       const uint8_t *path, size_t path_length,
+                       uint64_t *start, uint64_t *length, uint32_t *kind);
 
 #ifdef __cplusplus
 }

@@ -4,9 +4,11 @@
  *   ask language FILE                          ask translation FILE
  *   ask tree LANGUAGE ROOT TREE                ask reduce PACK [WORKSPACE-BYTES [OUTPUT-BYTES]]
  *   ask run TRANSLATION ROOT TREE [OUTPUT-BYTES]
+ *   ask block LANGUAGE ROOT TREE PATH
  *   ask bytes FILE                             writes the bytes themselves
  *
- * Prints `accepted LENGTH`, and the bytes of a result on a second line, or `refused NUMBER`. */
+ * Prints `accepted LENGTH`, the bytes of a result on a second line, and kind and start of a block on a third; or
+ * `refused NUMBER`. */
 #include "algebra.h"
 #include <stdio.h>
 #include <stdlib.h>
@@ -122,6 +124,19 @@ static void run(char **words)
     answer(number, length, result);
 }
 
+/* Looks up a block. */
+static void block(char **words)
+{
+    struct bytes language = load(words[0]), tree = load(words[2]), path = load(words[3]);
+    uint64_t start, length;
+    uint32_t kind;
+    uint32_t number = algebra_block(language.at, language.length, (uint32_t)number_or(words[1], 0), tree.at, tree.length,
+                                    path.at, path.length, &start, &length, &kind);
+    answer(number, length, tree.at + start);
+    if (number == ALGEBRA_ACCEPTED)
+        printf("kind %u, start %u\n", (unsigned)kind, (unsigned)start);
+}
+
 /* Checks a language, a translation or a tree. */
 static void check(const char *verb, char **words)
 {
@@ -148,7 +163,8 @@ static const struct {
     const char *verb;
     int least, most;
 } verbs[] = { { "language", 1, 1 }, { "translation", 1, 1 }, { "tree", 3, 3 },
-              { "reduce", 1, 3 },   { "run", 3, 4 },         { "bytes", 1, 1 } };
+              { "reduce", 1, 3 },   { "run", 3, 4 },         { "block", 4, 4 },
+              { "bytes", 1, 1 } };
 
 int main(int count, char **words)
 {
@@ -162,6 +178,8 @@ int main(int count, char **words)
         reduce(words + 2);
     else if (strcmp(verb, "run") == 0)
         run(words + 2);
+    else if (strcmp(verb, "block") == 0)
+        block(words + 2);
     else if (strcmp(verb, "bytes") == 0)
         write_bytes(words[2]);
     else

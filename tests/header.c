@@ -61,6 +61,19 @@ static uint32_t run(const uint8_t *t, size_t t_length, const uint8_t *n, size_t 
     return number;
 }
 
+/* Looks up a block of the tree's root kind; a refusal must store 0 three times. */
+static uint32_t block(const uint8_t *l, size_t l_length, const uint8_t *t, size_t t_length,
+                      const uint8_t *p, size_t p_length)
+{
+    uint64_t start = UINT64_MAX, length = UINT64_MAX;
+    uint32_t kind = UINT32_MAX;
+    uint32_t number = algebra_block(l, l_length, 1, t, t_length, p, p_length, &start, &length, &kind);
+    count("the start of a block", start == 0);
+    count("the length of a block", length == (number == 0 ? sizeof tree : 0));
+    count("the kind of a block", kind == (number == 0 ? 1 : 0));
+    return number;
+}
+
 /* The three checks. */
 static void checks(void)
 {
@@ -103,6 +116,20 @@ static void runs(void)
     same("run, all", 2, run(NULL, 0, NULL, 0, NULL, 0),
          run(elsewhere, 0, elsewhere, 0, no_bytes, 0));
     count("run", run(translation, sizeof translation, tree, sizeof tree, output, OUTPUT) == 0);
+}
+
+/* Lookups of blocks. */
+static void blocks(void)
+{
+    same("block, language", 14, block(NULL, 0, tree, sizeof tree, tree, 0),
+         block(elsewhere, 0, tree, sizeof tree, tree, 0));
+    same("block, tree", 15, block(language, sizeof language, NULL, 0, tree, 0),
+         block(language, sizeof language, elsewhere, 0, tree, 0));
+    same("block, path", 0, block(language, sizeof language, tree, sizeof tree, NULL, 0),
+         block(language, sizeof language, tree, sizeof tree, elsewhere, 0));
+    same("block, all", 14, block(NULL, 0, NULL, 0, NULL, 0), block(elsewhere, 0, elsewhere, 0, elsewhere, 0));
+    gives("no such block", ALGEBRA_NO_BLOCK,
+          block(language, sizeof language, tree, sizeof tree, elsewhere, sizeof elsewhere));
 }
 
 /* A file that is put together, and how long it is. */
@@ -230,6 +257,7 @@ int main(void)
     checks();
     reductions();
     runs();
+    blocks();
     lengths();
     rooms();
     levels();

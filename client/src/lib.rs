@@ -1,8 +1,8 @@
 //! Session languages and their translations: safe functions over the static library `algebra`.
 //!
 //! Three checks, [`check_language`], [`check_translation`] and [`check_tree`], one operation that
-//! [reduces](reduce) a pack to a translation, and one that [runs](run) a translation on a tree.
-//! Each is accepted or gives a [`Refusal`]. What a call answers depends on its arguments alone;
+//! [reduces](reduce) a pack to a translation, one that [runs](run) a translation on a tree, and one
+//! that looks up a [block] of a tree. Each is accepted or gives a [`Refusal`]. What a call answers depends on its arguments alone;
 //! any number of threads may call at the same time.
 //!
 //! # The strap
@@ -55,10 +55,12 @@
 #![deny(unsafe_code)]
 #![warn(missing_docs)]
 
+mod block;
 mod limits;
 pub mod raw;
 mod refusal;
 
+pub use block::{block, Block};
 pub use limits::{
     CODE_LEVELS, LANGUAGE_BYTES, PACK_BYTES, STACK_BYTES, TERM_LEVELS, TRANSLATION_BYTES,
     TREE_LEVELS, WORKSPACE_BYTES,

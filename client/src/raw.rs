@@ -1,9 +1,14 @@
 //! The C interface as it is, without what is unsafe: numbers instead of
-//! [`Refusal`](crate::Refusal), the length as it was stored, and the workspace of the caller.
+//! [`Refusal`](crate::Refusal), lengths and other figures as they were stored, and the workspace of
+//! the caller.
 //!
 //! The functions beside this module serve most callers better. This one shows what they do not:
-//! which bytes of output and workspace a call leaves alone, and the length after a refusal.
+//! which bytes of output and workspace a call leaves alone, and the figures after a refusal.
 #![allow(unsafe_code)]
+
+mod block;
+
+pub use block::{block, BlockAnswer};
 
 extern "C" {
     fn algebra_check_language(language: *const u8, length: usize) -> u32;

@@ -1,8 +1,8 @@
-//! A call of one of the five operations, by the reference or by the library.
+//! A call of one of the operations, by the reference or by the library.
 
-use crate::generate::{ReduceCase, RunCase, TreeCase};
+use crate::generate::{BlockCase, ReduceCase, RunCase, TreeCase};
 use crate::outcome::Outcome;
-use crate::{check_language, check_translation, check_tree, reduce, run};
+use crate::{block, check_language, check_translation, check_tree, reduce, run, Block};
 #[cfg(feature = "library")]
 use algebra::raw as library;
 
@@ -14,20 +14,24 @@ pub enum Call {
     CheckTree(TreeCase),
     Reduce(ReduceCase),
     Run(RunCase),
+    Block(BlockCase),
 }
 
-/// The buffers that are lent to a call; a check has none.
+/// The buffers that are lent to a call; a check has none, nor has a lookup.
 #[derive(Clone, Debug, PartialEq, Eq)]
 pub struct Buffers {
     pub workspace: Vec<u8>,
     pub output: Vec<u8>,
 }
 
-/// What a call answered: the number and the length.
-#[derive(Clone, Copy, Debug, PartialEq, Eq)]
+/// What a call answered: the number and the length, and figures that are 0 where the operation
+/// has none: start and kind of a block.
+#[derive(Clone, Copy, Debug, Default, PartialEq, Eq)]
 pub struct Answer {
     pub number: u32,
     pub length: u64,
+    pub start: u64,
+    pub kind: u32,
 }
 
 /// Lent buffers hold these bytes at the start.
@@ -36,7 +40,14 @@ pub const OUTPUT_MARK: u8 = 0xBB;
 
 impl From<Outcome> for Answer {
     fn from(outcome: Outcome) -> Answer {
-        Answer { number: outcome.number(), length: outcome.length() }
+        let (number, length) = (outcome.number(), outcome.length());
+        Answer { number, length, ..Answer::default() }
+    }
+}
+
+impl From<Block<'_>> for Answer {
+    fn from(block: Block) -> Answer {
+        Answer { start: block.start, kind: block.kind, ..block.outcome.into() }
     }
 }
 
@@ -49,6 +60,7 @@ impl Call {
             Call::CheckTree(_) => "check_tree",
             Call::Reduce(_) => "reduce",
             Call::Run(_) => "run",
+            Call::Block(_) => "block",
         }
     }
 
@@ -71,6 +83,7 @@ impl Call {
             Call::CheckTree(case) => check_tree(&case.language, case.root, &case.tree).into(),
             Call::Reduce(case) => reduce(&case.pack, workspace, output).into(),
             Call::Run(case) => run(&case.translation, case.root, &case.tree, output).into(),
+            Call::Block(case) => block(&case.language, case.root, &case.tree, &case.path).into(),
         }
     }
 
@@ -78,7 +91,7 @@ impl Call {
     #[cfg(feature = "library")]
     pub fn by_library(&self, buffers: &mut Buffers) -> Answer {
         let Buffers { workspace, output } = buffers;
-        let checked = |number| Answer { number, length: 0 };
+        let checked = |number| Answer { number, ..Answer::default() };
         match self {
             Call::CheckLanguage(language) => checked(library::check_language(language)),
             Call::CheckTranslation(bytes) => checked(library::check_translation(bytes)),
@@ -89,6 +102,9 @@ impl Call {
             Call::Run(case) => {
                 library::run(&case.translation, case.root, &case.tree, output).into()
             }
+            Call::Block(case) => {
+                library::block(&case.language, case.root, &case.tree, &case.path).into()
+            }
         }
     }
 }
@@ -96,6 +112,15 @@ impl Call {
 #[cfg(feature = "library")]
 impl From<library::Answer> for Answer {
     fn from(answer: library::Answer) -> Answer {
-        Answer { number: answer.number, length: answer.length }
+        let library::Answer { number, length } = answer;
+        Answer { number, length, ..Answer::default() }
+    }
+}
+
+#[cfg(feature = "library")]
+impl From<library::BlockAnswer> for Answer {
+    fn from(answer: library::BlockAnswer) -> Answer {
+        let library::BlockAnswer { number, start, length, kind } = answer;
+        Answer { number, length, start, kind }
     }
 }

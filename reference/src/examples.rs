@@ -3,15 +3,15 @@
 
 use crate::call::{Answer, Buffers, Call, WORKSPACE_MARK};
 use crate::files::{class, clause, mapping, pack, production, stepped_class, translation};
-use crate::generate::{ReduceCase, RunCase, TreeCase};
+use crate::generate::{BlockCase, ReduceCase, RunCase, TreeCase};
 use crate::reduce::{OUTPUT_LEAST, WORKSPACE_LEAST};
 
-/// A call with the number and the bytes that it must give.
+/// A call with the answer and the bytes that it must give.
 #[derive(Clone, Debug)]
 pub struct Example {
     pub what: String,
     pub call: Call,
-    pub number: u32,
+    pub answer: Answer,
     /// What stands first in the output of an accepted call.
     pub bytes: Vec<u8>,
 }
@@ -118,12 +118,21 @@ fn reduction(pack: Vec<u8>) -> Call {
 
 /// A call that is accepted and gives these bytes.
 fn accepted(what: &str, call: Call, bytes: &[u8]) -> Example {
-    Example { what: what.to_string(), call, number: 0, bytes: bytes.to_vec() }
+    let length = bytes.len() as u64;
+    Example {
+        bytes: bytes.to_vec(),
+        ..answered(what, call, Answer { length, ..Answer::default() })
+    }
 }
 
 /// A call that is refused with the number.
 fn refused(what: &str, call: Call, number: u32) -> Example {
-    Example { what: what.to_string(), call, number, bytes: vec![] }
+    answered(what, call, Answer { number, ..Answer::default() })
+}
+
+/// A call that gives the answer and has no output.
+fn answered(what: &str, call: Call, answer: Answer) -> Example {
+    Example { what: what.to_string(), call, answer, bytes: vec![] }
 }
 
 /// So many times 04, then 01 00 05.
@@ -274,9 +283,32 @@ fn checks() -> Vec<Example> {
     ]
 }
 
+/// Blocks of a sequence of C: a row of 5 minutes, and a rest of 3.
+fn blocks() -> Vec<Example> {
+    let looked_up = |tree: &[u8], path: &[u8]| {
+        let (language, tree, path) = (language_c(), tree.to_vec(), path.to_vec());
+        Call::Block(BlockCase { language, root: 1, tree, path })
+    };
+    let at = |path: &[u8]| looked_up(&[2, 1, 0, 5, 3, 0, 3], path);
+    let found = |what, path, start, length, kind| {
+        answered(what, at(path), Answer { number: 0, length, start, kind })
+    };
+    vec![
+        found("the whole sequence", &[], 0, 7, 1),
+        found("the row", &[1], 1, 3, 1),
+        found("the rest", &[2], 4, 3, 1),
+        found("the minutes of the rest", &[2, 1], 5, 2, 2),
+        refused("number 0", at(&[0]), 21),
+        refused("a third block of two", at(&[3]), 21),
+        refused("below the minutes", at(&[2, 1, 1]), 21),
+        refused("a byte left over", looked_up(&[1, 0, 5, 0], &[0]), 15),
+    ]
+}
+
 /// All examples.
 pub fn examples() -> Vec<Example> {
-    [reductions(), accepted_runs(), refused_runs(), wider_strap(), rates(), checks()].concat()
+    let first = [reductions(), accepted_runs(), refused_runs(), wider_strap(), rates(), checks()];
+    [first.concat(), blocks()].concat()
 }
 
 impl Example {
@@ -289,7 +321,7 @@ impl Example {
 
     /// The workspace at the end: all zero, or as it was after an early refusal.
     fn workspace(&self) -> Vec<u8> {
-        let kept = EARLY_REFUSALS.contains(&self.number);
+        let kept = EARLY_REFUSALS.contains(&self.answer.number);
         let byte = if kept { WORKSPACE_MARK } else { 0 };
         vec![byte; self.call.buffers().workspace.len()]
     }
@@ -298,10 +330,8 @@ impl Example {
     pub fn wrong(&self, call: impl Fn(&Call, &mut Buffers) -> Answer) -> Option<String> {
         let mut buffers = self.call.buffers();
         let found = call(&self.call, &mut buffers);
-        let length = if self.number == 0 { self.bytes.len() as u64 } else { 0 };
-        let expected = Answer { number: self.number, length };
-        if found != expected {
-            return Some(format!("{found:?} instead of {expected:?}"));
+        if found != self.answer {
+            return Some(format!("{found:?} instead of {:?}", self.answer));
         }
         let Buffers { workspace, output } = buffers;
         let kept = workspace == self.workspace() && output == self.output();

@@ -1,9 +1,10 @@
 //! Languages, translations and a reducer over bytes: a reference on decoded structures.
 //!
-//! The five operations are `check_language`, `check_translation`, `check_tree`, `reduce`
-//! and `run`. Each answers with an `Outcome`: accepted with a length, or refused.
+//! The operations are `check_language`, `check_translation`, `check_tree`, `reduce`, `run` and
+//! `block`. Each answers with an `Outcome`: accepted with a length, or refused.
 #![deny(unsafe_code)]
 
+mod block;
 mod body;
 mod code;
 #[cfg(test)]
@@ -31,6 +32,7 @@ pub mod show;
 pub mod stack;
 pub mod steps;
 
+pub use block::{block, Block};
 pub use language::check_language;
 pub use outcome::{Outcome, Refusal};
 pub use reduce::reduce;

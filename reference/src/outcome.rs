@@ -38,6 +38,8 @@ pub enum Refusal {
     Depth = 16,
     /// The result is longer than the output.
     Output = 17,
+    /// A path number is 0, or there is no such argument.
+    Path = 21,
 }
 
 /// The answer of an operation.

@@ -5,7 +5,7 @@ use crate::grammar::Grammar;
 use crate::language::ARGUMENTS;
 use crate::outcome::{require, Outcome, Refusal};
 use crate::translation::{read_translation, Translation};
-use crate::tree::{read_tree, root_kind, Tally};
+use crate::tree::{read_tree, root_kind, tree_end, Tally};
 
 /// The clauses of a translation, ready to be run: one for each place of the source.
 struct Program {
@@ -150,19 +150,11 @@ impl Writer<'_> {
     #[inline]
     fn learn(&self, arguments: &[u8], number: usize, starts: &mut Starts) {
         while starts.last < number {
-            let end = self.skip(arguments[starts.last], starts.places[starts.last]);
+            let (kind, start) = (arguments[starts.last], starts.places[starts.last]);
+            let end = tree_end(self.grammar, self.tree, kind, start);
             starts.last += 1;
             starts.places[starts.last] = end;
         }
-    }
-
-    /// Where the tree of a kind at `start` ends.
-    fn skip(&self, kind: u8, start: usize) -> usize {
-        if self.grammar.class(kind).is_some() {
-            return start + 2;
-        }
-        let arguments = self.grammar.production(self.place(kind, start)).arguments();
-        arguments.iter().fold(start + 1, |place, &kind| self.skip(kind, place))
     }
 
     /// The place of the production named at `start`.

@@ -99,6 +99,16 @@ pub fn read_tree<T: Tally>(
     Ok(reader.tally)
 }
 
+/// Where the legal tree of a kind that starts at a place ends.
+pub fn tree_end(grammar: &Grammar, tree: &[u8], kind: u8, start: usize) -> usize {
+    if grammar.class(kind).is_some() {
+        return start + 2;
+    }
+    let place = grammar.place(kind, tree[start]).expect("a legal tree");
+    let arguments = grammar.production(place).arguments();
+    arguments.iter().fold(start + 1, |place, &kind| tree_end(grammar, tree, kind, place))
+}
+
 /// Whether the bytes are a legal tree of a kind, at any depth: no tree has more levels than bytes.
 pub fn is_legal_tree(language: &Language, kind: u8, tree: &[u8]) -> bool {
     let grammar = Grammar::new(language);

@@ -6,14 +6,18 @@ mod build;
 use build::{class, clause, field, mapping, pack, production, translation};
 use reference::explain::{self, Fault};
 use reference::generate::{
-    language_file, long_run_case, reduce_case, run_case, translation_file, tree_case, Random,
+    block_case, language_file, long_run_case, reduce_case, run_case, translation_file, tree_case,
+    Random,
 };
-use reference::{check_language, check_translation, check_tree, reduce, run, Outcome};
+use reference::{block, check_language, check_translation, check_tree, reduce, run, Outcome};
 
 /// So many cases of each operation are generated.
 const CASES: u64 = 4000;
 /// So many of them have long trees.
 const LONG_CASES: u64 = 20;
+
+/// Answers are counted by number.
+const NUMBERS: usize = 22;
 
 /// What stands where no reason was found: it must not be reached.
 const VAGUE: [&str; 4] = [
@@ -34,7 +38,7 @@ fn compare(case: u64, outcome: Outcome, fault: Option<Fault>) -> usize {
 
 /// Compares so many cases, and asks that each of the numbers was reached.
 fn compare_all(cases: u64, numbers: &[usize], mut one: impl FnMut(&mut Random, u64) -> usize) {
-    let mut reached = [0; 18];
+    let mut reached = [0; NUMBERS];
     for case in 0..cases {
         reached[one(&mut Random::new(0xE0 + case), case)] += 1;
     }
@@ -98,6 +102,16 @@ fn long_runs() {
     });
 }
 
+#[test]
+fn blocks() {
+    compare_all(CASES, &[0, 1, 2, 3, 4, 14, 15, 16, 21], |random, case| {
+        let input = block_case(random);
+        let outcome = block(&input.language, input.root, &input.tree, &input.path).outcome;
+        let fault = explain::block(&input.language, input.root, &input.tree, &input.path);
+        compare(case, outcome, fault)
+    });
+}
+
 /// The text of a fault that is there.
 fn text(fault: Option<Fault>) -> String {
     fault.expect("the input is refused").to_string()
@@ -110,6 +124,22 @@ fn the_place_in_a_tree_is_a_path() {
     let expected = "where: byte 9 of the tree, path 2.2.1\n\
                     fault: the token 256 is not in class 2: 1 to 240";
     assert_eq!(found, expected);
+}
+
+#[test]
+fn the_place_in_a_path_is_told_with_its_node() {
+    let language = [class(2, 1, 240), production(1, 1, &[2]), production(1, 2, &[1, 1])].concat();
+    let tree = [2, 1, 0, 5, 1, 0, 6];
+    let found = |path: &[u8]| text(explain::block(&language, 1, &tree, path));
+    let expected = "where: byte 0 of the path, at the root\n\
+                    fault: production 1.2 has no argument 3: it has 2";
+    assert_eq!(found(&[3]), expected);
+    let expected = "where: byte 1 of the path, behind 2\n\
+                    fault: the number is 0, and arguments count from 1";
+    assert_eq!(found(&[2, 0]), expected);
+    let expected = "where: byte 2 of the path, behind 2.1\n\
+                    fault: a token of class 2 has no argument 1";
+    assert_eq!(found(&[2, 1, 1, 9]), expected);
 }
 
 #[test]

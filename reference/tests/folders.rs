@@ -1,7 +1,8 @@
-//! The folders of examples, on the reference: packs, what they reduce to, their listings and the runs of trees.
+//! The folders of examples, on the reference: packs, what they reduce to, their listings, the runs of
+//! trees, and blocks.
 
 use reference::listing::listing;
-use reference::{reduce, run};
+use reference::{block, reduce, run};
 use std::fs;
 use std::path::{Path, PathBuf};
 
@@ -58,9 +59,29 @@ fn result(source: &Path) -> String {
     if outcome.number() != 0 {
         return format!("refused {}\n", outcome.number());
     }
-    let bytes = &output[..outcome.length() as usize];
+    accepted(&output[..outcome.length() as usize])
+}
+
+/// What is written for a result: its length, and its bytes.
+fn accepted(bytes: &[u8]) -> String {
     let digits: Vec<String> = bytes.iter().map(|byte| format!("{byte:02X}")).collect();
     format!("accepted {}\n{}\n", bytes.len(), digits.join(" "))
+}
+
+/// What a path leads to, as the file of its block has it.
+fn block_at(source: &Path) -> String {
+    let text = text(source);
+    let line = text.lines().next().and_then(|line| line.strip_prefix("# Block of "));
+    let words = line.and_then(|line| line.strip_suffix('.'));
+    let (tree, words) = words.and_then(|words| words.split_once(" in ")).expect("a tree");
+    let (language, root) = words.split_once(", root ").expect("a language and a root");
+    let beside = |name| bytes(&source.with_file_name(name));
+    let (tree, path) = (beside(tree), bytes(&source.with_extension("")));
+    let found = block(&beside(language), root.parse().expect("a root"), &tree, &path);
+    match found.outcome.number() {
+        0 => format!("{}kind {}, start {}\n", accepted(found.part), found.kind, found.start),
+        number => format!("refused {number}\n"),
+    }
 }
 
 #[test]
@@ -85,5 +106,15 @@ fn trees_run_to_the_results_beside_them() {
     for source in sources {
         let beside = source.with_extension("").with_extension("result");
         assert_eq!(result(&source), text(&beside), "{}", source.display());
+    }
+}
+
+#[test]
+fn paths_lead_to_the_blocks_beside_them() {
+    let sources = files(".path.hex");
+    assert!(!sources.is_empty());
+    for source in sources {
+        let beside = source.with_extension("").with_extension("block");
+        assert_eq!(block_at(&source), text(&beside), "{}", source.display());
     }
 }

@@ -12,6 +12,7 @@ pub enum Verb {
     CheckTree,
     Reduce,
     Run,
+    Block,
     List,
     Show,
     Explain,
@@ -19,17 +20,21 @@ pub enum Verb {
 }
 
 /// The verbs with their names.
-pub const VERBS: [(&str, Verb); 9] = [
+pub const VERBS: [(&str, Verb); 10] = [
     ("check-language", Verb::CheckLanguage),
     ("check-translation", Verb::CheckTranslation),
     ("check-tree", Verb::CheckTree),
     ("reduce", Verb::Reduce),
     ("run", Verb::Run),
+    ("block", Verb::Block),
     ("list", Verb::List),
     ("show", Verb::Show),
     ("explain", Verb::Explain),
     ("steps", Verb::Steps),
 ];
+
+/// The place of a path among the operands.
+pub const PATH_PLACE: usize = 3;
 
 /// What a file is.
 #[derive(Clone, Copy, Debug, PartialEq, Eq)]
@@ -56,7 +61,7 @@ pub struct Options {
 #[derive(Clone, Debug, PartialEq, Eq)]
 pub struct Call {
     pub verb: Verb,
-    /// The files and the root, in order; for `explain` those of the verb that it explains.
+    /// The files and other operands, in order; for `explain` those of the verb that it explains.
     pub operands: Vec<OsString>,
     pub options: Options,
     /// The verb that `explain` explains.
@@ -82,13 +87,19 @@ impl Verb {
         VERBS.iter().find(|(_, verb)| *verb == self).map_or("", |(name, _)| name)
     }
 
-    /// The numbers of files and roots that the verb takes.
+    /// The numbers of operands that the verb takes.
     fn operand_counts(self) -> &'static [usize] {
         match self {
+            Verb::Block => &[4],
             Verb::CheckTree | Verb::Run | Verb::Steps => &[3],
             Verb::Show => &[1, 3],
             _ => &[1],
         }
+    }
+
+    /// Whether the operand at a place is a file.
+    fn takes_file(self, place: usize) -> bool {
+        !(self == Verb::Block && place == PATH_PLACE)
     }
 
     /// Whether the verb is an operation of the library, which can be explained.
@@ -99,7 +110,7 @@ impl Verb {
     /// Whether the verb takes an option.
     fn takes(self, option: &str) -> bool {
         match option {
-            "-o" => matches!(self, Verb::Reduce | Verb::Run),
+            "-o" => matches!(self, Verb::Reduce | Verb::Run | Verb::Block),
             "--limit" => matches!(self, Verb::Reduce | Verb::Run | Verb::Explain | Verb::Steps),
             "--as" => matches!(self, Verb::Run | Verb::Show | Verb::Explain),
             _ => true,
@@ -178,6 +189,19 @@ pub fn number<T: std::str::FromStr>(verb: Verb, name: &str, text: &OsStr) -> Res
     })
 }
 
+/// A path: argument numbers with points between them, or `-` or nothing for the empty one.
+pub fn path(verb: Verb, text: &OsStr) -> Result<Vec<u8>, Failure> {
+    if text.is_empty() || text == "-" {
+        return Ok(vec![]);
+    }
+    let part = |part| number(verb, "path number", OsStr::new(part)).ok();
+    let numbers = text.to_str().and_then(|text| text.split('.').map(part).collect());
+    numbers.ok_or_else(|| {
+        let what = format!("{} is no path: numbers from 0 to 255, with points", text.display());
+        misuse(Some(verb), &what)
+    })
+}
+
 /// What a file is, by its name.
 fn sort(verb: Verb, text: &OsStr) -> Result<Sort, Failure> {
     match text.to_str() {
@@ -216,7 +240,9 @@ impl Call {
         if let Some((option, _)) = given.find(|(option, is)| *is && !operation.takes(option)) {
             return Err(format!("{} does not take {option}", operation.name()));
         }
-        if self.operands.iter().filter(|operand| *operand == "-").count() > 1 {
+        let streams = self.operands.iter().enumerate();
+        let streams = streams.filter(|(place, name)| *name == "-" && operation.takes_file(*place));
+        if streams.count() > 1 {
             return Err("the standard input can be only one of the files".to_string());
         }
         Ok(())
@@ -294,6 +320,18 @@ mod tests {
         {
             assert!(root(text).is_err(), "{text}");
         }
+    }
+
+    #[test]
+    fn paths_are_numbers_with_points() {
+        let path = |text: &str| path(Verb::Block, OsStr::new(text));
+        assert_eq!((path(""), path("-")), (Ok(vec![]), Ok(vec![])));
+        assert_eq!(path("1.20.0.255"), Ok(vec![1, 20, 0, 255]));
+        for text in ["256", "1.", ".1", "1..2", "1,2", "a", "-1"] {
+            assert!(path(text).is_err(), "{text}");
+        }
+        assert_eq!(right("block - 1 a -").operands, ["-", "1", "a", "-"]);
+        assert_eq!(wrong("block - 1 - 2"), "the standard input can be only one of the files");
     }
 
     #[test]

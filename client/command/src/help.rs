@@ -30,6 +30,7 @@ fn synopsis(verb: Verb) -> &'static str {
         Verb::CheckTree => "LANGUAGE ROOT TREE",
         Verb::Reduce => "PACK [-o FILE] [--limit BYTES]",
         Verb::Run => "TRANSLATION-OR-PACK ROOT TREE [-o FILE] [--limit BYTES] [--as SORT]",
+        Verb::Block => "LANGUAGE ROOT TREE PATH [-o FILE]",
         Verb::List => "PACK",
         Verb::Show => "FILE [--as SORT] | LANGUAGE ROOT TREE",
         Verb::Explain => "VERB OPERANDS [--limit BYTES] [--as SORT]",
@@ -45,6 +46,7 @@ fn summary(verb: Verb) -> &'static str {
         Verb::CheckTree => "Check a tree of a root kind",
         Verb::Reduce => "Reduce a pack to one translation",
         Verb::Run => "Run a translation, or what a pack reduces to, on a tree",
+        Verb::Block => "Look up one block of a tree",
         Verb::List => "List the clauses of what a pack reduces to",
         Verb::Show => "Show a language, a translation, a pack or a tree in words",
         Verb::Explain => "Tell where the fault is that an operation refuses",
@@ -80,6 +82,18 @@ a kind. The result is printed in hexadecimal digits below the first line.
 Refusals: 1 to 7, 14 to 17; of a pack also 8 to 13.
 "
         }
+        Verb::Block => {
+            "\
+ROOT is the number of a kind. PATH leads from the root to the block: argument numbers, from 1,
+with points between them, such as 2.1; - or an empty word is the path to the whole tree. Below the
+first line, which has the length of the block, stand its kind and where it starts in the tree, and
+then its bytes in hexadecimal digits.
+  -o FILE        write the bytes to the file instead, or digits with --hex. The file is written
+                 whole or not at all. With - the bytes alone go to the standard output, and the
+                 lines to the standard error.
+Refusals: 1 to 4, 14 to 16, 21.
+"
+        }
         Verb::List => {
             "\
 Prints what the listing program prints: 'accepted' and the length of the translation, and for
@@ -95,10 +109,10 @@ or not it is accepted, unless it is refused with 1 or 2; a tree is shown if it i
         }
         Verb::Explain => {
             "\
-VERB is one of check-language, check-translation, check-tree, reduce and run, with its operands.
-Below the first line stands where the fault is (the byte, counted from 0, the field, the clause,
-the path of argument numbers in a tree, the operand in a term) and what it is. These lines come
-from a second implementation; if it does not come to the same number, that is said.
+VERB is one of check-language, check-translation, check-tree, reduce, run and block, with its
+operands. Below the first line stands where the fault is (the byte, counted from 0, the field, the
+clause, the path of argument numbers in a tree, the operand in a term) and what it is. These lines
+come from a second implementation; if it does not come to the same number, that is said.
   --limit BYTES  explain the call with an output of that many bytes
   --as SORT      for run: take the first file as a 'translation' or a 'pack'
 "

@@ -1,7 +1,8 @@
 //! An operation of the library with its inputs: what the library answers, and where the second
 //! implementation finds the fault.
 
-use crate::arguments::{misuse, number, Call, Sort, Verb};
+use crate::arguments::{misuse, number, path, Call, Sort, Verb, PATH_PLACE};
+use crate::given::Given;
 use crate::input::read_file;
 use crate::{Failure, Streams};
 use algebra::{Refusal, LANGUAGE_BYTES, PACK_BYTES, TRANSLATION_BYTES, WORKSPACE_BYTES};
@@ -19,6 +20,7 @@ pub enum Job {
     CheckTree { language: Vec<u8>, root: u32, tree: Vec<u8> },
     Reduce { pack: Vec<u8>, limit: usize },
     Run(Run),
+    Block { language: Vec<u8>, root: u32, tree: Vec<u8>, path: Vec<u8> },
 }
 
 /// The inputs of a run.
@@ -89,6 +91,11 @@ impl Job {
                 Ok(Job::Reduce { pack, limit: call.options.limit.unwrap_or(TRANSLATION_BYTES) })
             }
             Verb::Run => Run::load(call, streams).map(Job::Run),
+            Verb::Block => {
+                let path = path(call.verb, &call.operands[PATH_PLACE])?;
+                let (root, language) = (root(call)?, operand(call, 0, LANGUAGE_BYTES, streams)?);
+                Ok(Job::Block { language, root, tree: tree(call, streams)?, path })
+            }
             _ => Err(misuse(Some(verb), "this is no operation")),
         }
     }
@@ -96,21 +103,27 @@ impl Job {
     /// The length of the tree, if there is one.
     pub fn tree_length(&self) -> usize {
         match self {
-            Job::CheckTree { tree, .. } | Job::Run(Run { tree, .. }) => tree.len(),
+            Job::CheckTree { tree, .. } | Job::Run(Run { tree, .. }) | Job::Block { tree, .. } => {
+                tree.len()
+            }
             _ => 0,
         }
     }
 
     /// What the library answers; a check has no result.
-    pub fn answer(&self) -> Result<Vec<u8>, Refusal> {
+    pub fn answer(&self) -> Result<Given, Refusal> {
+        let nothing = |()| Given::Bytes(vec![]);
         match self {
-            Job::CheckLanguage(file) => algebra::check_language(file).map(|()| vec![]),
-            Job::CheckTranslation(file) => algebra::check_translation(file).map(|()| vec![]),
+            Job::CheckLanguage(file) => algebra::check_language(file).map(nothing),
+            Job::CheckTranslation(file) => algebra::check_translation(file).map(nothing),
             Job::CheckTree { language, root, tree } => {
-                algebra::check_tree(language, *root, tree).map(|()| vec![])
+                algebra::check_tree(language, *root, tree).map(nothing)
             }
-            Job::Reduce { pack, limit } => reduced(pack, *limit),
-            Job::Run(run) => run.answer(),
+            Job::Reduce { pack, limit } => reduced(pack, *limit).map(Given::Bytes),
+            Job::Run(run) => run.answer().map(Given::Bytes),
+            Job::Block { language, root, tree, path } => {
+                algebra::block(language, *root, tree, path).map(Given::from)
+            }
         }
     }
 
@@ -122,6 +135,9 @@ impl Job {
             Job::CheckTree { language, root, tree } => explain::tree(language, *root, tree),
             Job::Reduce { pack, limit } => explain::reduce(pack, WORKSPACE_BYTES, *limit),
             Job::Run(run) => run.fault(),
+            Job::Block { language, root, tree, path } => {
+                explain::block(language, *root, tree, path)
+            }
         }
     }
 }

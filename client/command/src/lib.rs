@@ -3,6 +3,7 @@
 
 mod arguments;
 mod explanation;
+mod given;
 mod help;
 mod input;
 mod job;

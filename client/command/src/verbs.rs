@@ -2,8 +2,9 @@
 
 use crate::arguments::{misuse, Call, Sort, Verb};
 use crate::explanation::explanation;
+use crate::given::Given;
 use crate::job::{operand, root, sort_of, tree, Job};
-use crate::output::{hexadecimal_lines, write_file};
+use crate::output::write_file;
 use crate::work::work;
 use crate::{steps, Failure, Printed, Streams, ACCEPTED, REFUSED};
 use algebra::{Refusal, LANGUAGE_BYTES, PACK_BYTES};
@@ -37,38 +38,35 @@ pub fn printed(answer: Result<usize, Refusal>, lines: &str) -> Printed {
     Printed { output, messages: String::new(), status }
 }
 
-/// The length of an answer's result.
-fn length(answer: &Result<Vec<u8>, Refusal>) -> Result<usize, Refusal> {
-    answer.as_ref().map(Vec::len).map_err(|refusal| *refusal)
+/// The figure of an answer's first line.
+fn figure(answer: &Result<Given, Refusal>) -> Result<usize, Refusal> {
+    answer.as_ref().map(Given::figure).map_err(|refusal| *refusal)
 }
 
 /// Calls the library, and prints or writes the result.
 fn operate(verb: Verb, call: &Call, streams: &mut Streams) -> Result<Printed, Failure> {
     let job = Job::load(verb, call, streams)?;
     let answer = work(job.tree_length(), streams, || job.answer())?;
-    let first = length(&answer);
-    let Ok(result) = answer else { return Ok(printed(first, "")) };
-    let file = match &call.options.output {
-        None => return Ok(printed(first, &hexadecimal_lines(&result))),
-        Some(file) => file,
+    let first = figure(&answer);
+    let Ok(given) = answer else { return Ok(printed(first, "")) };
+    let figures = given.figures();
+    let Some(file) = &call.options.output else {
+        return Ok(printed(first, &(figures + &given.shown())));
     };
-    let bytes = match call.options.hexadecimal {
-        true => hexadecimal_lines(&result).into_bytes(),
-        false => result,
-    };
+    let bytes = given.written(call.options.hexadecimal);
     if file == "-" {
-        let messages = format!("{}\n", answer_line(first));
+        let messages = format!("{}\n{figures}", answer_line(first));
         return Ok(Printed { output: bytes, messages, status: ACCEPTED });
     }
     write_file(file, &bytes)?;
-    Ok(printed(first, ""))
+    Ok(printed(first, &figures))
 }
 
 /// Prints what the listing program prints.
 fn list(call: &Call, streams: &mut Streams) -> Result<Printed, Failure> {
     let job = Job::load(Verb::List, call, streams)?;
     Ok(match work(0, streams, || job.answer())? {
-        Ok(translation) => printed(Ok(translation.len()), &clause_lines(&translation)),
+        Ok(given) => printed(Ok(given.figure()), &clause_lines(given.bytes())),
         Err(refusal) => {
             let output = format!("refused {}\n", refusal.number()).into_bytes();
             Printed { output, messages: String::new(), status: REFUSED }
@@ -79,7 +77,7 @@ fn list(call: &Call, streams: &mut Streams) -> Result<Printed, Failure> {
 /// Prints the answer of an operation, and where the fault is.
 fn explain(call: &Call, streams: &mut Streams) -> Result<Printed, Failure> {
     let job = Job::load(call.explained.unwrap_or(call.verb), call, streams)?;
-    let task = || (length(&job.answer()), job.fault());
+    let task = || (figure(&job.answer()), job.fault());
     let (answer, fault) = work(job.tree_length(), streams, task)?;
     Ok(printed(answer, &explanation(answer.map(|_| ()), fault.as_ref())))
 }

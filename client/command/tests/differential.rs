@@ -1,11 +1,11 @@
 //! The command on generated cases, in process: its first line, status and result are those of the
 //! library, a refusal leaves the file of `-o` as it was, and both routes of a join are equal.
 
-use algebra::{Refusal, TRANSLATION_BYTES};
+use algebra::{Block, Refusal, TRANSLATION_BYTES};
 use algebra_command::{command, Streams, ACCEPTED, REFUSED};
 use reference::generate::{
-    language_file, law_pack, long_run_case, pack_with_term, reduce_case, run_case, source_tree,
-    translation_file, tree_case, Random,
+    block_case, language_file, law_pack, long_run_case, pack_with_term, reduce_case, run_case,
+    source_tree, translation_file, tree_case, Random,
 };
 use std::ffi::OsString;
 use std::fs;
@@ -36,13 +36,14 @@ struct Printed {
     hexadecimal: bool,
 }
 
-/// An input of a call, or a root.
+/// An input of a call, a root, or a path.
 enum Operand<'a> {
     File(&'a [u8]),
     Root(u32),
+    Path(&'a [u8]),
 }
 
-use Operand::{File, Root};
+use Operand::{File, Path, Root};
 
 impl Folder {
     /// A new folder.
@@ -71,6 +72,7 @@ impl Folder {
         for (place, operand) in operands.iter().enumerate() {
             arguments.push(match operand {
                 Root(root) => root.to_string().into(),
+                Path(numbers) => path_text(numbers).into(),
                 File(bytes) if place == piped => {
                     input = encoded(bytes, hexadecimal);
                     "-".into()
@@ -117,6 +119,11 @@ impl Drop for Folder {
     fn drop(&mut self) {
         let _ = fs::remove_dir_all(&self.0);
     }
+}
+
+/// A path as text.
+fn path_text(numbers: &[u8]) -> String {
+    numbers.iter().map(u8::to_string).collect::<Vec<_>>().join(".")
 }
 
 /// The bytes of lines of digits.
@@ -327,6 +334,37 @@ fn run() {
         let input = long_run_case(&mut Random::new(case)).case;
         let (root, room) = (input.root, input.output);
         compare_run(&folder, case, &input.translation, root, &input.tree, room);
+    }
+}
+
+/// Looks up a block by the command and compares all that it leaves with the library's answer.
+fn compare_block(folder: &Folder, case: u64, operands: &[Operand], answer: Result<Block, Refusal>) {
+    let random = &mut Random::new(case);
+    let options = folder.output_options();
+    let printed = folder.call(random, &["block"], operands, &options);
+    printed.compare(case, &answer, |block| block.bytes.len());
+    let figures = answer.map(|block| format!("kind {}, start {}", block.kind, block.start));
+    assert_eq!(printed.text().lines().nth(1), figures.as_deref().ok(), "case {case}");
+    let bytes = answer.map_or(OLD, |block| block.bytes);
+    assert_eq!(folder.written(&printed), bytes, "case {case}");
+    let printed = folder.call(random, &["block"], operands, &[]);
+    let digits: Vec<&str> = printed.text().lines().skip(2).collect();
+    let bytes = answer.map_or(&[][..], |block| block.bytes);
+    assert_eq!(decoded(&digits.join("\n")).as_deref(), Some(bytes), "case {case}");
+}
+
+#[test]
+fn block() {
+    let folder = Folder::new("block");
+    for case in 0..CASES {
+        let input = block_case(&mut Random::new(case));
+        let (language, root, tree, path) = (&input.language, input.root, &input.tree, &input.path);
+        let operands = [File(language), Root(root), File(tree), Path(path)];
+        let answer = algebra::block(language, root, tree, path);
+        compare_block(&folder, case, &operands, answer);
+        let second = reference::block(language, root, tree, path).outcome.number();
+        let length = answer.map(|block| block.bytes.len());
+        compare_explanation(&folder, case, "block", &operands, &[], length, second);
     }
 }
 

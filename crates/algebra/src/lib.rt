@@ -5,6 +5,9 @@ ghost use Rattle.language.specs.Operations.{checkLanguage};
 ghost use Rattle.reader.specs.Operations.{checkTree};
 ghost use Rattle.translation.specs.Operations.{checkTranslation, runTree};
 ghost use Rattle.reducer.specs.Operations as Reducing;
+ghost use Rattle.block.specs.Operations.{showBlock};
+ghost use Rattle.block.specs.Parts.{Told};
+use block::show::place;
 use checks::translations::check_translation;
 use checks::trees::check_tree;
 use fields::outcome::Answer;
@@ -87,4 +90,26 @@ pub extern "C" fn algebra_reduce(
 {
     let answer = reduce(pack, workspace, output);
     hand_over(answer, length)
+}
+
+// Show one block of a tree of the root kind. Where it starts in the tree, how many bytes it has there and its kind are put
+// into `start`, `length` and `kind`.
+#[no_mangle]
+pub extern "C" fn algebra_block(
+    language: &[u8],
+    root: u32,
+    tree: &[u8],
+    path: &[u8],
+    start: &mut u64,
+    length: &mut u64,
+    kind: &mut u32,
+) -> u32
+    ensures { λ r. ⌜ Told (showBlock (now (language .entry)) root (now (tree .entry)) (now (path .entry))) (now (tree .entry))
+        r (now (start .exit)) (now (length .exit)) (now (kind .exit)) ⌝ }
+{
+    let placed = place(language, root, tree, path);
+    let outcome = placed.outcome;
+    *start = placed.start as u64;
+    *kind = placed.kind;
+    hand_over(Answer { outcome: outcome }, length)
 }

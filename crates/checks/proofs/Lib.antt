@@ -1,2 +1,3 @@
 pub mod TreeChain
 pub mod TranslationChain
+pub mod Legal

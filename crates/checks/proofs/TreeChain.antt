@@ -78,12 +78,17 @@ module _ (b : List ℕ) (k : ℕ) (l : Language) {r : Bool} (er : r ≡ isIn l k
 not-below : {k : ℕ} → 31 < k → k < 32 → ⊥
 not-below h i = omega arith
 
+-- A refusal is no acceptance.
+pub unaccepted : {o : Outcome} {r : Reason} {n : ℕ} {A : Type 0} → o ≡ Refused r → o ≡ Accepted n → A
+unaccepted {r = r} {n = n} h i = refused-not {n = n} {r = r} (sym h ∙ i)
+
 -- What a language that was accepted holds.
 pub record Accepts (s : List ℕ) : Type 0 where
   pub language : Language
   pub is : languageOf s ≡ value language
   pub entries : entriesOf s ≡ some language
   pub short : length s ≤ 1024
+  pub apart : clashes language language ≡ false
 
 module _ (s : List ℕ) {o : Outcome} (eo : o ≡ checkLanguage s) where
   module _ {n : ℕ} (accepted : o ≡ Accepted n) where
@@ -93,7 +98,7 @@ module _ (s : List ℕ) {o : Outcome} (eo : o ≡ checkLanguage s) where
         by-test (rising entryKey l)
         (λ i. by-test (clashes l l)
         (λ j. refused-not {n = n} {r = Why.ClassIsResult} (cc (le-ltb 1024 (length s) h)))
-        (λ j. record { language = l; is = cc (le-ltb 1024 (length s) h); entries = e; short = h }))
+        (λ j. record { language = l; is = cc (le-ltb 1024 (length s) h); entries = e; short = h; apart = j }))
         (λ i. refused-not {n = n} {r = Why.OutOfOrder} (cc (le-ltb 1024 (length s) h)))
 
     accepts-entries : (m : Option Language) → length s ≤ 1024 → entriesOf s ≡ m → Accepts s

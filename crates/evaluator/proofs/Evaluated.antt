@@ -8,11 +8,12 @@ use lib.ListN.{length, getElem?}
 use lib.Dec.{ltb, eqb}
 use borrow.Author.Tests.{ltb-false}
 use Rattle.fields.specs.Lists.{any}
-use Rattle.fields.specs.Outcome.{Result, value, refused, _>>=_}
+use Rattle.fields.specs.Outcome.{Result, value, _>>=_}
 use Rattle.fields.specs.declared.outcome.Reason.{Reason}
 use Rattle.fields.specs.declared.outcome.Reason.the-variants.{SumUnfit, JoinUnfit, ValueTooLarge, UnboundVariable, IllegalTerm as TermRefused}
 use Rattle.fields.proofs.Truth.{Mem, none-some, some-inj, or-false, true-not, all-mem, any-false}
 use Rattle.fields.proofs.Codec.{Each, refused-value}
+pub use Rattle.fields.proofs.Codec.{step-value, value-inj}
 use Rattle.fields.proofs.Keyed.{is-rising}
 use Rattle.language.specs.Language.{Language}
 use Rattle.language.specs.LanguageFile.{encodeLanguage, languageLimit}
@@ -31,14 +32,7 @@ use Rattle.operators.proofs.SumSound.{fit-languages, fit-translations, proper-u
 use Rattle.operators.proofs.JoinSound.{sound-join}
 use Rattle.operators.proofs.IdentitySound.{sound-identity}
 
--- A value that is there, of a step before and a step after.
-pub step-value : {A B : Type 0} {b : B} (o : Result A) (f : A → Result B) → o >>= f ≡ value b → (a : A) × (o ≡ value a) × (f a ≡ value b)
-step-value (value a) f e = (a, refl, e)
-step-value (refused r) f e = refused-value e
-
-pub value-inj : {A : Type 0} {a b : A} → value a ≡ value b → a ≡ b
-value-inj e = cc
-
+-- A value that is there, and a step after it.
 there-step : {A B : Type 0} {b : B} (r : Reason) (o : Option A) (f : A → Result B) → there r o >>= f ≡ value b → (a : A) × (o ≡ some a) × (f a ≡ value b)
 there-step r none f e = refused-value e
 there-step r (some a) f e = (a, refl, e)

@@ -10,7 +10,7 @@ use lib.Seq.{take-append-seam, drop-append-seam, drop-drop, length-take-le}
 use lib.Dec.{ltb, leb, eqb}
 use borrow.Author.Tests.{le-leb, lt-leb, leb-true, eqb-true, le-ltb, ltb-false}
 use Rattle.fields.specs.declared.outcome.Reason.{Reason}
-use Rattle.fields.specs.Outcome.{Result, value, refused}
+use Rattle.fields.specs.Outcome.{Result, value, refused, _>>=_}
 use Rattle.fields.specs.Lists.{all, any, before, concatMap, traverse}
 use Rattle.fields.specs.Fields.{Field, field, byteAt, pairAt, encodeField, encodeFields, splitFields, fieldsOf, saysOver, hasOver}
 use Rattle.fields.proofs.Truth.{by-test, none-some, false-true, and-both, both-and, or-false, false-or}
@@ -50,6 +50,14 @@ cond-some b x y e = let w = cond-there b (some x) y e in (w .0, cc (w .1))
 -- A refusal is no value.
 pub refused-value : {A B : Type 0} {r : Reason} {a : A} → _≡_ {A = Result A} (refused r) (value a) → B
 refused-value e = let z : false ≡ true = cc in false-true z
+
+-- Values that are the same, and a value of a step before and a step after.
+pub value-inj : {A : Type 0} {a b : A} → value a ≡ value b → a ≡ b
+value-inj e = cc
+
+pub step-value : {A B : Type 0} {b : B} (o : Result A) (f : A → Result B) → o >>= f ≡ value b → (a : A) × (o ≡ value a) × (f a ≡ value b)
+step-value (value a) f e = (a, refl, e)
+step-value (refused r) f e = refused-value e
 
 -- A field of one of two tags.
 pub two-tags : {A B : Type 0} (tag m n : ℕ) (x y : Option A) (a : A) → cond (eqb tag m) x (cond (eqb tag n) y none) ≡ some a

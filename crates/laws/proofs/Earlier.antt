@@ -28,7 +28,7 @@ use Rattle.translation.proofs.Lookup.{clause-mem}
 use Rattle.translation.proofs.Fitting.{whole-done, refuse-value}
 use Rattle.evaluator.proofs.Evaluated.{step-value, value-inj}
 use Rattle.laws.specs.Earlier.{LawOfRules, codeBy, clausesBy, codeFitsBy, wellFormedBy, translationBy, treeBy, runBy, RunByCurrent, SessionsStay}
-use Rattle.laws.proofs.Runs.{tree-done}
+use Rattle.checks.proofs.Legal.{tree-done}
 
 more-done : (o p : Read Code) (a : Code) (r : List ℕ) → More o p → o ≡ done a r → p ≡ done a r
 more-done o p a r (inl e) d = deep-done (sym e ∙ d)

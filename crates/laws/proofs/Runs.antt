@@ -2,8 +2,8 @@
 use Prim.Native.Nat.{ℕ}
 use mathlib.Core.Path.{_≡_, refl, ap, sym, subst, _∙_}
 use mathlib.Core.Logic.{_⊎_, inl, inr, ⊎-elim}
-use mathlib.Core.Bool.{Bool, true, false, not}
-use mathlib.Core.List.{List, [], _∷_, _++_, append-nil}
+use mathlib.Core.Bool.{Bool, true, false}
+use mathlib.Core.List.{List, [], _++_, append-nil}
 use native.Mathlib.Omega.{arith}
 use lib.ListN.{length}
 use lib.Dec.{ltb}
@@ -13,16 +13,15 @@ use Rattle.fields.specs.Fields.{Field}
 use Rattle.fields.specs.declared.outcome.Reason.{Reason}
 use Rattle.fields.specs.declared.outcome.Reason.the-variants.{UnknownRoot, IllegalTree, TooDeep, OutputTooShort}
 use Rattle.fields.specs.declared.outcome.Outcome.the-variants.{Accepted, Refused}
-use Rattle.fields.proofs.Truth.{by-test, true-not}
-use Rattle.fields.proofs.Codec.{refused-value}
+use Rattle.fields.proofs.Truth.{by-test}
 use Rattle.language.specs.Language.{Language, isIn, clashes}
 use Rattle.language.proofs.Lookup.{none-clashes}
 use Rattle.reader.specs.Code.{Code, levels}
 use Rattle.reader.specs.Typing.{Typed}
-use Rattle.reader.specs.Syntax.{Read, done, deep, broken, read, write, tree}
-use Rattle.reader.specs.Operations.{treeLevels, wholeTree, treeOf}
-use Rattle.reader.proofs.Sound.{read-done}
+use Rattle.reader.specs.Syntax.{done, deep, read, write, tree}
+use Rattle.reader.specs.Operations.{treeLevels, treeOf}
 use Rattle.reader.proofs.Larger.{typed-larger}
+use Rattle.checks.proofs.Legal.{tree-right, tree-of}
 use Rattle.translation.specs.Translation.{Translation, mapped}
 use Rattle.translation.specs.Running.{transform}
 use Rattle.translation.specs.TranslationFile.{encodeTranslation, translationOf}
@@ -49,22 +48,8 @@ unfolding transform
 transform-typed f s t k h = typed-run (fit-carries f (s .rises) (s .fits)) h
 
 -- What is a tree is typed.
-pub tree-done : (o : Read Code) (t : Code) → wholeTree o ≡ value t → o ≡ done t []
-tree-done (done u []) t e = ap (λ (x : Code). done x []) (value-inj e)
-tree-done (done u (b ∷ s)) t e = refused-value e
-tree-done deep t e = refused-value e
-tree-done broken t e = refused-value e
-
 tree-typed : (l : Language) (k : ℕ) (bytes : List ℕ) (t : Code) → treeOf l k bytes ≡ value t → Typed l [] t k × (isIn l k ≡ true)
-unfolding treeOf
-tree-typed l k bytes t e =
-    let r = refuse-value (not (isIn l k)) UnknownRoot (wholeTree (read tree l [] treeLevels k bytes)) e in
-    (read-done tree l [] treeLevels k bytes t [] (tree-done _ t (r .1)) .0, true-not (isIn l k) (r .0))
-
--- A tree that was read, of a kind that is in the language.
-tree-of : (l : Language) (k : ℕ) (bytes : List ℕ) (o : Read Code) → isIn l k ≡ true → read tree l [] treeLevels k bytes ≡ o → treeOf l k bytes ≡ wholeTree o
-unfolding treeOf
-tree-of l k bytes o i e = rw (i, e)
+tree-typed l k bytes t e = let r = tree-right l k bytes t e in (r .1 .0, r .0)
 
 -- A written tree is read back, or is too deep to be handed in.
 written-tree : (l : Language) (k : ℕ) (t : Code) → clashes l l ≡ false → isIn l k ≡ true → Typed l [] t k

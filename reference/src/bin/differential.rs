@@ -5,6 +5,11 @@
 
 #![forbid(unsafe_code)]
 
+#[path = "differential/block.rs"]
+mod block;
+#[path = "differential/figures.rs"]
+mod figures;
+
 use algebra::raw as library;
 use reference::generate::{
     language_file, reduce_case, run_case, translation_file, tree_case, Random, LONG_TREE,
@@ -14,7 +19,7 @@ use std::process::ExitCode;
 use std::time::Instant;
 
 /// Answers are counted by number, and so is what the laws say.
-const NUMBERS: usize = 18;
+const NUMBERS: usize = 22;
 
 /// What one side answered: number, length and the buffers at the end.
 #[derive(PartialEq, Eq)]
@@ -87,6 +92,12 @@ const OPERATIONS: &[Operation] = &[
         possible: &[0, 1, 2, 3, 4, 5, 6, 7, 8, 9, 10, 11, 12, 13],
         label: answer_label,
         find: |random| compare_reduce(random).finding(),
+    },
+    Operation {
+        name: "block",
+        possible: &[0, 1, 2, 3, 4, 14, 15, 16, 21],
+        label: answer_label,
+        find: block::find,
     },
     Operation {
         name: "laws",

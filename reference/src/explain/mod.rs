@@ -1,6 +1,7 @@
 //! Where an input is at fault. Each function looks for what its operation refuses, number by
 //! number, and gives the first place at which it stands; `None` means accepted.
 
+mod block;
 mod body;
 mod code;
 mod differences;
@@ -68,4 +69,9 @@ pub fn reduce(pack: &[u8], workspace: usize, output: usize) -> Option<Fault> {
 /// Looks for a fault of a translation, a root and a tree, and of the output's length.
 pub fn run(translation: &[u8], root: u32, tree: &[u8], output: usize) -> Option<Fault> {
     tree::check_run(translation, root, tree, output).err()
+}
+
+/// Looks for a fault of a language, a root, a tree and a path.
+pub fn block(language: &[u8], root: u32, tree: &[u8], path: &[u8]) -> Option<Fault> {
+    block::check(language, root, tree, path).err()
 }

@@ -1,11 +1,13 @@
 //! Seeded generators of files: valid ones, ones at a limit or one past it, and damaged ones.
 
+mod blocks;
 mod codes;
 mod damage;
 mod heights;
 mod languages;
 mod lengths;
 mod long;
+mod long_trees;
 mod packs;
 mod random;
 mod ranges;
@@ -14,8 +16,10 @@ mod translations;
 mod trees;
 mod written;
 
+pub use blocks::{block_case, BlockCase};
 pub use languages::language_file;
 pub use long::{long_run_case, LongRunCase, LONG_TREE};
+pub use long_trees::long_tree_case;
 pub use packs::{law_pack, pack_with_term, reduce_case, LawPack, ReduceCase};
 pub use random::Random;
 pub use translations::{run_case, translation_file, RunCase};

@@ -5,6 +5,7 @@
 
 #![deny(unsafe_code)]
 
+mod block;
 mod clock;
 mod inputs;
 mod measure;
@@ -204,4 +205,5 @@ fn main() {
     bench_check_translation();
     run::bench();
     reduce::bench();
+    block::bench();
 }

@@ -7,6 +7,7 @@
 
 mod mixed;
 mod packs;
+mod sessions;
 mod shapes;
 
 use algebra::STACK_BYTES;
@@ -96,15 +97,15 @@ fn translation_cases() -> Vec<Case> {
     shapes.iter().copied().chain(deeper).map(case).collect()
 }
 
-/// Checks of trees of 64 levels and one more.
-fn tree_cases() -> Vec<Case> {
+/// Calls on trees of 64 levels and one more.
+fn tree_cases(call: impl Fn(&Shape, TreeCase) -> Call) -> Vec<Case> {
     let sizes = [Size::Lean, Size::Small, Size::Wide];
     let shapes = sizes.into_iter().flat_map(shapes).filter(|shape| shape.order == Order::Dropped);
     let cases = shapes.flat_map(|shape| {
-        let language = shape.language();
+        let (language, call) = (shape.language(), &call);
         trees(&shape).into_iter().map(move |(name, tree)| {
             let case = TreeCase { language: language.clone(), root: ROOT, tree };
-            Case { name, call: Call::CheckTree(case) }
+            Case { name, call: call(&shape, case) }
         })
     });
     cases.collect()
@@ -154,8 +155,8 @@ fn random_cases(seed: u64, count: usize, what: &str, call: fn(&mut Random) -> Ca
     (0..count).map(case).collect()
 }
 
-/// All cases of each operation.
-fn all_cases(seed: u64) -> Vec<Vec<Case>> {
+/// All cases of checks, reductions and runs.
+fn first_cases(seed: u64) -> Vec<Vec<Case>> {
     let random = |count, what, call| random_cases(seed, count, what, call);
     let most = RANDOM_CASES;
     let language = random(most, "random", |r| Call::CheckLanguage(language_file(r)));
@@ -170,7 +171,7 @@ fn all_cases(seed: u64) -> Vec<Vec<Case>> {
     vec![
         language_cases().into_iter().chain(language).collect(),
         translation_cases().into_iter().chain(translation).collect(),
-        tree_cases().into_iter().chain(tree).collect(),
+        tree_cases(|_, case| Call::CheckTree(case)).into_iter().chain(tree).collect(),
         reduce_cases().into_iter().chain(reduce).chain(signs).chain(mixed).collect(),
         run_cases().into_iter().chain(run).chain(deep).chain(long).collect(),
     ]
@@ -178,7 +179,7 @@ fn all_cases(seed: u64) -> Vec<Vec<Case>> {
 
 /// Calls the library, and gives the bytes of stack with what it answered and left.
 fn measured(stack: &LargeStack, call: &Call) -> (usize, Answer, Buffers) {
-    let (mut buffers, mut answer) = (call.buffers(), Answer { number: 0, length: 0 });
+    let (mut buffers, mut answer) = (call.buffers(), Answer::default());
     let used = stack.bytes_used(&mut || answer = call.by_library(&mut buffers));
     (used, answer, buffers)
 }
@@ -240,7 +241,7 @@ fn main() -> ExitCode {
     };
     let mut failed = usize::from(!header_agrees());
     let mut passed = 1 - failed;
-    for cases in all_cases(seed) {
+    for cases in first_cases(seed).into_iter().chain(sessions::cases(seed)) {
         let finding = on_large_stack(|stack| measure_all(stack, &cases, list));
         passed += finding.cases - finding.failed;
         failed += finding.failed;

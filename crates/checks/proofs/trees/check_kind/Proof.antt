@@ -1,45 +1,37 @@
-use mathlib.Core.Path.{refl}
 use native.Mathlib.Omega.{arith}
 use borrow.Author.Tests.{not-true, not-false}
-use Rattle.reader.proofs.Lookup.{zeros}
 use Rattle.checks.proofs.TreeChain.{kind-out, kind-in}
 use borrow.Author.Needs.{needs}
 use Rattle.checks.proofs.trees.check_kind.Statement.{statement}
 use Rattle.checks.proofs.trees.check_kind.Tie as tie
 use Rattle.checks.proofs.trees.check_kind.Reads as reads
 use Rattle.checks.proofs.trees.check_kind.Lts as lts
+use Rattle.checks.proofs.trees.whole_tree.Reads as whole-tree-reads
 use Rattle.fields.proofs.outcome.refuse.Reads as refuse-reads
 use Rattle.reader.proofs.index.build.Reads as build-reads
-use Rattle.reader.proofs.read.read.Reads as read-reads
 use Rattle.reader.proofs.kinds.is_in.Reads as is-in-reads
-use Rattle.checks.proofs.trees.whole_tree.Reads as whole-tree-reads
-
-is-in-requires : tie.Need-is-in-requires
-is-in-requires c κs = c .before .before .pre .2
+use Rattle.reader.proofs.read.read.Reads as read-reads
 
 returns : tie.Need-returns
-returns c = λ l e. kind-out _ _ l (c .before .before .is-in .ensures l e) (not-true _ (c .before .if1 .taken)) (c .refuse .ensures)
-
-build-requires : tie.Need-build-requires
-build-requires c κs = (c .before .before .before .before .before .pre .0, refl, zeros 8224)
+returns c = λ l e. (kind-out _ _ l (c .before .before .is-in .ensures l e) (not-true _ (c .before .if1 .taken)) (c .refuse .ensures), c .before .before .before .before .before .build .ensures l e)
 
 read-requires : tie.Need-read-requires
-read-requires c κs = record { sound = c .before .before .before .build .ensures _ (c .before .before .before .before .before .before .before .before .before .pre .2 .1) .sound; kind = c .before .before .before .before .before .before .before .before .before .pre .1; inside = omega arith }
+read-requires c κs = record { sound = c .before .before .before .before .before .before .build .ensures _ (c .before .before .before .before .before .before .before .before .before .before .before .pre .2 .1) .sound; kind = c .before .before .before .before .before .before .before .before .before .before .before .pre .1; inside = omega arith }
 
 returns-2 : tie.Need-returns-2
-returns-2 c = λ l e. kind-in _ _ l (c .before .before .before .before .before .before .before .before .is-in .ensures l e) (c .before .read .result) (not-false _ (c .before .before .before .before .before .before .before .if1 .left)) (c .before .read .ensures .0 l (c .before .before .before .before .before .build .ensures l e)) (c .before .read .ensures .1) (c .whole-tree .ensures)
+returns-2 c = λ l e. (kind-in _ _ l (c .before .before .before .before .before .is-in .ensures l e) (c .before .read .result) (not-false _ (c .before .before .before .before .if1 .left)) (c .before .read .ensures .0 l (c .before .before .before .before .before .before .before .before .build .ensures l e)) (c .before .read .ensures .1) (c .whole-tree .ensures), c .before .before .before .before .before .before .before .before .build .ensures l e)
 
 pub check-kind-spec : {M : Type 1} → statement M
 check-kind-spec =
     tie.close
     (tie.spec
-    is-in-requires
     (λ c κs. search needs)
+    (λ c κs. search needs)
+    (λ c κs. search needs)
+    (λ c. search needs)
     returns
-    (λ c. search needs)
-    build-requires
-    (λ c. search needs)
     (λ c. search needs)
     read-requires
     (λ c κs. search needs)
+    (λ c. search needs)
     returns-2)

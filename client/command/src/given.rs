@@ -1,0 +1,54 @@
+//! What an accepted operation gives, and how it is printed and written.
+
+use crate::output::hexadecimal_lines;
+use algebra::Block;
+
+/// What an accepted operation gives.
+pub enum Given {
+    /// A result in bytes; a check has none.
+    Bytes(Vec<u8>),
+    /// A block of a tree.
+    Block { kind: u32, start: usize, bytes: Vec<u8> },
+}
+
+impl From<Block<'_>> for Given {
+    fn from(block: Block) -> Given {
+        let Block { bytes, start, kind } = block;
+        Given::Block { kind, start, bytes: bytes.to_vec() }
+    }
+}
+
+impl Given {
+    /// The figure of the first line: the length of the result.
+    pub fn figure(&self) -> usize {
+        self.bytes().len()
+    }
+
+    /// The lines between the first one and the result.
+    pub fn figures(&self) -> String {
+        match self {
+            Given::Bytes(_) => String::new(),
+            Given::Block { kind, start, .. } => format!("kind {kind}, start {start}\n"),
+        }
+    }
+
+    /// The result as it is printed.
+    pub fn shown(&self) -> String {
+        hexadecimal_lines(self.bytes())
+    }
+
+    /// The result as it is written to a file.
+    pub fn written(&self, hexadecimal: bool) -> Vec<u8> {
+        match hexadecimal {
+            true => hexadecimal_lines(self.bytes()).into_bytes(),
+            false => self.bytes().to_vec(),
+        }
+    }
+
+    /// The bytes of the result.
+    pub fn bytes(&self) -> &[u8] {
+        match self {
+            Given::Bytes(bytes) | Given::Block { bytes, .. } => bytes,
+        }
+    }
+}

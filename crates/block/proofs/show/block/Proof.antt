@@ -1,0 +1,17 @@
+use Rattle.block.proofs.Answers.{hands}
+use mathlib.Core.Path.{refl}
+use borrow.Author.Needs.{needs}
+use Rattle.block.proofs.show.block.Statement.{statement}
+use Rattle.block.proofs.show.block.Tie as tie
+use Rattle.block.proofs.show.block.Reads as reads
+use Rattle.block.proofs.show.block.Lts as lts
+use Rattle.block.proofs.show.place.Reads as place-reads
+use Rattle.fields.proofs.outcome.number.Reads as number-reads
+
+returns : tie.Need-returns
+returns c = hands _ _ _ (c .before .before .place .ensures) _ refl refl _ (c .before .number .ensures)
+
+pub block-spec : {M : Type 1} → statement M
+block-spec =
+    tie.close
+    (tie.spec (λ c κs. search needs) (λ c κs. search needs) (λ c. search needs) (λ c. search needs) (λ c. search needs) returns)

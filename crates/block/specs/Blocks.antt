@@ -1,0 +1,42 @@
+-- The blocks of a tree and the paths to them (paper 02, 2026-06).
+use Prim.Native.Nat.{ℕ, zero, suc, _+_}
+use mathlib.Core.List.{List, [], _∷_}
+use mathlib.Core.Option.{Option, none, some, Option·getD}
+use lib.ListN.{length}
+use Rattle.language.specs.Language.{Language, argumentsOf}
+use Rattle.reader.specs.Code.{Code, node, token, argument, Codes, nil, cons}
+use Rattle.reader.specs.Syntax.{write, tree}
+
+-- A block: where it starts in the bytes of the whole tree, its kind, and the tree that it is.
+pub record Block : Type 0 where
+  pub start : ℕ
+  pub kind : ℕ
+  pub subtree : Code
+
+-- A block of a tree.
+abbrev pub blockOf : ℕ → ℕ → Code → Block
+blockOf start kind subtree = record { start = start; kind = kind; subtree = subtree }
+
+-- The bytes of a block.
+abbrev pub bytesOf : Block → List ℕ
+bytesOf b = write tree (b .subtree)
+
+-- Of arguments of these kinds, the first of which starts at `start`, the one that has n before it.
+unfoldable pub argumentAfter : List ℕ → Codes → (n start : ℕ) → Option Block
+argumentAfter [] ts n start = none
+argumentAfter (k ∷ ks) nil n start = none
+argumentAfter (k ∷ ks) (cons t ts) zero start = some (blockOf start k t)
+argumentAfter (k ∷ ks) (cons t ts) (suc n) start = argumentAfter ks ts n (start + length (write tree t))
+
+-- The argument of a number, counted from 1, of the tree that starts at `start`. The arguments of a production stand
+-- behind its name; a token has none.
+unfoldable pub argumentOf : Language → (start : ℕ) → Code → (number : ℕ) → Option Block
+argumentOf l start (node k p ts) zero = none
+argumentOf l start (node k p ts) (suc n) = argumentAfter (Option·getD (argumentsOf l k p) []) ts n (start + 1)
+argumentOf l start (token v) i = none
+argumentOf l start (argument j) i = none
+
+-- The block at a path: its numbers are followed one after the other, and the empty path stays where it is.
+unfoldable pub blockAt : Language → (path : List ℕ) → Block → Option Block
+blockAt l [] b = some b
+blockAt l (i ∷ path) b = elim (argumentOf l (b .start) (b .subtree) i) [ none ↦ none | some c ↦ blockAt l path c ]

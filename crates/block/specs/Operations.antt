@@ -1,0 +1,40 @@
+-- The operation that shows one block of a tree (paper 02, 2026-06).
+use Prim.Native.Nat.{ℕ}
+use mathlib.Core.List.{List, []}
+use mathlib.Core.Option.{Option, none, some}
+use lib.ListN.{length}
+use Rattle.fields.specs.Outcome.{Result, value, refused, _>>=_}
+use Rattle.fields.specs.declared.outcome.Outcome.{Outcome}
+use Rattle.fields.specs.declared.outcome.Outcome.the-variants.{Accepted, Refused}
+use Rattle.fields.specs.declared.outcome.Reason.the-variants.{NoBlock}
+use Rattle.language.specs.LanguageFile.{languageOf}
+use Rattle.reader.specs.Operations.{treeOf}
+use Rattle.block.specs.Blocks.{Block, blockOf, bytesOf, blockAt}
+
+-- 21 where a path number is 0, is past the arguments, or stands at a token.
+abbrev pub found : Option Block → Result Block
+found none = refused NoBlock
+found (some b) = value b
+
+-- Find a block: 1 to 4 for the language, 14 to 16 over the whole tree, then 21 for the path.
+unfoldable pub findBlock : (language : List ℕ) (root : ℕ) (bytes path : List ℕ) → Result Block
+findBlock language root bytes path =
+    languageOf language >>= λ l.
+    treeOf l root bytes >>= λ t.
+    found (blockAt l path (blockOf 0 root t))
+
+-- All that the operation answers: number and length, and the block by its start, its bytes and its kind.
+pub record Shown : Type 0 where
+  pub outcome : Outcome
+  pub start : ℕ
+  pub bytes : List ℕ
+  pub kind : ℕ
+
+-- A refusal hands back an empty part and kind 0.
+abbrev pub shown : Result Block → Shown
+shown (value b) = record { outcome = Accepted (length (bytesOf b)); start = b .start; bytes = bytesOf b; kind = b .kind }
+shown (refused r) = record { outcome = Refused r; start = 0; bytes = []; kind = 0 }
+
+-- Show one block.
+unfoldable pub showBlock : (language : List ℕ) (root : ℕ) (bytes path : List ℕ) → Shown
+showBlock language root bytes path = shown (findBlock language root bytes path)

@@ -1,0 +1,95 @@
+//! Languages and trees decoded in the plainest way, for definitions that the reference is compared
+//! with. Only what has been accepted is decoded.
+#![allow(dead_code)]
+
+use std::collections::BTreeMap;
+
+/// The argument kinds of each production, by result and name; a class has none of these.
+pub struct Grammar {
+    pub classes: Vec<u8>,
+    pub productions: BTreeMap<(u8, u8), Vec<u8>>,
+}
+
+/// A decoded tree: each node with its kind.
+#[derive(Clone, Debug, PartialEq, Eq)]
+pub enum Tree {
+    Token { kind: u8, value: u16 },
+    Production { kind: u8, name: u8, arguments: Vec<Tree> },
+}
+
+/// The tags and contents of fields one after the other.
+pub fn fields(mut bytes: &[u8]) -> Vec<(u8, &[u8])> {
+    let mut fields = Vec::new();
+    while let [tag, high, low, rest @ ..] = bytes {
+        let (contents, behind) = rest.split_at(usize::from(*high) * 256 + usize::from(*low));
+        fields.push((*tag, contents));
+        bytes = behind;
+    }
+    fields
+}
+
+impl Grammar {
+    /// Decodes a language.
+    pub fn new(language: &[u8]) -> Grammar {
+        let mut grammar = Grammar { classes: vec![], productions: BTreeMap::new() };
+        for (tag, contents) in fields(language) {
+            match tag {
+                0x11 => grammar.classes.push(contents[0]),
+                _ => drop(
+                    grammar.productions.insert((contents[0], contents[1]), contents[2..].to_vec()),
+                ),
+            }
+        }
+        grammar
+    }
+
+    /// Decodes the first tree of a kind, and gives the bytes behind it.
+    fn split<'a>(&self, kind: u8, tree: &'a [u8]) -> (Tree, &'a [u8]) {
+        if self.classes.contains(&kind) {
+            let value = u16::from_be_bytes([tree[0], tree[1]]);
+            return (Tree::Token { kind, value }, &tree[2..]);
+        }
+        let (name, mut rest) = (tree[0], &tree[1..]);
+        let mut arguments = Vec::new();
+        for &kind in &self.productions[&(kind, name)] {
+            let (argument, behind) = self.split(kind, rest);
+            arguments.push(argument);
+            rest = behind;
+        }
+        (Tree::Production { kind, name, arguments }, rest)
+    }
+
+    /// Decodes a whole tree of a kind.
+    pub fn tree(&self, kind: u32, tree: &[u8]) -> Tree {
+        let (tree, rest) = self.split(kind as u8, tree);
+        assert!(rest.is_empty());
+        tree
+    }
+}
+
+impl Tree {
+    /// The kind of the root.
+    pub fn kind(&self) -> u8 {
+        match self {
+            Tree::Token { kind, .. } | Tree::Production { kind, .. } => *kind,
+        }
+    }
+
+    /// The arguments; a token has none.
+    pub fn arguments(&self) -> &[Tree] {
+        match self {
+            Tree::Token { .. } => &[],
+            Tree::Production { arguments, .. } => arguments,
+        }
+    }
+
+    /// The bytes.
+    pub fn bytes(&self) -> Vec<u8> {
+        match self {
+            Tree::Token { value, .. } => value.to_be_bytes().to_vec(),
+            Tree::Production { name, arguments, .. } => {
+                [vec![*name], arguments.iter().flat_map(Tree::bytes).collect()].concat()
+            }
+        }
+    }
+}
