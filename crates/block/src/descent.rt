@@ -66,14 +66,7 @@ fn argument_among(
 }
 
 // The argument of a number, counted from 1, of the tree of a kind that starts at a position.
-fn argument(
-    language: &[u8],
-    index: &[u16],
-    kind: u8,
-    tree: &[u8],
-    at: usize,
-    number: u8,
-) -> Step
+fn argument(language: &[u8], index: &[u16], kind: u8, tree: &[u8], at: usize, number: u8) -> Step
     requires { ⌜ ((l : Language) × (t : Code) × There (now index) (now language) (now tree) at kind l t) ⌝ }
     ensures { λ r. ⌜ ((l : Language) (t : Code) → There (now (index .entry)) (now (language .entry)) (now (tree .entry)) at kind l t
         → r ≡ stepOf (argumentOf l at t number)) ⌝ }
