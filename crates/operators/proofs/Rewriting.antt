@@ -121,7 +121,7 @@ module _ (s : List ℕ) (p : ℕ) (w : entryWhole s p ≡ true) where
           let q : p + 3 + 5 ≡ p + 8 = omega arith in
           let t : take 5 c ≡ slice (p + 3) (p + 8) s = rw size (five-of (drop (p + 3) s)) ∙ (part-is s (p + 3) 5 (omega arith) ∙ ap (λ (i : ℕ). slice (p + 3) i s) q) in
           let z : encodeField (field 0x11 (take 5 c)) ≡ 0x11 ∷ 0 ∷ 5 ∷ take 5 c = rw five refl in
-          let y = sym (ap encodeField (entry-spare (byteAt s p) c (entryAt s p) entry-of contents-bytes (spare-same ∙ h)) ∙ (z ∙ ap (λ (r : List ℕ). 0x11 ∷ 0 ∷ 5 ∷ r) t)) in
+          let y : 0x11 ∷ 0 ∷ 5 ∷ slice (p + 3) (p + 8) s ≡ encodeField (entryField (entryAt s p)) = sym (ap encodeField (entry-spare (byteAt s p) c (entryAt s p) entry-of contents-bytes (spare-same ∙ h)) ∙ (z ∙ ap (λ (r : List ℕ). 0x11 ∷ 0 ∷ 5 ∷ r) t)) in
           subst (λ (v : List ℕ). Stores v o o′ n x) y k
         where
           five-of : (l : List ℕ) → take 5 (take 7 l) ≡ take 5 l

@@ -17,8 +17,14 @@ use Rattle.language.specs.Language.{Language}
 use Rattle.language.specs.LanguageFile.{entriesOf}
 use Rattle.language.specs.Inner.Entries.{entryWhole}
 use Rattle.reader.proofs.Members.{entries-whole}
+use Rattle.operators.specs.declared.walk.Piece.{Piece}
 use Rattle.operators.specs.Inner.Kept.{writtenFrom}
+use Rattle.operators.specs.Inner.Pieces.{pieceOf}
 use Rattle.operators.proofs.Keeping.{walk-next, walk-done}
+
+-- put_piece
+pub piece-stored : {x y : Piece} (s : List ℕ) (p : ℕ) → x ≡ y → (o o′ : List ℕ) (n : ℕ) (r : Stored) → Stores (pieceOf y s p) o o′ n r → Stores (pieceOf x s p) o o′ n r
+piece-stored s p e o o′ n r w = subst (λ (z : Piece). Stores (pieceOf z s p) o o′ n r) (sym e) w
 
 -- Where the walk is, and what comes of the entries from there on.
 pub record Walked (piece : ℕ → List ℕ) (a o out : List ℕ) (from p n : ℕ) : Type 0 where

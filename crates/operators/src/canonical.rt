@@ -1,26 +1,25 @@
 // A language of a file as a value writes it: a class of step 1 in length 5.
 ghost use mathlib.Core.Path.{_≡_};
 ghost use mathlib.Core.Bool.{true};
-ghost use mathlib.Core.Option.{some};
 ghost use Prim.Native.Nat.{_<_, _≤_};
 ghost use lib.ListN.{length};
 ghost use Rattle.fields.specs.Outcome.{value};
 ghost use Rattle.fields.specs.Inner.Places.{EndsAt};
 ghost use Rattle.fields.specs.Inner.Writing.{Stores};
 ghost use Rattle.language.specs.Language.{Language};
-ghost use Rattle.language.specs.LanguageFile.{entriesOf, languageOf};
+ghost use Rattle.language.specs.LanguageFile.{languageOf};
 ghost use Rattle.language.specs.Inner.Entries.{entryWhole};
 ghost use Rattle.operators.specs.Inner.Values.{Gives, languageBytes};
-ghost use Rattle.operators.specs.Inner.Kept.{writtenFrom};
 ghost use Rattle.operators.specs.Inner.Canonical.{spareStep, entryBytes};
 use super::limit::limited;
+use super::walk::Piece;
+use super::walk::put_pieces;
 use fields::bytes::byte_at;
 use fields::bytes::pair_at;
 use fields::copy::Stored;
 use fields::copy::put;
 use fields::copy::put_both;
 use fields::outcome::Outcome;
-use fields::walk::field_end;
 use language::entries::CLASS;
 
 // The entry at p is a class that writes a step of 1.
@@ -38,7 +37,7 @@ fn spare_step(a: &[u8], p: usize) -> bool
 }
 
 // The entry at p, which ends at e, as a value writes it.
-fn put_entry(a: &[u8], p: usize, e: usize, out: &mut [u8], n: usize) -> Stored
+pub fn put_entry(a: &[u8], p: usize, e: usize, out: &mut [u8], n: usize) -> Stored
     requires { ⌜ (entryWhole (now a) p ≡ true) × EndsAt (now a) p e × (p < length (now a)) × (n ≤ length (now out)) ⌝ }
     ensures { λ r. ⌜ Stores (entryBytes (now (a .entry)) p) (now (out .entry)) (now (out .exit)) n r ⌝ }
 {
@@ -49,29 +48,11 @@ fn put_entry(a: &[u8], p: usize, e: usize, out: &mut [u8], n: usize) -> Stored
     put_both(&head, 0, 3, a, p + 3, p + 8, out, n)
 }
 
-// All entries, into the output from its start.
-fn put_entries(a: &[u8], out: &mut [u8]) -> Stored
-    requires { ⌜ ((l : Language) × (entriesOf (now a) ≡ some l)) ⌝ }
-    ensures { λ r. ⌜ Stores (writtenFrom (entryBytes (now (a .entry))) (now (a .entry)) 0) (now (out .entry)) (now (out .exit)) 0 r ⌝ }
-{
-    let mut p = 0;
-    let mut n = 0;
-    while p < a.len() {
-        let e = field_end(a, p);
-        let Stored::To(m) = put_entry(a, p, e, out, n) else {
-            return Stored::Full;
-        };
-        n = m;
-        p = e;
-    }
-    Stored::To(n)
-}
-
 // The language that a file holds.
 pub fn language(a: &[u8], out: &mut [u8]) -> Outcome
     requires { ⌜ ((l : Language) × (languageOf (now a) ≡ value l)) × (1024 ≤ length (now out)) ⌝ }
     ensures { λ r. ⌜ ((l : Language) → languageOf (now (a .entry)) ≡ value l
         → Gives (languageBytes (value l)) (now (out .entry)) (now (out .exit)) r) ⌝ }
 {
-    limited(put_entries(a, out), 1024)
+    limited(put_pieces(Piece::Entry, a, out, 0), 1024)
 }

@@ -12,16 +12,16 @@ ghost use Rattle.language.specs.Inner.Entries.{entryWhole};
 ghost use Rattle.operators.specs.Operators.{identityOf};
 ghost use Rattle.fields.specs.Inner.Writing.{Stores};
 ghost use Rattle.operators.specs.Inner.Values.{exactLanguage, Gives, translationBytes};
-ghost use Rattle.operators.specs.Inner.Kept.{writtenFrom};
 ghost use Rattle.operators.specs.Inner.SameItems.{kindItem, kindItems, clauseItem};
 use super::assemble::assemble;
+use super::walk::Piece;
+use super::walk::put_pieces;
 use fields::bytes::byte_at;
 use fields::copy::Stored;
 use fields::copy::put_both;
 use fields::copy::put_if;
 use fields::outcome::Outcome;
 use fields::outcome::Reason;
-use fields::walk::field_end;
 use reader::kinds::is_in;
 
 // The mapping of a kind to itself, where the kind is in the language.
@@ -51,7 +51,7 @@ fn put_kinds(a: &[u8], out: &mut [u8]) -> Stored
 }
 
 // The clause of the production at p, which ends at e: its name, and its arguments in their order.
-fn put_clause(a: &[u8], p: usize, e: usize, out: &mut [u8], n: usize) -> Stored
+pub fn put_clause(a: &[u8], p: usize, e: usize, out: &mut [u8], n: usize) -> Stored
     requires { ⌜ (entryWhole (now a) p ≡ true) × EndsAt (now a) p e × (p < length (now a)) × (n ≤ length (now out)) ⌝ }
     ensures { λ r. ⌜ Stores (clauseItem (now (a .entry)) p) (now (out .entry)) (now (out .exit)) n r ⌝ }
 {
@@ -66,24 +66,6 @@ fn put_clause(a: &[u8], p: usize, e: usize, out: &mut [u8], n: usize) -> Stored
     put_both(&head, 0, 7, arguments, 0, size, out, n)
 }
 
-// The clauses of all productions, into the output from a place on.
-fn put_clauses(a: &[u8], out: &mut [u8], from: usize) -> Stored
-    requires { ⌜ ((l : Language) × (entriesOf (now a) ≡ some l)) × (from ≤ length (now out)) ⌝ }
-    ensures { λ r. ⌜ Stores (writtenFrom (clauseItem (now (a .entry))) (now (a .entry)) 0) (now (out .entry)) (now (out .exit)) from r ⌝ }
-{
-    let mut p = 0;
-    let mut n = from;
-    while p < a.len() {
-        let e = field_end(a, p);
-        let Stored::To(m) = put_clause(a, p, e, out, n) else {
-            return Stored::Full;
-        };
-        n = m;
-        p = e;
-    }
-    Stored::To(n)
-}
-
 // The identity of a language.
 pub fn identity(a: &[u8], out: &mut [u8]) -> Outcome
     requires { ⌜ ((l : Language) × (exactLanguage (now a) ≡ value l)) × (4096 ≤ length (now out)) ⌝ }
@@ -94,7 +76,7 @@ pub fn identity(a: &[u8], out: &mut [u8]) -> Outcome
     let Stored::To(i) = put_kinds(a, &mut body) else {
         return Outcome::Refused(Reason::ValueTooLarge);
     };
-    let Stored::To(k) = put_clauses(a, &mut body, i) else {
+    let Stored::To(k) = put_pieces(Piece::Clause, a, &mut body, i) else {
         return Outcome::Refused(Reason::ValueTooLarge);
     };
     assemble(a, a, &body[..k], out)

@@ -8,3 +8,4 @@ pub mod languages;
 pub mod limit;
 pub mod make;
 pub mod translations;
+pub mod walk;

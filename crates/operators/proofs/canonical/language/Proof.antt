@@ -1,3 +1,4 @@
+use native.Mathlib.Omega.{arith}
 use Rattle.language.proofs.Codec.{language-good}
 use Rattle.operators.proofs.Accepted.{language-copied}
 use Rattle.operators.proofs.Rewriting.{language-rewritten}
@@ -6,14 +7,14 @@ use Rattle.operators.proofs.canonical.language.Statement.{statement}
 use Rattle.operators.proofs.canonical.language.Tie as tie
 use Rattle.operators.proofs.canonical.language.Reads as reads
 use Rattle.operators.proofs.canonical.language.Lts as lts
-use Rattle.operators.proofs.canonical.put_entries.Reads as put-entries-reads
+use Rattle.operators.proofs.walk.put_pieces.Reads as put-pieces-reads
 use Rattle.operators.proofs.limit.limited.Reads as limited-reads
 
-put-entries-requires : tie.Need-put-entries-requires
-put-entries-requires c κs = (_, language-good _ _ (c .before .before .before .pre .0 .1) .0)
+put-pieces-requires : tie.Need-put-pieces-requires
+put-pieces-requires c κs = ((_, language-good _ _ (c .before .before .before .pre .0 .1) .0), omega arith)
 
 returns : tie.Need-returns
-returns c = λ l e. language-copied _ _ (c .before .before .before .put-entries .kept .1 .0) _ _ l _ (language-rewritten _ l (language-good _ l e .0)) (c .before .before .before .before .before .before .before .pre .1) (c .before .before .before .put-entries .ensures) (c .limited .ensures)
+returns c = λ l e. language-copied _ _ (c .before .before .before .put-pieces .kept .1 .1 .0) _ _ l _ (language-rewritten _ l (language-good _ l e .0)) (c .before .before .before .before .before .before .before .pre .1) (c .before .before .before .put-pieces .ensures) (c .limited .ensures)
 
 pub language-spec : {M : Type 1} → statement M
-language-spec = tie.close (tie.spec put-entries-requires (λ c κs. search needs) (λ c. search needs) returns)
+language-spec = tie.close (tie.spec put-pieces-requires (λ c κs. search needs) (λ c. search needs) returns)
