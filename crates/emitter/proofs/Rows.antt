@@ -776,6 +776,19 @@ module _ {x : Syntax} {t input : List ℕ} {at k : ℕ} {f : Translation} {given
           count = rw (new .kinds, back) count;
         }
 
+-- clause_end: a clause's code lies in the body, and ends with its production.
+pub clause-room : {t : List ℕ} {place : ℕ} (a : Terms.Code) → Clause t place a → place + 4 < 4096
+unfolding write
+clause-room (node k p ts) h = let i = h .inside in omega arith
+clause-room (token v) h = let i = h .inside in omega arith
+clause-room (argument i) h = let j = h .inside in omega arith
+
+pub clause-span : {t : List ℕ} {place : ℕ} (a : Terms.Code) → Clause t place a → bodyByte t (place + 4) ≡ 1 → spanEntry t (place + 4) ≡ clauseEnd t place
+unfolding write SpansAt
+clause-span (node k p ts) h is = let e = h .spans .0 in let z = h .size in omega arith
+clause-span {t} {place} (token v) h is = let e = stands-head t (17472 + (place + 4)) 2 (v / 256 ∷ v % 256 ∷ []) (h .stands) in absurd (omega (arith, e .1))
+clause-span {t} {place} (argument i) h is = let e = stands-head t (17472 + (place + 4)) 3 (i ∷ []) (h .stands) in absurd (omega (arith, e .1))
+
 -- run_node: the code of a clause.
 module _ {x : Syntax} {t input ends state : List ℕ} {at k left place stop : ℕ} {f : Translation} {given : List ℕ} {u : Terms.Code}
     (a : NodeAsks x t input ends at k left f given u) (s : Started x t input state at place f given u) (es : stop ≡ clauseEnd t place) where

@@ -67,9 +67,17 @@ fn put_argument(
     ensures { λ r. ⌜ Wrote (slice at (at + leafLength syntax (now (input .entry)) at) (now (input .entry))) (now (output .entry)) (now (output .exit)) pos r
         × (now (node .exit) ≡ set (now (node .entry)) (j + 1) (at + leafLength syntax (now (input .entry)) at)) ⌝ }
 {
-    let n = leaf_length(syntax, input, at);
-    node[j + 1] = at + n;
-    put_leaf(input, at, n, output, pos)
+    match syntax {
+        Syntax::Tree => {
+            node[j + 1] = at + 2;
+            put_leaf(input, at, 2, output, pos)
+        }
+        Syntax::Code => {
+            let n = leaf_length(syntax, input, at);
+            node[j + 1] = at + n;
+            put_leaf(input, at, n, output, pos)
+        }
+    }
 }
 
 // The run of a production of a kind whose tree stands at a position of the input: the code of its clause, each argument

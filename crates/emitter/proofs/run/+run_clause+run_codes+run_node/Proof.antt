@@ -274,7 +274,7 @@ run-node-start-node-requires : (t : ℕ) → run-node-lts.Need-start-node-requir
 run-node-start-node-requires t c κs = (refl, (c .before .before .before .before .pre .1 .2 .0, c .before .before .before .before .pre .1 .2 .1, c .before .before .before .before .pre .1 .2 .2, (c .before .before .before .before .pre .1 .2 .3) .there))
 
 run-node-clause-end-requires : (t : ℕ) → run-node-lts.Need-clause-end-requires (run-node-calls t) (run-node-at t) run-node.Post
-run-node-clause-end-requires t c κs = omega (arith, (c .start-node .ensures (c .before .before .before .before .before .pre .1 .2 .0) (c .before .before .before .before .before .pre .1 .2 .1) (c .before .before .before .before .before .pre .1 .2 .2) ((c .before .before .before .before .before .pre .1 .2 .3) .there)) .clause .inside)
+run-node-clause-end-requires t c κs = (((c .start-node .ensures (c .before .before .before .before .before .pre .1 .2 .0) (c .before .before .before .before .before .pre .1 .2 .1) (c .before .before .before .before .before .pre .1 .2 .2) ((c .before .before .before .before .before .pre .1 .2 .3) .there))) .body, ((c .start-node .ensures (c .before .before .before .before .before .pre .1 .2 .0) (c .before .before .before .before .before .pre .1 .2 .1) (c .before .before .before .before .before .pre .1 .2 .2) ((c .before .before .before .before .before .pre .1 .2 .3) .there))) .clause)
 
 run-node-add-c : (t : ℕ) → run-node-lts.Need-add-c (run-node-calls t) (run-node-at t) run-node.Post
 run-node-add-c t c = omega (arith, (c .before .start-node .ensures (c .before .before .before .before .before .before .pre .1 .2 .0) (c .before .before .before .before .before .before .pre .1 .2 .1) (c .before .before .before .before .before .before .pre .1 .2 .2) ((c .before .before .before .before .before .before .pre .1 .2 .3) .there)) .clause .inside)

@@ -1,3 +1,5 @@
+use native.Mathlib.Omega.{arith}
+use Rattle.emitter.proofs.Skips.{length-tree}
 use Rattle.emitter.proofs.Rows.{leaf-put}
 use borrow.Author.Needs.{needs}
 use Rattle.emitter.proofs.run.put_argument.Statement.{statement}
@@ -7,47 +9,33 @@ use Rattle.emitter.proofs.run.put_argument.Lts as lts
 use Rattle.emitter.proofs.put.put_leaf.Reads as put-leaf-reads
 use Rattle.emitter.proofs.skip.leaf_length.Reads as leaf-length-reads
 
--- src/run.rt:70:9
-leaf-length-requires : tie.Need-leaf-length-requires
-leaf-length-requires c κs = search needs
-
--- src/run.rt:71:19
-add-node : tie.Need-add-node
-add-node c = search needs
-
--- src/run.rt:71:10
-add-node-2 : tie.Need-add-node-2
-add-node-2 c = search needs
-
--- src/run.rt:71:5
-mul-node : tie.Need-mul-node
-mul-node c = search needs
-
--- src/run.rt:71:5
-element-write-node : tie.Need-element-write-node
-element-write-node c = search needs
-
--- src/run.rt:72:5
 put-leaf-requires : tie.Need-put-leaf-requires
-put-leaf-requires c κs = search needs
+put-leaf-requires c κs = (omega arith, omega arith, omega (arith, length-tree (c .before .before .before .before .before .args .input .now) (c .before .before .before .before .before .args .at) (c .before .enum-told .given .1), c .before .before .before .before .before .pre .1), c .before .before .before .before .before .pre .3)
 
--- src/run.rt:57:1
-same-length : tie.Need-same-length
-same-length c = search needs
-
--- src/run.rt:57:1
 returns : tie.Need-returns
-returns c = leaf-put _ _ (c .before .before .before .before .before .before .before .args .node .now) (c .before .before .before .before .before .before .before .args .j) _ _ (c .before .before .before .before .leaf-length .ensures .0) (c .before .before .put-leaf .ensures)
+returns c = leaf-put _ _ (c .before .before .before .before .before .before .before .before .args .node .now) (c .before .before .before .before .before .before .before .before .args .j) _ _ (length-tree _ _ (c .before .before .before .before .enum-told .given .1)) (c .before .before .put-leaf .ensures)
+
+returns-2 : tie.Need-returns-2
+returns-2 c = leaf-put _ _ (c .before .before .before .before .before .before .before .before .before .args .node .now) (c .before .before .before .before .before .before .before .before .before .args .j) _ _ (c .before .before .before .before .leaf-length .ensures .0) (c .before .before .put-leaf2 .ensures)
 
 pub put-argument-spec : {M : Type 1} → statement M
 put-argument-spec =
     tie.close
     (tie.spec
-    leaf-length-requires
-    add-node
-    add-node-2
-    mul-node
-    element-write-node
+    (λ c. search needs)
+    (λ c. search needs)
+    (λ c. search needs)
+    (λ c. search needs)
+    (λ c. search needs)
     put-leaf-requires
-    same-length
-    returns)
+    (λ c. search needs)
+    (λ c κs. search needs)
+    (λ c. search needs)
+    (λ c. search needs)
+    (λ c. search needs)
+    (λ c. search needs)
+    (λ c κs. search needs)
+    (λ c. search needs)
+    returns
+    (λ c. search needs)
+    returns-2)
