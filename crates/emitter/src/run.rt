@@ -152,12 +152,12 @@ fn run_clause(
         }
         let sign = body_at(table, c);
         if sign == 3 {
-            let j = body_at(table, c + 1) - 1;
-            let a = start_of(syntax, table, input, ends, node, j);
-            let kind = source_at(table, node[9] + j);
+            let i = body_at(table, c + 1) - 1;
+            let a = start_of(syntax, table, input, ends, node, i);
+            let kind = source_at(table, node[9] + i);
             c += 2;
             if is_leaf(syntax, table, kind, input, a) {
-                p = put_argument(syntax, input, a, output, p, node, j);
+                p = put_argument(syntax, input, a, output, p, node, i);
                 continue;
             }
             p = run_node(
@@ -170,7 +170,7 @@ fn run_clause(
                 kind,
                 left - 1,
                 node,
-                j,
+                i,
                 syntax,
             );
         } else if sign == 1 {

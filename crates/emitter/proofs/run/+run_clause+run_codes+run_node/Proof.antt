@@ -91,8 +91,8 @@ run-clause-body-at-requires t c κs = omega (arith, next-below (asked (c .before
 run-clause-body-at-requires-2 : (t : ℕ) → run-clause-lts.Need-body-at-requires-2 (run-clause-calls t) (run-clause-at t) run-clause.Post run-clause-Inv-loop run-clause-μ-loop
 run-clause-body-at-requires-2 t c κs = next-below (asked (c .before .before .before .before .loop .inv .1) (c .before .before .before .before .before .before .before .before .pre .1)) (c .before .before .before .loop-test .taken)
 
-run-clause-sub-j : (t : ℕ) → run-clause-lts.Need-sub-j (run-clause-calls t) (run-clause-at t) run-clause.Post run-clause-Inv-loop run-clause-μ-loop
-run-clause-sub-j t c = omega (arith, argument-some (asked (c .before .before .before .before .before .loop .inv .1) (c .before .before .before .before .before .before .before .before .before .pre .1)) (c .before .before .before .before .loop-test .taken) (c .body-at2 .ensures .0) (sym (c .before .before .body-at .ensures .0) ∙ c .before .if2 .taken) .0)
+run-clause-sub-i : (t : ℕ) → run-clause-lts.Need-sub-i (run-clause-calls t) (run-clause-at t) run-clause.Post run-clause-Inv-loop run-clause-μ-loop
+run-clause-sub-i t c = omega (arith, argument-some (asked (c .before .before .before .before .before .loop .inv .1) (c .before .before .before .before .before .before .before .before .before .pre .1)) (c .before .before .before .before .loop-test .taken) (c .body-at2 .ensures .0) (sym (c .before .before .body-at .ensures .0) ∙ c .before .if2 .taken) .0)
 
 run-clause-start-of-requires : (t : ℕ) → run-clause-lts.Need-start-of-requires (run-clause-calls t) (run-clause-at t) run-clause.Post run-clause-Inv-loop run-clause-μ-loop
 run-clause-start-of-requires t c κs = (c .before .before .before .before .before .before .before .before .before .before .pre .1 .0, c .before .before .before .before .before .before .before .before .before .before .pre .1 .1, c .before .before .before .before .before .before .before .before .before .before .pre .1 .2, c .before .before .before .before .before .before .before .before .before .before .pre .1 .3, find-asks (argument-asks (asked (c .before .before .before .before .before .before .loop .inv .1) (c .before .before .before .before .before .before .before .before .before .before .pre .1)) (c .before .before .before .before .before .loop-test .taken) (c .before .body-at2 .ensures .0) (sym (c .before .before .before .body-at .ensures .0) ∙ c .before .before .if2 .taken)))
@@ -324,7 +324,7 @@ pub +run-clause+run-codes+run-node-spec : {M : Type 1} → statement M
     (run-clause-body-at-requires t)
     (λ c. search needs)
     (run-clause-body-at-requires-2 t)
-    (run-clause-sub-j t)
+    (run-clause-sub-i t)
     (run-clause-start-of-requires t)
     (λ c. search needs)
     (run-clause-add-source-at t)
