@@ -24,7 +24,7 @@ use Rattle.translation.specs.Running.{nth, operand, substitute, run, runAll, ma
 use Rattle.translation.proofs.Fitting.{mapped-arguments}
 use Rattle.emitter.specs.Inner.Stands.{Stands, Wrote}
 use Rattle.emitter.specs.Inner.Table.{indexEntry, clauseEntry, sourceByte, bodyByte, spanEntry, clauseEnd, SpansAt, SpansAllAt, Production, Clause, Ready}
-use Rattle.emitter.specs.Inner.Runs.{bytesOf, allBytes, front, Given, Term, Node, Row, Same, FindAsks, LastAsks, treeLevel, RowAsks, ArgumentAsks, TermAsks, NodeAt, NodeAsks, Started, leafAt, leafLength, signLength, knownStart, rowBytes}
+use Rattle.emitter.specs.Inner.Runs.{bytesOf, allBytes, front, Given, Term, Node, Row, Same, FindAsks, LastAsks, treeLevel, RowAsks, ArgumentAsks, PlacedAsks, TermAsks, NodeAt, NodeAsks, Started, leafAt, leafLength, signLength, knownStart, rowBytes}
 use Rattle.emitter.proofs.Standing.{stands-head, stands-both, wrote-none, wrote-past, wrote-then}
 
 get-inside : (r : List ℕ) (i k : ℕ) → getElem? r i ≡ some k → i < length r
@@ -982,19 +982,54 @@ module _ {x : Syntax} {t input ends before : List ℕ} {left j : ℕ} {f : Trans
 
     -- A production.
     module _ (is : leafAt x t kind input at ≡ false) where
-      pub found-asks : NodeAsks x t input ends at kind left f given (nth ts j)
+      some-levels : 0 < levels (nth ts j)
+      unfolding levels
+      some-levels = let n = found-tells .2 is .is in let z : levels (nth ts j) ≡ suc (levelsAll (found-tells .2 is .operands)) = rw n refl in omega arith
+
+      pub found-some : 0 < left
+      found-some = let l = a .levels in let m = found-levels in let z = some-levels in omega arith
+
+      pub found-asks : NodeAsks x t input ends at kind (left - 1) f given (nth ts j)
       found-asks =
           let l = a .levels in
           let m = found-levels in
           let h = a .most in
+          let z = found-some in
           record { there = record { table = a .table; term = found-term; inner = is }; kept = a .kept; most = omega arith; levels = omega arith }
 
-      pub found-gives : {after o end : List ℕ} {pos e : ℕ} → NodeGives x t input ends state after at kind left j o end pos e
+      pub found-gives : {after o end : List ℕ} {pos e : ℕ} → NodeGives x t input ends state after at kind (left - 1) j o end pos e
           → Wrote (bytesOf x (nth (runAll (clausesOf f) ts) j)) o end pos e × Node x t input after (f .source) given ts ks × Same before after
       found-gives gives =
           let w = gives f given (nth ts j) found-asks in
           let l = found-kept (at + length (bytesOf x (nth ts j))) refl in
           (rw found-run (w .0), rw (w .1) (l .0), rw (w .1) (l .1))
+
+-- What an argument that starts at a position and was put out gives.
+abbrev pub PlacedGives : (x : Syntax) (t input ends before after : List ℕ) (left j at : ℕ) (o end : List ℕ) (pos e : ℕ) → Type 0
+PlacedGives x t input ends before after left j at o end pos e =
+    (f : Translation) (given : List ℕ) (ts : Codes) (ks : List ℕ) → PlacedAsks x t input ends before left j at f given ts ks
+    → Wrote (bytesOf x (nth (runAll (clausesOf f) ts) j)) o end pos e × Node x t input after (f .source) given ts ks × Same before after
+
+-- The start of an argument was found, and its run is asked for and put out.
+pub placed : {x : Syntax} {t input ends before state : List ℕ} {left j at : ℕ} {f : Translation} {given : List ℕ} {ts : Codes} {ks : List ℕ} → ArgumentAsks x t input ends before left j f given ts ks
+    → FindGives x t input ends before state j at → PlacedAsks x t input ends state left j at f given ts ks
+placed a gives =
+    let d = found a gives in
+    record {
+      asks = record { table = a .table; kept = a .kept; node = d .node; most = a .most; levels = a .levels; number = a .number };
+      start = d .start;
+    }
+
+pub placed-gives : {x : Syntax} {t input ends before state after : List ℕ} {left j at : ℕ} {o end : List ℕ} {pos e : ℕ} → FindGives x t input ends before state j at
+    → PlacedGives x t input ends state after left j at o end pos e → ArgumentGives x t input ends before after left j o end pos e
+placed-gives finds gives f given ts ks a =
+    let w = gives f given ts ks (placed a finds) in
+    (w .0, w .1, same-then (found a finds .same) (w .2))
+
+-- run_argument: the start is as it is said.
+pub said : {x : Syntax} {t input ends state : List ℕ} {left j at : ℕ} {f : Translation} {given : List ℕ} {ts : Codes} {ks : List ℕ} → PlacedAsks x t input ends state left j at f given ts ks
+    → Found x t input state state j at f given ts ks
+said {state = state} a = record { node = a .asks .node; same = same-self state; start = a .start }
 
 -- put_argument: a leaf by its length.
 pub leaf-put : (x : Syntax) (input state : List ℕ) (j at n : ℕ) {o end : List ℕ} {pos e : ℕ} → n ≡ leafLength x input at → Wrote (slice at (at + n) input) o end pos e

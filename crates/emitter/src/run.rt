@@ -25,12 +25,13 @@ ghost use lib.Seq.{slice};
 ghost use Rattle.reader.specs.Code.{Code, Codes};
 ghost use Rattle.translation.specs.Translation.{Translation};
 ghost use Rattle.translation.specs.Running as Running;
-ghost use Rattle.translation.specs.Running.{clausesOf, transform};
+ghost use Rattle.translation.specs.Running.{nth, runAll, clausesOf, transform};
 ghost use Rattle.emitter.specs.Inner.Stands.{Wrote};
-ghost use Rattle.emitter.specs.Inner.Runs.{bytesOf, rowBytes, leafLength, Node, Same, NodeAt, Started, NodeAsks, RowAsks, TermAsks};
+ghost use Rattle.emitter.specs.Inner.Runs.{bytesOf, rowBytes, leafLength, Node, Same, NodeAt, Started, NodeAsks, RowAsks, PlacedAsks, TermAsks};
 
-// The levels that a level of a tree takes: one for the call on the argument tree, and 16 for its clause's code.
-const TREE_LEVEL: usize = 17;
+// The levels that a level of a tree takes: one for the call on the argument, one for the call on its node, and 16 for its
+// clause's code.
+const TREE_LEVEL: usize = 18;
 
 // Sets a node, all zero before, to the production of a kind that stands at a position of the input, and answers the place of
 // its clause.
@@ -125,6 +126,44 @@ fn run_node(
     p
 }
 
+// The run of argument j of a node, counted from 0, which starts at a position: a leaf stays itself.
+fn run_argument(
+    table: &[u16; TABLE],
+    input: &[u8],
+    ends: &[u32],
+    output: &mut [u8],
+    pos: usize,
+    at: usize,
+    left: usize,
+    node: &mut [usize; 10],
+    j: usize,
+    syntax: Syntax,
+) -> usize
+    requires { ⌜ (pos ≤ length (now output)) × ((f : Translation) × (given : List ℕ) × (ts : Codes) × (ks : List ℕ) × PlacedAsks syntax (now table) (now input) (now ends) (now node) left j at f given ts ks) ⌝ }
+    ensures { λ r. ⌜ ((f : Translation) (given : List ℕ) (ts : Codes) (ks : List ℕ) → PlacedAsks syntax (now (table .entry)) (now (input .entry)) (now (ends .entry)) (now (node .entry)) left j at f given ts ks
+        → Wrote (bytesOf syntax (nth (runAll (clausesOf f) ts) j)) (now (output .entry)) (now (output .exit)) pos r
+        × Node syntax (now (table .entry)) (now (input .entry)) (now (node .exit)) (f .source) given ts ks
+        × Same (now (node .entry)) (now (node .exit))) ⌝ }
+{
+    let kind = source_at(table, node[9] + j);
+    if is_leaf(syntax, table, kind, input, at) {
+        return put_argument(syntax, input, at, output, pos, node, j);
+    }
+    run_node(
+        table,
+        input,
+        ends,
+        output,
+        pos,
+        at,
+        kind,
+        left - 1,
+        node,
+        j,
+        syntax,
+    )
+}
+
 // The codes of a clause in a row, but for the name of the root.
 fn run_clause(
     table: &[u16; TABLE],
@@ -154,25 +193,8 @@ fn run_clause(
         if sign == 3 {
             let i = body_at(table, c + 1) - 1;
             let a = start_of(syntax, table, input, ends, node, i);
-            let kind = source_at(table, node[9] + i);
+            p = run_argument(table, input, ends, output, p, a, left - 1, node, i, syntax);
             c += 2;
-            if is_leaf(syntax, table, kind, input, a) {
-                p = put_argument(syntax, input, a, output, p, node, i);
-                continue;
-            }
-            p = run_node(
-                table,
-                input,
-                ends,
-                output,
-                p,
-                a,
-                kind,
-                left - 1,
-                node,
-                i,
-                syntax,
-            );
         } else if sign == 1 {
             p = put_name(syntax, body_at(table, c + 1) as u8, output, p);
             let a = c + 2;
@@ -217,25 +239,8 @@ fn run_codes(
         if sign == 3 {
             let j = body_at(table, c + 1) - 1;
             let a = start_of(syntax, table, input, ends, node, j);
-            let kind = source_at(table, node[9] + j);
+            p = run_argument(table, input, ends, output, p, a, left - 1, node, j, syntax);
             c += 2;
-            if is_leaf(syntax, table, kind, input, a) {
-                p = put_argument(syntax, input, a, output, p, node, j);
-                continue;
-            }
-            p = run_node(
-                table,
-                input,
-                ends,
-                output,
-                p,
-                a,
-                kind,
-                left - 1,
-                node,
-                j,
-                syntax,
-            );
         } else if sign == 1 {
             p = put_name(syntax, body_at(table, c + 1) as u8, output, p);
             let a = c + 2;

@@ -97,9 +97,10 @@ pub record LastAsks (x : Syntax) (t input ends state : List ℕ) (f : Translatio
   pub from : 3 ≤ getD state 9 0
   pub count : sourceByte t (getD state 9 0 - 3) ≡ length ks + 2
 
--- The levels that a level of a tree takes: one for the call on the argument tree, and 16 for its clause's code.
+-- The levels that a level of a tree takes: one for the call on the argument, one for the call on its node, and 16 for its
+-- clause's code.
 abbrev pub treeLevel : ℕ
-treeLevel = 17
+treeLevel = 18
 
 -- Codes in a row, each argument replaced by its run.
 pub record RowAsks (x : Syntax) (t input ends state : List ℕ) (at stop left : ℕ) (f : Translation) (given : List ℕ) (ts : Codes) (ks r : List ℕ) (cs : Codes) (js : List ℕ) : Type 0 where
@@ -119,6 +120,11 @@ pub record ArgumentAsks (x : Syntax) (t input ends state : List ℕ) (left j : �
   pub most : levelsAll ts ≤ 64
   pub levels : treeLevel * levelsAll ts ≤ left
   pub number : j < length ks
+
+-- The same, where the argument starts at `at`.
+pub record PlacedAsks (x : Syntax) (t input ends state : List ℕ) (left j at : ℕ) (f : Translation) (given : List ℕ) (ts : Codes) (ks : List ℕ) : Type 0 where
+  pub asks : ArgumentAsks x t input ends state left j f given ts ks
+  pub start : at ≡ getD state 0 0 + length (allBytes x (front j ts))
 
 -- The run of the term that the input starts with.
 pub record TermAsks (x : Syntax) (t input ends : List ℕ) (deep k : ℕ) (f : Translation) (given : List ℕ) (u : Terms.Code) : Type 0 where
@@ -144,7 +150,7 @@ pub record NodeAsks (x : Syntax) (t input ends : List ℕ) (at k left : ℕ) (f 
   pub there : NodeAt x t input at k f given u
   pub kept : Right x ends input (f .source) given
   pub most : levels u ≤ 64
-  pub levels : treeLevel * levels u ≤ left
+  pub levels : treeLevel * levels u ≤ left + 1
 
 -- The node of the term u that stands in the input from `at` on, and its clause, whose field has its length at `place`.
 pub record Started (x : Syntax) (t input state : List ℕ) (at place : ℕ) (f : Translation) (given : List ℕ) (u : Terms.Code) : Type 0 where
