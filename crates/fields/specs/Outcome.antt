@@ -4,11 +4,12 @@ use mathlib.Core.Bool.{Bool, true, false}
 use mathlib.Core.List.{List, _++_}
 use lib.ListN.{length, drop}
 use Rattle.fields.specs.declared.outcome.Reason.{Reason}
-use Rattle.fields.specs.declared.outcome.Reason.the-variants.{TooLong, BrokenField, OutOfOrder, ClassIsResult, WrongMapping, WrongClauses, IllegalCode, IllegalTerm, BuffersTooShort, UnboundVariable, ValueTooLarge, SumUnfit, JoinUnfit, UnknownRoot, IllegalTree, TooDeep, OutputTooShort}
+use Rattle.fields.specs.declared.outcome.Reason.the-variants.{TooLong, BrokenField, OutOfOrder, ClassIsResult, WrongMapping, WrongClauses, IllegalCode, IllegalTerm, BuffersTooShort, UnboundVariable, ValueTooLarge, SumUnfit, JoinUnfit, UnknownRoot, IllegalTree, TooDeep, OutputTooShort, BrokenTable, ScoreOutOfRange}
 use Rattle.fields.specs.declared.outcome.Outcome.{Outcome}
 use Rattle.fields.specs.declared.outcome.Outcome.the-variants.{Accepted, Refused}
 
--- The number of each refusal.
+-- The number of each refusal. 18: the load table is broken, out of order, lacks a production or has one too many; 19: a node's
+-- score lies outside -1,000,000,000 to 1,000,000,000 (paper 02, 2026-03).
 abbrev pub reasonNumber : Reason → ℕ
 reasonNumber TooLong = 1
 reasonNumber BrokenField = 2
@@ -27,6 +28,8 @@ reasonNumber UnknownRoot = 14
 reasonNumber IllegalTree = 15
 reasonNumber TooDeep = 16
 reasonNumber OutputTooShort = 17
+reasonNumber BrokenTable = 18
+reasonNumber ScoreOutOfRange = 19
 
 -- The number that an outsider sees.
 abbrev pub numberOf : Outcome → ℕ
