@@ -4,3 +4,4 @@ pub mod Loading
 pub mod Leaves
 pub mod Terms
 pub mod Walking
+pub mod Answering
