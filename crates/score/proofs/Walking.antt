@@ -78,11 +78,11 @@ none-left typed-nil h = refl
 none-left (typed-cons y ys) h = absurd (omega arith)
 
 -- What an answer says.
-formed-at : (t : Bool) (v z : ℤ) (n e : ℕ) → cond t (At v n) Outside ≡ At z e → (t ≡ true) × (v ≡ z) × (n ≡ e)
+pub formed-at : (t : Bool) (v z : ℤ) (n e : ℕ) → cond t (At v n) Outside ≡ At z e → (t ≡ true) × (v ≡ z) × (n ≡ e)
 formed-at true v z n e q = (refl, cc, cc)
 formed-at false v z n e q = let y : _≡_ {A = ℕ} 0 1 = cc in absurd (omega arith)
 
-formed-out : (t : Bool) (v : ℤ) (n : ℕ) → cond t (At v n) Outside ≡ Outside → t ≡ false
+pub formed-out : (t : Bool) (v : ℤ) (n : ℕ) → cond t (At v n) Outside ≡ Outside → t ≡ false
 formed-out true v n q = let y : _≡_ {A = ℕ} 0 1 = cc in absurd (omega arith)
 formed-out false v n q = refl
 
