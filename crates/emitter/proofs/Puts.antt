@@ -1,5 +1,5 @@
 -- Laws of one, two and three bytes that are put into the output.
-use Prim.Native.Nat.{ℕ, suc, _+_, _-_, _≤_, _<_}
+use Prim.Native.Nat.{ℕ, suc, _+_, _≤_, _<_}
 use mathlib.Core.Path.{_≡_, refl, ap, _∙_}
 use mathlib.Core.List.{List, [], _∷_, _++_, append-assoc}
 use native.Mathlib.Omega.{arith}
@@ -49,30 +49,30 @@ in-two l i a k b j h = in-set (set l i a) k b j (in-set l i a j h)
 
 -- put_name
 module _ (x : Syntax) (name : ℕ) (o : List ℕ) (pos : ℕ) (inside : pos ≤ length o) where
-  pub name-tree-full : length o - pos < 1 → x ≡ Tree → Wrote (sign (syntaxOf x) 1 ++ name ∷ []) o o pos (pos + 1)
+  pub name-tree-full : length o < pos + 1 → x ≡ Tree → Wrote (sign (syntaxOf x) 1 ++ name ∷ []) o o pos (pos + 1)
   name-tree-full h t = rw t (wrote-nothing (name ∷ []) o pos (pos + 1) (omega arith) (omega arith))
 
-  pub name-code-full : length o - pos < 2 → x ≡ Code → Wrote (sign (syntaxOf x) 1 ++ name ∷ []) o o pos (pos + 2)
+  pub name-code-full : length o < pos + 2 → x ≡ Code → Wrote (sign (syntaxOf x) 1 ++ name ∷ []) o o pos (pos + 2)
   name-code-full h t = rw t (wrote-nothing (1 ∷ name ∷ []) o pos (pos + 2) (omega arith) (omega arith))
 
-  pub name-tree : 1 ≤ length o - pos → x ≡ Tree → Wrote (sign (syntaxOf x) 1 ++ name ∷ []) o (set o pos name) pos (pos + 1)
+  pub name-tree : pos + 1 ≤ length o → x ≡ Tree → Wrote (sign (syntaxOf x) 1 ++ name ∷ []) o (set o pos name) pos (pos + 1)
   name-tree h t = rw t (wrote-stored (name ∷ []) o _ pos (pos + 1) (omega arith) refl refl)
 
-  pub name-code : 2 ≤ length o - pos → x ≡ Code → Wrote (sign (syntaxOf x) 1 ++ name ∷ []) o (set (set o pos 1) (pos + 1) name) pos (pos + 2)
+  pub name-code : pos + 2 ≤ length o → x ≡ Code → Wrote (sign (syntaxOf x) 1 ++ name ∷ []) o (set (set o pos 1) (pos + 1) name) pos (pos + 2)
   name-code h t = rw t (wrote-stored (1 ∷ name ∷ []) o _ pos (pos + 2) (omega arith) (two-stored o pos 1 name) refl)
 
 -- put_token
 module _ (x : Syntax) (high low : ℕ) (o : List ℕ) (pos : ℕ) (inside : pos ≤ length o) where
-  pub token-tree-full : length o - pos < 2 → x ≡ Tree → Wrote (sign (syntaxOf x) 2 ++ high ∷ low ∷ []) o o pos (pos + 2)
+  pub token-tree-full : length o < pos + 2 → x ≡ Tree → Wrote (sign (syntaxOf x) 2 ++ high ∷ low ∷ []) o o pos (pos + 2)
   token-tree-full h t = rw t (wrote-nothing (high ∷ low ∷ []) o pos (pos + 2) (omega arith) (omega arith))
 
-  pub token-code-full : length o - pos < 3 → x ≡ Code → Wrote (sign (syntaxOf x) 2 ++ high ∷ low ∷ []) o o pos (pos + 3)
+  pub token-code-full : length o < pos + 3 → x ≡ Code → Wrote (sign (syntaxOf x) 2 ++ high ∷ low ∷ []) o o pos (pos + 3)
   token-code-full h t = rw t (wrote-nothing (2 ∷ high ∷ low ∷ []) o pos (pos + 3) (omega arith) (omega arith))
 
-  pub token-tree : 2 ≤ length o - pos → x ≡ Tree → Wrote (sign (syntaxOf x) 2 ++ high ∷ low ∷ []) o (set (set o pos high) (pos + 1) low) pos (pos + 2)
+  pub token-tree : pos + 2 ≤ length o → x ≡ Tree → Wrote (sign (syntaxOf x) 2 ++ high ∷ low ∷ []) o (set (set o pos high) (pos + 1) low) pos (pos + 2)
   token-tree h t = rw t (wrote-stored (high ∷ low ∷ []) o _ pos (pos + 2) (omega arith) (two-stored o pos high low) refl)
 
-  pub token-code : 3 ≤ length o - pos → x ≡ Code
+  pub token-code : pos + 3 ≤ length o → x ≡ Code
       → Wrote (sign (syntaxOf x) 2 ++ high ∷ low ∷ []) o (set (set (set o pos 2) (pos + 1) high) (pos + 2) low) pos (pos + 3)
   token-code h t = rw t (wrote-stored (2 ∷ high ∷ low ∷ []) o _ pos (pos + 3) (omega arith) (three-stored o pos 2 high low) refl)
 
@@ -97,16 +97,16 @@ slice-three b at n h e =
     (slice-more b (at + 2) (at + n) (at + n) (omega arith) (omega arith) h ∙ ap (λ (l : List ℕ). getD b (at + 2) 0 ∷ l) (slice-empty (at + n) b)))
 
 module _ (b : List ℕ) (at n : ℕ) (o : List ℕ) (pos : ℕ) (there : at + n ≤ length b) (inside : pos ≤ length o) where
-  pub leaf-full : length o - pos < n → Wrote (slice at (at + n) b) o o pos (pos + n)
+  pub leaf-full : length o < pos + n → Wrote (slice at (at + n) b) o o pos (pos + n)
   leaf-full h = wrote-nothing _ o pos (pos + n) (omega (arith, length-slice at (at + n) b there)) (omega arith)
 
-  pub leaf-two : {after : List ℕ} → n ≤ length o - pos → n ≡ 2
+  pub leaf-two : {after : List ℕ} → pos + n ≤ length o → n ≡ 2
       → after ≡ set (set o pos (getD b at 0)) (pos + 1) (getD b (at + 1) 0) → Wrote (slice at (at + n) b) o after pos (pos + n)
   leaf-two {after} h e a =
       rw (slice-two b at n there e)
       (wrote-stored (getD b at 0 ∷ getD b (at + 1) 0 ∷ []) o after pos (pos + n) (omega arith) (a ∙ two-stored o pos _ _) (omega arith))
 
-  pub leaf-three : {after : List ℕ} → n ≤ length o - pos → n ≡ 3
+  pub leaf-three : {after : List ℕ} → pos + n ≤ length o → n ≡ 3
       → after ≡ set (set (set o pos (getD b at 0)) (pos + 1) (getD b (at + 1) 0)) (pos + 2) (getD b (at + 2) 0)
       → Wrote (slice at (at + n) b) o after pos (pos + n)
   leaf-three {after} h e a =
@@ -114,7 +114,7 @@ module _ (b : List ℕ) (at n : ℕ) (o : List ℕ) (pos : ℕ) (there : at + n 
       (wrote-stored (getD b at 0 ∷ getD b (at + 1) 0 ∷ getD b (at + 2) 0 ∷ []) o after pos (pos + n) (omega arith) (a ∙ three-stored o pos _ _ _) (omega arith))
 
   -- put_part
-  pub part-put : {after : List ℕ} → n ≤ length o - pos → (r : Stored) → Stores (slice at (at + n) b) o after pos r
+  pub part-put : {after : List ℕ} → pos + n ≤ length o → (r : Stored) → Stores (slice at (at + n) b) o after pos r
       → Wrote (slice at (at + n) b) o after pos (pos + n)
   part-put h (To m) s =
       let w = s .done m refl in

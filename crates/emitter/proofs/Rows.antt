@@ -24,7 +24,7 @@ use Rattle.translation.specs.Running.{nth, operand, substitute, run, runAll, ma
 use Rattle.translation.proofs.Fitting.{mapped-arguments}
 use Rattle.emitter.specs.Inner.Stands.{Stands, Wrote}
 use Rattle.emitter.specs.Inner.Table.{indexEntry, clauseEntry, sourceByte, bodyByte, spanEntry, clauseEnd, SpansAt, SpansAllAt, Production, Clause, Ready}
-use Rattle.emitter.specs.Inner.Runs.{bytesOf, allBytes, front, Given, Term, Node, Row, Same, FindAsks, LastAsks, treeLevel, RowAsks, ArgumentAsks, TermAsks, NodeAt, NodeAsks, Started, leafAt, leafLength, signLength, knownStart, rowBytes}
+use Rattle.emitter.specs.Inner.Runs.{bytesOf, allBytes, front, Given, Term, Node, Row, Same, FindAsks, LastAsks, treeLevel, RowAsks, ArgumentAsks, PlacedAsks, TermAsks, NodeAt, NodeAsks, Started, leafAt, leafLength, signLength, knownStart, rowBytes}
 use Rattle.emitter.proofs.Standing.{stands-head, stands-both, wrote-none, wrote-past, wrote-then}
 
 get-inside : (r : List ℕ) (i k : ℕ) → getElem? r i ≡ some k → i < length r
@@ -724,12 +724,12 @@ module _ {x : Syntax} {t input : List ℕ} {at k : ℕ} {f : Translation} {given
   pub name-inside : at + signLength x < length input
   name-inside = is-node .inside
 
-  name-some : 0 < nameLength x
-  name-some = by x
+  name-long : nameLength x ≡ signLength x + 1
+  name-long = by x
     where
-      by : (x : Syntax) → 0 < nameLength x
-      by Tree = omega arith
-      by Code = omega arith
+      by : (x : Syntax) → nameLength x ≡ signLength x + 1
+      by Tree = refl
+      by Code = refl
 
   module _ {name n : ℕ} (es : n ≡ signLength x) (en : name ≡ getD input (at + n) 0) (small : name < 256) where
     is-name : name ≡ is-node .name
@@ -738,14 +738,15 @@ module _ {x : Syntax} {t input : List ℕ} {at k : ℕ} {f : Translation} {given
     there : argumentsOf (f .source) k name ≡ some (is-node .kinds)
     there = rw is-name (is-node .there)
 
-    pub started : {place from m : ℕ} {before : List ℕ} → place ≡ indexEntry t (32 + (k * 256 + name)) → from ≡ clauseEntry t (32 + (k * 256 + name)) → m ≡ nameLength x
-        → before ≡ replicate 10 0 → Started x t input (set (set before 9 (place + 4)) 0 (at + m)) at from f given u
+    pub started : {place from : ℕ} {before : List ℕ} → place ≡ indexEntry t (32 + (k * 256 + name)) → from ≡ clauseEntry t (32 + (k * 256 + name))
+        → before ≡ replicate 10 0 → Started x t input (set (set before 9 (place + 4)) 0 (at + n + 1)) at from f given u
     unfolding levels run
-    started {place} {from} {m} {before} ep ec em eb =
+    started {place} {from} {before} ep ec eb =
         let i = is-node in
         let production : Production t place (i .kinds) = rw ep (a .table .ready .production k name (i .kinds) (a .term .kind) small there) in
         let clause : Clause t from (clausesOf f k name) = rw ec (a .table .ready .clause k name (i .kinds) (a .term .kind) small there) in
-        let new : Fresh (set (set before 9 (place + 4)) 0 (at + m)) (place + 4) (at + nameLength x) = rw (eb, ← em) (fresh (place + 4) (at + m)) in
+        let e : at + n + 1 ≡ at + nameLength x = let l = name-long in omega arith in
+        let new : Fresh (set (set before 9 (place + 4)) 0 (at + n + 1)) (place + 4) (at + nameLength x) = rw (eb, ← e) (fresh (place + 4) (at + n + 1)) in
         let count = production .count in
         let back : place + 4 - 3 ≡ place + 1 = omega arith in
         let long = i .long in
@@ -762,7 +763,7 @@ module _ {x : Syntax} {t input : List ℕ} {at k : ℕ} {f : Translation} {given
             few = production .few;
             typed = i .typed;
             stands = rw first (i .stands);
-            some = rw first (let s = name-some in omega arith);
+            some = rw first (let s = name-long in omega arith);
             known = λ j h. inl (new .none j h);
           };
           clause = clause;
@@ -774,6 +775,19 @@ module _ {x : Syntax} {t input : List ℕ} {at k : ℕ} {f : Translation} {given
           from = rw (new .kinds) (omega arith);
           count = rw (new .kinds, back) count;
         }
+
+-- clause_end: a clause's code lies in the body, and ends with its production.
+pub clause-room : {t : List ℕ} {place : ℕ} (a : Terms.Code) → Clause t place a → place + 4 < 4096
+unfolding write
+clause-room (node k p ts) h = let i = h .inside in omega arith
+clause-room (token v) h = let i = h .inside in omega arith
+clause-room (argument i) h = let j = h .inside in omega arith
+
+pub clause-span : {t : List ℕ} {place : ℕ} (a : Terms.Code) → Clause t place a → bodyByte t (place + 4) ≡ 1 → spanEntry t (place + 4) ≡ clauseEnd t place
+unfolding write SpansAt
+clause-span (node k p ts) h is = let e = h .spans .0 in let z = h .size in omega arith
+clause-span {t} {place} (token v) h is = let e = stands-head t (17472 + (place + 4)) 2 (v / 256 ∷ v % 256 ∷ []) (h .stands) in absurd (omega (arith, e .1))
+clause-span {t} {place} (argument i) h is = let e = stands-head t (17472 + (place + 4)) 3 (i ∷ []) (h .stands) in absurd (omega (arith, e .1))
 
 -- run_node: the code of a clause.
 module _ {x : Syntax} {t input ends state : List ℕ} {at k left place stop : ℕ} {f : Translation} {given : List ℕ} {u : Terms.Code}
@@ -875,6 +889,12 @@ FindGives x t input ends before after j e =
     (f : Translation) (given : List ℕ) (ts : Codes) (ks : List ℕ) → FindAsks x t input ends before j f given ts ks
     → (e ≡ getD before 0 0 + length (allBytes x (front j ts))) × Node x t input after (f .source) given ts ks × Same before after
 
+-- start_of: what is known of the start of an argument is right.
+pub start-known : {x : Syntax} {t input ends state : List ℕ} {j at : ℕ} {f : Translation} {given : List ℕ} {ts : Codes} {ks : List ℕ} → FindAsks x t input ends state j f given ts ks
+    → at ≡ knownStart state j → (at ≡ 0 → ⊥) → (at ≡ getD state 0 0 + length (allBytes x (front j ts))) × Node x t input state (f .source) given ts ks × Same state state
+start-known {x} {t} {input} {state = state} {j} {f = f} {given} {ts} {ks} a e h =
+    (e ∙ known-start x t input state (f .source) given ts ks (a .node) j (a .number) (λ z. h (e ∙ z)), a .node, same-self state)
+
 -- last_end
 module _ {x : Syntax} {t input ends state : List ℕ} {f : Translation} {given : List ℕ} {ts : Codes} {ks : List ℕ} (a : LastAsks x t input ends state f given ts ks) where
   module _ {n : ℕ} (en : n ≡ sourceByte t (getD state 9 0 - 3)) where
@@ -912,23 +932,10 @@ module _ {x : Syntax} {t input ends before : List ℕ} {left j : ℕ} {f : Trans
       let n = a .number in
       record { table = a .table; kept = a .kept; node = a .node; levels = a .most; number = omega arith }
 
-  pub found-known : {state : List ℕ} {at k : ℕ} → k ≡ knownStart before j → (k ≡ 0 → ⊥) → state ≡ before → at ≡ k → Found x t input before state j at f given ts ks
-  found-known e h es ea =
-      let n = a .number in
-      rw es record {
-        node = a .node;
-        same = same-self before;
-        start = ea ∙ (e ∙ known-start x t input before (f .source) given ts ks (a .node) j (omega arith) (λ z. h (e ∙ z)));
-      }
-
-  pub found-find : {state after : List ℕ} {at k : ℕ} → FindGives x t input ends before after j k → state ≡ after → at ≡ k → Found x t input before state j at f given ts ks
-  found-find gives es ea =
+  pub found : {state : List ℕ} {at : ℕ} → FindGives x t input ends before state j at → Found x t input before state j at f given ts ks
+  found gives =
       let w = gives f given ts ks find-asks in
-      rw es record {
-        node = w .1;
-        same = w .2;
-        start = ea ∙ (w .0 ∙ ap (λ (n : ℕ). n + length (allBytes x (front j ts))) (sym (w .2 .start)));
-      }
+      record { node = w .1; same = w .2; start = w .0 ∙ ap (λ (n : ℕ). n + length (allBytes x (front j ts))) (sym (w .2 .start)) }
 
   -- The term that starts there.
   module _ {state : List ℕ} {at : ℕ} (d : Found x t input before state j at f given ts ks) {kind : ℕ} (ek : kind ≡ sourceByte t (getD state 9 0 + j)) where
@@ -955,20 +962,23 @@ module _ {x : Syntax} {t input ends before : List ℕ} {left j : ℕ} {f : Trans
         (w .0, same-then (d .same) (w .1))
 
     -- A leaf.
-    module _ (is : leafAt x t kind input at ≡ true) {n : ℕ} (en : n ≡ leafLength x input at) where
+    module _ (is : leafAt x t kind input at ≡ true) where
+      abbrev n : ℕ
+      n = leafLength x input at
+
       leaf-long : n ≡ length (bytesOf x (nth ts j))
-      leaf-long = en ∙ found-tells .1 is .0
+      leaf-long = found-tells .1 is .0
 
       pub leaf-room : at + n ≤ length input
       leaf-room = let i = found-term .stands .inside in let l = leaf-long in omega arith
 
-      pub leaf-gives : {o end : List ℕ} {pos e : ℕ} → Wrote (slice at (at + n) input) o end pos e
-          → Wrote (bytesOf x (nth (runAll (clausesOf f) ts) j)) o end pos e × Node x t input (set state (j + 1) (at + n)) (f .source) given ts ks × Same before (set state (j + 1) (at + n))
-      leaf-gives w =
+      pub leaf-gives : {after o end : List ℕ} {pos e : ℕ} → Wrote (slice at (at + n) input) o end pos e → after ≡ set state (j + 1) (at + n)
+          → Wrote (bytesOf x (nth (runAll (clausesOf f) ts) j)) o end pos e × Node x t input after (f .source) given ts ks × Same before after
+      leaf-gives w ea =
           let l = found-kept (at + n) (ap (λ (m : ℕ). at + m) leaf-long) in
           let b : bytesOf x (nth (runAll (clausesOf f) ts) j) ≡ slice at (at + n) input =
           found-run ∙ (ap (bytesOf x) (found-tells .1 is .1) ∙ sym (stands-slice input at n (bytesOf x (nth ts j)) leaf-long (found-term .stands))) in
-          (rw b w, l .0, l .1)
+          (rw b w, rw ea (l .0), rw ea (l .1))
 
     -- A production.
     module _ (is : leafAt x t kind input at ≡ false) where
@@ -993,6 +1003,38 @@ module _ {x : Syntax} {t input ends before : List ℕ} {left j : ℕ} {f : Trans
           let w = gives f given (nth ts j) found-asks in
           let l = found-kept (at + length (bytesOf x (nth ts j))) refl in
           (rw found-run (w .0), rw (w .1) (l .0), rw (w .1) (l .1))
+
+-- What an argument that starts at a position and was put out gives.
+abbrev pub PlacedGives : (x : Syntax) (t input ends before after : List ℕ) (left j at : ℕ) (o end : List ℕ) (pos e : ℕ) → Type 0
+PlacedGives x t input ends before after left j at o end pos e =
+    (f : Translation) (given : List ℕ) (ts : Codes) (ks : List ℕ) → PlacedAsks x t input ends before left j at f given ts ks
+    → Wrote (bytesOf x (nth (runAll (clausesOf f) ts) j)) o end pos e × Node x t input after (f .source) given ts ks × Same before after
+
+-- The start of an argument was found, and its run is asked for and put out.
+pub placed : {x : Syntax} {t input ends before state : List ℕ} {left j at : ℕ} {f : Translation} {given : List ℕ} {ts : Codes} {ks : List ℕ} → ArgumentAsks x t input ends before left j f given ts ks
+    → FindGives x t input ends before state j at → PlacedAsks x t input ends state left j at f given ts ks
+placed a gives =
+    let d = found a gives in
+    record {
+      asks = record { table = a .table; kept = a .kept; node = d .node; most = a .most; levels = a .levels; number = a .number };
+      start = d .start;
+    }
+
+pub placed-gives : {x : Syntax} {t input ends before state after : List ℕ} {left j at : ℕ} {o end : List ℕ} {pos e : ℕ} → FindGives x t input ends before state j at
+    → PlacedGives x t input ends state after left j at o end pos e → ArgumentGives x t input ends before after left j o end pos e
+placed-gives finds gives f given ts ks a =
+    let w = gives f given ts ks (placed a finds) in
+    (w .0, w .1, same-then (found a finds .same) (w .2))
+
+-- run_argument: the start is as it is said.
+pub said : {x : Syntax} {t input ends state : List ℕ} {left j at : ℕ} {f : Translation} {given : List ℕ} {ts : Codes} {ks : List ℕ} → PlacedAsks x t input ends state left j at f given ts ks
+    → Found x t input state state j at f given ts ks
+said {state = state} a = record { node = a .asks .node; same = same-self state; start = a .start }
+
+-- put_argument: a leaf by its length.
+pub leaf-put : (x : Syntax) (input state : List ℕ) (j at n : ℕ) {o end : List ℕ} {pos e : ℕ} → n ≡ leafLength x input at → Wrote (slice at (at + n) input) o end pos e
+    → Wrote (slice at (at + leafLength x input at) input) o end pos e × (set state (j + 1) (at + n) ≡ set state (j + 1) (at + leafLength x input at))
+leaf-put x input state j at n en w = (rw (← en) w, rw en refl)
 
 -- The run of a whole term.
 module _ {x : Syntax} {t input ends : List ℕ} {deep k : ℕ} {f : Translation} {given : List ℕ} {u : Terms.Code} (a : TermAsks x t input ends deep k f given u) where

@@ -16,14 +16,14 @@ pub fn put_name(syntax: Syntax, name: u8, output: &mut [u8], pos: usize) -> usiz
 {
     match syntax {
         Syntax::Tree => {
-            if output.len() - pos < 1 {
+            if output.len() < pos + 1 {
                 return pos + 1;
             }
             output[pos] = name;
             pos + 1
         }
         Syntax::Code => {
-            if output.len() - pos < 2 {
+            if output.len() < pos + 2 {
                 return pos + 2;
             }
             output[pos] = 1;
@@ -40,7 +40,7 @@ pub fn put_token(syntax: Syntax, high: u8, low: u8, output: &mut [u8], pos: usiz
 {
     match syntax {
         Syntax::Tree => {
-            if output.len() - pos < 2 {
+            if output.len() < pos + 2 {
                 return pos + 2;
             }
             output[pos] = high;
@@ -48,7 +48,7 @@ pub fn put_token(syntax: Syntax, high: u8, low: u8, output: &mut [u8], pos: usiz
             pos + 2
         }
         Syntax::Code => {
-            if output.len() - pos < 3 {
+            if output.len() < pos + 3 {
                 return pos + 3;
             }
             output[pos] = 2;
@@ -64,7 +64,7 @@ pub fn put_leaf(input: &[u8], at: usize, n: usize, output: &mut [u8], pos: usize
     requires { ⌜ (2 ≤ n) × (n ≤ 3) × (at + n ≤ length (now input)) × (pos ≤ length (now output)) ⌝ }
     ensures { λ r. ⌜ Wrote (slice at (at + n) (now (input .entry))) (now (output .entry)) (now (output .exit)) pos r ⌝ }
 {
-    if output.len() - pos < n {
+    if output.len() < pos + n {
         return pos + n;
     }
     output[pos] = input[at];
@@ -80,7 +80,7 @@ pub fn put_part(input: &[u8], at: usize, n: usize, output: &mut [u8], pos: usize
     requires { ⌜ (at + n ≤ length (now input)) × (pos ≤ length (now output)) ⌝ }
     ensures { λ r. ⌜ Wrote (slice at (at + n) (now (input .entry))) (now (output .entry)) (now (output .exit)) pos r ⌝ }
 {
-    if output.len() - pos < n {
+    if output.len() < pos + n {
         return pos + n;
     }
     put(input, at, at + n, output, pos);

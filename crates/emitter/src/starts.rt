@@ -13,7 +13,7 @@ ghost use Rattle.translation.specs.Translation.{Translation};
 ghost use Rattle.emitter.specs.Inner.Runs.{bytesOf, allBytes, front, Right, Node, Same, SkipAsks, FindAsks, LastAsks, knownStart};
 
 // Where argument j starts by what is known of the node; 0 where it is not known.
-pub fn known(node: &[usize; 10], j: usize) -> usize
+fn known(node: &[usize; 10], j: usize) -> usize
     requires { ⌜ j ≤ 8 ⌝ }
     ensures { λ r. ⌜ r ≡ knownStart (now (node .entry)) j ⌝ }
 {
@@ -42,7 +42,7 @@ fn end_of(
 }
 
 // Where argument j starts: the arguments before it whose end is not known are stepped over.
-pub fn find(
+fn find(
     syntax: Syntax,
     table: &[u16; TABLE],
     input: &[u8],
@@ -69,6 +69,28 @@ pub fn find(
         i += 1;
     }
     p
+}
+
+// Where argument j starts: that is known, or found.
+pub fn start_of(
+    syntax: Syntax,
+    table: &[u16; TABLE],
+    input: &[u8],
+    ends: &[u32],
+    node: &mut [usize; 10],
+    j: usize,
+) -> usize
+    requires { ⌜ ((f : Translation) × (given : List ℕ) × (ts : Codes) × (ks : List ℕ) × FindAsks syntax (now table) (now input) (now ends) (now node) j f given ts ks) ⌝ }
+    ensures { λ r. ⌜ ((f : Translation) (given : List ℕ) (ts : Codes) (ks : List ℕ) → FindAsks syntax (now (table .entry)) (now (input .entry)) (now (ends .entry)) (now (node .entry)) j f given ts ks
+        → (r ≡ getD (now (node .entry)) 0 0 + length (allBytes syntax (front j ts)))
+        × Node syntax (now (table .entry)) (now (input .entry)) (now (node .exit)) (f .source) given ts ks
+        × Same (now (node .entry)) (now (node .exit))) ⌝ }
+{
+    let at = known(node, j);
+    if at != 0 {
+        return at;
+    }
+    find(syntax, table, input, ends, node, j)
 }
 
 // Where the last argument of a node ends. How many arguments it has stands before their kinds.

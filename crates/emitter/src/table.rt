@@ -1,8 +1,9 @@
 // The table that a run looks things up in: its length, where its parts start, and what stands in them.
 ghost use mathlib.Core.Path.{_≡_};
 ghost use Prim.Native.Nat.{_+_, _<_};
+ghost use Rattle.reader.specs.Code.{Code};
 ghost use Rattle.reader.specs.Inner.Index.{indexLength};
-ghost use Rattle.emitter.specs.Inner.Table.{indexEntry, clauseEntry, sourceByte, bodyByte, spanEntry, clauseEnd};
+ghost use Rattle.emitter.specs.Inner.Table.{indexEntry, clauseEntry, sourceByte, bodyByte, spanEntry, clauseEnd, Clause};
 use reader::index::TABLE;
 
 // Where the index of the body's items starts.
@@ -64,10 +65,13 @@ pub fn span_at(table: &[u16; TABLE], c: usize) -> usize
     to_usize(table[SPANS + c])
 }
 
-// Where the clause ends whose field has its length at a place of the body.
+// Where the clause ends whose field has its length at a place of the body. Where its code is a production that is kept.
 pub fn clause_end(table: &[u16; TABLE], place: usize) -> usize
-    requires { ⌜ place + 1 < 4096 ⌝ }
+    requires { ⌜ ((a : Code) × Clause (now table) place a) ⌝ }
     ensures { λ r. ⌜ r ≡ clauseEnd (now (table .entry)) place ⌝ }
 {
+    if body_at(table, place + 4) == 1 {
+        return span_at(table, place + 4);
+    }
     place + 2 + (body_at(table, place) * 256 + body_at(table, place + 1))
 }

@@ -121,6 +121,11 @@ pub record ArgumentAsks (x : Syntax) (t input ends state : List ℕ) (left j : �
   pub levels : treeLevel * levelsAll ts ≤ left
   pub number : j < length ks
 
+-- The same, where the argument starts at `at`.
+pub record PlacedAsks (x : Syntax) (t input ends state : List ℕ) (left j at : ℕ) (f : Translation) (given : List ℕ) (ts : Codes) (ks : List ℕ) : Type 0 where
+  pub asks : ArgumentAsks x t input ends state left j f given ts ks
+  pub start : at ≡ getD state 0 0 + length (allBytes x (front j ts))
+
 -- The run of the term that the input starts with.
 pub record TermAsks (x : Syntax) (t input ends : List ℕ) (deep k : ℕ) (f : Translation) (given : List ℕ) (u : Terms.Code) : Type 0 where
   pub table : Given x t f given
