@@ -166,17 +166,17 @@ module _ {w : Loads} {u : Code} {count : ℕ} {o after : List ℕ} {pos to j : �
       puts-done (v .fits ∙ ap (λ (n : ℕ). all (placeFits w u) (countUp n j)) e) (rw (← d) (v .put))
 
 -- How long figures are.
-count-long : (n j : ℕ) → length (countUp n j) ≡ n
+pub count-long : (n j : ℕ) → length (countUp n j) ≡ n
 unfolding countUp
 count-long zero j = refl
 count-long (suc n) j = ap suc (count-long n (suc j))
 
-figures-long : (l : List ℤ) → length (concatMap figureBytes l) ≡ 2 * length l
+pub figures-long : (l : List ℤ) → length (concatMap figureBytes l) ≡ 2 * length l
 unfolding concatMap figureBytes
 figures-long [] = refl
 figures-long (z ∷ l) = let e = figures-long l in omega arith
 
-map-long : {A B : Type 0} (g : A → B) (l : List A) → length (map g l) ≡ length l
+pub map-long : {A B : Type 0} (g : A → B) (l : List A) → length (map g l) ≡ length l
 map-long g [] = refl
 map-long g (a ∷ l) = ap suc (map-long g l)
 

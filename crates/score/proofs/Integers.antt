@@ -170,6 +170,18 @@ unfolding unsigned
 coded-pos (pos n) f q = let h = between-pos 32767 32767 n f in record { is = refl; small = omega arith }
 coded-pos (negsuc n) f q = false-true (sym q)
 
+sub-low : (n m : ℕ) → n < m → subℕ n m ≡ negsuc (m - suc n)
+sub-low n m h = simp (lt-ltb n m h)
+
+-- A figure read from the number that stands for it.
+pub figure-read : (z : ℤ) → isFigure z ≡ true → signed (unsigned z) ≡ z
+unfolding unsigned
+figure-read (pos n) f = let h = between-pos 32767 32767 n f in signed-low n (omega arith)
+figure-read (negsuc n) f =
+    let h : n ≤ 32767 = between-neg 32767 32767 n f in
+    let e : 65536 - suc (65535 - n) ≡ n = omega arith in
+    signed-high (65535 - n) (omega arith) ∙ (sub-low (65535 - n) 65536 (omega arith) ∙ ap negsuc e)
+
 -- x is what the machine reads of y
 module _ (z y x : ℤ) (c : Coded z y) (ex : x ≡ y) where
   coded-fits : SFits w64 x

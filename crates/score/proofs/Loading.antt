@@ -308,7 +308,7 @@ module _ (s t : List ℕ) (fig : List ℤ) (p q : ℕ) (v : Loading s t fig p q)
             })
 
 -- A table of a language that rises has one load for each production.
-abbrev loadKey : Load → ℕ
+abbrev pub loadKey : Load → ℕ
 loadKey (load r p fs) = productionKey r p
 
 load-key : (r p n : ℕ) (f : Field) (a : Load) → loadOf r p n f ≡ some a → loadKey a ≡ productionKey r p
@@ -317,7 +317,7 @@ load-key r p n (Rattle.fields.specs.Fields.field tag c) a e =
     let u = cond-some (eqb tag 0x24 && (eqb (length c) (4 + 2 * n) && (eqb (getD c 0 0) r && eqb (getD c 1 0) p))) _ a e in
     ap loadKey (sym (u .1))
 
-loads-rise : (l : Language) (fs : List Field) (w : Table) (n : ℕ) → From entryKey n l → loadsIn l fs ≡ some w → From loadKey n w
+pub loads-rise : (l : Language) (fs : List Field) (w : Table) (n : ℕ) → From entryKey n l → loadsIn l fs ≡ some w → From loadKey n w
 unfolding loadsIn entryKey
 loads-rise [] [] w n f e = rw (← some-inj e) tt
 loads-rise [] (g ∷ fs) w n f e = none-some e
