@@ -36,7 +36,6 @@ use Rattle.score.proofs.form.leaf_at.Reads as leaf-at-reads
 use Rattle.score.proofs.form.+form_at+form_node.{statement}
 use Rattle.score.proofs.form.+form_at+form_node.Tie.{close}
 
-
 abbrev μ-form-at : Measures 4 form-at-kinds.ps ℕ
 μ-form-at κs a = 2 * a .1 .1 .1 .1 .1 .1 .1 .1 .0
 
@@ -55,7 +54,6 @@ form-node-at t = and 4 form-node-kinds.ps (is 4 form-node-kinds.ps μ-form-node 
 abbrev form-node-below : ℕ → In 4 form-node-kinds.ps
 form-node-below t =
     and 4 form-node-kinds.ps (falls 4 form-node-kinds.ps _<_ μ-form-node t) form-node.Pre
-
 
 abbrev form-at-calls : ℕ → form-at-lts.Claims
 form-at-calls t = (is-leaf-reads.Asked, is-leaf-reads.Learnt, leaf-at-reads.Asked, leaf-at-reads.Learnt, leaf-length-reads.Asked, leaf-length-reads.Learnt, sign-length-reads.Asked, sign-length-reads.Learnt, to-usize-reads.Asked, to-usize-reads.Learnt, place-at-reads.Asked, place-at-reads.Learnt, name-length-reads.Asked, name-length-reads.Learnt, form-node-below t, form-node.Post)
