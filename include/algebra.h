@@ -1,4 +1,5 @@
-/* The C interface of the library algebra: three checks, reduce, run and block.
+/* The C interface of the library algebra: three checks, reduce, run, score,
+ * join_table and block.
  *
  * Each function returns the number of the answer: ALGEBRA_ACCEPTED, or the number of a
  * refusal (enum algebra_answer). Figures of the answer, such as a length, are stored through
@@ -94,6 +95,10 @@ enum algebra_answer {
     ALGEBRA_TOO_DEEP = 16,
     /* the result is longer than the output */
     ALGEBRA_OUTPUT_TOO_SHORT = 17,
+    /* the load table is broken, out of order, lacks a production or has one too many */
+    ALGEBRA_BROKEN_TABLE = 18,
+    /* a node's score lies outside -1,000,000,000 to 1,000,000,000 */
+    ALGEBRA_SCORE_OUT_OF_RANGE = 19,
     /* a path number is 0, or there is no such argument */
     ALGEBRA_NO_BLOCK = 21
 };
@@ -127,6 +132,20 @@ uint32_t algebra_run(const uint8_t *translation, size_t translation_length,
                      const uint8_t *tree, size_t tree_length,
                      uint8_t *output, size_t output_length,
                      uint64_t *length);
+
+/* Scores a tree by a load table of the language: 0 to 4, 14 to 16, 18, 19. */
+uint32_t algebra_score(const uint8_t *language, size_t language_length,
+                       uint32_t root,
+                       const uint8_t *tree, size_t tree_length,
+                       const uint8_t *table, size_t table_length,
+                       int64_t *score);
+
+/* Joins a load table of the target onto a translation, which gives a load table of the source:
+ * 0 to 7, 11, 17, 18. It has fewer than 2 * ALGEBRA_LANGUAGE_BYTES bytes. */
+uint32_t algebra_join_table(const uint8_t *translation, size_t translation_length,
+                            const uint8_t *table, size_t table_length,
+                            uint8_t *output, size_t output_length,
+                            uint64_t *length);
 
 /* Looks up the block of a tree at a path of argument numbers, one byte each, from 1: 0 to 4, 14
  * to 16, 21. The block is the part of the tree from start on with that length, a legal tree of

@@ -4,11 +4,12 @@
  *   ask language FILE                          ask translation FILE
  *   ask tree LANGUAGE ROOT TREE                ask reduce PACK [WORKSPACE-BYTES [OUTPUT-BYTES]]
  *   ask run TRANSLATION ROOT TREE [OUTPUT-BYTES]
+ *   ask score LANGUAGE ROOT TREE TABLE         ask join TRANSLATION TABLE
  *   ask block LANGUAGE ROOT TREE PATH
  *   ask bytes FILE                             writes the bytes themselves
  *
- * Prints `accepted LENGTH`, the bytes of a result on a second line, and kind and start of a block on a third; or
- * `refused NUMBER`. */
+ * Prints `accepted LENGTH` (or a score), the bytes of a result on a second line, and kind and start of a block on a
+ * third; or `refused NUMBER`. */
 #include "algebra.h"
 #include <stdio.h>
 #include <stdlib.h>
@@ -124,6 +125,30 @@ static void run(char **words)
     answer(number, length, result);
 }
 
+/* Scores a tree. */
+static void score(char **words)
+{
+    struct bytes language = load(words[0]), tree = load(words[2]), table = load(words[3]);
+    int64_t score;
+    uint32_t number = algebra_score(language.at, language.length, (uint32_t)number_or(words[1], 0), tree.at, tree.length,
+                                    table.at, table.length, &score);
+    if (number == ALGEBRA_ACCEPTED)
+        printf("accepted %ld\n", (long)score);
+    else
+        answer(number, 0, NULL);
+}
+
+/* Joins a load table onto a translation. */
+static void join(char **words)
+{
+    struct bytes translation = load(words[0]), table = load(words[1]);
+    uint8_t *result = room_for(LONGEST);
+    uint64_t length;
+    uint32_t number = algebra_join_table(translation.at, translation.length, table.at, table.length, result, LONGEST,
+                                         &length);
+    answer(number, length, result);
+}
+
 /* Looks up a block. */
 static void block(char **words)
 {
@@ -137,34 +162,51 @@ static void block(char **words)
         printf("kind %u, start %u\n", (unsigned)kind, (unsigned)start);
 }
 
-/* Checks a language, a translation or a tree. */
-static void check(const char *verb, char **words)
+/* Checks a language. */
+static void language(char **words)
 {
-    struct bytes file = load(words[0]), tree = { NULL, 0 };
-    if (strcmp(verb, "tree") == 0)
-        tree = load(words[2]);
-    if (strcmp(verb, "language") == 0)
-        answer(algebra_check_language(file.at, file.length), 0, NULL);
-    else if (strcmp(verb, "translation") == 0)
-        answer(algebra_check_translation(file.at, file.length), 0, NULL);
-    else
-        answer(algebra_check_tree(file.at, file.length, (uint32_t)number_or(words[1], 0), tree.at, tree.length), 0, NULL);
+    struct bytes file = load(words[0]);
+    answer(algebra_check_language(file.at, file.length), 0, NULL);
+}
+
+/* Checks a translation. */
+static void translation(char **words)
+{
+    struct bytes file = load(words[0]);
+    answer(algebra_check_translation(file.at, file.length), 0, NULL);
+}
+
+/* Checks a tree. */
+static void tree(char **words)
+{
+    struct bytes language = load(words[0]), tree = load(words[2]);
+    uint32_t root = (uint32_t)number_or(words[1], 0);
+    answer(algebra_check_tree(language.at, language.length, root, tree.at, tree.length), 0, NULL);
 }
 
 /* Writes the bytes of a file of text. */
-static void write_bytes(const char *name)
+static void write_bytes(char **words)
 {
-    struct bytes bytes = load(name);
+    struct bytes bytes = load(words[0]);
     fwrite(bytes.at, 1, bytes.length, stdout);
 }
 
-/* How many words each verb needs at least, and takes at most. */
+/* What each verb asks, and how many words it needs at least and takes at most. */
 static const struct {
     const char *verb;
+    void (*ask)(char **words);
     int least, most;
-} verbs[] = { { "language", 1, 1 }, { "translation", 1, 1 }, { "tree", 3, 3 },
-              { "reduce", 1, 3 },   { "run", 3, 4 },         { "block", 4, 4 },
-              { "bytes", 1, 1 } };
+} verbs[] = {
+    { "language", language, 1, 1 },
+    { "translation", translation, 1, 1 },
+    { "tree", tree, 3, 3 },
+    { "reduce", reduce, 1, 3 },
+    { "run", run, 3, 4 },
+    { "score", score, 4, 4 },
+    { "join", join, 2, 2 },
+    { "block", block, 4, 4 },
+    { "bytes", write_bytes, 1, 1 },
+};
 
 int main(int count, char **words)
 {
@@ -174,15 +216,6 @@ int main(int count, char **words)
         i++;
     if (i == all || count - 2 < verbs[i].least || count - 2 > verbs[i].most)
         give_up("no such question", verb);
-    if (strcmp(verb, "reduce") == 0)
-        reduce(words + 2);
-    else if (strcmp(verb, "run") == 0)
-        run(words + 2);
-    else if (strcmp(verb, "block") == 0)
-        block(words + 2);
-    else if (strcmp(verb, "bytes") == 0)
-        write_bytes(words[2]);
-    else
-        check(verb, words + 2);
+    verbs[i].ask(words + 2);
     return ferror(stdout) || fflush(stdout) != 0 ? 2 : 0;
 }

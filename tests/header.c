@@ -13,6 +13,7 @@ static const uint8_t translation[] = { 0x20, 0, 5, 0x12, 0, 2, 1, 0, 0x21, 0, 5,
                                        0x22, 0, 2, 1, 1, 0x23, 0, 4, 1, 0, 1, 0 };
 static const uint8_t pack[] = { 0x30, 0, 5, 0x12, 0, 2, 1, 0, 0x32, 0, 3, 0x55, 0x40, 0 };
 static const uint8_t tree[] = { 0 };
+static const uint8_t table[] = { 0x24, 0, 4, 1, 0, 0xFF, 0xF9 };
 static const uint8_t elsewhere[] = { MARK };
 
 static uint8_t workspace[WORKSPACE], output[OUTPUT], no_bytes[] = { MARK };
@@ -58,6 +59,26 @@ static uint32_t run(const uint8_t *t, size_t t_length, const uint8_t *n, size_t 
     uint64_t length = UINT64_MAX;
     uint32_t number = algebra_run(t, t_length, 1, n, n_length, o, o_length, &length);
     count("the length of a run", length == (number == 0 ? sizeof tree : 0));
+    return number;
+}
+
+/* Scores a tree of the tree's root kind; a refusal must store 0. */
+static uint32_t score(const uint8_t *l, size_t l_length, const uint8_t *t, size_t t_length,
+                      const uint8_t *b, size_t b_length)
+{
+    int64_t score = INT64_MIN;
+    uint32_t number = algebra_score(l, l_length, 1, t, t_length, b, b_length, &score);
+    count("the score", score == (number == 0 ? -7 : 0));
+    return number;
+}
+
+/* Joins a load table; a refusal must store length 0. */
+static uint32_t join(const uint8_t *t, size_t t_length, const uint8_t *b, size_t b_length,
+                     uint8_t *o, size_t o_length)
+{
+    uint64_t length = UINT64_MAX;
+    uint32_t number = algebra_join_table(t, t_length, b, b_length, o, o_length, &length);
+    count("the length of a joined table", length == (number == 0 ? sizeof table : 0));
     return number;
 }
 
@@ -116,6 +137,34 @@ static void runs(void)
     same("run, all", 2, run(NULL, 0, NULL, 0, NULL, 0),
          run(elsewhere, 0, elsewhere, 0, no_bytes, 0));
     count("run", run(translation, sizeof translation, tree, sizeof tree, output, OUTPUT) == 0);
+}
+
+/* Scores. */
+static void scores(void)
+{
+    same("score, language", 18, score(NULL, 0, tree, sizeof tree, table, sizeof table),
+         score(elsewhere, 0, tree, sizeof tree, table, sizeof table));
+    same("score, tree", 15, score(language, sizeof language, NULL, 0, table, sizeof table),
+         score(language, sizeof language, elsewhere, 0, table, sizeof table));
+    same("score, table", 18, score(language, sizeof language, tree, sizeof tree, NULL, 0),
+         score(language, sizeof language, tree, sizeof tree, elsewhere, 0));
+    same("score, all", 14, score(NULL, 0, NULL, 0, NULL, 0), score(elsewhere, 0, elsewhere, 0, elsewhere, 0));
+    gives("score", ALGEBRA_ACCEPTED, score(language, sizeof language, tree, sizeof tree, table, sizeof table));
+}
+
+/* Joined load tables. */
+static void joins(void)
+{
+    same("join_table, translation", 2, join(NULL, 0, table, sizeof table, output, OUTPUT),
+         join(elsewhere, 0, table, sizeof table, output, OUTPUT));
+    same("join_table, table", 18, join(translation, sizeof translation, NULL, 0, output, OUTPUT),
+         join(translation, sizeof translation, elsewhere, 0, output, OUTPUT));
+    same("join_table, output", 17, join(translation, sizeof translation, table, sizeof table, NULL, 0),
+         join(translation, sizeof translation, table, sizeof table, no_bytes, 0));
+    same("join_table, all", 2, join(NULL, 0, NULL, 0, NULL, 0), join(elsewhere, 0, elsewhere, 0, no_bytes, 0));
+    gives("join_table", ALGEBRA_ACCEPTED,
+          join(translation, sizeof translation, table, sizeof table, output, OUTPUT));
+    count("joined table", memcmp(output, table, sizeof table) == 0);
 }
 
 /* Lookups of blocks. */
@@ -257,6 +306,8 @@ int main(void)
     checks();
     reductions();
     runs();
+    scores();
+    joins();
     blocks();
     lengths();
     rooms();

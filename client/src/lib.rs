@@ -1,9 +1,11 @@
 //! Session languages and their translations: safe functions over the static library `algebra`.
 //!
 //! Three checks, [`check_language`], [`check_translation`] and [`check_tree`], one operation that
-//! [reduces](reduce) a pack to a translation, one that [runs](run) a translation on a tree, and one
-//! that looks up a [block] of a tree. Each is accepted or gives a [`Refusal`]. What a call answers depends on its arguments alone;
-//! any number of threads may call at the same time.
+//! [reduces](reduce) a pack to a translation, one that [runs](run) a translation on a tree, one that
+//! [scores](score()) a tree by a load table and one that [joins](join_table) such a table onto a
+//! translation, and one that looks up a [block](block()) of a tree. Each is accepted or gives a
+//! [`Refusal`]. What a call answers depends on its arguments alone; any number of threads may call at
+//! the same time.
 //!
 //! # The strap
 //!
@@ -59,13 +61,15 @@ mod block;
 mod limits;
 pub mod raw;
 mod refusal;
+mod score;
 
 pub use block::{block, Block};
 pub use limits::{
-    CODE_LEVELS, LANGUAGE_BYTES, PACK_BYTES, STACK_BYTES, TERM_LEVELS, TRANSLATION_BYTES,
-    TREE_LEVELS, WORKSPACE_BYTES,
+    CODE_LEVELS, LANGUAGE_BYTES, PACK_BYTES, STACK_BYTES, TABLE_BYTES, TERM_LEVELS,
+    TRANSLATION_BYTES, TREE_LEVELS, WORKSPACE_BYTES,
 };
 pub use refusal::{Refusal, UnknownNumber};
+pub use score::{join_table, join_table_to_vec, score};
 
 /// The first output that [`run_to_vec`] tries has at least this many bytes.
 const FIRST_OUTPUT: usize = 4096;

@@ -4,6 +4,9 @@
 pub const LANGUAGE_BYTES: usize = 1024;
 /// A translation has at most this many bytes.
 pub const TRANSLATION_BYTES: usize = 4096;
+/// The load table of a language has fewer bytes: the line of a production is shorter than twice the
+/// production.
+pub const TABLE_BYTES: usize = 2 * LANGUAGE_BYTES;
 /// A pack has at most this many bytes.
 pub const PACK_BYTES: usize = 32_768;
 /// A tree that is handed in has at most this many levels; a token is none.

@@ -7,8 +7,10 @@
 #![allow(unsafe_code)]
 
 mod block;
+mod score;
 
 pub use block::{block, BlockAnswer};
+pub use score::{join_table, score, ScoreAnswer};
 
 extern "C" {
     fn algebra_check_language(language: *const u8, length: usize) -> u32;

@@ -59,6 +59,8 @@ refusals! {
     15 IllegalTree "the tree is not legal"
     16 TooDeep "the tree has more than 64 levels"
     17 OutputTooShort "the result is longer than the output"
+    18 BrokenTable "the load table is broken, out of order, lacks a production or has one too many"
+    19 ScoreOutOfRange "a node's score lies outside -1,000,000,000 to 1,000,000,000"
     21 NoBlock "a path number is 0, or there is no such argument"
 }
 

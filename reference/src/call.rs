@@ -1,8 +1,9 @@
 //! A call of one of the operations, by the reference or by the library.
 
-use crate::generate::{BlockCase, ReduceCase, RunCase, TreeCase};
+use crate::generate::{BlockCase, JoinTableCase, ReduceCase, RunCase, ScoreCase, TreeCase};
 use crate::outcome::Outcome;
-use crate::{block, check_language, check_translation, check_tree, reduce, run, Block};
+use crate::{block, check_language, check_translation, check_tree, join_table};
+use crate::{reduce, run, score, Block, Score};
 #[cfg(feature = "library")]
 use algebra::raw as library;
 
@@ -14,6 +15,8 @@ pub enum Call {
     CheckTree(TreeCase),
     Reduce(ReduceCase),
     Run(RunCase),
+    Score(ScoreCase),
+    JoinTable(JoinTableCase),
     Block(BlockCase),
 }
 
@@ -25,13 +28,14 @@ pub struct Buffers {
 }
 
 /// What a call answered: the number and the length, and figures that are 0 where the operation
-/// has none: start and kind of a block.
+/// has none: start and kind of a block, and the score.
 #[derive(Clone, Copy, Debug, Default, PartialEq, Eq)]
 pub struct Answer {
     pub number: u32,
     pub length: u64,
     pub start: u64,
     pub kind: u32,
+    pub score: i64,
 }
 
 /// Lent buffers hold these bytes at the start.
@@ -42,6 +46,12 @@ impl From<Outcome> for Answer {
     fn from(outcome: Outcome) -> Answer {
         let (number, length) = (outcome.number(), outcome.length());
         Answer { number, length, ..Answer::default() }
+    }
+}
+
+impl From<Score> for Answer {
+    fn from(score: Score) -> Answer {
+        Answer { score: score.score, ..score.outcome.into() }
     }
 }
 
@@ -60,6 +70,8 @@ impl Call {
             Call::CheckTree(_) => "check_tree",
             Call::Reduce(_) => "reduce",
             Call::Run(_) => "run",
+            Call::Score(_) => "score",
+            Call::JoinTable(_) => "join_table",
             Call::Block(_) => "block",
         }
     }
@@ -69,6 +81,7 @@ impl Call {
         let (workspace, output) = match self {
             Call::Reduce(case) => (case.workspace, case.output),
             Call::Run(case) => (0, case.output),
+            Call::JoinTable(case) => (0, case.output),
             _ => (0, 0),
         };
         Buffers { workspace: vec![WORKSPACE_MARK; workspace], output: vec![OUTPUT_MARK; output] }
@@ -83,6 +96,8 @@ impl Call {
             Call::CheckTree(case) => check_tree(&case.language, case.root, &case.tree).into(),
             Call::Reduce(case) => reduce(&case.pack, workspace, output).into(),
             Call::Run(case) => run(&case.translation, case.root, &case.tree, output).into(),
+            Call::Score(case) => score(&case.language, case.root, &case.tree, &case.table).into(),
+            Call::JoinTable(case) => join_table(&case.translation, &case.table, output).into(),
             Call::Block(case) => block(&case.language, case.root, &case.tree, &case.path).into(),
         }
     }
@@ -101,6 +116,12 @@ impl Call {
             Call::Reduce(case) => library::reduce(&case.pack, workspace, output).into(),
             Call::Run(case) => {
                 library::run(&case.translation, case.root, &case.tree, output).into()
+            }
+            Call::Score(case) => {
+                library::score(&case.language, case.root, &case.tree, &case.table).into()
+            }
+            Call::JoinTable(case) => {
+                library::join_table(&case.translation, &case.table, output).into()
             }
             Call::Block(case) => {
                 library::block(&case.language, case.root, &case.tree, &case.path).into()
@@ -121,6 +142,14 @@ impl From<library::Answer> for Answer {
 impl From<library::BlockAnswer> for Answer {
     fn from(answer: library::BlockAnswer) -> Answer {
         let library::BlockAnswer { number, start, length, kind } = answer;
-        Answer { number, length, start, kind }
+        Answer { number, length, start, kind, ..Answer::default() }
+    }
+}
+
+#[cfg(feature = "library")]
+impl From<library::ScoreAnswer> for Answer {
+    fn from(answer: library::ScoreAnswer) -> Answer {
+        let library::ScoreAnswer { number, score } = answer;
+        Answer { number, score, ..Answer::default() }
     }
 }

@@ -2,8 +2,8 @@
 //! strap W with a wider class, and what reduces and runs from them.
 
 use crate::call::{Answer, Buffers, Call, WORKSPACE_MARK};
-use crate::files::{class, clause, mapping, pack, production, stepped_class, translation};
-use crate::generate::{BlockCase, ReduceCase, RunCase, TreeCase};
+use crate::files::{class, clause, load, mapping, pack, production, stepped_class, translation};
+use crate::generate::{BlockCase, JoinTableCase, ReduceCase, RunCase, ScoreCase, TreeCase};
 use crate::reduce::{OUTPUT_LEAST, WORKSPACE_LEAST};
 
 /// A call with the answer and the bytes that it must give.
@@ -291,7 +291,7 @@ fn blocks() -> Vec<Example> {
     };
     let at = |path: &[u8]| looked_up(&[2, 1, 0, 5, 3, 0, 3], path);
     let found = |what, path, start, length, kind| {
-        answered(what, at(path), Answer { number: 0, length, start, kind })
+        answered(what, at(path), Answer { length, start, kind, ..Answer::default() })
     };
     vec![
         found("the whole sequence", &[], 0, 7, 1),
@@ -305,10 +305,38 @@ fn blocks() -> Vec<Example> {
     ]
 }
 
+/// A load table of C: rowing counts twice, a rest takes away.
+pub fn loads() -> Vec<u8> {
+    [load(1, 1, 0, &[2]), load(1, 2, 0, &[1, 1]), load(1, 3, 0, &[-1])].concat()
+}
+
+/// Scores of sessions of C, and its table joined onto the sum.
+fn scores() -> Vec<Example> {
+    let by = |tree: &[u8], table: Vec<u8>| {
+        let (language, tree) = (language_c(), tree.to_vec());
+        Call::Score(ScoreCase { language, root: 1, tree, table })
+    };
+    let scored = |what, tree, score| {
+        answered(what, by(tree, loads()), Answer { score, ..Answer::default() })
+    };
+    let join = |table, output| Call::JoinTable(JoinTableCase { translation: sum(), table, output });
+    let joined = [loads(), load(1, 4, 0, &[2])].concat();
+    vec![
+        scored("a row of 5 and a rest of 3", &[2, 1, 0, 5, 3, 0, 3], 7),
+        scored("a rest of 3", &[3, 0, 3], -3),
+        scored("a row of 5 and a rest of 10", &[2, 1, 0, 5, 3, 0, 10], 0),
+        refused("no table", by(&[3, 0, 3], vec![]), 18),
+        refused("a byte left over", by(&[3, 0, 3, 0], loads()), 15),
+        accepted("the table joined onto the sum", join(loads(), joined.len()), &joined),
+        refused("one byte short", join(loads(), joined.len() - 1), 17),
+        refused("a table of the source", join(joined.clone(), 99), 18),
+    ]
+}
+
 /// All examples.
 pub fn examples() -> Vec<Example> {
     let first = [reductions(), accepted_runs(), refused_runs(), wider_strap(), rates(), checks()];
-    [first.concat(), blocks()].concat()
+    [first.concat(), scores(), blocks()].concat()
 }
 
 impl Example {

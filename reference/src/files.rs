@@ -32,6 +32,13 @@ pub fn clause(result: u8, name: u8, code: &[u8]) -> Vec<u8> {
     field(0x23, &[&[result, name], code].concat())
 }
 
+/// A field 24.
+pub fn load(result: u8, name: u8, constant: i16, factors: &[i16]) -> Vec<u8> {
+    let figures = [&[constant], factors].concat();
+    let figures: Vec<u8> = figures.into_iter().flat_map(i16::to_be_bytes).collect();
+    field(0x24, &[&[result, name], &figures[..]].concat())
+}
+
 /// A translation from its parts.
 pub fn translation(source: &[u8], target: &[u8], body: &[u8]) -> Vec<u8> {
     [field(0x20, source), field(0x21, target), body.to_vec()].concat()

@@ -1,7 +1,7 @@
 //! Languages, translations and a reducer over bytes: a reference on decoded structures.
 //!
-//! The operations are `check_language`, `check_translation`, `check_tree`, `reduce`, `run` and
-//! `block`. Each answers with an `Outcome`: accepted with a length, or refused.
+//! The operations are `check_language`, `check_translation`, `check_tree`, `reduce`, `run`, `score`,
+//! `join_table` and `block`. Each answers with an `Outcome`: accepted with a length, or refused.
 #![deny(unsafe_code)]
 
 mod block;
@@ -17,6 +17,7 @@ mod outcome;
 mod pack;
 mod reduce;
 mod run;
+mod score;
 mod term;
 mod translation;
 mod tree;
@@ -37,5 +38,6 @@ pub use language::check_language;
 pub use outcome::{Outcome, Refusal};
 pub use reduce::reduce;
 pub use run::run;
+pub use score::{join_table, score, Score};
 pub use translation::check_translation;
 pub use tree::check_tree;

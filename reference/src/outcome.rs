@@ -38,6 +38,10 @@ pub enum Refusal {
     Depth = 16,
     /// The result is longer than the output.
     Output = 17,
+    /// A load table is broken or out of order, or its lines are not those of the language.
+    Table = 18,
+    /// The score of some node is out of range.
+    Score = 19,
     /// A path number is 0, or there is no such argument.
     Path = 21,
 }

@@ -4,11 +4,13 @@
 use crate::body::MAPPING_TAG;
 use crate::code::Symbol;
 use crate::explain::{
-    self, language_entry, pack_parts, read_term, translation_pieces, Fault, Piece, Sign, Spot,
+    self, language_entry, pack_parts, read_term, table_spots, translation_pieces, Fault, Piece,
+    Sign, Spot,
 };
 use crate::field::two_bytes;
 use crate::grammar::Grammar;
 use crate::language::{Language, CLASS_TAG, LANGUAGE_LIMIT, PRODUCTION_TAG};
+use crate::score::signed;
 
 /// Lines, each indented by its depth.
 #[derive(Default)]
@@ -115,6 +117,24 @@ pub fn translation(bytes: &[u8]) -> Result<String, Fault> {
     Ok(lines.text)
 }
 
+/// A load table in words.
+pub fn table(bytes: &[u8]) -> Result<String, Fault> {
+    let piece = Piece::whole("table", bytes);
+    let spots = table_spots(&piece)?;
+    let mut lines = Lines::default();
+    lines.title(0, "table", bytes.len());
+    spots.iter().for_each(|spot| lines.add(1, &load(spot)));
+    Ok(lines.text)
+}
+
+/// The line of a field of a load table.
+fn load(spot: &Spot) -> String {
+    let figures: Vec<String> =
+        spot.contents[2..].chunks_exact(2).map(|two| signed(two).to_string()).collect();
+    let (constant, factors) = (&figures[0], figures[1..].join(" "));
+    format!("{}: constant {constant}, factors ({factors})", spot.name())
+}
+
 /// A pack in words.
 pub fn pack(bytes: &[u8]) -> Result<String, Fault> {
     let parts = pack_parts(bytes)?;
@@ -185,7 +205,7 @@ impl Reader<'_> {
 mod tests {
     use super::*;
     use crate::examples::{language_c, pack_with_sum, sum};
-    use crate::files::{clause, mapping, pack as packed, stepped_class};
+    use crate::files::{clause, load as load_line, mapping, pack as packed, stepped_class};
     use crate::generate::{reduce_case, translation_file, tree_case, Random};
 
     /// So many cases are generated.
@@ -197,6 +217,16 @@ mod tests {
         let expected = "language, 20 bytes\n  class 3: 100 to 200 in steps of 5\n  \
                         class 4: 1 to 9 in steps of 1\n";
         assert_eq!(language(&file).as_deref(), Ok(expected));
+    }
+
+    #[test]
+    fn a_load_table_is_shown_with_signs() {
+        let file =
+            [load_line(1, 1, -3, &[2]), load_line(1, 2, 0, &[]), load_line(2, 0, 7, &[1, -1])];
+        let expected = "table, 27 bytes\n  line of 1.1: constant -3, factors (2)\n  \
+                        line of 1.2: constant 0, factors ()\n  line of 2.0: constant 7, factors (1 -1)\n";
+        assert_eq!(table(&file.concat()).as_deref(), Ok(expected));
+        assert_eq!(table(&[0x24, 0, 3, 1, 1, 0]).map_err(|fault| fault.reason as u32), Err(18));
     }
 
     #[test]

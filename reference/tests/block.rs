@@ -68,7 +68,7 @@ fn numbers_that_no_argument_has() {
 #[test]
 fn a_token_as_the_whole_tree() {
     let token = |path: &[u8]| answer(&language(), 2, &[0, 5], path);
-    assert_eq!(token(&[]), Answer { number: 0, length: 2, start: 0, kind: 2 });
+    assert_eq!(token(&[]), Answer { length: 2, kind: 2, ..Answer::default() });
     for path in [&[0][..], &[1], &[2]] {
         assert_eq!(token(path), Answer { number: 21, ..Answer::default() });
     }
@@ -112,7 +112,7 @@ fn eight_arguments() {
     let tree = [8, 0, 0, 0, 0, 0, 0, 0, 0];
     for number in 1..=8 {
         let start = u64::from(number);
-        let expected = Answer { number: 0, length: 1, start, kind: 1 };
+        let expected = Answer { length: 1, start, kind: 1, ..Answer::default() };
         assert_eq!(answer(&language, 1, &tree, &[number]), expected);
     }
     assert_eq!(answer(&language, 1, &tree, &[9]).number, 21);
@@ -139,7 +139,7 @@ fn expected(language: &[u8], root: u32, tree: &[u8], path: &[u8]) -> Answer {
         None => Answer { number: 21, ..Answer::default() },
         Some((start, found)) => {
             let (length, kind) = (found.bytes().len() as u64, u32::from(found.kind()));
-            Answer { number: 0, length, start: start as u64, kind }
+            Answer { length, start: start as u64, kind, ..Answer::default() }
         }
     }
 }

@@ -3,13 +3,15 @@
 
 mod build;
 
-use build::{class, clause, field, mapping, pack, production, translation};
+use build::{class, clause, field, load, mapping, pack, production, translation};
 use reference::explain::{self, Fault};
 use reference::generate::{
-    block_case, language_file, long_run_case, reduce_case, run_case, translation_file, tree_case,
-    Random,
+    block_case, join_table_case, language_file, long_run_case, reduce_case, run_case, score_case,
+    translation_file, tree_case, Random,
 };
-use reference::{block, check_language, check_translation, check_tree, reduce, run, Outcome};
+use reference::{
+    block, check_language, check_translation, check_tree, join_table, reduce, run, score, Outcome,
+};
 
 /// So many cases of each operation are generated.
 const CASES: u64 = 4000;
@@ -103,6 +105,26 @@ fn long_runs() {
 }
 
 #[test]
+fn scores() {
+    compare_all(2 * CASES, &[0, 1, 2, 3, 4, 14, 15, 16, 18, 19], |random, case| {
+        let input = score_case(random);
+        let (language, root, tree, table) =
+            (&input.language, input.root, &input.tree, &input.table);
+        let outcome = score(language, root, tree, table).outcome;
+        compare(case, outcome, explain::score(language, root, tree, table))
+    });
+}
+
+#[test]
+fn joined_tables() {
+    compare_all(2 * CASES, &[0, 1, 2, 3, 4, 5, 6, 7, 11, 17, 18], |random, case| {
+        let input = join_table_case(random);
+        let outcome = join_table(&input.translation, &input.table, &mut vec![0; input.output]);
+        compare(case, outcome, explain::join_table(&input.translation, &input.table, input.output))
+    });
+}
+
+#[test]
 fn blocks() {
     compare_all(CASES, &[0, 1, 2, 3, 4, 14, 15, 16, 21], |random, case| {
         let input = block_case(random);
@@ -124,6 +146,41 @@ fn the_place_in_a_tree_is_a_path() {
     let expected = "where: byte 9 of the tree, path 2.2.1\n\
                     fault: the token 256 is not in class 2: 1 to 240";
     assert_eq!(found, expected);
+}
+
+#[test]
+fn the_place_of_a_score_is_a_path() {
+    let language = [class(2, 1, 240), production(1, 1, &[2]), production(1, 2, &[1, 1])].concat();
+    let table = [load(1, 1, 0, &[32_767]), load(1, 2, 0, &[200, 1])].concat();
+    let found = text(explain::score(&language, 1, &[2, 1, 0, 1, 2, 1, 0, 200, 1, 0, 1], &table));
+    let expected =
+        "where: byte 4 of the tree, path 2\nfault: production 1.2 scores 1310712767 here";
+    assert_eq!(found, expected);
+}
+
+#[test]
+fn the_place_in_a_joined_table_is_in_a_code() {
+    let language = production(1, 1, &[1]);
+    let body = [mapping(1, 1), clause(1, 1, &[1, 1, 1, 1, 3, 1])].concat();
+    let translation = translation(&language, &language, &body);
+    let found = text(explain::join_table(&translation, &load(1, 1, 0, &[200]), 100));
+    let expected = "where: byte 28 of the translation, body, clause 1.1, byte 0 of its code\n\
+                    fault: the factor of argument 1 comes to 40000 here, which does not fit two bytes";
+    assert_eq!(found, expected);
+}
+
+#[test]
+fn the_place_in_a_table_is_a_line() {
+    let language = [production(1, 1, &[]), production(1, 2, &[1])].concat();
+    let found = |table: &[u8]| text(explain::score(&language, 1, &[1], table));
+    let expected = "where: byte 7 of the table\nfault: production 1.2 has no line";
+    assert_eq!(found(&load(1, 1, 0, &[])), expected);
+    let expected = "where: byte 0 of the table, line of 1.2\n\
+                    fault: the line of production 1.1 is due here";
+    assert_eq!(found(&[load(1, 2, 0, &[1]), load(1, 1, 0, &[])].concat()), expected);
+    let expected = "where: byte 7 of the table, line of 1.2\n\
+                    fault: production 1.2 has 1 arguments, and a line of length 6, not 4";
+    assert_eq!(found(&[load(1, 1, 0, &[]), load(1, 2, 0, &[])].concat()), expected);
 }
 
 #[test]

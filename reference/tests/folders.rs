@@ -1,8 +1,8 @@
 //! The folders of examples, on the reference: packs, what they reduce to, their listings, the runs of
-//! trees, and blocks.
+//! trees, joined load tables and scores, and blocks.
 
 use reference::listing::listing;
-use reference::{block, reduce, run};
+use reference::{block, join_table, reduce, run, score};
 use std::fs;
 use std::path::{Path, PathBuf};
 
@@ -116,5 +116,61 @@ fn paths_lead_to_the_blocks_beside_them() {
     for source in sources {
         let beside = source.with_extension("").with_extension("block");
         assert_eq!(block_at(&source), text(&beside), "{}", source.display());
+    }
+}
+
+/// The language of a load table and the pack that it is joined onto, by the first line of its source.
+fn table_of(source: &Path) -> (PathBuf, PathBuf) {
+    let text = text(source);
+    let line = text.lines().next().and_then(|line| line.strip_prefix("# Load table of "));
+    let words = line.and_then(|line| line.strip_suffix('.'));
+    let words = words.and_then(|words| words.split_once(", joined onto "));
+    let (language, pack) = words.expect("the first line names a language and a pack");
+    (source.with_file_name(language), source.with_file_name(pack))
+}
+
+/// A load table joined onto the pack that its source names.
+fn joined(source: &Path) -> Vec<u8> {
+    let (_, pack) = table_of(source);
+    let mut output = vec![0; OUTPUT];
+    let outcome = join_table(&reduced(&pack), &bytes(&source.with_extension("")), &mut output);
+    assert_eq!(outcome.number(), 0, "{}", source.display());
+    output.truncate(outcome.length() as usize);
+    output
+}
+
+#[test]
+fn tables_are_joined_as_the_files_beside_them() {
+    let sources = files(".table.hex");
+    assert!(!sources.is_empty());
+    for source in sources {
+        let beside = source.with_extension("").with_extension("joined");
+        assert_eq!(accepted(&joined(&source)), text(&beside), "{}", source.display());
+    }
+}
+
+/// The scores of a tree by the joined table, and of its run by the table, as its file has them.
+fn scores(source: &Path) -> String {
+    let text = text(source);
+    let line = text.lines().find_map(|line| line.strip_prefix("# Scored in "));
+    let words = line.and_then(|line| line.strip_suffix('.')?.split_once(" by "));
+    let (language, table) = words.expect("a line names a language and a table");
+    let table = source.with_file_name(format!("{table}.hex"));
+    let (tree, (pack, root)) = (bytes(&source.with_extension("")), run_by(source));
+    let first = score(&bytes(&source.with_file_name(language)), root, &tree, &joined(&table));
+    let mut output = vec![0; OUTPUT];
+    let length = run(&reduced(&pack), root, &tree, &mut output).length() as usize;
+    let (target, by) = (bytes(&table_of(&table).0), bytes(&table.with_extension("")));
+    let second = score(&target, root, &output[..length], &by);
+    assert_eq!((first.outcome.number(), second.outcome.number()), (0, 0));
+    format!("joined: accepted {}\nafter the run: accepted {}\n", first.score, second.score)
+}
+
+#[test]
+fn trees_score_as_the_files_beside_them() {
+    let found = files(".score");
+    assert!(!found.is_empty());
+    for path in found {
+        assert_eq!(scores(&path.with_extension("tree.hex")), text(&path), "{}", path.display());
     }
 }

@@ -12,6 +12,8 @@ pub enum Verb {
     CheckTree,
     Reduce,
     Run,
+    Score,
+    JoinTable,
     Block,
     List,
     Show,
@@ -20,12 +22,14 @@ pub enum Verb {
 }
 
 /// The verbs with their names.
-pub const VERBS: [(&str, Verb); 10] = [
+pub const VERBS: [(&str, Verb); 12] = [
     ("check-language", Verb::CheckLanguage),
     ("check-translation", Verb::CheckTranslation),
     ("check-tree", Verb::CheckTree),
     ("reduce", Verb::Reduce),
     ("run", Verb::Run),
+    ("score", Verb::Score),
+    ("join-table", Verb::JoinTable),
     ("block", Verb::Block),
     ("list", Verb::List),
     ("show", Verb::Show),
@@ -42,6 +46,7 @@ pub enum Sort {
     Language,
     Translation,
     Pack,
+    Table,
 }
 
 /// The options of a call.
@@ -90,7 +95,8 @@ impl Verb {
     /// The numbers of operands that the verb takes.
     fn operand_counts(self) -> &'static [usize] {
         match self {
-            Verb::Block => &[4],
+            Verb::Score | Verb::Block => &[4],
+            Verb::JoinTable => &[2],
             Verb::CheckTree | Verb::Run | Verb::Steps => &[3],
             Verb::Show => &[1, 3],
             _ => &[1],
@@ -107,11 +113,16 @@ impl Verb {
         !matches!(self, Verb::List | Verb::Show | Verb::Explain | Verb::Steps)
     }
 
+    /// Whether the verb is an operation that is lent an output.
+    fn has_output(self) -> bool {
+        matches!(self, Verb::Reduce | Verb::Run | Verb::JoinTable)
+    }
+
     /// Whether the verb takes an option.
     fn takes(self, option: &str) -> bool {
         match option {
-            "-o" => matches!(self, Verb::Reduce | Verb::Run | Verb::Block),
-            "--limit" => matches!(self, Verb::Reduce | Verb::Run | Verb::Explain | Verb::Steps),
+            "-o" => self.has_output() || self == Verb::Block,
+            "--limit" => self.has_output() || matches!(self, Verb::Explain | Verb::Steps),
             "--as" => matches!(self, Verb::Run | Verb::Show | Verb::Explain),
             _ => true,
         }
@@ -206,6 +217,7 @@ pub fn path(verb: Verb, text: &OsStr) -> Result<Vec<u8>, Failure> {
 fn sort(verb: Verb, text: &OsStr) -> Result<Sort, Failure> {
     match text.to_str() {
         Some("language") if verb == Verb::Show => Ok(Sort::Language),
+        Some("table") if verb == Verb::Show => Ok(Sort::Table),
         Some("translation") => Ok(Sort::Translation),
         Some("pack") => Ok(Sort::Pack),
         _ => Err(misuse(Some(verb), &format!("a file cannot be taken as {}", text.display()))),
@@ -305,6 +317,7 @@ mod tests {
         assert_eq!(wrong("list a -o b"), "list does not take -o");
         assert_eq!(wrong("run a 1 b -o"), "a value must follow -o");
         assert_eq!(wrong("run a 1 b --as language"), "a file cannot be taken as language");
+        assert_eq!(wrong("run a 1 b --as table"), "a file cannot be taken as table");
         assert_eq!(wrong("check-tree - 1 -"), "the standard input can be only one of the files");
         assert_eq!(
             wrong("run a 1 b --limit -1"),

@@ -7,6 +7,8 @@ use algebra::Block;
 pub enum Given {
     /// A result in bytes; a check has none.
     Bytes(Vec<u8>),
+    /// A score.
+    Score(i64),
     /// A block of a tree.
     Block { kind: u32, start: usize, bytes: Vec<u8> },
 }
@@ -19,15 +21,18 @@ impl From<Block<'_>> for Given {
 }
 
 impl Given {
-    /// The figure of the first line: the length of the result.
-    pub fn figure(&self) -> usize {
-        self.bytes().len()
+    /// The figure of the first line: a score, or the length of the result.
+    pub fn figure(&self) -> i64 {
+        match self {
+            Given::Score(score) => *score,
+            _ => self.bytes().len() as i64,
+        }
     }
 
     /// The lines between the first one and the result.
     pub fn figures(&self) -> String {
         match self {
-            Given::Bytes(_) => String::new(),
+            Given::Bytes(_) | Given::Score(_) => String::new(),
             Given::Block { kind, start, .. } => format!("kind {kind}, start {start}\n"),
         }
     }
@@ -49,6 +54,7 @@ impl Given {
     pub fn bytes(&self) -> &[u8] {
         match self {
             Given::Bytes(bytes) | Given::Block { bytes, .. } => bytes,
+            Given::Score(_) => &[],
         }
     }
 }

@@ -17,9 +17,9 @@ A file is given by its name, or as - for the standard input. Options of every ve
   --help     tell more about the verb
   --version  tell the version of the command
 
-The first line is 'accepted' with the length of the result, or 'refused' with a number and a
-sentence. The status is 0 for accepted, 1 for refused, and 2 if there is no answer: wrong
-arguments, a file that cannot be read or written.
+The first line is 'accepted' with the length of the result (or a score), or 'refused' with a
+number and a sentence. The status is 0 for accepted, 1 for refused, and 2 if there is no answer:
+wrong arguments, a file that cannot be read or written.
 ";
 
 /// How a verb is used, in a line.
@@ -30,6 +30,8 @@ fn synopsis(verb: Verb) -> &'static str {
         Verb::CheckTree => "LANGUAGE ROOT TREE",
         Verb::Reduce => "PACK [-o FILE] [--limit BYTES]",
         Verb::Run => "TRANSLATION-OR-PACK ROOT TREE [-o FILE] [--limit BYTES] [--as SORT]",
+        Verb::Score => "LANGUAGE ROOT TREE TABLE",
+        Verb::JoinTable => "TRANSLATION TABLE [-o FILE] [--limit BYTES]",
         Verb::Block => "LANGUAGE ROOT TREE PATH [-o FILE]",
         Verb::List => "PACK",
         Verb::Show => "FILE [--as SORT] | LANGUAGE ROOT TREE",
@@ -46,9 +48,11 @@ fn summary(verb: Verb) -> &'static str {
         Verb::CheckTree => "Check a tree of a root kind",
         Verb::Reduce => "Reduce a pack to one translation",
         Verb::Run => "Run a translation, or what a pack reduces to, on a tree",
+        Verb::Score => "Score a tree by a load table",
+        Verb::JoinTable => "Join a load table onto a translation",
         Verb::Block => "Look up one block of a tree",
         Verb::List => "List the clauses of what a pack reduces to",
-        Verb::Show => "Show a language, a translation, a pack or a tree in words",
+        Verb::Show => "Show a language, a translation, a pack, a load table or a tree in words",
         Verb::Explain => "Tell where the fault is that an operation refuses",
         Verb::Steps => "Show a join's runs in turn beside the run of the join",
     }
@@ -82,6 +86,26 @@ a kind. The result is printed in hexadecimal digits below the first line.
 Refusals: 1 to 7, 14 to 17; of a pack also 8 to 13.
 "
         }
+        Verb::Score => {
+            "\
+ROOT is the number of a kind, and TABLE a load table of the language. A token scores its value, a
+production its constant plus each factor times that argument's score. The first line is
+'accepted' with the score, which may be negative.
+Refusals: 1 to 4, 14 to 16, 18, 19.
+"
+        }
+        Verb::JoinTable => {
+            "\
+TABLE is a load table of the translation's target. The joined table is one of its source: where it
+scores a tree, and TABLE the tree's run, both scores are equal. It is printed in hexadecimal
+digits below the first line.
+  -o FILE        write it to the file instead, as bytes, or as text with --hex. The file is
+                 written whole or not at all. With - the table alone goes to the standard
+                 output, and the first line to the standard error.
+  --limit BYTES  lend an output of that many bytes; without it, 2048, which always suffices
+Refusals: 1 to 7, 11, 17, 18.
+"
+        }
         Verb::Block => {
             "\
 ROOT is the number of a kind. PATH leads from the root to the block: argument numbers, from 1,
@@ -103,16 +127,18 @@ each clause its result, name and code; or 'refused' and the number.
         Verb::Show => {
             "\
 Prints a line for each entry. What the file is, its first byte tells. A file is shown whether
-or not it is accepted, unless it is refused with 1 or 2; a tree is shown if it is legal.
-  --as SORT      take the file as a 'language', a 'translation' or a 'pack'
+or not it is accepted, unless it is refused with 1 or 2; a load table is shown if it has whole
+fields 24 only, and a tree if it is legal.
+  --as SORT      take the file as a 'language', a 'translation', a 'pack' or a 'table'
 "
         }
         Verb::Explain => {
             "\
-VERB is one of check-language, check-translation, check-tree, reduce, run and block, with its
-operands. Below the first line stands where the fault is (the byte, counted from 0, the field, the
-clause, the path of argument numbers in a tree, the operand in a term) and what it is. These lines
-come from a second implementation; if it does not come to the same number, that is said.
+VERB is one of check-language, check-translation, check-tree, reduce, run, score, join-table and
+block, with its operands. Below the first line stands where the fault is (the byte, counted from 0,
+the field, the clause, the path of argument numbers in a tree, the operand in a term) and what it
+is. These lines come from a second implementation; if it does not come to the same number, that is
+said.
   --limit BYTES  explain the call with an output of that many bytes
   --as SORT      for run: take the first file as a 'translation' or a 'pack'
 "

@@ -1,11 +1,14 @@
 //! An operation of the library with its inputs: what the library answers, and where the second
 //! implementation finds the fault.
 
-use crate::arguments::{misuse, number, path, Call, Sort, Verb, PATH_PLACE};
+use crate::arguments::{misuse, number, Call, Sort, Verb};
 use crate::given::Given;
 use crate::input::read_file;
+use crate::tree_job::TreeJob;
 use crate::{Failure, Streams};
-use algebra::{Refusal, LANGUAGE_BYTES, PACK_BYTES, TRANSLATION_BYTES, WORKSPACE_BYTES};
+use algebra::{
+    Refusal, LANGUAGE_BYTES, PACK_BYTES, TABLE_BYTES, TRANSLATION_BYTES, WORKSPACE_BYTES,
+};
 use reference::explain::{self, Fault};
 
 /// The length of the output of a run, unless the arguments give one.
@@ -17,10 +20,10 @@ const TREE_BYTES: usize = usize::MAX - 1;
 pub enum Job {
     CheckLanguage(Vec<u8>),
     CheckTranslation(Vec<u8>),
-    CheckTree { language: Vec<u8>, root: u32, tree: Vec<u8> },
     Reduce { pack: Vec<u8>, limit: usize },
     Run(Run),
-    Block { language: Vec<u8>, root: u32, tree: Vec<u8>, path: Vec<u8> },
+    JoinTable { translation: Vec<u8>, table: Vec<u8>, limit: usize },
+    OnTree(TreeJob),
 }
 
 /// The inputs of a run.
@@ -42,6 +45,7 @@ pub fn sort_of(file: &[u8]) -> Option<Sort> {
     match file.first() {
         None | Some(0x11 | 0x12) => Some(Sort::Language),
         Some(0x20..=0x23) => Some(Sort::Translation),
+        Some(0x24) => Some(Sort::Table),
         Some(0x30..=0x32) => Some(Sort::Pack),
         Some(_) => None,
     }
@@ -82,30 +86,32 @@ impl Job {
             Verb::CheckTranslation => {
                 operand(call, 0, TRANSLATION_BYTES, streams).map(Job::CheckTranslation)
             }
-            Verb::CheckTree => {
-                let (root, language) = (root(call)?, operand(call, 0, LANGUAGE_BYTES, streams)?);
-                Ok(Job::CheckTree { language, root, tree: tree(call, streams)? })
-            }
             Verb::Reduce | Verb::List => {
                 let pack = operand(call, 0, PACK_BYTES, streams)?;
                 Ok(Job::Reduce { pack, limit: call.options.limit.unwrap_or(TRANSLATION_BYTES) })
             }
             Verb::Run => Run::load(call, streams).map(Job::Run),
-            Verb::Block => {
-                let path = path(call.verb, &call.operands[PATH_PLACE])?;
-                let (root, language) = (root(call)?, operand(call, 0, LANGUAGE_BYTES, streams)?);
-                Ok(Job::Block { language, root, tree: tree(call, streams)?, path })
+            Verb::JoinTable => Job::load_join(call, streams),
+            Verb::CheckTree | Verb::Score | Verb::Block => {
+                TreeJob::load(verb, call, streams).map(Job::OnTree)
             }
             _ => Err(misuse(Some(verb), "this is no operation")),
         }
     }
 
+    /// Reads the inputs of a load table's join.
+    fn load_join(call: &Call, streams: &mut Streams) -> Result<Job, Failure> {
+        let translation = operand(call, 0, TRANSLATION_BYTES, streams)?;
+        let table = operand(call, 1, TABLE_BYTES, streams)?;
+        let limit = call.options.limit.unwrap_or(TABLE_BYTES);
+        Ok(Job::JoinTable { translation, table, limit })
+    }
+
     /// The length of the tree, if there is one.
     pub fn tree_length(&self) -> usize {
         match self {
-            Job::CheckTree { tree, .. } | Job::Run(Run { tree, .. }) | Job::Block { tree, .. } => {
-                tree.len()
-            }
+            Job::Run(run) => run.tree.len(),
+            Job::OnTree(job) => job.length(),
             _ => 0,
         }
     }
@@ -116,14 +122,12 @@ impl Job {
         match self {
             Job::CheckLanguage(file) => algebra::check_language(file).map(nothing),
             Job::CheckTranslation(file) => algebra::check_translation(file).map(nothing),
-            Job::CheckTree { language, root, tree } => {
-                algebra::check_tree(language, *root, tree).map(nothing)
-            }
             Job::Reduce { pack, limit } => reduced(pack, *limit).map(Given::Bytes),
             Job::Run(run) => run.answer().map(Given::Bytes),
-            Job::Block { language, root, tree, path } => {
-                algebra::block(language, *root, tree, path).map(Given::from)
+            Job::JoinTable { translation, table, limit } => {
+                joined(translation, table, *limit).map(Given::Bytes)
             }
+            Job::OnTree(job) => job.answer(),
         }
     }
 
@@ -132,12 +136,12 @@ impl Job {
         match self {
             Job::CheckLanguage(file) => explain::language(file),
             Job::CheckTranslation(file) => explain::translation(file),
-            Job::CheckTree { language, root, tree } => explain::tree(language, *root, tree),
             Job::Reduce { pack, limit } => explain::reduce(pack, WORKSPACE_BYTES, *limit),
             Job::Run(run) => run.fault(),
-            Job::Block { language, root, tree, path } => {
-                explain::block(language, *root, tree, path)
+            Job::JoinTable { translation, table, limit } => {
+                explain::join_table(translation, table, *limit)
             }
+            Job::OnTree(job) => job.fault(),
         }
     }
 }
@@ -146,6 +150,14 @@ impl Job {
 fn reduced(pack: &[u8], limit: usize) -> Result<Vec<u8>, Refusal> {
     let mut output = vec![0; limit.min(TRANSLATION_BYTES)];
     let length = algebra::reduce(pack, &mut output)?;
+    output.truncate(length);
+    Ok(output)
+}
+
+/// Joins a load table onto a translation, into an output of so many bytes.
+fn joined(translation: &[u8], table: &[u8], limit: usize) -> Result<Vec<u8>, Refusal> {
+    let mut output = vec![0; limit.min(TABLE_BYTES)];
+    let length = algebra::join_table(translation, table, &mut output)?;
     output.truncate(length);
     Ok(output)
 }

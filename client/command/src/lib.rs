@@ -9,6 +9,7 @@ mod input;
 mod job;
 mod output;
 mod steps;
+mod tree_job;
 mod verbs;
 mod work;
 

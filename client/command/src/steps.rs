@@ -66,7 +66,7 @@ pub fn steps(call: &Call, streams: &mut Streams) -> Result<Printed, Failure> {
 fn both_routes(pack: &[u8], start: Rooted, limit: usize) -> Printed {
     let translation = match algebra::reduce_to_vec(pack) {
         Ok(translation) => translation,
-        Err(refusal) => return printed(Err(refusal), "the pack is refused\n"),
+        Err(refusal) => return printed(Err::<usize, _>(refusal), "the pack is refused\n"),
     };
     let steps = reference::steps::steps(pack).unwrap_or_default();
     let joined = run(&translation, &start, limit);

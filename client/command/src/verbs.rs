@@ -11,6 +11,7 @@ use algebra::{Refusal, LANGUAGE_BYTES, PACK_BYTES};
 use reference::explain::Fault;
 use reference::listing::clause_lines;
 use reference::show;
+use std::fmt::Display;
 
 /// Carries out a call.
 pub fn carry_out(call: &Call, streams: &mut Streams) -> Result<Printed, Failure> {
@@ -24,22 +25,22 @@ pub fn carry_out(call: &Call, streams: &mut Streams) -> Result<Printed, Failure>
 }
 
 /// The first line of an answer, without its end.
-pub fn answer_line(answer: Result<usize, Refusal>) -> String {
+pub fn answer_line(answer: Result<impl Display, Refusal>) -> String {
     match answer {
-        Ok(length) => format!("accepted {length}"),
+        Ok(figure) => format!("accepted {figure}"),
         Err(refusal) => format!("refused {}: {refusal}", refusal.number()),
     }
 }
 
 /// What is printed for an answer: its first line and others.
-pub fn printed(answer: Result<usize, Refusal>, lines: &str) -> Printed {
+pub fn printed(answer: Result<impl Display, Refusal>, lines: &str) -> Printed {
     let status = if answer.is_ok() { ACCEPTED } else { REFUSED };
     let output = format!("{}\n{lines}", answer_line(answer)).into_bytes();
     Printed { output, messages: String::new(), status }
 }
 
 /// The figure of an answer's first line.
-fn figure(answer: &Result<Given, Refusal>) -> Result<usize, Refusal> {
+fn figure(answer: &Result<Given, Refusal>) -> Result<i64, Refusal> {
     answer.as_ref().map(Given::figure).map_err(|refusal| *refusal)
 }
 
@@ -107,6 +108,7 @@ fn show_file(call: &Call, streams: &mut Streams) -> Result<Printed, Failure> {
         Sort::Language => show::language(&file),
         Sort::Translation => show::translation(&file),
         Sort::Pack => show::pack(&file),
+        Sort::Table => show::table(&file),
     };
     work(0, streams, task).map(shown)
 }
@@ -115,7 +117,7 @@ fn show_file(call: &Call, streams: &mut Streams) -> Result<Printed, Failure> {
 fn shown(text: Result<String, Fault>) -> Printed {
     match text {
         Ok(text) => Printed { output: text.into(), messages: String::new(), status: ACCEPTED },
-        Err(fault) => printed(Err(refusal_of(&fault)), &format!("{fault}\n")),
+        Err(fault) => printed(Err::<usize, _>(refusal_of(&fault)), &format!("{fault}\n")),
     }
 }
 

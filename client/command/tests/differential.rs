@@ -4,10 +4,11 @@
 use algebra::{Block, Refusal, TRANSLATION_BYTES};
 use algebra_command::{command, Streams, ACCEPTED, REFUSED};
 use reference::generate::{
-    block_case, language_file, law_pack, long_run_case, pack_with_term, reduce_case, run_case,
-    source_tree, translation_file, tree_case, Random,
+    block_case, join_table_case, language_file, law_pack, long_run_case, pack_with_term,
+    reduce_case, run_case, score_case, source_tree, translation_file, tree_case, Random,
 };
 use std::ffi::OsString;
+use std::fmt::Display;
 use std::fs;
 use std::path::PathBuf;
 
@@ -163,9 +164,14 @@ impl Printed {
     }
 
     /// Compares the first line, the status and the messages with an answer of the library.
-    fn compare<T>(&self, case: u64, answer: &Result<T, Refusal>, length: impl Fn(&T) -> usize) {
+    fn compare<T, F: Display>(
+        &self,
+        case: u64,
+        answer: &Result<T, Refusal>,
+        figure: impl Fn(&T) -> F,
+    ) {
         let (line, status) = match answer {
-            Ok(result) => (format!("accepted {}", length(result)), ACCEPTED),
+            Ok(result) => (format!("accepted {}", figure(result)), ACCEPTED),
             Err(refusal) => (format!("refused {}: {refusal}", refusal.number()), REFUSED),
         };
         assert_eq!(self.messages, "", "case {case}");
@@ -192,13 +198,13 @@ fn compare_check(
 
 /// Calls an explanation. It has the library's first line, and no note, since the second
 /// implementation answers with the same number.
-fn compare_explanation(
+fn compare_explanation<F: Copy + Display>(
     folder: &Folder,
     case: u64,
     verb: &str,
     operands: &[Operand],
     options: &[String],
-    answer: Result<usize, Refusal>,
+    answer: Result<F, Refusal>,
     expected: u32,
 ) {
     let printed = folder.call(&mut Random::new(case), &["explain", verb], operands, options);
@@ -334,6 +340,45 @@ fn run() {
         let input = long_run_case(&mut Random::new(case)).case;
         let (root, room) = (input.root, input.output);
         compare_run(&folder, case, &input.translation, root, &input.tree, room);
+    }
+}
+
+/// The options that lend an output of so many bytes.
+fn limit_options(room: usize) -> Vec<String> {
+    vec!["--limit".to_string(), room.to_string()]
+}
+
+#[test]
+fn score() {
+    let folder = Folder::new("score");
+    for case in 0..CASES {
+        let input = score_case(&mut Random::new(case));
+        let (language, root, tree, table) =
+            (&input.language, input.root, &input.tree, &input.table);
+        let operands = [File(language), Root(root), File(tree), File(table)];
+        let answer = algebra::score(language, root, tree, table);
+        let random = &mut Random::new(case);
+        let printed = folder.call(random, &["score"], &operands, &[]);
+        printed.compare(case, &answer, |score| *score);
+        assert_eq!(printed.text().lines().count(), 1, "case {case}");
+        let second = reference::score(language, root, tree, table).outcome.number();
+        compare_explanation(&folder, case, "score", &operands, &[], answer, second);
+    }
+}
+
+#[test]
+fn join_table() {
+    let folder = Folder::new("join");
+    for case in 0..CASES {
+        let input = join_table_case(&mut Random::new(case));
+        let (translation, table, room) = (&input.translation, &input.table, input.output);
+        let operands = [File(translation), File(table)];
+        let (mut output, options) = (vec![0; room], limit_options(room));
+        let answer = algebra::join_table(translation, table, &mut output);
+        let result = answer.map(|length| &output[..length]);
+        compare_result(&folder, case, "join-table", &operands, &options, result);
+        let second = reference::join_table(translation, table, &mut vec![0; room]).number();
+        compare_explanation(&folder, case, "join-table", &operands, &options, answer, second);
     }
 }
 

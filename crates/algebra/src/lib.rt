@@ -7,6 +7,8 @@ ghost use Rattle.translation.specs.Operations.{checkTranslation, runTree};
 ghost use Rattle.reducer.specs.Operations as Reducing;
 ghost use Rattle.block.specs.Operations.{showBlock};
 ghost use Rattle.block.specs.Parts.{Told};
+ghost use Rattle.score.specs.Operations.{scoreTree};
+ghost use Rattle.loads.specs.Joined.{joinTable};
 use block::show::place;
 use checks::translations::check_translation;
 use checks::trees::check_tree;
@@ -14,8 +16,10 @@ use fields::outcome::Answer;
 use fields::outcome::length_of;
 use fields::outcome::number;
 use language::check::check_language;
+use loads::join::join_table;
 use reducer::reduce::reduce;
 use runner::run::run;
+use score::score::score;
 
 // The number of an answer.
 fn number_of(answer: Answer) -> u32
@@ -89,6 +93,41 @@ pub extern "C" fn algebra_reduce(
         × (now (workspace .exit) ≡ Reducing.reduce (now (pack .entry)) (now (workspace .entry)) (now (output .entry)) .workspace) ⌝ }
 {
     let answer = reduce(pack, workspace, output);
+    hand_over(answer, length)
+}
+
+// Score a tree of the root kind by a load table of the language; the score is put into `points`.
+#[no_mangle]
+pub extern "C" fn algebra_score(
+    language: &[u8],
+    root: u32,
+    tree: &[u8],
+    table: &[u8],
+    points: &mut i64,
+) -> u32
+    ensures { λ r. ⌜ (r ≡ numberOf (scoreTree (now (language .entry)) root (now (tree .entry)) (now (table .entry)) .outcome))
+        × (now (points .exit) ≡ scoreTree (now (language .entry)) root (now (tree .entry)) (now (table .entry)) .score) ⌝ }
+{
+    let scored = score(language, root, tree, table);
+    let z = scored.score;
+    *points = z;
+    let outcome = scored.outcome;
+    number(outcome)
+}
+
+// Join a load table onto a translation; the length of the joined table is put into `length`.
+#[no_mangle]
+pub extern "C" fn algebra_join_table(
+    translation: &[u8],
+    table: &[u8],
+    output: &mut [u8],
+    length: &mut u64,
+) -> u32
+    ensures { λ r. ⌜ (r ≡ numberOf (joinTable (now (translation .entry)) (now (table .entry)) (now (output .entry)) .outcome))
+        × (now (length .exit) ≡ lengthOf (joinTable (now (translation .entry)) (now (table .entry)) (now (output .entry)) .outcome))
+        × (now (output .exit) ≡ joinTable (now (translation .entry)) (now (table .entry)) (now (output .entry)) .output) ⌝ }
+{
+    let answer = join_table(translation, table, output);
     hand_over(answer, length)
 }
 

@@ -2,7 +2,7 @@
 ghost use mathlib.Core.Path.{_≡_};
 ghost use Rattle.fields.specs.Outcome.{numberOf, lengthOf, reasonNumber};
 
-// Why an operation refuses: 1 to 17, then 21, in this order.
+// Why an operation refuses: 1 to 19, then 21, in this order.
 pub enum Reason {
     TooLong,
     BrokenField,
@@ -21,6 +21,8 @@ pub enum Reason {
     IllegalTree,
     TooDeep,
     OutputTooShort,
+    BrokenTable,
+    ScoreOutOfRange,
     NoBlock,
 }
 
@@ -75,6 +77,8 @@ fn reason_number(reason: Reason) -> u32
         Reason::IllegalTree => 15,
         Reason::TooDeep => 16,
         Reason::OutputTooShort => 17,
+        Reason::BrokenTable => 18,
+        Reason::ScoreOutOfRange => 19,
         Reason::NoBlock => 21,
     }
 }

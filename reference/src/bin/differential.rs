@@ -9,6 +9,8 @@
 mod block;
 #[path = "differential/figures.rs"]
 mod figures;
+#[path = "differential/score.rs"]
+mod score;
 
 use algebra::raw as library;
 use reference::generate::{
@@ -92,6 +94,18 @@ const OPERATIONS: &[Operation] = &[
         possible: &[0, 1, 2, 3, 4, 5, 6, 7, 8, 9, 10, 11, 12, 13],
         label: answer_label,
         find: |random| compare_reduce(random).finding(),
+    },
+    Operation {
+        name: "score",
+        possible: &[0, 1, 2, 3, 4, 14, 15, 16, 18, 19],
+        label: answer_label,
+        find: score::find_score,
+    },
+    Operation {
+        name: "join_table",
+        possible: &[0, 1, 2, 3, 4, 5, 6, 7, 11, 17, 18],
+        label: answer_label,
+        find: |random| score::compare_join(random).finding(),
     },
     Operation {
         name: "block",

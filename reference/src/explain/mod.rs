@@ -8,6 +8,8 @@ mod differences;
 mod language;
 mod pack;
 mod piece;
+mod score;
+mod table;
 mod term;
 mod translation;
 mod tree;
@@ -19,6 +21,7 @@ use std::fmt;
 pub(crate) use language::language_entry;
 pub(crate) use pack::pack_parts;
 pub(crate) use piece::{Piece, Spot};
+pub(crate) use table::table_spots;
 pub(crate) use term::{read_term, Sign};
 pub(crate) use translation::translation_pieces;
 
@@ -69,6 +72,17 @@ pub fn reduce(pack: &[u8], workspace: usize, output: usize) -> Option<Fault> {
 /// Looks for a fault of a translation, a root and a tree, and of the output's length.
 pub fn run(translation: &[u8], root: u32, tree: &[u8], output: usize) -> Option<Fault> {
     tree::check_run(translation, root, tree, output).err()
+}
+
+/// Looks for a fault of a language, a load table, a root and a tree, and of the scores in it.
+pub fn score(language: &[u8], root: u32, tree: &[u8], table: &[u8]) -> Option<Fault> {
+    score::check(language, root, tree, table).err()
+}
+
+/// Looks for a fault of a translation and a load table of its target, of the joined table, and of
+/// the length of an output for it.
+pub fn join_table(translation: &[u8], table: &[u8], output: usize) -> Option<Fault> {
+    score::check_join(translation, table, output).err()
 }
 
 /// Looks for a fault of a language, a root, a tree and a path.

@@ -5,6 +5,7 @@ use crate::body::{CLAUSE_TAG, MAPPING_TAG};
 use crate::field::{two_bytes, HEADER};
 use crate::language::{CLASS_TAG, PRODUCTION_TAG};
 use crate::outcome::Refusal;
+use crate::score::TABLE_TAG;
 
 /// A run of bytes of an input, where it starts, and what it is.
 #[derive(Clone)]
@@ -32,17 +33,19 @@ impl Spot<'_> {
         self.at + HEADER
     }
 
-    /// The key by which the fields of a language or a body rise: the tag, then its number.
+    /// The key by which the fields of a language, a body or a table rise: the tag, then its number.
     pub fn key(&self) -> (u8, u16) {
         let number = match (self.tag, self.contents) {
-            (PRODUCTION_TAG | CLAUSE_TAG, [result, name, ..]) => two_bytes(*result, *name),
+            (PRODUCTION_TAG | CLAUSE_TAG | TABLE_TAG, [result, name, ..]) => {
+                two_bytes(*result, *name)
+            }
             (_, [kind, ..]) => u16::from(*kind),
             _ => 0,
         };
         (self.tag, number)
     }
 
-    /// What the field of a language or a body is called.
+    /// What the field of a language, a body or a table is called.
     pub fn name(&self) -> String {
         let [high, low] = self.key().1.to_be_bytes();
         match self.tag {
@@ -50,6 +53,7 @@ impl Spot<'_> {
             PRODUCTION_TAG => format!("production {high}.{low}"),
             MAPPING_TAG => format!("mapping of kind {low}"),
             CLAUSE_TAG => format!("clause {high}.{low}"),
+            TABLE_TAG => format!("line of {high}.{low}"),
             tag => format!("field {tag:02X}"),
         }
     }

@@ -42,8 +42,17 @@ pub fn check_run(bytes: &[u8], root: u32, tree: &[u8], output: usize) -> Result<
     }
 }
 
+/// What the node at a path is called.
+pub fn place_name(path: &[usize]) -> String {
+    let numbers: Vec<String> = path.iter().map(usize::to_string).collect();
+    match numbers.is_empty() {
+        true => "the root".to_string(),
+        false => format!("path {}", numbers.join(".")),
+    }
+}
+
 /// Looks for a fault of the root and the tree; gives the root as a kind.
-fn check_rooted(language: &Language, name: &str, root: u32, tree: &[u8]) -> Result<u8, Fault> {
+pub fn check_rooted(language: &Language, name: &str, root: u32, tree: &[u8]) -> Result<u8, Fault> {
     let unknown = |reason| {
         let what = format!("kind {root} is not in the {name}");
         Piece::whole("root", &[]).fault_somewhere(reason, what)
@@ -112,11 +121,6 @@ impl Reader<'_> {
 
     /// A fault at the node that is read.
     fn fault(&self, reason: Refusal, what: String) -> Result<(), Fault> {
-        let path: Vec<String> = self.path.iter().map(usize::to_string).collect();
-        let path = match path.is_empty() {
-            true => "the root".to_string(),
-            false => format!("path {}", path.join(".")),
-        };
-        Err(self.piece.named(path).fault(reason, self.at, what))
+        Err(self.piece.named(place_name(&self.path)).fault(reason, self.at, what))
     }
 }

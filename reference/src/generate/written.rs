@@ -65,7 +65,8 @@ pub fn full_with_steps(random: &mut Random, bytes: usize, steps: usize) -> (Lang
 mod tests {
     use super::*;
     use crate::call::Call;
-    use crate::generate::{block_case, reduce_case, run_case, translation_file, tree_case};
+    use crate::generate::{block_case, join_table_case, score_case};
+    use crate::generate::{reduce_case, run_case, translation_file, tree_case};
     use crate::pack::PACK_LIMIT;
     use crate::translation::TRANSLATION_LIMIT;
 
@@ -77,6 +78,8 @@ mod tests {
             Call::CheckTranslation(file) => write_steps_within(random, file),
             Call::Run(case) => write_steps_within(random, &mut case.translation),
             Call::Reduce(case) => write_steps_within(random, &mut case.pack),
+            Call::Score(case) => write_steps(random, 80, &mut case.language),
+            Call::JoinTable(case) => write_steps_within(random, &mut case.translation),
             Call::Block(case) => write_steps(random, 80, &mut case.language),
         }
     }
@@ -87,7 +90,8 @@ mod tests {
             Call::CheckTranslation(file) => file.len() <= TRANSLATION_LIMIT,
             Call::Run(case) => case.translation.len() <= TRANSLATION_LIMIT,
             Call::Reduce(case) => case.pack.len() <= PACK_LIMIT,
-            Call::CheckLanguage(_) | Call::CheckTree(_) | Call::Block(_) => true,
+            Call::JoinTable(case) => case.translation.len() <= TRANSLATION_LIMIT,
+            _ => true,
         }
     }
 
@@ -112,11 +116,13 @@ mod tests {
 
     #[test]
     fn written_steps_of_1_change_no_answer() {
-        let makers: [fn(&mut Random) -> Call; 5] = [
+        let makers: [fn(&mut Random) -> Call; 7] = [
             |random| Call::CheckTree(tree_case(random)),
             |random| Call::CheckTranslation(translation_file(random)),
             |random| Call::Run(run_case(random)),
             |random| Call::Reduce(reduce_case(random)),
+            |random| Call::Score(score_case(random)),
+            |random| Call::JoinTable(join_table_case(random)),
             |random| Call::Block(block_case(random)),
         ];
         for make in makers {

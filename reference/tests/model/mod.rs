@@ -1,5 +1,5 @@
-//! Languages and trees decoded in the plainest way, for definitions that the reference is compared
-//! with. Only what has been accepted is decoded.
+//! Languages, trees and translations decoded in the plainest way, for definitions that the reference
+//! is compared with. Only what has been accepted is decoded.
 #![allow(dead_code)]
 
 use std::collections::BTreeMap;
@@ -91,5 +91,61 @@ impl Tree {
                 [vec![*name], arguments.iter().flat_map(Tree::bytes).collect()].concat()
             }
         }
+    }
+}
+
+/// A decoded code; arguments are numbered from 1.
+#[derive(Clone, Debug, PartialEq, Eq)]
+pub enum Code {
+    Token(u16),
+    Argument(usize),
+    Production { kind: u8, name: u8, arguments: Vec<Code> },
+}
+
+/// A decoded translation, with the bytes of its languages.
+pub struct Translation {
+    pub source: Grammar,
+    pub target: Grammar,
+    pub source_bytes: Vec<u8>,
+    pub target_bytes: Vec<u8>,
+    pub mapping: BTreeMap<u8, u8>,
+    pub clauses: BTreeMap<(u8, u8), Code>,
+}
+
+impl Grammar {
+    /// Decodes the first code of a kind, and gives the bytes behind it.
+    fn split_code<'a>(&self, kind: u8, code: &'a [u8]) -> (Code, &'a [u8]) {
+        match code {
+            [2, high, low, rest @ ..] => (Code::Token(u16::from_be_bytes([*high, *low])), rest),
+            [3, number, rest @ ..] => (Code::Argument(usize::from(*number)), rest),
+            _ => {
+                let (name, mut rest) = (code[1], &code[2..]);
+                let mut arguments = Vec::new();
+                for &kind in &self.productions[&(kind, name)] {
+                    let (argument, behind) = self.split_code(kind, rest);
+                    arguments.push(argument);
+                    rest = behind;
+                }
+                (Code::Production { kind, name, arguments }, rest)
+            }
+        }
+    }
+}
+
+impl Translation {
+    /// Decodes a translation.
+    pub fn new(translation: &[u8]) -> Translation {
+        let fields = fields(translation);
+        let (source_bytes, target_bytes) = (fields[0].1.to_vec(), fields[1].1.to_vec());
+        let (source, target) = (Grammar::new(&source_bytes), Grammar::new(&target_bytes));
+        let body = &fields[2..];
+        let mappings = body.iter().filter(|(tag, _)| *tag == 0x22);
+        let mapping: BTreeMap<u8, u8> = mappings.map(|(_, kinds)| (kinds[0], kinds[1])).collect();
+        let clauses = body.iter().filter(|(tag, _)| *tag == 0x23).map(|(_, contents)| {
+            let (code, _) = target.split_code(mapping[&contents[0]], &contents[2..]);
+            ((contents[0], contents[1]), code)
+        });
+        let clauses = clauses.collect();
+        Translation { source, target, source_bytes, target_bytes, mapping, clauses }
     }
 }

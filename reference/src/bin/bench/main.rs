@@ -9,6 +9,7 @@ mod block;
 mod clock;
 mod inputs;
 mod measure;
+mod score;
 
 use algebra::raw as library;
 use measure::{compare, growth, Growth, Timing};
@@ -205,5 +206,6 @@ fn main() {
     bench_check_translation();
     run::bench();
     reduce::bench();
+    score::bench();
     block::bench();
 }

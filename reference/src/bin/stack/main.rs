@@ -84,12 +84,12 @@ fn language_cases() -> Vec<Case> {
     built.map(|(name, language)| Case { name, call: Call::CheckLanguage(language) }).collect()
 }
 
-/// Checks of translations with codes of 16 levels.
-fn translation_cases() -> Vec<Case> {
+/// Calls on translations with codes of 16 levels.
+fn translation_cases(call: impl Fn(Vec<u8>) -> Call) -> Vec<Case> {
     let sizes = [Size::Lean, Size::Small, Size::Wide, Size::Long];
     let case = |shape: Shape| {
-        let call = Call::CheckTranslation(shape.translation());
-        Case { name: format!("{shape:?}"), call }
+        let name = format!("{shape:?}");
+        Case { name, call: call(shape.translation()) }
     };
     let shapes: Vec<Shape> = sizes.into_iter().flat_map(shapes).collect();
     let deeper = shapes.iter().filter(|shape| shape.order == Order::Dropped);
@@ -170,7 +170,7 @@ fn first_cases(seed: u64) -> Vec<Vec<Case>> {
     let long = random(LONG_CASES, "long tree", |r| Call::Run(long_run_case(r).case));
     vec![
         language_cases().into_iter().chain(language).collect(),
-        translation_cases().into_iter().chain(translation).collect(),
+        translation_cases(Call::CheckTranslation).into_iter().chain(translation).collect(),
         tree_cases(|_, case| Call::CheckTree(case)).into_iter().chain(tree).collect(),
         reduce_cases().into_iter().chain(reduce).chain(signs).chain(mixed).collect(),
         run_cases().into_iter().chain(run).chain(deep).chain(long).collect(),

@@ -1,9 +1,37 @@
-//! Cases of operations on one tree: lookups of blocks.
+//! Cases of operations on one tree: scores and lookups of blocks; and joins of load tables.
 
 use crate::shapes::{Shape, TREE_LEVELS};
-use crate::{random_cases, tree_cases, Case, LONG_CASES, RANDOM_CASES};
+use crate::{random_cases, translation_cases, tree_cases, Case, LONG_CASES, RANDOM_CASES};
 use reference::call::Call;
-use reference::generate::{block_case, long_tree_case, BlockCase, Random, TreeCase};
+use reference::check_translation;
+use reference::generate::{
+    block_case, join_table_case, long_tree_case, score_case, unit_table, unit_target_table,
+    BlockCase, JoinTableCase, Random, ScoreCase, TreeCase,
+};
+
+/// No joined table is longer.
+const LONGEST_TABLE: usize = 5000;
+
+/// The score of a tree by a table in which every figure is 1.
+fn scored(case: TreeCase) -> Call {
+    let TreeCase { language, root, tree } = case;
+    let table = unit_table(&language);
+    Call::Score(ScoreCase { language, root, tree, table })
+}
+
+/// A join of a table in which every figure is 1, or of none if the translation is refused.
+fn joined(translation: Vec<u8>) -> Call {
+    let accepted = check_translation(&translation).number() == 0;
+    let table = if accepted { unit_target_table(&translation) } else { vec![] };
+    Call::JoinTable(JoinTableCase { translation, table, output: LONGEST_TABLE })
+}
+
+/// Joins of tables onto translations with codes of 16 levels, and random ones.
+fn join_cases(seed: u64) -> Vec<Case> {
+    let random = |random: &mut Random| Call::JoinTable(join_table_case(random));
+    let random = random_cases(seed, RANDOM_CASES, "random", random);
+    translation_cases(joined).into_iter().chain(random).collect()
+}
 
 /// A lookup of a block down to the last level, if the deep argument is the same at each.
 fn deep_block(shape: &Shape, case: TreeCase) -> Call {
@@ -31,11 +59,17 @@ fn cases_of(
 
 /// All cases of each operation.
 pub fn cases(seed: u64) -> Vec<Vec<Case>> {
+    let score = cases_of(
+        seed,
+        |_, case| scored(case),
+        |random| Call::Score(score_case(random)),
+        |random| scored(long_tree_case(random)),
+    );
     let block = cases_of(
         seed,
         deep_block,
         |random| Call::Block(block_case(random)),
         |random| whole_block(long_tree_case(random)),
     );
-    vec![block]
+    vec![score, join_cases(seed), block]
 }

@@ -1,0 +1,6 @@
+pub mod Puts
+pub mod Joins
+pub mod Answering
+pub mod Ring
+pub mod Linear
+pub mod Theorems

@@ -1,0 +1,2 @@
+// Load tables joined onto translations.
+pub mod join;

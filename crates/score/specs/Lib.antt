@@ -1,0 +1,5 @@
+pub mod Figures
+pub mod LoadTable
+pub mod Linear
+pub mod Operations
+pub mod Inner

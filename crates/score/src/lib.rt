@@ -1,0 +1,5 @@
+// Load tables, the linear form of a code, and the score of a tree.
+pub mod figures;
+pub mod form;
+pub mod score;
+pub mod table;
