@@ -2,7 +2,7 @@
 ghost use mathlib.Core.Path.{_≡_};
 ghost use Rattle.fields.specs.Outcome.{numberOf, lengthOf, reasonNumber};
 
-// Why an operation refuses: 1 to 17, in this order.
+// Why an operation refuses: 1 to 17 in this order, then 20.
 pub enum Reason {
     TooLong,
     BrokenField,
@@ -21,6 +21,7 @@ pub enum Reason {
     IllegalTree,
     TooDeep,
     OutputTooShort,
+    NotAnExport,
 }
 
 // An operation accepts, with the length of what it wrote, or refuses.
@@ -74,6 +75,7 @@ fn reason_number(reason: Reason) -> u32
         Reason::IllegalTree => 15,
         Reason::TooDeep => 16,
         Reason::OutputTooShort => 17,
+        Reason::NotAnExport => 20,
     }
 }
 

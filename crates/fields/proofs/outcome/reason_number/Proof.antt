@@ -57,10 +57,14 @@ returns-16 c = ap reasonNumber (sym (c .enum-told16 .given .1))
 returns-17 : tie.Need-returns-17
 returns-17 c = ap reasonNumber (sym (c .enum-told17 .given .1))
 
+returns-18 : tie.Need-returns-18
+returns-18 c = ap reasonNumber (sym (c .enum-told18 .given .1))
+
 pub reason-number-spec : {M : Type 1} → statement M
 reason-number-spec =
     tie.close
     (tie.spec
+    (λ c. search needs)
     (λ c. search needs)
     (λ c. search needs)
     (λ c. search needs)
@@ -94,4 +98,5 @@ reason-number-spec =
     returns-14
     returns-15
     returns-16
-    returns-17)
+    returns-17
+    returns-18)

@@ -1,0 +1,4 @@
+pub mod Text
+pub mod Import
+pub mod Operations
+pub mod Laws

@@ -1,0 +1,1 @@
+// Trees as XML: export and import.
