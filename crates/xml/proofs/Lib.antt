@@ -1,3 +1,4 @@
 pub mod Decimal
 pub mod Round
 pub mod Inverse
+pub mod Puts

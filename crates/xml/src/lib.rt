@@ -1,1 +1,2 @@
 // Trees as XML: export and import.
+pub mod put;
