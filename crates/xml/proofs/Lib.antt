@@ -2,3 +2,5 @@ pub mod Decimal
 pub mod Round
 pub mod Inverse
 pub mod Puts
+pub mod Reading
+pub mod Exports

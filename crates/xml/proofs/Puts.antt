@@ -55,6 +55,16 @@ pub puts-inside : {store : Bool} {v o o′ : List ℕ} {n m : ℕ} {x : Stored} 
 puts-inside {m = m} w e l = omega (arith, w .done m e .fits)
 
 -- One text behind another.
+pub put-then : {store : Bool} (v u o o′ o″ : List ℕ) (n m k : ℕ) → Put store v o o′ n m → Put store u o′ o″ m k → length o′ ≡ length o
+    → Put store (v ++ u) o o″ n k
+put-then v u o o′ o″ n m k a b l =
+    let f : n + length v ≤ length o = omega (arith, a .end, a .fits) in
+    record {
+      end = omega (arith, length-append v u, a .end, b .end);
+      fits = omega (arith, b .fits);
+      bytes = λ s. b .bytes s ∙ (ap (λ (p : List ℕ). spliced p m u) (a .bytes s) ∙ (ap (λ (j : ℕ). spliced (spliced o n v) j u) (a .end) ∙ splice-splice o n v f u));
+    }
+
 module _ {store : Bool} (v o o′ : List ℕ) (n : ℕ) {x : Stored} (w : Puts store v o o′ n x) (u : List ℕ) where
   pub puts-full : x ≡ Full → Puts store (v ++ u) o o′ n Full
   puts-full e = record {
@@ -66,15 +76,7 @@ module _ {store : Bool} (v o o′ : List ℕ) (n : ℕ) {x : Stored} (w : Puts s
   module _ {m : ℕ} (e : x ≡ To m) where
     pub puts-then : {o″ : List ℕ} {y : Stored} → length o′ ≡ length o → Puts store u o′ o″ m y → Puts store (v ++ u) o o″ n y
     puts-then {o″} {y} l z = record {
-      done = λ k q.
-          let a = w .done m e in
-          let b = z .done k q in
-          let f : n + length v ≤ length o = omega (arith, a .end, a .fits) in
-          record {
-            end = omega (arith, length-append v u, a .end, b .end);
-            fits = omega (arith, b .fits);
-            bytes = λ s. b .bytes s ∙ (ap (λ (p : List ℕ). spliced p m u) (a .bytes s) ∙ (ap (λ (j : ℕ). spliced (spliced o n v) j u) (a .end) ∙ splice-splice o n v f u));
-          };
+      done = λ k q. put-then v u o o′ o″ n m k (w .done m e) (z .done k q) l;
       full = λ q. omega (arith, z .full q, w .done m e .end, length-append v u);
       kept = λ q. z .kept q ∙ w .kept q;
     }

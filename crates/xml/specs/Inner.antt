@@ -1,2 +1,3 @@
 -- What the inner contracts cite.
 pub mod Putting
+pub mod Exporting

@@ -1,2 +1,3 @@
 // Trees as XML: export and import.
+pub mod export;
 pub mod put;
