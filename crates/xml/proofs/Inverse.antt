@@ -24,7 +24,7 @@ value-same : {a b : Code} → value a ≡ value b → a ≡ b
 value-same e = cc
 
 -- What was read whole.
-tree-done : (o : Read Code) (t : Code) → wholeTree o ≡ value t → o ≡ done t []
+pub tree-done : (o : Read Code) (t : Code) → wholeTree o ≡ value t → o ≡ done t []
 tree-done (done u []) t e = ap (λ (x : Code). done x []) (value-same e)
 tree-done (done u (b ∷ s)) t e = refused-value e
 tree-done deep t e = refused-value e

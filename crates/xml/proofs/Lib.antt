@@ -4,3 +4,4 @@ pub mod Inverse
 pub mod Puts
 pub mod Reading
 pub mod Exports
+pub mod Answers

@@ -47,7 +47,7 @@ fn export_token(
 }
 
 // Puts the export of the legal tree of a kind that stands at a position. It calls itself on the arguments, one level fewer.
-fn export_at(
+pub fn export_at(
     language: &[u8],
     index: &[u16],
     kind: u8,

@@ -1,3 +1,4 @@
 // Trees as XML: export and import.
 pub mod export;
+pub mod operations;
 pub mod put;
