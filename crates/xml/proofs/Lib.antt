@@ -5,3 +5,4 @@ pub mod Puts
 pub mod Reading
 pub mod Exports
 pub mod Answers
+pub mod Scans

@@ -2,3 +2,4 @@
 pub mod Putting
 pub mod Exporting
 pub mod Answering
+pub mod Scanning

@@ -2,3 +2,4 @@
 pub mod export;
 pub mod operations;
 pub mod put;
+pub mod scan;
