@@ -1,0 +1,5 @@
+// Trees as XML: export and import.
+pub mod export;
+pub mod operations;
+pub mod put;
+pub mod scan;
