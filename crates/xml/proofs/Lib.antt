@@ -6,3 +6,4 @@ pub mod Reading
 pub mod Exports
 pub mod Answers
 pub mod Scans
+pub mod Imports

@@ -74,12 +74,12 @@ no-kind zero e = none-some e
 no-kind (suc i) e = none-some e
 
 module _ (l : Language) where
-  class-text : (n k : ℕ) (c : Range) (s : List ℕ) → rangeOf l k ≡ some c → readText l n k s ≡ readToken k c s
+  pub class-text : (n k : ℕ) (c : Range) (s : List ℕ) → rangeOf l k ≡ some c → readText l n k s ≡ readToken k c s
   unfolding readText
   class-text zero k c s e = cc
   class-text (suc n) k c s e = cc
 
-  no-class : (n k : ℕ) (s : List ℕ) → rangeOf l k ≡ none → readText l (suc n) k s ≡ readElement (readText l n) l k s
+  pub no-class : (n k : ℕ) (s : List ℕ) → rangeOf l k ≡ none → readText l (suc n) k s ≡ readElement (readText l n) l k s
   unfolding readText
   no-class n k s e = cc
 

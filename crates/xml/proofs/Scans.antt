@@ -185,12 +185,12 @@ module _ {B : Type 0} {o : Read (Unit {0})} {text : List ℕ} {from : ℕ} {x : 
   then-at : {e : ℕ} → x ≡ At e → andThen o f ≡ f tt (drop e text)
   then-at {e} h = ap (λ (q : Read (Unit {0})). andThen q f) (first .found e h)
 
-number-at : {B : Type 0} {o : Read ℕ} {text : List ℕ} {from v e : ℕ} {x : Number} → Numbers o text from x → (f : ℕ → List ℕ → Read B) → x ≡ N.Is v e
+pub number-at : {B : Type 0} {o : Read ℕ} {text : List ℕ} {from v e : ℕ} {x : Number} → Numbers o text from x → (f : ℕ → List ℕ → Read B) → x ≡ N.Is v e
     → andThen o f ≡ f v (drop e text)
 number-at {v = v} {e = e} w f h = ap (λ (q : Read ℕ). andThen q f) (w .found v e h)
 
 -- What no number below 65,536 comes to, where what follows is broken for all others.
-no-number : {B : Type 0} (o : Read ℕ) (f : ℕ → List ℕ → Read B) → NoNumber o → ((v : ℕ) (r : List ℕ) → 65536 ≤ v → f v r ≡ broken) → andThen o f ≡ broken
+pub no-number : {B : Type 0} (o : Read ℕ) (f : ℕ → List ℕ → Read B) → NoNumber o → ((v : ℕ) (r : List ℕ) → 65536 ≤ v → f v r ≡ broken) → andThen o f ≡ broken
 no-number (done v r) f h g = g v r h
 no-number deep f h g = absurd h
 no-number broken f h g = refl
