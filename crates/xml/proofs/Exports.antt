@@ -88,10 +88,13 @@ module _ (store : Bool) (s index b : List ℕ) (k at : ℕ) (o : List ℕ) (n le
   pub at-token : (o′ : List ℕ) (r : Step) → place ≡ 0
       → Steps store b o o′ r × (2 ≤ length b - at → Exports store (text store b at k o n) b (drop (at + 2) b) o o′ n r)
       → Steps store b o o′ r × ExportsTree store s index k b at levels o o′ n r
-  at-token o′ r p w = (w .0, λ l a rest z e.
-      let t = read-token s index b k at kind bytes ej ec ep l z levels a rest e p in
-      let x = w .1 (t .there) in
-      rw (← t .left) (exports-same (sym (t .text)) x))
+  at-token o′ r p w = (
+    w .0,
+    λ l a rest z e.
+        let t = read-token s index b k at kind bytes ej ec ep l z levels a rest e p in
+        let x = w .1 (t .there) in
+        rw (← t .left) (exports-same (sym (t .text)) x),
+  )
 
   module _ (pos : place ≡ 0 → ⊥) where
     pub at-deep : levels ≡ 0 → Steps store b o o Full × ExportsTree store s index k b at levels o o n Full
@@ -110,20 +113,26 @@ module _ (store : Bool) (s index b : List ℕ) (k at : ℕ) (o : List ℕ) (n le
       opened = rw (← ei, ← ename) begun
 
       pub at-open-full : x ≡ St.Full → Steps store b o o₁ Full × ExportsTree store s index k b at levels o o₁ n Full
-      at-open-full e = (steps-full store b o o₁ (begun .kept), λ l a rest z f.
-          let d = reads l a rest z f in
-          exports-full (omega (arith, opened .full e, ap length (d .text), length-append (nodeTag openNode k (getD b at 0)) (exportAll l (slice (place + 4) (place + 2 + size) s) (d .operands) ++ nodeTag closeNode k (getD b at 0)))))
+      at-open-full e = (
+        steps-full store b o o₁ (begun .kept),
+        λ l a rest z f.
+            let d = reads l a rest z f in
+            exports-full (omega (arith, opened .full e, ap length (d .text), length-append (nodeTag openNode k (getD b at 0)) (exportAll l (slice (place + 4) (place + 2 + size) s) (d .operands) ++ nodeTag closeNode k (getD b at 0)))),
+      )
 
       module _ {m : ℕ} (ex : x ≡ St.To m) (long₁ : length o₁ ≡ length o) {o₂ : List ℕ} {y : Step} (steps : Steps store b o₁ o₂ y)
           (all : ExportsTrees store s index (place + 4) (place + 2 + size) b (at + 1) (levels - 1) o₁ o₂ m y) where
         pub at-all-full : y ≡ Full → Steps store b o o₂ Full × ExportsTree store s index k b at levels o o₂ n Full
-        at-all-full e = (steps-full store b o o₂ (λ q. steps .kept q ∙ begun .kept q), λ l a rest z f.
-            let d = reads l a rest z f in
-            let u = nodeTag openNode k (getD b at 0) in
-            let v = exportAll l (slice (place + 4) (place + 2 + size) s) (d .operands) in
-            let w = nodeTag closeNode k (getD b at 0) in
-            let q = all l (d .operands) rest z (d .reads) .full e in
-            exports-full (omega (arith, q, opened .done m ex .end, ap length (d .text), length-append u (v ++ w), length-append v w)))
+        at-all-full e = (
+          steps-full store b o o₂ (λ q. steps .kept q ∙ begun .kept q),
+          λ l a rest z f.
+              let d = reads l a rest z f in
+              let u = nodeTag openNode k (getD b at 0) in
+              let v = exportAll l (slice (place + 4) (place + 2 + size) s) (d .operands) in
+              let w = nodeTag closeNode k (getD b at 0) in
+              let q = all l (d .operands) rest z (d .reads) .full e in
+              exports-full (omega (arith, q, opened .done m ex .end, ap length (d .text), length-append u (v ++ w), length-append v w)),
+        )
 
         module _ {e h : ℕ} (ey : y ≡ To e h) (long₂ : length o₂ ≡ length o₁) {o₃ : List ℕ} {c : Stored} (close : Puts store (nodeTag closeNode i p) o₂ o₃ h c) where
           closed : Puts store (nodeTag closeNode k (getD b at 0)) o₂ o₃ h c
@@ -133,26 +142,31 @@ module _ (store : Bool) (s index b : List ℕ) (k at : ℕ) (o : List ℕ) (n le
           kept₃ q = close .kept q ∙ (steps .kept q ∙ begun .kept q)
 
           pub at-close-full : c ≡ St.Full → Steps store b o o₃ Full × ExportsTree store s index k b at levels o o₃ n Full
-          at-close-full g = (steps-full store b o o₃ kept₃, λ l a rest z f.
-              let d = reads l a rest z f in
-              let u = nodeTag openNode k (getD b at 0) in
-              let v = exportAll l (slice (place + 4) (place + 2 + size) s) (d .operands) in
-              let w = nodeTag closeNode k (getD b at 0) in
-              let q = all l (d .operands) rest z (d .reads) .put e h ey in
-              exports-full (omega (arith, q .end, opened .done m ex .end, closed .full g, ap length (d .text), length-append u (v ++ w), length-append v w)))
+          at-close-full g = (
+            steps-full store b o o₃ kept₃,
+            λ l a rest z f.
+                let d = reads l a rest z f in
+                let u = nodeTag openNode k (getD b at 0) in
+                let v = exportAll l (slice (place + 4) (place + 2 + size) s) (d .operands) in
+                let w = nodeTag closeNode k (getD b at 0) in
+                let q = all l (d .operands) rest z (d .reads) .put e h ey in
+                exports-full (omega (arith, q .end, opened .done m ex .end, closed .full g, ap length (d .text), length-append u (v ++ w), length-append v w)),
+          )
 
           pub at-done : {r : ℕ} → c ≡ St.To r → Steps store b o o₃ (To e r) × ExportsTree store s index k b at levels o o₃ n (To e r)
           at-done {r} g =
-              let fits = close .done r g .fits in
-              (steps-to store b o o₃ e r kept₃ (steps .inside e h ey .0) (omega arith), λ l a rest z f.
-              let d = reads l a rest z f in
-              let u = nodeTag openNode k (getD b at 0) in
-              let v = exportAll l (slice (place + 4) (place + 2 + size) s) (d .operands) in
-              let w = nodeTag closeNode k (getD b at 0) in
-              let q = all l (d .operands) rest z (d .reads) in
-              exports-same (sym (d .text))
-              (exports-to (q .left e h ey)
-              (put-then u (v ++ w) o o₁ o₃ n m r (opened .done m ex) (put-then v w o₁ o₂ o₃ m h r (q .put e h ey) (closed .done r g) long₂) long₁)))
+              let fits = close .done r g .fits in (
+                steps-to store b o o₃ e r kept₃ (steps .inside e h ey .0) (omega arith),
+                λ l a rest z f.
+                    let d = reads l a rest z f in
+                    let u = nodeTag openNode k (getD b at 0) in
+                    let v = exportAll l (slice (place + 4) (place + 2 + size) s) (d .operands) in
+                    let w = nodeTag closeNode k (getD b at 0) in
+                    let q = all l (d .operands) rest z (d .reads) in
+                    exports-same (sym (d .text))
+                    (exports-to (q .left e h ey)
+                    (put-then u (v ++ w) o o₁ o₃ n m r (opened .done m ex) (put-then v w o₁ o₂ o₃ m h r (q .put e h ey) (closed .done r g) long₂) long₁)),
+              )
 
 -- export_all, a turn at a time: what is left to do, where the text v is done.
 pub record Going (store : Bool) (s b : List ℕ) (from stop levels : ℕ) (o o′ : List ℕ) (n q to m : ℕ) (l : Language) (t : Codes) (rest : List ℕ) : Type 0 where

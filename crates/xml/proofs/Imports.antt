@@ -190,10 +190,12 @@ module _ (s index text : List ℕ) (k at levels : ℕ) (o : List ℕ) (n : ℕ) 
 
         pub at-no-opening : x ≡ N.Nothing → Inside text Broken × ImportsTree s index k text at levels o o n Broken
         unfolding readElement
-        at-no-opening h =
-            (inside-broken text, λ l z. imports-broken (element l z
-            ∙ no-number (readOpening k (drop at text)) (λ p r. readOperands (readText l (levels - 1)) k p (argumentsOf l k p) r) (opened .nothing h)
-            (λ p r g. unknown l p r (large-none s l (z .entries) bytes k p (omega arith)))))
+        at-no-opening h = (
+          inside-broken text,
+          λ l z. imports-broken (element l z
+              ∙ no-number (readOpening k (drop at text)) (λ p r. readOperands (readText l (levels - 1)) k p (argumentsOf l k p) r) (opened .nothing h)
+              (λ p r g. unknown l p r (large-none s l (z .entries) bytes k p (omega arith)))),
+        )
 
         module _ {p a : ℕ} (ex : x ≡ N.Is p a) {place : ℕ} (ep : place ≡ placeOf index k p) where
           operands : (l : Language) → Indexed index s l → readText l levels k (drop at text) ≡ readOperands (readText l (levels - 1)) k p (argumentsOf l k p) (drop a text)
@@ -251,9 +253,11 @@ module _ (s index text : List ℕ) (k at levels : ℕ) (o : List ℕ) (n : ℕ) 
                 so-far l z = goes l z ∙ ap (λ (q : Read Codes). andThen q (closes l)) (all l z .found b m ey .1)
 
                 pub at-closing-broken : c ≡ Nothing → Inside text Broken × ImportsTree s index k text at levels o o₂ n Broken
-                at-closing-broken h =
-                    (inside-broken text, λ l z. imports-broken (so-far l z
-                    ∙ ap (λ (q : Read (Unit {0})). andThen q (λ u r. done (node k p (all l z .found b m ey .0)) r)) (closed .nothing h)))
+                at-closing-broken h = (
+                  inside-broken text,
+                  λ l z. imports-broken (so-far l z
+                      ∙ ap (λ (q : Read (Unit {0})). andThen q (λ u r. done (node k p (all l z .found b m ey .0)) r)) (closed .nothing h)),
+                )
 
                 first-stored : Stored (p ∷ []) o o₁ n (n + 1)
                 first-stored = record { end = refl; bytes = λ h. put (omega arith) }
@@ -262,12 +266,14 @@ module _ (s index text : List ℕ) (k at levels : ℕ) (o : List ℕ) (n : ℕ) 
                 unfolding write
                 at-done {e} h =
                     let w = closed .reached e h in
-                    let i = inside b m ey in
-                    (inside-end text e m (w .inside) (omega (arith, w .past, i .1)), λ l z.
-                    let f = all l z .found b m ey in
-                    imports-end (node k p (f .0))
-                    (so-far l z ∙ ap (λ (q : Read (Unit {0})). andThen q (λ u r. done (node k p (f .0)) r)) (closed .found e h))
-                    (stored-then (p ∷ []) (writeAll tree (f .0)) o o₁ o₂ n (n + 1) m first-stored (f .2) long))
+                    let i = inside b m ey in (
+                      inside-end text e m (w .inside) (omega (arith, w .past, i .1)),
+                      λ l z.
+                          let f = all l z .found b m ey in
+                          imports-end (node k p (f .0))
+                          (so-far l z ∙ ap (λ (q : Read (Unit {0})). andThen q (λ u r. done (node k p (f .0)) r)) (closed .found e h))
+                          (stored-then (p ∷ []) (writeAll tree (f .0)) o o₁ o₂ n (n + 1) m first-stored (f .2) long),
+                    )
 
 -- texts_at, a turn at a time: `before` puts what was read in front of what is left to read.
 pub record Going (s text : List ℕ) (from stop at levels : ℕ) (o o₁ : List ℕ) (n q to m : ℕ) (l : Language) : Type 0 where

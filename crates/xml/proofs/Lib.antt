@@ -7,3 +7,4 @@ pub mod Exports
 pub mod Answers
 pub mod Scans
 pub mod Imports
+pub mod Whole

@@ -40,14 +40,23 @@ stop-open s = refl
 opening-round : (k p : ℕ) (s : List ℕ) → readOpening k (nodeTag openNode k p ++ s) ≡ done p s
 unfolding readOpening
 opening-round k p s =
-    rw (node-tag openNode k p s, named-round openNode k (46 ∷ (decimal p ++ (62 ∷ s))) (stop-point (decimal p ++ (62 ∷ s))),
-      word-round point (decimal p ++ (62 ∷ s)), number-round p (62 ∷ s) (stop-end s), word-round tagEnd s)
+    rw (
+      node-tag openNode k p s,
+      named-round openNode k (46 ∷ (decimal p ++ (62 ∷ s))) (stop-point (decimal p ++ (62 ∷ s))),
+      word-round point (decimal p ++ (62 ∷ s)),
+      number-round p (62 ∷ s) (stop-end s),
+      word-round tagEnd s,
+    )
 
 closing-round : (k p : ℕ) (s : List ℕ) → readClosing k p (nodeTag closeNode k p ++ s) ≡ done tt s
 unfolding readClosing
 closing-round k p s =
-    rw (node-tag closeNode k p s, named-round closeNode k (46 ∷ (decimal p ++ (62 ∷ s))) (stop-point (decimal p ++ (62 ∷ s))),
-      named-round point p (62 ∷ s) (stop-end s), word-round tagEnd s)
+    rw (
+      node-tag closeNode k p s,
+      named-round closeNode k (46 ∷ (decimal p ++ (62 ∷ s))) (stop-point (decimal p ++ (62 ∷ s))),
+      named-round point p (62 ∷ s) (stop-end s),
+      word-round tagEnd s,
+    )
 
 tag-round : (w : List ℕ) (k : ℕ) (s : List ℕ) → readTokenTag w k (tokenTag w k ++ s) ≡ done tt s
 unfolding readTokenTag
@@ -166,12 +175,14 @@ module _ (l : Language) where
       let z = then-done (readTokenTag closeToken k (y .1)) _ a r (rw d at (y .3)) in
       let w = same-done (token (y .0)) a (z .1) r (z .3) in
       let q : z .1 ≡ r = w .1 in
-      rw (← w .0)
-      (typed-token h d, omega arith,
+      rw (← w .0) (
+        typed-token h d,
+        omega arith,
         tag-sound openToken k s (x .1) (x .2)
-        ∙ (ap (λ (u : List ℕ). tokenTag openToken k ++ u) (number-sound (x .1) (y .0) (y .1) (y .2)
-        ∙ ap (λ (u : List ℕ). decimal (y .0) ++ u) (tag-sound closeToken k (y .1) (z .1) (z .2) ∙ ap (λ (u : List ℕ). tokenTag closeToken k ++ u) q))
-        ∙ sym (rw (append-assoc, append-assoc)))))
+            ∙ (ap (λ (u : List ℕ). tokenTag openToken k ++ u) (number-sound (x .1) (y .0) (y .1) (y .2)
+            ∙ ap (λ (u : List ℕ). decimal (y .0) ++ u) (tag-sound closeToken k (y .1) (z .1) (z .2) ∙ ap (λ (u : List ℕ). tokenTag closeToken k ++ u) q))
+            ∙ sym (rw (append-assoc, append-assoc))),
+      ))
       (λ d. broken-not (rw d at (y .3)))
 
   module _ (n : ℕ) (reads : ℕ → List ℕ → Read Code) (right : (k : ℕ) (s : List ℕ) (a : Code) (r : List ℕ) → reads k s ≡ done a r → Right n k s a r) where
@@ -186,9 +197,11 @@ module _ (l : Language) where
         let q : y .1 ≡ r = w .1 in
         let g = right k s (x .0) (x .1) (x .2) in
         let h = all-sound ks (x .1) (y .0) (y .1) (y .2) in
-        rw (← w .0)
-        (typed-cons (g .0) (h .0), omega (arith, g .1, h .1),
-          g .2 ∙ (ap (λ (u : List ℕ). export l k (x .0) ++ u) (h .2 ∙ ap (λ (u : List ℕ). exportAll l ks (y .0) ++ u) q) ∙ sym (append-assoc (export l k (x .0)) (exportAll l ks (y .0)) r)))
+        rw (← w .0) (
+          typed-cons (g .0) (h .0),
+          omega (arith, g .1, h .1),
+          g .2 ∙ (ap (λ (u : List ℕ). export l k (x .0) ++ u) (h .2 ∙ ap (λ (u : List ℕ). exportAll l ks (y .0) ++ u) q) ∙ sym (append-assoc (export l k (x .0)) (exportAll l ks (y .0)) r)),
+        )
 
     operands-sound : (k p : ℕ) (o : Option (List ℕ)) (s : List ℕ) (a : Code) (r : List ℕ) → argumentsOf l k p ≡ o → readOperands reads k p o s ≡ done a r
         → Right (suc n) k (nodeTag openNode k p ++ s) a r
@@ -200,10 +213,12 @@ module _ (l : Language) where
         let w = same-done (node k p (x .0)) a (y .1) r (y .3) in
         let q : y .1 ≡ r = w .1 in
         let g = all-sound ks s (x .0) (x .1) (x .2) in
-        rw (← w .0)
-        (typed-node h (g .0), omega (arith, g .1),
+        rw (← w .0) (
+          typed-node h (g .0),
+          omega (arith, g .1),
           ap (λ (u : List ℕ). nodeTag openNode k p ++ u) (g .2 ∙ ap (λ (u : List ℕ). exportAll l ks (x .0) ++ u) (closing-sound k p (x .1) (y .1) (y .2) ∙ ap (λ (u : List ℕ). nodeTag closeNode k p ++ u) q))
-          ∙ sym (node-parts l k k p (x .0) ks r h))
+              ∙ sym (node-parts l k k p (x .0) ks r h),
+        )
 
     element-sound : (k : ℕ) (s : List ℕ) (a : Code) (r : List ℕ) → readElement reads l k s ≡ done a r → Right (suc n) k s a r
     unfolding readElement

@@ -23,14 +23,7 @@ pub enum Step {
 }
 
 // Puts the token of a kind that stands in two bytes of the tree.
-fn export_token(
-    kind: u8,
-    tree: &[u8],
-    at: usize,
-    store: bool,
-    out: &mut [u8],
-    n: usize,
-) -> Step
+fn export_token(kind: u8, tree: &[u8], at: usize, store: bool, out: &mut [u8], n: usize) -> Step
     requires { ⌜ (at ≤ length (now tree)) × (n ≤ length (now out)) ⌝ }
     ensures steps { λ r. ⌜ Steps store (now (tree .entry)) (now (out .entry)) (now (out .exit)) r ⌝ }
     ensures is { λ r. ⌜ (2 ≤ length (now (tree .entry)) - at
@@ -75,7 +68,18 @@ pub fn export_at(
         return Step::Full;
     };
     let stop = place + 2 + pair_in(language, place);
-    let Step::To(e, k) = export_all(language, index, place + 4, stop, tree, at + 1, levels - 1, store, out, m) else {
+    let Step::To(e, k) = export_all(
+        language,
+        index,
+        place + 4,
+        stop,
+        tree,
+        at + 1,
+        levels - 1,
+        store,
+        out,
+        m,
+    ) else {
         return Step::Full;
     };
     let Stored::To(j) = put_node_tag(b"</x", to_usize(kind), name, store, out, k) else {
@@ -105,7 +109,17 @@ fn export_all(
     let mut to = at;
     let mut m = n;
     while q < stop {
-        let Step::To(e, k) = export_at(language, index, language[q], tree, to, levels, store, out, m) else {
+        let Step::To(e, k) = export_at(
+            language,
+            index,
+            language[q],
+            tree,
+            to,
+            levels,
+            store,
+            out,
+            m,
+        ) else {
             return Step::Full;
         };
         to = e;

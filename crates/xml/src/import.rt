@@ -115,7 +115,17 @@ pub fn text_at(
     }
     store(name as u8, out, n);
     let stop = place + 2 + pair_in(language, place);
-    match texts_at(language, index, place + 4, stop, text, a, levels - 1, out, n + 1) {
+    match texts_at(
+        language,
+        index,
+        place + 4,
+        stop,
+        text,
+        a,
+        levels - 1,
+        out,
+        n + 1,
+    ) {
         Text::End(b, m) => match closing_at(to_usize(kind), name, text, b) {
             Place::At(e) => Text::End(e, m),
             Place::Nothing => Text::Broken,
