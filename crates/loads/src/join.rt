@@ -86,7 +86,13 @@ fn put_head(result: u8, name: u8, size: usize, output: &mut [u8], pos: usize) ->
     ensures { λ r. ⌜ Written (0x24 ∷ (twoBytes size ++ (result ∷ name ∷ []))) (now (output .entry)) (now (output .exit)) pos r ⌝ }
 {
     let a = put_name(Syntax::Tree, LOAD, output, pos);
-    let b = put_token(Syntax::Tree, (size / 256) as u8, (size % 256) as u8, output, a);
+    let b = put_token(
+        Syntax::Tree,
+        (size / 256) as u8,
+        (size % 256) as u8,
+        output,
+        a,
+    );
     put_token(Syntax::Tree, result, name, output, b)
 }
 
@@ -174,7 +180,17 @@ fn join_load(
     let kind = map_kind(body, items, source[p + 3]);
     let place = place_at(items, 32 + pair_in(source, p + 3));
     let to = put_head(source[p + 3], source[p + 4], 2 + 2 * count, joined, pos);
-    join_figures(target, index, figures, kind, body, place + 4, count, joined, to)
+    join_figures(
+        target,
+        index,
+        figures,
+        kind,
+        body,
+        place + 4,
+        count,
+        joined,
+        to,
+    )
 }
 
 // Puts the joined table: a load for each production of the source.
@@ -222,7 +238,13 @@ fn join_loads(
 }
 
 // The joined table of a translation and a table that were accepted: 11, and 17 last.
-fn join_held(source: &[u8], target: &[u8], body: &[u8], figures: &[i32], output: &mut [u8]) -> Answer
+fn join_held(
+    source: &[u8],
+    target: &[u8],
+    body: &[u8],
+    figures: &[i32],
+    output: &mut [u8],
+) -> Answer
     requires { ⌜ ((f : Translation) × (w : Table) × Checked (now source) (now target) (now body) f × Kept (now figures) (now target) w) ⌝ }
     ensures { λ r. ⌜ ((f : Translation) (w : Table) → Checked (now (source .entry)) (now (target .entry)) (now (body .entry)) f → Kept (now (figures .entry)) (now (target .entry)) w
         → Answers (joinOn f w (length (now (output .entry)))) (now (output .entry)) (now (output .exit)) (r .outcome)) ⌝ }
@@ -232,7 +254,8 @@ fn join_held(source: &[u8], target: &[u8], body: &[u8], figures: &[i32], output:
     let mut items = [0u16; INDEX];
     build_items(body, &mut items);
     let mut joined = [0u8; JOINED];
-    let Joined::To(n) = join_loads(source, target, &index, body, &items, figures, &mut joined) else {
+    let Joined::To(n) = join_loads(source, target, &index, body, &items, figures, &mut joined)
+    else {
         return refuse(Reason::ValueTooLarge);
     };
     if output.len() < n {

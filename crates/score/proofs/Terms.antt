@@ -111,7 +111,12 @@ module _ {s index : List ℕ} {fig : List ℤ} {l : Language} {w : Loads} (world
       let a = stands-head b at p (allBytes Tree ts) st in
       let z : at + 0 ≡ at = omega arith in
       record {
-        name = p; operands = ts; kinds = ks; is = refl; known = e; typed = h;
+        name = p;
+        operands = ts;
+        kinds = ks;
+        is = refl;
+        known = e;
+        typed = h;
         inside = let n = a .0 in omega arith;
         named = ap (λ (n : ℕ). getD b n 0) z ∙ a .1;
         stands = a .2;
@@ -126,7 +131,12 @@ module _ {s index : List ℕ} {fig : List ℤ} {l : Language} {w : Loads} (world
       let c = stands-head b (at + 1) p (allBytes Code ts) (a .2) in
       let z : at + 1 + 1 ≡ at + 2 = omega arith in
       record {
-        name = p; operands = ts; kinds = ks; is = refl; known = e; typed = h;
+        name = p;
+        operands = ts;
+        kinds = ks;
+        is = refl;
+        known = e;
+        typed = h;
         inside = let n = c .0 in omega arith;
         named = c .1;
         stands = rw (← z) (c .2);

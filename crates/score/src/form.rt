@@ -175,7 +175,17 @@ fn form_node(
     let mut q = production + 4;
     let mut to = at;
     while q < stop {
-        match form_at(syntax, language, index, figures, language[q], bytes, to, place, left) {
+        match form_at(
+            syntax,
+            language,
+            index,
+            figures,
+            language[q],
+            bytes,
+            to,
+            place,
+            left,
+        ) {
             Formed::At(z, e) => {
                 total = add_scaled(total, figures[q], z);
                 to = e;

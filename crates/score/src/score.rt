@@ -53,13 +53,7 @@ fn accept(score: i64) -> Scored
 }
 
 // The score of a legal tree: 19.
-fn score_read(
-    language: &[u8],
-    index: &[u16],
-    figures: &[i32],
-    kind: u8,
-    tree: &[u8],
-) -> Scored
+fn score_read(language: &[u8], index: &[u16], figures: &[i32], kind: u8, tree: &[u8]) -> Scored
     requires { ⌜ ((l : Language) × (w : Table) × (t : Code) × TreeAsks (now language) (now index) (now figures) kind (now tree) l w t) ⌝ }
     ensures { λ r. ⌜ ((l : Language) (w : Table) (t : Code) → TreeAsks (now (language .entry)) (now (index .entry)) (now (figures .entry)) kind (now (tree .entry)) l w t
         → Answers (scoreOf w t) (r .outcome) (r .score)) ⌝ }
