@@ -5,6 +5,7 @@ ghost use Rattle.language.specs.Operations.{checkLanguage};
 ghost use Rattle.reader.specs.Operations.{checkTree};
 ghost use Rattle.translation.specs.Operations.{checkTranslation, runTree};
 ghost use Rattle.reducer.specs.Operations as Reducing;
+ghost use Rattle.xml.specs.Operations.{exportTree, importTree};
 use checks::translations::check_translation;
 use checks::trees::check_tree;
 use fields::outcome::Answer;
@@ -13,6 +14,8 @@ use fields::outcome::number;
 use language::check::check_language;
 use reducer::reduce::reduce;
 use runner::run::run;
+use xml::operations::export;
+use xml::operations::import;
 
 // The number of an answer.
 fn number_of(answer: Answer) -> u32
@@ -86,5 +89,39 @@ pub extern "C" fn algebra_reduce(
         × (now (workspace .exit) ≡ Reducing.reduce (now (pack .entry)) (now (workspace .entry)) (now (output .entry)) .workspace) ⌝ }
 {
     let answer = reduce(pack, workspace, output);
+    hand_over(answer, length)
+}
+
+// Export a tree of the root kind as XML; the length of the text is put into `length`.
+#[no_mangle]
+pub extern "C" fn algebra_export(
+    language: &[u8],
+    root: u32,
+    tree: &[u8],
+    output: &mut [u8],
+    length: &mut u64,
+) -> u32
+    ensures { λ r. ⌜ (r ≡ numberOf (exportTree (now (language .entry)) root (now (tree .entry)) (now (output .entry)) .outcome))
+        × (now (length .exit) ≡ lengthOf (exportTree (now (language .entry)) root (now (tree .entry)) (now (output .entry)) .outcome))
+        × (now (output .exit) ≡ exportTree (now (language .entry)) root (now (tree .entry)) (now (output .entry)) .output) ⌝ }
+{
+    let answer = export(language, root, tree, output);
+    hand_over(answer, length)
+}
+
+// Import a tree of the root kind from its export; the length of the tree is put into `length`.
+#[no_mangle]
+pub extern "C" fn algebra_import(
+    language: &[u8],
+    root: u32,
+    text: &[u8],
+    output: &mut [u8],
+    length: &mut u64,
+) -> u32
+    ensures { λ r. ⌜ (r ≡ numberOf (importTree (now (language .entry)) root (now (text .entry)) (now (output .entry)) .outcome))
+        × (now (length .exit) ≡ lengthOf (importTree (now (language .entry)) root (now (text .entry)) (now (output .entry)) .outcome))
+        × (now (output .exit) ≡ importTree (now (language .entry)) root (now (text .entry)) (now (output .entry)) .output) ⌝ }
+{
+    let answer = import(language, root, text, output);
     hand_over(answer, length)
 }

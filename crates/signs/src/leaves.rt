@@ -58,10 +58,7 @@ pub fn constant(pack: &[u8], at: usize, out: &mut [u8]) -> Evaluated
     let place = language_at(pack, to_usize(byte_at(pack, at + 1)));
     let start = place.start;
     let end = place.end;
-    finish(
-        operators::canonical::language(&pack[start..end], out),
-        at + 2,
-    )
+    finish(operators::canonical::language(&pack[start..end], out), at + 2)
 }
 
 // A variable: the value that is bound to the number behind the sign.
