@@ -8,18 +8,8 @@ use Rattle.algebra.proofs.algebra_export.Lts as lts
 use Rattle.algebra.proofs.hand_over.Reads as hand-over-reads
 use Rattle.xml.proofs.operations.export.Reads as export-reads
 
-export-requires : tie.Need-export-requires
-export-requires c κs = search needs
-
-hand-over-requires : tie.Need-hand-over-requires
-hand-over-requires c κs = search needs
-
-same-length : tie.Need-same-length
-same-length c = search needs
-
 returns : tie.Need-returns
 returns c = (c .hand-over .ensures .0 ∙ ap numberOf (c .before .before .before .before .export .ensures .0), c .hand-over .ensures .1 ∙ ap lengthOf (c .before .before .before .before .export .ensures .0), c .before .before .before .before .export .ensures .1)
 
 pub algebra-export-spec : {M : Type 1} → statement M
-algebra-export-spec =
-    tie.close (tie.spec export-requires hand-over-requires same-length returns)
+algebra-export-spec = tie.close (tie.spec (λ c κs. search needs) (λ c κs. search needs) (λ c. search needs) returns)

@@ -8,18 +8,8 @@ use Rattle.algebra.proofs.algebra_import.Lts as lts
 use Rattle.algebra.proofs.hand_over.Reads as hand-over-reads
 use Rattle.xml.proofs.operations.import.Reads as import-reads
 
-import-requires : tie.Need-import-requires
-import-requires c κs = search needs
-
-hand-over-requires : tie.Need-hand-over-requires
-hand-over-requires c κs = search needs
-
-same-length : tie.Need-same-length
-same-length c = search needs
-
 returns : tie.Need-returns
 returns c = (c .hand-over .ensures .0 ∙ ap numberOf (c .before .before .before .before .import .ensures .0), c .hand-over .ensures .1 ∙ ap lengthOf (c .before .before .before .before .import .ensures .0), c .before .before .before .before .import .ensures .1)
 
 pub algebra-import-spec : {M : Type 1} → statement M
-algebra-import-spec =
-    tie.close (tie.spec import-requires hand-over-requires same-length returns)
+algebra-import-spec = tie.close (tie.spec (λ c κs. search needs) (λ c κs. search needs) (λ c. search needs) returns)
