@@ -8,3 +8,4 @@ pub mod Answers
 pub mod Scans
 pub mod Imports
 pub mod Whole
+pub mod Examples
