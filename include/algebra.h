@@ -1,5 +1,5 @@
 /* The C interface of the library algebra: three checks, reduce, run, score,
- * join_table and block.
+ * join_table, export, import and block.
  *
  * Each function returns the number of the answer: ALGEBRA_ACCEPTED, or the number of a
  * refusal (enum algebra_answer). Figures of the answer, such as a length, are stored through
@@ -99,6 +99,8 @@ enum algebra_answer {
     ALGEBRA_BROKEN_TABLE = 18,
     /* a node's score lies outside -1,000,000,000 to 1,000,000,000 */
     ALGEBRA_SCORE_OUT_OF_RANGE = 19,
+    /* the text is not an export of a legal tree */
+    ALGEBRA_NOT_AN_EXPORT = 20,
     /* a path number is 0, or there is no such argument */
     ALGEBRA_NO_BLOCK = 21
 };
@@ -146,6 +148,20 @@ uint32_t algebra_join_table(const uint8_t *translation, size_t translation_lengt
                             const uint8_t *table, size_t table_length,
                             uint8_t *output, size_t output_length,
                             uint64_t *length);
+
+/* Writes a tree as XML: 0 to 4, 14 to 17. */
+uint32_t algebra_export(const uint8_t *language, size_t language_length,
+                        uint32_t root,
+                        const uint8_t *tree, size_t tree_length,
+                        uint8_t *output, size_t output_length,
+                        uint64_t *length);
+
+/* Reads a tree back from the text that its export is: 0 to 4, 14, 16, 17, 20. */
+uint32_t algebra_import(const uint8_t *language, size_t language_length,
+                        uint32_t root,
+                        const uint8_t *text, size_t text_length,
+                        uint8_t *output, size_t output_length,
+                        uint64_t *length);
 
 /* Looks up the block of a tree at a path of argument numbers, one byte each, from 1: 0 to 4, 14
  * to 16, 21. The block is the part of the tree from start on with that length, a legal tree of

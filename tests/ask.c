@@ -5,11 +5,12 @@
  *   ask tree LANGUAGE ROOT TREE                ask reduce PACK [WORKSPACE-BYTES [OUTPUT-BYTES]]
  *   ask run TRANSLATION ROOT TREE [OUTPUT-BYTES]
  *   ask score LANGUAGE ROOT TREE TABLE         ask join TRANSLATION TABLE
+ *   ask export LANGUAGE ROOT TREE              ask import LANGUAGE ROOT TEXT
  *   ask block LANGUAGE ROOT TREE PATH
  *   ask bytes FILE                             writes the bytes themselves
  *
- * Prints `accepted LENGTH` (or a score), the bytes of a result on a second line, and kind and start of a block on a
- * third; or `refused NUMBER`. */
+ * Prints `accepted LENGTH` (or a score), the bytes of a result on a second line, and kind and start of a block on a third; or
+ * `refused NUMBER`. The text of an import is read, and that of an export printed, as it is. */
 #include "algebra.h"
 #include <stdio.h>
 #include <stdlib.h>
@@ -84,14 +85,26 @@ static struct bytes load(const char *name)
     return bytes;
 }
 
-/* Prints the answer of an operation, and the bytes that it gave. */
+/* Reads a file as it is. */
+static struct bytes load_text(const char *name)
+{
+    struct bytes bytes = { room_for(LONGEST), 0 };
+    FILE *file = fopen(name, "rb");
+    if (file == NULL)
+        give_up("it cannot be read", name);
+    bytes.length = fread(bytes.at, 1, LONGEST, file);
+    fclose(file);
+    return bytes;
+}
+
+/* Prints the answer of an operation, and the bytes that it gave, if they are told. */
 static void answer(uint32_t number, uint64_t length, const uint8_t *output)
 {
     if (number != ALGEBRA_ACCEPTED)
         printf("refused %u\n", (unsigned)number);
     else
         printf("accepted %u\n", (unsigned)length);
-    for (uint64_t i = 0; i < length; i++)
+    for (uint64_t i = 0; output != NULL && i < length; i++)
         printf("%02X%c", output[i], i + 1 == length ? '\n' : ' ');
 }
 
@@ -149,6 +162,30 @@ static void join(char **words)
     answer(number, length, result);
 }
 
+/* Writes a tree as XML. */
+static void export_tree(char **words)
+{
+    struct bytes language = load(words[0]), tree = load(words[2]);
+    uint8_t *text = room_for(LONGEST);
+    uint64_t length;
+    uint32_t number = algebra_export(language.at, language.length, (uint32_t)number_or(words[1], 0), tree.at, tree.length,
+                                     text, LONGEST, &length);
+    answer(number, length, NULL);
+    if (number == ALGEBRA_ACCEPTED)
+        printf("%.*s\n", (int)length, (const char *)text);
+}
+
+/* Reads a tree from XML. */
+static void import_tree(char **words)
+{
+    struct bytes language = load(words[0]), text = load_text(words[2]);
+    uint8_t *tree = room_for(LONGEST);
+    uint64_t length;
+    uint32_t number = algebra_import(language.at, language.length, (uint32_t)number_or(words[1], 0), text.at, text.length,
+                                     tree, LONGEST, &length);
+    answer(number, length, tree);
+}
+
 /* Looks up a block. */
 static void block(char **words)
 {
@@ -204,6 +241,8 @@ static const struct {
     { "run", run, 3, 4 },
     { "score", score, 4, 4 },
     { "join", join, 2, 2 },
+    { "export", export_tree, 3, 3 },
+    { "import", import_tree, 3, 3 },
     { "block", block, 4, 4 },
     { "bytes", write_bytes, 1, 1 },
 };

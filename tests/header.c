@@ -14,6 +14,7 @@ static const uint8_t translation[] = { 0x20, 0, 5, 0x12, 0, 2, 1, 0, 0x21, 0, 5,
 static const uint8_t pack[] = { 0x30, 0, 5, 0x12, 0, 2, 1, 0, 0x32, 0, 3, 0x55, 0x40, 0 };
 static const uint8_t tree[] = { 0 };
 static const uint8_t table[] = { 0x24, 0, 4, 1, 0, 0xFF, 0xF9 };
+static const uint8_t text[] = { '<', 'x', '1', '.', '0', '>', '<', '/', 'x', '1', '.', '0', '>' };
 static const uint8_t elsewhere[] = { MARK };
 
 static uint8_t workspace[WORKSPACE], output[OUTPUT], no_bytes[] = { MARK };
@@ -79,6 +80,19 @@ static uint32_t join(const uint8_t *t, size_t t_length, const uint8_t *b, size_t
     uint64_t length = UINT64_MAX;
     uint32_t number = algebra_join_table(t, t_length, b, b_length, o, o_length, &length);
     count("the length of a joined table", length == (number == 0 ? sizeof table : 0));
+    return number;
+}
+
+/* Export and import have the same form. */
+typedef uint32_t conversion(const uint8_t *, size_t, uint32_t, const uint8_t *, size_t, uint8_t *, size_t, uint64_t *);
+
+/* Exports or imports by the tree's root kind; a refusal must store length 0. */
+static uint32_t convert(conversion *of, size_t due, const uint8_t *l, size_t l_length,
+                        const uint8_t *i, size_t i_length, uint8_t *o, size_t o_length)
+{
+    uint64_t length = UINT64_MAX;
+    uint32_t number = of(l, l_length, 1, i, i_length, o, o_length, &length);
+    count("the length of an export or import", length == (number == 0 ? due : 0));
     return number;
 }
 
@@ -165,6 +179,29 @@ static void joins(void)
     gives("join_table", ALGEBRA_ACCEPTED,
           join(translation, sizeof translation, table, sizeof table, output, OUTPUT));
     count("joined table", memcmp(output, table, sizeof table) == 0);
+}
+
+/* Exports or imports of an input, with the answer for an empty one. */
+static void conversions(conversion *of, const uint8_t *input, size_t length, uint32_t empty, size_t due)
+{
+    same("xml, language", 14, convert(of, due, NULL, 0, input, length, output, OUTPUT),
+         convert(of, due, elsewhere, 0, input, length, output, OUTPUT));
+    same("xml, input", empty, convert(of, due, language, sizeof language, NULL, 0, output, OUTPUT),
+         convert(of, due, language, sizeof language, elsewhere, 0, output, OUTPUT));
+    same("xml, output", 17, convert(of, due, language, sizeof language, input, length, NULL, 0),
+         convert(of, due, language, sizeof language, input, length, no_bytes, 0));
+    same("xml, all", 14, convert(of, due, NULL, 0, NULL, 0, NULL, 0),
+         convert(of, due, elsewhere, 0, elsewhere, 0, no_bytes, 0));
+    gives("xml", ALGEBRA_ACCEPTED, convert(of, due, language, sizeof language, input, length, output, OUTPUT));
+}
+
+/* Trees as XML, and back. */
+static void texts(void)
+{
+    conversions(algebra_export, tree, sizeof tree, ALGEBRA_ILLEGAL_TREE, sizeof text);
+    count("exported text", memcmp(output, text, sizeof text) == 0);
+    conversions(algebra_import, text, sizeof text, ALGEBRA_NOT_AN_EXPORT, sizeof tree);
+    count("imported tree", memcmp(output, tree, sizeof tree) == 0);
 }
 
 /* Lookups of blocks. */
@@ -308,6 +345,7 @@ int main(void)
     runs();
     scores();
     joins();
+    texts();
     blocks();
     lengths();
     rooms();

@@ -3,9 +3,9 @@
 //! Three checks, [`check_language`], [`check_translation`] and [`check_tree`], one operation that
 //! [reduces](reduce) a pack to a translation, one that [runs](run) a translation on a tree, one that
 //! [scores](score()) a tree by a load table and one that [joins](join_table) such a table onto a
-//! translation, and one that looks up a [block](block()) of a tree. Each is accepted or gives a
-//! [`Refusal`]. What a call answers depends on its arguments alone; any number of threads may call at
-//! the same time.
+//! translation, two that [export](export()) a tree as XML and [import](import()) it back, and one
+//! that looks up a [block](block()) of a tree. Each is accepted or gives a [`Refusal`]. What a call
+//! answers depends on its arguments alone; any number of threads may call at the same time.
 //!
 //! # The strap
 //!
@@ -62,6 +62,7 @@ mod limits;
 pub mod raw;
 mod refusal;
 mod score;
+mod xml;
 
 pub use block::{block, Block};
 pub use limits::{
@@ -70,6 +71,7 @@ pub use limits::{
 };
 pub use refusal::{Refusal, UnknownNumber};
 pub use score::{join_table, join_table_to_vec, score};
+pub use xml::{export, export_to_vec, import, import_to_vec};
 
 /// The first output that [`run_to_vec`] tries has at least this many bytes.
 const FIRST_OUTPUT: usize = 4096;

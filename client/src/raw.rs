@@ -8,9 +8,11 @@
 
 mod block;
 mod score;
+mod xml;
 
 pub use block::{block, BlockAnswer};
 pub use score::{join_table, score, ScoreAnswer};
+pub use xml::{export, import};
 
 extern "C" {
     fn algebra_check_language(language: *const u8, length: usize) -> u32;

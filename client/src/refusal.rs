@@ -61,6 +61,7 @@ refusals! {
     17 OutputTooShort "the result is longer than the output"
     18 BrokenTable "the load table is broken, out of order, lacks a production or has one too many"
     19 ScoreOutOfRange "a node's score lies outside -1,000,000,000 to 1,000,000,000"
+    20 NotAnExport "the text is not an export of a legal tree"
     21 NoBlock "a path number is 0, or there is no such argument"
 }
 

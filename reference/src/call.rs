@@ -1,8 +1,9 @@
 //! A call of one of the operations, by the reference or by the library.
 
-use crate::generate::{BlockCase, JoinTableCase, ReduceCase, RunCase, ScoreCase, TreeCase};
+use crate::generate::{BlockCase, ExportCase, ImportCase, JoinTableCase};
+use crate::generate::{ReduceCase, RunCase, ScoreCase, TreeCase};
 use crate::outcome::Outcome;
-use crate::{block, check_language, check_translation, check_tree, join_table};
+use crate::{block, check_language, check_translation, check_tree, export, import, join_table};
 use crate::{reduce, run, score, Block, Score};
 #[cfg(feature = "library")]
 use algebra::raw as library;
@@ -17,6 +18,8 @@ pub enum Call {
     Run(RunCase),
     Score(ScoreCase),
     JoinTable(JoinTableCase),
+    Export(ExportCase),
+    Import(ImportCase),
     Block(BlockCase),
 }
 
@@ -72,6 +75,8 @@ impl Call {
             Call::Run(_) => "run",
             Call::Score(_) => "score",
             Call::JoinTable(_) => "join_table",
+            Call::Export(_) => "export",
+            Call::Import(_) => "import",
             Call::Block(_) => "block",
         }
     }
@@ -82,6 +87,8 @@ impl Call {
             Call::Reduce(case) => (case.workspace, case.output),
             Call::Run(case) => (0, case.output),
             Call::JoinTable(case) => (0, case.output),
+            Call::Export(case) => (0, case.output),
+            Call::Import(case) => (0, case.output),
             _ => (0, 0),
         };
         Buffers { workspace: vec![WORKSPACE_MARK; workspace], output: vec![OUTPUT_MARK; output] }
@@ -98,6 +105,8 @@ impl Call {
             Call::Run(case) => run(&case.translation, case.root, &case.tree, output).into(),
             Call::Score(case) => score(&case.language, case.root, &case.tree, &case.table).into(),
             Call::JoinTable(case) => join_table(&case.translation, &case.table, output).into(),
+            Call::Export(case) => export(&case.language, case.root, &case.tree, output).into(),
+            Call::Import(case) => import(&case.language, case.root, &case.text, output).into(),
             Call::Block(case) => block(&case.language, case.root, &case.tree, &case.path).into(),
         }
     }
@@ -122,6 +131,12 @@ impl Call {
             }
             Call::JoinTable(case) => {
                 library::join_table(&case.translation, &case.table, output).into()
+            }
+            Call::Export(case) => {
+                library::export(&case.language, case.root, &case.tree, output).into()
+            }
+            Call::Import(case) => {
+                library::import(&case.language, case.root, &case.text, output).into()
             }
             Call::Block(case) => {
                 library::block(&case.language, case.root, &case.tree, &case.path).into()

@@ -3,7 +3,8 @@
 
 use crate::call::{Answer, Buffers, Call, WORKSPACE_MARK};
 use crate::files::{class, clause, load, mapping, pack, production, stepped_class, translation};
-use crate::generate::{BlockCase, JoinTableCase, ReduceCase, RunCase, ScoreCase, TreeCase};
+use crate::generate::{BlockCase, ExportCase, ImportCase, JoinTableCase};
+use crate::generate::{ReduceCase, RunCase, ScoreCase, TreeCase};
 use crate::reduce::{OUTPUT_LEAST, WORKSPACE_LEAST};
 
 /// A call with the answer and the bytes that it must give.
@@ -333,10 +334,39 @@ fn scores() -> Vec<Example> {
     ]
 }
 
+/// Sessions of C and its extension as XML, and texts that are none.
+fn texts() -> Vec<Example> {
+    let language = [language_c(), language_k()].concat();
+    let (tree, text) = ([4, 1, 0, 5], b"<x1.4><x1.1><t2>5</t2></x1.1></x1.4>");
+    let export = |tree: &[u8], output| {
+        let (language, tree) = (language.clone(), tree.to_vec());
+        Call::Export(ExportCase { language, root: 1, tree, output })
+    };
+    let import = |text: &[u8], output| {
+        let (language, text) = (language.clone(), text.to_vec());
+        Call::Import(ImportCase { language, root: 1, text, output })
+    };
+    let deep = [&b"<x1.4>".repeat(64)[..], b"<"].concat();
+    vec![
+        accepted("twice", export(&tree, 36), text),
+        refused("twice, one byte short", export(&tree, 35), 17),
+        refused("a byte left over", export(&[1, 0, 5, 0], 99), 15),
+        accepted("twice", import(text, 4), &tree),
+        refused("twice, one byte short", import(text, 3), 17),
+        refused("a leading zero", import(b"<x1.1><t2>05</t2></x1.1>", 9), 20),
+        refused("a space", import(b"<x1.1><t2>5 </t2></x1.1>", 9), 20),
+        refused("another closing tag", import(b"<x1.1><t2>5</t2></x1.3>", 9), 20),
+        refused("a token above the range", import(b"<x1.1><t2>241</t2></x1.1>", 9), 20),
+        refused("text behind the end", import(&[&text[..], b"\n"].concat(), 9), 20),
+        refused("64 times 04: 65 levels", import(&deep, 99), 16),
+        refused("63 times 04, then nothing", import(&deep[..6 * 63], 99), 20),
+    ]
+}
+
 /// All examples.
 pub fn examples() -> Vec<Example> {
     let first = [reductions(), accepted_runs(), refused_runs(), wider_strap(), rates(), checks()];
-    [first.concat(), scores(), blocks()].concat()
+    [first.concat(), scores(), texts(), blocks()].concat()
 }
 
 impl Example {

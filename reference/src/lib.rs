@@ -1,7 +1,8 @@
 //! Languages, translations and a reducer over bytes: a reference on decoded structures.
 //!
-//! The operations are `check_language`, `check_translation`, `check_tree`, `reduce`, `run`, `score`,
-//! `join_table` and `block`. Each answers with an `Outcome`: accepted with a length, or refused.
+//! The operations are `check_language`, `check_translation`, `check_tree`, `reduce`, `run`,
+//! `score`, `join_table`, `export`, `import` and `block`. Each answers with an `Outcome`: accepted
+//! with a length, or refused.
 #![deny(unsafe_code)]
 
 mod block;
@@ -21,6 +22,7 @@ mod score;
 mod term;
 mod translation;
 mod tree;
+mod xml;
 
 pub mod call;
 pub mod examples;
@@ -32,6 +34,7 @@ pub mod listing;
 pub mod show;
 pub mod stack;
 pub mod steps;
+pub mod xslt;
 
 pub use block::{block, Block};
 pub use language::check_language;
@@ -41,3 +44,4 @@ pub use run::run;
 pub use score::{join_table, score, Score};
 pub use translation::check_translation;
 pub use tree::check_tree;
+pub use xml::{export, import};

@@ -42,6 +42,8 @@ pub enum Refusal {
     Table = 18,
     /// The score of some node is out of range.
     Score = 19,
+    /// The text is not the export of a legal tree.
+    Text = 20,
     /// A path number is 0, or there is no such argument.
     Path = 21,
 }

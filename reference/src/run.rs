@@ -70,7 +70,7 @@ impl Tally for Length<'_> {
     type Weight = u64;
 
     #[inline]
-    fn token(&mut self, weight: u64) {
+    fn token(&mut self, _: u8, _: u16, weight: u64) {
         self.length = self.length.saturating_add(weight.saturating_mul(2));
     }
 

@@ -49,6 +49,12 @@ pub fn mapped_kind(translation: &[u8], kind: u32) -> Option<u32> {
     mapping.map(|spot| u32::from(spot.contents[1]))
 }
 
+/// The source and the target of a translation.
+pub fn languages(translation: &[u8]) -> Option<(&[u8], &[u8])> {
+    let pieces = translation_pieces(translation).ok()?;
+    Some((pieces.source.bytes, pieces.target.bytes))
+}
+
 #[cfg(test)]
 mod tests {
     use super::*;

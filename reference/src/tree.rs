@@ -12,8 +12,8 @@ pub const TREE_LEVELS: usize = 64;
 pub trait Tally {
     type Weight: Copy;
 
-    /// Counts a token.
-    fn token(&mut self, weight: Self::Weight);
+    /// Counts a token of a kind with a value.
+    fn token(&mut self, kind: u8, value: u16, weight: Self::Weight);
 
     /// Counts a production, known by its place.
     fn production(&mut self, place: usize, weight: Self::Weight);
@@ -28,7 +28,7 @@ pub struct Nothing;
 impl Tally for Nothing {
     type Weight = ();
     #[inline]
-    fn token(&mut self, _: ()) {}
+    fn token(&mut self, _: u8, _: u16, _: ()) {}
     #[inline]
     fn production(&mut self, _: usize, _: ()) {}
     #[inline]
@@ -58,9 +58,10 @@ impl<T: Tally> Reader<'_, T> {
         let [high, low, rest @ ..] = self.rest else {
             return Err(Refusal::Tree);
         };
-        require(class.has(two_bytes(*high, *low)), Refusal::Tree)?;
+        let value = two_bytes(*high, *low);
+        require(class.has(value), Refusal::Tree)?;
         self.rest = rest;
-        self.tally.token(weight);
+        self.tally.token(class.kind, value, weight);
         Ok(())
     }
 

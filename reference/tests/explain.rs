@@ -6,11 +6,12 @@ mod build;
 use build::{class, clause, field, load, mapping, pack, production, translation};
 use reference::explain::{self, Fault};
 use reference::generate::{
-    block_case, join_table_case, language_file, long_run_case, reduce_case, run_case, score_case,
-    translation_file, tree_case, Random,
+    block_case, export_case, import_case, join_table_case, language_file, long_run_case,
+    reduce_case, run_case, score_case, translation_file, tree_case, Random,
 };
 use reference::{
-    block, check_language, check_translation, check_tree, join_table, reduce, run, score, Outcome,
+    block, check_language, check_translation, check_tree, export, import, join_table, reduce, run,
+    score, Outcome,
 };
 
 /// So many cases of each operation are generated.
@@ -125,6 +126,26 @@ fn joined_tables() {
 }
 
 #[test]
+fn exports() {
+    compare_all(CASES, &[0, 1, 2, 3, 4, 14, 15, 16, 17], |random, case| {
+        let input = export_case(random);
+        let (root, output) = (input.root, input.output);
+        let outcome = export(&input.language, root, &input.tree, &mut vec![0; output]);
+        compare(case, outcome, explain::export(&input.language, root, &input.tree, output))
+    });
+}
+
+#[test]
+fn imports() {
+    compare_all(2 * CASES, &[0, 1, 2, 3, 4, 14, 16, 17, 20], |random, case| {
+        let input = import_case(random);
+        let (root, output) = (input.root, input.output);
+        let outcome = import(&input.language, root, &input.text, &mut vec![0; output]);
+        compare(case, outcome, explain::import(&input.language, root, &input.text, output))
+    });
+}
+
+#[test]
 fn blocks() {
     compare_all(CASES, &[0, 1, 2, 3, 4, 14, 15, 16, 21], |random, case| {
         let input = block_case(random);
@@ -146,6 +167,19 @@ fn the_place_in_a_tree_is_a_path() {
     let expected = "where: byte 9 of the tree, path 2.2.1\n\
                     fault: the token 256 is not in class 2: 1 to 240";
     assert_eq!(found, expected);
+}
+
+#[test]
+fn the_place_in_a_text_is_a_byte_and_a_path() {
+    let language = [class(2, 1, 240), production(1, 1, &[2]), production(1, 2, &[1, 1])].concat();
+    let found = |text: &[u8]| self::text(explain::import(&language, 1, text, 100));
+    let expected = "where: byte 10 of the text, path 1\nfault: 05 has a leading zero";
+    assert_eq!(found(b"<x1.1><t2>05</t2></x1.1>"), expected);
+    let expected = "where: byte 16 of the text, the root\n\
+                    fault: </x1.1> is needed, and '</x1.2>' stands here";
+    assert_eq!(found(b"<x1.1><t2>5</t2></x1.2>"), expected);
+    let expected = "where: byte 6 of the text, path 1\nfault: <x1. is needed, and the text ends";
+    assert_eq!(found(b"<x1.2>"), expected);
 }
 
 #[test]

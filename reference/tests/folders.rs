@@ -1,8 +1,8 @@
 //! The folders of examples, on the reference: packs, what they reduce to, their listings, the runs of
-//! trees, joined load tables and scores, and blocks.
+//! trees, exports and imports, joined load tables and scores, and blocks.
 
 use reference::listing::listing;
-use reference::{block, join_table, reduce, run, score};
+use reference::{block, export, import, join_table, reduce, run, score};
 use std::fs;
 use std::path::{Path, PathBuf};
 
@@ -119,6 +119,29 @@ fn paths_lead_to_the_blocks_beside_them() {
     }
 }
 
+/// The language that the second line of a tree's source names for its XML.
+fn xml_language(source: &Path) -> PathBuf {
+    let text = text(source);
+    let line = text.lines().nth(1).and_then(|line| line.strip_prefix("# As XML in "));
+    source.with_file_name(line.and_then(|line| line.strip_suffix('.')).expect("a language"))
+}
+
+#[test]
+fn texts_are_the_exports_of_the_trees_beside_them() {
+    let texts = files(".xml");
+    assert!(!texts.is_empty());
+    for path in texts {
+        let (tree, text) = (bytes(&path.with_extension("tree")), bytes(&path));
+        let source = path.with_extension("tree.hex");
+        let ((_, root), language) = (run_by(&source), bytes(&xml_language(&source)));
+        let mut output = vec![0; OUTPUT];
+        let outcome = export(&language, root, &tree, &mut output);
+        assert_eq!(output[..outcome.length() as usize], text, "{}", path.display());
+        let outcome = import(&language, root, &text, &mut output);
+        assert_eq!(output[..outcome.length() as usize], tree, "{}", path.display());
+    }
+}
+
 /// The language of a load table and the pack that it is joined onto, by the first line of its source.
 fn table_of(source: &Path) -> (PathBuf, PathBuf) {
     let text = text(source);
@@ -151,10 +174,10 @@ fn tables_are_joined_as_the_files_beside_them() {
 
 /// The scores of a tree by the joined table, and of its run by the table, as its file has them.
 fn scores(source: &Path) -> String {
-    let text = text(source);
-    let line = text.lines().find_map(|line| line.strip_prefix("# Scored in "));
-    let words = line.and_then(|line| line.strip_suffix('.')?.split_once(" by "));
-    let (language, table) = words.expect("a line names a language and a table");
+    let line = text(source).lines().nth(2).map(str::to_string);
+    let words = line.as_deref().and_then(|line| line.strip_prefix("# Scored in "));
+    let words = words.and_then(|words| words.strip_suffix('.')?.split_once(" by "));
+    let (language, table) = words.expect("the third line names a language and a table");
     let table = source.with_file_name(format!("{table}.hex"));
     let (tree, (pack, root)) = (bytes(&source.with_extension("")), run_by(source));
     let first = score(&bytes(&source.with_file_name(language)), root, &tree, &joined(&table));

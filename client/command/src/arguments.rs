@@ -14,6 +14,8 @@ pub enum Verb {
     Run,
     Score,
     JoinTable,
+    Export,
+    Import,
     Block,
     List,
     Show,
@@ -22,7 +24,7 @@ pub enum Verb {
 }
 
 /// The verbs with their names.
-pub const VERBS: [(&str, Verb); 12] = [
+pub const VERBS: [(&str, Verb); 14] = [
     ("check-language", Verb::CheckLanguage),
     ("check-translation", Verb::CheckTranslation),
     ("check-tree", Verb::CheckTree),
@@ -30,6 +32,8 @@ pub const VERBS: [(&str, Verb); 12] = [
     ("run", Verb::Run),
     ("score", Verb::Score),
     ("join-table", Verb::JoinTable),
+    ("export", Verb::Export),
+    ("import", Verb::Import),
     ("block", Verb::Block),
     ("list", Verb::List),
     ("show", Verb::Show),
@@ -60,6 +64,8 @@ pub struct Options {
     pub limit: Option<usize>,
     /// What the first file is, whatever its first byte.
     pub sort: Option<Sort>,
+    /// Trees are shown as XML.
+    pub xml: bool,
 }
 
 /// A verb with what it is to work on.
@@ -97,7 +103,7 @@ impl Verb {
         match self {
             Verb::Score | Verb::Block => &[4],
             Verb::JoinTable => &[2],
-            Verb::CheckTree | Verb::Run | Verb::Steps => &[3],
+            Verb::CheckTree | Verb::Run | Verb::Export | Verb::Import | Verb::Steps => &[3],
             Verb::Show => &[1, 3],
             _ => &[1],
         }
@@ -115,7 +121,7 @@ impl Verb {
 
     /// Whether the verb is an operation that is lent an output.
     fn has_output(self) -> bool {
-        matches!(self, Verb::Reduce | Verb::Run | Verb::JoinTable)
+        matches!(self, Verb::Reduce | Verb::Run | Verb::JoinTable | Verb::Export | Verb::Import)
     }
 
     /// Whether the verb takes an option.
@@ -123,6 +129,7 @@ impl Verb {
         match option {
             "-o" => self.has_output() || self == Verb::Block,
             "--limit" => self.has_output() || matches!(self, Verb::Explain | Verb::Steps),
+            "--xml" => self == Verb::Steps,
             "--as" => matches!(self, Verb::Run | Verb::Show | Verb::Explain),
             _ => true,
         }
@@ -180,6 +187,7 @@ fn parse_option<'a>(
     let mut value = || rest.next().ok_or_else(|| misused(format!("a value must follow {option}")));
     match option {
         "--hex" => options.hexadecimal = true,
+        "--xml" => options.xml = true,
         "-o" => options.output = Some(value()?.clone()),
         "--limit" => options.limit = Some(number(verb, "limit", value()?)?),
         "--as" => options.sort = Some(sort(verb, value()?)?),
@@ -290,7 +298,7 @@ mod tests {
         assert_eq!(call.operands, ["a", "1", "b"]);
         let output = Some(OsString::from("out"));
         let (limit, sort) = (Some(7), Some(Sort::Pack));
-        assert_eq!(call.options, Options { hexadecimal: true, output, limit, sort });
+        assert_eq!(call.options, Options { hexadecimal: true, output, limit, sort, xml: false });
     }
 
     #[test]
@@ -315,6 +323,7 @@ mod tests {
         assert_eq!(wrong("list a b"), "2 operands are not what list takes");
         assert_eq!(wrong("list a --far"), "--far is no option");
         assert_eq!(wrong("list a -o b"), "list does not take -o");
+        assert_eq!(wrong("run a 1 b --xml"), "run does not take --xml");
         assert_eq!(wrong("run a 1 b -o"), "a value must follow -o");
         assert_eq!(wrong("run a 1 b --as language"), "a file cannot be taken as language");
         assert_eq!(wrong("run a 1 b --as table"), "a file cannot be taken as table");

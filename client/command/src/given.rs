@@ -7,6 +7,8 @@ use algebra::Block;
 pub enum Given {
     /// A result in bytes; a check has none.
     Bytes(Vec<u8>),
+    /// A result that is text.
+    Text(Vec<u8>),
     /// A score.
     Score(i64),
     /// A block of a tree.
@@ -32,28 +34,33 @@ impl Given {
     /// The lines between the first one and the result.
     pub fn figures(&self) -> String {
         match self {
-            Given::Bytes(_) | Given::Score(_) => String::new(),
+            Given::Bytes(_) | Given::Text(_) | Given::Score(_) => String::new(),
             Given::Block { kind, start, .. } => format!("kind {kind}, start {start}\n"),
         }
     }
 
     /// The result as it is printed.
     pub fn shown(&self) -> String {
-        hexadecimal_lines(self.bytes())
+        match self {
+            Given::Text(text) => format!("{}\n", String::from_utf8_lossy(text)),
+            _ => hexadecimal_lines(self.bytes()),
+        }
     }
 
-    /// The result as it is written to a file.
+    /// The result as it is written to a file; text is written as it is.
     pub fn written(&self, hexadecimal: bool) -> Vec<u8> {
-        match hexadecimal {
-            true => hexadecimal_lines(self.bytes()).into_bytes(),
-            false => self.bytes().to_vec(),
+        match self {
+            Given::Bytes(bytes) | Given::Block { bytes, .. } if hexadecimal => {
+                hexadecimal_lines(bytes).into_bytes()
+            }
+            _ => self.bytes().to_vec(),
         }
     }
 
     /// The bytes of the result.
     pub fn bytes(&self) -> &[u8] {
         match self {
-            Given::Bytes(bytes) | Given::Block { bytes, .. } => bytes,
+            Given::Bytes(bytes) | Given::Text(bytes) | Given::Block { bytes, .. } => bytes,
             Given::Score(_) => &[],
         }
     }

@@ -13,7 +13,8 @@ usage: algebra VERB OPERANDS [OPTIONS]
 const CLOSING: &str = "
 A file is given by its name, or as - for the standard input. Options of every verb:
   --hex      files are hexadecimal text: two digits a byte, spaces between bytes as you like,
-             # starts a comment that ends with its line; results are written as such text too
+             # starts a comment that ends with its line; results are written as such text too.
+             XML is not: it is read and written as it is
   --help     tell more about the verb
   --version  tell the version of the command
 
@@ -32,11 +33,13 @@ fn synopsis(verb: Verb) -> &'static str {
         Verb::Run => "TRANSLATION-OR-PACK ROOT TREE [-o FILE] [--limit BYTES] [--as SORT]",
         Verb::Score => "LANGUAGE ROOT TREE TABLE",
         Verb::JoinTable => "TRANSLATION TABLE [-o FILE] [--limit BYTES]",
+        Verb::Export => "LANGUAGE ROOT TREE [-o FILE] [--limit BYTES]",
+        Verb::Import => "LANGUAGE ROOT TEXT [-o FILE] [--limit BYTES]",
         Verb::Block => "LANGUAGE ROOT TREE PATH [-o FILE]",
         Verb::List => "PACK",
         Verb::Show => "FILE [--as SORT] | LANGUAGE ROOT TREE",
         Verb::Explain => "VERB OPERANDS [--limit BYTES] [--as SORT]",
-        Verb::Steps => "PACK ROOT TREE [--limit BYTES]",
+        Verb::Steps => "PACK ROOT TREE [--limit BYTES] [--xml]",
     }
 }
 
@@ -50,6 +53,8 @@ fn summary(verb: Verb) -> &'static str {
         Verb::Run => "Run a translation, or what a pack reduces to, on a tree",
         Verb::Score => "Score a tree by a load table",
         Verb::JoinTable => "Join a load table onto a translation",
+        Verb::Export => "Write a tree as XML",
+        Verb::Import => "Read a tree from XML that export wrote",
         Verb::Block => "Look up one block of a tree",
         Verb::List => "List the clauses of what a pack reduces to",
         Verb::Show => "Show a language, a translation, a pack, a load table or a tree in words",
@@ -106,6 +111,30 @@ digits below the first line.
 Refusals: 1 to 7, 11, 17, 18.
 "
         }
+        Verb::Export => {
+            "\
+ROOT is the number of a kind. Production 1.4 is an element x1.4 around its arguments, a token of
+kind 2 with value 5 is <t2>5</t2>. The text is printed below the first line, with a line end
+behind it that the length does not count.
+  -o FILE        write the text to the file instead, without a line end, also with --hex. The file
+                 is written whole or not at all. With - the text alone goes to the standard
+                 output, and the first line to the standard error.
+  --limit BYTES  lend an output of that many bytes; without it, 268435456
+Refusals: 1 to 4, 14 to 17.
+"
+        }
+        Verb::Import => {
+            "\
+ROOT is the number of a kind. TEXT is a file that export -o wrote, or the same text: anything else
+in it, such as a space or a line end, is refused. It is read as it is, also with --hex, which is
+for the language and the result. The tree is printed in hexadecimal digits below the first line.
+  -o FILE        write it to the file instead, as bytes, or as text with --hex. The file is
+                 written whole or not at all. With - the tree alone goes to the standard
+                 output, and the first line to the standard error.
+  --limit BYTES  lend an output of that many bytes; without it, 268435456
+Refusals: 1 to 4, 14, 16, 17, 20.
+"
+        }
         Verb::Block => {
             "\
 ROOT is the number of a kind. PATH leads from the root to the block: argument numbers, from 1,
@@ -134,11 +163,11 @@ fields 24 only, and a tree if it is legal.
         }
         Verb::Explain => {
             "\
-VERB is one of check-language, check-translation, check-tree, reduce, run, score, join-table and
-block, with its operands. Below the first line stands where the fault is (the byte, counted from 0,
-the field, the clause, the path of argument numbers in a tree, the operand in a term) and what it
-is. These lines come from a second implementation; if it does not come to the same number, that is
-said.
+VERB is one of check-language, check-translation, check-tree, reduce, run, score, join-table,
+export, import and block, with its operands. Below the first line stands where the fault is (the
+byte, counted from 0, the field, the clause, the path of argument numbers in a tree, the operand in
+a term) and what it is. These lines come from a second implementation; if it does not come to the
+same number, that is said.
   --limit BYTES  explain the call with an output of that many bytes
   --as SORT      for run: take the first file as a 'translation' or a 'pack'
 "
@@ -150,6 +179,7 @@ tree between them; then the result of the last run and that of the join, and tha
 equal. Operands that are joins are taken apart too, and lets around a join go into each step. A
 tree between can be too deep or too long to be run: then that is said.
   --limit BYTES  lend outputs of that many bytes; without it, 268435456
+  --xml          print trees as export writes them; one that export refuses stays in digits
 "
         }
     }

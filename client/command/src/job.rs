@@ -14,7 +14,7 @@ use reference::explain::{self, Fault};
 /// The length of the output of a run, unless the arguments give one.
 const RUN_BYTES: usize = 1 << 28;
 /// Trees may have any length.
-const TREE_BYTES: usize = usize::MAX - 1;
+pub const TREE_BYTES: usize = usize::MAX - 1;
 
 /// The inputs of one operation.
 pub enum Job {
@@ -92,7 +92,7 @@ impl Job {
             }
             Verb::Run => Run::load(call, streams).map(Job::Run),
             Verb::JoinTable => Job::load_join(call, streams),
-            Verb::CheckTree | Verb::Score | Verb::Block => {
+            Verb::CheckTree | Verb::Score | Verb::Export | Verb::Import | Verb::Block => {
                 TreeJob::load(verb, call, streams).map(Job::OnTree)
             }
             _ => Err(misuse(Some(verb), "this is no operation")),
@@ -107,7 +107,7 @@ impl Job {
         Ok(Job::JoinTable { translation, table, limit })
     }
 
-    /// The length of the tree, if there is one.
+    /// The length of the tree or of its text, if there is one.
     pub fn tree_length(&self) -> usize {
         match self {
             Job::Run(run) => run.tree.len(),

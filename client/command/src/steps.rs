@@ -7,7 +7,7 @@ use crate::verbs::{answer_line, printed};
 use crate::work::work;
 use crate::{Failure, Printed, Streams, REFUSED};
 use algebra::{Refusal, PACK_BYTES};
-use reference::steps::{mapped_kind, Step};
+use reference::steps::{languages, mapped_kind, Step};
 
 /// A tree and the kind of its root.
 #[derive(Clone, Debug, PartialEq, Eq)]
@@ -53,49 +53,61 @@ impl Verdict {
     }
 }
 
+/// The length of each output, and whether trees are shown as XML.
+#[derive(Clone, Copy)]
+struct Format {
+    limit: usize,
+    xml: bool,
+}
+
 /// Prints the steps of a pack's join on a tree.
 pub fn steps(call: &Call, streams: &mut Streams) -> Result<Printed, Failure> {
     let (root, pack) = (root(call)?, operand(call, 0, PACK_BYTES, streams)?);
-    let (tree, limit) = (tree(call, streams)?, run_limit(call));
+    let (tree, limit, xml) = (tree(call, streams)?, run_limit(call), call.options.xml);
     let bytes = tree.len();
     let start = Rooted { kind: root, tree };
-    work(bytes, streams, || both_routes(&pack, start, limit))
+    work(bytes, streams, || both_routes(&pack, start, Format { limit, xml }))
 }
 
 /// What is printed for both routes.
-fn both_routes(pack: &[u8], start: Rooted, limit: usize) -> Printed {
+fn both_routes(pack: &[u8], start: Rooted, format: Format) -> Printed {
     let translation = match algebra::reduce_to_vec(pack) {
         Ok(translation) => translation,
         Err(refusal) => return printed(Err::<usize, _>(refusal), "the pack is refused\n"),
     };
     let steps = reference::steps::steps(pack).unwrap_or_default();
-    let joined = run(&translation, &start, limit);
-    let mut lines = tree_line("tree", &start);
-    let in_turn = run_in_turn(&steps, start, limit, &mut lines);
+    let joined = run(&translation, &start, format.limit);
+    let (source, target) = languages(&translation).unwrap_or_default();
+    let mut lines = format.tree_line("tree", &start, source);
+    let in_turn = run_in_turn(&steps, start, format, &mut lines);
     if let Ok(result) = &joined {
-        lines.push_str(&tree_line("joined", result));
+        lines.push_str(&format.tree_line("joined", result, target));
     }
     let verdict = Verdict::new(&in_turn, &joined, steps.len());
     let answer = joined.map(|result| result.tree.len());
-    match steps.len() {
-        0 => lines.push_str("note: the second implementation cannot read the pack\n"),
-        1 => lines.push_str("the term is no join: there is one step\n"),
-        _ => lines.push_str(&format!("{}\n", verdict.text())),
-    }
-    let printed = printed(answer, &lines);
+    let printed = printed(answer, &format!("{lines}{}\n", closing(steps.len(), verdict)));
     match verdict {
         Verdict::Different => Printed { status: REFUSED, ..printed },
         _ => printed,
     }
 }
 
+/// What is said last, by the number of the steps.
+fn closing(steps: usize, verdict: Verdict) -> &'static str {
+    match steps {
+        0 => "note: the second implementation cannot read the pack",
+        1 => "the term is no join: there is one step",
+        _ => verdict.text(),
+    }
+}
+
 /// Runs the steps one after the other, and adds a line for each run and each tree.
-fn run_in_turn(steps: &[Step], start: Rooted, limit: usize, lines: &mut String) -> InTurn {
+fn run_in_turn(steps: &[Step], start: Rooted, format: Format, lines: &mut String) -> InTurn {
     let mut current = start;
     for (place, step) in steps.iter().enumerate() {
         let translation = algebra::reduce_to_vec(&step.pack).map_err(|refusal| (place, refusal));
-        let answer = translation.and_then(|translation| {
-            run(&translation, &current, limit).map_err(|refusal| (place, refusal))
+        let answer = translation.as_ref().map_err(|refused| *refused).and_then(|translation| {
+            run(translation, &current, format.limit).map_err(|refusal| (place, refusal))
         });
         let length = answer.as_ref().map(|result| result.tree.len()).map_err(|refused| refused.1);
         let (number, count, term) = (place + 1, steps.len(), digits(&step.term));
@@ -103,7 +115,8 @@ fn run_in_turn(steps: &[Step], start: Rooted, limit: usize, lines: &mut String) 
         lines.push_str(&format!("step {number} of {count}, term {term}: {answered}\n"));
         current = answer?;
         let name = if number < count { "between" } else { "in turn" };
-        lines.push_str(&tree_line(name, &current));
+        let languages = translation.as_deref().ok().and_then(languages).unwrap_or_default();
+        lines.push_str(&format.tree_line(name, &current, languages.1));
     }
     Ok(current)
 }
@@ -115,10 +128,22 @@ fn run(translation: &[u8], start: &Rooted, limit: usize) -> Result<Rooted, Refus
     Ok(Rooted { kind, tree })
 }
 
-/// The line that shows a tree: the one place that decides in which format it is shown.
-fn tree_line(name: &str, rooted: &Rooted) -> String {
-    let Rooted { kind, tree } = rooted;
-    format!("{name}, kind {kind}, length {}: {}\n", tree.len(), digits(tree))
+impl Format {
+    /// The line that shows a tree of a language.
+    fn tree_line(self, name: &str, rooted: &Rooted, language: &[u8]) -> String {
+        let Rooted { kind, tree } = rooted;
+        format!("{name}, kind {kind}, length {}: {}\n", tree.len(), self.shown(rooted, language))
+    }
+
+    /// A tree of a language as XML or in digits; what cannot be exported is shown in digits.
+    fn shown(self, rooted: &Rooted, language: &[u8]) -> String {
+        let Rooted { kind, tree } = rooted;
+        let export = || algebra::export_to_vec(language, *kind, tree, usize::MAX).ok();
+        match self.xml.then(export).flatten() {
+            Some(text) => String::from_utf8_lossy(&text).into_owned(),
+            None => digits(tree),
+        }
+    }
 }
 
 #[cfg(test)]

@@ -1,8 +1,9 @@
-//! An operation on a tree of a language.
+//! An operation on a tree, or on its text, in a language.
 
 use crate::arguments::{path, Call, Verb, PATH_PLACE};
 use crate::given::Given;
-use crate::job::{operand, root, tree};
+use crate::input::read_file;
+use crate::job::{operand, root, run_limit, tree, TREE_BYTES};
 use crate::{Failure, Streams};
 use algebra::{Refusal, LANGUAGE_BYTES, TABLE_BYTES};
 use reference::explain::{self, Fault};
@@ -15,6 +16,7 @@ pub struct TreeJob {
     operation: Operation,
     language: Vec<u8>,
     root: u32,
+    /// The tree, or for an import its text.
     tree: Vec<u8>,
 }
 
@@ -22,7 +24,14 @@ pub struct TreeJob {
 enum Operation {
     Check,
     Score { table: Vec<u8> },
+    Export { limit: usize },
+    Import { limit: usize },
     Block { path: Vec<u8> },
+}
+
+/// The text, which is the third operand and never hexadecimal.
+fn text(call: &Call, streams: &mut Streams) -> Result<Vec<u8>, Failure> {
+    read_file(&call.operands[2], false, TREE_BYTES, streams)
 }
 
 impl TreeJob {
@@ -30,18 +39,23 @@ impl TreeJob {
     pub fn load(verb: Verb, call: &Call, streams: &mut Streams) -> Result<TreeJob, Failure> {
         let mut operation = match verb {
             Verb::Score => Operation::Score { table: vec![] },
+            Verb::Export => Operation::Export { limit: run_limit(call) },
+            Verb::Import => Operation::Import { limit: run_limit(call) },
             Verb::Block => Operation::Block { path: path(call.verb, &call.operands[PATH_PLACE])? },
             _ => Operation::Check,
         };
         let (root, language) = (root(call)?, operand(call, 0, LANGUAGE_BYTES, streams)?);
-        let tree = tree(call, streams)?;
+        let tree = match operation {
+            Operation::Import { .. } => text(call, streams)?,
+            _ => tree(call, streams)?,
+        };
         if let Operation::Score { table } = &mut operation {
             *table = operand(call, TABLE_PLACE, TABLE_BYTES, streams)?;
         }
         Ok(TreeJob { operation, language, root, tree })
     }
 
-    /// The length of the tree.
+    /// The length of the tree or text.
     pub fn length(&self) -> usize {
         self.tree.len()
     }
@@ -56,6 +70,12 @@ impl TreeJob {
             Operation::Score { table } => {
                 algebra::score(language, *root, tree, table).map(Given::Score)
             }
+            Operation::Export { limit } => {
+                algebra::export_to_vec(language, *root, tree, *limit).map(Given::Text)
+            }
+            Operation::Import { limit } => {
+                algebra::import_to_vec(language, *root, tree, *limit).map(Given::Bytes)
+            }
             Operation::Block { path } => {
                 algebra::block(language, *root, tree, path).map(Given::from)
             }
@@ -68,6 +88,8 @@ impl TreeJob {
         match operation {
             Operation::Check => explain::tree(language, *root, tree),
             Operation::Score { table } => explain::score(language, *root, tree, table),
+            Operation::Export { limit } => explain::export(language, *root, tree, *limit),
+            Operation::Import { limit } => explain::import(language, *root, tree, *limit),
             Operation::Block { path } => explain::block(language, *root, tree, path),
         }
     }

@@ -4,8 +4,9 @@
 use algebra::{Block, Refusal, TRANSLATION_BYTES};
 use algebra_command::{command, Streams, ACCEPTED, REFUSED};
 use reference::generate::{
-    block_case, join_table_case, language_file, law_pack, long_run_case, pack_with_term,
-    reduce_case, run_case, score_case, source_tree, translation_file, tree_case, Random,
+    block_case, export_case, import_case, join_table_case, language_file, law_pack, long_run_case,
+    pack_with_term, reduce_case, run_case, score_case, source_tree, translation_file, tree_case,
+    Random,
 };
 use std::ffi::OsString;
 use std::fmt::Display;
@@ -40,11 +41,25 @@ struct Printed {
 /// An input of a call, a root, or a path.
 enum Operand<'a> {
     File(&'a [u8]),
+    /// A file that is never hexadecimal.
+    Text(&'a [u8]),
     Root(u32),
     Path(&'a [u8]),
 }
 
-use Operand::{File, Path, Root};
+use Operand::{File, Path, Root, Text};
+
+impl Operand<'_> {
+    /// The contents of a file, or the word of an operand that is none.
+    fn contents(&self, hexadecimal: bool) -> Result<Vec<u8>, String> {
+        match self {
+            Root(root) => Err(root.to_string()),
+            Path(numbers) => Err(path_text(numbers)),
+            Text(bytes) => Ok(bytes.to_vec()),
+            File(bytes) => Ok(encoded(bytes, hexadecimal)),
+        }
+    }
+}
 
 impl Folder {
     /// A new folder.
@@ -71,14 +86,13 @@ impl Folder {
         let mut arguments: Vec<OsString> = verbs.iter().map(OsString::from).collect();
         let mut input = vec![];
         for (place, operand) in operands.iter().enumerate() {
-            arguments.push(match operand {
-                Root(root) => root.to_string().into(),
-                Path(numbers) => path_text(numbers).into(),
-                File(bytes) if place == piped => {
-                    input = encoded(bytes, hexadecimal);
+            arguments.push(match operand.contents(hexadecimal) {
+                Err(word) => word.into(),
+                Ok(contents) if place == piped => {
+                    input = contents;
                     "-".into()
                 }
-                File(bytes) => self.operand(place, &encoded(bytes, hexadecimal)),
+                Ok(contents) => self.operand(place, &contents),
             });
         }
         arguments.extend(options.iter().map(OsString::from));
@@ -343,11 +357,6 @@ fn run() {
     }
 }
 
-/// The options that lend an output of so many bytes.
-fn limit_options(room: usize) -> Vec<String> {
-    vec!["--limit".to_string(), room.to_string()]
-}
-
 #[test]
 fn score() {
     let folder = Folder::new("score");
@@ -379,6 +388,50 @@ fn join_table() {
         compare_result(&folder, case, "join-table", &operands, &options, result);
         let second = reference::join_table(translation, table, &mut vec![0; room]).number();
         compare_explanation(&folder, case, "join-table", &operands, &options, answer, second);
+    }
+}
+
+/// The options that lend an output of so many bytes.
+fn limit_options(room: usize) -> Vec<String> {
+    vec!["--limit".to_string(), room.to_string()]
+}
+
+#[test]
+fn export() {
+    let folder = Folder::new("export");
+    for case in 0..CASES {
+        let input = export_case(&mut Random::new(case));
+        let (language, root, tree, room) = (&input.language, input.root, &input.tree, input.output);
+        let operands = [File(language), Root(root), File(tree)];
+        let (mut output, options) = (vec![0; room], limit_options(room));
+        let answer = algebra::export(language, root, tree, &mut output);
+        let text = answer.map_or(OLD, |length| &output[..length]);
+        let random = &mut Random::new(case);
+        let printed = folder.call(random, &["export"], &operands, &options);
+        printed.compare(case, &answer, |length| *length);
+        let lines = answer.ok().map(|_| std::str::from_utf8(text).expect("text"));
+        assert_eq!(printed.text().lines().nth(1), lines, "case {case}");
+        let written = [folder.output_options(), options.clone()].concat();
+        folder.call(random, &["export"], &operands, &written);
+        assert_eq!(fs::read(folder.result()).expect("the file is there"), text, "case {case}");
+        let second = reference::export(language, root, tree, &mut vec![0; room]).number();
+        compare_explanation(&folder, case, "export", &operands, &options, answer, second);
+    }
+}
+
+#[test]
+fn import() {
+    let folder = Folder::new("import");
+    for case in 0..CASES {
+        let input = import_case(&mut Random::new(case));
+        let (language, root, text, room) = (&input.language, input.root, &input.text, input.output);
+        let operands = [File(language), Root(root), Text(text)];
+        let (mut output, options) = (vec![0; room], limit_options(room));
+        let answer = algebra::import(language, root, text, &mut output);
+        let result = answer.map(|length| &output[..length]);
+        compare_result(&folder, case, "import", &operands, &options, result);
+        let second = reference::import(language, root, text, &mut vec![0; room]).number();
+        compare_explanation(&folder, case, "import", &operands, &options, answer, second);
     }
 }
 
@@ -421,17 +474,17 @@ fn run_of_packs_and_steps() {
         let random = &mut Random::new(case);
         let pack = law_pack(random);
         let mut term = || pack.terms[random.below(pack.terms.len())].clone();
-        let join = [vec![0x54], term(), term()].concat();
-        let pack = pack_with_term(&pack, &join);
+        let pack = pack_with_term(&pack, &[vec![0x54], term(), term()].concat());
         let reduced = algebra::reduce_to_vec(&pack);
         let source = reduced.as_ref().map_or(&[][..], |translation| translation);
-        let (root, tree) = source_tree(random, source).unwrap_or_default();
-        let root = u32::from(root);
-        let operands = [File(&pack), Root(root), File(&tree)];
+        let (kind, tree) = source_tree(random, source).unwrap_or_default();
+        let (root, operands) = (u32::from(kind), [File(&pack), Root(kind.into()), File(&tree)]);
         let limit = ["--limit".to_string(), LIMIT.to_string()];
         let answer = reduced.and_then(|of| algebra::run_to_vec(&of, root, &tree, LIMIT));
         folder.call(random, &["run"], &operands, &limit).compare(case, &answer, Vec::len);
-        let printed = folder.call(random, &["steps"], &operands, &limit);
+        let xml = random.percent(50).then(|| "--xml".to_string());
+        let options: Vec<String> = limit.into_iter().chain(xml).collect();
+        let printed = folder.call(random, &["steps"], &operands, &options);
         printed.compare(case, &answer, Vec::len);
         assert!(!printed.text().contains("DIFFERENT"), "case {case}: {}", printed.text());
         equal += usize::from(printed.text().contains("\nequal: "));

@@ -9,6 +9,7 @@ ghost use Rattle.block.specs.Operations.{showBlock};
 ghost use Rattle.block.specs.Parts.{Told};
 ghost use Rattle.score.specs.Operations.{scoreTree};
 ghost use Rattle.loads.specs.Joined.{joinTable};
+ghost use Rattle.xml.specs.Operations.{exportTree, importTree};
 use block::show::place;
 use checks::translations::check_translation;
 use checks::trees::check_tree;
@@ -20,6 +21,8 @@ use loads::join::join_table;
 use reducer::reduce::reduce;
 use runner::run::run;
 use score::score::score;
+use xml::operations::export;
+use xml::operations::import;
 
 // The number of an answer.
 fn number_of(answer: Answer) -> u32
@@ -128,6 +131,40 @@ pub extern "C" fn algebra_join_table(
         × (now (output .exit) ≡ joinTable (now (translation .entry)) (now (table .entry)) (now (output .entry)) .output) ⌝ }
 {
     let answer = join_table(translation, table, output);
+    hand_over(answer, length)
+}
+
+// Export a tree of the root kind as XML; the length of the text is put into `length`.
+#[no_mangle]
+pub extern "C" fn algebra_export(
+    language: &[u8],
+    root: u32,
+    tree: &[u8],
+    output: &mut [u8],
+    length: &mut u64,
+) -> u32
+    ensures { λ r. ⌜ (r ≡ numberOf (exportTree (now (language .entry)) root (now (tree .entry)) (now (output .entry)) .outcome))
+        × (now (length .exit) ≡ lengthOf (exportTree (now (language .entry)) root (now (tree .entry)) (now (output .entry)) .outcome))
+        × (now (output .exit) ≡ exportTree (now (language .entry)) root (now (tree .entry)) (now (output .entry)) .output) ⌝ }
+{
+    let answer = export(language, root, tree, output);
+    hand_over(answer, length)
+}
+
+// Import a tree of the root kind from XML; the length of its bytes is put into `length`.
+#[no_mangle]
+pub extern "C" fn algebra_import(
+    language: &[u8],
+    root: u32,
+    text: &[u8],
+    output: &mut [u8],
+    length: &mut u64,
+) -> u32
+    ensures { λ r. ⌜ (r ≡ numberOf (importTree (now (language .entry)) root (now (text .entry)) (now (output .entry)) .outcome))
+        × (now (length .exit) ≡ lengthOf (importTree (now (language .entry)) root (now (text .entry)) (now (output .entry)) .outcome))
+        × (now (output .exit) ≡ importTree (now (language .entry)) root (now (text .entry)) (now (output .entry)) .output) ⌝ }
+{
+    let answer = import(language, root, text, output);
     hand_over(answer, length)
 }
 

@@ -4,11 +4,11 @@ use mathlib.Core.Bool.{Bool, true, false}
 use mathlib.Core.List.{List, _++_}
 use lib.ListN.{length, drop}
 use Rattle.fields.specs.declared.outcome.Reason.{Reason}
-use Rattle.fields.specs.declared.outcome.Reason.the-variants.{TooLong, BrokenField, OutOfOrder, ClassIsResult, WrongMapping, WrongClauses, IllegalCode, IllegalTerm, BuffersTooShort, UnboundVariable, ValueTooLarge, SumUnfit, JoinUnfit, UnknownRoot, IllegalTree, TooDeep, OutputTooShort, BrokenTable, ScoreOutOfRange, NoBlock}
+use Rattle.fields.specs.declared.outcome.Reason.the-variants.{TooLong, BrokenField, OutOfOrder, ClassIsResult, WrongMapping, WrongClauses, IllegalCode, IllegalTerm, BuffersTooShort, UnboundVariable, ValueTooLarge, SumUnfit, JoinUnfit, UnknownRoot, IllegalTree, TooDeep, OutputTooShort, BrokenTable, ScoreOutOfRange, NotAnExport, NoBlock}
 use Rattle.fields.specs.declared.outcome.Outcome.{Outcome}
 use Rattle.fields.specs.declared.outcome.Outcome.the-variants.{Accepted, Refused}
 
--- The number of each refusal (paper 01; paper 02: 18 and 19 by 2026-03, 21 by 2026-06).
+-- The number of each refusal (paper 01; paper 02: 18 and 19 by 2026-03, 20 by 2026-05, 21 by 2026-06).
 abbrev pub reasonNumber : Reason → ℕ
 -- a file, or a language inside it, is longer than its limit
 reasonNumber TooLong = 1
@@ -48,6 +48,8 @@ reasonNumber OutputTooShort = 17
 reasonNumber BrokenTable = 18
 -- a node's score lies outside -1,000,000,000 to 1,000,000,000
 reasonNumber ScoreOutOfRange = 19
+-- the text is not an export of a legal tree
+reasonNumber NotAnExport = 20
 -- a path number is 0, or there is no such argument
 reasonNumber NoBlock = 21
 

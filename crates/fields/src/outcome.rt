@@ -2,7 +2,7 @@
 ghost use mathlib.Core.Path.{_≡_};
 ghost use Rattle.fields.specs.Outcome.{numberOf, lengthOf, reasonNumber};
 
-// Why an operation refuses: 1 to 19, then 21, in this order.
+// Why an operation refuses: 1 to 21, in this order.
 pub enum Reason {
     TooLong,
     BrokenField,
@@ -23,6 +23,7 @@ pub enum Reason {
     OutputTooShort,
     BrokenTable,
     ScoreOutOfRange,
+    NotAnExport,
     NoBlock,
 }
 
@@ -79,6 +80,7 @@ fn reason_number(reason: Reason) -> u32
         Reason::OutputTooShort => 17,
         Reason::BrokenTable => 18,
         Reason::ScoreOutOfRange => 19,
+        Reason::NotAnExport => 20,
         Reason::NoBlock => 21,
     }
 }

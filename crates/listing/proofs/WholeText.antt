@@ -8,7 +8,7 @@ use lib.Seq.{take-append-seam, length-take-le}
 use Rattle.io.specs.Counts.{Counts}
 use Rattle.fields.specs.Outcome.{Result, value, refused, _>>=_, reasonNumber, numberOf, written, outputAfter}
 use Rattle.fields.specs.declared.outcome.Reason.{Reason}
-use Rattle.fields.specs.declared.outcome.Reason.the-variants.{TooLong, BrokenField, OutOfOrder, ClassIsResult, WrongMapping, WrongClauses, IllegalCode, IllegalTerm, BuffersTooShort, UnboundVariable, ValueTooLarge, SumUnfit, JoinUnfit, UnknownRoot, IllegalTree, TooDeep, OutputTooShort, BrokenTable, ScoreOutOfRange, NoBlock}
+use Rattle.fields.specs.declared.outcome.Reason.the-variants.{TooLong, BrokenField, OutOfOrder, ClassIsResult, WrongMapping, WrongClauses, IllegalCode, IllegalTerm, BuffersTooShort, UnboundVariable, ValueTooLarge, SumUnfit, JoinUnfit, UnknownRoot, IllegalTree, TooDeep, OutputTooShort, BrokenTable, ScoreOutOfRange, NotAnExport, NoBlock}
 use Rattle.fields.specs.declared.outcome.Outcome.{Outcome}
 use Rattle.fields.specs.declared.outcome.Outcome.the-variants.{Accepted, Refused}
 use Rattle.translation.specs.Translation.{Translation}
@@ -43,6 +43,7 @@ small TooDeep = omega arith
 small OutputTooShort = omega arith
 small BrokenTable = omega arith
 small ScoreOutOfRange = omega arith
+small NotAnExport = omega arith
 small NoBlock = omega arith
 
 pub number-small : (o : Outcome) → numberOf o < 22

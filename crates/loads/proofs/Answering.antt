@@ -1,18 +1,17 @@
 -- The operation by its chain of tests: a law for each return of `join_held`, `join_parts` and `join_table`.
 use Prim.Native.Nat.{ℕ, _+_, _-_, _<_, _≤_}
 use mathlib.Core.Path.{_≡_, refl, sym, ap, _∙_}
-use mathlib.Core.Bool.{Bool, true, false, not}
-use mathlib.Core.List.{List, [], _∷_, _++_}
+use mathlib.Core.Bool.{Bool, true, false}
+use mathlib.Core.List.{List, _++_}
 use mathlib.Core.Option.{Option, none, some}
 use native.Mathlib.Omega.{arith}
 use lib.ListN.{length, getD, take, drop}
 use lib.Seq.{slice, take-append-seam}
-use lib.Dec.{ltb}
 use lib.IntN.{ℤ}
 use borrow.Author.Tests.{lt-ltb, le-ltb}
 use Rattle.fields.specs.Lists.{all, isSome}
 use Rattle.fields.specs.Fields.{fieldsOf}
-use Rattle.fields.specs.Outcome.{Result, value, refused, refuseIf, _>>=_, checked, written, outputAfter}
+use Rattle.fields.specs.Outcome.{Result, value, refused, checked}
 use Rattle.fields.specs.declared.outcome.Outcome.{Outcome}
 use Rattle.fields.specs.declared.outcome.Outcome.the-variants.{Accepted, Refused}
 use Rattle.fields.specs.declared.outcome.Reason.{Reason}
@@ -20,18 +19,16 @@ use Rattle.fields.specs.declared.outcome.Reason.the-variants as Why
 use Rattle.fields.specs.declared.copy.Stored.{Stored}
 use Rattle.fields.specs.declared.copy.Stored.the-variants as Stored
 use Rattle.fields.specs.Inner.Places.{places}
-use Rattle.fields.specs.Inner.Writing.{Inside, spliced, Written, Stores}
+use Rattle.fields.specs.Inner.Writing.{Inside, Written, Stores}
 use Rattle.fields.proofs.Truth.{false-true, some-is}
 use Rattle.fields.proofs.Splices.{opened}
-use Rattle.language.specs.Language.{Language}
-use Rattle.language.specs.LanguageFile.{entriesOf}
 use Rattle.language.specs.Inner.Entries.{RisingEntries}
 use Rattle.language.proofs.Holds.{holds-entries}
 use Rattle.language.proofs.Chain.{rising-is}
 use Rattle.reader.specs.Inner.Index.{putAll}
 use Rattle.translation.specs.Translation.{Translation, Body}
 use Rattle.translation.specs.TranslationFile.{bodyOf, translationOf}
-use Rattle.translation.specs.Operations.{checkTranslation, fitted}
+use Rattle.translation.specs.Operations.{checkTranslation}
 use Rattle.translation.specs.Inner.ItemIndex.{IndexedItems}
 use Rattle.translation.specs.Inner.Parts.{sourceIn, targetIn, bodyIn}
 use Rattle.translation.proofs.Codec.{translation-whole, rises-parts}

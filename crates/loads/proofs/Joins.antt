@@ -4,22 +4,21 @@ use mathlib.Core.Path.{_≡_, refl, sym, ap, _∙_}
 use mathlib.Core.Bool.{Bool, true, false, cond, _&&_}
 use mathlib.Core.Logic.{_⊎_, inl, inr, ⊎-elim}
 use mathlib.Core.List.{List, [], _∷_, _++_, map, append-assoc, append-nil}
-use mathlib.Core.Option.{some}
 use native.Mathlib.Omega.{arith}
 use native.Mathlib.Numerals.{add-one}
 use lib.ListN.{length, getD, take, drop, length-append}
 use lib.Seq.{slice, length-slice}
 use lib.IntN.{ℤ}
 use Rattle.fields.specs.Lists.{all, concatMap, countUp}
-use Rattle.fields.specs.Fields.{Field, field, encodeField, encodeFields, twoBytes, pairAt}
+use Rattle.fields.specs.Fields.{field, encodeField, encodeFields, twoBytes, pairAt}
 use Rattle.fields.specs.Inner.Places.{fieldEnd, placesFrom, places}
 use Rattle.fields.specs.Inner.Writing.{Written}
-use Rattle.fields.proofs.Truth.{by-test, false-true, none-some, Mem, mem-map, all-mem}
+use Rattle.fields.proofs.Truth.{Mem, mem-map, all-mem}
 use Rattle.fields.proofs.Keyed.{Rising, is-rising}
 use Rattle.fields.proofs.Places.{places-done, places-next}
 use Rattle.fields.proofs.Splices.{slice-is, nothing-spliced, written-then}
 use Rattle.fields.proofs.Codec.{Bytes, each-front, bytes-from}
-use Rattle.language.specs.Language.{Language, Range, Entry, class, production, entryKey, argumentsOf, productionKey}
+use Rattle.language.specs.Language.{Language, Range, Entry, class, production, entryKey, productionKey}
 use Rattle.language.specs.Inner.Entries.{entryAt, entryWhole, IsClass, IsProduction, Holds}
 use Rattle.language.proofs.Facts.{entry-facts, class-is, production-is}
 use Rattle.language.proofs.Holds.{holds-entries}
@@ -30,7 +29,7 @@ use Rattle.reader.specs.declared.node.Syntax.the-variants as Syntaxes
 use Rattle.reader.proofs.Sound.{read-done}
 use Rattle.translation.specs.Translation.{Translation, mapped}
 use Rattle.translation.specs.Running.{readClause, clausesOf, mappedArguments, codeLevels}
-use Rattle.translation.specs.Inner.ItemIndex.{codeBefore, mappedAt}
+use Rattle.translation.specs.Inner.ItemIndex.{mappedAt}
 use Rattle.translation.proofs.Codec.{rises-parts}
 use Rattle.translation.proofs.Lookup.{mem-clause}
 use Rattle.translation.proofs.Fitting.{clause-code}
@@ -42,10 +41,10 @@ use mir.Syntax.{w64}
 use mir.Val.{toZ, ofZ}
 use Rattle.score.proofs.Integers.{between-near, back}
 use Rattle.score.specs.Figures.{figureBytes, isFigure}
-use Rattle.score.specs.LoadTable.{load, Table, loadField, encodeTable}
+use Rattle.score.specs.LoadTable.{load, loadField, encodeTable}
 use Rattle.score.specs.Linear.{Loads, form}
 use Rattle.score.specs.Inner.Terms.{TermAsks}
-use Rattle.loads.specs.Joined.{placeFits, placesOf, loadFits, joinedLoad, joinedTable}
+use Rattle.loads.specs.Joined.{placeFits, loadFits, joinedLoad, joinedTable}
 use Rattle.loads.specs.Inner.Loading.{figuredOf, FigureIn, Parts, clauseAt, figuresBytes, loadBytes, LoadAsks, Puts}
 use Rattle.loads.specs.declared.join.Figured.{Figured}
 use Rattle.loads.specs.declared.join.Figured.the-variants as Figured

@@ -1,7 +1,7 @@
 -- Bytes that fit, and figures of a code: a law for each return of `put_figure`, `put_head` and `figure_at`.
-use Prim.Native.Nat.{ℕ, _+_, _/_, _%_, _<_, _≤_}
+use Prim.Native.Nat.{ℕ, _+_, _/_, _%_, _≤_}
 use mathlib.Core.Path.{_≡_, refl, sym, ap, _∙_}
-use mathlib.Core.Bool.{Bool, true, false, cond, _&&_}
+use mathlib.Core.Bool.{true, false}
 use mathlib.Core.List.{List, [], _∷_, _++_}
 use native.Mathlib.Omega.{arith}
 use lib.ListN.{length}
@@ -9,8 +9,8 @@ use lib.Dec.{leb}
 use lib.IntN.{ℤ}
 use borrow.Author.Tests.{leb-true, leb-false}
 use Rattle.fields.specs.Fields.{twoBytes}
-use Rattle.fields.specs.Inner.Writing.{spliced, Written}
-use Rattle.fields.proofs.Truth.{by-test, false-true}
+use Rattle.fields.specs.Inner.Writing.{Written}
+use Rattle.fields.proofs.Truth.{by-test}
 use Rattle.fields.proofs.Splices.{length-spliced, written-then}
 use Rattle.reader.specs.Code.{Code}
 use Rattle.reader.specs.declared.node.Syntax.the-variants as Syntaxes
@@ -23,7 +23,6 @@ use Rattle.score.specs.declared.form.Formed.the-variants as Formed
 use Rattle.score.proofs.Walking.{formed-at, formed-out}
 use Rattle.loads.specs.Joined.{placeFits}
 use Rattle.loads.specs.Inner.Loading.{figuredOf}
-use Rattle.loads.specs.declared.join.Figured.{Figured}
 use Rattle.loads.specs.declared.join.Figured.the-variants.{Fits, Outside}
 
 -- What fits was put in.

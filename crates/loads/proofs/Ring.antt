@@ -1,7 +1,7 @@
 -- Products of integers over sums, and their associativity.
 use Prim.Native.Nat.{zero, suc, _*_}
 use mathlib.Core.Path.{_≡_, refl, sym, ap, _∙_}
-use lib.IntN.{ℤ, pos, negsuc, negℤ, sucℤ, predℤ, _+ℤ_, _-ℤ_, _*ℤ_, negℤ-negℤ, negℤ-+ℤ, zero-*ℤ, sucℤ-*ℤ, predℤ-*ℤ, *ℤ-comm, +ℤ-assoc, +ℤ-comm, +ℤ-idl}
+use lib.IntN.{ℤ, pos, negsuc, negℤ, sucℤ, predℤ, _+ℤ_, _*ℤ_, negℤ-negℤ, negℤ-+ℤ, zero-*ℤ, sucℤ-*ℤ, predℤ-*ℤ, *ℤ-comm, +ℤ-assoc, +ℤ-comm}
 
 -- What holds of 0, and of the neighbours of a number that it holds of, holds of all.
 by-steps : (P : ℤ → Type 0) → P (pos 0) → ((m : ℤ) → P m → P (sucℤ m)) → ((m : ℤ) → P m → P (predℤ m)) → (z : ℤ) → P z

@@ -1,24 +1,24 @@
 -- A joined table is a table of the source, and gives a tree the score that the table gives its run.
 use Prim.Native.Nat.{ℕ, zero, suc, max, _+_, _*_, _-_, _/_, _%_, _<_, _≤_}
 use mathlib.Core.Path.{_≡_, refl, sym, ap, _∙_}
-use mathlib.Core.Bool.{Bool, true, false, cond, not, _&&_}
-use mathlib.Core.Logic.{_⊎_, inl, inr, ⊎-elim}
+use mathlib.Core.Bool.{Bool, true, false, not}
+use mathlib.Core.Logic.{_⊎_, inl, ⊎-elim}
 use mathlib.Core.List.{List, [], _∷_, _++_, map, append-nil}
-use mathlib.Core.Option.{Option, none, some}
+use mathlib.Core.Option.{some}
 use native.Mathlib.Omega.{arith}
 use lib.ListN.{length, getD}
-use lib.Dec.{ltb, eqb}
-use lib.IntN.{ℤ, pos, negsuc, subℕ, _-ℤ_}
-use borrow.Author.Tests.{eq-eqb, lt-ltb, le-ltb, ltb-true, ltb-false, leb-true}
-use Rattle.fields.specs.Lists.{all, before, concatMap, countUp}
-use Rattle.fields.specs.Fields.{Field, field, pairAt, fieldsOf, encodeFields}
+use lib.Dec.{ltb}
+use lib.IntN.{ℤ, pos}
+use borrow.Author.Tests.{eq-eqb}
+use Rattle.fields.specs.Lists.{all, concatMap, countUp}
+use Rattle.fields.specs.Fields.{pairAt}
 use Rattle.fields.specs.Outcome.{Result, value, refused, refuseIf, _>>=_}
 use Rattle.fields.specs.declared.outcome.Reason.{Reason}
 use Rattle.fields.specs.declared.outcome.Reason.the-variants.{ScoreOutOfRange}
-use Rattle.fields.proofs.Truth.{by-test, false-true, none-some, some-inj, and-both, all-mem, Mem, mem-concat, true-not}
-use Rattle.fields.proofs.Keyed.{From, Rising, is-rising}
+use Rattle.fields.proofs.Truth.{and-both, Mem, mem-concat, true-not}
+use Rattle.fields.proofs.Keyed.{Rising, is-rising}
 use Rattle.fields.proofs.Codec.{fields-encode}
-use Rattle.language.specs.Language.{Language, Entry, class, production, entryKey, argumentsOf, isIn}
+use Rattle.language.specs.Language.{Language, class, production, entryKey, argumentsOf, isIn}
 use Rattle.language.specs.LanguageFile.{languageOf}
 use Rattle.language.proofs.Lookup.{arguments-mem}
 use Rattle.reader.specs.Code.{Code, levels}
@@ -31,7 +31,7 @@ use Rattle.reader.proofs.Sound.{read-done, more-levels}
 use Rattle.translation.specs.Translation.{Translation, mapped}
 use Rattle.translation.specs.Running.{clausesOf, transform}
 use Rattle.translation.specs.TranslationFile.{translationOf}
-use Rattle.translation.specs.Operations.{fitted, runBytes}
+use Rattle.translation.specs.Operations.{runBytes}
 use Rattle.translation.proofs.Codec.{translation-whole, rises-parts}
 use Rattle.translation.proofs.Cuts.{pieces-in, body-in-short}
 use Rattle.translation.proofs.Fitting.{fit-carries}
@@ -40,11 +40,11 @@ use Rattle.translation.specs.Inner.Parts.{sourceIn, targetIn, bodyIn}
 use Rattle.emitter.specs.Inner.Table.{Checked}
 use Rattle.emitter.proofs.Clauses as Clauses
 use Rattle.score.specs.Figures.{signed, unsigned, figureAt, figuresFrom, figureBytes, isFigure, isScore}
-use Rattle.score.specs.LoadTable.{Load, load, Table, loadOf, loadsIn, loadsOf, tableOf, figureOf, loadField, encodeTable}
+use Rattle.score.specs.LoadTable.{load, Table, loadOf, loadsIn, tableOf, figureOf, loadField, encodeTable}
 use Rattle.score.specs.Linear.{Loads, form, passes}
 use Rattle.score.specs.Operations.{scoreOf, scoreBytes}
 use Rattle.score.proofs.Integers.{figure-read}
-use Rattle.score.proofs.Loading.{loadKey, loads-rise, figures-found}
+use Rattle.score.proofs.Loading.{loads-rise, figures-found}
 use Rattle.loads.specs.Joined.{placeFits, placesOf, loadFits, joinedLoad, joinedTable, joinedOf, joinBytes}
 use Rattle.loads.specs.Laws.{JoinedIsTable, ScoresAgree}
 use Rattle.loads.proofs.Joins.{figures-long, map-long, count-long}

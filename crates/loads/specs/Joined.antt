@@ -14,7 +14,7 @@ use Rattle.translation.specs.Running.{clausesOf}
 use Rattle.translation.specs.TranslationFile.{translationOf}
 use Rattle.translation.specs.Operations.{fitted}
 use Rattle.score.specs.Figures.{isFigure}
-use Rattle.score.specs.LoadTable.{Load, load, Table, tableOf, figureOf, encodeTable}
+use Rattle.score.specs.LoadTable.{load, Table, tableOf, figureOf, encodeTable}
 use Rattle.score.specs.Linear.{Loads, form, passes}
 
 -- Place j of a code's form fits two bytes, at each production of the code and at its root.

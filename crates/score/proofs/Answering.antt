@@ -1,30 +1,30 @@
 -- The operation score by its chain of tests: a law for each return of `score_read`, `score_kind` and `score`.
-use Prim.Native.Nat.{ℕ, suc, _+_, _*_, _-_, _<_, _≤_}
+use Prim.Native.Nat.{ℕ, _+_, _-_, _<_, _≤_}
 use mathlib.Core.Path.{_≡_, refl, sym, ap, _∙_}
-use mathlib.Core.Bool.{Bool, true, false, cond, not}
-use mathlib.Core.Logic.{_⊎_, inl, inr, ⊎-elim}
-use mathlib.Core.List.{List, [], _∷_, _++_, append-nil}
+use mathlib.Core.Bool.{Bool, true, false, cond}
+use mathlib.Core.Logic.{_⊎_, ⊎-elim}
+use mathlib.Core.List.{List, [], _∷_}
 use mathlib.Core.Option.{Option, none, some}
 use native.Mathlib.Omega.{arith}
 use lib.ListN.{length, getD, drop, drop-of-length-le, replicate}
 use lib.Dec.{eqb, ltb}
-use lib.IntN.{ℤ, pos, natAbs}
+use lib.IntN.{ℤ, pos}
 use borrow.Author.Tests.{eq-eqb, eqb-true}
-use Rattle.fields.specs.Lists.{all, any, isSome}
+use Rattle.fields.specs.Lists.{any, isSome}
 use Rattle.fields.specs.Fields.{pairAt, fieldsOf}
-use Rattle.fields.specs.Outcome.{Result, value, refused, refuseIf, _>>=_, checked}
+use Rattle.fields.specs.Outcome.{Result, value, refused, _>>=_, checked}
 use Rattle.fields.specs.declared.outcome.Outcome.{Outcome}
-use Rattle.fields.specs.declared.outcome.Outcome.the-variants.{Accepted, Refused}
+use Rattle.fields.specs.declared.outcome.Outcome.the-variants.{Refused}
 use Rattle.fields.specs.declared.outcome.Reason.{Reason}
 use Rattle.fields.specs.declared.outcome.Reason.the-variants as Why
 use Rattle.fields.specs.Inner.Places.{places, keyAt}
-use Rattle.fields.proofs.Truth.{by-test, false-true, none-some, all-mem, mem-all, any-mem, mem-any, some-is, Mem}
+use Rattle.fields.proofs.Truth.{by-test, false-true, all-mem, mem-all, any-mem, mem-any, some-is, Mem}
 use Rattle.fields.proofs.Split.{front}
 use Rattle.fields.proofs.Codec.{bytes-from}
-use Rattle.language.specs.Language.{Language, argumentsOf, productionKey, isIn, clashes}
+use Rattle.language.specs.Language.{Language, productionKey, isIn}
 use Rattle.language.specs.LanguageFile.{entriesOf, languageOf}
 use Rattle.language.specs.Operations.{checkLanguage}
-use Rattle.language.specs.Inner.Entries.{entryWhole, IsClass, IsProduction, Holds, RisingEntries}
+use Rattle.language.specs.Inner.Entries.{entryWhole, IsClass, IsProduction, RisingEntries}
 use Rattle.language.proofs.Facts.{entry-facts}
 use Rattle.language.proofs.Holds.{holds-entries}
 use Rattle.language.proofs.Chain.{rising-is}
@@ -32,7 +32,7 @@ use Rattle.language.proofs.Codec.{GoodLanguage, language-good}
 use Rattle.reader.specs.Code as Terms
 use Rattle.reader.specs.Syntax as Meant
 use Rattle.reader.specs.Syntax.{write}
-use Rattle.reader.specs.Operations.{wholeTree, treeOf}
+use Rattle.reader.specs.Operations.{treeOf}
 use Rattle.reader.specs.Inner.Positions.{EndsBy, restAt, restOf}
 use Rattle.reader.specs.Inner.Index.{Indexed, putAll}
 use Rattle.reader.specs.declared.node.Read.{Read}
@@ -52,7 +52,7 @@ use Rattle.score.specs.LoadTable.{Table, loadsOf, tableOf, figureOf}
 use Rattle.score.specs.Linear.{form, passes}
 use Rattle.score.specs.Operations.{scoreOf, scoreBytes, scoreIn, scoreTree}
 use Rattle.score.specs.Inner.Kept.{Small, Kept}
-use Rattle.score.specs.Inner.Terms.{limit, bytesOf, World, TermAsks, formedOf, Near}
+use Rattle.score.specs.Inner.Terms.{limit, bytesOf, World, TermAsks, formedOf}
 use Rattle.score.specs.Inner.Answering.{Answers, Held, scoreOn, TreeAsks}
 use Rattle.score.specs.declared.form.Formed.{Formed}
 use Rattle.score.specs.declared.form.Formed.the-variants.{At, Outside}

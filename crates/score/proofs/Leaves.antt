@@ -1,6 +1,6 @@
 -- Leaves and finished forms: a law for each return of the functions that work them out.
 use Prim.Native.Nat.{ℕ, zero, suc, _+_, _<_, _≤_}
-use mathlib.Core.Path.{_≡_, refl, sym, ap, _∙_}
+use mathlib.Core.Path.{_≡_, refl}
 use mathlib.Core.Bool.{Bool, true, false, not}
 use mathlib.Core.List.{List}
 use native.Mathlib.Omega.{arith}
@@ -15,8 +15,7 @@ use Rattle.reader.specs.declared.node.Syntax.the-variants.{Tree, Code}
 use Rattle.emitter.specs.Inner.Runs.{leafAt, leafLength}
 use Rattle.score.specs.Figures.{isScore, isFigure}
 use Rattle.score.specs.Linear.{constant, used}
-use Rattle.score.specs.Inner.Terms.{limit, leafForm, finishedAt, Near}
-use Rattle.score.specs.declared.form.Formed.{Formed}
+use Rattle.score.specs.Inner.Terms.{limit, leafForm, finishedAt}
 use Rattle.score.specs.declared.form.Formed.the-variants.{At, Outside}
 use Rattle.score.proofs.Integers.{score-near, between-near}
 

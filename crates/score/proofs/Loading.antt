@@ -6,21 +6,21 @@ use mathlib.Core.Logic.{_⊎_, inl, inr, ⊎-elim}
 use mathlib.Core.List.{List, [], _∷_, _++_, map, append-assoc, append-nil}
 use mathlib.Core.Option.{Option, none, some, Option·getD}
 use native.Mathlib.Omega.{arith}
-use lib.ListN.{length, getD, drop, drop-of-length-le}
+use lib.ListN.{length, getD, drop}
 use lib.Seq.{slice, length-slice}
 use lib.Dec.{leb, eqb}
 use lib.IntN.{ℤ, pos}
-use borrow.Author.Tests.{eq-eqb, ne-eqb, eqb-true, eqb-false, leb-true, leb-false}
-use Rattle.fields.specs.Lists.{all, any, first, before, isSome}
+use borrow.Author.Tests.{eq-eqb, eqb-true, eqb-false, leb-true, leb-false}
+use Rattle.fields.specs.Lists.{all, first, before, isSome}
 use Rattle.fields.specs.Fields.{Field, pairAt, fieldsOf}
 use Rattle.fields.specs.Inner.Places.{fieldEnd, isWhole, contentsAt, fieldAt, placesFrom, places, WholeEnd}
-use Rattle.fields.proofs.Truth.{by-test, false-true, none-some, some-inj, and-both, Mem, any-mem, mem-append, append-cases, mem-first, not-both}
+use Rattle.fields.proofs.Truth.{by-test, none-some, some-inj, and-both, Mem, any-mem, mem-append, append-cases, mem-first}
 use Rattle.fields.proofs.Keyed.{From, Rising, is-rising, from-weaken, from-agree}
-use Rattle.fields.proofs.Places.{places-done, places-next, whole-end, every-here, every-after}
+use Rattle.fields.proofs.Places.{places-done, places-next, every-here, every-after}
 use Rattle.fields.proofs.Split.{front, fields-done, fields-next, fields-cut, contents-length, contents-pair, contents-first, contents-second}
 use Rattle.language.specs.Language.{Language, Entry, Range, class, production, entryKey, productionKey}
 use Rattle.language.specs.LanguageFile.{entriesOf}
-use Rattle.language.specs.Inner.Entries.{entryAt, entryWhole, IsClass, IsProduction, Holds, RisingEntries}
+use Rattle.language.specs.Inner.Entries.{entryAt, entryWhole, IsClass, IsProduction, RisingEntries}
 use Rattle.language.proofs.Facts.{entry-facts, class-is, production-is}
 use Rattle.language.proofs.Holds.{holds-entries}
 use Rattle.language.proofs.Chain.{rising-is}

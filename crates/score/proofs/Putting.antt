@@ -1,7 +1,7 @@
 -- Figures put in by position, and the end of a load: a law for each return of `load_end`, for each turn of `put_figures`.
 use Prim.Native.Nat.{ℕ, _+_, _*_, _-_, _<_, _≤_}
-use mathlib.Core.Path.{_≡_, refl, sym, ap, _∙_}
-use mathlib.Core.Bool.{true, false}
+use mathlib.Core.Path.{_≡_, refl, _∙_}
+use mathlib.Core.Bool.{false}
 use mathlib.Core.List.{List}
 use native.Mathlib.Omega.{arith}
 use lib.ListN.{length, getD, set, length-set}
@@ -10,8 +10,8 @@ use lib.Dec.{eqb}
 use lib.IntN.{ℤ, pos, natAbs}
 use borrow.Author.Tests.{eq-eqb, ne-eqb, eqb-true, eqb-false}
 use Rattle.fields.specs.Fields.{pairAt}
-use Rattle.fields.specs.Inner.Places.{fieldEnd, isWhole, WholeEnd, EndIfWhole}
-use Rattle.fields.proofs.Truth.{by-test, false-true}
+use Rattle.fields.specs.Inner.Places.{fieldEnd, WholeEnd, EndIfWhole}
+use Rattle.fields.proofs.Truth.{by-test}
 use Rattle.fields.proofs.Places.{end-whole, size-of}
 use Rattle.score.specs.Figures.{figureAt}
 use Rattle.score.specs.Inner.Kept.{Small, Put, isLoad, LoadEnd}

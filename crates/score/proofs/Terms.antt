@@ -1,23 +1,23 @@
 -- A term of the input: what stands at a leaf, and what follows the name of a production.
-use Prim.Native.Nat.{ℕ, zero, suc, _+_, _*_, _-_, _/_, _%_, _<_, _≤_}
+use Prim.Native.Nat.{ℕ, zero, suc, _+_, _-_, _/_, _%_, _<_, _≤_}
 use mathlib.Core.Path.{_≡_, refl, sym, ap, _∙_}
-use mathlib.Core.Bool.{Bool, true, false, not, _&&_}
-use mathlib.Core.List.{List, [], _∷_, _++_}
-use mathlib.Core.Option.{Option, none, some}
+use mathlib.Core.Bool.{true, false, not}
+use mathlib.Core.List.{List, [], _∷_}
+use mathlib.Core.Option.{none, some}
 use native.Mathlib.Omega.{arith}
-use lib.ListN.{length, getD, take, drop, length-append}
+use lib.ListN.{length, getD, take}
 use lib.Seq.{slice, length-slice, getD-drop, getD-take}
 use lib.Dec.{eqb, ltb}
 use lib.IntN.{ℤ, pos}
-use borrow.Author.Tests.{eq-eqb, ne-eqb, eqb-true, eqb-false, ltb-true, ltb-false}
+use borrow.Author.Tests.{eq-eqb, eqb-true, ltb-true, ltb-false}
 use Rattle.fields.specs.Fields.{pairAt}
 use Rattle.fields.specs.Inner.Places.{fieldEnd}
 use Rattle.fields.proofs.Truth.{by-test, false-true, none-some, some-inj}
-use Rattle.language.specs.Language.{Language, rangeOf, argumentsOf, productionKey}
+use Rattle.language.specs.Language.{Language, argumentsOf, productionKey}
 use Rattle.reader.specs.Code as Terms
 use Rattle.reader.specs.Code.{node, token, argument, Codes, levels, levelsAll}
 use Rattle.reader.specs.Typing.{kindAt, Typed, TypedAll, typed-node, typed-token, typed-argument}
-use Rattle.reader.specs.Syntax.{write, writeAll}
+use Rattle.reader.specs.Syntax.{write}
 use Rattle.reader.specs.declared.node.Syntax.{Syntax}
 use Rattle.reader.specs.declared.node.Syntax.the-variants.{Tree, Code}
 use Rattle.reader.specs.Inner.Positions.{nameLength, KindsIn}
@@ -27,9 +27,9 @@ use Rattle.emitter.specs.Inner.Runs.{leafAt, leafLength, signLength}
 use Rattle.emitter.proofs.Standing.{stands-head}
 use Rattle.emitter.proofs.Skips.{some-bytes}
 use Rattle.score.specs.Linear.{Loads, constant, used, form, passes}
-use Rattle.score.specs.Inner.Terms.{limit, bytesOf, allBytes, World, TermAsks, KindsAt, NodeAsks, leafForm, formedOf, Near}
+use Rattle.score.specs.Inner.Terms.{limit, bytesOf, allBytes, World, TermAsks, KindsAt, NodeAsks, leafForm, formedOf}
 use Rattle.score.specs.declared.form.Formed.{Formed}
-use Rattle.score.specs.declared.form.Formed.the-variants.{At, Outside}
+use Rattle.score.specs.declared.form.Formed.the-variants.{At}
 
 -- No argument has a kind where there are none.
 no-argument : {A : Type 0} (i : ℕ) {k : ℕ} {given : List ℕ} → given ≡ [] → kindAt given i ≡ some k → A

@@ -2,19 +2,18 @@
 use Prim.Native.Nat.{ℕ, suc, max, _+_, _*_, _-_, _<_, _≤_}
 use mathlib.Core.Path.{_≡_, refl, sym, ap, _∙_}
 use mathlib.Core.Bool.{Bool, true, false, cond, _&&_}
-use mathlib.Core.List.{List, [], _∷_, _++_}
+use mathlib.Core.List.{List, _∷_, _++_}
 use native.Mathlib.Omega.{arith}
 use lib.ListN.{length, getD}
 use lib.IntN.{ℤ, pos, natAbs, _+ℤ_, _*ℤ_, +ℤ-assoc, +ℤ-idr}
 use mir.Syntax.{w32, w64}
-use mir.Val.{toZ, ofZ, hbits}
+use mir.Val.{toZ, ofZ}
 use Rattle.fields.specs.Fields.{pairAt}
-use Rattle.fields.proofs.Truth.{by-test, false-true}
 use Rattle.language.specs.Language.{Language}
 use Rattle.reader.specs.Code as Terms
 use Rattle.reader.specs.Code.{node, Codes, nil, cons, levels, levelsAll}
 use Rattle.reader.specs.Typing.{Typed, TypedAll, typed-nil, typed-cons}
-use Rattle.reader.specs.Syntax.{write, writeAll}
+use Rattle.reader.specs.Syntax.{writeAll}
 use Rattle.reader.specs.declared.node.Syntax.{Syntax}
 use Rattle.emitter.specs.Inner.Stands.{Stands}
 use Rattle.emitter.proofs.Standing.{stands-both}

@@ -10,7 +10,7 @@ use Rattle.fields.specs.Outcome.{Result, value, refused}
 use Rattle.fields.specs.declared.outcome.Reason.the-variants.{BrokenTable}
 use Rattle.fields.specs.Lists.{first, before, concatMap}
 use Rattle.fields.specs.Fields.{Field, field, byteAt, fieldsOf, encodeFields}
-use Rattle.language.specs.Language.{Language, Entry, class, production}
+use Rattle.language.specs.Language.{Language, class, production}
 use Rattle.score.specs.Figures.{figuresFrom, figureBytes}
 
 -- The load of a production: its constant, and behind it a factor for each argument.

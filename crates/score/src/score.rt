@@ -15,7 +15,6 @@ use reader::node::Syntax;
 use reader::read::read;
 ghost use mathlib.Core.Path.{_≡_};
 ghost use Prim.Native.Nat.{_<_};
-ghost use lib.IntN.{pos};
 ghost use Rattle.fields.specs.Outcome.{value, refused};
 ghost use Rattle.language.specs.Language.{Language};
 ghost use Rattle.reader.specs.Code.{Code};

@@ -11,6 +11,8 @@ mod block;
 mod figures;
 #[path = "differential/score.rs"]
 mod score;
+#[path = "differential/xml.rs"]
+mod xml;
 
 use algebra::raw as library;
 use reference::generate::{
@@ -106,6 +108,18 @@ const OPERATIONS: &[Operation] = &[
         possible: &[0, 1, 2, 3, 4, 5, 6, 7, 11, 17, 18],
         label: answer_label,
         find: |random| score::compare_join(random).finding(),
+    },
+    Operation {
+        name: "export",
+        possible: &[0, 1, 2, 3, 4, 14, 15, 16, 17],
+        label: answer_label,
+        find: |random| xml::compare_export(random).finding(),
+    },
+    Operation {
+        name: "import",
+        possible: &[0, 1, 2, 3, 4, 14, 16, 17, 20],
+        label: answer_label,
+        find: |random| xml::compare_import(random).finding(),
     },
     Operation {
         name: "block",
@@ -377,10 +391,10 @@ impl Comparison {
         Finding { reached, long: self.has_long_tree(), difference }
     }
 
-    /// Whether one of the inputs is a long tree.
+    /// Whether one of the inputs is a long tree, or a text that is as long.
     fn has_long_tree(&self) -> bool {
         let long = |input: &Input| matches!(input, Input::Bytes(tree) if tree.len() >= LONG_TREE);
-        self.inputs.iter().any(|(name, input)| *name == "tree" && long(input))
+        self.inputs.iter().any(|(name, input)| ["tree", "text"].contains(name) && long(input))
     }
 
     /// The lines of a difference, with everything that is needed to repeat it.
@@ -447,7 +461,7 @@ fn print_long(operation: &Operation, reached: &[u64; NUMBERS]) {
     if trees == 0 {
         return;
     }
-    println!("  trees of {LONG_TREE} bytes or more: {trees}, of which");
+    println!("  trees or texts of {LONG_TREE} bytes or more: {trees}, of which");
     for number in (0..NUMBERS).filter(|&number| reached[number] > 0) {
         println!("    {}: {:8}", (operation.label)(number), reached[number]);
     }

@@ -14,6 +14,7 @@ mod term;
 mod translation;
 mod tree;
 mod values;
+mod xml;
 
 use crate::outcome::Refusal;
 use std::fmt;
@@ -83,6 +84,16 @@ pub fn score(language: &[u8], root: u32, tree: &[u8], table: &[u8]) -> Option<Fa
 /// the length of an output for it.
 pub fn join_table(translation: &[u8], table: &[u8], output: usize) -> Option<Fault> {
     score::check_join(translation, table, output).err()
+}
+
+/// Looks for a fault of a language, a root and a tree, and of the length of an output for its text.
+pub fn export(language: &[u8], root: u32, tree: &[u8], output: usize) -> Option<Fault> {
+    xml::check_export(language, root, tree, output).err()
+}
+
+/// Looks for a fault of a language, a root and a text, and of the length of an output for its tree.
+pub fn import(language: &[u8], root: u32, text: &[u8], output: usize) -> Option<Fault> {
+    xml::check_import(language, root, text, output).err()
 }
 
 /// Looks for a fault of a language, a root, a tree and a path.

@@ -42,6 +42,14 @@ pub fn check_run(bytes: &[u8], root: u32, tree: &[u8], output: usize) -> Result<
     }
 }
 
+/// The root as a kind, which must be in the language.
+pub fn known_root(language: &Language, name: &str, root: u32) -> Result<u8, Fault> {
+    root_kind(language, root).map_err(|reason| {
+        let what = format!("kind {root} is not in the {name}");
+        Piece::whole("root", &[]).fault_somewhere(reason, what)
+    })
+}
+
 /// What the node at a path is called.
 pub fn place_name(path: &[usize]) -> String {
     let numbers: Vec<String> = path.iter().map(usize::to_string).collect();
@@ -53,11 +61,7 @@ pub fn place_name(path: &[usize]) -> String {
 
 /// Looks for a fault of the root and the tree; gives the root as a kind.
 pub fn check_rooted(language: &Language, name: &str, root: u32, tree: &[u8]) -> Result<u8, Fault> {
-    let unknown = |reason| {
-        let what = format!("kind {root} is not in the {name}");
-        Piece::whole("root", &[]).fault_somewhere(reason, what)
-    };
-    let kind = root_kind(language, root).map_err(unknown)?;
+    let kind = known_root(language, name, root)?;
     let (grammar, piece) = (Grammar::new(language), Piece::whole("tree", tree));
     let mut reader = Reader { grammar: &grammar, piece, at: 0, path: vec![] };
     reader.read(kind, TREE_LEVELS)?;

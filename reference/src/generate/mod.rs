@@ -11,8 +11,10 @@ mod long_trees;
 mod packs;
 mod random;
 mod ranges;
+mod sheets;
 mod tables;
 mod terms;
+mod texts;
 mod translations;
 mod trees;
 mod written;
@@ -23,10 +25,12 @@ pub use long::{long_run_case, LongRunCase, LONG_TREE};
 pub use long_trees::long_tree_case;
 pub use packs::{law_pack, pack_with_term, reduce_case, LawPack, ReduceCase};
 pub use random::Random;
+pub use sheets::{sheet_case, SheetCase};
 pub use tables::{
     join_table_case, score_case, scored_run_case, unit_table, unit_target_table, JoinTableCase,
     ScoreCase, ScoredRunCase,
 };
+pub use texts::{export_case, import_case, lenient_text, ExportCase, ImportCase};
 pub use translations::{run_case, translation_file, RunCase};
 pub(crate) use trees::legal_tree;
 pub use trees::{source_tree, tree_case, TreeCase};

@@ -8,18 +8,9 @@ use Rattle.algebra.proofs.algebra_join_table.Lts as lts
 use Rattle.algebra.proofs.hand_over.Reads as hand-over-reads
 use Rattle.loads.proofs.join.join_table.Reads as join-table-reads
 
-join-table-requires : tie.Need-join-table-requires
-join-table-requires c κs = search needs
-
-hand-over-requires : tie.Need-hand-over-requires
-hand-over-requires c κs = search needs
-
-same-length : tie.Need-same-length
-same-length c = search needs
-
 returns : tie.Need-returns
 returns c = (c .hand-over .ensures .0 ∙ ap numberOf (c .before .before .before .before .join-table .ensures .0), c .hand-over .ensures .1 ∙ ap lengthOf (c .before .before .before .before .join-table .ensures .0), c .before .before .before .before .join-table .ensures .1)
 
 pub algebra-join-table-spec : {M : Type 1} → statement M
 algebra-join-table-spec =
-    tie.close (tie.spec join-table-requires hand-over-requires same-length returns)
+    tie.close (tie.spec (λ c κs. search needs) (λ c κs. search needs) (λ c. search needs) returns)

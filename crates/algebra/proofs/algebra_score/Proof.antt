@@ -10,14 +10,8 @@ use Rattle.algebra.proofs.algebra_score.Lts as lts
 use Rattle.fields.proofs.outcome.number.Reads as number-reads
 use Rattle.score.proofs.score.score.Reads as score-reads
 
-score-requires : tie.Need-score-requires
-score-requires c κs = search needs
-
-number-requires : tie.Need-number-requires
-number-requires c κs = search needs
-
 returns : tie.Need-returns
 returns c = (c .number .ensures ∙ ap numberOf (c .before .before .score .ensures .0), told w64 (c .before .before .score .result .score) (search needs) ∙ c .before .before .score .ensures .1)
 
 pub algebra-score-spec : {M : Type 1} → statement M
-algebra-score-spec = tie.close (tie.spec score-requires number-requires returns)
+algebra-score-spec = tie.close (tie.spec (λ c κs. search needs) (λ c κs. search needs) returns)

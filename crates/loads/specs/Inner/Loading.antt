@@ -1,13 +1,13 @@
 -- What the functions that put a joined table together ask for and give.
-use Prim.Native.Nat.{ℕ, _+_, _*_, _<_, _≤_}
+use Prim.Native.Nat.{ℕ, _+_}
 use mathlib.Core.Path.{_≡_}
 use mathlib.Core.Bool.{Bool, true, false, cond}
-use mathlib.Core.List.{List, _∷_, _++_, map}
+use mathlib.Core.List.{List, map}
 use mathlib.Core.Option.{some}
-use lib.ListN.{length, getD}
-use lib.IntN.{ℤ, pos}
-use Rattle.fields.specs.Lists.{all, concatMap, countUp}
-use Rattle.fields.specs.Fields.{encodeField, twoBytes}
+use lib.ListN.{getD}
+use lib.IntN.{ℤ}
+use Rattle.fields.specs.Lists.{concatMap, countUp}
+use Rattle.fields.specs.Fields.{encodeField}
 use Rattle.fields.specs.Outcome.{Result, _>>=_, written, outputAfter}
 use Rattle.fields.specs.declared.outcome.Outcome.{Outcome}
 use Rattle.fields.specs.Inner.Writing.{Written}
@@ -22,9 +22,8 @@ use Rattle.emitter.specs.Inner.Table.{Checked}
 use Rattle.score.specs.Figures.{isFigure, figureBytes}
 use Rattle.score.specs.LoadTable.{load, Table, loadField, encodeTable, tableOf}
 use Rattle.score.specs.Linear.{Loads, form}
-use Rattle.score.specs.Inner.Kept.{Kept}
 use Rattle.score.specs.Inner.Terms.{World}
-use Rattle.loads.specs.Joined.{placeFits, loadFits, joinedTable, joinedOf}
+use Rattle.loads.specs.Joined.{placeFits, joinedOf}
 use Rattle.loads.specs.declared.join.Figured.{Figured}
 use Rattle.loads.specs.declared.join.Figured.the-variants.{Fits, Outside}
 use Rattle.loads.specs.declared.join.Joined.{Joined}

@@ -10,6 +10,7 @@ mod clock;
 mod inputs;
 mod measure;
 mod score;
+mod xml;
 
 use algebra::raw as library;
 use measure::{compare, growth, Growth, Timing};
@@ -207,5 +208,6 @@ fn main() {
     run::bench();
     reduce::bench();
     score::bench();
+    xml::bench();
     block::bench();
 }

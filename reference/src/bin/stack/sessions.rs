@@ -1,16 +1,20 @@
-//! Cases of operations on one tree: scores and lookups of blocks; and joins of load tables.
+//! Cases of operations on one tree: scores, exports, imports of texts, and lookups of blocks; and
+//! joins of load tables.
 
 use crate::shapes::{Shape, TREE_LEVELS};
 use crate::{random_cases, translation_cases, tree_cases, Case, LONG_CASES, RANDOM_CASES};
 use reference::call::Call;
 use reference::check_translation;
 use reference::generate::{
-    block_case, join_table_case, long_tree_case, score_case, unit_table, unit_target_table,
-    BlockCase, JoinTableCase, Random, ScoreCase, TreeCase,
+    block_case, export_case, import_case, join_table_case, lenient_text, long_tree_case,
+    score_case, unit_table, unit_target_table, BlockCase, ExportCase, ImportCase, JoinTableCase,
+    Random, ScoreCase, TreeCase,
 };
 
 /// No joined table is longer.
 const LONGEST_TABLE: usize = 5000;
+/// The text of a tree is shorter than so many times the tree.
+const LONGEST: usize = 20;
 
 /// The score of a tree by a table in which every figure is 1.
 fn scored(case: TreeCase) -> Call {
@@ -31,6 +35,20 @@ fn join_cases(seed: u64) -> Vec<Case> {
     let random = |random: &mut Random| Call::JoinTable(join_table_case(random));
     let random = random_cases(seed, RANDOM_CASES, "random", random);
     translation_cases(joined).into_iter().chain(random).collect()
+}
+
+/// The export of a tree, with an output that is long enough.
+fn exported(case: TreeCase) -> Call {
+    let TreeCase { language, root, tree } = case;
+    let output = LONGEST * tree.len();
+    Call::Export(ExportCase { language, root, tree, output })
+}
+
+/// The import of the text of a tree, which may have too many levels; a broken tree has none.
+fn imported(case: TreeCase) -> Call {
+    let text = lenient_text(&case).unwrap_or_default();
+    let TreeCase { language, root, tree } = case;
+    Call::Import(ImportCase { language, root, text, output: tree.len() })
 }
 
 /// A lookup of a block down to the last level, if the deep argument is the same at each.
@@ -65,11 +83,23 @@ pub fn cases(seed: u64) -> Vec<Vec<Case>> {
         |random| Call::Score(score_case(random)),
         |random| scored(long_tree_case(random)),
     );
+    let export = cases_of(
+        seed,
+        |_, case| exported(case),
+        |random| Call::Export(export_case(random)),
+        |random| exported(long_tree_case(random)),
+    );
+    let import = cases_of(
+        seed,
+        |_, case| imported(case),
+        |random| Call::Import(import_case(random)),
+        |random| imported(long_tree_case(random)),
+    );
     let block = cases_of(
         seed,
         deep_block,
         |random| Call::Block(block_case(random)),
         |random| whole_block(long_tree_case(random)),
     );
-    vec![score, join_cases(seed), block]
+    vec![score, join_cases(seed), export, import, block]
 }

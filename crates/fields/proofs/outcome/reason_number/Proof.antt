@@ -66,10 +66,14 @@ returns-19 c = ap reasonNumber (sym (c .enum-told19 .given .1))
 returns-20 : tie.Need-returns-20
 returns-20 c = ap reasonNumber (sym (c .enum-told20 .given .1))
 
+returns-21 : tie.Need-returns-21
+returns-21 c = ap reasonNumber (sym (c .enum-told21 .given .1))
+
 pub reason-number-spec : {M : Type 1} → statement M
 reason-number-spec =
     tie.close
     (tie.spec
+    (λ c. search needs)
     (λ c. search needs)
     (λ c. search needs)
     (λ c. search needs)
@@ -109,4 +113,5 @@ reason-number-spec =
     returns-17
     returns-18
     returns-19
-    returns-20)
+    returns-20
+    returns-21)

@@ -27,51 +27,27 @@ Inv-loop target index figures kind body at count joined₀ pos to₀ j₀ joined
 abbrev μ-loop : tie.MeasureT-loop
 μ-loop target index figures kind body at count joined₀ pos to₀ j₀ joined to j = count - j
 
--- src/join.rt:147:5
 loop-holds : tie.Need-loop-holds Inv-loop μ-loop
 loop-holds c = (refl, λ l given w u a. figure-begin w u _ _ _ (omega (arith, c .before .before .before .before .pre .0)))
 
--- src/join.rt:148:32
 figure-at-requires : tie.Need-figure-at-requires Inv-loop μ-loop
 figure-at-requires c κs = c .before .before .before .before .before .before .pre .1
 
--- src/join.rt:148:27
-enum-known-z : tie.Need-enum-known-z Inv-loop μ-loop
-enum-known-z c = search needs
-
--- src/join.rt:149:13
-enum-told : tie.Need-enum-told Inv-loop μ-loop
-enum-told c = search needs
-
--- src/join.rt:149:13
 same-length : tie.Need-same-length Inv-loop μ-loop
 same-length c = c .before .before .before .before .loop .inv .0
 
--- src/join.rt:149:13
 returns : tie.Need-returns Inv-loop μ-loop
 returns c = λ l given w u a. puts-outside (figure-outside (c .before .before .before .before .loop .inv .1 l given w u a) (c .before .before .before .loop-test .taken) _ (c .before .before .figure-at .ensures .0 l given w u a) (c .enum-told .given .1))
 
--- src/join.rt:151:9
 put-figure-requires : tie.Need-put-figure-requires Inv-loop μ-loop
 put-figure-requires c κs = let r = figure-room (c .before .before .before .before .before .before .loop .inv .1 _ _ _ _ (c .before .before .before .before .before .before .before .before .before .before .before .pre .1 .4)) (c .before .before .before .before .before .before .before .before .before .before .before .pre .0) (c .before .before .before .before .before .loop-test .taken) in (figure-good _ _ (c .before .before .before .before .figure-at .ensures .1) (c .before .before .z .given .1), r .0)
 
--- src/join.rt:152:9
-add-j : tie.Need-add-j Inv-loop μ-loop
-add-j c = search needs
-
--- src/join.rt:147:5
-loop-less : tie.Need-loop-less Inv-loop μ-loop
-loop-less c = search needs
-
--- src/join.rt:147:5
 loop-again : tie.Need-loop-again Inv-loop μ-loop
 loop-again c = (written-long _ _ _ _ _ (c .before .before .put-figure .ensures) ∙ c .before .before .before .before .before .before .before .before .before .loop .inv .0, λ l given w u a. figure-next (c .before .before .before .before .before .before .before .before .before .loop .inv .1 l given w u a) (c .before .before .before .before .before .before .before .before .loop-test .taken) _ (c .before .before .before .before .before .before .before .figure-at .ensures .0 l given w u a) _ _ (c .before .before .before .before .before .z .given .1) (figure-back _ _ (c .before .before .before .before .before .before .before .figure-at .ensures .1) (c .before .before .before .before .before .z .given .1)) _ _ (c .before .before .put-figure .ensures))
 
--- src/join.rt:130:1
 same-length-2 : tie.Need-same-length-2 Inv-loop μ-loop
 same-length-2 c = c .before .loop .inv .0
 
--- src/join.rt:130:1
 returns-2 : tie.Need-returns-2 Inv-loop μ-loop
 returns-2 c = λ l given w u a. figure-end (c .before .loop .inv .1 l given w u a) (c .loop-test .left)
 
@@ -83,13 +59,13 @@ join-figures-spec =
     μ-loop
     loop-holds
     figure-at-requires
-    enum-known-z
-    enum-told
+    (λ c. search needs)
+    (λ c. search needs)
     same-length
     returns
     put-figure-requires
-    add-j
-    loop-less
+    (λ c. search needs)
+    (λ c. search needs)
     loop-again
     same-length-2
     returns-2)

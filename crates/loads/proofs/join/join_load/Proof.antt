@@ -14,75 +14,42 @@ use Rattle.loads.proofs.join.put_head.Reads as put-head-reads
 use Rattle.reader.proofs.node.place_at.Reads as place-at-reads
 use Rattle.translation.proofs.index.map_kind.Reads as map-kind-reads
 
--- src/join.rt:174:45
 add-map-kind : tie.Need-add-map-kind
 add-map-kind c = let i = production-in (c .before .before .before .before .before .before .pre .2 .2) in omega (arith, i .0, i .1)
 
--- src/join.rt:174:38
 shared-slice-read-map-kind : tie.Need-shared-slice-read-map-kind
 shared-slice-read-map-kind c = let i = production-in (c .before .before .before .before .before .before .before .pre .2 .2) in omega (arith, i .0, i .1)
 
--- src/join.rt:174:9
 map-kind-requires : tie.Need-map-kind-requires
 map-kind-requires c κs = ((c .before .before .before .before .before .before .before .pre .2 .2) .parts .indexed .sound, kind-in (c .before .before .before .before .before .before .before .pre .2 .2) (λ i. omega (arith, c .before .before .before .before .before .before .shared-slice-known .given i)) (λ i. omega (arith, c .before .before .before .shared-slice-known4 .given i)))
 
--- src/join.rt:175:54
 add-pair-in : tie.Need-add-pair-in
 add-pair-in c = let i = production-in (c .before .before .before .before .before .before .before .before .pre .2 .2) in omega (arith, i .0, i .1)
 
--- src/join.rt:175:38
 pair-in-requires : tie.Need-pair-in-requires
 pair-in-requires c κs = let i = production-in (c .before .before .before .before .before .before .before .before .pre .2 .2) in omega (arith, i .0, i .1)
 
--- src/join.rt:175:33
-add-place-at : tie.Need-add-place-at
-add-place-at c = search needs
-
--- src/join.rt:175:9
 place-at-requires : tie.Need-place-at-requires
 place-at-requires c κs = let i = key-is (c .before .before .before .before .before .before .before .before .before .pre .2 .2) (λ i. omega (arith, c .before .before .before .before .before .before .before .before .shared-slice-known .given i)) (λ i. omega (arith, c .before .before .before .before .before .shared-slice-known4 .given i)) in let l = (c .before .before .before .before .before .before .before .before .before .pre .2 .2) .parts .indexed .sound .long in omega (arith, i .1, l, c .pair-in .ensures .0)
 
--- src/join.rt:176:30
 add-put-head : tie.Need-add-put-head
 add-put-head c = let i = production-in (c .before .before .before .before .before .before .before .before .before .before .pre .2 .2) in omega (arith, i .0, i .1)
 
--- src/join.rt:176:23
 shared-slice-read-put-head : tie.Need-shared-slice-read-put-head
 shared-slice-read-put-head c = let i = production-in (c .before .before .before .before .before .before .before .before .before .before .before .pre .2 .2) in omega (arith, i .0, i .1)
 
--- src/join.rt:176:45
 add-put-head-2 : tie.Need-add-put-head-2
 add-put-head-2 c = let i = production-in (c .before .before .before .before .before .before .before .before .before .before .before .pre .2 .2) in omega (arith, i .0, i .1)
 
--- src/join.rt:176:38
 shared-slice-read-put-head-2 : tie.Need-shared-slice-read-put-head-2
 shared-slice-read-put-head-2 c = let i = production-in (c .before .before .before .before .before .before .before .before .before .before .before .before .pre .2 .2) in omega (arith, i .0, i .1)
 
--- src/join.rt:176:57
-mul-put-head : tie.Need-mul-put-head
-mul-put-head c = search needs
-
--- src/join.rt:176:53
-add-put-head-3 : tie.Need-add-put-head-3
-add-put-head-3 c = search needs
-
--- src/join.rt:176:9
-put-head-requires : tie.Need-put-head-requires
-put-head-requires c κs = search needs
-
--- src/join.rt:177:54
 add-join-figures : tie.Need-add-join-figures
 add-join-figures c = omega (arith, c .before .before .before .before .before .before .place-at .ensures, c .before .before .before .before .before .before .before .before .before .before .before .shared-slice-known5 .given (32 + c .before .before .before .before .before .before .before .pair-in .result))
 
--- src/join.rt:177:5
 join-figures-requires : tie.Need-join-figures-requires
 join-figures-requires c κs = (let l = written-long _ _ _ _ _ (c .before .before .before .put-head .ensures) in let e = c .before .before .before .put-head .ensures .end in omega (arith, c .before .before .before .before .before .before .before .before .before .before .before .before .before .before .before .before .before .pre .0), (_, _, c .before .before .before .before .before .before .before .before .before .before .before .before .before .before .before .before .before .pre .2 .1, _, clause-term (c .before .before .before .before .before .before .before .before .before .before .before .before .before .before .before .before .before .pre .2 .2) (λ i. omega (arith, c .before .before .before .before .before .before .before .before .before .before .before .before .before .before .before .before .shared-slice-known .given i)) (λ i. omega (arith, c .before .before .before .before .before .before .before .before .before .before .before .before .before .shared-slice-known4 .given i)) _ _ _ _ (c .before .before .before .before .before .before .before .before .before .map-kind .ensures .0) (c .before .before .before .before .before .before .before .before .before .map-kind .ensures .1) (c .before .before .before .before .before .before .before .before .pair-in .ensures .0) (c .before .before .before .before .before .before .before .place-at .ensures) refl))
 
--- src/join.rt:158:1
-same-length : tie.Need-same-length
-same-length c = search needs
-
--- src/join.rt:158:1
 returns : tie.Need-returns
 returns c = λ f w a. load-puts f w _ _ _ _ _ _ _ _ _ _ _ refl refl refl (c .before .before .before .before .before .before .put-head .ensures) _ _ (c .before .before .join-figures .ensures _ _ w _ (clause-term a (λ i. omega (arith, c .before .before .before .before .before .before .before .before .before .before .before .before .before .before .before .before .before .before .before .shared-slice-known .given i)) (λ i. omega (arith, c .before .before .before .before .before .before .before .before .before .before .before .before .before .before .before .before .shared-slice-known4 .given i)) _ _ _ _ (c .before .before .before .before .before .before .before .before .before .before .before .before .map-kind .ensures .0) (c .before .before .before .before .before .before .before .before .before .before .before .before .map-kind .ensures .1) (c .before .before .before .before .before .before .before .before .before .before .before .pair-in .ensures .0) (c .before .before .before .before .before .before .before .before .before .before .place-at .ensures) refl))
 
@@ -95,16 +62,16 @@ join-load-spec =
     map-kind-requires
     add-pair-in
     pair-in-requires
-    add-place-at
+    (λ c. search needs)
     place-at-requires
     add-put-head
     shared-slice-read-put-head
     add-put-head-2
     shared-slice-read-put-head-2
-    mul-put-head
-    add-put-head-3
-    put-head-requires
+    (λ c. search needs)
+    (λ c. search needs)
+    (λ c κs. search needs)
     add-join-figures
     join-figures-requires
-    same-length
+    (λ c. search needs)
     returns)

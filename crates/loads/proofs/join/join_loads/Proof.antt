@@ -22,67 +22,45 @@ Inv-loop source target index body items figures joined₀ p₀ n₀ joined p n =
 abbrev μ-loop : tie.MeasureT-loop
 μ-loop source target index body items figures joined₀ p₀ n₀ joined p n = length source - p
 
--- src/join.rt:196:5
 loop-holds : tie.Need-loop-holds Inv-loop μ-loop
 loop-holds c = (refl, λ f w a. joins-begin a _)
 
--- src/join.rt:197:13
 whole-end-requires : tie.Need-whole-end-requires Inv-loop μ-loop
 whole-end-requires c κs = let i = entry-in (c .before .before .before .before .before .before .before .before .pre .1 .2) (c .before .loop .inv .1 _ _ (c .before .before .before .before .before .before .before .before .pre .1 .2)) (c .loop-test .taken) in omega (arith, i .0, i .1)
 
--- src/join.rt:198:12
 shared-slice-read-if1 : tie.Need-shared-slice-read-if1 Inv-loop μ-loop
 shared-slice-read-if1 c = let i = entry-in (c .before .before .before .before .before .before .before .before .before .before .pre .1 .2) (c .before .before .before .loop .inv .1 _ _ (c .before .before .before .before .before .before .before .before .before .before .pre .1 .2)) (c .before .before .loop-test .taken) in omega (arith, i .0, i .1)
 
--- src/join.rt:202:17
 sub-join-load : tie.Need-sub-join-load Inv-loop μ-loop
 sub-join-load c = let i = entry-in (c .before .before .before .before .before .before .before .before .before .before .before .pre .1 .2) (c .before .before .before .before .loop .inv .1 _ _ (c .before .before .before .before .before .before .before .before .before .before .before .pre .1 .2)) (c .before .before .before .loop-test .taken) in omega (arith, i .0, (c .before .before .whole-end .ensures .is))
 
--- src/join.rt:202:17
 sub-join-load-2 : tie.Need-sub-join-load-2 Inv-loop μ-loop
 sub-join-load-2 c = let i = entry-in (c .before .before .before .before .before .before .before .before .before .before .before .pre .1 .2) (c .before .before .before .before .loop .inv .1 _ _ (c .before .before .before .before .before .before .before .before .before .before .before .pre .1 .2)) (c .before .before .before .loop-test .taken) in omega (arith, i .0, (c .before .before .whole-end .ensures .is))
 
--- src/join.rt:199:19
 join-load-requires : tie.Need-join-load-requires Inv-loop μ-loop
 join-load-requires c κs = (let r = join-room (c .before .before .before .before .before .before .before .before .before .before .before .before .pre .1 .2) (c .before .before .before .before .before .loop .inv .1 _ _ (c .before .before .before .before .before .before .before .before .before .before .before .before .pre .1 .2)) (c .before .before .before .before .loop-test .taken) (c .before .if1 .taken) _ (c .before .before .before .whole-end .ensures .is) in omega (arith, r, c .before .before .before .before .before .loop .inv .0, c .before .before .before .before .before .before .before .before .before .before .before .before .pre .0), c .before .before .before .before .before .loop .inv .0 ∙ c .before .before .before .before .before .before .before .before .before .before .before .before .pre .0, (c .before .before .before .before .before .before .before .before .before .before .before .before .pre .1 .0, c .before .before .before .before .before .before .before .before .before .before .before .before .pre .1 .1, load-asks (c .before .before .before .before .before .before .before .before .before .before .before .before .pre .1 .2) (c .before .before .before .before .before .loop .inv .1 _ _ (c .before .before .before .before .before .before .before .before .before .before .before .before .pre .1 .2)) (c .before .before .before .before .loop-test .taken) (c .before .if1 .taken) _))
 
--- src/join.rt:211:28
-enum-known-m : tie.Need-enum-known-m Inv-loop μ-loop
-enum-known-m c = search needs
-
--- src/join.rt:215:21
-enum-told : tie.Need-enum-told Inv-loop μ-loop
-enum-told c = search needs
-
--- src/join.rt:215:21
 same-length : tie.Need-same-length Inv-loop μ-loop
 same-length c = c .before .before .before .joined .given ∙ c .before .before .before .before .before .before .before .before .before .before .loop .inv .0
 
--- src/join.rt:215:21
 returns : tie.Need-returns Inv-loop μ-loop
 returns c = λ f w a. puts-outside (joins-outside a (c .before .before .before .before .before .before .before .before .before .before .loop .inv .1 f w a) (c .before .before .before .before .before .before .before .before .before .loop-test .taken) (c .before .before .before .before .before .before .if1 .taken) _ (c .before .before .before .before .before .before .before .before .whole-end .ensures .is) _ _ (c .before .before .before .before .join-load .ensures f w (load-asks a (c .before .before .before .before .before .before .before .before .before .before .loop .inv .1 f w a) (c .before .before .before .before .before .before .before .before .before .loop-test .taken) (c .before .before .before .before .before .before .if1 .taken) _)) (c .enum-told .given .1))
 
--- src/join.rt:196:5
 loop-less : tie.Need-loop-less Inv-loop μ-loop
 loop-less c = let i = entry-in (c .before .before .before .before .before .before .before .before .before .before .before .before .before .before .before .before .before .before .pre .1 .2) (c .before .before .before .before .before .before .before .before .before .before .before .loop .inv .1 _ _ (c .before .before .before .before .before .before .before .before .before .before .before .before .before .before .before .before .before .before .pre .1 .2)) (c .before .before .before .before .before .before .before .before .before .before .loop-test .taken) in omega (arith, i .0, (c .before .before .before .before .before .before .before .before .before .whole-end .ensures .is))
 
--- src/join.rt:196:5
 loop-again : tie.Need-loop-again Inv-loop μ-loop
 loop-again c = (c .before .before .before .before .joined .given ∙ c .before .before .before .before .before .before .before .before .before .before .before .loop .inv .0, λ f w a. joins-next a (c .before .before .before .before .before .before .before .before .before .before .before .loop .inv .1 f w a) (c .before .before .before .before .before .before .before .before .before .before .loop-test .taken) (c .before .before .before .before .before .before .before .if1 .taken) _ (c .before .before .before .before .before .before .before .before .before .whole-end .ensures .is) _ _ (c .before .before .before .before .before .join-load .ensures f w (load-asks a (c .before .before .before .before .before .before .before .before .before .before .before .loop .inv .1 f w a) (c .before .before .before .before .before .before .before .before .before .before .loop-test .taken) (c .before .before .before .before .before .before .before .if1 .taken) _)) _ (c .before .m .given .1))
 
--- src/join.rt:196:5
 loop-less-2 : tie.Need-loop-less-2 Inv-loop μ-loop
 loop-less-2 c = let i = entry-in (c .before .before .before .before .before .before .before .before .before .before .before .pre .1 .2) (c .before .before .before .before .loop .inv .1 _ _ (c .before .before .before .before .before .before .before .before .before .before .before .pre .1 .2)) (c .before .before .before .loop-test .taken) in omega (arith, i .0, (c .before .before .whole-end .ensures .is))
 
--- src/join.rt:196:5
 loop-again-2 : tie.Need-loop-again-2 Inv-loop μ-loop
 loop-again-2 c = (c .before .before .before .before .loop .inv .0, λ f w a. joins-class a (c .before .before .before .before .loop .inv .1 f w a) (c .before .before .before .loop-test .taken) (c .if1 .left) _ (c .before .before .whole-end .ensures .is))
 
--- src/join.rt:181:1
 same-length-2 : tie.Need-same-length-2 Inv-loop μ-loop
 same-length-2 c = c .before .loop .inv .0
 
--- src/join.rt:181:1
 returns-2 : tie.Need-returns-2 Inv-loop μ-loop
 returns-2 c = λ f w a. joins-end a (c .before .loop .inv .1 f w a) (c .loop-test .left)
 
@@ -98,8 +76,8 @@ join-loads-spec =
     sub-join-load
     sub-join-load-2
     join-load-requires
-    enum-known-m
-    enum-told
+    (λ c. search needs)
+    (λ c. search needs)
     same-length
     returns
     loop-less

@@ -12,35 +12,15 @@ use Rattle.fields.proofs.outcome.refuse.Reads as refuse-reads
 use Rattle.loads.proofs.join.join_held.Reads as join-held-reads
 use Rattle.score.proofs.table.read_table.Reads as read-table-reads
 
--- src/join.rt:252:35
-slice-aggregate-read-table : tie.Need-slice-aggregate-read-table
-slice-aggregate-read-table c = search needs
-
--- src/join.rt:252:9
 read-table-requires : tie.Need-read-table-requires
 read-table-requires c κs = (rising-target _ _ _ (c .before .before .before .before .before .before .pre .0) (c .before .before .before .before .before .before .pre .1), c .before .before .before .before .before .before .pre .1 .pieces .target-short, refl, zeros-small 1024)
 
--- src/join.rt:253:9
-refuse-requires : tie.Need-refuse-requires
-refuse-requires c κs = search needs
-
--- src/join.rt:253:9
 returns : tie.Need-returns
 returns c = λ f z. table-broken f _ _ (c .before .before .before .read-table .ensures .0 (f .target) (z .pieces .target)) (not-true _ (c .before .if1 .taken)) (c .refuse .ensures)
 
--- src/join.rt:255:37
-slice-aggregate-join-held : tie.Need-slice-aggregate-join-held
-slice-aggregate-join-held c = search needs
-
--- src/join.rt:255:5
 join-held-requires : tie.Need-join-held-requires
 join-held-requires c κs = (c .before .before .before .before .before .before .before .before .before .before .before .pre .0, the-table (c .before .before .before .before .before .before .before .before .before .before .before .pre .0) _ [] (c .before .before .before .before .read-table .ensures .0 (c .before .before .before .before .before .before .before .before .before .before .before .pre .0 .target) (c .before .before .before .before .before .before .before .before .before .before .before .pre .1 .pieces .target)) (not-false _ (c .before .before .if1 .left)), c .before .before .before .before .before .before .before .before .before .before .before .pre .1, c .before .before .before .before .read-table .ensures .1 _ _ (c .before .before .before .before .before .before .before .before .before .before .before .pre .1 .pieces .target) (table-is (c .before .before .before .before .before .before .before .before .before .before .before .pre .0) _ [] (c .before .before .before .before .read-table .ensures .0 (c .before .before .before .before .before .before .before .before .before .before .before .pre .0 .target) (c .before .before .before .before .before .before .before .before .before .before .before .pre .1 .pieces .target)) (not-false _ (c .before .before .if1 .left))))
 
--- src/join.rt:246:1
-same-length : tie.Need-same-length
-same-length c = search needs
-
--- src/join.rt:246:1
 returns-2 : tie.Need-returns-2
 returns-2 c = λ f z. table-joined f _ _ (c .before .before .before .before .before .before .before .read-table .ensures .0 (f .target) (z .pieces .target)) (not-false _ (c .before .before .before .before .before .if1 .left)) (c .before .before .join-held .ensures f _ z (c .before .before .before .before .before .before .before .read-table .ensures .1 _ _ (z .pieces .target) (table-is f _ _ (c .before .before .before .before .before .before .before .read-table .ensures .0 (f .target) (z .pieces .target)) (not-false _ (c .before .before .before .before .before .if1 .left)))))
 
@@ -48,11 +28,11 @@ pub join-parts-spec : {M : Type 1} → statement M
 join-parts-spec =
     tie.close
     (tie.spec
-    slice-aggregate-read-table
+    (λ c. search needs)
     read-table-requires
-    refuse-requires
+    (λ c κs. search needs)
     returns
-    slice-aggregate-join-held
+    (λ c. search needs)
     join-held-requires
-    same-length
+    (λ c. search needs)
     returns-2)

@@ -13,46 +13,21 @@ use Rattle.translation.proofs.parts.body_of.Reads as body-of-reads
 use Rattle.translation.proofs.parts.source_of.Reads as source-of-reads
 use Rattle.translation.proofs.parts.target_of.Reads as target-of-reads
 
--- src/join.rt:264:9
-check-translation-requires : tie.Need-check-translation-requires
-check-translation-requires c κs = search needs
-
--- src/join.rt:266:29
-enum-known-outcome : tie.Need-enum-known-outcome
-enum-known-outcome c = search needs
-
--- src/join.rt:267:9
-refuse-requires : tie.Need-refuse-requires
-refuse-requires c κs = search needs
-
--- src/join.rt:267:9
 returns : tie.Need-returns
 returns c = join-refused _ _ _ _ _ _ (c .before .before .before .before .check-translation .ensures) (c .before .before .outcome .given .1) (c .refuse .ensures)
 
-enum-told : tie.Need-enum-told
-enum-told c = search needs
-
--- src/join.rt:270:9
 source-of-requires : tie.Need-source-of-requires
 source-of-requires c κs = let a = accepts _ (c .before .before .check-translation .ensures) (c .enum-told .given .1) in (a .translation, a .is)
 
--- src/join.rt:271:9
 target-of-requires : tie.Need-target-of-requires
 target-of-requires c κs = let a = accepts _ (c .before .before .before .check-translation .ensures) (c .before .enum-told .given .1) in (a .translation, a .is)
 
--- src/join.rt:272:9
 body-of-requires : tie.Need-body-of-requires
 body-of-requires c κs = let a = accepts _ (c .before .before .before .before .check-translation .ensures) (c .before .before .enum-told .given .1) in (a .translation, a .is)
 
--- src/join.rt:269:5
 join-parts-requires : tie.Need-join-parts-requires
 join-parts-requires c κs = let a = accepts _ (c .before .before .before .before .before .before .check-translation .ensures) (c .before .before .before .before .enum-told .given .1) in (a .translation, (parts-checked _ [] [] (a .translation) (a .is) (c .before .before .before .source-of .ensures) (c .before .before .target-of .ensures) (c .before .body-of .ensures)))
 
--- src/join.rt:260:1
-same-length : tie.Need-same-length
-same-length c = search needs
-
--- src/join.rt:260:1
 returns-2 : tie.Need-returns-2
 returns-2 c = let a = accepts _ (c .before .before .before .before .before .before .before .before .before .check-translation .ensures) (c .before .before .before .before .before .before .before .enum-told .given .1) in join-accepted _ _ _ (a .translation) (a .is) (c .before .before .join-parts .ensures (a .translation) (parts-checked _ [] [] (a .translation) (a .is) (c .before .before .before .before .before .before .source-of .ensures) (c .before .before .before .before .before .target-of .ensures) (c .before .before .before .before .body-of .ensures)))
 
@@ -60,14 +35,14 @@ pub join-table-spec : {M : Type 1} → statement M
 join-table-spec =
     tie.close
     (tie.spec
-    check-translation-requires
-    enum-known-outcome
-    refuse-requires
+    (λ c κs. search needs)
+    (λ c. search needs)
+    (λ c κs. search needs)
     returns
-    enum-told
+    (λ c. search needs)
     source-of-requires
     target-of-requires
     body-of-requires
     join-parts-requires
-    same-length
+    (λ c. search needs)
     returns-2)

@@ -9,31 +9,12 @@ use Rattle.loads.proofs.join.put_head.Lts as lts
 use Rattle.emitter.proofs.put.put_name.Reads as put-name-reads
 use Rattle.emitter.proofs.put.put_token.Reads as put-token-reads
 
--- src/join.rt:88:9
-put-name-requires : tie.Need-put-name-requires
-put-name-requires c κs = search needs
-
--- src/join.rt:89:37
-cast-put-token : tie.Need-cast-put-token
-cast-put-token c = search needs
-
--- src/join.rt:89:57
-cast-put-token-2 : tie.Need-cast-put-token-2
-cast-put-token-2 c = search needs
-
--- src/join.rt:89:9
 put-token-requires : tie.Need-put-token-requires
 put-token-requires c κs = let h = head-one 0 0 0 _ _ [] [] _ _ 0 0 (c .before .before .before .before .before .before .pre .1) (c .before .before .before .put-name .ensures) in omega (arith, h .0)
 
--- src/join.rt:90:5
 put-token-requires-2 : tie.Need-put-token-requires-2
 put-token-requires-2 c κs = let h = head-two _ 0 0 _ _ _ [] _ _ _ 0 (c .before .before .before .before .before .before .before .before .before .before .pre .1) (c .before .before .before .before .before .before .before .put-name .ensures) (c .before .before .before .put-token .ensures) in omega (arith, h .0)
 
--- src/join.rt:84:1
-same-length : tie.Need-same-length
-same-length c = search needs
-
--- src/join.rt:84:1
 returns : tie.Need-returns
 returns c = head-put _ _ _ _ _ _ _ _ _ _ _ (c .before .before .before .before .before .before .before .before .before .before .before .before .before .pre .1) (c .before .before .before .before .before .before .before .before .before .before .put-name .ensures) (c .before .before .before .before .before .before .put-token .ensures) (c .before .before .put-token2 .ensures)
 
@@ -41,10 +22,10 @@ pub put-head-spec : {M : Type 1} → statement M
 put-head-spec =
     tie.close
     (tie.spec
-    put-name-requires
-    cast-put-token
-    cast-put-token-2
+    (λ c κs. search needs)
+    (λ c. search needs)
+    (λ c. search needs)
     put-token-requires
     put-token-requires-2
-    same-length
+    (λ c. search needs)
     returns)

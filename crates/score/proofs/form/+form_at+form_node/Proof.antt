@@ -93,21 +93,6 @@ form-at-add-to-usize t c = let r = sign-in (c .before .before .before .before .b
 form-at-shared-slice-read-to-usize : (t : ℕ) → form-at-lts.Need-shared-slice-read-to-usize (form-at-calls t) (form-at-at t) form-at.Post
 form-at-shared-slice-read-to-usize t c = let r = sign-in (c .before .before .before .before .before .before .before .pre .1 .4) (sym (c .before .before .before .is-leaf .ensures) ∙ c .before .before .if1 .left) in omega (arith, r, c .before .sign-length .ensures .0)
 
-form-at-to-usize-requires : (t : ℕ) → form-at-lts.Need-to-usize-requires (form-at-calls t) (form-at-at t) form-at.Post
-form-at-to-usize-requires t c κs = search needs
-
-form-at-to-usize-requires-2 : (t : ℕ) → form-at-lts.Need-to-usize-requires-2 (form-at-calls t) (form-at-at t) form-at.Post
-form-at-to-usize-requires-2 t c κs = search needs
-
-form-at-mul-place-at : (t : ℕ) → form-at-lts.Need-mul-place-at (form-at-calls t) (form-at-at t) form-at.Post
-form-at-mul-place-at t c = search needs
-
-form-at-add-place-at : (t : ℕ) → form-at-lts.Need-add-place-at (form-at-calls t) (form-at-at t) form-at.Post
-form-at-add-place-at t c = search needs
-
-form-at-add-place-at-2 : (t : ℕ) → form-at-lts.Need-add-place-at-2 (form-at-calls t) (form-at-at t) form-at.Post
-form-at-add-place-at-2 t c = search needs
-
 form-at-place-at-requires : (t : ℕ) → form-at-lts.Need-place-at-requires (form-at-calls t) (form-at-at t) form-at.Post
 form-at-place-at-requires t c κs = omega (arith, (c .before .before .before .before .before .before .before .before .before .pre .1 .4) .kind, (c .before .before .before .before .before .before .before .before .before .pre .1 .4) .world .indexed .sound .long, c .before .to-usize .ensures .1, c .to-usize2 .ensures .0)
 
@@ -159,9 +144,6 @@ form-node-shared-slice-read-form-at t c = let i = row-in (c .before .before .bef
 form-node-form-at-requires : (t : ℕ) → form-node-lts.Need-form-at-requires (form-node-calls t) (form-node-at t) form-node.Post form-node-Inv-loop form-node-μ-loop
 form-node-form-at-requires t c κs = (omega (arith, c .before .before .before .before .before .before .before .before .before .pre .0), (c .before .before .before .before .before .before .before .before .before .pre .1 .0, c .before .before .before .before .before .before .before .before .before .pre .1 .1, c .before .before .before .before .before .before .before .before .before .pre .1 .2, operand (c .before .before .before .before .before .before .before .before .before .pre .1 .7) (c .before .before .loop .inv _ _ _ _ _ _ _ (c .before .before .before .before .before .before .before .before .before .pre .1 .7)) (c .before .loop-test .taken), operand-asks (c .before .before .before .before .before .before .before .before .before .pre .1 .7) (c .before .before .loop .inv _ _ _ _ _ _ _ (c .before .before .before .before .before .before .before .before .before .pre .1 .7)) (c .before .loop-test .taken)))
 
-form-node-enum-known-z : (t : ℕ) → form-node-lts.Need-enum-known-z (form-node-calls t) (form-node-at t) form-node.Post form-node-Inv-loop form-node-μ-loop
-form-node-enum-known-z t c = search needs
-
 form-node-mul-add-scaled : (t : ℕ) → form-node-lts.Need-mul-add-scaled (form-node-calls t) (form-node-at t) form-node.Post form-node-Inv-loop form-node-μ-loop
 form-node-mul-add-scaled t c = let i = row-in (c .before .before .before .before .before .before .before .before .before .before .before .before .before .pre .1 .7) (c .before .before .before .before .before .before .loop .inv _ _ _ _ _ _ _ (c .before .before .before .before .before .before .before .before .before .before .before .before .before .pre .1 .7)) (c .before .before .before .before .before .loop-test .taken) in omega (arith, i .1)
 
@@ -170,9 +152,6 @@ form-node-shared-slice-copy-out-add-scaled t c = let i = row-in (c .before .befo
 
 form-node-add-scaled-requires : (t : ℕ) → form-node-lts.Need-add-scaled-requires (form-node-calls t) (form-node-at t) form-node.Post form-node-Inv-loop form-node-μ-loop
 form-node-add-scaled-requires t c κs = (walk-small (c .before .before .before .before .before .before .before .before .before .before .before .before .before .before .pre .1 .7) (c .before .before .before .before .before .before .before .loop .inv _ _ _ _ _ _ _ (c .before .before .before .before .before .before .before .before .before .before .before .before .before .before .pre .1 .7)), figure-near (c .before .before .before .before .before .before .before .before .before .before .before .before .before .before .pre .1 .7) _, form-near _ _ _ (c .before .before .before .before .form-at .ensures .1) (c .before .before .z .given .1))
-
-form-node-enum-told : (t : ℕ) → form-node-lts.Need-enum-told (form-node-calls t) (form-node-at t) form-node.Post form-node-Inv-loop form-node-μ-loop
-form-node-enum-told t c = search needs
 
 form-node-returns : (t : ℕ) → form-node-lts.Need-returns (form-node-calls t) (form-node-at t) form-node.Post form-node-Inv-loop form-node-μ-loop
 form-node-returns t c = (λ l given w k p ts ks a. walk-outside a (c .before .before .before .before .before .loop .inv l given w k p ts ks a) (c .before .before .before .before .loop-test .taken) _ (c .before .before .form-at .ensures .0 l given w _ (operand-asks a (c .before .before .before .before .before .loop .inv l given w k p ts ks a) (c .before .before .before .before .loop-test .taken))) (c .enum-told .given .1), tt)
@@ -204,11 +183,11 @@ pub +form-at+form-node-spec : {M : Type 1} → statement M
     (form-at-sign-length-requires t)
     (form-at-add-to-usize t)
     (form-at-shared-slice-read-to-usize t)
-    (form-at-to-usize-requires t)
-    (form-at-to-usize-requires-2 t)
-    (form-at-mul-place-at t)
-    (form-at-add-place-at t)
-    (form-at-add-place-at-2 t)
+    (λ c κs. search needs)
+    (λ c κs. search needs)
+    (λ c. search needs)
+    (λ c. search needs)
+    (λ c. search needs)
     (form-at-place-at-requires t)
     (form-at-name-length-requires t)
     (form-at-add-form-node t)
@@ -231,11 +210,11 @@ pub +form-at+form-node-spec : {M : Type 1} → statement M
     (form-node-loop-holds t)
     (form-node-shared-slice-read-form-at t)
     (form-node-form-at-requires t)
-    (form-node-enum-known-z t)
+    (λ c. search needs)
     (form-node-mul-add-scaled t)
     (form-node-shared-slice-copy-out-add-scaled t)
     (form-node-add-scaled-requires t)
-    (form-node-enum-told t)
+    (λ c. search needs)
     (form-node-returns t)
     (form-node-add-q-2 t)
     (form-node-loop-less t)

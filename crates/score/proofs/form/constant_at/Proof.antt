@@ -11,17 +11,11 @@ use Rattle.score.proofs.form.constant_at.Reads as reads
 use Rattle.score.proofs.form.constant_at.Lts as lts
 use Rattle.score.proofs.figures.wide.Reads as wide-reads
 
--- src/form.rt:41:9
 returns : tie.Need-returns
 returns c = (constant-other _ _ (c .if1 .taken), omega arith)
 
--- src/form.rt:43:5
-wide-requires : tie.Need-wide-requires
-wide-requires c κs = search needs
-
--- src/form.rt:36:1
 returns-2 : tie.Need-returns-2
 returns-2 c = (constant-here _ _ _ (told w64 (c .wide .result) (c .wide .ok) ∙ (c .wide .ensures ∙ toZ-ofZ (c .before .before .fits .figure))) (c .before .if1 .left), rw (told w64 (c .wide .result) (c .wide .ok) ∙ (c .wide .ensures ∙ toZ-ofZ (c .before .before .fits .figure))) (c .before .before .pre))
 
 pub constant-at-spec : {M : Type 1} → statement M
-constant-at-spec = tie.close (tie.spec returns wide-requires returns-2)
+constant-at-spec = tie.close (tie.spec returns (λ c κs. search needs) returns-2)

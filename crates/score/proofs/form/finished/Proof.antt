@@ -8,17 +8,11 @@ use Rattle.score.proofs.form.finished.Reads as reads
 use Rattle.score.proofs.form.finished.Lts as lts
 use Rattle.score.proofs.form.within.Reads as within-reads
 
--- src/form.rt:111:8
-within-requires : tie.Need-within-requires
-within-requires c κs = search needs
-
--- src/form.rt:112:9
 returns : tie.Need-returns
 returns c = (finish-in _ _ _ _ (toZ-ofZ (c .before .before .fits .z)) (sym (c .before .within .ensures) ∙ c .if1 .taken), limit-near _ _ (sym (c .before .within .ensures) ∙ c .if1 .taken))
 
--- src/form.rt:108:1
 returns-2 : tie.Need-returns-2
 returns-2 c = (finish-out _ _ _ _ (toZ-ofZ (c .before .before .fits .z)) (sym (c .before .within .ensures) ∙ c .if1 .left), tt)
 
 pub finished-spec : {M : Type 1} → statement M
-finished-spec = tie.close (tie.spec within-requires returns returns-2)
+finished-spec = tie.close (tie.spec (λ c κs. search needs) returns returns-2)

@@ -12,55 +12,24 @@ use Rattle.fields.proofs.bytes.to_usize.Reads as to-usize-reads
 use Rattle.score.proofs.form.token_at.Reads as token-at-reads
 use Rattle.score.proofs.form.used_at.Reads as used-at-reads
 
--- src/form.rt:87:25
-enum-told : tie.Need-enum-told
-enum-told c = search needs
-
--- src/form.rt:87:25
 token-at-requires : tie.Need-token-at-requires
 token-at-requires c κs = tree-in _ _ (c .before .before .before .pre) (c .enum-told .given .1)
 
--- src/form.rt:89:16
-enum-told-2 : tie.Need-enum-told-2
-enum-told-2 c = search needs
-
--- src/form.rt:89:16
 shared-slice-read-if1 : tie.Need-shared-slice-read-if1
 shared-slice-read-if1 c = let i = code-in _ _ (c .before .before .before .before .pre) (c .before .enum-told2 .given .1) in omega (arith, i)
 
--- src/form.rt:90:40
-add-token-at : tie.Need-add-token-at
-add-token-at c = search needs
-
--- src/form.rt:90:17
 token-at-requires-2 : tie.Need-token-at-requires-2
 token-at-requires-2 c κs = token-in _ _ (c .before .before .before .before .before .pre) (c .before .before .enum-told2 .given .1) (c .if1 .taken)
 
--- src/form.rt:90:17
 returns : tie.Need-returns
 returns c = (leaf-token _ _ _ (c .before .before .before .enum-told2 .given .1) (c .before .if1 .taken) ((told w64 (c .token-at2 .result) (c .token-at2 .ok)) ∙ c .token-at2 .ensures .0), rw (told w64 (c .token-at2 .result) (c .token-at2 .ok)) (c .token-at2 .ensures .1))
 
--- src/form.rt:92:36
-add-to-usize : tie.Need-add-to-usize
-add-to-usize c = search needs
-
--- src/form.rt:92:30
 shared-slice-read-to-usize : tie.Need-shared-slice-read-to-usize
 shared-slice-read-to-usize c = code-in _ _ (c .before .before .before .before .before .before .pre) (c .before .before .before .enum-told2 .given .1)
 
--- src/form.rt:92:21
-to-usize-requires : tie.Need-to-usize-requires
-to-usize-requires c κs = search needs
-
--- src/form.rt:92:13
-used-at-requires : tie.Need-used-at-requires
-used-at-requires c κs = search needs
-
--- src/form.rt:82:1
 returns-2 : tie.Need-returns-2
 returns-2 c = (leaf-tree _ _ _ (c .before .enum-told .given .1) ((told w64 (c .token-at .result) (c .token-at .ok)) ∙ c .token-at .ensures .0), rw (told w64 (c .token-at .result) (c .token-at .ok)) (c .token-at .ensures .1))
 
--- src/form.rt:82:1
 returns-3 : tie.Need-returns-3
 returns-3 c = (leaf-argument _ _ _ _ (c .before .before .before .before .before .enum-told2 .given .1) (c .before .before .before .if1 .left) (c .before .to-usize .ensures .0) ((told w64 (c .used-at .result) (c .used-at .ok)) ∙ c .used-at .ensures .0), rw (told w64 (c .used-at .result) (c .used-at .ok)) (c .used-at .ensures .1))
 
@@ -68,16 +37,16 @@ pub leaf-at-spec : {M : Type 1} → statement M
 leaf-at-spec =
     tie.close
     (tie.spec
-    enum-told
+    (λ c. search needs)
     token-at-requires
-    enum-told-2
+    (λ c. search needs)
     shared-slice-read-if1
-    add-token-at
+    (λ c. search needs)
     token-at-requires-2
     returns
-    add-to-usize
+    (λ c. search needs)
     shared-slice-read-to-usize
-    to-usize-requires
-    used-at-requires
+    (λ c κs. search needs)
+    (λ c κs. search needs)
     returns-2
     returns-3)

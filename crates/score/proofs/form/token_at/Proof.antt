@@ -12,21 +12,11 @@ use Rattle.score.proofs.form.token_at.Lts as lts
 use Rattle.fields.proofs.bytes.pair_in.Reads as pair-in-reads
 use Rattle.score.proofs.figures.score_of.Reads as score-of-reads
 
--- src/form.rt:52:9
 returns : tie.Need-returns
 returns c = (constant-other _ _ (c .if1 .taken), omega arith)
 
--- src/form.rt:54:14
-pair-in-requires : tie.Need-pair-in-requires
-pair-in-requires c κs = search needs
-
--- src/form.rt:54:5
-score-of-requires : tie.Need-score-of-requires
-score-of-requires c κs = search needs
-
--- src/form.rt:47:1
 returns-2 : tie.Need-returns-2
 returns-2 c = (constant-here _ _ _ (told w64 (c .score-of .result) (c .score-of .ok) ∙ (c .score-of .ensures ∙ ap pos (c .before .pair-in .ensures .0))) (c .before .before .if1 .left), value-small _ _ (told w64 (c .score-of .result) (c .score-of .ok) ∙ c .score-of .ensures) (c .before .pair-in .ensures .1))
 
 pub token-at-spec : {M : Type 1} → statement M
-token-at-spec = tie.close (tie.spec returns pair-in-requires score-of-requires returns-2)
+token-at-spec = tie.close (tie.spec returns (λ c κs. search needs) (λ c κs. search needs) returns-2)

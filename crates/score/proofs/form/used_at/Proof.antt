@@ -5,15 +5,12 @@ use Rattle.score.proofs.form.used_at.Tie as tie
 use Rattle.score.proofs.form.used_at.Reads as reads
 use Rattle.score.proofs.form.used_at.Lts as lts
 
--- src/form.rt:62:9
 returns : tie.Need-returns
 returns c = (used-none _ _ (c .if1 .taken), omega arith)
 
--- src/form.rt:65:9
 returns-2 : tie.Need-returns-2
 returns-2 c = (used-other _ _ (c .before .if1 .left) (c .if2 .taken), omega arith)
 
--- src/form.rt:58:1
 returns-3 : tie.Need-returns-3
 returns-3 c = (used-here _ _ (c .before .if1 .left) (c .if2 .left), omega arith)
 

@@ -14,62 +14,21 @@ use Rattle.score.proofs.score.refuse.Reads as refuse-reads
 use Rattle.score.proofs.score.score_kind.Reads as score-kind-reads
 use Rattle.score.proofs.table.read_table.Reads as read-table-reads
 
--- src/score.rt:120:9
-check-language-requires : tie.Need-check-language-requires
-check-language-requires c κs = search needs
-
--- src/score.rt:122:29
-enum-known-outcome : tie.Need-enum-known-outcome
-enum-known-outcome c = search needs
-
--- src/score.rt:123:9
-refuse-requires : tie.Need-refuse-requires
-refuse-requires c κs = search needs
-
--- src/score.rt:123:9
 returns : tie.Need-returns
 returns c = language-refused _ _ _ _ (c .before .before .before .before .check-language .ensures) (c .before .before .outcome .given .1) (c .refuse .ensures)
 
-enum-told : tie.Need-enum-told
-enum-told c = search needs
-
--- src/score.rt:126:37
-slice-aggregate-read-table : tie.Need-slice-aggregate-read-table
-slice-aggregate-read-table c = search needs
-
--- src/score.rt:126:9
 read-table-requires : tie.Need-read-table-requires
 read-table-requires c κs = (rising-entries _ 0 [] [] (accepts _ (c .before .before .before .check-language .ensures) (c .before .enum-told .given .1)), (accepts _ (c .before .before .before .check-language .ensures) (c .before .enum-told .given .1)) .short, refl, zeros-small 1024)
 
--- src/score.rt:127:9
-refuse-requires-2 : tie.Need-refuse-requires-2
-refuse-requires-2 c κs = search needs
-
--- src/score.rt:127:9
 returns-2 : tie.Need-returns-2
 returns-2 c = table-broken _ _ _ _ (accepts _ (c .before .before .before .before .before .before .before .check-language .ensures) (c .before .before .before .before .before .enum-told .given .1)) (c .before .before .before .read-table .ensures .0 _ ((accepts _ (c .before .before .before .before .before .before .before .check-language .ensures) (c .before .before .before .before .before .enum-told .given .1)) .entries)) (not-true _ (c .before .if1 .taken)) (c .refuse2 .ensures)
 
--- src/score.rt:130:9
-refuse-requires-3 : tie.Need-refuse-requires-3
-refuse-requires-3 c κs = search needs
-
--- src/score.rt:130:9
 returns-3 : tie.Need-returns-3
 returns-3 c = root-past _ _ _ _ (accepts _ (c .before .before .before .before .before .before .before .before .check-language .ensures) (c .before .before .before .before .before .before .enum-told .given .1)) (c .before .before .before .before .read-table .ensures .0 _ ((accepts _ (c .before .before .before .before .before .before .before .before .check-language .ensures) (c .before .before .before .before .before .before .enum-told .given .1)) .entries)) (not-false _ (c .before .before .if1 .left)) (c .before .if2 .taken) (c .refuse3 .ensures)
 
--- src/score.rt:132:26
-slice-aggregate-score-kind : tie.Need-slice-aggregate-score-kind
-slice-aggregate-score-kind c = search needs
-
--- src/score.rt:132:36
-cast-score-kind : tie.Need-cast-score-kind
-cast-score-kind c = search needs
-
--- src/score.rt:132:5
 score-kind-requires : tie.Need-score-kind-requires
 score-kind-requires c κs = (omega arith, ((accepts _ (c .before .before .before .before .before .before .before .before .check-language .ensures) (c .before .before .before .before .before .before .enum-told .given .1)) .language, the-table _ 0 [] _ (accepts _ (c .before .before .before .before .before .before .before .before .check-language .ensures) (c .before .before .before .before .before .before .enum-told .given .1)) (c .before .before .before .before .read-table .ensures .0 _ ((accepts _ (c .before .before .before .before .before .before .before .before .check-language .ensures) (c .before .before .before .before .before .before .enum-told .given .1)) .entries)) (not-false _ (c .before .before .if1 .left)), table-held _ 0 [] _ (accepts _ (c .before .before .before .before .before .before .before .before .check-language .ensures) (c .before .before .before .before .before .before .enum-told .given .1)) (c .before .before .before .before .read-table .ensures .0 _ ((accepts _ (c .before .before .before .before .before .before .before .before .check-language .ensures) (c .before .before .before .before .before .before .enum-told .given .1)) .entries)) (not-false _ (c .before .before .if1 .left)) _ (c .before .before .before .before .read-table .ensures .1)))
 
--- src/score.rt:116:1
 returns-4 : tie.Need-returns-4
 returns-4 c = table-scored _ _ _ _ (accepts _ (c .before .before .before .before .before .before .before .before .before .check-language .ensures) (c .before .before .before .before .before .before .before .enum-told .given .1)) (c .before .before .before .before .before .read-table .ensures .0 _ ((accepts _ (c .before .before .before .before .before .before .before .before .before .check-language .ensures) (c .before .before .before .before .before .before .before .enum-told .given .1)) .entries)) (not-false _ (c .before .before .before .if1 .left)) (c .score-kind .ensures _ _ (table-held _ _ _ _ (accepts _ (c .before .before .before .before .before .before .before .before .before .check-language .ensures) (c .before .before .before .before .before .before .before .enum-told .given .1)) (c .before .before .before .before .before .read-table .ensures .0 _ ((accepts _ (c .before .before .before .before .before .before .before .before .before .check-language .ensures) (c .before .before .before .before .before .before .before .enum-told .given .1)) .entries)) (not-false _ (c .before .before .before .if1 .left)) _ (c .before .before .before .before .before .read-table .ensures .1)))
 
@@ -77,18 +36,18 @@ pub score-spec : {M : Type 1} → statement M
 score-spec =
     tie.close
     (tie.spec
-    check-language-requires
-    enum-known-outcome
-    refuse-requires
+    (λ c κs. search needs)
+    (λ c. search needs)
+    (λ c κs. search needs)
     returns
-    enum-told
-    slice-aggregate-read-table
+    (λ c. search needs)
+    (λ c. search needs)
     read-table-requires
-    refuse-requires-2
+    (λ c κs. search needs)
     returns-2
-    refuse-requires-3
+    (λ c κs. search needs)
     returns-3
-    slice-aggregate-score-kind
-    cast-score-kind
+    (λ c. search needs)
+    (λ c. search needs)
     score-kind-requires
     returns-4)

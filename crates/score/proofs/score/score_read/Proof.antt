@@ -12,31 +12,12 @@ use Rattle.score.proofs.form.form_at.Reads as form-at-reads
 use Rattle.score.proofs.score.accept.Reads as accept-reads
 use Rattle.score.proofs.score.refuse.Reads as refuse-reads
 
--- src/score.rt:67:11
 form-at-requires : tie.Need-form-at-requires
 form-at-requires c κs = (c .before .before .before .pre .0, [], figureOf (c .before .before .before .pre .1), c .before .before .before .pre .2, tree-term _ _ _ _ _ (λ i. omega (arith, c .shared-slice-known3 .given i)) _ _ _ (c .before .before .before .pre .3))
 
--- src/score.rt:78:20
-enum-known-z : tie.Need-enum-known-z
-enum-known-z c = search needs
-
--- src/score.rt:78:29
-accept-requires : tie.Need-accept-requires
-accept-requires c κs = search needs
-
--- src/score.rt:79:35
-enum-told : tie.Need-enum-told
-enum-told c = search needs
-
--- src/score.rt:79:28
-refuse-requires : tie.Need-refuse-requires
-refuse-requires c κs = search needs
-
--- src/score.rt:56:1
 returns : tie.Need-returns
 returns c = λ l w t a. tree-scored _ _ _ _ _ (λ i. omega (arith, c .before .before .before .before .before .shared-slice-known3 .given i)) l w t a _ (c .before .before .before .before .form-at .ensures .0 l [] (figureOf w) t (tree-term _ _ _ _ _ (λ i. omega (arith, c .before .before .before .before .before .shared-slice-known3 .given i)) l w t a)) _ _ _ (c .before .before .z .given .1) (form-back _ _ _ (c .before .before .before .before .form-at .ensures .1) (c .before .before .z .given .1)) (c .accept .ensures)
 
--- src/score.rt:56:1
 returns-2 : tie.Need-returns-2
 returns-2 c = λ l w t a. tree-outside _ _ _ _ _ (λ i. omega (arith, c .before .before .before .before .shared-slice-known3 .given i)) l w t a _ (c .before .before .before .form-at .ensures .0 l [] (figureOf w) t (tree-term _ _ _ _ _ (λ i. omega (arith, c .before .before .before .before .shared-slice-known3 .given i)) l w t a)) (c .before .enum-told .given .1) (c .refuse .ensures)
 
@@ -45,9 +26,9 @@ score-read-spec =
     tie.close
     (tie.spec
     form-at-requires
-    enum-known-z
-    accept-requires
-    enum-told
-    refuse-requires
+    (λ c. search needs)
+    (λ c κs. search needs)
+    (λ c. search needs)
+    (λ c κs. search needs)
     returns
     returns-2)

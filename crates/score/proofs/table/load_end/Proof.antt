@@ -7,87 +7,36 @@ use Rattle.score.proofs.table.load_end.Reads as reads
 use Rattle.score.proofs.table.load_end.Lts as lts
 use Rattle.fields.proofs.walk.end_if_whole.Reads as end-if-whole-reads
 
--- src/table.rt:42:9
-end-if-whole-requires : tie.Need-end-if-whole-requires
-end-if-whole-requires c κs = search needs
-
--- src/table.rt:44:9
 returns : tie.Need-returns
 returns c = load-cut _ _ _ _ _ (c .before .end-if-whole .ensures) (c .if1 .taken)
 
--- src/table.rt:46:8
 shared-slice-read-if2 : tie.Need-shared-slice-read-if2
 shared-slice-read-if2 c = let i = load-in _ _ _ _ _ _ (c .before .before .before .before .before .pre .0) (c .before .before .end-if-whole .ensures) (c .before .if1 .left) in omega (arith, i .0, i .1)
 
--- src/table.rt:47:9
 returns-2 : tie.Need-returns-2
 returns-2 c = load-tag _ _ _ _ _ _ (c .before .before .before .before .before .before .pre .0) (c .before .before .before .end-if-whole .ensures) (c .before .before .if1 .left) (c .if2 .taken)
 
--- src/table.rt:49:8
 sub-if3 : tie.Need-sub-if3
 sub-if3 c = let i = load-in _ _ _ _ _ _ (c .before .before .before .before .before .before .pre .0) (c .before .before .before .end-if-whole .ensures) (c .before .before .if1 .left) in omega (arith, i .0, i .1)
 
--- src/table.rt:49:8
 sub-if3-2 : tie.Need-sub-if3-2
 sub-if3-2 c = let i = load-in _ _ _ _ _ _ (c .before .before .before .before .before .before .pre .0) (c .before .before .before .end-if-whole .ensures) (c .before .before .if1 .left) in omega (arith, i .0, i .1)
 
--- src/table.rt:49:28
-sub-if3-3 : tie.Need-sub-if3-3
-sub-if3-3 c = search needs
-
--- src/table.rt:49:28
-sub-if3-4 : tie.Need-sub-if3-4
-sub-if3-4 c = search needs
-
--- src/table.rt:49:23
-mul-if3 : tie.Need-mul-if3
-mul-if3 c = search needs
-
--- src/table.rt:50:9
 returns-3 : tie.Need-returns-3
 returns-3 c = load-size _ _ _ _ _ _ (c .before .before .before .before .before .before .before .pre .0) (c .before .before .before .before .end-if-whole .ensures) (c .before .before .before .if1 .left) (c .before .if2 .left) (c .if3 .taken)
 
--- src/table.rt:52:14
-add-if4 : tie.Need-add-if4
-add-if4 c = search needs
-
--- src/table.rt:52:8
 shared-slice-read-if4 : tie.Need-shared-slice-read-if4
 shared-slice-read-if4 c = let i = load-long _ _ _ _ _ _ (c .before .before .before .before .before .before .before .before .pre .0) (c .before .before .before .before .before .end-if-whole .ensures) (c .before .before .before .before .if1 .left) (c .before .before .if2 .left) (c .before .if3 .left) (c .before .before .before .before .before .before .before .before .pre .1) in omega (arith, i)
 
--- src/table.rt:52:33
-add-if4-2 : tie.Need-add-if4-2
-add-if4-2 c = search needs
-
--- src/table.rt:52:24
-shared-slice-read-if4-2 : tie.Need-shared-slice-read-if4-2
-shared-slice-read-if4-2 c = search needs
-
--- src/table.rt:53:9
 returns-4 : tie.Need-returns-4
 returns-4 c = load-result _ _ _ _ _ _ (c .before .before .before .before .before .before .before .before .before .before .pre .0) (c .before .before .before .before .before .before .before .end-if-whole .ensures) (c .before .before .before .before .before .before .if1 .left) (c .before .before .before .before .if2 .left) (c .before .before .before .if3 .left) (c .if4 .taken)
 
--- src/table.rt:55:14
-add-if5 : tie.Need-add-if5
-add-if5 c = search needs
-
--- src/table.rt:55:8
 shared-slice-read-if5 : tie.Need-shared-slice-read-if5
 shared-slice-read-if5 c = let i = load-long _ _ _ _ _ _ (c .before .before .before .before .before .before .before .before .before .before .before .pre .0) (c .before .before .before .before .before .before .before .before .end-if-whole .ensures) (c .before .before .before .before .before .before .before .if1 .left) (c .before .before .before .before .before .if2 .left) (c .before .before .before .before .if3 .left) (c .before .before .before .before .before .before .before .before .before .before .before .pre .1) in omega (arith, i)
 
--- src/table.rt:55:33
-add-if5-2 : tie.Need-add-if5-2
-add-if5-2 c = search needs
-
--- src/table.rt:55:24
-shared-slice-read-if5-2 : tie.Need-shared-slice-read-if5-2
-shared-slice-read-if5-2 c = search needs
-
--- src/table.rt:56:9
 returns-5 : tie.Need-returns-5
 returns-5 c = load-name _ _ _ _ _ _ (c .before .before .before .before .before .before .before .before .before .before .before .before .before .pre .0) (c .before .before .before .before .before .before .before .before .before .before .end-if-whole .ensures) (c .before .before .before .before .before .before .before .before .before .if1 .left) (c .before .before .before .before .before .before .before .if2 .left) (c .before .before .before .before .before .before .if3 .left) (c .before .before .before .if4 .left) (c .if5 .taken)
 
--- src/table.rt:38:1
 returns-6 : tie.Need-returns-6
 returns-6 c = load-is _ _ _ _ _ _ (c .before .before .before .before .before .before .before .before .before .before .before .before .before .pre .0) (c .before .before .before .before .before .before .before .before .before .before .end-if-whole .ensures) (c .before .before .before .before .before .before .before .before .before .if1 .left) (c .before .before .before .before .before .before .before .if2 .left) (c .before .before .before .before .before .before .if3 .left) (c .before .before .before .if4 .left) (c .if5 .left)
 
@@ -95,24 +44,24 @@ pub load-end-spec : {M : Type 1} → statement M
 load-end-spec =
     tie.close
     (tie.spec
-    end-if-whole-requires
+    (λ c κs. search needs)
     returns
     shared-slice-read-if2
     returns-2
     sub-if3
     sub-if3-2
-    sub-if3-3
-    sub-if3-4
-    mul-if3
+    (λ c. search needs)
+    (λ c. search needs)
+    (λ c. search needs)
     returns-3
-    add-if4
+    (λ c. search needs)
     shared-slice-read-if4
-    add-if4-2
-    shared-slice-read-if4-2
+    (λ c. search needs)
+    (λ c. search needs)
     returns-4
-    add-if5
+    (λ c. search needs)
     shared-slice-read-if5
-    add-if5-2
-    shared-slice-read-if5-2
+    (λ c. search needs)
+    (λ c. search needs)
     returns-5
     returns-6)

@@ -28,20 +28,11 @@ add-figure c = omega (arith, c .before .before .before .pre .0, c .before .befor
 figure-requires : tie.Need-figure-requires Inv-loop μ-loop
 figure-requires c κs = omega (arith, c .before .before .before .pre .0, c .loop-test .taken)
 
-add-t11 : tie.Need-add-t11 Inv-loop μ-loop
-add-t11 c = search needs
-
 mul-t12 : tie.Need-mul-t12 Inv-loop μ-loop
 mul-t12 c = omega (arith, c .before .before .before .before .pre .1, c .before .before .before .before .pre .2, c .before .loop-test .taken)
 
 slice-set-from-figures : tie.Need-slice-set-from-figures Inv-loop μ-loop
 slice-set-from-figures c = omega (arith, c .before .before .loop .inv .0 .long, c .before .before .before .before .pre .1, c .before .loop-test .taken)
-
-add-i : tie.Need-add-i Inv-loop μ-loop
-add-i c = search needs
-
-loop-less : tie.Need-loop-less Inv-loop μ-loop
-loop-less c = search needs
 
 loop-again : tie.Need-loop-again Inv-loop μ-loop
 loop-again c = (put-next _ _ _ _ _ _ _ (c .before .before .loop .inv .0) (c .before .loop-test .taken) (c .before .before .before .before .pre .1) _ (told w32 (c .figure .result) (c .figure .ok) ∙ c .figure .ensures .0) (rw (told w32 (c .figure .result) (c .figure .ok)) (c .figure .ensures .1)), omega arith)
@@ -62,11 +53,11 @@ put-figures-spec =
     mul-figure
     add-figure
     figure-requires
-    add-t11
+    (λ c. search needs)
     mul-t12
     slice-set-from-figures
-    add-i
-    loop-less
+    (λ c. search needs)
+    (λ c. search needs)
     loop-again
     same-length
     returns)

@@ -1,0 +1,139 @@
+-- What the operations answer: a law for each return of `export_legal` and `export`.
+use Prim.Native.Nat.{ℕ, _+_, _<_, _≤_}
+use mathlib.Core.Path.{_≡_, refl, sym, ap, _∙_}
+use mathlib.Core.Bool.{Bool, true, false, not}
+use mathlib.Core.List.{List, [], _∷_, _++_}
+use mathlib.Core.Option.{some}
+use native.Mathlib.Omega.{arith}
+use lib.ListN.{length, getD, drop}
+use lib.Dec.{ltb}
+use borrow.Author.Tests.{lt-ltb, le-ltb, ltb-false}
+use Rattle.fields.specs.Outcome.{Result, value, refused, _>>=_, checked, written, outputAfter}
+use Rattle.fields.specs.Inner.Writing.{spliced}
+use Rattle.fields.specs.declared.outcome.Outcome.{Outcome}
+use Rattle.fields.specs.declared.outcome.Outcome.the-variants.{Accepted, Refused}
+use Rattle.fields.specs.declared.outcome.Reason.{Reason}
+use Rattle.fields.specs.declared.outcome.Reason.the-variants as Why
+use Rattle.fields.proofs.Truth.{by-test, true-not}
+use Rattle.language.specs.Language.{Language, isIn, clashes, entryKey}
+use Rattle.language.specs.LanguageFile.{languageOf, languageLimit, entriesOf}
+use Rattle.language.proofs.Codec.{language-good}
+use Rattle.reader.specs.Code.{Code}
+use Rattle.reader.specs.Syntax.{Read, done, deep, broken, read, tree}
+use Rattle.reader.specs.Operations.{treeLevels, wholeTree, treeOf, checkTree}
+use Rattle.reader.specs.Inner.Index.{Indexed}
+use Rattle.reader.proofs.Members.{in-below}
+use Rattle.translation.specs.Operations.{fitted}
+use Rattle.translation.proofs.Fitting.{refuse-value}
+use Rattle.translation.proofs.Accepted.{refused-not}
+use Rattle.xml.specs.Text.{export}
+use Rattle.xml.specs.Operations.{exportText, exportTree}
+use Rattle.xml.specs.declared.export.Step.{Step}
+use Rattle.xml.specs.declared.export.Step.the-variants.{To, Full}
+use Rattle.xml.specs.Inner.Putting.{Put}
+use Rattle.xml.specs.Inner.Exporting.{Steps, Exports, ExportsTree}
+use Rattle.xml.specs.Inner.Answering.{Gives, GivesExport}
+use Rattle.xml.proofs.Inverse.{tree-done}
+
+-- A result that fits, and one that does not.
+pub gives-long : (v o : List ℕ) {out : Outcome} → length o < length v → out ≡ Refused Why.OutputTooShort → Gives (fitted (length o) v) o o out
+gives-long v o h e = rw (lt-ltb (length o) (length v) h) (e, refl)
+
+pub gives-fit : (v o o′ : List ℕ) {out : Outcome} → length v ≤ length o → out ≡ Accepted (length v) → o′ ≡ spliced o 0 v → Gives (fitted (length o) v) o o′ out
+unfolding spliced
+gives-fit v o o′ h e b =
+    let z : 0 + length v ≡ length v = omega arith in
+    rw (le-ltb (length o) (length v) h) (e, b ∙ ap (λ (n : ℕ). v ++ drop n o) z)
+
+-- export_legal
+module _ (s index : List ℕ) (k : ℕ) (b o o₁ : List ℕ) {x : Step} (first : ExportsTree false s index k b 0 treeLevels o o₁ 0 x) (steps : Steps false b o o₁ x) where
+  pub legal-full : {out : Outcome} → x ≡ Full → out ≡ Refused Why.OutputTooShort → GivesExport s index k b o o₁ out
+  legal-full e h l a z f =
+      let w = first l a [] z f .full e in
+      let i : length o < length (export l k a) = omega arith in
+      let y : o₁ ≡ o = steps .kept refl in
+      rw y (gives-long (export l k a) o i h)
+
+  module _ {e m : ℕ} (ex : x ≡ To e m) {o₂ : List ℕ} {r : Step} (second : ExportsTree true s index k b 0 treeLevels o₁ o₂ 0 r) where
+    by-step : (l : Language) (a : Code) → Exports true (export l k a) b [] o₁ o₂ 0 r → length (export l k a) ≤ length o₁ → (y : Step) → r ≡ y
+        → o₂ ≡ spliced o₁ 0 (export l k a)
+    by-step l a w h (To d n) q = w .put d n q .bytes refl
+    by-step l a w h Full q = let z = w .full q in absurd (omega arith)
+
+    pub legal-done : {out : Outcome} → out ≡ Accepted m → GivesExport s index k b o o₂ out
+    legal-done h l a z f =
+        let w = first l a [] z f .put e m ex in
+        let end = w .end in
+        let fits = w .fits in
+        let n : m ≡ length (export l k a) = omega arith in
+        let y : o₁ ≡ o = steps .kept refl in
+        let i : length (export l k a) ≤ length o = omega arith in
+        let j : length (export l k a) ≤ length o₁ = rw y i in
+        gives-fit (export l k a) o o₂ i (h ∙ ap Accepted n)
+        (by-step l a (second l a [] z f) j r refl ∙ ap (λ (p : List ℕ). spliced p 0 (export l k a)) y)
+
+-- export: what a tree that was accepted is.
+pub record Legal (s : List ℕ) (root : ℕ) (b : List ℕ) : Type 0 where
+  pub language : Language
+  pub term : Code
+  pub is : languageOf s ≡ value language
+  pub entries : entriesOf s ≡ some language
+  pub short : length s ≤ 1024
+  pub small : root < 32
+  pub reads : read tree language [] treeLevels root b ≡ done term []
+  pub legal : treeOf language root b ≡ value term
+
+language-short : (s : List ℕ) (l : Language) → languageOf s ≡ value l → length s ≤ 1024
+unfolding languageOf
+language-short s l e = ltb-false 1024 (length s) (refuse-value (ltb languageLimit (length s)) Why.TooLong _ e .0)
+
+module _ (s : List ℕ) (root : ℕ) (b : List ℕ) where
+  legal-tree : (l : Language) (t : Code) → languageOf s ≡ value l → treeOf l root b ≡ value t → Legal s root b
+  unfolding treeOf
+  legal-tree l t e f =
+      let d = language-good s l e .0 in
+      let r = refuse-value (not (isIn l root)) Why.UnknownRoot (wholeTree (read tree l [] treeLevels root b)) f in
+      record {
+        language = l;
+        term = t;
+        is = e;
+        entries = d;
+        short = language-short s l e;
+        small = in-below s root l d (true-not (isIn l root) (r .0));
+        reads = tree-done _ t (r .1);
+        legal = f;
+      }
+
+  module _ {c : Outcome} (ec : c ≡ checkTree s root b) where
+    pub accepted : {n : ℕ} → c ≡ Accepted n → Legal s root b
+    unfolding checkTree
+    accepted {n} h = go (languageOf s) refl (sym ec ∙ h)
+      where
+        tree-of : (l : Language) → languageOf s ≡ value l → (q : Result Code) → treeOf l root b ≡ q → checked q ≡ Accepted n → Legal s root b
+        tree-of l e (value t) f g = legal-tree l t e f
+        tree-of l e (refused r) f g = refused-not {n = n} {r = r} g
+
+        go : (m : Result Language) → languageOf s ≡ m → checked (m >>= λ l. treeOf l root b) ≡ Accepted n → Legal s root b
+        go (value l) e g = tree-of l e (treeOf l root b) refl g
+        go (refused r) e g = refused-not {n = n} {r = r} g
+
+    module _ (o : List ℕ) where
+      pub export-refused : {r : Reason} {out : Outcome} → c ≡ Refused r → out ≡ Refused r
+          → (out ≡ exportTree s root b o .outcome) × (o ≡ exportTree s root b o .output)
+      unfolding checkTree exportTree exportText
+      export-refused {r} {out} h i = go (languageOf s) refl (sym ec ∙ h)
+        where
+          tree-of : (l : Language) → languageOf s ≡ value l → (q : Result Code) → treeOf l root b ≡ q → checked q ≡ Refused r
+              → (out ≡ exportTree s root b o .outcome) × (o ≡ exportTree s root b o .output)
+          tree-of l e (value t) f g = refused-not {n = 0} {r = r} (sym g)
+          tree-of l e (refused x) f g = rw (e, f) (i ∙ sym g, refl)
+
+          go : (m : Result Language) → languageOf s ≡ m → checked (m >>= λ l. treeOf l root b) ≡ Refused r
+              → (out ≡ exportTree s root b o .outcome) × (o ≡ exportTree s root b o .output)
+          go (value l) e g = tree-of l e (treeOf l root b) refl g
+          go (refused x) e g = rw e (i ∙ sym g, refl)
+
+    pub export-done : (index o o′ : List ℕ) {out : Outcome} (w : Legal s root b) → Indexed index s (w .language) → GivesExport s index root b o o′ out
+        → (out ≡ exportTree s root b o .outcome) × (o′ ≡ exportTree s root b o .output)
+    unfolding exportTree exportText
+    export-done index o o′ w z g = rw (w .is, w .legal) (g (w .language) (w .term) z (w .reads))

@@ -1,0 +1,135 @@
+-- What import answers: a law for each return of `import_text`, `import_kind` and `import`.
+use Prim.Native.Nat.{ℕ, _+_, _<_, _≤_}
+use mathlib.Core.Path.{_≡_, refl, sym, ap, _∙_}
+use mathlib.Core.Bool.{Bool, true, false, not}
+use mathlib.Core.List.{List, [], _∷_}
+use mathlib.Core.Option.{some}
+use native.Mathlib.Omega.{arith}
+use lib.ListN.{length, getD, drop, drop-of-length-le}
+use lib.Dec.{ltb}
+use borrow.Author.Tests.{lt-ltb}
+use Rattle.fields.specs.Outcome.{Result, value, refused, _>>=_, checked, written, outputAfter}
+use Rattle.fields.specs.Inner.Writing.{spliced}
+use Rattle.fields.specs.declared.outcome.Outcome.{Outcome}
+use Rattle.fields.specs.declared.outcome.Outcome.the-variants.{Accepted, Refused}
+use Rattle.fields.specs.declared.outcome.Reason.{Reason}
+use Rattle.fields.specs.declared.outcome.Reason.the-variants as Why
+use Rattle.fields.proofs.Truth.{by-test}
+use Rattle.fields.proofs.Split.{front}
+use Rattle.language.specs.Language.{Language, isIn}
+use Rattle.language.specs.LanguageFile.{languageOf, entriesOf}
+use Rattle.language.specs.Operations.{checkLanguage}
+use Rattle.reader.specs.Code.{Code}
+use Rattle.reader.specs.Syntax.{Read, done, deep, broken, write, tree}
+use Rattle.reader.specs.Operations.{treeLevels}
+use Rattle.reader.specs.Inner.Index.{Indexed}
+use Rattle.reader.proofs.Members.{in-below}
+use Rattle.translation.specs.Operations.{fitted}
+use Rattle.translation.proofs.Accepted.{refused-not}
+use Rattle.checks.proofs.TreeChain.{accepts}
+use Rattle.xml.specs.Import.{readText}
+use Rattle.xml.specs.Operations.{wholeText, importOf, importBytes, importTree}
+use Rattle.xml.specs.declared.import.Text.{Text}
+use Rattle.xml.specs.declared.import.Text.the-variants.{End, Deep, Broken}
+use Rattle.xml.specs.Inner.Importing.{Stored, Inside, Imports, ImportsTree}
+use Rattle.xml.specs.Inner.Answering.{Gives, GivesWhole, GivesImport}
+use Rattle.xml.proofs.Decimal.{same-done, deep-not, broken-not}
+use Rattle.xml.proofs.Answers.{gives-long, gives-fit}
+
+gives-refused : (x : Result (List ℕ)) (o : List ℕ) {out : Outcome} (r : Reason) → x ≡ refused r → out ≡ Refused r → Gives x o o out
+gives-refused x o r e h = (h ∙ sym (ap written e), sym (ap (outputAfter o) e))
+
+gives-same : (x y : Result (List ℕ)) (o o′ : List ℕ) {out : Outcome} → x ≡ y → Gives y o o′ out → Gives x o o′ out
+gives-same x y o o′ e h = rw e h
+
+-- What a reading comes to, with so much room.
+abbrev result : ℕ → Read Code → Result (List ℕ)
+result room p = wholeText p >>= λ t. fitted room (write tree t)
+
+-- import_text
+module _ (s index : List ℕ) (k : ℕ) (text o w w′ : List ℕ) {x : Text} (first : ImportsTree s index k text 0 treeLevels w w′ 0 x) where
+  pub text-deep : {out : Outcome} → x ≡ Deep → out ≡ Refused Why.TooDeep → GivesWhole s index k text o o out
+  text-deep h i l z = gives-refused _ o Why.TooDeep (ap (result (length o)) (first l z .deep h)) i
+
+  pub text-broken : {out : Outcome} → x ≡ Broken → out ≡ Refused Why.NotAnExport → GivesWhole s index k text o o out
+  text-broken h i l z = gives-refused _ o Why.NotAnExport (ap (result (length o)) (first l z .broken h)) i
+
+  module _ {e m : ℕ} (ex : x ≡ End e m) (inside : Inside text x) where
+    pub text-left : {out : Outcome} → (e ≡ length text → ⊥) → out ≡ Refused Why.NotAnExport → GivesWhole s index k text o o out
+    text-left h i l z =
+        let f = first l z .found e m ex in
+        let j = inside e m ex .0 in
+        let g : e < length text = omega arith in
+        gives-refused _ o Why.NotAnExport (ap (result (length o)) (f .1 ∙ ap (done (f .0)) (front text e g))) i
+
+    module _ (all : e ≡ length text) where
+      whole : (l : Language) (z : Indexed index s l) → readText l treeLevels k text ≡ done (first l z .found e m ex .0) []
+      whole l z = let f = first l z .found e m ex in f .1 ∙ ap (done (f .0)) (drop-of-length-le text {i = e} (omega arith))
+
+      size : (l : Language) (z : Indexed index s l) → m ≡ length (write tree (first l z .found e m ex .0))
+      size l z = let f = first l z .found e m ex .2 .end in omega arith
+
+      pub text-long : {out : Outcome} → length o < m → out ≡ Refused Why.OutputTooShort → GivesWhole s index k text o o out
+      text-long h i l z =
+          let n = size l z in
+          gives-same _ _ o o (ap (result (length o)) (whole l z)) (gives-long (write tree (first l z .found e m ex .0)) o (omega arith) i)
+
+      module _ {o′ : List ℕ} {r : Text} (second : ImportsTree s index k text 0 treeLevels o o′ 0 r) (fits : m ≤ length o) where
+        by-text : (l : Language) (z : Indexed index s l) (t : Code) → readText l treeLevels k text ≡ done t [] → length (write tree t) ≤ length o → (y : Text) → r ≡ y
+            → o′ ≡ spliced o 0 (write tree t)
+        by-text l z t g h (End d n) q =
+            let f = second l z .found d n q in
+            let c = same-done (f .0) t (drop d text) [] (sym (f .1) ∙ g) .0 in
+            let u = f .2 in
+            let ue = u .end in
+            let lc = ap (λ (a : Code). length (write tree a)) c in
+            u .bytes (omega arith) ∙ ap (λ (a : Code). spliced o 0 (write tree a)) c
+        by-text l z t g h Deep q = deep-not (sym (second l z .deep q) ∙ g)
+        by-text l z t g h Broken q = broken-not (sym (second l z .broken q) ∙ g)
+
+        pub text-done : {out : Outcome} → out ≡ Accepted m → GivesWhole s index k text o o′ out
+        text-done i l z =
+            let n = size l z in
+            let t = first l z .found e m ex .0 in
+            gives-same _ _ o o′ (ap (result (length o)) (whole l z))
+            (gives-fit (write tree t) o o′ (omega arith) (i ∙ ap Accepted n) (by-text l z t (whole l z) (omega arith) r refl))
+
+-- import_kind
+module _ (s : List ℕ) (k : ℕ) (text o : List ℕ) {x : Bool} (ex : (l : Language) → entriesOf s ≡ some l → x ≡ isIn l k) {out : Outcome} where
+  pub kind-out : x ≡ false → out ≡ Refused Why.UnknownRoot → GivesImport s k text o o out
+  unfolding importOf
+  kind-out h i l e =
+      let j : isIn l k ≡ false = sym (ex l e) ∙ h in
+      gives-refused (importOf l k text >>= λ t. fitted (length o) (write tree t)) o Why.UnknownRoot (rw j refl) i
+
+  pub kind-in : (index o′ : List ℕ) → x ≡ true → ((l : Language) → entriesOf s ≡ some l → Indexed index s l) → GivesWhole s index k text o o′ out → GivesImport s k text o o′ out
+  unfolding importOf
+  kind-in index o′ h built g l e =
+      let j : isIn l k ≡ true = sym (ex l e) ∙ h in
+      gives-same (importOf l k text >>= λ t. fitted (length o) (write tree t)) (result (length o) (readText l treeLevels k text)) o o′ (rw j refl) (g l (built l e))
+
+-- import
+-- The outcome and the output are those of the operation.
+abbrev pub AsImport : List ℕ → ℕ → List ℕ → List ℕ → List ℕ → Outcome → Type 0
+AsImport s root text o o′ out = (out ≡ importTree s root text o .outcome) × (o′ ≡ importTree s root text o .output)
+
+module _ (s : List ℕ) (root : ℕ) (text o : List ℕ) {c : Outcome} (ec : c ≡ checkLanguage s) {out : Outcome} where
+  module _ {n : ℕ} (accepted : c ≡ Accepted n) where
+    pub import-done : (o′ : List ℕ) → GivesImport s root text o o′ out → AsImport s root text o o′ out
+    unfolding importTree importBytes
+    import-done o′ g = let a = accepts s ec accepted in rw (a .is) (g (a .language) (a .entries))
+
+    pub import-past : 31 < root → out ≡ Refused Why.UnknownRoot → AsImport s root text o o out
+    unfolding importOf
+    import-past h i =
+        import-done o (λ l e. by-test (isIn l root)
+        (λ j. let b = in-below s root l e j in absurd (omega arith))
+        (λ j. gives-refused (importOf l root text >>= λ t. fitted (length o) (write tree t)) o Why.UnknownRoot (rw j refl) i))
+
+  pub import-refused : {r : Reason} → c ≡ Refused r → out ≡ Refused r → AsImport s root text o o out
+  unfolding checkLanguage importTree importBytes
+  import-refused {r} h i = go (languageOf s) refl (sym ec ∙ h)
+    where
+      go : (m : Result Language) → languageOf s ≡ m → checked m ≡ Refused r → AsImport s root text o o out
+      go (value l) e g = refused-not {n = 0} {r = r} (sym g)
+      go (refused q) e g = rw e (i ∙ sym g, refl)

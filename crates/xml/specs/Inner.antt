@@ -1,0 +1,6 @@
+-- What the inner contracts cite.
+pub mod Putting
+pub mod Exporting
+pub mod Answering
+pub mod Scanning
+pub mod Importing

@@ -1,0 +1,39 @@
+-- What an operation answers and leaves.
+use Prim.Native.Nat.{ℕ}
+use mathlib.Core.Path.{_≡_}
+use mathlib.Core.List.{List, []}
+use lib.ListN.{length}
+use mathlib.Core.Option.{some}
+use Rattle.fields.specs.Outcome.{Result, _>>=_, written, outputAfter}
+use Rattle.fields.specs.declared.outcome.Outcome.{Outcome}
+use Rattle.language.specs.Language.{Language}
+use Rattle.reader.specs.Code.{Code}
+use Rattle.language.specs.LanguageFile.{entriesOf}
+use Rattle.reader.specs.Syntax.{done, read, write, tree}
+use Rattle.reader.specs.Operations.{treeLevels}
+use Rattle.reader.specs.Inner.Index.{Indexed}
+use Rattle.translation.specs.Operations.{fitted}
+use Rattle.xml.specs.Text.{export}
+use Rattle.xml.specs.Import.{readText}
+use Rattle.xml.specs.Operations.{wholeText, importOf}
+
+-- The outcome, and the output that is left, are those of a result.
+abbrev pub Gives : Result (List ℕ) → List ℕ → List ℕ → Outcome → Type 0
+Gives result before after outcome = (outcome ≡ written result) × (after ≡ outputAfter before result)
+
+-- They are those of the export of the tree of kind k that the bytes b are.
+abbrev pub GivesExport : List ℕ → List ℕ → ℕ → List ℕ → List ℕ → List ℕ → Outcome → Type 0
+GivesExport s index k b before after outcome =
+    (l : Language) (a : Code) → Indexed index s l → read tree l [] treeLevels k b ≡ done a []
+    → Gives (fitted (length before) (export l k a)) before after outcome
+
+-- They are those of the tree of kind k whose export the text is, with nothing after it.
+abbrev pub GivesWhole : List ℕ → List ℕ → ℕ → List ℕ → List ℕ → List ℕ → Outcome → Type 0
+GivesWhole s index k text before after outcome =
+    (l : Language) → Indexed index s l
+    → Gives (wholeText (readText l treeLevels k text) >>= λ t. fitted (length before) (write tree t)) before after outcome
+
+-- The same, where it is looked whether the kind is in the language.
+abbrev pub GivesImport : List ℕ → ℕ → List ℕ → List ℕ → List ℕ → Outcome → Type 0
+GivesImport s k text before after outcome =
+    (l : Language) → entriesOf s ≡ some l → Gives (importOf l k text >>= λ t. fitted (length before) (write tree t)) before after outcome

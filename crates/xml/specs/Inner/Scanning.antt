@@ -1,0 +1,42 @@
+-- What stands at a position of a text.
+use Prim.Native.Nat.{ℕ, _+_, _<_, _≤_}
+use mathlib.Core.Path.{_≡_}
+use mathlib.Core.List.{List}
+use lib.ListN.{length, drop}
+use Rattle.reader.specs.Code.{Code, token}
+use Rattle.reader.specs.Syntax.{Read, done, deep, broken}
+use Rattle.xml.specs.declared.scan.Place.{Place}
+use Rattle.xml.specs.declared.scan.Place.the-variants.{At, Nothing}
+use Rattle.xml.specs.declared.scan.Number.{Number}
+use Rattle.xml.specs.declared.scan.Number.the-variants as N
+
+-- A position that was reached lies in the text, and not before `from`.
+pub record Reached (text : List ℕ) (from e : ℕ) : Type 0 where
+  pub past : from ≤ e
+  pub inside : e ≤ length text
+
+-- The answer r says what the reading o comes to.
+pub record Stands (o : Read (Unit {0})) (text : List ℕ) (from : ℕ) (r : Place) : Type 0 where
+  pub found : (e : ℕ) → r ≡ At e → o ≡ done tt (drop e text)
+  pub reached : (e : ℕ) → r ≡ At e → Reached text from e
+  pub nothing : r ≡ Nothing → o ≡ broken
+
+-- No number below 65,536 was read.
+abbrev pub NoNumber : Read ℕ → Type 0
+NoNumber (done v r) = 65536 ≤ v
+NoNumber deep = ⊥
+NoNumber broken = Unit {0}
+
+-- The answer r says what the reading o of a number comes to; there is none above 65,535 that is wanted.
+pub record Numbers (o : Read ℕ) (text : List ℕ) (from : ℕ) (r : Number) : Type 0 where
+  pub found : (v e : ℕ) → r ≡ N.Is v e → o ≡ done v (drop e text)
+  pub small : (v e : ℕ) → r ≡ N.Is v e → v < 65536
+  pub reached : (v e : ℕ) → r ≡ N.Is v e → Reached text from e
+  pub nothing : r ≡ N.Nothing → NoNumber o
+
+-- The answer r says what the reading o of a token comes to.
+pub record Tokens (o : Read Code) (text : List ℕ) (from : ℕ) (r : Number) : Type 0 where
+  pub found : (v e : ℕ) → r ≡ N.Is v e → o ≡ done (token v) (drop e text)
+  pub small : (v e : ℕ) → r ≡ N.Is v e → v < 65536
+  pub reached : (v e : ℕ) → r ≡ N.Is v e → Reached text from e
+  pub nothing : r ≡ N.Nothing → o ≡ broken

@@ -1,0 +1,6 @@
+// Trees as XML: export and import.
+pub mod export;
+pub mod import;
+pub mod operations;
+pub mod put;
+pub mod scan;
