@@ -102,7 +102,17 @@ enum algebra_answer {
     /* the text is not an export of a legal tree */
     ALGEBRA_NOT_AN_EXPORT = 20,
     /* a path number is 0, or there is no such argument */
-    ALGEBRA_NO_BLOCK = 21
+    ALGEBRA_NO_BLOCK = 21,
+    /* the tree is over 65,535 bytes, or the index is not its own */
+    ALGEBRA_NOT_INDEXED = 22,
+    /* no source tree within the limit gives this tree */
+    ALGEBRA_NO_SOURCE = 23,
+    /* the limit of levels is not 1 to 16 */
+    ALGEBRA_LIMIT_OUT_OF_RANGE = 24,
+    /* the path has reached a hidden block */
+    ALGEBRA_HIDDEN = 25,
+    /* a mapping number is above 15 in a join, or not 0 where only 0 is taken */
+    ALGEBRA_NUMBER_UNFIT = 26
 };
 
 #ifdef __cplusplus

@@ -63,6 +63,11 @@ refusals! {
     19 ScoreOutOfRange "a node's score lies outside -1,000,000,000 to 1,000,000,000"
     20 NotAnExport "the text is not an export of a legal tree"
     21 NoBlock "a path number is 0, or there is no such argument"
+    22 NotIndexed "the tree is over 65,535 bytes, or the index is not its own"
+    23 NoSource "no source tree within the limit gives this tree"
+    24 LimitOutOfRange "the limit of levels is not 1 to 16"
+    25 Hidden "the path has reached a hidden block"
+    26 NumberUnfit "a mapping number is above 15 in a join, or not 0 where only 0 is taken"
 }
 
 impl Refusal {

@@ -4,11 +4,12 @@ use mathlib.Core.Bool.{Bool, true, false}
 use mathlib.Core.List.{List, _++_}
 use lib.ListN.{length, drop}
 use Rattle.fields.specs.declared.outcome.Reason.{Reason}
-use Rattle.fields.specs.declared.outcome.Reason.the-variants.{TooLong, BrokenField, OutOfOrder, ClassIsResult, WrongMapping, WrongClauses, IllegalCode, IllegalTerm, BuffersTooShort, UnboundVariable, ValueTooLarge, SumUnfit, JoinUnfit, UnknownRoot, IllegalTree, TooDeep, OutputTooShort, BrokenTable, ScoreOutOfRange, NotAnExport, NoBlock}
+use Rattle.fields.specs.declared.outcome.Reason.the-variants.{TooLong, BrokenField, OutOfOrder, ClassIsResult, WrongMapping, WrongClauses, IllegalCode, IllegalTerm, BuffersTooShort, UnboundVariable, ValueTooLarge, SumUnfit, JoinUnfit, UnknownRoot, IllegalTree, TooDeep, OutputTooShort, BrokenTable, ScoreOutOfRange, NotAnExport, NoBlock, NotIndexed, NoSource, LimitOutOfRange, Hidden, NumberUnfit}
 use Rattle.fields.specs.declared.outcome.Outcome.{Outcome}
 use Rattle.fields.specs.declared.outcome.Outcome.the-variants.{Accepted, Refused}
 
--- The number of each refusal (paper 01; paper 02: 18 and 19 by 2026-03, 20 by 2026-05, 21 by 2026-06).
+-- The number of each refusal (paper 01; paper 02: 18 and 19 by 2026-03, 20 by 2026-05, 21 by 2026-06, 22 by 2026-08,
+-- 23 and 24 by 2026-09, 25 by 2026-12, 26 by 2026-13).
 abbrev pub reasonNumber : Reason → ℕ
 -- a file, or a language inside it, is longer than its limit
 reasonNumber TooLong = 1
@@ -52,6 +53,16 @@ reasonNumber ScoreOutOfRange = 19
 reasonNumber NotAnExport = 20
 -- a path number is 0, or there is no such argument
 reasonNumber NoBlock = 21
+-- the tree is over 65,535 bytes, or the index is not its own
+reasonNumber NotIndexed = 22
+-- no source tree within the limit gives this tree
+reasonNumber NoSource = 23
+-- the limit of levels is not 1 to 16
+reasonNumber LimitOutOfRange = 24
+-- the path has reached a hidden block
+reasonNumber Hidden = 25
+-- a mapping number is above 15 in a join, or not 0 where only 0 is taken
+reasonNumber NumberUnfit = 26
 
 -- The number that an outsider sees.
 abbrev pub numberOf : Outcome → ℕ

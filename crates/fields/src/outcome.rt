@@ -2,7 +2,7 @@
 ghost use mathlib.Core.Path.{_≡_};
 ghost use Rattle.fields.specs.Outcome.{numberOf, lengthOf, reasonNumber};
 
-// Why an operation refuses: 1 to 21, in this order.
+// Why an operation refuses: 1 to 26, in this order.
 pub enum Reason {
     TooLong,
     BrokenField,
@@ -25,6 +25,11 @@ pub enum Reason {
     ScoreOutOfRange,
     NotAnExport,
     NoBlock,
+    NotIndexed,
+    NoSource,
+    LimitOutOfRange,
+    Hidden,
+    NumberUnfit,
 }
 
 // An operation accepts, with the length of what it wrote, or refuses.
@@ -82,6 +87,11 @@ fn reason_number(reason: Reason) -> u32
         Reason::ScoreOutOfRange => 19,
         Reason::NotAnExport => 20,
         Reason::NoBlock => 21,
+        Reason::NotIndexed => 22,
+        Reason::NoSource => 23,
+        Reason::LimitOutOfRange => 24,
+        Reason::Hidden => 25,
+        Reason::NumberUnfit => 26,
     }
 }
 

@@ -11,7 +11,7 @@ use lib.Dec.{ltb}
 use Rattle.fields.specs.Outcome.{Result, value, refused, reasonNumber, numberOf, written, outputAfter}
 use Rattle.fields.specs.Fields.{Field}
 use Rattle.fields.specs.declared.outcome.Reason.{Reason}
-use Rattle.fields.specs.declared.outcome.Reason.the-variants.{TooLong, BrokenField, OutOfOrder, ClassIsResult, WrongMapping, WrongClauses, IllegalCode, IllegalTerm as TermRefused, BuffersTooShort, UnboundVariable, ValueTooLarge, SumUnfit, JoinUnfit, UnknownRoot, IllegalTree, TooDeep, OutputTooShort, BrokenTable, ScoreOutOfRange, NotAnExport, NoBlock}
+use Rattle.fields.specs.declared.outcome.Reason.the-variants.{TooLong, BrokenField, OutOfOrder, ClassIsResult, WrongMapping, WrongClauses, IllegalCode, IllegalTerm as TermRefused, BuffersTooShort, UnboundVariable, ValueTooLarge, SumUnfit, JoinUnfit, UnknownRoot, IllegalTree, TooDeep, OutputTooShort, BrokenTable, ScoreOutOfRange, NotAnExport, NoBlock, NotIndexed, NoSource, LimitOutOfRange, Hidden, NumberUnfit}
 use Rattle.translation.specs.Translation.{Translation}
 use Rattle.translation.specs.TranslationFile.{encodeTranslation}
 use Rattle.pack.specs.Terms.{Sort, translations, Term, writeTerm, termLevels, readTerm, scoped}
@@ -47,6 +47,11 @@ reason-positive BrokenTable e = omega arith
 reason-positive ScoreOutOfRange e = omega arith
 reason-positive NotAnExport e = omega arith
 reason-positive NoBlock e = omega arith
+reason-positive NotIndexed e = omega arith
+reason-positive NoSource e = omega arith
+reason-positive LimitOutOfRange e = omega arith
+reason-positive Hidden e = omega arith
+reason-positive NumberUnfit e = omega arith
 
 -- The number 0 is a value.
 pub accepted-value : (r : Result (List ℕ)) → numberOf (written r) ≡ 0 → (bytes : List ℕ) × (r ≡ value bytes)

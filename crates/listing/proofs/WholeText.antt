@@ -8,7 +8,7 @@ use lib.Seq.{take-append-seam, length-take-le}
 use Rattle.io.specs.Counts.{Counts}
 use Rattle.fields.specs.Outcome.{Result, value, refused, _>>=_, reasonNumber, numberOf, written, outputAfter}
 use Rattle.fields.specs.declared.outcome.Reason.{Reason}
-use Rattle.fields.specs.declared.outcome.Reason.the-variants.{TooLong, BrokenField, OutOfOrder, ClassIsResult, WrongMapping, WrongClauses, IllegalCode, IllegalTerm, BuffersTooShort, UnboundVariable, ValueTooLarge, SumUnfit, JoinUnfit, UnknownRoot, IllegalTree, TooDeep, OutputTooShort, BrokenTable, ScoreOutOfRange, NotAnExport, NoBlock}
+use Rattle.fields.specs.declared.outcome.Reason.the-variants.{TooLong, BrokenField, OutOfOrder, ClassIsResult, WrongMapping, WrongClauses, IllegalCode, IllegalTerm, BuffersTooShort, UnboundVariable, ValueTooLarge, SumUnfit, JoinUnfit, UnknownRoot, IllegalTree, TooDeep, OutputTooShort, BrokenTable, ScoreOutOfRange, NotAnExport, NoBlock, NotIndexed, NoSource, LimitOutOfRange, Hidden, NumberUnfit}
 use Rattle.fields.specs.declared.outcome.Outcome.{Outcome}
 use Rattle.fields.specs.declared.outcome.Outcome.the-variants.{Accepted, Refused}
 use Rattle.translation.specs.Translation.{Translation}
@@ -23,7 +23,7 @@ use Rattle.listing.proofs.Putting.{puts-then}
 use Rattle.listing.proofs.Walk.{clause-lines}
 
 -- A reason's number is small.
-small : (r : Reason) → reasonNumber r < 22
+small : (r : Reason) → reasonNumber r < 27
 small TooLong = omega arith
 small BrokenField = omega arith
 small OutOfOrder = omega arith
@@ -45,8 +45,13 @@ small BrokenTable = omega arith
 small ScoreOutOfRange = omega arith
 small NotAnExport = omega arith
 small NoBlock = omega arith
+small NotIndexed = omega arith
+small NoSource = omega arith
+small LimitOutOfRange = omega arith
+small Hidden = omega arith
+small NumberUnfit = omega arith
 
-pub number-small : (o : Outcome) → numberOf o < 22
+pub number-small : (o : Outcome) → numberOf o < 27
 number-small (Accepted n) = omega arith
 number-small (Refused r) = small r
 

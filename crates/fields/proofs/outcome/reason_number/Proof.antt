@@ -69,10 +69,30 @@ returns-20 c = ap reasonNumber (sym (c .enum-told20 .given .1))
 returns-21 : tie.Need-returns-21
 returns-21 c = ap reasonNumber (sym (c .enum-told21 .given .1))
 
+returns-22 : tie.Need-returns-22
+returns-22 c = ap reasonNumber (sym (c .enum-told22 .given .1))
+
+returns-23 : tie.Need-returns-23
+returns-23 c = ap reasonNumber (sym (c .enum-told23 .given .1))
+
+returns-24 : tie.Need-returns-24
+returns-24 c = ap reasonNumber (sym (c .enum-told24 .given .1))
+
+returns-25 : tie.Need-returns-25
+returns-25 c = ap reasonNumber (sym (c .enum-told25 .given .1))
+
+returns-26 : tie.Need-returns-26
+returns-26 c = ap reasonNumber (sym (c .enum-told26 .given .1))
+
 pub reason-number-spec : {M : Type 1} → statement M
 reason-number-spec =
     tie.close
     (tie.spec
+    (λ c. search needs)
+    (λ c. search needs)
+    (λ c. search needs)
+    (λ c. search needs)
+    (λ c. search needs)
     (λ c. search needs)
     (λ c. search needs)
     (λ c. search needs)
@@ -114,4 +134,9 @@ reason-number-spec =
     returns-18
     returns-19
     returns-20
-    returns-21)
+    returns-21
+    returns-22
+    returns-23
+    returns-24
+    returns-25
+    returns-26)
