@@ -6,7 +6,7 @@ use mathlib.Core.Bool.{Bool, true, false, cond}
 use native.Mathlib.Omega.{arith}
 use lib.ListN.{length, getD}
 use lib.Dec.{ltb, leb, eqb}
-use borrow.Author.Tests.{ltb-true, ltb-false, leb-false, eqb-true, eqb-false, lt-ltb, le-ltb, le-leb, lt-leb, eq-eqb, ne-eqb}
+use borrow.Author.Tests.{ltb-true, ltb-false, leb-false, eqb-true, eqb-false, lt-ltb, le-ltb, leb-true, le-leb, lt-leb, eq-eqb, ne-eqb}
 use Rattle.fields.specs.Fields.{pairAt}
 use Rattle.fields.proofs.Truth.{by-test}
 use Rattle.language.specs.Language.{productionKey, inRange}
@@ -18,7 +18,7 @@ use Rattle.reader.specs.declared.node.Read.the-variants.{End, Deep, Brok
 use Rattle.reader.specs.declared.node.Node.{Node}
 use Rattle.reader.specs.declared.node.Node.the-variants.{Leaf, Operands}
 use Rattle.reader.specs.Inner.Index.{Sound}
-use Rattle.reader.specs.Inner.Positions.{nameLength, productionPlace, tokenAt, operandsAt, nameAt, argumentIs, argumentAt, treeNode, classPlace, signNode, codeNode, nodeAt, operandsFrom, pastAt, readAt, EndsBy, NodeIn, KindsIn}
+use Rattle.reader.specs.Inner.Positions.{nameLength, productionPlace, tokenAt, operandsAt, nameAt, argumentIs, argumentAt, treeNode, classPlace, codeLeaf, codeNode, nodeAt, leafAt, operandsFrom, pastAt, readAt, EndsBy, NodeIn, KindsIn}
 
 -- token
 module _ (s : List ℕ) (place : ℕ) (b : List ℕ) (at : ℕ) where
@@ -94,6 +94,26 @@ module _ (s index : List ℕ) (k : ℕ) (b : List ℕ) (at : ℕ) {j place : ℕ
   unfolding treeNode
   tree-token h e = cc (ne-eqb place 0 h)
 
+-- code_leaf
+module _ (s index arguments : List ℕ) (k : ℕ) (b : List ℕ) (at : ℕ) where
+  pub leaf-end : length b ≤ at → Broken ≡ codeLeaf s index arguments k b at
+  unfolding codeLeaf
+  leaf-end h = simp (le-leb (length b) at h)
+
+  module _ (there : at < length b) where
+    pub leaf-argument : {r : Read} → getD b at 0 ≡ 3 → r ≡ argumentAt arguments k b (at + 1) → r ≡ codeLeaf s index arguments k b at
+    unfolding codeLeaf
+    leaf-argument h e = cc (lt-leb (length b) at there)
+
+    pub leaf-token : {r : Read} {j place : ℕ} → getD b at 0 ≡ 2 → j ≡ k → place ≡ getD index j 0 → r ≡ tokenAt s place b (at + 1)
+        → r ≡ codeLeaf s index arguments k b at
+    unfolding codeLeaf
+    leaf-token h ej ei e = cc (lt-leb (length b) at there)
+
+    pub leaf-other : (getD b at 0 ≡ 3 → ⊥) → (getD b at 0 ≡ 2 → ⊥) → Broken ≡ codeLeaf s index arguments k b at
+    unfolding codeLeaf
+    leaf-other h i = cc (lt-leb (length b) at there, ne-eqb (getD b at 0) 3 h, ne-eqb (getD b at 0) 2 i)
+
 -- code_node
 module _ (s index arguments : List ℕ) (k : ℕ) (b : List ℕ) (at : ℕ) where
   pub code-end : length b ≤ at → Leaf Broken ≡ codeNode s index arguments k b at
@@ -102,22 +122,23 @@ module _ (s index arguments : List ℕ) (k : ℕ) (b : List ℕ) (at : ℕ) wher
 
   module _ (there : at < length b) where
     pub code-name : {r : Node} → getD b at 0 ≡ 1 → r ≡ nameAt s index k b (at + 1) → r ≡ codeNode s index arguments k b at
-    unfolding codeNode signNode
+    unfolding codeNode
     code-name h e = cc (lt-leb (length b) at there)
 
-    pub code-token : {r : Read} {j place : ℕ} → getD b at 0 ≡ 2 → j ≡ k → place ≡ getD index j 0 → r ≡ tokenAt s place b (at + 1)
-        → Leaf r ≡ codeNode s index arguments k b at
-    unfolding codeNode signNode
-    code-token h ej ei e = cc (lt-leb (length b) at there)
+    pub code-leaf : {r : Read} → (getD b at 0 ≡ 1 → ⊥) → r ≡ codeLeaf s index arguments k b at → Leaf r ≡ codeNode s index arguments k b at
+    unfolding codeNode
+    code-leaf h e = cc (lt-leb (length b) at there, ne-eqb (getD b at 0) 1 h)
 
-    pub code-argument : {r : Read} → getD b at 0 ≡ 3 → r ≡ argumentAt arguments k b (at + 1) → Leaf r ≡ codeNode s index arguments k b at
-    unfolding codeNode signNode
-    code-argument h e = cc (lt-leb (length b) at there)
+    module _ (other : getD b at 0 ≡ 1 → ⊥) where
+      pub code-token : {r : Read} {j place : ℕ} → getD b at 0 ≡ 2 → j ≡ k → place ≡ getD index j 0 → r ≡ tokenAt s place b (at + 1)
+          → Leaf r ≡ codeNode s index arguments k b at
+      code-token h ej ei e = code-leaf other (leaf-token s index arguments k b at there h ej ei e)
 
-    pub code-other : (getD b at 0 ≡ 1 → ⊥) → (getD b at 0 ≡ 2 → ⊥) → (getD b at 0 ≡ 3 → ⊥) → Leaf Broken ≡ codeNode s index arguments k b at
-    unfolding codeNode signNode
-    code-other h i j =
-        cc (lt-leb (length b) at there, ne-eqb (getD b at 0) 1 h, ne-eqb (getD b at 0) 2 i, ne-eqb (getD b at 0) 3 j)
+      pub code-argument : {r : Read} → getD b at 0 ≡ 3 → r ≡ argumentAt arguments k b (at + 1) → Leaf r ≡ codeNode s index arguments k b at
+      code-argument h e = code-leaf other (leaf-argument s index arguments k b at there h e)
+
+      pub code-other : (getD b at 0 ≡ 3 → ⊥) → (getD b at 0 ≡ 2 → ⊥) → Leaf Broken ≡ codeNode s index arguments k b at
+      code-other h i = code-leaf other (leaf-other s index arguments k b at there h i)
 
 -- node_at
 module _ (s index arguments : List ℕ) (k : ℕ) (b : List ℕ) (at : ℕ) {x : Syntax} {r : Node} where
@@ -248,6 +269,44 @@ module _ (x : Syntax) (s index arguments b : List ℕ) (n k at : ℕ) where
       (λ z. read-past x s index arguments b n k at (eqb-true n 0 z) (past-tree s index k b at (w .0) (past-token s index k b at refl (e ∙ w .1) h t)))
       (λ z. read-leaf x s index arguments b n k at (eqb-false n 0 z) (node-tree s index arguments k b at (w .0) (tree-token s index k b at refl (e ∙ w .1) h t)) refl)
 
+-- leaf
+module _ (x : Syntax) (s index arguments b : List ℕ) (n k at : ℕ) where
+  -- An unknown name in a tree, where no token of a class is to be.
+  tree-nothing : getD index k 0 ≡ 0 → productionPlace Tree index k b at ≡ 0 → Leaf Broken ≡ treeNode s index k b at
+  unfolding productionPlace
+  tree-nothing e h =
+      by-test (leb (length b) at)
+      (λ t. tree-name s index k b at refl (sym e) refl (name-end s index k b at (leb-true (length b) at t)))
+      (λ t.
+      let there : at < length b = leb-false (length b) at t in
+      let z : getD index (productionKey k (getD b at 0)) 0 ≡ 0 = rw (lt-leb (length b) at there) at h in
+      tree-name s index k b at refl (sym e) refl (name-unknown s index k b at there refl refl (sym z) refl))
+
+  -- The same in a code.
+  code-nothing : productionPlace Code index k b at ≡ 0 → Leaf (codeLeaf s index arguments k b at) ≡ codeNode s index arguments k b at
+  unfolding productionPlace
+  code-nothing h =
+      by-test (leb (length b) at)
+      (λ t.
+      let over : length b ≤ at = leb-true (length b) at t in
+      ap Leaf (sym (leaf-end s index arguments k b at over)) ∙ code-end s index arguments k b at over)
+      (λ t.
+      let there : at < length b = leb-false (length b) at t in
+      by-test (eqb (getD b at 0) 1)
+      (λ d. let one : getD b at 0 ≡ 1 = eqb-true _ _ d in ap Leaf (sym (leaf-other s index arguments k b at there (λ z. omega arith) (λ z. omega arith))) ∙ code-name s index arguments k b at there one (unknown there one h))
+      (λ d. code-leaf s index arguments k b at there (eqb-false _ _ d) refl))
+    where
+      unknown : at < length b → getD b at 0 ≡ 1
+          → cond (leb (length b) (at + 1)) 0 (cond (eqb (getD b at 0) 1) (getD index (productionKey k (getD b (at + 1) 0)) 0) 0) ≡ 0
+          → Leaf Broken ≡ nameAt s index k b (at + 1)
+      unknown there one h =
+          by-test (leb (length b) (at + 1))
+          (λ t. name-end s index k b (at + 1) (leb-true _ _ t))
+          (λ t.
+          let inner : at + 1 < length b = leb-false _ _ t in
+          let z : getD index (productionKey k (getD b (at + 1) 0)) 0 ≡ 0 = rw (lt-leb (length b) (at + 1) inner, eq-eqb (getD b at 0) 1 one) at h in
+          name-unknown s index k b (at + 1) inner refl refl (sym z) refl)
+
 -- name_place
 module _ (index : List ℕ) (k : ℕ) (b : List ℕ) (at : ℕ) where
   pub place-end : length b ≤ at → 0 ≡ productionPlace Tree index k b at
@@ -283,6 +342,37 @@ module _ (x : Syntax) (index : List ℕ) (k : ℕ) (b : List ℕ) (at class : �
     unfolding productionPlace
     place-in-code h i j e =
         let l : at + 1 < length b = omega arith in cc (eq-eqb class 0 none, lt-leb (length b) (at + 1) l)
+
+-- leaf_at
+module _ (s index arguments : List ℕ) (k : ℕ) (b : List ℕ) (at : ℕ) {x : Syntax} where
+  pub leaf-tree : x ≡ Tree → Broken ≡ leafAt x s index arguments k b at
+  unfolding leafAt
+  leaf-tree h = cc
+
+  pub leaf-code : {r : Read} → x ≡ Code → r ≡ codeLeaf s index arguments k b at → r ≡ leafAt x s index arguments k b at
+  unfolding leafAt
+  leaf-code h e = cc
+
+-- leaf, where no production was found and no token of a class in a tree is to be read
+module _ (x : Syntax) (s index arguments b : List ℕ) (n k at : ℕ) where
+  nothing-node : {r : Read} → classPlace x index k ≡ 0 → productionPlace x index k b at ≡ 0 → r ≡ leafAt x s index arguments k b at
+      → Leaf r ≡ nodeAt x s index arguments k b at
+  unfolding classPlace leafAt nodeAt
+  nothing-node {r} e h y = go x e h y
+    where
+      go : (x : Syntax) → classPlace x index k ≡ 0 → productionPlace x index k b at ≡ 0 → r ≡ leafAt x s index arguments k b at
+          → Leaf r ≡ nodeAt x s index arguments k b at
+      go Tree e h y = ap Leaf y ∙ tree-nothing Tree s index arguments b n k at e h
+      go Code e h y = ap Leaf y ∙ code-nothing Code s index arguments b n k at h
+
+  pub leaf-read : {r : Read} {class : ℕ} → (n ≡ 0 → ⊥) → r ≡ leafAt x s index arguments k b at → class ≡ classPlace x index k → class ≡ 0
+      → productionPlace x index k b at ≡ 0 → r ≡ readAt x s index arguments b n k at
+  leaf-read pos y e z h = read-leaf x s index arguments b n k at pos (nothing-node (sym e ∙ z) h y) refl
+
+-- No production was found.
+pub none-found : (x : Syntax) (index : List ℕ) (k : ℕ) (b : List ℕ) (at : ℕ) {class place : ℕ} → class ≡ 0
+    → place ≡ cond (eqb class 0) (productionPlace x index k b at) 0 → place ≡ 0 → productionPlace x index k b at ≡ 0
+none-found x index k b at {class} z e h = let w : eqb class 0 ≡ true = eq-eqb class 0 z in cc
 
 -- What is known of one of two results.
 pub carried : {r u v : Read} (n : ℕ) → r ≡ u → (u ≡ v) × EndsBy n u → (r ≡ v) × EndsBy n r
@@ -335,7 +425,7 @@ pub record Named (x : Syntax) (s index arguments : List ℕ) (k : ℕ) (b : List
 
 named-by : (x : Syntax) (s index arguments : List ℕ) (k : ℕ) (b : List ℕ) (at place : ℕ) → classPlace x index k ≡ 0
     → place ≡ productionPlace x index k b at → (place ≡ 0 → ⊥) → Named x s index arguments k b at place
-unfolding classPlace productionPlace nodeAt treeNode codeNode signNode
+unfolding classPlace productionPlace nodeAt treeNode codeNode
 named-by Tree s index arguments k b at place none e pos =
     by-test (leb (length b) at)
     (λ t. absurd (pos (cc)))

@@ -233,10 +233,10 @@ module _ (s index arguments b : List ℕ) (l : Language) (z : Indexed index s l)
           by-test (eqb (getD b at 0) 1)
           (λ d. cc (Laws.code-name s index arguments k b at there (eqb-true _ _ d) refl, name-same k (at + 1) kind))
           (λ d. by-test (eqb (getD b at 0) 2)
-          (λ e. cc (Laws.code-token s index arguments k b at there (eqb-true _ _ e) refl refl refl, token-same s (getD index k 0) b (at + 1), z .range k kind))
+          (λ e. cc (Laws.code-token s index arguments k b at there (eqb-false _ _ d) (eqb-true _ _ e) refl refl refl, token-same s (getD index k 0) b (at + 1), z .range k kind))
           (λ e. by-test (eqb (getD b at 0) 3)
-          (λ c. cc (Laws.code-argument s index arguments k b at there (eqb-true _ _ c) refl, argument-same arguments k b (at + 1)))
-          (λ c. cc (Laws.code-other s index arguments k b at there (eqb-false _ _ d) (eqb-false _ _ e) (eqb-false _ _ c)))))
+          (λ c. cc (Laws.code-argument s index arguments k b at there (eqb-false _ _ d) (eqb-true _ _ c) refl, argument-same arguments k b (at + 1)))
+          (λ c. cc (Laws.code-other s index arguments k b at there (eqb-false _ _ d) (eqb-false _ _ c) (eqb-false _ _ e)))))
 
     code-same : restAt b (follow f s (codeNode s index arguments k b at)) ≡ restOf (readCodeLevel g l arguments k (drop at b))
     code-same =

@@ -8,7 +8,7 @@ ghost use mathlib.Core.Bool.{cond};
 ghost use lib.Dec.{eqb};
 ghost use lib.ListN.{length, getD};
 ghost use Rattle.language.specs.Inner.Entries.{IsClass};
-ghost use Rattle.reader.specs.Inner.Positions.{nameLength, productionPlace, tokenAt, nameAt, argumentIs, argumentAt, treeNode, codeNode, nodeAt, pastAt, EndsBy, NodeIn};
+ghost use Rattle.reader.specs.Inner.Positions.{nameLength, productionPlace, tokenAt, nameAt, argumentIs, argumentAt, treeNode, codeLeaf, codeNode, nodeAt, leafAt, pastAt, EndsBy, NodeIn};
 ghost use Rattle.reader.specs.Inner.Index.{Ready, indexLength};
 
 // Trees are written without signs, codes with them.
@@ -161,6 +161,31 @@ fn tree_node(language: &[u8], index: &[u16], kind: u8, bytes: &[u8], at: usize) 
     Node::Leaf(token(language, place, bytes, at))
 }
 
+// A leaf of a code: 02 and a token, or 03 and an argument.
+fn code_leaf(
+    language: &[u8],
+    index: &[u16],
+    arguments: &[u8],
+    kind: u8,
+    bytes: &[u8],
+    at: usize,
+) -> Read
+    requires { ⌜ Ready (now index) (now language) kind (now bytes) at ⌝ }
+    ensures { λ r. ⌜ (r ≡ codeLeaf (now (language .entry)) (now (index .entry)) (now (arguments .entry)) kind (now (bytes .entry)) at) × EndsBy (length (now (bytes .entry))) r ⌝ }
+{
+    if bytes.len() <= at {
+        return Read::Broken;
+    }
+    let sign = bytes[at];
+    if sign == 3 {
+        return argument(arguments, kind, bytes, at + 1);
+    }
+    if sign == 2 {
+        return token(language, place_at(index, to_usize(kind)), bytes, at + 1);
+    }
+    Read::Broken
+}
+
 // A node of a code: its sign says what follows.
 fn code_node(
     language: &[u8],
@@ -176,17 +201,29 @@ fn code_node(
     if bytes.len() <= at {
         return Node::Leaf(Read::Broken);
     }
-    let sign = bytes[at];
-    if sign == 1 {
+    if bytes[at] == 1 {
         return name(language, index, kind, bytes, at + 1);
     }
-    if sign == 2 {
-        return Node::Leaf(token(language, place_at(index, to_usize(kind)), bytes, at + 1));
+    Node::Leaf(code_leaf(language, index, arguments, kind, bytes, at))
+}
+
+// What stands where no production of the kind does, and no token of a class in a tree, with a level left.
+pub fn leaf_at(
+    syntax: Syntax,
+    language: &[u8],
+    index: &[u16],
+    arguments: &[u8],
+    kind: u8,
+    bytes: &[u8],
+    at: usize,
+) -> Read
+    requires { ⌜ Ready (now index) (now language) kind (now bytes) at ⌝ }
+    ensures { λ r. ⌜ (r ≡ leafAt syntax (now (language .entry)) (now (index .entry)) (now (arguments .entry)) kind (now (bytes .entry)) at) × EndsBy (length (now (bytes .entry))) r ⌝ }
+{
+    match syntax {
+        Syntax::Tree => Read::Broken,
+        Syntax::Code => code_leaf(language, index, arguments, kind, bytes, at),
     }
-    if sign == 3 {
-        return Node::Leaf(argument(arguments, kind, bytes, at + 1));
-    }
-    Node::Leaf(Read::Broken)
 }
 
 // What stands at a position, in either syntax.

@@ -2,6 +2,7 @@
 use crate::node::Node;
 use crate::node::Read;
 use crate::node::Syntax;
+use crate::node::leaf_at;
 use crate::node::name_length;
 use crate::node::node_at;
 use crate::node::past_levels;
@@ -16,7 +17,7 @@ ghost use mathlib.Core.List.{List};
 ghost use lib.ListN.{length, getD, drop};
 ghost use Rattle.language.specs.Language.{Language};
 ghost use Rattle.reader.specs.Syntax.{read as readCode};
-ghost use Rattle.reader.specs.Inner.Positions.{classPlace, operandsFrom, readAt, KindsIn, EndsBy, restAt, restOf, syntaxOf};
+ghost use Rattle.reader.specs.Inner.Positions.{classPlace, productionPlace, operandsFrom, readAt, KindsIn, EndsBy, restAt, restOf, syntaxOf};
 ghost use Rattle.reader.specs.Inner.Index.{Sound, Ready, Indexed};
 
 // The place of the class that a token of the kind is read by: 0 in a code, where a sign stands before it.
@@ -30,8 +31,8 @@ pub fn class_place(syntax: Syntax, index: &[u16], kind: u8) -> usize
     }
 }
 
-// A code of the kind at a position, with so many levels left; a token is no level.
-pub fn read_at(
+// What stands where no production of the kind does, and no token of a class in a tree, with so many levels left.
+fn leaf(
     syntax: Syntax,
     language: &[u8],
     index: &[u16],
@@ -42,25 +43,14 @@ pub fn read_at(
     levels: usize,
 ) -> Read
     requires { ⌜ Ready (now index) (now language) kind (now bytes) at ⌝ }
-    ensures { λ r. ⌜ (r ≡ readAt syntax (now (language .entry)) (now (index .entry)) (now (arguments .entry)) (now (bytes .entry)) levels kind at) × EndsBy (length (now (bytes .entry))) r ⌝ }
+    ensures { λ r. ⌜ ((class : ℕ) → class ≡ classPlace syntax (now (index .entry)) kind → class ≡ 0 → productionPlace syntax (now (index .entry)) kind (now (bytes .entry)) at ≡ 0
+        → r ≡ readAt syntax (now (language .entry)) (now (index .entry)) (now (arguments .entry)) (now (bytes .entry)) levels kind at)
+        × EndsBy (length (now (bytes .entry))) r ⌝ }
 {
     if levels == 0 {
         return past_levels(syntax, language, index, kind, bytes, at);
     }
-    match node_at(syntax, language, index, arguments, kind, bytes, at) {
-        Node::Leaf(r) => r,
-        Node::Operands(q, stop, to) => operands(
-            syntax,
-            language,
-            index,
-            arguments,
-            q,
-            stop,
-            bytes,
-            to,
-            levels - 1,
-        ),
-    }
+    leaf_at(syntax, language, index, arguments, kind, bytes, at)
 }
 
 // Codes of the kinds that stand in the language from `from` up to `stop`, one after the other. Tokens of a class are
@@ -126,7 +116,7 @@ fn operands(
             let read = if class != 0 {
                 token(language, class, bytes, to)
             } else {
-                read_at(syntax, language, index, arguments, kind, bytes, to, left)
+                leaf(syntax, language, index, arguments, kind, bytes, to, left)
             };
             match read {
                 Read::End(e) => {
@@ -143,6 +133,39 @@ fn operands(
         }
     }
     Read::End(to)
+}
+
+// A code of the kind at a position, with so many levels left; a token is no level.
+pub fn read_at(
+    syntax: Syntax,
+    language: &[u8],
+    index: &[u16],
+    arguments: &[u8],
+    kind: u8,
+    bytes: &[u8],
+    at: usize,
+    levels: usize,
+) -> Read
+    requires { ⌜ Ready (now index) (now language) kind (now bytes) at ⌝ }
+    ensures { λ r. ⌜ (r ≡ readAt syntax (now (language .entry)) (now (index .entry)) (now (arguments .entry)) (now (bytes .entry)) levels kind at) × EndsBy (length (now (bytes .entry))) r ⌝ }
+{
+    if levels == 0 {
+        return past_levels(syntax, language, index, kind, bytes, at);
+    }
+    match node_at(syntax, language, index, arguments, kind, bytes, at) {
+        Node::Leaf(r) => r,
+        Node::Operands(q, stop, to) => operands(
+            syntax,
+            language,
+            index,
+            arguments,
+            q,
+            stop,
+            bytes,
+            to,
+            levels - 1,
+        ),
+    }
 }
 
 // A code of the kind at a position, of the language that the index is of.

@@ -63,19 +63,25 @@ productionPlace Code index k b at =
     cond (leb (length b) (at + 1)) 0
     (cond (eqb (getD b at 0) 1) (getD index (productionKey k (getD b (at + 1) 0)) 0) 0)
 
--- What stands behind a sign.
-unfoldable pub signNode : List ℕ → List ℕ → List ℕ → ℕ → List ℕ → ℕ → ℕ → Node
-signNode s index arguments k b sign at =
-    cond (eqb sign 1) (nameAt s index k b at)
-    (cond (eqb sign 2) (Leaf (tokenAt s (getD index k 0) b at))
-    (cond (eqb sign 3) (Leaf (argumentAt arguments k b at))
-    (Leaf Broken)))
+-- A leaf of a code at `at`: 02 and a token, or 03 and an argument.
+unfoldable pub codeLeaf : List ℕ → List ℕ → List ℕ → ℕ → List ℕ → ℕ → Read
+codeLeaf s index arguments k b at =
+    cond (leb (length b) at) Broken
+    (cond (eqb (getD b at 0) 3) (argumentAt arguments k b (at + 1))
+    (cond (eqb (getD b at 0) 2) (tokenAt s (getD index k 0) b (at + 1)) Broken))
 
 -- What stands at `at` in a code.
 unfoldable pub codeNode : List ℕ → List ℕ → List ℕ → ℕ → List ℕ → ℕ → Node
 codeNode s index arguments k b at =
-    cond (leb (length b) at) (Leaf Broken) (signNode s index arguments k b (getD b at 0) (at + 1))
+    cond (leb (length b) at) (Leaf Broken)
+    (cond (eqb (getD b at 0) 1) (nameAt s index k b (at + 1)) (Leaf (codeLeaf s index arguments k b at)))
 
+-- What stands at `at` where no production of kind k does, and no token of a class in a tree.
+unfoldable pub leafAt : Syntax → List ℕ → List ℕ → List ℕ → ℕ → List ℕ → ℕ → Read
+leafAt Tree s index arguments k b at = Broken
+leafAt Code s index arguments k b at = codeLeaf s index arguments k b at
+
+-- What stands at `at`, in either syntax.
 unfoldable pub nodeAt : Syntax → List ℕ → List ℕ → List ℕ → ℕ → List ℕ → ℕ → Node
 nodeAt Tree s index arguments k b at = treeNode s index k b at
 nodeAt Code s index arguments k b at = codeNode s index arguments k b at

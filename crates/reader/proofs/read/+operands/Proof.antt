@@ -5,30 +5,23 @@ use native.Mathlib.Omega.{arith}
 use lib.ListN.{length}
 use borrow.Author.Needs.{needs}
 use Rattle.reader.specs.Inner.Positions.{operandsFrom, readAt, KindsIn}
-use Rattle.reader.proofs.Laws.{read-past, named-past, read-token, read-leaf, read-operands, operands-done, operands-next, operands-last, operands-deep, operands-broken, row-short, named-node, named-in, named-kinds, named-end, carried, end-in, leaf-in, operands-in, class-at}
+use Rattle.reader.proofs.Laws.{read-past, named-past, read-token, read-operands, operands-done, operands-next, operands-last, operands-deep, operands-broken, row-short, named-node, named-in, named-kinds, named-end, none-found, carried, end-in, class-at}
 use borrow.Fn.Kinds.{In}
 use borrow.Fn.PlainCycle.{Measures, is, falls, and}
 use Rattle.reader.proofs.read.operands.Reads as operands
 use Rattle.reader.proofs.read.operands.Kinds as operands-kinds
-use Rattle.reader.proofs.read.+operands+read_at.Lts-operands as operands-lts
-use Rattle.reader.proofs.read.read_at.Reads as read-at
-use Rattle.reader.proofs.read.read_at.Kinds as read-at-kinds
-use Rattle.reader.proofs.read.+operands+read_at.Lts-read_at as read-at-lts
-use Rattle.reader.proofs.node.name_length.Reads as name-length-reads
-use Rattle.reader.proofs.node.node_at.Reads as node-at-reads
+use Rattle.reader.proofs.read.+operands.Lts-operands as operands-lts
 use Rattle.fields.proofs.bytes.pair_in.Reads as pair-in-reads
-use Rattle.reader.proofs.node.past_levels.Reads as past-levels-reads
+use Rattle.reader.proofs.node.name_length.Reads as name-length-reads
 use Rattle.reader.proofs.node.production_place.Reads as production-place-reads
 use Rattle.reader.proofs.node.token.Reads as token-reads
 use Rattle.reader.proofs.read.class_place.Reads as class-place-reads
-use Rattle.reader.proofs.read.+operands+read_at.{statement}
-use Rattle.reader.proofs.read.+operands+read_at.Tie.{close}
+use Rattle.reader.proofs.read.leaf.Reads as leaf-reads
+use Rattle.reader.proofs.read.+operands.{statement}
+use Rattle.reader.proofs.read.+operands.Tie.{close}
 
 abbrev μ-operands : Measures 4 operands-kinds.ps ℕ
-μ-operands κs a = 2 * a .1 .1 .1 .1 .1 .1 .1 .1 .0 + 1
-
-abbrev μ-read-at : Measures 4 read-at-kinds.ps ℕ
-μ-read-at κs a = 2 * a .1 .1 .1 .1 .1 .1 .1 .0
+μ-operands κs a = a .1 .1 .1 .1 .1 .1 .1 .1 .0
 
 abbrev operands-at : ℕ → In 4 operands-kinds.ps
 operands-at t = and 4 operands-kinds.ps (is 4 operands-kinds.ps μ-operands t) operands.Pre
@@ -37,30 +30,19 @@ abbrev operands-below : ℕ → In 4 operands-kinds.ps
 operands-below t =
     and 4 operands-kinds.ps (falls 4 operands-kinds.ps _<_ μ-operands t) operands.Pre
 
-abbrev read-at-at : ℕ → In 4 read-at-kinds.ps
-read-at-at t = and 4 read-at-kinds.ps (is 4 read-at-kinds.ps μ-read-at t) read-at.Pre
-
-abbrev read-at-below : ℕ → In 4 read-at-kinds.ps
-read-at-below t = and 4 read-at-kinds.ps (falls 4 read-at-kinds.ps _<_ μ-read-at t) read-at.Pre
-
 abbrev operands-Inv-loop : operands-lts.InvT-loop
 operands-Inv-loop syntax language index arguments from stop bytes at levels q₀ end₀ to₀ left₀ q end to left =
     (to ≤ length bytes) × (left ≤ levels) × KindsIn language q end × (operandsFrom (readAt syntax language index arguments bytes left) language (end - q) q to ≡ operandsFrom (readAt syntax language index arguments bytes levels) language (stop - from) from at)
 
 abbrev operands-μ-loop : operands-lts.MeasureT-loop
-operands-μ-loop syntax language index arguments from stop bytes at levels q₀ end₀ to₀ left₀ q end to left = 1025 * left + (end - q)
+operands-μ-loop syntax language index arguments from stop bytes at levels q₀ end₀ to₀ left₀ q end to left =
+    1025 * left + (end - q)
 
 abbrev operands-calls : ℕ → operands-lts.Claims
-operands-calls t = (class-place-reads.Asked, class-place-reads.Learnt, production-place-reads.Asked, production-place-reads.Learnt, pair-in-reads.Asked, pair-in-reads.Learnt, name-length-reads.Asked, name-length-reads.Learnt, operands-below t, operands.Post, token-reads.Asked, token-reads.Learnt, read-at-below t, read-at.Post)
-
-abbrev read-at-calls : ℕ → read-at-lts.Claims
-read-at-calls t = (past-levels-reads.Asked, past-levels-reads.Learnt, node-at-reads.Asked, node-at-reads.Learnt, operands-below t, operands.Post)
+operands-calls t = (class-place-reads.Asked, class-place-reads.Learnt, production-place-reads.Asked, production-place-reads.Learnt, pair-in-reads.Asked, pair-in-reads.Learnt, name-length-reads.Asked, name-length-reads.Learnt, operands-below t, operands.Post, token-reads.Asked, token-reads.Learnt, leaf-reads.Asked, leaf-reads.Learnt)
 
 operands-loop-holds : (t : ℕ) → operands-lts.Need-loop-holds (operands-calls t) (operands-at t) operands.Post operands-Inv-loop operands-μ-loop
 operands-loop-holds t c = let p = c .before .before .before .before .pre .1 in (p .2, omega arith, p .1, refl)
-
-operands-returns : (t : ℕ) → operands-lts.Need-returns (operands-calls t) (operands-at t) operands.Post operands-Inv-loop operands-μ-loop
-operands-returns t c = (sym (operands-deep _ _ _ _ _ (c .before .before .before .before .before .loop-test .taken) (read-past _ _ _ _ _ _ _ _ (c .if2 .taken) (named-past (c .before .before .before .before .before .before .before .before .before .before .before .args .syntax) (c .before .before .before .before .before .before .before .before .before .before .before .args .language .now) (c .before .before .before .before .before .before .before .before .before .before .before .args .index .now) (c .before .before .before .before .before .before .before .before .before .before .before .args .arguments .now) _ (c .before .before .before .before .before .before .before .before .before .before .before .args .bytes .now) _ (c .before .before .before .class-place .ensures) (c .before .before .production-place .ensures) (c .before .if1 .taken))) refl) ∙ c .before .before .before .before .before .before .loop .inv .3, tt)
 
 operands-shared-slice-read-kind : (t : ℕ) → operands-lts.Need-shared-slice-read-kind (operands-calls t) (operands-at t) operands.Post operands-Inv-loop operands-μ-loop
 operands-shared-slice-read-kind t c = let b = c .before .before .loop .inv .2 _ (omega arith) (c .before .loop-test .taken) in omega arith
@@ -70,6 +52,9 @@ operands-class-place-requires t c κs = let b = c .before .before .loop .inv .2 
 
 operands-production-place-requires : (t : ℕ) → operands-lts.Need-production-place-requires (operands-calls t) (operands-at t) operands.Post operands-Inv-loop operands-μ-loop
 operands-production-place-requires t c κs = let b = c .before .before .before .loop .inv .2 _ (omega arith) (c .before .before .loop-test .taken) in (c .before .before .before .before .before .before .before .before .pre .1 .0 .long, b .1, c .before .before .before .loop .inv .0)
+
+operands-returns : (t : ℕ) → operands-lts.Need-returns (operands-calls t) (operands-at t) operands.Post operands-Inv-loop operands-μ-loop
+operands-returns t c = (sym (operands-deep _ _ _ _ _ (c .before .before .before .before .before .loop-test .taken) (read-past _ _ _ _ _ _ _ _ (c .if2 .taken) (named-past (c .before .before .before .before .before .before .before .before .before .before .before .args .syntax) (c .before .before .before .before .before .before .before .before .before .before .before .args .language .now) (c .before .before .before .before .before .before .before .before .before .before .before .args .index .now) (c .before .before .before .before .before .before .before .before .before .before .before .args .arguments .now) _ (c .before .before .before .before .before .before .before .before .before .before .before .args .bytes .now) _ (c .before .before .before .class-place .ensures) (c .before .before .production-place .ensures) (c .before .if1 .taken))) refl) ∙ c .before .before .before .before .before .before .loop .inv .3, tt)
 
 operands-add-first : (t : ℕ) → operands-lts.Need-add-first (operands-calls t) (operands-at t) operands.Post operands-Inv-loop operands-μ-loop
 operands-add-first t c = let b = c .before .before .before .before .before .before .loop .inv .2 _ (omega arith) (c .before .before .before .before .before .loop-test .taken) in let w = named-in (c .before .before .before .before .before .before .before .before .before .before .before .args .syntax) (c .before .before .before .before .before .before .before .before .before .before .before .args .language .now) (c .before .before .before .before .before .before .before .before .before .before .before .args .index .now) (c .before .before .before .before .before .before .before .before .before .before .before .args .arguments .now) _ (c .before .before .before .before .before .before .before .before .before .before .before .args .bytes .now) _ (c .before .before .before .class-place .ensures) (c .before .before .production-place .ensures) (c .before .if1 .taken) (c .before .before .before .before .before .before .before .before .before .before .before .pre .1 .0) (b .1) (λ i. omega (arith, c .before .before .before .before .before .before .before .shared-slice-known4 .given i)) in omega (arith, w .0, w .1)
@@ -119,8 +104,8 @@ operands-loop-again-3 t c = (named-end (c .before .before .before .before .befor
 operands-token-requires : (t : ℕ) → operands-lts.Need-token-requires (operands-calls t) (operands-at t) operands.Post operands-Inv-loop operands-μ-loop
 operands-token-requires t c κs = let b = c .before .before .before .before .before .before .loop .inv .2 _ (omega arith) (c .before .before .before .before .before .loop-test .taken) in (c .before .before .before .before .before .before .loop .inv .0, λ h. class-at _ _ _ (c .before .before .before .before .before .before .before .before .before .before .before .pre .1 .0) (b .1) (c .before .before .before .class-place .ensures) (c .if5 .taken))
 
-operands-read-at-requires : (t : ℕ) → operands-lts.Need-read-at-requires (operands-calls t) (operands-at t) operands.Post operands-Inv-loop operands-μ-loop
-operands-read-at-requires t c κs = let b = c .before .before .before .before .before .before .loop .inv .2 _ (omega arith) (c .before .before .before .before .before .loop-test .taken) in (omega (arith, c .before .before .before .before .before .before .loop .inv .1), record { sound = c .before .before .before .before .before .before .before .before .before .before .before .pre .1 .0; kind = b .1; inside = c .before .before .before .before .before .before .loop .inv .0 })
+operands-leaf-requires : (t : ℕ) → operands-lts.Need-leaf-requires (operands-calls t) (operands-at t) operands.Post operands-Inv-loop operands-μ-loop
+operands-leaf-requires t c κs = let b = c .before .before .before .before .before .before .loop .inv .2 _ (omega arith) (c .before .before .before .before .before .loop-test .taken) in record { sound = c .before .before .before .before .before .before .before .before .before .before .before .pre .1 .0; kind = b .1; inside = c .before .before .before .before .before .before .loop .inv .0 }
 
 operands-add-q-2 : (t : ℕ) → operands-lts.Need-add-q-2 (operands-calls t) (operands-at t) operands.Post operands-Inv-loop operands-μ-loop
 operands-add-q-2 t c = let b = c .before .before .before .before .before .before .before .before .before .loop .inv .2 _ (omega arith) (c .before .before .before .before .before .before .before .before .loop-test .taken) in let z = c .before .before .before .before .before .before .before .before .before .before .before .before .before .before .pre .1 .0 in omega (arith, z .short, b .0)
@@ -129,37 +114,19 @@ operands-loop-less-4 : (t : ℕ) → operands-lts.Need-loop-less-4 (operands-cal
 operands-loop-less-4 t c = let t = c .before .before .before .before .before .before .before .before .loop-test .taken in omega arith
 
 operands-loop-again-4 : (t : ℕ) → operands-lts.Need-loop-again-4 (operands-calls t) (operands-at t) operands.Post operands-Inv-loop operands-μ-loop
-operands-loop-again-4 t c = let w = ⊎-elim (λ a. carried _ (a .2) (read-token _ _ _ _ _ _ _ _ (c .before .before .before .before .before .before .class-place .ensures) (a .0 .taken) (a .1 .ensures .0), a .1 .ensures .1)) (λ a. carried _ (a .2) (a .1 .ensures)) (c .before .before .before .if5 .came) in (end-in _ (c .before .read .given .1) (w .1), c .before .before .before .before .before .before .before .before .before .loop .inv .1, (λ x i j. c .before .before .before .before .before .before .before .before .before .loop .inv .2 x (omega arith) j), sym (operands-next _ _ _ _ _ (c .before .before .before .before .before .before .before .before .loop-test .taken) (w .0) (c .before .read .given .1)) ∙ c .before .before .before .before .before .before .before .before .before .loop .inv .3)
+operands-loop-again-4 t c = let w = ⊎-elim (λ a. carried _ (a .2) (read-token _ _ _ _ _ _ _ _ (c .before .before .before .before .before .before .class-place .ensures) (a .0 .taken) (a .1 .ensures .0), a .1 .ensures .1)) (λ a. carried _ (a .2) ((a .1 .ensures .0) _ (c .before .before .before .before .before .before .class-place .ensures) (a .0 .left) (none-found _ _ _ _ _ (a .0 .left) (c .before .before .before .before .before .production-place .ensures) (c .before .before .before .before .if1 .left)), a .1 .ensures .1)) (c .before .before .before .if5 .came) in (end-in _ (c .before .read .given .1) (w .1), c .before .before .before .before .before .before .before .before .before .loop .inv .1, (λ x i j. c .before .before .before .before .before .before .before .before .before .loop .inv .2 x (omega arith) j), sym (operands-next _ _ _ _ _ (c .before .before .before .before .before .before .before .before .loop-test .taken) (w .0) (c .before .read .given .1)) ∙ c .before .before .before .before .before .before .before .before .before .loop .inv .3)
 
 operands-returns-4 : (t : ℕ) → operands-lts.Need-returns-4 (operands-calls t) (operands-at t) operands.Post operands-Inv-loop operands-μ-loop
-operands-returns-4 t c = let w = ⊎-elim (λ a. carried _ (a .2) (read-token _ _ _ _ _ _ _ _ (c .before .before .before .before .before .class-place .ensures) (a .0 .taken) (a .1 .ensures .0), a .1 .ensures .1)) (λ a. carried _ (a .2) (a .1 .ensures)) (c .before .before .if5 .came) in (sym (operands-deep _ _ _ _ _ (c .before .before .before .before .before .before .before .loop-test .taken) (w .0) (c .enum-told3 .given .1)) ∙ c .before .before .before .before .before .before .before .before .loop .inv .3, tt)
+operands-returns-4 t c = let w = ⊎-elim (λ a. carried _ (a .2) (read-token _ _ _ _ _ _ _ _ (c .before .before .before .before .before .class-place .ensures) (a .0 .taken) (a .1 .ensures .0), a .1 .ensures .1)) (λ a. carried _ (a .2) ((a .1 .ensures .0) _ (c .before .before .before .before .before .class-place .ensures) (a .0 .left) (none-found _ _ _ _ _ (a .0 .left) (c .before .before .before .before .production-place .ensures) (c .before .before .before .if1 .left)), a .1 .ensures .1)) (c .before .before .if5 .came) in (sym (operands-deep _ _ _ _ _ (c .before .before .before .before .before .before .before .loop-test .taken) (w .0) (c .enum-told3 .given .1)) ∙ c .before .before .before .before .before .before .before .before .loop .inv .3, tt)
 
 operands-returns-5 : (t : ℕ) → operands-lts.Need-returns-5 (operands-calls t) (operands-at t) operands.Post operands-Inv-loop operands-μ-loop
-operands-returns-5 t c = let w = ⊎-elim (λ a. carried _ (a .2) (read-token _ _ _ _ _ _ _ _ (c .before .before .before .before .before .class-place .ensures) (a .0 .taken) (a .1 .ensures .0), a .1 .ensures .1)) (λ a. carried _ (a .2) (a .1 .ensures)) (c .before .before .if5 .came) in (sym (operands-broken _ _ _ _ _ (c .before .before .before .before .before .before .before .loop-test .taken) (w .0) (c .enum-told4 .given .1)) ∙ c .before .before .before .before .before .before .before .before .loop .inv .3, tt)
+operands-returns-5 t c = let w = ⊎-elim (λ a. carried _ (a .2) (read-token _ _ _ _ _ _ _ _ (c .before .before .before .before .before .class-place .ensures) (a .0 .taken) (a .1 .ensures .0), a .1 .ensures .1)) (λ a. carried _ (a .2) ((a .1 .ensures .0) _ (c .before .before .before .before .before .class-place .ensures) (a .0 .left) (none-found _ _ _ _ _ (a .0 .left) (c .before .before .before .before .production-place .ensures) (c .before .before .before .if1 .left)), a .1 .ensures .1)) (c .before .before .if5 .came) in (sym (operands-broken _ _ _ _ _ (c .before .before .before .before .before .before .before .loop-test .taken) (w .0) (c .enum-told4 .given .1)) ∙ c .before .before .before .before .before .before .before .before .loop .inv .3, tt)
 
 operands-returns-6 : (t : ℕ) → operands-lts.Need-returns-6 (operands-calls t) (operands-at t) operands.Post operands-Inv-loop operands-μ-loop
 operands-returns-6 t c = (sym (operands-done _ _ _ _ _ (c .loop-test .left)) ∙ c .before .loop .inv .3, c .before .loop .inv .0)
 
-read-at-past-levels-requires : (t : ℕ) → read-at-lts.Need-past-levels-requires (read-at-calls t) (read-at-at t) read-at.Post
-read-at-past-levels-requires t c κs = c .before .before .before .before .before .pre .1
-
-read-at-returns : (t : ℕ) → read-at-lts.Need-returns (read-at-calls t) (read-at-at t) read-at.Post
-read-at-returns t c = (read-past _ _ _ _ _ _ _ _ (c .before .if1 .taken) (c .past-levels .ensures .0), c .past-levels .ensures .1)
-
-read-at-node-at-requires : (t : ℕ) → read-at-lts.Need-node-at-requires (read-at-calls t) (read-at-at t) read-at.Post
-read-at-node-at-requires t c κs = c .before .before .before .before .before .pre .1
-
-read-at-operands-requires : (t : ℕ) → read-at-lts.Need-operands-requires (read-at-calls t) (read-at-at t) read-at.Post
-read-at-operands-requires t c κs = let b = operands-in _ _ _ _ _ _ (c .before .q .given .1) (c .before .before .before .node-at .ensures .1) in (omega (arith, c .before .before .before .before .if1 .left), (c .before .before .before .before .before .before .before .before .before .pre .1 .sound, b .1, b .0))
-
-read-at-returns-2 : (t : ℕ) → read-at-lts.Need-returns-2 (read-at-calls t) (read-at-at t) read-at.Post
-read-at-returns-2 t c = (read-leaf _ _ _ _ _ _ _ _ (c .before .before .before .before .if1 .left) (c .before .before .before .node-at .ensures .0) (c .before .r .given .1), leaf-in _ _ _ _ (c .before .r .given .1) (c .before .before .before .node-at .ensures .1))
-
-read-at-returns-3 : (t : ℕ) → read-at-lts.Need-returns-3 (read-at-calls t) (read-at-at t) read-at.Post
-read-at-returns-3 t c = (c .operands .ensures .0 ∙ read-operands _ _ _ _ _ _ _ _ (c .before .before .before .before .before .if1 .left) (c .before .before .before .before .node-at .ensures .0) (c .before .before .q .given .1), c .operands .ensures .1)
-
-pub +operands+read-at-spec : {M : Type 1} → statement M
-+operands+read-at-spec = close μ-operands μ-read-at (λ t. operands-lts.spec (operands-calls t)
+pub +operands-spec : {M : Type 1} → statement M
++operands-spec = close μ-operands λ t. operands-lts.spec (operands-calls t)
     (operands-at t)
     operands.Post
     operands-Inv-loop
@@ -191,7 +158,7 @@ pub +operands+read-at-spec : {M : Type 1} → statement M
     (operands-loop-less-3 t)
     (operands-loop-again-3 t)
     (operands-token-requires t)
-    (operands-read-at-requires t)
+    (operands-leaf-requires t)
     (λ c. search needs)
     (operands-add-q-2 t)
     (operands-loop-less-4 t)
@@ -200,16 +167,4 @@ pub +operands+read-at-spec : {M : Type 1} → statement M
     (operands-returns-4 t)
     (λ c. search needs)
     (operands-returns-5 t)
-    (operands-returns-6 t))
-    λ t. read-at-lts.spec (read-at-calls t)
-    (read-at-at t)
-    read-at.Post
-    (read-at-past-levels-requires t)
-    (read-at-returns t)
-    (read-at-node-at-requires t)
-    (λ c. search needs)
-    (λ c. search needs)
-    (λ c. search needs)
-    (read-at-operands-requires t)
-    (read-at-returns-2 t)
-    (read-at-returns-3 t)
+    (operands-returns-6 t)
