@@ -21,7 +21,7 @@ use Rattle.fields.specs.Inner.Places.{places, keyAt}
 use Rattle.fields.proofs.Truth.{by-test, false-true, all-mem, mem-all, any-mem, mem-any, some-is, Mem}
 use Rattle.fields.proofs.Split.{front}
 use Rattle.fields.proofs.Codec.{bytes-from}
-use Rattle.language.specs.Language.{Language, productionKey, isIn}
+use Rattle.language.specs.Language.{Language, argumentsOf, productionKey, isIn}
 use Rattle.language.specs.LanguageFile.{entriesOf, languageOf}
 use Rattle.language.specs.Operations.{checkLanguage}
 use Rattle.language.specs.Inner.Entries.{entryWhole, IsClass, IsProduction, RisingEntries}
@@ -99,20 +99,31 @@ module _ (s : List ℕ) (fig : List ℤ) (l : Language) (w : Table) (bytes : (i 
       record { place = p; is = same ∙ is; there = here; production = c; kind = omega (arith, o, key); name = omega (arith, o, key) })
       (entry-at p (rw (eqb-true p r e) m))
 
+  -- The size of a production's field.
+  sized-at : (k n : ℕ) (ks : List ℕ) → k < 32 → n < 256 → argumentsOf l k n ≡ some ks
+      → (pairAt s (getD after (productionKey k n) 0) ≡ length ks + 2) × (length ks ≤ 8)
+  sized-at k n ks h i e =
+      let p = placed index-is k n h i ks e in
+      let t = spot k n h i (p .some) in
+      let c = t .production .two in
+      let d = t .production .ten in
+      let q : pairAt s (getD after (productionKey k n) 0) ≡ pairAt s (t .place + 1) = ap (pairAt s) (t .is) in
+      (omega (arith, p .size, q), omega (arith, p .size, q))
+
   pub world-is : World s after fig l (figureOf w)
   world-is = record {
     indexed = index-is;
     apart = apart l (held .apart);
     small = held .kept .small;
     long = held .kept .long;
+    sized = sized-at;
     is = λ k n ks h i e j g.
         let p = placed index-is k n h i ks e in
         let t = spot k n h i (p .some) in
-        let c = t .production .two in
         let q : pairAt s (getD after (productionKey k n) 0) ≡ pairAt s (t .place + 1) = ap (pairAt s) (t .is) in
         let at : getD after (productionKey k n) 0 + 3 + j ≡ t .place + 4 + j = omega (arith, t .is) in
         ap (λ (m : ℕ). getD fig m (pos 0)) at
-        ∙ (held .kept .is (t .place) (t .there) (t .production .tag) j (omega (arith, p .size, q))
+        ∙ (held .kept .is (t .place) (t .there) (t .production .tag) j (omega (arith, sized-at k n ks h i e .0, q))
         ∙ (ap (λ (m : ℕ). figureOf w m (getD s (t .place + 4) 0) j) (t .kind) ∙ ap (λ (m : ℕ). figureOf w k m j) (t .name)));
   }
 

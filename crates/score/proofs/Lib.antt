@@ -5,3 +5,5 @@ pub mod Leaves
 pub mod Terms
 pub mod Walking
 pub mod Answering
+pub mod Ring
+pub mod Weighing

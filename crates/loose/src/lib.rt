@@ -1,0 +1,1 @@
+// The score of a loose plan.
