@@ -1,1 +1,2 @@
 // The score of a loose plan.
+pub mod ends;
