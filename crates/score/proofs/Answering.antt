@@ -1,7 +1,7 @@
--- The operation score by its chain of tests: a law for each return of `score_read`, `score_kind` and `score`.
+-- The operation score by its chain of tests: a law for each return of `prepare`, `score_read`, `score_kind` and `score`.
 use Prim.Native.Nat.{ℕ, _+_, _-_, _<_, _≤_}
 use mathlib.Core.Path.{_≡_, refl, sym, ap, _∙_}
-use mathlib.Core.Bool.{Bool, true, false, cond}
+use mathlib.Core.Bool.{Bool, true, false, not, cond}
 use mathlib.Core.Logic.{_⊎_, ⊎-elim}
 use mathlib.Core.List.{List, [], _∷_}
 use mathlib.Core.Option.{Option, none, some}
@@ -12,9 +12,9 @@ use lib.IntN.{ℤ, pos}
 use borrow.Author.Tests.{eq-eqb, eqb-true}
 use Rattle.fields.specs.Lists.{any, isSome}
 use Rattle.fields.specs.Fields.{pairAt, fieldsOf}
-use Rattle.fields.specs.Outcome.{Result, value, refused, _>>=_, checked}
+use Rattle.fields.specs.Outcome.{Result, value, refused, refuseIf, _>>=_, checked}
 use Rattle.fields.specs.declared.outcome.Outcome.{Outcome}
-use Rattle.fields.specs.declared.outcome.Outcome.the-variants.{Refused}
+use Rattle.fields.specs.declared.outcome.Outcome.the-variants.{Accepted, Refused}
 use Rattle.fields.specs.declared.outcome.Reason.{Reason}
 use Rattle.fields.specs.declared.outcome.Reason.the-variants as Why
 use Rattle.fields.specs.Inner.Places.{places, keyAt}
@@ -32,7 +32,7 @@ use Rattle.language.proofs.Codec.{GoodLanguage, language-good}
 use Rattle.reader.specs.Code as Terms
 use Rattle.reader.specs.Syntax as Meant
 use Rattle.reader.specs.Syntax.{write}
-use Rattle.reader.specs.Operations.{treeOf}
+use Rattle.reader.specs.Operations.{wholeTree, treeOf}
 use Rattle.reader.specs.Inner.Positions.{EndsBy, restAt, restOf}
 use Rattle.reader.specs.Inner.Index.{Indexed, putAll}
 use Rattle.reader.specs.declared.node.Read.{Read}
@@ -53,7 +53,7 @@ use Rattle.score.specs.Linear.{form, passes}
 use Rattle.score.specs.Operations.{scoreOf, scoreBytes, scoreIn, scoreTree}
 use Rattle.score.specs.Inner.Kept.{Small, Kept}
 use Rattle.score.specs.Inner.Terms.{limit, bytesOf, World, TermAsks, formedOf}
-use Rattle.score.specs.Inner.Answering.{Answers, Held, scoreOn, TreeAsks}
+use Rattle.score.specs.Inner.Answering.{Answers, Held, Ground, ground, groundOf, Prepared, scoreOn, TreeAsks}
 use Rattle.score.specs.declared.form.Formed.{Formed}
 use Rattle.score.specs.declared.form.Formed.the-variants.{At, Outside}
 use Rattle.score.proofs.Terms.{placed}
@@ -162,45 +162,39 @@ module _ (s index : List ℕ) (fig : List ℤ) (k : ℕ) (b : List ℕ) (bytes :
         go false p g = let n : _≡_ {A = ℕ} 0 1 = cc in absurd (omega arith)
 
 -- score_kind
-module _ (l : Language) (w : Table) (k : ℕ) (b : List ℕ) {x : Bool} (ex : x ≡ isIn l k) where
-  pub kind-out : {o : Outcome} {z : ℤ} → x ≡ false → Answers (refused Why.UnknownRoot) o z → Answers (scoreOn l w k b) o z
-  unfolding scoreOn treeOf
-  kind-out h a = answers-same (cc) a
+module _ (l : Language) (w : Table) (k : ℕ) (b : List ℕ) (r : Read) (er : restAt b r ≡ restOf (Meant.read Meant.tree l [] 64 k b)) where
+  abbrev got : Meant.Read Terms.Code
+  got = Meant.read Meant.tree l [] 64 k b
 
-  module _ (h : x ≡ true) (r : Read) (er : restAt b r ≡ restOf (Meant.read Meant.tree l [] 64 k b)) where
-    abbrev got : Meant.Read Terms.Code
-    got = Meant.read Meant.tree l [] 64 k b
+  pub kind-deep : {o : Outcome} {z : ℤ} → r ≡ Deep → Answers (refused Why.TooDeep) o z → Answers (scoreOn l w k b) o z
+  unfolding scoreOn
+  kind-deep e a = let d = deep-of got (sym er ∙ ap (restAt b) e) in answers-same (cc) a
 
-    pub kind-deep : {o : Outcome} {z : ℤ} → r ≡ Deep → Answers (refused Why.TooDeep) o z → Answers (scoreOn l w k b) o z
-    unfolding scoreOn treeOf
-    kind-deep e a = let d = deep-of got (sym er ∙ ap (restAt b) e) in answers-same (cc) a
+  pub kind-broken : {o : Outcome} {z : ℤ} → r ≡ Broken → Answers (refused Why.IllegalTree) o z → Answers (scoreOn l w k b) o z
+  unfolding scoreOn
+  kind-broken e a = let d = broken-of got (sym er ∙ ap (restAt b) e) in answers-same (cc) a
 
-    pub kind-broken : {o : Outcome} {z : ℤ} → r ≡ Broken → Answers (refused Why.IllegalTree) o z → Answers (scoreOn l w k b) o z
-    unfolding scoreOn treeOf
-    kind-broken e a = let d = broken-of got (sym er ∙ ap (restAt b) e) in answers-same (cc) a
+  module _ (e : ℕ) (ee : r ≡ End e) where
+    pub ended : (t : Terms.Code) × (got ≡ Meant.done t (drop e b))
+    ended = done-of got (drop e b) (sym er ∙ ap (restAt b) ee)
 
-    module _ (e : ℕ) (ee : r ≡ End e) where
-      pub ended : (t : Terms.Code) × (got ≡ Meant.done t (drop e b))
-      ended = done-of got (drop e b) (sym er ∙ ap (restAt b) ee)
+    pub kind-more : {o : Outcome} {z : ℤ} → EndsBy (length b) r → (e ≡ length b → ⊥) → Answers (refused Why.IllegalTree) o z → Answers (scoreOn l w k b) o z
+    unfolding scoreOn
+    kind-more n m a =
+        let q : e ≤ length b = rw ee at n in
+        let i : e < length b = omega (arith, q, m) in
+        let d : got ≡ Meant.done (ended .0) (getD b e 0 ∷ drop (e + 1) b) = ended .1 ∙ ap (Meant.done (ended .0)) (front b e i) in
+        answers-same (rw d refl) a
 
-      pub kind-more : {o : Outcome} {z : ℤ} → EndsBy (length b) r → (e ≡ length b → ⊥) → Answers (refused Why.IllegalTree) o z → Answers (scoreOn l w k b) o z
-      unfolding scoreOn treeOf
-      kind-more n m a =
-          let q : e ≤ length b = rw ee at n in
-          let i : e < length b = omega (arith, q, m) in
-          let d : got ≡ Meant.done (ended .0) (getD b e 0 ∷ drop (e + 1) b) = ended .1 ∙ ap (Meant.done (ended .0)) (front b e i) in
-          let y : isIn l k ≡ true = sym ex ∙ h in
-          answers-same (rw (y, d) refl) a
+    module _ (n : e ≡ length b) where
+      pub kind-read : Meant.read Meant.tree l [] 64 k b ≡ Meant.done (ended .0) []
+      kind-read = ended .1 ∙ ap (Meant.done (ended .0)) (drop-of-length-le b {i = e} (omega arith))
 
-      module _ (n : e ≡ length b) where
-        pub kind-read : Meant.read Meant.tree l [] 64 k b ≡ Meant.done (ended .0) []
-        kind-read = ended .1 ∙ ap (Meant.done (ended .0)) (drop-of-length-le b {i = e} (omega arith))
+      pub kind-scored : {o : Outcome} {z : ℤ} → Answers (scoreOf w (ended .0)) o z → Answers (scoreOn l w k b) o z
+      unfolding scoreOn
+      kind-scored a = let d = kind-read in answers-same (rw d refl) a
 
-        pub kind-scored : {o : Outcome} {z : ℤ} → Answers (scoreOf w (ended .0)) o z → Answers (scoreOn l w k b) o z
-        unfolding scoreOn treeOf
-        kind-scored a = let d = kind-read in let y : isIn l k ≡ true = sym ex ∙ h in answers-same (rw (y, d) refl) a
-
--- score
+-- prepare
 refused-is : {A : Type 0} (m : Result A) {r : Reason} → checked m ≡ Refused r → m ≡ refused r
 refused-is (value a) {r} e = refused-not {n = 0} {r = r} (sym e)
 refused-is (refused q) e = ap refused (inj e)
@@ -214,15 +208,14 @@ zeros-small n i = by-test (ltb i n)
     (λ h. rw (lib.ListN.getD-replicate n i (pos 0) (pos 0) (borrow.Author.Tests.ltb-true i n h)) (omega arith))
     (λ h. rw (lib.ListN.List·getD-eq-default (replicate n (pos 0)) (pos 0) {n = i} (rw lib.ListN.length-replicate (borrow.Author.Tests.ltb-false i n h))) (omega arith))
 
-module _ (s : List ℕ) (root : ℕ) (b t : List ℕ) where
-  answer-is : {a : Result ℤ} {o : Outcome} {z : ℤ} → Answers a o z → a ≡ scoreBytes s root b t → (o ≡ scoreTree s root b t .outcome) × (z ≡ scoreTree s root b t .score)
-  unfolding scoreTree
-  answer-is h e = (h .answer ∙ ap checked e, h .given ∙ ap scoreIn e)
+module _ (s : List ℕ) (root : ℕ) (t : List ℕ) where
+  -- Nothing is owed of a value where it is refused.
+  pub none-held : {fig : List ℤ} {r : Reason} → Refused r ≡ checked (groundOf s root t) → (g : Ground) → groundOf s root t ≡ value g → Prepared s fig root g
+  none-held {fig} {r} e g h = refused-not {n = 0} {r = r} (e ∙ ap checked h)
 
-  pub language-refused : {o p : Outcome} {r : Reason} {z : ℤ} → p ≡ checkLanguage s → p ≡ Refused r → Answers (refused r) o z
-      → (o ≡ scoreTree s root b t .outcome) × (z ≡ scoreTree s root b t .score)
-  unfolding checkLanguage scoreBytes
-  language-refused e h a = let d = refused-is (languageOf s) (sym e ∙ h) in answer-is a (rw d refl)
+  pub language-refused : {p : Outcome} {r : Reason} → p ≡ checkLanguage s → p ≡ Refused r → Refused r ≡ checked (groundOf s root t)
+  unfolding checkLanguage groundOf
+  language-refused e h = let d = refused-is (languageOf s) (sym e ∙ h) in rw d refl
 
   module _ (a : Accepts s) where
     good : GoodLanguage (a .language)
@@ -234,13 +227,12 @@ module _ (s : List ℕ) (root : ℕ) (b t : List ℕ) where
         record { whole = h .whole; rises = rising-is s (a .language) h ∙ good .rises }
 
     module _ {x : Bool} (ex : x ≡ isSome (loadsOf (a .language) (fieldsOf t))) where
-      pub table-broken : {o : Outcome} {z : ℤ} → x ≡ false → Answers (refused Why.BrokenTable) o z
-          → (o ≡ scoreTree s root b t .outcome) × (z ≡ scoreTree s root b t .score)
-      unfolding scoreBytes tableOf
-      table-broken h i = answer-is i (rw (a .is) (go (loadsOf (a .language) (fieldsOf t)) refl (sym ex ∙ h)))
+      pub table-broken : x ≡ false → Refused Why.BrokenTable ≡ checked (groundOf s root t)
+      unfolding groundOf tableOf
+      table-broken h = rw (a .is) (go (loadsOf (a .language) (fieldsOf t)) refl (sym ex ∙ h))
         where
           go : (m : Option Table) → loadsOf (a .language) (fieldsOf t) ≡ m → isSome m ≡ false
-              → refused Why.BrokenTable ≡ (tableOf (a .language) t >>= λ w. treeOf (a .language) root b >>= λ u. scoreOf w u)
+              → Refused Why.BrokenTable ≡ checked (tableOf (a .language) t >>= λ w. refuseIf (not (isIn (a .language) root)) Why.UnknownRoot (value (ground (a .language) w)))
           go none e f = rw e refl
           go (some w) e f = false-true (sym f)
 
@@ -248,21 +240,83 @@ module _ (s : List ℕ) (root : ℕ) (b t : List ℕ) where
         there : (w : Table) × (loadsOf (a .language) (fieldsOf t) ≡ some w)
         there = some-is (loadsOf (a .language) (fieldsOf t)) (sym ex ∙ h)
 
-        pub the-table : Table
-        the-table = there .0
-
-        pub table-held : (fig : List ℤ) → ((l : Language) (w : Table) → entriesOf s ≡ some l → loadsOf l (fieldsOf t) ≡ some w → Kept fig s w) → Held s fig (a .language) the-table
-        unfolding the-table
-        table-held fig k = record { entries = a .entries; apart = good .apart; short = a .short; kept = k (a .language) (there .0) (a .entries) (there .1) }
-
-        on-table : scoreOn (a .language) the-table root b ≡ scoreBytes s root b t
-        unfolding scoreBytes tableOf scoreOn the-table
+        on-table : groundOf s root t ≡ refuseIf (not (isIn (a .language) root)) Why.UnknownRoot (value (ground (a .language) (there .0)))
+        unfolding groundOf tableOf
         on-table = rw (a .is, there .1) refl
 
-        pub table-scored : {o : Outcome} {z : ℤ} → Answers (scoreOn (a .language) the-table root b) o z → (o ≡ scoreTree s root b t .outcome) × (z ≡ scoreTree s root b t .score)
-        table-scored i = answer-is i on-table
-
-        pub root-past : {o : Outcome} {z : ℤ} → 31 < root → Answers (refused Why.UnknownRoot) o z → (o ≡ scoreTree s root b t .outcome) × (z ≡ scoreTree s root b t .score)
-        root-past p i = by-test (isIn (a .language) root)
+        pub root-past : 31 < root → Refused Why.UnknownRoot ≡ checked (groundOf s root t)
+        root-past p = by-test (isIn (a .language) root)
             (λ j. let m = in-below s root (a .language) (a .entries) j in absurd (omega arith))
-            (λ j. table-scored (kind-out (a .language) the-table root b refl j i))
+            (λ j. rw (on-table, j) refl)
+
+        module _ {y : Bool} (ey : y ≡ isIn (a .language) root) where
+          pub root-out : y ≡ false → Refused Why.UnknownRoot ≡ checked (groundOf s root t)
+          root-out j = rw (on-table, sym ey ∙ j) refl
+
+          module _ (j : y ≡ true) where
+            ground-is : groundOf s root t ≡ value (ground (a .language) (there .0))
+            ground-is = rw (on-table, sym ey ∙ j) refl
+
+            pub ground-accepted : Accepted 0 ≡ checked (groundOf s root t)
+            ground-accepted = rw ground-is refl
+
+            pub ground-held : (fig : List ℤ) → ((l : Language) (w : Table) → entriesOf s ≡ some l → loadsOf l (fieldsOf t) ≡ some w → Kept fig s w) → root < 32
+                → (g : Ground) → groundOf s root t ≡ value g → Prepared s fig root g
+            ground-held fig f small g e =
+                let d : value (ground (a .language) (there .0)) ≡ value g = sym ground-is ∙ e in
+                let same : ground (a .language) (there .0) ≡ g = cc in
+                rw (← same) (record {
+                  held = record { entries = a .entries; apart = good .apart; short = a .short; kept = f (a .language) (there .0) (a .entries) (there .1) };
+                  kind = small;
+                })
+
+-- The chain of an operation on a tree, by what was prepared.
+module _ {A B : Type 0} (s : List ℕ) (root : ℕ) (t : List ℕ) (tree : Language → Result A) (f : Table → A → Result B) where
+  pub by-ground : (languageOf s >>= λ l. tableOf l t >>= λ w. refuseIf (not (isIn l root)) Why.UnknownRoot (tree l) >>= λ u. f w u)
+      ≡ (groundOf s root t >>= λ g. tree (g .language) >>= λ u. f (g .table) u)
+  unfolding groundOf
+  by-ground = go (languageOf s)
+    where
+      last : (c : Bool) (l : Language) (w : Table)
+          → (refuseIf (not c) Why.UnknownRoot (tree l) >>= λ u. f w u) ≡ (refuseIf (not c) Why.UnknownRoot (value (ground l w)) >>= λ g. tree (g .language) >>= λ u. f (g .table) u)
+      last true l w = refl
+      last false l w = refl
+
+      next : (l : Language) (m : Result Table)
+          → (m >>= λ w. refuseIf (not (isIn l root)) Why.UnknownRoot (tree l) >>= λ u. f w u)
+          ≡ ((m >>= λ w. refuseIf (not (isIn l root)) Why.UnknownRoot (value (ground l w))) >>= λ g. tree (g .language) >>= λ u. f (g .table) u)
+      next l (value w) = last (isIn l root) l w
+      next l (refused r) = refl
+
+      go : (m : Result Language)
+          → (m >>= λ l. tableOf l t >>= λ w. refuseIf (not (isIn l root)) Why.UnknownRoot (tree l) >>= λ u. f w u)
+          ≡ ((m >>= λ l. tableOf l t >>= λ w. refuseIf (not (isIn l root)) Why.UnknownRoot (value (ground l w))) >>= λ g. tree (g .language) >>= λ u. f (g .table) u)
+      go (value l) = next l (tableOf l t)
+      go (refused r) = refl
+
+-- What was prepared, by its outcome.
+pub ground-there : (s : List ℕ) (root : ℕ) (t : List ℕ) {p : Outcome} {n : ℕ} → p ≡ checked (groundOf s root t) → p ≡ Accepted n → (g : Ground) × (groundOf s root t ≡ value g)
+ground-there s root t e h = go (groundOf s root t) (sym e ∙ h)
+  where
+    go : {n : ℕ} (m : Result Ground) → checked m ≡ Accepted n → (g : Ground) × (m ≡ value g)
+    go (value g) q = (g, refl)
+    go {n} (refused r) q = refused-not {n = n} {r = r} q
+
+-- score
+module _ (s : List ℕ) (root : ℕ) (b t : List ℕ) where
+  answer-is : {a : Result ℤ} {o : Outcome} {z : ℤ} → Answers a o z → a ≡ scoreBytes s root b t → (o ≡ scoreTree s root b t .outcome) × (z ≡ scoreTree s root b t .score)
+  unfolding scoreTree
+  answer-is h e = (h .answer ∙ ap checked e, h .given ∙ ap scoreIn e)
+
+  chain : scoreBytes s root b t ≡ (groundOf s root t >>= λ g. scoreOn (g .language) (g .table) root b)
+  unfolding scoreBytes treeOf scoreOn
+  chain = by-ground s root t (λ l. wholeTree (Meant.read Meant.tree l [] 64 root b)) (λ w u. scoreOf w u)
+
+  pub ground-refused : {o p : Outcome} {r : Reason} {z : ℤ} → p ≡ checked (groundOf s root t) → p ≡ Refused r → Answers (refused r) o z
+      → (o ≡ scoreTree s root b t .outcome) × (z ≡ scoreTree s root b t .score)
+  ground-refused e h a = let d = refused-is (groundOf s root t) (sym e ∙ h) in answer-is a (sym (chain ∙ ap (λ (m : Result Ground). m >>= λ g. scoreOn (g .language) (g .table) root b) d))
+
+  pub ground-scored : {o : Outcome} {z : ℤ} (g : Ground) → groundOf s root t ≡ value g → Answers (scoreOn (g .language) (g .table) root b) o z
+      → (o ≡ scoreTree s root b t .outcome) × (z ≡ scoreTree s root b t .score)
+  ground-scored g e a =
+      answer-is a (sym (chain ∙ ap (λ (m : Result Ground). m >>= λ g. scoreOn (g .language) (g .table) root b) e))
