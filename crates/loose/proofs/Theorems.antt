@@ -28,7 +28,7 @@ use Rattle.score.specs.Linear.{Loads, constant, used, form, formAll, passes, pa
 use Rattle.score.specs.Operations.{scoreOf, scoreBytes}
 use Rattle.loose.specs.Plans.{Loose, node, token, Looses, nil, cons, isLoose, readLoose}
 use Rattle.loose.specs.Ends.{End, low, high, endBy, valueAt, end, endAll, bothWithin, allWithin}
-use Rattle.loose.specs.Operations.{wholePlan, looseOf, Ends, endsOf, looseBytes}
+use Rattle.loose.specs.Operations.{wholePlan, looseOf, Ends, ends, endsOf, looseBytes}
 use Rattle.loose.specs.Laws.{Settles, settles-node, settles-token, SettlesAll, settles-nil, settles-cons, Choice, ChoicesLieBetween, EndsAreReached, loosened, loosenedAll, SettledHasOneScore}
 use Rattle.loose.proofs.Order.{Beyond, at-end, add-beyond, scale-beyond, between-mid}
 use Rattle.loose.proofs.Legal.{Legal, LegalAll, legal-node, legal-token, legal-nil, legal-cons, read-legal}
@@ -153,13 +153,13 @@ loose-read l root s t e = go (isIn l root) refl e
     go false q h = refused-value h
 
 -- The ends of an accepted plan.
-ends-are : (w : Table) (t : Loose) (e : Ends) → endsOf w t ≡ value e → (bothWithin (figureOf w) t ≡ true) × (e ≡ record { least = end low (figureOf w) t; greatest = end high (figureOf w) t })
+ends-are : (w : Table) (t : Loose) (e : Ends) → endsOf w t ≡ value e → (bothWithin (figureOf w) t ≡ true) × (e ≡ ends (end low (figureOf w) t) (end high (figureOf w) t))
 unfolding endsOf
 ends-are w t e h = go (bothWithin (figureOf w) t) refl h
   where
     go : (b : Bool) → bothWithin (figureOf w) t ≡ b
-        → refuseIf (not b) ScoreOutOfRange (value (record { least = end low (figureOf w) t; greatest = end high (figureOf w) t })) ≡ value e
-        → (bothWithin (figureOf w) t ≡ true) × (e ≡ record { least = end low (figureOf w) t; greatest = end high (figureOf w) t })
+        → refuseIf (not b) ScoreOutOfRange (value (ends (end low (figureOf w) t) (end high (figureOf w) t))) ≡ value e
+        → (bothWithin (figureOf w) t ≡ true) × (e ≡ ends (end low (figureOf w) t) (end high (figureOf w) t))
     go true q k = (q, cc)
     go false q k = refused-value k
 
@@ -186,7 +186,7 @@ module _ (language bytes table : List ℕ) (root : ℕ) (l : Language) (t : Loos
   legal : Legal l t root × ((c : Code) → Settles c t → levels c ≤ 64)
   legal = read-legal l 64 root bytes t [] (loose-read l root bytes t q .1)
 
-  found : (bothWithin (figureOf (there .0)) t ≡ true) × (e ≡ record { least = end low (figureOf (there .0)) t; greatest = end high (figureOf (there .0)) t })
+  found : (bothWithin (figureOf (there .0)) t ≡ true) × (e ≡ ends (end low (figureOf (there .0)) t) (end high (figureOf (there .0)) t))
   found = ends-are (there .0) t e (there .2)
 
   -- A choice is read as a tree, and scored.

@@ -50,14 +50,14 @@ not-broken true u v n q = let z : _≡_ {A = ℕ} 0 1 = cc in absurd (omega arit
 not-broken false u v n q = let z : _≡_ {A = ℕ} 0 1 = cc in absurd (omega arith)
 
 -- A plan that was read, up to e.
-record Met (b : List ℕ) (w : Loads) (o : Read Loose) (e : ℕ) (within : Bool) : Type 0 where
-  plan : Loose
-  is : o ≡ done plan (drop e b)
-  inside : e ≤ length b
-  fits : bothWithin w plan ≡ within
+pub record Met (b : List ℕ) (w : Loads) (o : Read Loose) (e : ℕ) (within : Bool) : Type 0 where
+  pub plan : Loose
+  pub is : o ≡ done plan (drop e b)
+  pub inside : e ≤ length b
+  pub fits : bothWithin w plan ≡ within
 
 module _ (b : List ℕ) (w : Loads) where
-  says-between : (o : Read Loose) (r : Bounds) → Says b w o r → (x y : ℤ) (e : ℕ) → r ≡ Between x y e → (m : Met b w o e true) × (end low w (m .plan) ≡ x) × (end high w (m .plan) ≡ y)
+  pub says-between : (o : Read Loose) (r : Bounds) → Says b w o r → (x y : ℤ) (e : ℕ) → r ≡ Between x y e → (m : Met b w o e true) × (end low w (m .plan) ≡ x) × (end high w (m .plan) ≡ y)
   unfolding boundsOf
   says-between (done t s) r (n, i, d, q) x y e h =
       let (f, u, v, z) = between-is (bothWithin w t) (end low w t) (end high w t) x y n e (sym q ∙ h) in
@@ -65,7 +65,7 @@ module _ (b : List ℕ) (w : Loads) where
   says-between deep r q x y e h = let z : _≡_ {A = ℕ} 0 1 = cc in absurd (omega arith)
   says-between broken r q x y e h = let z : _≡_ {A = ℕ} 0 1 = cc in absurd (omega arith)
 
-  says-outside : (o : Read Loose) (r : Bounds) → Says b w o r → (e : ℕ) → r ≡ Outside e → Met b w o e false
+  pub says-outside : (o : Read Loose) (r : Bounds) → Says b w o r → (e : ℕ) → r ≡ Outside e → Met b w o e false
   unfolding boundsOf
   says-outside (done t s) r (n, i, d, q) e h =
       let (f, z) = outside-is (bothWithin w t) (end low w t) (end high w t) n e (sym q ∙ h) in
@@ -73,13 +73,13 @@ module _ (b : List ℕ) (w : Loads) where
   says-outside deep r q e h = let z : _≡_ {A = ℕ} 0 1 = cc in absurd (omega arith)
   says-outside broken r q e h = let z : _≡_ {A = ℕ} 0 1 = cc in absurd (omega arith)
 
-  says-deep : (o : Read Loose) (r : Bounds) → Says b w o r → r ≡ Deep → o ≡ deep
+  pub says-deep : (o : Read Loose) (r : Bounds) → Says b w o r → r ≡ Deep → o ≡ deep
   unfolding boundsOf
   says-deep (done t s) r (n, i, d, q) h = not-deep (bothWithin w t) (end low w t) (end high w t) n (sym q ∙ h)
   says-deep deep r q h = refl
   says-deep broken r q h = let z : _≡_ {A = ℕ} 0 1 = cc in absurd (omega arith)
 
-  says-broken : (o : Read Loose) (r : Bounds) → Says b w o r → r ≡ Broken → o ≡ broken
+  pub says-broken : (o : Read Loose) (r : Bounds) → Says b w o r → r ≡ Broken → o ≡ broken
   unfolding boundsOf
   says-broken (done t s) r (n, i, d, q) h = not-broken (bothWithin w t) (end low w t) (end high w t) n (sym q ∙ h)
   says-broken deep r q h = let z : _≡_ {A = ℕ} 0 1 = cc in absurd (omega arith)

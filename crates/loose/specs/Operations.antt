@@ -30,11 +30,14 @@ pub record Ends : Type 0 where
   pub least : ℤ
   pub greatest : ℤ
 
+abbrev pub ends : ℤ → ℤ → Ends
+ends a z = record { least = a; greatest = z }
+
 -- The ends of the score of a loose plan: 19 where an end of some node's score lies outside the range.
 unfoldable pub endsOf : Table → Loose → Result Ends
 endsOf w t =
     refuseIf (not (bothWithin (figureOf w) t)) ScoreOutOfRange
-    (value (record { least = end low (figureOf w) t; greatest = end high (figureOf w) t }))
+    (value (ends (end low (figureOf w) t) (end high (figureOf w) t)))
 
 -- Score of a loose plan: 1 to 4 for the language, 18 for the table, 14, then 15 and 16 in reading order, 19 over the whole plan.
 unfoldable pub looseBytes : List ℕ → ℕ → List ℕ → List ℕ → Result Ends
@@ -53,7 +56,7 @@ pub record LooseScoring : Type 0 where
 -- A refused one gives 0 and 0.
 abbrev pub endsIn : Result Ends → Ends
 endsIn (value e) = e
-endsIn (refused r) = record { least = pos 0; greatest = pos 0 }
+endsIn (refused r) = ends (pos 0) (pos 0)
 
 -- Score of a loose plan, as it is answered. There is no output, so the length is 0.
 unfoldable pub scoreLoose : List ℕ → ℕ → List ℕ → List ℕ → LooseScoring

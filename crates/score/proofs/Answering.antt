@@ -195,7 +195,7 @@ module _ (l : Language) (w : Table) (k : ℕ) (b : List ℕ) (r : Read) (er : re
       kind-scored a = let d = kind-read in answers-same (rw d refl) a
 
 -- prepare
-refused-is : {A : Type 0} (m : Result A) {r : Reason} → checked m ≡ Refused r → m ≡ refused r
+pub refused-is : {A : Type 0} (m : Result A) {r : Reason} → checked m ≡ Refused r → m ≡ refused r
 refused-is (value a) {r} e = refused-not {n = 0} {r = r} (sym e)
 refused-is (refused q) e = ap refused (inj e)
   where
