@@ -1,4 +1,4 @@
--- The operation score by its chain of tests: a law for each return of `prepare`, `score_read`, `score_kind` and `score`.
+-- The operation score by its chain of tests: a law for each return of `prepare`, `score_kind` and `score`.
 use Prim.Native.Nat.{ℕ, _+_, _-_, _<_, _≤_}
 use mathlib.Core.Path.{_≡_, refl, sym, ap, _∙_}
 use mathlib.Core.Bool.{Bool, true, false, not, cond}
@@ -20,7 +20,6 @@ use Rattle.fields.specs.declared.outcome.Reason.the-variants as Why
 use Rattle.fields.specs.Inner.Places.{places, keyAt}
 use Rattle.fields.proofs.Truth.{by-test, false-true, all-mem, mem-all, any-mem, mem-any, some-is, Mem}
 use Rattle.fields.proofs.Split.{front}
-use Rattle.fields.proofs.Codec.{bytes-from}
 use Rattle.language.specs.Language.{Language, argumentsOf, productionKey, isIn}
 use Rattle.language.specs.LanguageFile.{entriesOf, languageOf}
 use Rattle.language.specs.Operations.{checkLanguage}
@@ -31,32 +30,25 @@ use Rattle.language.proofs.Chain.{rising-is}
 use Rattle.language.proofs.Codec.{GoodLanguage, language-good}
 use Rattle.reader.specs.Code as Terms
 use Rattle.reader.specs.Syntax as Meant
-use Rattle.reader.specs.Syntax.{write}
 use Rattle.reader.specs.Operations.{wholeTree, treeOf}
-use Rattle.reader.specs.Inner.Positions.{EndsBy, restAt, restOf}
 use Rattle.reader.specs.Inner.Index.{Indexed, putAll}
-use Rattle.reader.specs.declared.node.Read.{Read}
-use Rattle.reader.specs.declared.node.Read.the-variants.{End, Deep, Broken}
-use Rattle.reader.specs.declared.node.Syntax.the-variants.{Tree}
 use Rattle.reader.proofs.Indexed.{build-is, production-key}
 use Rattle.reader.proofs.Larger.{apart}
 use Rattle.reader.proofs.Placed.{puts-place, found}
-use Rattle.reader.proofs.Meaning.{done-of, deep-of, broken-of}
 use Rattle.reader.proofs.Members.{in-below}
-use Rattle.reader.proofs.Sound.{read-done}
 use Rattle.translation.proofs.Accepted.{refused-not}
 use Rattle.checks.proofs.TreeChain.{Accepts}
-use Rattle.emitter.proofs.Standing.{drop-stands}
-use Rattle.score.specs.Figures.{isScore}
 use Rattle.score.specs.LoadTable.{Table, loadsOf, tableOf, figureOf}
 use Rattle.score.specs.Linear.{form, passes}
 use Rattle.score.specs.Operations.{scoreOf, scoreBytes, scoreIn, scoreTree}
 use Rattle.score.specs.Inner.Kept.{Small, Kept}
-use Rattle.score.specs.Inner.Terms.{limit, bytesOf, World, TermAsks, formedOf}
-use Rattle.score.specs.Inner.Answering.{Answers, Held, Ground, ground, groundOf, Prepared, scoreOn, TreeAsks}
-use Rattle.score.specs.declared.form.Formed.{Formed}
-use Rattle.score.specs.declared.form.Formed.the-variants.{At, Outside}
+use Rattle.score.specs.Inner.Terms.{World}
+use Rattle.score.specs.Inner.Answering.{Answers, Held, Ground, ground, groundOf, Prepared, scoreOn}
+use Rattle.score.specs.Inner.Walks.{Says}
+use Rattle.score.specs.declared.walk.Met.{Met}
+use Rattle.score.specs.declared.walk.Met.the-variants.{Scored, Outside, Deep, Broken}
 use Rattle.score.proofs.Terms.{placed}
+use Rattle.score.proofs.Trees.{says-scored, says-outside, says-deep, says-broken}
 
 -- An answer is that of any result that is the same.
 pub answers-same : {a b : Result ℤ} {o : Outcome} {z : ℤ} → a ≡ b → Answers a o z → Answers b o z
@@ -127,72 +119,52 @@ module _ (s : List ℕ) (fig : List ℤ) (l : Language) (w : Table) (bytes : (i 
         ∙ (ap (λ (m : ℕ). figureOf w m (getD s (t .place + 4) 0) j) (t .kind) ∙ ap (λ (m : ℕ). figureOf w k m j) (t .name)));
   }
 
--- score_read
-module _ (s index : List ℕ) (fig : List ℤ) (k : ℕ) (b : List ℕ) (bytes : (i : ℕ) → getD b i 0 < 256) (l : Language) (w : Table) (t : Terms.Code)
-    (a : TreeAsks s index fig k b l w t) where
-  pub tree-term : TermAsks Tree s index fig b k 0 64 l [] (figureOf w) t
-  tree-term =
-      let d = read-done Meant.tree l [] 64 k b t [] (a .reads) in
-      record {
-        world = a .world;
-        plain = λ e. refl;
-        typed = d .0;
-        kind = a .kind;
-        stands = drop-stands b 0 (write Meant.tree t) [] (omega arith) (d .2 (bytes-from b (λ j h. bytes j)) .0);
-        levels = d .1;
-      }
-
-  module _ (r : Formed) (er : r ≡ formedOf Tree (figureOf w) t 0 (0 + length (bytesOf Tree t))) {o : Outcome} {y : ℤ} where
-    pub tree-outside : r ≡ Outside → Answers (refused Why.ScoreOutOfRange) o y → Answers (scoreOf w t) o y
-    unfolding scoreOf formedOf limit
-    tree-outside e h = answers-same (go (passes isScore (figureOf w) t 0) refl (sym er ∙ e)) h
-      where
-        go : (c : Bool) → passes isScore (figureOf w) t 0 ≡ c → cond c (At (form (figureOf w) t 0) (0 + length (bytesOf Tree t))) Outside ≡ Outside
-            → refused Why.ScoreOutOfRange ≡ scoreOf w t
-        go true q f = let n : _≡_ {A = ℕ} 0 1 = cc in absurd (omega arith)
-        go false q f = rw q refl
-
-    pub tree-scored : (z x : ℤ) (e : ℕ) → r ≡ At z e → x ≡ z → Answers (value x) o y → Answers (scoreOf w t) o y
-    unfolding scoreOf formedOf limit
-    tree-scored z x e q f h = answers-same (go (passes isScore (figureOf w) t 0) refl (sym er ∙ q)) h
-      where
-        go : (c : Bool) → passes isScore (figureOf w) t 0 ≡ c → cond c (At (form (figureOf w) t 0) (0 + length (bytesOf Tree t))) Outside ≡ At z e
-            → value x ≡ scoreOf w t
-        go true p g = let n : form (figureOf w) t 0 ≡ z = cc in rw p (ap value (f ∙ sym n))
-        go false p g = let n : _≡_ {A = ℕ} 0 1 = cc in absurd (omega arith)
-
 -- score_kind
-module _ (l : Language) (w : Table) (k : ℕ) (b : List ℕ) (r : Read) (er : restAt b r ≡ restOf (Meant.read Meant.tree l [] 64 k b)) where
-  abbrev got : Meant.Read Terms.Code
-  got = Meant.read Meant.tree l [] 64 k b
-
-  pub kind-deep : {o : Outcome} {z : ℤ} → r ≡ Deep → Answers (refused Why.TooDeep) o z → Answers (scoreOn l w k b) o z
+module _ (l : Language) (w : Table) (k : ℕ) (b : List ℕ) where
+  whole : (t : Terms.Code) (e : ℕ) → Meant.read Meant.tree l [] 64 k b ≡ Meant.done t (drop e b) → e ≡ length b → scoreOf w t ≡ scoreOn l w k b
   unfolding scoreOn
-  kind-deep e a = let d = deep-of got (sym er ∙ ap (restAt b) e) in answers-same (cc) a
+  whole t e d n =
+      let f : Meant.read Meant.tree l [] 64 k b ≡ Meant.done t [] = d ∙ ap (Meant.done t) (drop-of-length-le b {i = e} (omega arith)) in
+      rw f refl
 
-  pub kind-broken : {o : Outcome} {z : ℤ} → r ≡ Broken → Answers (refused Why.IllegalTree) o z → Answers (scoreOn l w k b) o z
+module _ (l : Language) (w : Table) (k : ℕ) (b : List ℕ) (r : Met) (er : Says b (figureOf w) (Meant.read Meant.tree l [] 64 k b) r) {o : Outcome} {x : ℤ} where
+  pub kind-deep : r ≡ Deep → Answers (refused Why.TooDeep) o x → Answers (scoreOn l w k b) o x
   unfolding scoreOn
-  kind-broken e a = let d = broken-of got (sym er ∙ ap (restAt b) e) in answers-same (cc) a
+  kind-deep e a = let d = says-deep b (figureOf w) (Meant.read Meant.tree l [] 64 k b) r er e in answers-same (rw d refl) a
 
-  module _ (e : ℕ) (ee : r ≡ End e) where
-    pub ended : (t : Terms.Code) × (got ≡ Meant.done t (drop e b))
-    ended = done-of got (drop e b) (sym er ∙ ap (restAt b) ee)
+  pub kind-broken : r ≡ Broken → Answers (refused Why.IllegalTree) o x → Answers (scoreOn l w k b) o x
+  unfolding scoreOn
+  kind-broken e a = let d = says-broken b (figureOf w) (Meant.read Meant.tree l [] 64 k b) r er e in answers-same (rw d refl) a
 
-    pub kind-more : {o : Outcome} {z : ℤ} → EndsBy (length b) r → (e ≡ length b → ⊥) → Answers (refused Why.IllegalTree) o z → Answers (scoreOn l w k b) o z
-    unfolding scoreOn
-    kind-more n m a =
-        let q : e ≤ length b = rw ee at n in
-        let i : e < length b = omega (arith, q, m) in
-        let d : got ≡ Meant.done (ended .0) (getD b e 0 ∷ drop (e + 1) b) = ended .1 ∙ ap (Meant.done (ended .0)) (front b e i) in
-        answers-same (rw d refl) a
+  more : (t : Terms.Code) (e : ℕ) → Meant.read Meant.tree l [] 64 k b ≡ Meant.done t (drop e b) → e ≤ length b → (e ≡ length b → ⊥) → Answers (refused Why.IllegalTree) o x → Answers (scoreOn l w k b) o x
+  unfolding scoreOn
+  more t e d n m a =
+      let i : e < length b = omega (arith, n, m) in
+      let f : Meant.read Meant.tree l [] 64 k b ≡ Meant.done t (getD b e 0 ∷ drop (e + 1) b) = d ∙ ap (Meant.done t) (front b e i) in
+      answers-same (rw f refl) a
 
-    module _ (n : e ≡ length b) where
-      pub kind-read : Meant.read Meant.tree l [] 64 k b ≡ Meant.done (ended .0) []
-      kind-read = ended .1 ∙ ap (Meant.done (ended .0)) (drop-of-length-le b {i = e} (omega arith))
+  module _ (u : ℤ) (e : ℕ) (q : r ≡ Scored u e) where
+    pub kind-more : (e ≡ length b → ⊥) → Answers (refused Why.IllegalTree) o x → Answers (scoreOn l w k b) o x
+    kind-more m a = let (g, f) = says-scored b (figureOf w) (Meant.read Meant.tree l [] 64 k b) r er u e q in more (g .code) e (g .is) (g .inside) m a
 
-      pub kind-scored : {o : Outcome} {z : ℤ} → Answers (scoreOf w (ended .0)) o z → Answers (scoreOn l w k b) o z
-      unfolding scoreOn
-      kind-scored a = let d = kind-read in answers-same (rw d refl) a
+    -- v is what the machine reads of the score
+    pub kind-scored : e ≡ length b → (v : ℤ) → v ≡ u → Answers (value v) o x → Answers (scoreOn l w k b) o x
+    unfolding scoreOf
+    kind-scored n v ev a =
+        let (g, f) = says-scored b (figureOf w) (Meant.read Meant.tree l [] 64 k b) r er u e q in
+        let given : scoreOf w (g .code) ≡ value u = rw (g .fits, f) refl in
+        answers-same (ap value ev ∙ (sym given ∙ whole l w k b (g .code) e (g .is) n)) a
+
+  module _ (e : ℕ) (q : r ≡ Outside e) where
+    pub kind-out-more : (e ≡ length b → ⊥) → Answers (refused Why.IllegalTree) o x → Answers (scoreOn l w k b) o x
+    kind-out-more m a = let g = says-outside b (figureOf w) (Meant.read Meant.tree l [] 64 k b) r er e q in more (g .code) e (g .is) (g .inside) m a
+
+    pub kind-out : e ≡ length b → Answers (refused Why.ScoreOutOfRange) o x → Answers (scoreOn l w k b) o x
+    unfolding scoreOf
+    kind-out n a =
+        let g = says-outside b (figureOf w) (Meant.read Meant.tree l [] 64 k b) r er e q in
+        let given : scoreOf w (g .code) ≡ refused Why.ScoreOutOfRange = rw (g .fits) refl in
+        answers-same (sym given ∙ whole l w k b (g .code) e (g .is) n) a
 
 -- prepare
 pub refused-is : {A : Type 0} (m : Result A) {r : Reason} → checked m ≡ Refused r → m ≡ refused r

@@ -7,3 +7,5 @@ pub mod Walking
 pub mod Answering
 pub mod Ring
 pub mod Weighing
+pub mod Rows
+pub mod Trees

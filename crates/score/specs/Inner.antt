@@ -2,4 +2,5 @@
 pub mod Kept
 pub mod Sums
 pub mod Terms
+pub mod Walks
 pub mod Answering

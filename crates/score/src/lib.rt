@@ -4,3 +4,4 @@ pub mod form;
 pub mod prepare;
 pub mod score;
 pub mod table;
+pub mod walk;

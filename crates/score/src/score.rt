@@ -1,24 +1,20 @@
 // The operation score.
-use crate::form::Formed;
-use crate::form::form_at;
 use crate::prepare::prepare;
 use crate::table::FIGURES;
+use crate::walk::Met;
+use crate::walk::tree_at;
 use fields::outcome::Outcome;
 use fields::outcome::Reason;
 use language::entries::CLASS;
 use reader::index::INDEX;
 use reader::index::put_all;
-use reader::node::Read;
-use reader::node::Syntax;
-use reader::read::read;
 ghost use mathlib.Core.Path.{_≡_};
 ghost use Prim.Native.Nat.{_<_};
 ghost use Rattle.fields.specs.Outcome.{value, refused};
 ghost use Rattle.language.specs.Language.{Language};
-ghost use Rattle.reader.specs.Code.{Code};
 ghost use Rattle.score.specs.LoadTable.{Table};
-ghost use Rattle.score.specs.Operations.{scoreOf, scoreTree};
-ghost use Rattle.score.specs.Inner.Answering.{Answers, Held, scoreOn, TreeAsks};
+ghost use Rattle.score.specs.Operations.{scoreTree};
+ghost use Rattle.score.specs.Inner.Answering.{Answers, Held, scoreOn};
 
 // The levels that a tree handed in may have.
 pub const TREE_LEVELS: usize = 64;
@@ -49,28 +45,6 @@ fn accept(score: i64) -> Scored
     }
 }
 
-// The score of a legal tree: 19.
-fn score_read(language: &[u8], index: &[u16], figures: &[i32], kind: u8, tree: &[u8]) -> Scored
-    requires { ⌜ ((l : Language) × (w : Table) × (t : Code) × TreeAsks (now language) (now index) (now figures) kind (now tree) l w t) ⌝ }
-    ensures { λ r. ⌜ ((l : Language) (w : Table) (t : Code) → TreeAsks (now (language .entry)) (now (index .entry)) (now (figures .entry)) kind (now (tree .entry)) l w t
-        → Answers (scoreOf w t) (r .outcome) (r .score)) ⌝ }
-{
-    match form_at(
-        Syntax::Tree,
-        language,
-        index,
-        figures,
-        kind,
-        tree,
-        0,
-        0,
-        TREE_LEVELS,
-    ) {
-        Formed::At(z, e) => accept(z),
-        Formed::Outside => refuse(Reason::ScoreOutOfRange),
-    }
-}
-
 // The score of a tree of a kind, where language, table and root were accepted: 15 and 16, 19.
 fn score_kind(language: &[u8], figures: &[i32], kind: u8, tree: &[u8]) -> Scored
     requires { ⌜ (kind < 32) × ((l : Language) × (w : Table) × Held (now language) (now figures) l w) ⌝ }
@@ -79,24 +53,21 @@ fn score_kind(language: &[u8], figures: &[i32], kind: u8, tree: &[u8]) -> Scored
 {
     let mut index = [0u16; INDEX];
     put_all(language, CLASS, &mut index);
-    match read(
-        Syntax::Tree,
-        language,
-        &index,
-        &[],
-        kind,
-        tree,
-        0,
-        TREE_LEVELS,
-    ) {
-        Read::End(e) => {
+    match tree_at(language, &index, figures, kind, tree, 0, TREE_LEVELS) {
+        Met::Scored(z, e) => {
             if e != tree.len() {
                 return refuse(Reason::IllegalTree);
             }
-            score_read(language, &index, figures, kind, tree)
+            accept(z)
         }
-        Read::Deep => refuse(Reason::TooDeep),
-        Read::Broken => refuse(Reason::IllegalTree),
+        Met::Outside(e) => {
+            if e != tree.len() {
+                return refuse(Reason::IllegalTree);
+            }
+            refuse(Reason::ScoreOutOfRange)
+        }
+        Met::Deep => refuse(Reason::TooDeep),
+        Met::Broken => refuse(Reason::IllegalTree),
     }
 }
 

@@ -11,13 +11,11 @@ use Rattle.fields.specs.declared.outcome.Outcome.{Outcome}
 use Rattle.fields.specs.declared.outcome.Reason.the-variants.{UnknownRoot}
 use Rattle.language.specs.Language.{Language, clashes, isIn}
 use Rattle.language.specs.LanguageFile.{entriesOf, languageOf}
-use Rattle.reader.specs.Code.{Code}
-use Rattle.reader.specs.Syntax.{read, done, tree}
+use Rattle.reader.specs.Syntax.{read, tree}
 use Rattle.reader.specs.Operations.{treeLevels, wholeTree}
-use Rattle.score.specs.LoadTable.{Table, figureOf, tableOf}
+use Rattle.score.specs.LoadTable.{Table, tableOf}
 use Rattle.score.specs.Operations.{scoreOf, scoreIn}
 use Rattle.score.specs.Inner.Kept.{Kept}
-use Rattle.score.specs.Inner.Terms.{World}
 
 -- The outcome and the score are those of a result.
 pub record Answers (result : Result ℤ) (outcome : Outcome) (score : ℤ) : Type 0 where
@@ -54,9 +52,3 @@ pub record Prepared (s : List ℕ) (figures : List ℤ) (root : ℕ) (g : Ground
 -- The score of a tree by language and table: the last links of the chain.
 unfoldable pub scoreOn : Language → Table → ℕ → List ℕ → Result ℤ
 scoreOn l w root bytes = wholeTree (read tree l [] treeLevels root bytes) >>= λ t. scoreOf w t
-
--- The bytes are the legal tree t of a kind, and the figures are those of table w.
-pub record TreeAsks (s index : List ℕ) (figures : List ℤ) (k : ℕ) (bytes : List ℕ) (l : Language) (w : Table) (t : Code) : Type 0 where
-  pub world : World s index figures l (figureOf w)
-  pub kind : k < 32
-  pub reads : read tree l [] 64 k bytes ≡ done t []
