@@ -1,4 +1,4 @@
-/* The C interface of the library algebra: three checks, reduce, run, score,
+/* The C interface of the library algebra: three checks, reduce, run, score, score_loose,
  * join_table, export, import and block.
  *
  * Each function returns the number of the answer: ALGEBRA_ACCEPTED, or the number of a
@@ -151,6 +151,16 @@ uint32_t algebra_score(const uint8_t *language, size_t language_length,
                        const uint8_t *tree, size_t tree_length,
                        const uint8_t *table, size_t table_length,
                        int64_t *score);
+
+/* Scores a loose plan by a load table of the language: 0 to 4, 14 to 16, 18, 19. A loose plan is a
+ * tree with two values in the place of each token, the least and the greatest, of two bytes each.
+ * Some choice of legal tokens between them scores least and some choice greatest, and none scores
+ * less or more. */
+uint32_t algebra_score_loose(const uint8_t *language, size_t language_length,
+                             uint32_t root,
+                             const uint8_t *plan, size_t plan_length,
+                             const uint8_t *table, size_t table_length,
+                             int64_t *least, int64_t *greatest);
 
 /* Joins a load table of the target onto a translation, which gives a load table of the source:
  * 0 to 7, 11, 17, 18. It has fewer than 2 * ALGEBRA_LANGUAGE_BYTES bytes. */

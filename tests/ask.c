@@ -4,12 +4,13 @@
  *   ask language FILE                          ask translation FILE
  *   ask tree LANGUAGE ROOT TREE                ask reduce PACK [WORKSPACE-BYTES [OUTPUT-BYTES]]
  *   ask run TRANSLATION ROOT TREE [OUTPUT-BYTES]
- *   ask score LANGUAGE ROOT TREE TABLE         ask join TRANSLATION TABLE
+ *   ask score LANGUAGE ROOT TREE TABLE         ask loose LANGUAGE ROOT PLAN TABLE
+ *   ask join TRANSLATION TABLE
  *   ask export LANGUAGE ROOT TREE              ask import LANGUAGE ROOT TEXT
  *   ask block LANGUAGE ROOT TREE PATH
  *   ask bytes FILE                             writes the bytes themselves
  *
- * Prints `accepted LENGTH` (or a score), the bytes of a result on a second line, and kind and start of a block on a third; or
+ * Prints `accepted LENGTH` (or a score, or `LEAST to GREATEST` of a loose plan), the bytes of a result on a second line, and kind and start of a block on a third; or
  * `refused NUMBER`. The text of an import is read, and that of an export printed, as it is. */
 #include "algebra.h"
 #include <stdio.h>
@@ -151,6 +152,19 @@ static void score(char **words)
         answer(number, 0, NULL);
 }
 
+/* Scores a loose plan. */
+static void loose(char **words)
+{
+    struct bytes language = load(words[0]), plan = load(words[2]), table = load(words[3]);
+    int64_t least, greatest;
+    uint32_t number = algebra_score_loose(language.at, language.length, (uint32_t)number_or(words[1], 0), plan.at,
+                                          plan.length, table.at, table.length, &least, &greatest);
+    if (number == ALGEBRA_ACCEPTED)
+        printf("accepted %ld to %ld\n", (long)least, (long)greatest);
+    else
+        answer(number, 0, NULL);
+}
+
 /* Joins a load table onto a translation. */
 static void join(char **words)
 {
@@ -240,6 +254,7 @@ static const struct {
     { "reduce", reduce, 1, 3 },
     { "run", run, 3, 4 },
     { "score", score, 4, 4 },
+    { "loose", loose, 4, 4 },
     { "join", join, 2, 2 },
     { "export", export_tree, 3, 3 },
     { "import", import_tree, 3, 3 },

@@ -73,6 +73,17 @@ static uint32_t score(const uint8_t *l, size_t l_length, const uint8_t *t, size_
     return number;
 }
 
+/* Scores the tree, which has no tokens, as a loose plan; a refusal must store 0 twice. */
+static uint32_t score_loose(const uint8_t *l, size_t l_length, const uint8_t *p, size_t p_length,
+                            const uint8_t *b, size_t b_length)
+{
+    int64_t least = INT64_MIN, greatest = INT64_MIN;
+    uint32_t number = algebra_score_loose(l, l_length, 1, p, p_length, b, b_length, &least, &greatest);
+    count("the least score", least == (number == 0 ? -7 : 0));
+    count("the greatest score", greatest == least);
+    return number;
+}
+
 /* Joins a load table; a refusal must store length 0. */
 static uint32_t join(const uint8_t *t, size_t t_length, const uint8_t *b, size_t b_length,
                      uint8_t *o, size_t o_length)
@@ -164,6 +175,21 @@ static void scores(void)
          score(language, sizeof language, tree, sizeof tree, elsewhere, 0));
     same("score, all", 14, score(NULL, 0, NULL, 0, NULL, 0), score(elsewhere, 0, elsewhere, 0, elsewhere, 0));
     gives("score", ALGEBRA_ACCEPTED, score(language, sizeof language, tree, sizeof tree, table, sizeof table));
+}
+
+/* Scores of loose plans. */
+static void loose_scores(void)
+{
+    same("score_loose, language", 18, score_loose(NULL, 0, tree, sizeof tree, table, sizeof table),
+         score_loose(elsewhere, 0, tree, sizeof tree, table, sizeof table));
+    same("score_loose, plan", 15, score_loose(language, sizeof language, NULL, 0, table, sizeof table),
+         score_loose(language, sizeof language, elsewhere, 0, table, sizeof table));
+    same("score_loose, table", 18, score_loose(language, sizeof language, tree, sizeof tree, NULL, 0),
+         score_loose(language, sizeof language, tree, sizeof tree, elsewhere, 0));
+    same("score_loose, all", 14, score_loose(NULL, 0, NULL, 0, NULL, 0),
+         score_loose(elsewhere, 0, elsewhere, 0, elsewhere, 0));
+    gives("score_loose", ALGEBRA_ACCEPTED,
+          score_loose(language, sizeof language, tree, sizeof tree, table, sizeof table));
 }
 
 /* Joined load tables. */
@@ -344,6 +370,7 @@ int main(void)
     reductions();
     runs();
     scores();
+    loose_scores();
     joins();
     texts();
     blocks();

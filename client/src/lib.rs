@@ -2,10 +2,11 @@
 //!
 //! Three checks, [`check_language`], [`check_translation`] and [`check_tree`], one operation that
 //! [reduces](reduce) a pack to a translation, one that [runs](run) a translation on a tree, one that
-//! [scores](score()) a tree by a load table and one that [joins](join_table) such a table onto a
-//! translation, two that [export](export()) a tree as XML and [import](import()) it back, and one
-//! that looks up a [block](block()) of a tree. Each is accepted or gives a [`Refusal`]. What a call
-//! answers depends on its arguments alone; any number of threads may call at the same time.
+//! [scores](score()) a tree by a load table and one that scores a [loose plan](score_loose), one
+//! that [joins](join_table) such a table onto a translation, two that [export](export()) a tree as
+//! XML and [import](import()) it back, and one that looks up a [block](block()) of a tree. Each is
+//! accepted or gives a [`Refusal`]. What a call answers depends on its arguments alone; any number
+//! of threads may call at the same time.
 //!
 //! # The strap
 //!
@@ -59,6 +60,7 @@
 
 mod block;
 mod limits;
+mod loose;
 pub mod raw;
 mod refusal;
 mod score;
@@ -69,6 +71,7 @@ pub use limits::{
     CODE_LEVELS, LANGUAGE_BYTES, PACK_BYTES, STACK_BYTES, TABLE_BYTES, TERM_LEVELS,
     TRANSLATION_BYTES, TREE_LEVELS, WORKSPACE_BYTES,
 };
+pub use loose::{score_loose, LooseScore};
 pub use refusal::{Refusal, UnknownNumber};
 pub use score::{join_table, join_table_to_vec, score};
 pub use xml::{export, export_to_vec, import, import_to_vec};

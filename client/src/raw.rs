@@ -7,10 +7,12 @@
 #![allow(unsafe_code)]
 
 mod block;
+mod loose;
 mod score;
 mod xml;
 
 pub use block::{block, BlockAnswer};
+pub use loose::{score_loose, LooseScoreAnswer};
 pub use score::{join_table, score, ScoreAnswer};
 pub use xml::{export, import};
 

@@ -4,7 +4,7 @@ use crate::generate::{BlockCase, ExportCase, ImportCase, JoinTableCase};
 use crate::generate::{ReduceCase, RunCase, ScoreCase, TreeCase};
 use crate::outcome::Outcome;
 use crate::{block, check_language, check_translation, check_tree, export, import, join_table};
-use crate::{reduce, run, score, Block, Score};
+use crate::{reduce, run, score, score_loose, Block, LooseScore, Score};
 #[cfg(feature = "library")]
 use algebra::raw as library;
 
@@ -17,6 +17,8 @@ pub enum Call {
     Reduce(ReduceCase),
     Run(RunCase),
     Score(ScoreCase),
+    /// The score of a loose plan, which is the tree of the case.
+    ScoreLoose(ScoreCase),
     JoinTable(JoinTableCase),
     Export(ExportCase),
     Import(ImportCase),
@@ -31,7 +33,7 @@ pub struct Buffers {
 }
 
 /// What a call answered: the number and the length, and figures that are 0 where the operation
-/// has none: start and kind of a block, and the score.
+/// has none: start and kind of a block, the score, and the least and greatest score of a loose plan.
 #[derive(Clone, Copy, Debug, Default, PartialEq, Eq)]
 pub struct Answer {
     pub number: u32,
@@ -39,6 +41,7 @@ pub struct Answer {
     pub start: u64,
     pub kind: u32,
     pub score: i64,
+    pub ends: [i64; 2],
 }
 
 /// Lent buffers hold these bytes at the start.
@@ -58,6 +61,13 @@ impl From<Score> for Answer {
     }
 }
 
+impl From<LooseScore> for Answer {
+    fn from(score: LooseScore) -> Answer {
+        let ends = [score.ends.least, score.ends.greatest];
+        Answer { ends, ..score.outcome.into() }
+    }
+}
+
 impl From<Block<'_>> for Answer {
     fn from(block: Block) -> Answer {
         Answer { start: block.start, kind: block.kind, ..block.outcome.into() }
@@ -74,6 +84,7 @@ impl Call {
             Call::Reduce(_) => "reduce",
             Call::Run(_) => "run",
             Call::Score(_) => "score",
+            Call::ScoreLoose(_) => "score_loose",
             Call::JoinTable(_) => "join_table",
             Call::Export(_) => "export",
             Call::Import(_) => "import",
@@ -104,6 +115,9 @@ impl Call {
             Call::Reduce(case) => reduce(&case.pack, workspace, output).into(),
             Call::Run(case) => run(&case.translation, case.root, &case.tree, output).into(),
             Call::Score(case) => score(&case.language, case.root, &case.tree, &case.table).into(),
+            Call::ScoreLoose(case) => {
+                score_loose(&case.language, case.root, &case.tree, &case.table).into()
+            }
             Call::JoinTable(case) => join_table(&case.translation, &case.table, output).into(),
             Call::Export(case) => export(&case.language, case.root, &case.tree, output).into(),
             Call::Import(case) => import(&case.language, case.root, &case.text, output).into(),
@@ -128,6 +142,9 @@ impl Call {
             }
             Call::Score(case) => {
                 library::score(&case.language, case.root, &case.tree, &case.table).into()
+            }
+            Call::ScoreLoose(case) => {
+                library::score_loose(&case.language, case.root, &case.tree, &case.table).into()
             }
             Call::JoinTable(case) => {
                 library::join_table(&case.translation, &case.table, output).into()
@@ -166,5 +183,13 @@ impl From<library::ScoreAnswer> for Answer {
     fn from(answer: library::ScoreAnswer) -> Answer {
         let library::ScoreAnswer { number, score } = answer;
         Answer { number, score, ..Answer::default() }
+    }
+}
+
+#[cfg(feature = "library")]
+impl From<library::LooseScoreAnswer> for Answer {
+    fn from(answer: library::LooseScoreAnswer) -> Answer {
+        let library::LooseScoreAnswer { number, least, greatest } = answer;
+        Answer { number, ends: [least, greatest], ..Answer::default() }
     }
 }

@@ -334,6 +334,30 @@ fn scores() -> Vec<Example> {
     ]
 }
 
+/// Scores of loose sessions of C.
+fn loose_scores() -> Vec<Example> {
+    let by = |plan: &[u8], table: Vec<u8>| {
+        let (language, tree) = (language_c(), plan.to_vec());
+        Call::ScoreLoose(ScoreCase { language, root: 1, tree, table })
+    };
+    let scored =
+        |what, plan, ends| answered(what, by(plan, loads()), Answer { ends, ..Answer::default() });
+    vec![
+        scored("a row of 20 to 30", &[1, 0, 20, 0, 30], [40, 60]),
+        scored("a rest of 20 to 30", &[3, 0, 20, 0, 30], [-30, -20]),
+        scored(
+            "a row of 20 to 30 and a rest of 5 to 10",
+            &[2, 1, 0, 20, 0, 30, 3, 0, 5, 0, 10],
+            [30, 55],
+        ),
+        scored("a settled row of 5", &[1, 0, 5, 0, 5], [10, 10]),
+        refused("a loose token out of order", by(&[1, 0, 30, 0, 20], loads()), 15),
+        refused("a greatest value above the range", by(&[1, 0, 20, 0, 241], loads()), 15),
+        refused("a token of one value", by(&[1, 0, 20], loads()), 15),
+        refused("no table", by(&[1, 0, 20, 0, 30], vec![]), 18),
+    ]
+}
+
 /// Sessions of C and its extension as XML, and texts that are none.
 fn texts() -> Vec<Example> {
     let language = [language_c(), language_k()].concat();
@@ -366,7 +390,7 @@ fn texts() -> Vec<Example> {
 /// All examples.
 pub fn examples() -> Vec<Example> {
     let first = [reductions(), accepted_runs(), refused_runs(), wider_strap(), rates(), checks()];
-    [first.concat(), scores(), texts(), blocks()].concat()
+    [first.concat(), scores(), loose_scores(), texts(), blocks()].concat()
 }
 
 impl Example {

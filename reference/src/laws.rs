@@ -1,5 +1,7 @@
 //! The law of runs and the law of sums, for the operations of any implementation.
 
+pub mod loose;
+
 use crate::generate::{legal_tree, pack_with_term, LawPack, Random};
 use crate::translation::{read_translation, Translation};
 use crate::tree::is_legal_tree;

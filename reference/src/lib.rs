@@ -1,8 +1,8 @@
 //! Languages, translations and a reducer over bytes: a reference on decoded structures.
 //!
 //! The operations are `check_language`, `check_translation`, `check_tree`, `reduce`, `run`,
-//! `score`, `join_table`, `export`, `import` and `block`. Each answers with an `Outcome`: accepted
-//! with a length, or refused.
+//! `score`, `score_loose`, `join_table`, `export`, `import` and `block`. Each answers with an
+//! `Outcome`: accepted with a length, or refused.
 #![deny(unsafe_code)]
 
 mod block;
@@ -13,6 +13,7 @@ mod earlier;
 mod field;
 mod grammar;
 mod language;
+mod loose;
 mod operators;
 mod outcome;
 mod pack;
@@ -38,6 +39,7 @@ pub mod xslt;
 
 pub use block::{block, Block};
 pub use language::check_language;
+pub use loose::{score_loose, Ends, LooseScore};
 pub use outcome::{Outcome, Refusal};
 pub use reduce::reduce;
 pub use run::run;

@@ -86,13 +86,16 @@ impl Scorer<'_> {
         self.score_production(place)
     }
 
-    /// The score of a production whose arguments stand next.
+    /// The score of a production whose arguments stand next, added from the last to the first.
     fn score_production(&mut self, place: usize) -> Result<i64, Refusal> {
         let Line { constant, factors } = self.table.lines[place];
-        let mut score = i64::from(constant);
-        for (&argument, factor) in self.grammar.production(place).arguments().iter().zip(factors) {
-            score += i64::from(factor) * self.score(argument)?;
+        let (mut scores, arguments) = ([0; ARGUMENTS], self.grammar.production(place).arguments());
+        for (score, &argument) in scores.iter_mut().zip(arguments) {
+            *score = self.score(argument)?;
         }
+        let products = scores.iter().zip(factors).take(arguments.len()).rev();
+        let add = |sum, (score, factor): (&i64, i32)| sum + i64::from(factor) * score;
+        let score = products.fold(i64::from(constant), add);
         require((LEAST_SCORE..=MOST_SCORE).contains(&score), Refusal::Score)?;
         Ok(score)
     }

@@ -13,6 +13,7 @@ pub enum Verb {
     Reduce,
     Run,
     Score,
+    ScoreLoose,
     JoinTable,
     Export,
     Import,
@@ -24,13 +25,14 @@ pub enum Verb {
 }
 
 /// The verbs with their names.
-pub const VERBS: [(&str, Verb); 14] = [
+pub const VERBS: [(&str, Verb); 15] = [
     ("check-language", Verb::CheckLanguage),
     ("check-translation", Verb::CheckTranslation),
     ("check-tree", Verb::CheckTree),
     ("reduce", Verb::Reduce),
     ("run", Verb::Run),
     ("score", Verb::Score),
+    ("score-loose", Verb::ScoreLoose),
     ("join-table", Verb::JoinTable),
     ("export", Verb::Export),
     ("import", Verb::Import),
@@ -101,7 +103,7 @@ impl Verb {
     /// The numbers of operands that the verb takes.
     fn operand_counts(self) -> &'static [usize] {
         match self {
-            Verb::Score | Verb::Block => &[4],
+            Verb::Score | Verb::ScoreLoose | Verb::Block => &[4],
             Verb::JoinTable => &[2],
             Verb::CheckTree | Verb::Run | Verb::Export | Verb::Import | Verb::Steps => &[3],
             Verb::Show => &[1, 3],

@@ -1,7 +1,8 @@
 //! What an accepted operation gives, and how it is printed and written.
 
 use crate::output::hexadecimal_lines;
-use algebra::Block;
+use algebra::{Block, LooseScore};
+use std::fmt;
 
 /// What an accepted operation gives.
 pub enum Given {
@@ -11,8 +12,30 @@ pub enum Given {
     Text(Vec<u8>),
     /// A score.
     Score(i64),
+    /// The least and the greatest score of a loose plan.
+    Scores(LooseScore),
     /// A block of a tree.
     Block { kind: u32, start: usize, bytes: Vec<u8> },
+}
+
+/// What stands behind the word 'accepted'.
+#[derive(Clone, Copy)]
+pub enum Figure {
+    /// A length or a score.
+    One(i64),
+    /// A least and a greatest score.
+    Between(LooseScore),
+}
+
+impl fmt::Display for Figure {
+    fn fmt(&self, formatter: &mut fmt::Formatter) -> fmt::Result {
+        match self {
+            Figure::One(figure) => write!(formatter, "{figure}"),
+            Figure::Between(LooseScore { least, greatest }) => {
+                write!(formatter, "{least} to {greatest}")
+            }
+        }
+    }
 }
 
 impl From<Block<'_>> for Given {
@@ -23,19 +46,20 @@ impl From<Block<'_>> for Given {
 }
 
 impl Given {
-    /// The figure of the first line: a score, or the length of the result.
-    pub fn figure(&self) -> i64 {
+    /// The figure of the first line: a score or two, or the length of the result.
+    pub fn figure(&self) -> Figure {
         match self {
-            Given::Score(score) => *score,
-            _ => self.bytes().len() as i64,
+            Given::Score(score) => Figure::One(*score),
+            Given::Scores(scores) => Figure::Between(*scores),
+            _ => Figure::One(self.bytes().len() as i64),
         }
     }
 
     /// The lines between the first one and the result.
     pub fn figures(&self) -> String {
         match self {
-            Given::Bytes(_) | Given::Text(_) | Given::Score(_) => String::new(),
             Given::Block { kind, start, .. } => format!("kind {kind}, start {start}\n"),
+            _ => String::new(),
         }
     }
 
@@ -61,7 +85,7 @@ impl Given {
     pub fn bytes(&self) -> &[u8] {
         match self {
             Given::Bytes(bytes) | Given::Text(bytes) | Given::Block { bytes, .. } => bytes,
-            Given::Score(_) => &[],
+            Given::Score(_) | Given::Scores(_) => &[],
         }
     }
 }

@@ -18,8 +18,8 @@ A file is given by its name, or as - for the standard input. Options of every ve
   --help     tell more about the verb
   --version  tell the version of the command
 
-The first line is 'accepted' with the length of the result (or a score), or 'refused' with a
-number and a sentence. The status is 0 for accepted, 1 for refused, and 2 if there is no answer:
+The first line is 'accepted' with the length of the result (or a score, or two), or 'refused' with
+a number and a sentence. The status is 0 for accepted, 1 for refused, and 2 if there is no answer:
 wrong arguments, a file that cannot be read or written.
 ";
 
@@ -32,6 +32,7 @@ fn synopsis(verb: Verb) -> &'static str {
         Verb::Reduce => "PACK [-o FILE] [--limit BYTES]",
         Verb::Run => "TRANSLATION-OR-PACK ROOT TREE [-o FILE] [--limit BYTES] [--as SORT]",
         Verb::Score => "LANGUAGE ROOT TREE TABLE",
+        Verb::ScoreLoose => "LANGUAGE ROOT PLAN TABLE",
         Verb::JoinTable => "TRANSLATION TABLE [-o FILE] [--limit BYTES]",
         Verb::Export => "LANGUAGE ROOT TREE [-o FILE] [--limit BYTES]",
         Verb::Import => "LANGUAGE ROOT TEXT [-o FILE] [--limit BYTES]",
@@ -52,6 +53,7 @@ fn summary(verb: Verb) -> &'static str {
         Verb::Reduce => "Reduce a pack to one translation",
         Verb::Run => "Run a translation, or what a pack reduces to, on a tree",
         Verb::Score => "Score a tree by a load table",
+        Verb::ScoreLoose => "Score a loose plan, whose tokens are not settled, by a load table",
         Verb::JoinTable => "Join a load table onto a translation",
         Verb::Export => "Write a tree as XML",
         Verb::Import => "Read a tree from XML that export wrote",
@@ -96,6 +98,15 @@ Refusals: 1 to 7, 14 to 17; of a pack also 8 to 13.
 ROOT is the number of a kind, and TABLE a load table of the language. A token scores its value, a
 production its constant plus each factor times that argument's score. The first line is
 'accepted' with the score, which may be negative.
+Refusals: 1 to 4, 14 to 16, 18, 19.
+"
+        }
+        Verb::ScoreLoose => {
+            "\
+ROOT is the number of a kind, and TABLE a load table of the language. PLAN is a tree with two values
+in the place of each token, the least and the greatest, of two bytes each: a row of 20 to 30 minutes
+is 01 0014 001E. The first line is 'accepted' with the least and the greatest score, such as
+'accepted 40 to 60': some choice of tokens reaches each, and none lies outside.
 Refusals: 1 to 4, 14 to 16, 18, 19.
 "
         }
@@ -163,11 +174,11 @@ fields 24 only, and a tree if it is legal.
         }
         Verb::Explain => {
             "\
-VERB is one of check-language, check-translation, check-tree, reduce, run, score, join-table,
-export, import and block, with its operands. Below the first line stands where the fault is (the
-byte, counted from 0, the field, the clause, the path of argument numbers in a tree, the operand in
-a term) and what it is. These lines come from a second implementation; if it does not come to the
-same number, that is said.
+VERB is one of check-language, check-translation, check-tree, reduce, run, score, score-loose,
+join-table, export, import and block, with its operands. Below the first line stands where the fault
+is (the byte, counted from 0, the field, the clause, the path of argument numbers in a tree, the
+operand in a term) and what it is. These lines come from a second implementation; if it does not
+come to the same number, that is said.
   --limit BYTES  explain the call with an output of that many bytes
   --as SORT      for run: take the first file as a 'translation' or a 'pack'
 "

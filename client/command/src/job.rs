@@ -2,6 +2,7 @@
 //! implementation finds the fault.
 
 use crate::arguments::{misuse, number, Call, Sort, Verb};
+use crate::explanation::Finding;
 use crate::given::Given;
 use crate::input::read_file;
 use crate::tree_job::TreeJob;
@@ -92,10 +93,10 @@ impl Job {
             }
             Verb::Run => Run::load(call, streams).map(Job::Run),
             Verb::JoinTable => Job::load_join(call, streams),
-            Verb::CheckTree | Verb::Score | Verb::Export | Verb::Import | Verb::Block => {
-                TreeJob::load(verb, call, streams).map(Job::OnTree)
+            Verb::Show | Verb::Explain | Verb::Steps => {
+                Err(misuse(Some(verb), "this is no operation"))
             }
-            _ => Err(misuse(Some(verb), "this is no operation")),
+            _ => TreeJob::load(verb, call, streams).map(Job::OnTree),
         }
     }
 
@@ -131,9 +132,9 @@ impl Job {
         }
     }
 
-    /// Where the second implementation finds a fault, if it does.
-    pub fn fault(&self) -> Option<Fault> {
-        match self {
+    /// Where a second reading finds a fault, if it does.
+    pub fn fault(&self) -> Option<Finding> {
+        let fault = match self {
             Job::CheckLanguage(file) => explain::language(file),
             Job::CheckTranslation(file) => explain::translation(file),
             Job::Reduce { pack, limit } => explain::reduce(pack, WORKSPACE_BYTES, *limit),
@@ -141,8 +142,9 @@ impl Job {
             Job::JoinTable { translation, table, limit } => {
                 explain::join_table(translation, table, *limit)
             }
-            Job::OnTree(job) => job.fault(),
-        }
+            Job::OnTree(job) => return job.fault(),
+        };
+        fault.map(Finding::from)
     }
 }
 

@@ -4,10 +4,13 @@
 mod arguments;
 mod explanation;
 mod given;
+mod grammar;
 mod help;
 mod input;
 mod job;
+mod loose;
 mod output;
+mod reading;
 mod steps;
 mod tree_job;
 mod verbs;

@@ -1,12 +1,13 @@
 //! An operation on a tree, or on its text, in a language.
 
 use crate::arguments::{path, Call, Verb, PATH_PLACE};
+use crate::explanation::Finding;
 use crate::given::Given;
 use crate::input::read_file;
 use crate::job::{operand, root, run_limit, tree, TREE_BYTES};
-use crate::{Failure, Streams};
+use crate::{loose, Failure, Streams};
 use algebra::{Refusal, LANGUAGE_BYTES, TABLE_BYTES};
-use reference::explain::{self, Fault};
+use reference::explain;
 
 /// The place of a load table among the operands of a score.
 const TABLE_PLACE: usize = 3;
@@ -24,6 +25,7 @@ pub struct TreeJob {
 enum Operation {
     Check,
     Score { table: Vec<u8> },
+    ScoreLoose { table: Vec<u8> },
     Export { limit: usize },
     Import { limit: usize },
     Block { path: Vec<u8> },
@@ -39,6 +41,7 @@ impl TreeJob {
     pub fn load(verb: Verb, call: &Call, streams: &mut Streams) -> Result<TreeJob, Failure> {
         let mut operation = match verb {
             Verb::Score => Operation::Score { table: vec![] },
+            Verb::ScoreLoose => Operation::ScoreLoose { table: vec![] },
             Verb::Export => Operation::Export { limit: run_limit(call) },
             Verb::Import => Operation::Import { limit: run_limit(call) },
             Verb::Block => Operation::Block { path: path(call.verb, &call.operands[PATH_PLACE])? },
@@ -49,7 +52,7 @@ impl TreeJob {
             Operation::Import { .. } => text(call, streams)?,
             _ => tree(call, streams)?,
         };
-        if let Operation::Score { table } = &mut operation {
+        if let Operation::Score { table } | Operation::ScoreLoose { table } = &mut operation {
             *table = operand(call, TABLE_PLACE, TABLE_BYTES, streams)?;
         }
         Ok(TreeJob { operation, language, root, tree })
@@ -70,6 +73,9 @@ impl TreeJob {
             Operation::Score { table } => {
                 algebra::score(language, *root, tree, table).map(Given::Score)
             }
+            Operation::ScoreLoose { table } => {
+                algebra::score_loose(language, *root, tree, table).map(Given::Scores)
+            }
             Operation::Export { limit } => {
                 algebra::export_to_vec(language, *root, tree, *limit).map(Given::Text)
             }
@@ -82,15 +88,19 @@ impl TreeJob {
         }
     }
 
-    /// Where the second implementation finds a fault, if it does.
-    pub fn fault(&self) -> Option<Fault> {
+    /// Where a second reading finds a fault, if it does.
+    pub fn fault(&self) -> Option<Finding> {
         let TreeJob { operation, language, root, tree } = self;
-        match operation {
+        let fault = match operation {
             Operation::Check => explain::tree(language, *root, tree),
             Operation::Score { table } => explain::score(language, *root, tree, table),
+            Operation::ScoreLoose { table } => {
+                return loose::fault(language, *root, tree, table);
+            }
             Operation::Export { limit } => explain::export(language, *root, tree, *limit),
             Operation::Import { limit } => explain::import(language, *root, tree, *limit),
             Operation::Block { path } => explain::block(language, *root, tree, path),
-        }
+        };
+        fault.map(Finding::from)
     }
 }

@@ -2,7 +2,7 @@
 
 use crate::arguments::{misuse, Call, Sort, Verb};
 use crate::explanation::explanation;
-use crate::given::Given;
+use crate::given::{Figure, Given};
 use crate::job::{operand, root, sort_of, tree, Job};
 use crate::output::write_file;
 use crate::work::work;
@@ -40,7 +40,7 @@ pub fn printed(answer: Result<impl Display, Refusal>, lines: &str) -> Printed {
 }
 
 /// The figure of an answer's first line.
-fn figure(answer: &Result<Given, Refusal>) -> Result<i64, Refusal> {
+fn figure(answer: &Result<Given, Refusal>) -> Result<Figure, Refusal> {
     answer.as_ref().map(Given::figure).map_err(|refusal| *refusal)
 }
 

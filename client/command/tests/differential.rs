@@ -1,7 +1,7 @@
 //! The command on generated cases, in process: its first line, status and result are those of the
 //! library, a refusal leaves the file of `-o` as it was, and both routes of a join are equal.
 
-use algebra::{Block, Refusal, TRANSLATION_BYTES};
+use algebra::{Block, LooseScore, Refusal, TRANSLATION_BYTES};
 use algebra_command::{command, Streams, ACCEPTED, REFUSED};
 use reference::generate::{
     block_case, export_case, import_case, join_table_case, language_file, law_pack, long_run_case,
@@ -372,6 +372,57 @@ fn score() {
         assert_eq!(printed.text().lines().count(), 1, "case {case}");
         let second = reference::score(language, root, tree, table).outcome.number();
         compare_explanation(&folder, case, "score", &operands, &[], answer, second);
+    }
+}
+
+/// The scores of a loose plan, as they are printed.
+#[derive(Clone, Copy)]
+struct Between(LooseScore);
+
+impl Display for Between {
+    fn fmt(&self, formatter: &mut std::fmt::Formatter) -> std::fmt::Result {
+        write!(formatter, "{} to {}", self.0.least, self.0.greatest)
+    }
+}
+
+/// A loose plan made of the XML of a tree: most values are settled, and some plans are not legal.
+fn loosened(random: &mut Random, text: &str) -> Vec<u8> {
+    let mut plan = vec![];
+    for part in text.split('<').skip(1) {
+        let (tag, behind) = part.split_once('>').expect("a tag");
+        if let Some((_, name)) = tag.strip_prefix('x').and_then(|tag| tag.split_once('.')) {
+            plan.push(name.parse().expect("a name"));
+        } else if tag.starts_with('t') {
+            let value: u16 = behind.parse().expect("a value");
+            let other = if random.percent(20) {
+                random.below(2 * usize::from(value) + 2)
+            } else {
+                value.into()
+            };
+            plan.extend(value.min(other as u16).to_be_bytes());
+            plan.extend(value.max(other as u16).to_be_bytes());
+        }
+    }
+    plan
+}
+
+#[test]
+fn score_loose() {
+    let folder = Folder::new("loose");
+    for case in 0..CASES {
+        let random = &mut Random::new(case);
+        let input = score_case(random);
+        let (language, root, table) = (&input.language, input.root, &input.table);
+        let text = algebra::export_to_vec(language, root, &input.tree, usize::MAX);
+        let text = text.map(|text| String::from_utf8(text).expect("text"));
+        let plan = text.map_or(input.tree.clone(), |text| loosened(random, &text));
+        let operands = [File(language), Root(root), File(&plan), File(table)];
+        let answer = algebra::score_loose(language, root, &plan, table).map(Between);
+        let printed = folder.call(random, &["score-loose"], &operands, &[]);
+        printed.compare(case, &answer, |scores| *scores);
+        assert_eq!(printed.text().lines().count(), 1, "case {case}");
+        let number = answer.err().map_or(0, Refusal::number);
+        compare_explanation(&folder, case, "score-loose", &operands, &[], answer, number);
     }
 }
 

@@ -9,6 +9,7 @@ ghost use Rattle.block.specs.Operations.{showBlock};
 ghost use Rattle.block.specs.Parts.{Told};
 ghost use Rattle.score.specs.Operations.{scoreTree};
 ghost use Rattle.loads.specs.Joined.{joinTable};
+ghost use Rattle.loose.specs.Operations.{scoreLoose};
 ghost use Rattle.xml.specs.Operations.{exportTree, importTree};
 use block::show::place;
 use checks::translations::check_translation;
@@ -18,6 +19,7 @@ use fields::outcome::length_of;
 use fields::outcome::number;
 use language::check::check_language;
 use loads::join::join_table;
+use loose::operation::score_loose;
 use reducer::reduce::reduce;
 use runner::run::run;
 use score::score::score;
@@ -114,6 +116,29 @@ pub extern "C" fn algebra_score(
     let scored = score(language, root, tree, table);
     let z = scored.score;
     *points = z;
+    let outcome = scored.outcome;
+    number(outcome)
+}
+
+// Score a loose plan of the root kind; the two ends of its score are put into `least` and `greatest`.
+#[no_mangle]
+pub extern "C" fn algebra_score_loose(
+    language: &[u8],
+    root: u32,
+    tree: &[u8],
+    table: &[u8],
+    least: &mut i64,
+    greatest: &mut i64,
+) -> u32
+    ensures { λ r. ⌜ (r ≡ numberOf (scoreLoose (now (language .entry)) root (now (tree .entry)) (now (table .entry)) .outcome))
+        × (now (least .exit) ≡ scoreLoose (now (language .entry)) root (now (tree .entry)) (now (table .entry)) .least)
+        × (now (greatest .exit) ≡ scoreLoose (now (language .entry)) root (now (tree .entry)) (now (table .entry)) .greatest) ⌝ }
+{
+    let scored = score_loose(language, root, tree, table);
+    let low = scored.least;
+    let high = scored.greatest;
+    *least = low;
+    *greatest = high;
     let outcome = scored.outcome;
     number(outcome)
 }

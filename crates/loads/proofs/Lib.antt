@@ -1,6 +1,5 @@
 pub mod Puts
 pub mod Joins
 pub mod Answering
-pub mod Ring
 pub mod Linear
 pub mod Theorems

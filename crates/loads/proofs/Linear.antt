@@ -14,7 +14,7 @@ use Rattle.reader.specs.Code.{Code, node, token, argument, Codes, nil, cons}
 use Rattle.reader.specs.Typing.{Typed, TypedAll, typed-node, typed-token, typed-argument, typed-nil, typed-cons}
 use Rattle.translation.specs.Running.{Clauses, nth, operand, substitute, substituteAll, run, runAll}
 use Rattle.score.specs.Linear.{Loads, constant, used, form, formAll}
-use Rattle.loads.proofs.Ring.{exchange, times-sum, sum-times, times-times}
+use Rattle.score.proofs.Ring.{exchange, times-sum, sum-times, times-times}
 
 -- The sum of factors times the operands' constants. It goes by the factors, whatever they are of.
 module _ (w : Loads) where

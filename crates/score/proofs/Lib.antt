@@ -5,3 +5,7 @@ pub mod Leaves
 pub mod Terms
 pub mod Walking
 pub mod Answering
+pub mod Ring
+pub mod Weighing
+pub mod Rows
+pub mod Trees

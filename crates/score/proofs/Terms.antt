@@ -27,7 +27,7 @@ use Rattle.emitter.specs.Inner.Runs.{leafAt, leafLength, signLength}
 use Rattle.emitter.proofs.Standing.{stands-head}
 use Rattle.emitter.proofs.Skips.{some-bytes}
 use Rattle.score.specs.Linear.{Loads, constant, used, form, passes}
-use Rattle.score.specs.Inner.Terms.{limit, bytesOf, allBytes, World, TermAsks, KindsAt, NodeAsks, leafForm, formedOf}
+use Rattle.score.specs.Inner.Terms.{limit, bytesOf, allBytes, World, KindsAt, ProductionAt, TermAsks, NodeAsks, leafForm, formedOf}
 use Rattle.score.specs.declared.form.Formed.{Formed}
 use Rattle.score.specs.declared.form.Formed.the-variants.{At}
 
@@ -194,6 +194,14 @@ module _ {s index : List ℕ} {l : Language} (ind : Indexed index s l) (k p : �
         };
       }
 
+-- A production of the language by the index.
+pub production-at : {s index : List ℕ} {fig : List ℤ} {l : Language} {w : Loads} → World s index fig l w → (k p : ℕ) (ks : List ℕ) → k < 32 → p < 256
+    → argumentsOf l k p ≡ some ks → ProductionAt s fig (getD index (productionKey k p) 0) w k p ks
+production-at world k p ks h i e =
+    let at = placed (world .indexed) k p h i ks e in
+    let n = world .sized k p ks h i e in
+    record { there = at .there; size = n .0; few = n .1; kinds = at .kinds; figures-are = world .is k p ks h i e }
+
 -- What `form_at` asks and answers.
 module _ {x : Syntax} {s index : List ℕ} {fig : List ℤ} {b : List ℕ} {k at left : ℕ} {l : Language} {given : List ℕ} {w : Loads} {u : Terms.Code}
     (a : TermAsks x s index fig b k at left l given w u) where
@@ -243,16 +251,13 @@ module _ {x : Syntax} {s index : List ℕ} {fig : List ℤ} {b : List ℕ} {k at
       pub node-asked : NodeAsks x s index fig place b (at + m) (left - 1) l given w k (ns .name) (ns .operands) (ns .kinds)
       node-asked =
           let few : ns .name < 256 = rw same at small in
-          let p = placed (a .world .indexed) k (ns .name) (a .kind) few (ns .kinds) (ns .known) in
+          let p = production-at (a .world) k (ns .name) (ns .kinds) (a .kind) few (ns .known) in
           let d = ns .deep in
           let v = a .levels in
           record {
             world = a .world;
             plain = a .plain;
-            there = rw at-place (p .there);
-            size = rw at-place (p .size);
-            kinds = rw at-place (p .kinds);
-            figures-are = rw at-place (a .world .is k (ns .name) (ns .kinds) (a .kind) few (ns .known));
+            production = rw at-place p;
             typed = ns .typed;
             stands = rw em (ns .stands);
             levels = omega arith;

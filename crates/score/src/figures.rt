@@ -6,6 +6,8 @@ ghost use Prim.Native.Nat.{_+_, _<_, _≤_};
 ghost use lib.ListN.{length};
 ghost use lib.IntN.{pos, natAbs, _+ℤ_, _*ℤ_};
 ghost use Rattle.score.specs.Figures.{signed, figureAt, isFigure, isScore, unsigned};
+ghost use Rattle.score.specs.Inner.Kept.{Small};
+ghost use Rattle.score.specs.Inner.Sums.{weighed, AllNear};
 
 // Two's complement of two bytes.
 fn decode(n: usize) -> i32
@@ -78,4 +80,19 @@ pub fn add_scaled(sum: i64, factor: i32, score: i64) -> i64
     ensures { λ r. ⌜ r ≡ sum +ℤ factor *ℤ score ⌝ }
 {
     sum + wide(factor) * score
+}
+
+// A constant and each factor times its score, added from the last to the first: the one sum of plans, fixed and loose, and of
+// codes. The factors stand in the figures from a position on.
+pub fn weigh(constant: i64, figures: &[i32], from: usize, scores: &[i64]) -> i64
+    requires { ⌜ (natAbs constant ≤ 32768) × (from + length (now scores) ≤ length (now figures)) × (length (now figures) ≡ 1024) × (length (now scores) ≤ 8) × Small (now figures) × AllNear (now scores) ⌝ }
+    ensures { λ r. ⌜ r ≡ constant +ℤ weighed (now (figures .entry)) from (now (scores .entry)) ⌝ }
+{
+    let mut total = constant;
+    let mut i = scores.len();
+    while 0 < i {
+        i -= 1;
+        total = add_scaled(total, figures[from + i], scores[i]);
+    }
+    total
 }

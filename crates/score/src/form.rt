@@ -1,9 +1,9 @@
 // A place of the linear form of a term: of a tree, or of the code of a clause. The term is known to be legal, so it is walked by
 // the index and nothing is tested again but the finished forms.
-use crate::figures::add_scaled;
 use crate::figures::is_figure;
 use crate::figures::is_score;
 use crate::figures::score_of;
+use crate::figures::weigh;
 use crate::figures::wide;
 use emitter::skip::leaf_length;
 use emitter::skip::sign_length;
@@ -25,6 +25,9 @@ ghost use Rattle.emitter.specs.Inner.Runs.{leafAt, leafLength};
 ghost use Rattle.score.specs.Linear as Linear;
 ghost use Rattle.score.specs.Linear.{Loads, constant};
 ghost use Rattle.score.specs.Inner.Terms.{limit, bytesOf, allBytes, TermAsks, NodeAsks, leafForm, formedOf, finishedAt, Near};
+
+// The most arguments that a production has.
+pub const ARGUMENTS: usize = 8;
 
 // A place of a form and where its term ends; or a production's finished form out of the limit.
 pub enum Formed {
@@ -170,31 +173,33 @@ fn form_node(
         → r ≡ formedOf syntax w (node k p ts) place (at + length (allBytes syntax ts))) ⌝ }
     ensures near { λ r. ⌜ Near r ⌝ }
 {
-    let stop = production + 2 + pair_in(language, production);
-    let mut total = constant_at(figures[production + 3], place);
-    let mut q = production + 4;
+    let count = pair_in(language, production) - 2;
+    let mut forms = [0i64; ARGUMENTS];
+    let mut i = 0;
     let mut to = at;
-    while q < stop {
+    while i < count {
         match form_at(
             syntax,
             language,
             index,
             figures,
-            language[q],
+            language[production + 4 + i],
             bytes,
             to,
             place,
             left,
         ) {
             Formed::At(z, e) => {
-                total = add_scaled(total, figures[q], z);
+                forms[i] = z;
                 to = e;
             }
             Formed::Outside => {
                 return Formed::Outside;
             }
         }
-        q += 1;
+        i += 1;
     }
+    let constant = constant_at(figures[production + 3], place);
+    let total = weigh(constant, figures, production + 4, &forms[0..count]);
     finished(syntax, total, to)
 }

@@ -1,5 +1,7 @@
 // Load tables, the linear form of a code, and the score of a tree.
 pub mod figures;
 pub mod form;
+pub mod prepare;
 pub mod score;
 pub mod table;
+pub mod walk;

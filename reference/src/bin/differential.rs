@@ -9,6 +9,8 @@
 mod block;
 #[path = "differential/figures.rs"]
 mod figures;
+#[path = "differential/loose.rs"]
+mod loose;
 #[path = "differential/score.rs"]
 mod score;
 #[path = "differential/xml.rs"]
@@ -18,6 +20,7 @@ use algebra::raw as library;
 use reference::generate::{
     language_file, reduce_case, run_case, translation_file, tree_case, Random, LONG_TREE,
 };
+use reference::laws::Broken;
 use std::fmt::Write as _;
 use std::process::ExitCode;
 use std::time::Instant;
@@ -104,6 +107,12 @@ const OPERATIONS: &[Operation] = &[
         find: score::find_score,
     },
     Operation {
+        name: "score_loose",
+        possible: &[0, 1, 2, 3, 4, 14, 15, 16, 18, 19],
+        label: answer_label,
+        find: loose::find,
+    },
+    Operation {
         name: "join_table",
         possible: &[0, 1, 2, 3, 4, 5, 6, 7, 11, 17, 18],
         label: answer_label,
@@ -132,6 +141,12 @@ const OPERATIONS: &[Operation] = &[
         possible: &[0, 1, 2, 3, 4],
         label: |number| reference::laws::SAID[number].to_string(),
         find: laws::find,
+    },
+    Operation {
+        name: "loose_laws",
+        possible: &[0, 1, 2, 3],
+        label: |number| reference::laws::loose::SAID[number].to_string(),
+        find: loose::find_laws,
     },
 ];
 
@@ -251,7 +266,7 @@ fn compare_reduce(random: &mut Random) -> Comparison {
 mod laws {
     use super::*;
     use reference::generate::law_pack;
-    use reference::laws::{law_of_runs, law_of_sums, Answer, Broken, Operations, Said};
+    use reference::laws::{law_of_runs, law_of_sums, Answer, Operations, Said};
 
     /// The operations of the library, with the least room to reduce.
     const LIBRARY: Operations = Operations { reduce: &reduce, run: &run };
@@ -280,12 +295,16 @@ mod laws {
 
     /// Tests both laws on one pack.
     pub fn find(random: &mut Random) -> Finding {
-        match said(random) {
-            Ok(said) => Finding {
-                reached: said.into_iter().map(|said| said as usize).collect(),
-                long: false,
-                difference: None,
-            },
+        let said = said(random);
+        Finding::of_laws(said.map(|said| said.into_iter().map(|said| said as usize).collect()))
+    }
+}
+
+impl Finding {
+    /// What laws said of a case, by number, or how one was broken.
+    fn of_laws(said: Result<Vec<usize>, Broken>) -> Finding {
+        match said {
+            Ok(reached) => Finding { reached, long: false, difference: None },
             Err(broken) => {
                 let inputs = broken.inputs.into_iter();
                 let inputs = inputs.map(|(name, bytes)| Input::Bytes(bytes).line(name));

@@ -50,6 +50,12 @@ pub fn legal_value(random: &mut Random, class: &Class) -> u16 {
     }
 }
 
+/// A legal value between two legal values of a class.
+pub fn value_between(random: &mut Random, class: &Class, least: u16, greatest: u16) -> u16 {
+    let number = |value: u16| usize::from((value - class.low) / class.step);
+    numbered(class, random.within(number(least)..=number(greatest)))
+}
+
 /// A value at an edge of a class, mostly one past it: at the ends, or off the steps.
 pub fn edge_value(random: &mut Random, class: &Class) -> u16 {
     let (below, above) = (class.low.wrapping_sub(1), class.high.wrapping_add(1));

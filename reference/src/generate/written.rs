@@ -65,8 +65,8 @@ pub fn full_with_steps(random: &mut Random, bytes: usize, steps: usize) -> (Lang
 mod tests {
     use super::*;
     use crate::call::Call;
-    use crate::generate::{block_case, export_case, import_case, join_table_case, score_case};
-    use crate::generate::{reduce_case, run_case, translation_file, tree_case};
+    use crate::generate::{block_case, export_case, import_case, join_table_case, loose_case};
+    use crate::generate::{reduce_case, run_case, score_case, translation_file, tree_case};
     use crate::pack::PACK_LIMIT;
     use crate::translation::TRANSLATION_LIMIT;
 
@@ -79,6 +79,7 @@ mod tests {
             Call::Run(case) => write_steps_within(random, &mut case.translation),
             Call::Reduce(case) => write_steps_within(random, &mut case.pack),
             Call::Score(case) => write_steps(random, 80, &mut case.language),
+            Call::ScoreLoose(case) => write_steps(random, 80, &mut case.language),
             Call::JoinTable(case) => write_steps_within(random, &mut case.translation),
             Call::Export(case) => write_steps(random, 80, &mut case.language),
             Call::Import(case) => write_steps(random, 80, &mut case.language),
@@ -118,12 +119,13 @@ mod tests {
 
     #[test]
     fn written_steps_of_1_change_no_answer() {
-        let makers: [fn(&mut Random) -> Call; 9] = [
+        let makers: [fn(&mut Random) -> Call; 10] = [
             |random| Call::CheckTree(tree_case(random)),
             |random| Call::CheckTranslation(translation_file(random)),
             |random| Call::Run(run_case(random)),
             |random| Call::Reduce(reduce_case(random)),
             |random| Call::Score(score_case(random)),
+            |random| Call::ScoreLoose(loose_case(random)),
             |random| Call::JoinTable(join_table_case(random)),
             |random| Call::Export(export_case(random)),
             |random| Call::Import(import_case(random)),

@@ -1,22 +1,21 @@
 -- What the functions below `score` ask for and answer.
 use Prim.Native.Nat.{ℕ, _<_, _≤_}
 use mathlib.Core.Path.{_≡_}
-use mathlib.Core.Bool.{false}
+use mathlib.Core.Bool.{false, not}
 use mathlib.Core.List.{List, []}
 use mathlib.Core.Option.{some}
 use lib.ListN.{length}
 use lib.IntN.{ℤ}
-use Rattle.fields.specs.Outcome.{Result, _>>=_, checked}
+use Rattle.fields.specs.Outcome.{Result, value, refuseIf, _>>=_, checked}
 use Rattle.fields.specs.declared.outcome.Outcome.{Outcome}
-use Rattle.language.specs.Language.{Language, clashes}
-use Rattle.language.specs.LanguageFile.{entriesOf}
-use Rattle.reader.specs.Code.{Code}
-use Rattle.reader.specs.Syntax.{read, done, tree}
-use Rattle.reader.specs.Operations.{treeOf}
-use Rattle.score.specs.LoadTable.{Table, figureOf}
+use Rattle.fields.specs.declared.outcome.Reason.the-variants.{UnknownRoot}
+use Rattle.language.specs.Language.{Language, clashes, isIn}
+use Rattle.language.specs.LanguageFile.{entriesOf, languageOf}
+use Rattle.reader.specs.Syntax.{read, tree}
+use Rattle.reader.specs.Operations.{treeLevels, wholeTree}
+use Rattle.score.specs.LoadTable.{Table, tableOf}
 use Rattle.score.specs.Operations.{scoreOf, scoreIn}
 use Rattle.score.specs.Inner.Kept.{Kept}
-use Rattle.score.specs.Inner.Terms.{World}
 
 -- The outcome and the score are those of a result.
 pub record Answers (result : Result ℤ) (outcome : Outcome) (score : ℤ) : Type 0 where
@@ -30,12 +29,26 @@ pub record Held (s : List ℕ) (figures : List ℤ) (l : Language) (w : Table) :
   pub short : length s ≤ 1024
   pub kept : Kept figures s w
 
--- The score of a tree by language and table: the last links of the chain of `scoreBytes`.
-unfoldable pub scoreOn : Language → Table → ℕ → List ℕ → Result ℤ
-scoreOn l w root bytes = treeOf l root bytes >>= λ t. scoreOf w t
+-- A language and a table of it.
+pub record Ground : Type 0 where
+  pub language : Language
+  pub table : Table
 
--- The bytes are the legal tree t of a kind, and the figures are those of table w.
-pub record TreeAsks (s index : List ℕ) (figures : List ℤ) (k : ℕ) (bytes : List ℕ) (l : Language) (w : Table) (t : Code) : Type 0 where
-  pub world : World s index figures l (figureOf w)
-  pub kind : k < 32
-  pub reads : read tree l [] 64 k bytes ≡ done t []
+abbrev pub ground : Language → Table → Ground
+ground l w = record { language = l; table = w }
+
+-- Language and table of a score, where the root is in the language: 1 to 4, 18, 14, the first links of the chain of `scoreBytes`.
+unfoldable pub groundOf : List ℕ → ℕ → List ℕ → Result Ground
+groundOf s root t =
+    languageOf s >>= λ l.
+    tableOf l t >>= λ w.
+    refuseIf (not (isIn l root)) UnknownRoot (value (ground l w))
+
+-- What is known where they were accepted.
+pub record Prepared (s : List ℕ) (figures : List ℤ) (root : ℕ) (g : Ground) : Type 0 where
+  pub held : Held s figures (g .language) (g .table)
+  pub kind : root < 32
+
+-- The score of a tree by language and table: the last links of the chain.
+unfoldable pub scoreOn : Language → Table → ℕ → List ℕ → Result ℤ
+scoreOn l w root bytes = wholeTree (read tree l [] treeLevels root bytes) >>= λ t. scoreOf w t

@@ -1,5 +1,5 @@
 -- What the functions that work out a place of a form ask for and give.
-use Prim.Native.Nat.{ℕ, _+_, _-_, _<_, _≤_}
+use Prim.Native.Nat.{ℕ, _+_, _<_, _≤_}
 use mathlib.Core.Path.{_≡_}
 use mathlib.Core.Bool.{Bool, cond}
 use mathlib.Core.List.{List, []}
@@ -44,6 +44,21 @@ pub record World (s index : List ℕ) (figures : List ℤ) (l : Language) (w : L
   pub long : length figures ≡ figuresLength
   pub is : (k p : ℕ) (ks : List ℕ) → k < 32 → p < 256 → argumentsOf l k p ≡ some ks → (i : ℕ) → i ≤ length ks
       → getD figures (getD index (productionKey k p) 0 + 3 + i) (pos 0) ≡ w k p i
+  pub sized : (k p : ℕ) (ks : List ℕ) → k < 32 → p < 256 → argumentsOf l k p ≡ some ks
+      → (pairAt s (getD index (productionKey k p) 0) ≡ length ks + 2) × (length ks ≤ 8)
+
+-- The kinds ks stand in the language from q on.
+pub record KindsAt (s : List ℕ) (q : ℕ) (ks : List ℕ) : Type 0 where
+  pub inside : q + length ks ≤ length s
+  pub is : (i : ℕ) → i < length ks → (getD s (q + i) 0 ≡ getD ks i 0) × (getD ks i 0 < 32)
+
+-- Production p of kind k, with arguments of the kinds ks, has its field before `place` in the language, and its figures there.
+pub record ProductionAt (s : List ℕ) (figures : List ℤ) (place : ℕ) (w : Loads) (k p : ℕ) (ks : List ℕ) : Type 0 where
+  pub there : place + 4 ≤ length s
+  pub size : pairAt s place ≡ length ks + 2
+  pub few : length ks ≤ 8
+  pub kinds : KindsAt s (place + 4) ks
+  pub figures-are : (i : ℕ) → i ≤ length ks → getD figures (place + 3 + i) (pos 0) ≡ w k p i
 
 -- The term u of kind k stands in the input from `at` on, and has no more levels than are left.
 pub record TermAsks (x : Syntax) (s index : List ℕ) (figures : List ℤ) (b : List ℕ) (k at left : ℕ) (l : Language) (given : List ℕ) (w : Loads) (u : Terms.Code) : Type 0 where
@@ -54,20 +69,12 @@ pub record TermAsks (x : Syntax) (s index : List ℕ) (figures : List ℤ) (b : 
   pub stands : Stands b at (bytesOf x u)
   pub levels : levels u ≤ left
 
--- The kinds ks stand in the language from q on.
-pub record KindsAt (s : List ℕ) (q : ℕ) (ks : List ℕ) : Type 0 where
-  pub inside : q + length ks ≤ length s
-  pub is : (i : ℕ) → i < length ks → (getD s (q + i) 0 ≡ getD ks i 0) × (getD ks i 0 < 32)
-
 -- The operands ts of production p of kind k, whose field stands before `place` in the language, stand in the input from `at`
 -- on.
 pub record NodeAsks (x : Syntax) (s index : List ℕ) (figures : List ℤ) (place : ℕ) (b : List ℕ) (at left : ℕ) (l : Language) (given : List ℕ) (w : Loads) (k p : ℕ) (ts : Codes) (ks : List ℕ) : Type 0 where
   pub world : World s index figures l w
   pub plain : x ≡ Tree → given ≡ []
-  pub there : place + 4 ≤ length s
-  pub size : pairAt s place - 2 ≡ length ks
-  pub kinds : KindsAt s (place + 4) ks
-  pub figures-are : (i : ℕ) → i ≤ length ks → getD figures (place + 3 + i) (pos 0) ≡ w k p i
+  pub production : ProductionAt s figures place w k p ks
   pub typed : TypedAll l given ts ks
   pub stands : Stands b at (allBytes x ts)
   pub levels : levelsAll ts ≤ left

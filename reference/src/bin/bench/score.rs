@@ -5,6 +5,7 @@ use crate::measure::{compare, growth};
 use crate::{print_growth, print_line, trees, SIZES};
 use algebra::raw as library;
 use reference::files::{clause, load, mapping, production, translation};
+use reference::generate::{doubled, ScoreCase};
 use std::hint::black_box;
 
 /// The root kind of the trees.
@@ -46,6 +47,38 @@ fn bench_score() {
     print_growth("score", growth);
 }
 
+/// A tree as a loose plan: each value stands twice.
+fn loose_plan(language: &[u8], table: &[u8], tree: Vec<u8>) -> Vec<u8> {
+    let (language, table) = (language.to_vec(), table.to_vec());
+    doubled(&ScoreCase { language, root: ROOT, tree, table })
+}
+
+/// Measures scores of loose plans of three sizes, and how the time for a byte grows.
+fn bench_loose() {
+    let (language, table) = (tree_language(), tree_table());
+    let plans = trees().map(|tree| loose_plan(&language, &table, tree));
+    for ((size, _), plan) in SIZES.iter().zip(&plans) {
+        let expected = reference::score_loose(&language, ROOT, plan, &table);
+        let found = library::score_loose(&language, ROOT, plan, &table);
+        assert_eq!(expected.outcome.number(), 0);
+        let ends = (expected.ends.least, expected.ends.greatest);
+        assert_eq!((found.number, (found.least, found.greatest)), (0, ends));
+        let timing = compare(
+            || library::score_loose(black_box(&language), ROOT, black_box(plan), &table),
+            || reference::score_loose(black_box(&language), ROOT, black_box(plan), &table),
+        );
+        print_line(&format!("score_loose, {size} if settled"), plan.len(), timing);
+    }
+    let [_, small, large] = &plans;
+    let growth = growth(
+        small,
+        large,
+        |plan| library::score_loose(black_box(&language), ROOT, plan, &table),
+        |plan| reference::score_loose(black_box(&language), ROOT, plan, &table),
+    );
+    print_growth("score_loose", growth);
+}
+
 /// The productions of the source that tables are joined onto; with them the source has 1,022 bytes.
 const PRODUCTIONS: u8 = 146;
 
@@ -79,8 +112,9 @@ fn bench_join() {
     print_line(&name, translation.len(), timing);
 }
 
-/// Measures scores and a join.
+/// Measures scores of fixed and loose plans, and a join.
 pub fn bench() {
     bench_score();
+    bench_loose();
     bench_join();
 }

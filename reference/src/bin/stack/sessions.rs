@@ -1,4 +1,4 @@
-//! Cases of operations on one tree: scores, exports, imports of texts, and lookups of blocks; and
+//! Cases of operations on one tree: scores of fixed and loose plans, exports, imports of texts, and lookups of blocks; and
 //! joins of load tables.
 
 use crate::shapes::{Shape, TREE_LEVELS};
@@ -6,9 +6,9 @@ use crate::{random_cases, translation_cases, tree_cases, Case, LONG_CASES, RANDO
 use reference::call::Call;
 use reference::check_translation;
 use reference::generate::{
-    block_case, export_case, import_case, join_table_case, lenient_text, long_tree_case,
-    score_case, unit_table, unit_target_table, BlockCase, ExportCase, ImportCase, JoinTableCase,
-    Random, ScoreCase, TreeCase,
+    block_case, doubled, export_case, import_case, join_table_case, lenient_text, long_tree_case,
+    loose_case, score_case, unit_table, unit_target_table, BlockCase, ExportCase, ImportCase,
+    JoinTableCase, Random, ScoreCase, TreeCase,
 };
 
 /// No joined table is longer.
@@ -21,6 +21,14 @@ fn scored(case: TreeCase) -> Call {
     let TreeCase { language, root, tree } = case;
     let table = unit_table(&language);
     Call::Score(ScoreCase { language, root, tree, table })
+}
+
+/// The score of a tree as a loose plan, by the same table.
+fn scored_loose(case: TreeCase) -> Call {
+    let TreeCase { language, root, tree } = case;
+    let table = unit_table(&language);
+    let case = ScoreCase { language, root, tree, table };
+    Call::ScoreLoose(ScoreCase { tree: doubled(&case), ..case })
 }
 
 /// A join of a table in which every figure is 1, or of none if the translation is refused.
@@ -83,6 +91,12 @@ pub fn cases(seed: u64) -> Vec<Vec<Case>> {
         |random| Call::Score(score_case(random)),
         |random| scored(long_tree_case(random)),
     );
+    let loose = cases_of(
+        seed,
+        |_, case| scored_loose(case),
+        |random| Call::ScoreLoose(loose_case(random)),
+        |random| scored_loose(long_tree_case(random)),
+    );
     let export = cases_of(
         seed,
         |_, case| exported(case),
@@ -101,5 +115,5 @@ pub fn cases(seed: u64) -> Vec<Vec<Case>> {
         |random| Call::Block(block_case(random)),
         |random| whole_block(long_tree_case(random)),
     );
-    vec![score, join_cases(seed), export, import, block]
+    vec![score, loose, join_cases(seed), export, import, block]
 }

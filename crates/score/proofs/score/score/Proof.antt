@@ -1,53 +1,65 @@
-use mathlib.Core.List.{[]}
 use mathlib.Core.Path.{refl}
 use native.Mathlib.Omega.{arith}
-use borrow.Author.Tests.{not-true, not-false}
-use Rattle.checks.proofs.TreeChain.{accepts}
-use Rattle.score.proofs.Answering.{language-refused, rising-entries, zeros-small, table-broken, the-table, table-held, table-scored, root-past}
 use borrow.Author.Needs.{needs}
+use Rattle.score.proofs.Answering.{zeros-small, ground-there, ground-refused, ground-scored}
 use Rattle.score.proofs.score.score.Statement.{statement}
 use Rattle.score.proofs.score.score.Tie as tie
 use Rattle.score.proofs.score.score.Reads as reads
 use Rattle.score.proofs.score.score.Lts as lts
-use Rattle.language.proofs.check.check_language.Reads as check-language-reads
+use Rattle.score.proofs.prepare.prepare.Reads as prepare-reads
 use Rattle.score.proofs.score.refuse.Reads as refuse-reads
 use Rattle.score.proofs.score.score_kind.Reads as score-kind-reads
-use Rattle.score.proofs.table.read_table.Reads as read-table-reads
 
+-- src/score.rt:109:50
+slice-aggregate-prepare : tie.Need-slice-aggregate-prepare
+slice-aggregate-prepare c = search needs
+
+-- src/score.rt:109:9
+prepare-requires : tie.Need-prepare-requires
+prepare-requires c κs = (refl, zeros-small 1024)
+
+-- src/score.rt:110:29
+enum-known-outcome : tie.Need-enum-known-outcome
+enum-known-outcome c = search needs
+
+-- src/score.rt:111:9
+refuse-requires : tie.Need-refuse-requires
+refuse-requires c κs = search needs
+
+-- src/score.rt:111:9
 returns : tie.Need-returns
-returns c = language-refused _ _ _ _ (c .before .before .before .before .check-language .ensures) (c .before .before .outcome .given .1) (c .refuse .ensures)
+returns c = ground-refused _ _ _ _ (c .before .before .before .before .before .prepare .ensures .0) (c .before .before .outcome .given .1) (c .refuse .ensures)
 
-read-table-requires : tie.Need-read-table-requires
-read-table-requires c κs = (rising-entries _ 0 [] [] (accepts _ (c .before .before .before .check-language .ensures) (c .before .enum-told .given .1)), (accepts _ (c .before .before .before .check-language .ensures) (c .before .enum-told .given .1)) .short, refl, zeros-small 1024)
+enum-told : tie.Need-enum-told
+enum-told c = search needs
 
-returns-2 : tie.Need-returns-2
-returns-2 c = table-broken _ _ _ _ (accepts _ (c .before .before .before .before .before .before .before .check-language .ensures) (c .before .before .before .before .before .enum-told .given .1)) (c .before .before .before .read-table .ensures .0 _ ((accepts _ (c .before .before .before .before .before .before .before .check-language .ensures) (c .before .before .before .before .before .enum-told .given .1)) .entries)) (not-true _ (c .before .if1 .taken)) (c .refuse2 .ensures)
+-- src/score.rt:113:26
+slice-aggregate-score-kind : tie.Need-slice-aggregate-score-kind
+slice-aggregate-score-kind c = search needs
 
-returns-3 : tie.Need-returns-3
-returns-3 c = root-past _ _ _ _ (accepts _ (c .before .before .before .before .before .before .before .before .check-language .ensures) (c .before .before .before .before .before .before .enum-told .given .1)) (c .before .before .before .before .read-table .ensures .0 _ ((accepts _ (c .before .before .before .before .before .before .before .before .check-language .ensures) (c .before .before .before .before .before .before .enum-told .given .1)) .entries)) (not-false _ (c .before .before .if1 .left)) (c .before .if2 .taken) (c .refuse3 .ensures)
+-- src/score.rt:113:36
+cast-score-kind : tie.Need-cast-score-kind
+cast-score-kind c = omega (arith, (c .before .before .before .before .prepare .ensures .1 ((ground-there (c .before .before .before .before .before .before .before .before .before .args .language .now) (c .before .before .before .before .before .before .before .before .before .args .root) (c .before .before .before .before .before .before .before .before .before .args .table .now) (c .before .before .before .before .prepare .ensures .0) (c .before .enum-told .given .1)) .0) ((ground-there (c .before .before .before .before .before .before .before .before .before .args .language .now) (c .before .before .before .before .before .before .before .before .before .args .root) (c .before .before .before .before .before .before .before .before .before .args .table .now) (c .before .before .before .before .prepare .ensures .0) (c .before .enum-told .given .1)) .1)) .kind)
 
+-- src/score.rt:113:5
 score-kind-requires : tie.Need-score-kind-requires
-score-kind-requires c κs = (omega arith, ((accepts _ (c .before .before .before .before .before .before .before .before .check-language .ensures) (c .before .before .before .before .before .before .enum-told .given .1)) .language, the-table _ 0 [] _ (accepts _ (c .before .before .before .before .before .before .before .before .check-language .ensures) (c .before .before .before .before .before .before .enum-told .given .1)) (c .before .before .before .before .read-table .ensures .0 _ ((accepts _ (c .before .before .before .before .before .before .before .before .check-language .ensures) (c .before .before .before .before .before .before .enum-told .given .1)) .entries)) (not-false _ (c .before .before .if1 .left)), table-held _ 0 [] _ (accepts _ (c .before .before .before .before .before .before .before .before .check-language .ensures) (c .before .before .before .before .before .before .enum-told .given .1)) (c .before .before .before .before .read-table .ensures .0 _ ((accepts _ (c .before .before .before .before .before .before .before .before .check-language .ensures) (c .before .before .before .before .before .before .enum-told .given .1)) .entries)) (not-false _ (c .before .before .if1 .left)) _ (c .before .before .before .before .read-table .ensures .1)))
+score-kind-requires c κs = ((c .before .before .before .before .prepare .ensures .1 ((ground-there (c .before .before .before .before .before .before .before .before .before .args .language .now) (c .before .before .before .before .before .before .before .before .before .args .root) (c .before .before .before .before .before .before .before .before .before .args .table .now) (c .before .before .before .before .prepare .ensures .0) (c .before .enum-told .given .1)) .0) ((ground-there (c .before .before .before .before .before .before .before .before .before .args .language .now) (c .before .before .before .before .before .before .before .before .before .args .root) (c .before .before .before .before .before .before .before .before .before .args .table .now) (c .before .before .before .before .prepare .ensures .0) (c .before .enum-told .given .1)) .1)) .kind, ((ground-there (c .before .before .before .before .before .before .before .before .before .args .language .now) (c .before .before .before .before .before .before .before .before .before .args .root) (c .before .before .before .before .before .before .before .before .before .args .table .now) (c .before .before .before .before .prepare .ensures .0) (c .before .enum-told .given .1)) .0 .language, (ground-there (c .before .before .before .before .before .before .before .before .before .args .language .now) (c .before .before .before .before .before .before .before .before .before .args .root) (c .before .before .before .before .before .before .before .before .before .args .table .now) (c .before .before .before .before .prepare .ensures .0) (c .before .enum-told .given .1)) .0 .table, (c .before .before .before .before .prepare .ensures .1 ((ground-there (c .before .before .before .before .before .before .before .before .before .args .language .now) (c .before .before .before .before .before .before .before .before .before .args .root) (c .before .before .before .before .before .before .before .before .before .args .table .now) (c .before .before .before .before .prepare .ensures .0) (c .before .enum-told .given .1)) .0) ((ground-there (c .before .before .before .before .before .before .before .before .before .args .language .now) (c .before .before .before .before .before .before .before .before .before .args .root) (c .before .before .before .before .before .before .before .before .before .args .table .now) (c .before .before .before .before .prepare .ensures .0) (c .before .enum-told .given .1)) .1)) .held))
 
-returns-4 : tie.Need-returns-4
-returns-4 c = table-scored _ _ _ _ (accepts _ (c .before .before .before .before .before .before .before .before .before .check-language .ensures) (c .before .before .before .before .before .before .before .enum-told .given .1)) (c .before .before .before .before .before .read-table .ensures .0 _ ((accepts _ (c .before .before .before .before .before .before .before .before .before .check-language .ensures) (c .before .before .before .before .before .before .before .enum-told .given .1)) .entries)) (not-false _ (c .before .before .before .if1 .left)) (c .score-kind .ensures _ _ (table-held _ _ _ _ (accepts _ (c .before .before .before .before .before .before .before .before .before .check-language .ensures) (c .before .before .before .before .before .before .before .enum-told .given .1)) (c .before .before .before .before .before .read-table .ensures .0 _ ((accepts _ (c .before .before .before .before .before .before .before .before .before .check-language .ensures) (c .before .before .before .before .before .before .before .enum-told .given .1)) .entries)) (not-false _ (c .before .before .before .if1 .left)) _ (c .before .before .before .before .before .read-table .ensures .1)))
+-- src/score.rt:104:1
+returns-2 : tie.Need-returns-2
+returns-2 c = ground-scored _ _ _ _ ((ground-there (c .before .before .before .before .before .before .before .before .before .before .args .language .now) (c .before .before .before .before .before .before .before .before .before .before .args .root) (c .before .before .before .before .before .before .before .before .before .before .args .table .now) (c .before .before .before .before .before .prepare .ensures .0) (c .before .before .enum-told .given .1)) .0) ((ground-there (c .before .before .before .before .before .before .before .before .before .before .args .language .now) (c .before .before .before .before .before .before .before .before .before .before .args .root) (c .before .before .before .before .before .before .before .before .before .before .args .table .now) (c .before .before .before .before .before .prepare .ensures .0) (c .before .before .enum-told .given .1)) .1) (c .score-kind .ensures _ _ ((c .before .before .before .before .before .prepare .ensures .1 ((ground-there (c .before .before .before .before .before .before .before .before .before .before .args .language .now) (c .before .before .before .before .before .before .before .before .before .before .args .root) (c .before .before .before .before .before .before .before .before .before .before .args .table .now) (c .before .before .before .before .before .prepare .ensures .0) (c .before .before .enum-told .given .1)) .0) ((ground-there (c .before .before .before .before .before .before .before .before .before .before .args .language .now) (c .before .before .before .before .before .before .before .before .before .before .args .root) (c .before .before .before .before .before .before .before .before .before .before .args .table .now) (c .before .before .before .before .before .prepare .ensures .0) (c .before .before .enum-told .given .1)) .1)) .held))
 
 pub score-spec : {M : Type 1} → statement M
 score-spec =
     tie.close
     (tie.spec
-    (λ c κs. search needs)
-    (λ c. search needs)
-    (λ c κs. search needs)
+    slice-aggregate-prepare
+    prepare-requires
+    enum-known-outcome
+    refuse-requires
     returns
-    (λ c. search needs)
-    (λ c. search needs)
-    read-table-requires
-    (λ c κs. search needs)
-    returns-2
-    (λ c κs. search needs)
-    returns-3
-    (λ c. search needs)
-    (λ c. search needs)
+    enum-told
+    slice-aggregate-score-kind
+    cast-score-kind
     score-kind-requires
-    returns-4)
+    returns-2)

@@ -1,0 +1,5 @@
+pub mod Plans
+pub mod Ends
+pub mod Operations
+pub mod Laws
+pub mod Inner

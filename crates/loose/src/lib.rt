@@ -1,0 +1,3 @@
+// The score of a loose plan.
+pub mod ends;
+pub mod operation;
