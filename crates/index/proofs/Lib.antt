@@ -1,0 +1,5 @@
+pub mod Lying
+pub mod Rows
+pub mod Shapes
+pub mod Pairs
+pub mod Walking

@@ -1,0 +1,102 @@
+// The operation that builds the index of a tree, and the test of an index that is handed in.
+use crate::walk::Marked;
+use crate::walk::mark_at;
+use checks::trees::check_indexed;
+use fields::outcome::Answer;
+use fields::outcome::Outcome;
+use fields::outcome::Reason;
+use fields::outcome::accept;
+use fields::outcome::refuse;
+use reader::index::INDEX;
+ghost use mathlib.Core.Path.{_≡_};
+ghost use Prim.Native.Nat.{_+_, _≤_};
+ghost use lib.ListN.{length};
+ghost use Rattle.fields.specs.Lists.{sameNumbers};
+ghost use Rattle.fields.specs.Inner.Writing.{spliced};
+ghost use Rattle.fields.specs.Outcome.{written, outputAfter};
+ghost use Rattle.language.specs.Language.{Language};
+ghost use Rattle.reader.specs.Code.{Code};
+ghost use Rattle.translation.specs.Operations.{fitted};
+ghost use Rattle.index.specs.Spans.{spans, entries, indexOf};
+ghost use Rattle.index.specs.Operations.{longest, indexTree};
+ghost use Rattle.index.specs.Inner.Lying.{There};
+
+// The most bytes of a tree that has an index.
+pub const LONGEST: usize = 65535;
+
+// Writes the index of the legal tree of a kind, whose start is counted as `base`, where there is room for it, and gives its
+// length.
+pub fn write_index(
+    language: &[u8],
+    places: &[u16],
+    kind: u8,
+    tree: &[u8],
+    base: usize,
+    out: &mut [u8],
+) -> usize
+    requires { ⌜ (base + length (now tree) ≤ longest) × ((l : Language) × (t : Code) × There (now places) (now language) (now tree) 0 kind l t) ⌝ }
+    ensures { λ r. ⌜ ((l : Language) (t : Code) → There (now (places .entry)) (now (language .entry)) (now (tree .entry)) 0 kind l t
+        → (r ≡ length (entries (spans base t))) × (r ≤ length (now (out .entry)) → now (out .exit) ≡ spliced (now (out .entry)) 0 (entries (spans base t)))) ⌝ }
+{
+    match mark_at(language, places, kind, tree, 0, base, false, &[], out, 0) {
+        Marked::To(e, m) => m,
+        Marked::Differs => 0,
+    }
+}
+
+// Whether an index is the own one of the legal tree of a kind.
+pub fn is_own(language: &[u8], places: &[u16], kind: u8, tree: &[u8], index: &[u8]) -> bool
+    requires { ⌜ (length (now tree) ≤ longest) × ((l : Language) × (t : Code) × There (now places) (now language) (now tree) 0 kind l t) ⌝ }
+    ensures { λ r. ⌜ ((l : Language) (t : Code) → There (now (places .entry)) (now (language .entry)) (now (tree .entry)) 0 kind l t
+        → r ≡ sameNumbers (now (index .entry)) (indexOf t)) ⌝ }
+{
+    let mut nowhere = [0u8; 1];
+    match mark_at(
+        language,
+        places,
+        kind,
+        tree,
+        0,
+        0,
+        true,
+        index,
+        &mut nowhere,
+        0,
+    ) {
+        Marked::To(e, m) => m == index.len(),
+        Marked::Differs => false,
+    }
+}
+
+// The index of a legal tree: 17 where it is longer than the output.
+fn index_legal(language: &[u8], places: &[u16], kind: u8, tree: &[u8], output: &mut [u8]) -> Answer
+    requires { ⌜ (length (now tree) ≤ longest) × ((l : Language) × (t : Code) × There (now places) (now language) (now tree) 0 kind l t) ⌝ }
+    ensures { λ r. ⌜ ((l : Language) (t : Code) → There (now (places .entry)) (now (language .entry)) (now (tree .entry)) 0 kind l t
+        → (r .outcome ≡ written (fitted (length (now (output .entry))) (indexOf t)))
+        × (now (output .exit) ≡ outputAfter (now (output .entry)) (fitted (length (now (output .entry))) (indexOf t)))) ⌝ }
+{
+    let mut nowhere = [0u8; 1];
+    let length = write_index(language, places, kind, tree, 0, &mut nowhere);
+    if output.len() < length {
+        return refuse(Reason::OutputTooShort);
+    }
+    write_index(language, places, kind, tree, 0, output);
+    accept(length)
+}
+
+// Build the index of a tree: 1 to 4 for the language, 14 to 16 for the tree, 22 where it is too long, 17.
+pub fn index(language: &[u8], root: u32, tree: &[u8], output: &mut [u8]) -> Answer
+    ensures { λ r. ⌜ (r .outcome ≡ indexTree (now (language .entry)) root (now (tree .entry)) (now (output .entry)) .outcome)
+        × (now (output .exit) ≡ indexTree (now (language .entry)) root (now (tree .entry)) (now (output .entry)) .output) ⌝ }
+{
+    let mut places = [0u16; INDEX];
+    let answer = check_indexed(language, root, tree, &mut places);
+    let outcome = answer.outcome;
+    if let Outcome::Refused(reason) = outcome {
+        return refuse(reason);
+    }
+    if LONGEST < tree.len() {
+        return refuse(Reason::NotIndexed);
+    }
+    index_legal(language, &places, root as u8, tree, output)
+}
