@@ -3,3 +3,5 @@ pub mod Rows
 pub mod Shapes
 pub mod Pairs
 pub mod Walking
+pub mod Checking
+pub mod Building

@@ -1,3 +1,4 @@
+use Rattle.index.proofs.Building.{legal-short, legal-put}
 use borrow.Author.Needs.{needs}
 use Rattle.index.proofs.build.index_legal.Statement.{statement}
 use Rattle.index.proofs.build.index_legal.Tie as tie
@@ -21,7 +22,7 @@ refuse-requires c κs = search needs
 
 -- src/build.rt:81:9
 returns : tie.Need-returns
-returns c = ?
+returns c = λ l t h. legal-short t _ _ (c .before .before .before .write-index .ensures l t h .0) (c .before .if1 .taken) _ (c .refuse .ensures)
 
 -- src/build.rt:83:5
 write-index-requires-2 : tie.Need-write-index-requires-2
@@ -37,7 +38,7 @@ same-length c = search needs
 
 -- src/build.rt:72:1
 returns-2 : tie.Need-returns-2
-returns-2 c = ?
+returns-2 c = λ l t h. legal-put t _ _ (c .before .before .before .before .before .before .before .write-index .ensures l t h .0) (c .before .before .before .before .before .if1 .left) _ _ (c .before .before .before .write-index2 .ensures l t h) _ (c .accept .ensures)
 
 pub index-legal-spec : {M : Type 1} → statement M
 index-legal-spec =

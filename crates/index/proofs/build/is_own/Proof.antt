@@ -1,3 +1,4 @@
+use Rattle.index.proofs.Building.{own-compared, own-unlike}
 use borrow.Author.Needs.{needs}
 use Rattle.index.proofs.build.is_own.Statement.{statement}
 use Rattle.index.proofs.build.is_own.Tie as tie
@@ -23,11 +24,11 @@ enum-told c = search needs
 
 -- src/build.rt:48:1
 returns : tie.Need-returns
-returns c = ?
+returns c = λ l t h. own-compared _ _ _ _ t _ (c .before .before .before .before .mark-at .ensures l t h) _ _ (c .before .e .given .1)
 
 -- src/build.rt:48:1
 returns-2 : tie.Need-returns-2
-returns-2 c = ?
+returns-2 c = λ l t h. own-unlike _ _ _ _ t _ (c .before .before .before .mark-at .ensures l t h) (c .enum-told .given .1)
 
 pub is-own-spec : {M : Type 1} → statement M
 is-own-spec =

@@ -1,3 +1,4 @@
+use Rattle.index.proofs.Building.{index-written, not-compared}
 use borrow.Author.Needs.{needs}
 use Rattle.index.proofs.build.write_index.Statement.{statement}
 use Rattle.index.proofs.build.write_index.Tie as tie
@@ -27,7 +28,7 @@ same-length c = search needs
 
 -- src/build.rt:29:1
 returns : tie.Need-returns
-returns c = ?
+returns c = λ l t h. index-written _ _ _ _ _ t _ (c .before .before .before .before .before .mark-at .ensures l t h) _ _ (c .before .e .given .1)
 
 -- src/build.rt:29:1
 same-length-2 : tie.Need-same-length-2
@@ -35,7 +36,7 @@ same-length-2 c = search needs
 
 -- src/build.rt:29:1
 returns-2 : tie.Need-returns-2
-returns-2 c = ?
+returns-2 c = λ l t h. not-compared _ _ _ _ _ t _ (c .before .before .before .before .mark-at .ensures l t h) (c .enum-told .given .1)
 
 pub write-index-spec : {M : Type 1} → statement M
 write-index-spec =
