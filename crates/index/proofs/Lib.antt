@@ -5,3 +5,5 @@ pub mod Pairs
 pub mod Walking
 pub mod Checking
 pub mod Building
+pub mod Starts
+pub mod Owning

@@ -5,8 +5,10 @@ use mathlib.Core.List.{List}
 use lib.ListN.{length}
 use lib.Dec.{ltb}
 use Rattle.fields.specs.Lists.{sameNumbers}
-use Rattle.fields.specs.Outcome.{Result, value, refuseIf, _>>=_, written, outputAfter}
+use Rattle.fields.specs.Outcome.{Result, value, refuseIf, _>>=_, checked, written, outputAfter}
+use Rattle.fields.specs.declared.outcome.Outcome.{Outcome}
 use Rattle.fields.specs.declared.outcome.Reason.the-variants.{NotIndexed}
+use Rattle.language.specs.Language.{Language}
 use Rattle.language.specs.LanguageFile.{languageOf}
 use Rattle.reader.specs.Code.{Code}
 use Rattle.reader.specs.Operations.{treeOf}
@@ -21,9 +23,16 @@ longest = 65535
 abbrev pub isLong : List ℕ → Bool
 isLong bytes = ltb longest (length bytes)
 
--- 22 where the bytes of the tree are too many, or where the index is not the tree's own.
-abbrev pub withIndex : (bytes index : List ℕ) → Code → Result Code
-withIndex bytes index t = refuseIf (isLong bytes || not (sameNumbers index (indexOf t))) NotIndexed (value t)
+-- The legal tree of kind root that the bytes are, where the index is its own: 14 to 16, then 22 where the bytes are too many
+-- or the index is another.
+unfoldable pub indexedTree : Language → (root : ℕ) (bytes index : List ℕ) → Result Code
+indexedTree l root bytes index =
+    treeOf l root bytes >>= λ t.
+    refuseIf (isLong bytes || not (sameNumbers index (indexOf t))) NotIndexed (value t)
+
+-- The check of a tree and its index: 1 to 4 for the language, 14 to 16, 22.
+unfoldable pub checkIndexed : (language : List ℕ) (root : ℕ) (bytes index : List ℕ) → Outcome
+checkIndexed language root bytes index = checked (languageOf language >>= λ l. indexedTree l root bytes index)
 
 -- Build the index: 1 to 4 and 14 to 16 as for the check of a tree, 22 for a tree that is too long, 17.
 unfoldable pub indexBytes : (language : List ℕ) (root : ℕ) (bytes : List ℕ) (room : ℕ) → Result (List ℕ)

@@ -9,16 +9,20 @@ use fields::outcome::accept;
 use fields::outcome::refuse;
 use reader::index::INDEX;
 ghost use mathlib.Core.Path.{_≡_};
-ghost use Prim.Native.Nat.{_+_, _≤_};
-ghost use lib.ListN.{length};
+ghost use mathlib.Core.Option.{some};
+ghost use Prim.Native.Nat.{ℕ, _+_, _≤_};
+ghost use lib.ListN.{length, getD};
 ghost use Rattle.fields.specs.Lists.{sameNumbers};
 ghost use Rattle.fields.specs.Inner.Writing.{spliced};
 ghost use Rattle.fields.specs.Outcome.{written, outputAfter};
+ghost use Rattle.fields.specs.declared.outcome.Outcome.the-variants.{Accepted};
 ghost use Rattle.language.specs.Language.{Language};
+ghost use Rattle.language.specs.LanguageFile.{entriesOf};
 ghost use Rattle.reader.specs.Code.{Code};
+ghost use Rattle.reader.specs.Inner.Index.{Indexed, indexLength};
 ghost use Rattle.translation.specs.Operations.{fitted};
 ghost use Rattle.index.specs.Spans.{spans, entries, indexOf};
-ghost use Rattle.index.specs.Operations.{longest, indexTree};
+ghost use Rattle.index.specs.Operations.{longest, indexTree, checkIndexed};
 ghost use Rattle.index.specs.Inner.Lying.{There};
 
 // The most bytes of a tree that has an index.
@@ -99,4 +103,26 @@ pub fn index(language: &[u8], root: u32, tree: &[u8], output: &mut [u8]) -> Answ
         return refuse(Reason::NotIndexed);
     }
     index_legal(language, &places, root as u8, tree, output)
+}
+
+// Check a tree and the index that stands beside it: 1 to 4 for the language, 14 to 16 for the tree, 22 where it is too long
+// or the index is not its own. Where they are accepted, the language's index was built in an index that was all zero.
+pub fn check_own(language: &[u8], root: u32, tree: &[u8], index: &[u8], places: &mut [u16]) -> Answer
+    requires { ⌜ (length (now places) ≡ indexLength) × ((j : ℕ) → getD (now places) j 0 ≡ 0) ⌝ }
+    ensures { λ r. ⌜ (r .outcome ≡ checkIndexed (now (language .entry)) root (now (tree .entry)) (now (index .entry)))
+        × ((n : ℕ) (l : Language) → r .outcome ≡ Accepted n → entriesOf (now (language .entry)) ≡ some l
+        → Indexed (now (places .exit)) (now (language .entry)) l) ⌝ }
+{
+    let answer = check_indexed(language, root, tree, places);
+    let outcome = answer.outcome;
+    if let Outcome::Refused(reason) = outcome {
+        return refuse(reason);
+    }
+    if LONGEST < tree.len() {
+        return refuse(Reason::NotIndexed);
+    }
+    if !is_own(language, places, root as u8, tree, index) {
+        return refuse(Reason::NotIndexed);
+    }
+    accept(0)
 }

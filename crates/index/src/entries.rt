@@ -1,13 +1,16 @@
 // The entries of an index, four bytes each: a start and a length.
+use fields::bytes::pair_at;
 use fields::bytes::pair_in;
 ghost use mathlib.Core.Path.{_≡_};
 ghost use mathlib.Core.Bool.{true, false};
+ghost use mathlib.Core.List.{List};
 ghost use Prim.Native.Nat.{_+_, _<_, _≤_};
 ghost use lib.ListN.{length};
 ghost use Rattle.fields.specs.Fields.{twoBytes};
 ghost use Rattle.fields.specs.Inner.Writing.{spliced};
-ghost use Rattle.index.specs.Spans.{span, entry};
+ghost use Rattle.index.specs.Spans.{Span, span, entry, entries};
 ghost use Rattle.index.specs.Inner.Marking.{Has, Marks};
+ghost use Rattle.index.specs.Inner.Starts.{Splits};
 
 // How many bytes an entry has.
 pub const ENTRY: usize = 4;
@@ -64,4 +67,19 @@ pub fn mark(
     }
     put_entry(start, size, out, n);
     true
+}
+
+// Where in an index, from an entry on, the first entry stands whose start is not before a position.
+pub fn entry_from(index: &[u8], entry: usize, position: usize) -> usize
+    requires { ⌜ entry ≤ length (now index) ⌝ }
+    ensures { λ r. ⌜ ((front back : List Span) → Splits (now (index .entry)) entry position front back → r ≡ entry + length (entries front)) ⌝ }
+{
+    let mut p = entry;
+    while p < index.len() {
+        if position <= pair_at(index, p) {
+            return p;
+        }
+        p += ENTRY;
+    }
+    p
 }

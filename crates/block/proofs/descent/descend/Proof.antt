@@ -1,37 +1,79 @@
-use Rattle.block.proofs.Paths.{Reached, path-done, path-stops, path-next}
-use Prim.Native.Nat.{_-_}
-use mathlib.Core.Path.{refl}
-use lib.ListN.{length}
-use Rattle.language.specs.Language.{Language}
-use Rattle.reader.specs.Code.{Code}
-use Rattle.block.specs.Inner.Lying.{There}
-use borrow.Author.Needs.{needs}
 use Rattle.block.proofs.descent.descend.Statement.{statement}
 use Rattle.block.proofs.descent.descend.Tie as tie
 use Rattle.block.proofs.descent.descend.Reads as reads
 use Rattle.block.proofs.descent.descend.Lts as lts
 use Rattle.block.proofs.descent.argument.Reads as argument-reads
+use Rattle.block.proofs.descent.in_set.Reads as in-set-reads
 
 abbrev Inv-loop : tie.InvT-loop
-Inv-loop language index kind tree path at₀ of₀ i₀ at of i = (l : Language) (t : Code) → There index language tree 0 kind l t → Reached index language tree path kind at of i l t
+Inv-loop language places kind tree index path seen at₀ of₀ p₀ i₀ at of p i = ?
 
 abbrev μ-loop : tie.MeasureT-loop
-μ-loop language index kind tree path at₀ of₀ i₀ at of i = length path - i
+μ-loop language places kind tree index path seen at₀ of₀ p₀ i₀ at of p i = ?
 
+-- src/descent.rt:117:5
 loop-holds : tie.Need-loop-holds Inv-loop μ-loop
-loop-holds c = λ l t h. record { subtree = t; there = h; same = refl }
+loop-holds c = ?
 
-argument-requires : tie.Need-argument-requires Inv-loop μ-loop
-argument-requires c κs = let p = c .before .before .before .before .before .before .before .pre in let w = c .before .before .loop .inv (p .0) (p .1) (p .2) in (p .0, w .subtree, w .there)
+-- src/descent.rt:118:13
+in-set-requires : tie.Need-in-set-requires Inv-loop μ-loop
+in-set-requires c κs = ?
 
+-- src/descent.rt:119:13
 returns : tie.Need-returns Inv-loop μ-loop
-returns c = λ l t h. let w = c .before .before .before .before .before .loop .inv l t h in path-stops _ _ _ _ _ _ _ _ l t w (c .before .before .before .before .loop-test .taken) _ (c .before .before .argument .ensures l _ (w .there)) (c .enum-told .given .1)
+returns c = ?
 
-loop-again : tie.Need-loop-again Inv-loop μ-loop
-loop-again c = λ l t h. let w = c .before .before .before .before .before .before .loop .inv l t h in path-next _ _ _ _ _ _ _ _ l t w (c .before .before .before .before .before .loop-test .taken) _ (c .before .before .before .argument .ensures l _ (w .there)) _ _ (c .before .start .given .1)
+-- src/descent.rt:121:66
+shared-slice-read-argument : tie.Need-shared-slice-read-argument Inv-loop μ-loop
+shared-slice-read-argument c = ?
 
+-- src/descent.rt:121:15
+argument-requires : tie.Need-argument-requires Inv-loop μ-loop
+argument-requires c κs = ?
+
+-- src/descent.rt:122:22
+enum-known-start : tie.Need-enum-known-start Inv-loop μ-loop
+enum-known-start c = ?
+
+-- src/descent.rt:128:17
+enum-told : tie.Need-enum-told Inv-loop μ-loop
+enum-told c = ?
+
+-- src/descent.rt:128:17
 returns-2 : tie.Need-returns-2 Inv-loop μ-loop
-returns-2 c = λ l t h. path-done _ _ _ _ _ _ _ _ l t (c .before .loop .inv l t h) (c .loop-test .left)
+returns-2 c = ?
+
+-- src/descent.rt:131:17
+enum-told-2 : tie.Need-enum-told-2 Inv-loop μ-loop
+enum-told-2 c = ?
+
+-- src/descent.rt:131:17
+returns-3 : tie.Need-returns-3 Inv-loop μ-loop
+returns-3 c = ?
+
+-- src/descent.rt:134:9
+add-i : tie.Need-add-i Inv-loop μ-loop
+add-i c = ?
+
+-- src/descent.rt:117:5
+loop-less : tie.Need-loop-less Inv-loop μ-loop
+loop-less c = ?
+
+-- src/descent.rt:117:5
+loop-again : tie.Need-loop-again Inv-loop μ-loop
+loop-again c = ?
+
+-- src/descent.rt:136:9
+in-set-requires-2 : tie.Need-in-set-requires-2 Inv-loop μ-loop
+in-set-requires-2 c κs = ?
+
+-- src/descent.rt:137:9
+returns-4 : tie.Need-returns-4 Inv-loop μ-loop
+returns-4 c = ?
+
+-- src/descent.rt:100:1
+returns-5 : tie.Need-returns-5 Inv-loop μ-loop
+returns-5 c = ?
 
 pub descend-spec : {M : Type 1} → statement M
 descend-spec =
@@ -40,12 +82,18 @@ descend-spec =
     Inv-loop
     μ-loop
     loop-holds
-    (λ c. search needs)
-    argument-requires
-    (λ c. search needs)
-    (λ c. search needs)
+    in-set-requires
     returns
-    (λ c. search needs)
-    (λ c. search needs)
+    shared-slice-read-argument
+    argument-requires
+    enum-known-start
+    enum-told
+    returns-2
+    enum-told-2
+    returns-3
+    add-i
+    loop-less
     loop-again
-    returns-2)
+    in-set-requires-2
+    returns-4
+    returns-5)
