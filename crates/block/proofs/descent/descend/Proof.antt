@@ -1,3 +1,13 @@
+use Prim.Native.Nat.{ℕ, _-_}
+use mathlib.Core.Path.{refl}
+use mathlib.Core.Bool.{Bool}
+use lib.ListN.{length}
+use borrow.Author.Needs.{needs}
+use borrow.Author.Tests.{not-true, not-false}
+use Rattle.language.specs.Language.{Language}
+use Rattle.reader.specs.Code.{Code}
+use Rattle.block.specs.Inner.Descent.{inSet, SetOf, Along}
+use Rattle.block.proofs.Paths.{Going, along-kind, path-hidden, path-done, path-stops, path-next}
 use Rattle.block.proofs.descent.descend.Statement.{statement}
 use Rattle.block.proofs.descent.descend.Tie as tie
 use Rattle.block.proofs.descent.descend.Reads as reads
@@ -6,74 +16,75 @@ use Rattle.block.proofs.descent.argument.Reads as argument-reads
 use Rattle.block.proofs.descent.in_set.Reads as in-set-reads
 
 abbrev Inv-loop : tie.InvT-loop
-Inv-loop language places kind tree index path seen at₀ of₀ p₀ i₀ at of p i = ?
+Inv-loop language places kind tree index path seen at₀ of₀ p₀ i₀ at of p i =
+    (l : Language) (t : Code) (sees : ℕ → Bool) → Along places language tree index 0 kind 0 l t → SetOf seen sees → Going places language tree index path kind at of p i l t sees
 
 abbrev μ-loop : tie.MeasureT-loop
-μ-loop language places kind tree index path seen at₀ of₀ p₀ i₀ at of p i = ?
+μ-loop language places kind tree index path seen at₀ of₀ p₀ i₀ at of p i = length path - i
 
 -- src/descent.rt:117:5
 loop-holds : tie.Need-loop-holds Inv-loop μ-loop
-loop-holds c = ?
+loop-holds c = λ l t sees h y. record { subtree = t; along = h; same = refl }
 
 -- src/descent.rt:118:13
 in-set-requires : tie.Need-in-set-requires Inv-loop μ-loop
-in-set-requires c κs = ?
+in-set-requires c κs = along-kind ((c .before .loop .inv (c .before .before .before .before .before .before .before .pre .0) (c .before .before .before .before .before .before .before .pre .1) (inSet (c .before .before .before .before .before .before .before .args .seen)) (c .before .before .before .before .before .before .before .pre .2) (λ k q. refl)) .along)
 
 -- src/descent.rt:119:13
 returns : tie.Need-returns Inv-loop μ-loop
-returns c = ?
+returns c = λ l t sees h y. path-hidden _ _ _ _ _ _ _ _ _ _ _ l t sees (c .before .before .before .loop .inv l t sees h y) y _ (c .before .in-set .ensures) (not-true _ (c .if1 .taken))
 
 -- src/descent.rt:121:66
 shared-slice-read-argument : tie.Need-shared-slice-read-argument Inv-loop μ-loop
-shared-slice-read-argument c = ?
+shared-slice-read-argument c = search needs
 
 -- src/descent.rt:121:15
 argument-requires : tie.Need-argument-requires Inv-loop μ-loop
-argument-requires c κs = ?
+argument-requires c κs = (c .before .before .before .before .before .before .before .before .before .before .pre .0, (c .before .before .before .before .loop .inv (c .before .before .before .before .before .before .before .before .before .before .pre .0) (c .before .before .before .before .before .before .before .before .before .before .pre .1) (inSet (c .before .before .before .before .before .before .before .before .before .before .args .seen)) (c .before .before .before .before .before .before .before .before .before .before .pre .2) (λ k q. refl)) .subtree, (c .before .before .before .before .loop .inv (c .before .before .before .before .before .before .before .before .before .before .pre .0) (c .before .before .before .before .before .before .before .before .before .before .pre .1) (inSet (c .before .before .before .before .before .before .before .before .before .before .args .seen)) (c .before .before .before .before .before .before .before .before .before .before .pre .2) (λ k q. refl)) .along)
 
 -- src/descent.rt:122:22
 enum-known-start : tie.Need-enum-known-start Inv-loop μ-loop
-enum-known-start c = ?
+enum-known-start c = search needs
 
 -- src/descent.rt:128:17
 enum-told : tie.Need-enum-told Inv-loop μ-loop
-enum-told c = ?
+enum-told c = search needs
 
 -- src/descent.rt:128:17
 returns-2 : tie.Need-returns-2 Inv-loop μ-loop
-returns-2 c = ?
+returns-2 c = λ l t sees h y. let w = c .before .before .before .before .before .before .before .loop .inv l t sees h y in path-stops _ _ _ _ _ _ _ _ _ _ _ l t sees w y _ (c .before .before .before .before .before .in-set .ensures) (not-false _ (c .before .before .before .before .if1 .left)) (c .before .before .before .before .before .before .loop-test .taken) _ (c .before .before .argument .ensures l _ (w .along)) (c .enum-told .given .1)
 
 -- src/descent.rt:131:17
 enum-told-2 : tie.Need-enum-told-2 Inv-loop μ-loop
-enum-told-2 c = ?
+enum-told-2 c = search needs
 
 -- src/descent.rt:131:17
 returns-3 : tie.Need-returns-3 Inv-loop μ-loop
-returns-3 c = ?
+returns-3 c = λ l t sees h y. let w = c .before .before .before .before .before .before .before .loop .inv l t sees h y in absurd (c .before .before .argument .ensures l _ (w .along) .seen (c .enum-told2 .given .1))
 
 -- src/descent.rt:134:9
 add-i : tie.Need-add-i Inv-loop μ-loop
-add-i c = ?
+add-i c = search needs
 
 -- src/descent.rt:117:5
 loop-less : tie.Need-loop-less Inv-loop μ-loop
-loop-less c = ?
+loop-less c = search needs
 
 -- src/descent.rt:117:5
 loop-again : tie.Need-loop-again Inv-loop μ-loop
-loop-again c = ?
+loop-again c = λ l t sees h y. let w = c .before .before .before .before .before .before .before .before .loop .inv l t sees h y in path-next _ _ _ _ _ _ _ _ _ _ _ l t sees w y _ (c .before .before .before .before .before .before .in-set .ensures) (not-false _ (c .before .before .before .before .before .if1 .left)) (c .before .before .before .before .before .before .before .loop-test .taken) _ (c .before .before .before .argument .ensures l _ (w .along)) _ _ _ (c .before .start .given .1)
 
 -- src/descent.rt:136:9
 in-set-requires-2 : tie.Need-in-set-requires-2 Inv-loop μ-loop
-in-set-requires-2 c κs = ?
+in-set-requires-2 c κs = along-kind ((c .before .loop .inv (c .before .before .before .before .before .before .before .pre .0) (c .before .before .before .before .before .before .before .pre .1) (inSet (c .before .before .before .before .before .before .before .args .seen)) (c .before .before .before .before .before .before .before .pre .2) (λ k q. refl)) .along)
 
 -- src/descent.rt:137:9
 returns-4 : tie.Need-returns-4 Inv-loop μ-loop
-returns-4 c = ?
+returns-4 c = λ l t sees h y. path-hidden _ _ _ _ _ _ _ _ _ _ _ l t sees (c .before .before .before .loop .inv l t sees h y) y _ (c .before .in-set2 .ensures) (not-true _ (c .if2 .taken))
 
 -- src/descent.rt:100:1
 returns-5 : tie.Need-returns-5 Inv-loop μ-loop
-returns-5 c = ?
+returns-5 c = λ l t sees h y. path-done _ _ _ _ _ _ _ _ _ _ _ l t sees (c .before .before .before .loop .inv l t sees h y) y _ (c .before .in-set2 .ensures) (not-false _ (c .if2 .left)) (c .before .before .loop-test .left)
 
 pub descend-spec : {M : Type 1} → statement M
 descend-spec =

@@ -1,0 +1,62 @@
+use borrow.Author.Needs.{needs}
+use Rattle.block.proofs.show.place.Statement.{statement}
+use Rattle.block.proofs.show.place.Tie as tie
+use Rattle.block.proofs.show.place.Reads as reads
+use Rattle.block.proofs.show.place.Lts as lts
+use Rattle.block.proofs.show.nothing.Reads as nothing-reads
+use Rattle.block.proofs.show.place_in.Reads as place-in-reads
+use Rattle.index.proofs.build.check_own.Reads as check-own-reads
+
+-- src/show.rt:72:57
+slice-aggregate-check-own : tie.Need-slice-aggregate-check-own
+slice-aggregate-check-own c = search needs
+
+-- src/show.rt:72:9
+check-own-requires : tie.Need-check-own-requires
+check-own-requires c κs = ?
+
+-- src/show.rt:74:29
+enum-known-outcome : tie.Need-enum-known-outcome
+enum-known-outcome c = search needs
+
+-- src/show.rt:75:9
+nothing-requires : tie.Need-nothing-requires
+nothing-requires c κs = search needs
+
+-- src/show.rt:75:9
+returns : tie.Need-returns
+returns c = ?
+
+enum-told : tie.Need-enum-told
+enum-told c = search needs
+
+-- src/show.rt:77:24
+slice-aggregate-place-in : tie.Need-slice-aggregate-place-in
+slice-aggregate-place-in c = search needs
+
+-- src/show.rt:77:33
+cast-place-in : tie.Need-cast-place-in
+cast-place-in c = ?
+
+-- src/show.rt:77:5
+place-in-requires : tie.Need-place-in-requires
+place-in-requires c κs = ?
+
+-- src/show.rt:68:1
+returns-2 : tie.Need-returns-2
+returns-2 c = ?
+
+pub place-spec : {M : Type 1} → statement M
+place-spec =
+    tie.close
+    (tie.spec
+    slice-aggregate-check-own
+    check-own-requires
+    enum-known-outcome
+    nothing-requires
+    returns
+    enum-told
+    slice-aggregate-place-in
+    cast-place-in
+    place-in-requires
+    returns-2)
