@@ -1,3 +1,5 @@
+use mathlib.Core.Path.{refl}
+use Rattle.block.proofs.Answers.{hands}
 use borrow.Author.Needs.{needs}
 use Rattle.block.proofs.show.block.Statement.{statement}
 use Rattle.block.proofs.show.block.Tie as tie
@@ -28,7 +30,7 @@ part-result-end c = search needs
 
 -- src/show.rt:81:1
 returns : tie.Need-returns
-returns c = ?
+returns c = hands _ _ _ (c .before .before .place .ensures) _ refl refl _ (c .before .number .ensures)
 
 pub block-spec : {M : Type 1} → statement M
 block-spec =

@@ -1,3 +1,7 @@
+use mathlib.Core.Path.{refl}
+use native.Mathlib.Omega.{arith}
+use Rattle.reader.proofs.Lookup.{zeros}
+use Rattle.block.proofs.Answers.{place-refused, owned, root-small, tree-along, place-found}
 use borrow.Author.Needs.{needs}
 use Rattle.block.proofs.show.place.Statement.{statement}
 use Rattle.block.proofs.show.place.Tie as tie
@@ -13,7 +17,7 @@ slice-aggregate-check-own c = search needs
 
 -- src/show.rt:72:9
 check-own-requires : tie.Need-check-own-requires
-check-own-requires c κs = ?
+check-own-requires c κs = (refl, zeros 8224)
 
 -- src/show.rt:74:29
 enum-known-outcome : tie.Need-enum-known-outcome
@@ -25,7 +29,7 @@ nothing-requires c κs = search needs
 
 -- src/show.rt:75:9
 returns : tie.Need-returns
-returns c = ?
+returns c = place-refused _ _ _ _ (c .before .before .before .before .before .check-own .ensures .0) _ (c .before .before .outcome .given .1) _ (c .nothing .ensures)
 
 enum-told : tie.Need-enum-told
 enum-told c = search needs
@@ -36,15 +40,15 @@ slice-aggregate-place-in c = search needs
 
 -- src/show.rt:77:33
 cast-place-in : tie.Need-cast-place-in
-cast-place-in c = ?
+cast-place-in c = omega (arith, root-small _ _ _ _ (c .before .before .before .before .check-own .ensures .0) (c .before .enum-told .given .1))
 
 -- src/show.rt:77:5
 place-in-requires : tie.Need-place-in-requires
-place-in-requires c κs = ?
+place-in-requires c κs = (owned _ _ _ _ (c .before .before .before .before .check-own .ensures .0) (c .before .enum-told .given .1) .language, owned _ _ _ _ (c .before .before .before .before .check-own .ensures .0) (c .before .enum-told .given .1) .subject, (tree-along _ _ _ _ (c .before .before .before .before .check-own .ensures .0) (c .before .enum-told .given .1) _ (λ j. omega (arith, c .before .before .before .before .before .before .before .before .shared-slice-known2 .given j)) (c .before .before .before .before .check-own .ensures .1)))
 
 -- src/show.rt:68:1
 returns-2 : tie.Need-returns-2
-returns-2 c = ?
+returns-2 c = place-found _ _ _ _ (c .before .before .before .before .before .check-own .ensures .0) (c .before .before .enum-told .given .1) _ (λ j. omega (arith, c .before .before .before .before .before .before .before .before .before .shared-slice-known2 .given j)) (c .before .before .before .before .before .check-own .ensures .1) _ _ (c .place-in .ensures _ _ (tree-along _ _ _ _ (c .before .before .before .before .before .check-own .ensures .0) (c .before .before .enum-told .given .1) _ (λ j. omega (arith, c .before .before .before .before .before .before .before .before .before .shared-slice-known2 .given j)) (c .before .before .before .before .before .check-own .ensures .1)))
 
 pub place-spec : {M : Type 1} → statement M
 place-spec =

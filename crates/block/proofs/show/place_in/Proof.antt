@@ -1,3 +1,7 @@
+use native.Mathlib.Omega.{arith}
+use Rattle.block.specs.Blocks.{everyKind}
+use Rattle.block.proofs.Paths.{every-kind}
+use Rattle.block.proofs.Answers.{placed-nowhere, placed-hidden, placed-entry, placed-inside, placed-block}
 use borrow.Author.Needs.{needs}
 use Rattle.block.proofs.show.place_in.Statement.{statement}
 use Rattle.block.proofs.show.place_in.Tie as tie
@@ -17,15 +21,15 @@ enum-known-start c = search needs
 
 -- src/show.rt:54:39
 add-pair-in : tie.Need-add-pair-in
-add-pair-in c = ?
+add-pair-in c = let y = placed-entry _ _ _ _ _ _ (c .before .before .before .before .before .before .before .before .before .pre .0) (c .before .before .before .before .before .before .before .before .before .pre .1) _ (c .before .before .before .descend .ensures (c .before .before .before .before .before .before .before .before .before .pre .0) (c .before .before .before .before .before .before .before .before .before .pre .1) everyKind (c .before .before .before .before .before .before .before .before .before .pre .2) every-kind) _ _ _ (c .before .start .given .1) .1 .inside in omega (arith, y)
 
 -- src/show.rt:54:17
 pair-in-requires : tie.Need-pair-in-requires
-pair-in-requires c κs = ?
+pair-in-requires c κs = let y = placed-entry _ _ _ _ _ _ (c .before .before .before .before .before .before .before .before .before .pre .0) (c .before .before .before .before .before .before .before .before .before .pre .1) _ (c .before .before .before .descend .ensures (c .before .before .before .before .before .before .before .before .before .pre .0) (c .before .before .before .before .before .before .before .before .before .pre .1) everyKind (c .before .before .before .before .before .before .before .before .before .pre .2) every-kind) _ _ _ (c .before .start .given .1) .1 .inside in omega (arith, y)
 
 -- src/show.rt:58:23
 add-t13 : tie.Need-add-t13
-add-t13 c = ?
+add-t13 c = let y = placed-inside _ _ _ _ _ _ (c .before .before .before .before .before .before .before .before .before .before .pre .0) (c .before .before .before .before .before .before .before .before .before .before .pre .1) _ (c .before .before .before .before .descend .ensures (c .before .before .before .before .before .before .before .before .before .before .pre .0) (c .before .before .before .before .before .before .before .before .before .before .pre .1) everyKind (c .before .before .before .before .before .before .before .before .before .before .pre .2) every-kind) _ _ _ (c .before .before .start .given .1) _ (c .pair-in .ensures .0) in omega (arith, y, (c .before .before .before .before .before .before .before .before .before .before .pre .2) .short)
 
 -- src/show.rt:59:23
 cast-t15 : tie.Need-cast-t15
@@ -49,15 +53,15 @@ nothing-requires-2 c κs = search needs
 
 -- src/show.rt:40:1
 returns : tie.Need-returns
-returns c = ?
+returns c = λ l t h. placed-block _ _ _ _ _ _ l t _ (c .before .before .before .before .descend .ensures l t everyKind h every-kind) _ _ _ (c .before .before .start .given .1) _ (c .pair-in .ensures .0)
 
 -- src/show.rt:40:1
 returns-2 : tie.Need-returns-2
-returns-2 c = ?
+returns-2 c = λ l t h. placed-nowhere _ _ _ _ _ _ l t _ (c .before .before .before .descend .ensures l t everyKind h every-kind) (c .before .enum-told .given .1) _ (c .nothing .ensures)
 
 -- src/show.rt:40:1
 returns-3 : tie.Need-returns-3
-returns-3 c = ?
+returns-3 c = λ l t h. placed-hidden _ _ _ _ _ _ l t _ (c .before .before .before .descend .ensures l t everyKind h every-kind) (c .before .enum-told2 .given .1) _ (c .nothing2 .ensures)
 
 pub place-in-spec : {M : Type 1} → statement M
 place-in-spec =
