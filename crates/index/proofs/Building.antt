@@ -29,12 +29,12 @@ use Rattle.index.specs.declared.walk.Marked.the-variants.{To, Differs}
 use Rattle.index.proofs.Checking.{checked-tree}
 
 -- write_index
-module _ (i o o′ : List ℕ) (base e : ℕ) (t : Code) (r : Marked) (w : Walks false i (entries (spans (base + 0) t)) o o′ 0 e r) where
-  pub index-written : (d m : ℕ) → r ≡ To d m → (m ≡ length (entries (spans base t))) × (m ≤ length o → o′ ≡ spliced o 0 (entries (spans base t)))
+module _ (i o o′ : List ℕ) (base n e : ℕ) (t : Code) (r : Marked) (w : Walks false i (entries (spans (base + 0) t)) o o′ n e r) where
+  pub index-written : (d m : ℕ) → r ≡ To d m → (m ≡ n + length (entries (spans base t))) × (m ≤ length o → o′ ≡ spliced o n (entries (spans base t)))
   index-written d m q =
       let z : base + 0 ≡ base = omega arith in
       let x = w .done d m q .1 in
-      rw (← z) (x .end ∙ omega arith, x .put refl)
+      rw (← z) (x .end, x .put refl)
 
   pub not-compared : {A : Type 0} → r ≡ Differs → A
   not-compared q = false-true (w .differs q .compared)
@@ -71,18 +71,18 @@ pub put-first : (o v : List ℕ) → spliced o 0 v ≡ v ++ drop (length v) o
 put-first o v = let z : 0 + length v ≡ length v = omega arith in opened o 0 v ∙ ap (λ (j : ℕ). v ++ drop j o) z
 
 -- index_legal
-module _ (t : Code) (o : List ℕ) (n : ℕ) (en : n ≡ length (entries (spans 0 t))) where
+module _ (t : Code) (o : List ℕ) (n : ℕ) (en : n ≡ 0 + length (entries (spans 0 t))) where
   pub legal-short : length o < n → (x : Outcome) → x ≡ Refused OutputTooShort
       → (x ≡ written (fitted (length o) (indexOf t))) × (o ≡ outputAfter o (fitted (length o) (indexOf t)))
   unfolding indexOf
   legal-short h x e = let y : ltb (length o) (length (entries (spans 0 t))) ≡ true = lt-ltb (length o) (length (entries (spans 0 t))) (omega arith) in rw y (e, refl)
 
-  pub legal-put : n ≤ length o → (o′ : List ℕ) (m : ℕ) → (m ≡ length (entries (spans 0 t))) × (m ≤ length o → o′ ≡ spliced o 0 (entries (spans 0 t)))
+  pub legal-put : n ≤ length o → (o′ : List ℕ) (m : ℕ) → (m ≡ 0 + length (entries (spans 0 t))) × (m ≤ length o → o′ ≡ spliced o 0 (entries (spans 0 t)))
       → (x : Outcome) → x ≡ Accepted n → (x ≡ written (fitted (length o) (indexOf t))) × (o′ ≡ outputAfter o (fitted (length o) (indexOf t)))
   unfolding indexOf
   legal-put h o′ m w x e =
       let y : ltb (length o) (length (entries (spans 0 t))) ≡ false = le-ltb (length o) (length (entries (spans 0 t))) (omega arith) in
-      rw y (e ∙ ap Accepted en, w .1 (omega (arith, w .0)) ∙ put-first o (entries (spans 0 t)))
+      rw y (e ∙ ap Accepted (en ∙ omega arith), w .1 (omega (arith, w .0)) ∙ put-first o (entries (spans 0 t)))
 
 -- index
 module _ (s : List ℕ) (root : ℕ) (b o : List ℕ) {out : Outcome} (eo : out ≡ checkTree s root b) where

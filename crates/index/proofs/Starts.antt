@@ -72,10 +72,10 @@ pub record Passing (i : List ℕ) (entry position p : ℕ) (front back : List Sp
 first-read : (i : List ℕ) (p s n : ℕ) (l : List Span) → drop p i ≡ entries (span s n ∷ l) → Entry i p s n (entries l)
 first-read i p s n l e = entry-read i p s n (entries l) (e ∙ entries-cons (span s n) l)
 
-entries-long : (s n : ℕ) (l : List Span) → length (entries (span s n ∷ l)) ≡ 4 + length (entries l)
+pub entries-long : (s n : ℕ) (l : List Span) → length (entries (span s n ∷ l)) ≡ 4 + length (entries l)
 entries-long s n l = ap length (entries-cons (span s n) l) ∙ (length-append (entry (span s n)) (entries l) ∙ ap (λ (m : ℕ). m + length (entries l)) (entry-length s n))
 
-no-entries : length (entries []) ≡ 0
+pub no-entries : length (entries []) ≡ 0
 unfolding entries concatMap
 no-entries = refl
 

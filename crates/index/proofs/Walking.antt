@@ -17,7 +17,7 @@ use Rattle.reader.specs.Inner.Positions.{KindsIn}
 use Rattle.index.specs.Spans.{Span, span, size, spans, spansAll, entry, entries}
 use Rattle.index.specs.Operations.{longest}
 use Rattle.index.specs.Inner.Lying.{There, Row, Shape, production, value, Opens}
-use Rattle.index.specs.Inner.Marking.{Has, Deals, Unlike, Marks, Walks, Small}
+use Rattle.index.specs.Inner.Marking.{lastPlace, Has, Deals, Unlike, Marks, Walks, Small}
 use Rattle.index.specs.declared.walk.Marked.{Marked}
 use Rattle.index.specs.declared.walk.Marked.the-variants.{To, Differs}
 use Rattle.index.proofs.Rows.{kinds-end, Turn, turn, none-left}
@@ -149,15 +149,16 @@ pub record Walking (x s b : List ℕ) (at base : ℕ) (compare : Bool) (i o o′
   pub all : entries (spans (base + at) t) ≡ entry (span (base + at) (size t)) ++ (dealt ++ entries (spansAll (base + to) others))
   pub ends : to + length (writeAll tree others) ≡ at + size t
   pub ahead : at < to
-  pub few : m ≤ 4 * to
+  pub few : m + 4 * (length b - to) ≤ lastPlace
   pub kinds : KindsIn s first last
   pub from : first ≤ q
 
 module _ (x s b : List ℕ) (at base k : ℕ) (compare : Bool) (i o : List ℕ) (n first last to : ℕ) (l : Language) (t : Code) where
-  pub walk-begin : Opens x s b at k l t first last to → n ≤ 4 * at → Walking x s b at base compare i o o n first last first to (n + 4) l t
+  pub walk-begin : Opens x s b at k l t first last to → n + 4 * (length b - at) ≤ lastPlace → Walking x s b at base compare i o o n first last first to (n + 4) l t
   walk-begin p h =
       let f = shape-front (p .shape) in
       let y = p .past in
+      let inside = p .row .lie .inside in
       let a : base + at + p .front ≡ base + to = omega arith in
       record {
         others = p .operands;
@@ -218,6 +219,7 @@ module _ (x s b : List ℕ) (at base : ℕ) (compare : Bool) (i o o′ : List �
           let a = w .ahead in
           let ends = w .ends in
           let few = entries-few (walk-turn .head) (base + to) in
+          let inside = walk-turn .row .lie .inside in
           let len : length (writeAll tree (w .others)) ≡ size (walk-turn .head) + length (writeAll tree (walk-turn .tail)) =
           ap (λ (c : Codes). length (writeAll tree c)) (walk-turn .is) ∙ length-append (write tree (walk-turn .head)) (writeAll tree (walk-turn .tail)) in
           rw (d .0) (record {

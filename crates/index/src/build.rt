@@ -28,8 +28,8 @@ ghost use Rattle.index.specs.Inner.Lying.{There};
 // The most bytes of a tree that has an index.
 pub const LONGEST: usize = 65535;
 
-// Writes the index of the legal tree of a kind, whose start is counted as `base`, where there is room for it, and gives its
-// length.
+// Writes the index of the legal tree of a kind, whose start is counted as `base`, behind the first n bytes of an output, where
+// there is room for it, and gives where it ends.
 pub fn write_index(
     language: &[u8],
     places: &[u16],
@@ -37,14 +37,15 @@ pub fn write_index(
     tree: &[u8],
     base: usize,
     out: &mut [u8],
+    n: usize,
 ) -> usize
-    requires { ⌜ (base + length (now tree) ≤ longest) × ((l : Language) × (t : Code) × There (now places) (now language) (now tree) 0 kind l t) ⌝ }
+    requires { ⌜ (base + length (now tree) ≤ longest) × (n ≤ 400000) × ((l : Language) × (t : Code) × There (now places) (now language) (now tree) 0 kind l t) ⌝ }
     ensures { λ r. ⌜ ((l : Language) (t : Code) → There (now (places .entry)) (now (language .entry)) (now (tree .entry)) 0 kind l t
-        → (r ≡ length (entries (spans base t))) × (r ≤ length (now (out .entry)) → now (out .exit) ≡ spliced (now (out .entry)) 0 (entries (spans base t)))) ⌝ }
+        → (r ≡ n + length (entries (spans base t))) × (r ≤ length (now (out .entry)) → now (out .exit) ≡ spliced (now (out .entry)) n (entries (spans base t)))) ⌝ }
 {
-    match mark_at(language, places, kind, tree, 0, base, false, &[], out, 0) {
+    match mark_at(language, places, kind, tree, 0, base, false, &[], out, n) {
         Marked::To(e, m) => m,
-        Marked::Differs => 0,
+        Marked::Differs => n,
     }
 }
 
@@ -80,11 +81,11 @@ fn index_legal(language: &[u8], places: &[u16], kind: u8, tree: &[u8], output: &
         × (now (output .exit) ≡ outputAfter (now (output .entry)) (fitted (length (now (output .entry))) (indexOf t)))) ⌝ }
 {
     let mut nowhere = [0u8; 1];
-    let length = write_index(language, places, kind, tree, 0, &mut nowhere);
+    let length = write_index(language, places, kind, tree, 0, &mut nowhere, 0);
     if output.len() < length {
         return refuse(Reason::OutputTooShort);
     }
-    write_index(language, places, kind, tree, 0, output);
+    write_index(language, places, kind, tree, 0, output, 0);
     accept(length)
 }
 

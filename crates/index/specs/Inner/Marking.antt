@@ -1,5 +1,5 @@
 -- Entries of an index that are written, or compared with those of an index that is there.
-use Prim.Native.Nat.{ℕ, _+_, _*_, _<_, _≤_}
+use Prim.Native.Nat.{ℕ, _+_, _-_, _*_, _<_, _≤_}
 use mathlib.Core.Path.{_≡_}
 use mathlib.Core.Bool.{Bool, true, false}
 use mathlib.Core.List.{List, _++_}
@@ -12,6 +12,10 @@ use Rattle.index.specs.Operations.{longest}
 use Rattle.index.specs.Inner.Lying.{There}
 use Rattle.index.specs.declared.walk.Marked.{Marked}
 use Rattle.index.specs.declared.walk.Marked.the-variants.{To, Differs}
+
+-- Places in an index are counted up to here: more than two trees' entries need.
+abbrev pub lastPlace : ℕ
+lastPlace = 1000000
 
 -- The bytes v stand in the index from n on.
 pub record Has (index : List ℕ) (n : ℕ) (v : List ℕ) : Type 0 where
@@ -40,7 +44,8 @@ pub record Walks (compare : Bool) (index v o o′ : List ℕ) (n e : ℕ) (r : M
   pub done : (d m : ℕ) → r ≡ To d m → (d ≡ e) × Deals compare index v o o′ n m
   pub differs : r ≡ Differs → Unlike compare index v n
 
--- What is asked of the numbers: starts and lengths are numbers of two bytes, and no more entries than bytes were passed.
+-- What is asked of the numbers: starts and lengths are numbers of two bytes, and the entries that may still come, one for
+-- each byte, end before the last place that is counted.
 pub record Small (b : List ℕ) (base at n : ℕ) : Type 0 where
   pub short : base + length b ≤ longest
-  pub few : n ≤ 4 * at
+  pub few : n + 4 * (length b - at) ≤ lastPlace

@@ -1,3 +1,4 @@
+use native.Mathlib.Omega.{arith}
 use Rattle.index.proofs.Building.{own-compared, own-unlike}
 use borrow.Author.Needs.{needs}
 use Rattle.index.proofs.build.is_own.Statement.{statement}
@@ -12,7 +13,7 @@ slice-aggregate-mark-at c = search needs
 
 -- src/build.rt:54:11
 mark-at-requires : tie.Need-mark-at-requires
-mark-at-requires c κs = search needs
+mark-at-requires c κs = let p = (c .before .before .before .before .before .pre) in (record { short = omega (arith, p .0); few = omega (arith, p .0) }, p .1)
 
 -- src/build.rt:66:20
 enum-known-e : tie.Need-enum-known-e
