@@ -21,7 +21,7 @@ use Rattle.index.proofs.Checking.{tree-bytes, tree-lies, language-facts}
 use Rattle.index.proofs.Owning.{Owned, indexed-owned}
 use Rattle.block.proofs.Reaching.{reached-inj, path-lies}
 
-found-reached : (o : Reached) (b : Block) → found o ≡ value b → o ≡ reached b
+pub found-reached : (o : Reached) (b : Block) → found o ≡ value b → o ≡ reached b
 found-reached (reached c) b e = ap reached (value-inj e)
 found-reached nowhere b e = refused-value e
 found-reached hidden b e = refused-value e

@@ -2,6 +2,7 @@
 use Prim.Native.Nat.{ℕ}
 use mathlib.Core.Path.{_≡_}
 use mathlib.Core.List.{List}
+use Rattle.fields.specs.Outcome.{numberOf, lengthOf}
 use Rattle.edit.specs.Operations.{Editing}
 use Rattle.edit.specs.declared.edit.Edited.{Edited}
 
@@ -9,5 +10,13 @@ use Rattle.edit.specs.declared.edit.Edited.{Edited}
 pub record Hands (d : Editing) (plan index : List ℕ) (r : Edited) : Type 0 where
   pub outcome : r .outcome ≡ d .outcome
   pub long : r .index_length ≡ d .indexLength
+  pub plan-is : plan ≡ d .plan
+  pub index-is : index ≡ d .index
+
+-- The same, told by numbers.
+pub record EditTold (d : Editing) (number planLength indexLength : ℕ) (plan index : List ℕ) : Type 0 where
+  pub number-is : number ≡ numberOf (d .outcome)
+  pub plan-long : planLength ≡ lengthOf (d .outcome)
+  pub index-long : indexLength ≡ d .indexLength
   pub plan-is : plan ≡ d .plan
   pub index-is : index ≡ d .index

@@ -143,7 +143,7 @@ fn replace_block(
         × Reaches (now places) (now language) (now tree) (now index) path kind of start old numbers l t a) ⌝ }
     ensures { λ r. ⌜ ((path : List ℕ) (kind : ℕ) (l : Language) (t a : Code)
         → Reaches (now (places .entry)) (now (language .entry)) (now (tree .entry)) (now (index .entry)) path kind of start old numbers l t a
-        → Gives (newBlock l path (blockOf start of a) (now (block .entry)) >>= λ u. newPlan path u t >>= λ v. inRooms (length (now (plan .entry))) (length (now («plan_index» .entry))) v) (now (plan .entry)) (now (plan .exit)) (now («plan_index» .entry)) (now («plan_index» .exit)) r) ⌝ }
+        → Gives ((newBlock l path (blockOf start of a) (now (block .entry)) >>= λ u. newPlan path u t) >>= λ v. inRooms (length (now (plan .entry))) (length (now («plan_index» .entry))) v) (now (plan .entry)) (now (plan .exit)) (now («plan_index» .entry)) (now («plan_index» .exit)) r) ⌝ }
 {
     match read(Syntax::Tree, language, places, &[], of, block, 0, levels_left(numbers)) {
         Read::End(e) => {
@@ -171,7 +171,7 @@ fn edit_legal(
 ) -> Edited
     requires { ⌜ ((l : Language) × (t : Code) × Owns (now places) (now language) (now tree) (now index) kind l t) ⌝ }
     ensures { λ r. ⌜ ((l : Language) (t : Code) → Owns (now (places .entry)) (now (language .entry)) (now (tree .entry)) (now (index .entry)) kind l t
-        → Gives (found (blockAt everyKind l (now (path .entry)) (blockOf 0 kind t)) >>= λ b. newBlock l (now (path .entry)) b (now (block .entry)) >>= λ u. newPlan (now (path .entry)) u t >>= λ v. inRooms (length (now (plan .entry))) (length (now («plan_index» .entry))) v) (now (plan .entry)) (now (plan .exit)) (now («plan_index» .entry)) (now («plan_index» .exit)) r) ⌝ }
+        → Gives ((found (blockAt everyKind l (now (path .entry)) (blockOf 0 kind t)) >>= λ b. newBlock l (now (path .entry)) b (now (block .entry)) >>= λ u. newPlan (now (path .entry)) u t) >>= λ v. inRooms (length (now (plan .entry))) (length (now («plan_index» .entry))) v) (now (plan .entry)) (now (plan .exit)) (now («plan_index» .entry)) (now («plan_index» .exit)) r) ⌝ }
 {
     match descend(language, places, kind, tree, index, path, EVERY_KIND) {
         Step::To(start, of, entry) => replace_block(

@@ -1,0 +1,30 @@
+use borrow.Author.Needs.{needs}
+use Rattle.edit.proofs.moves.put_plan.Statement.{statement}
+use Rattle.edit.proofs.moves.put_plan.Tie as tie
+use Rattle.edit.proofs.moves.put_plan.Reads as reads
+use Rattle.edit.proofs.moves.put_plan.Lts as lts
+use Rattle.fields.proofs.copy.put.Reads as put-reads
+use Rattle.fields.proofs.copy.put_both.Reads as put-both-reads
+
+-- src/moves.rt:106:5
+put-both-requires : tie.Need-put-both-requires
+put-both-requires c κs = search needs
+
+-- src/moves.rt:107:38
+add-put : tie.Need-add-put
+add-put c = search needs
+
+-- src/moves.rt:107:5
+put-requires : tie.Need-put-requires
+put-requires c κs = search needs
+
+-- src/moves.rt:102:1
+same-length : tie.Need-same-length
+same-length c = search needs
+
+-- src/moves.rt:102:1
+returns : tie.Need-returns
+returns c = ?
+
+pub put-plan-spec : {M : Type 1} → statement M
+put-plan-spec = tie.close (tie.spec put-both-requires add-put put-requires same-length returns)
