@@ -233,6 +233,6 @@ pub extern "C" fn algebra_edit(
 {
     let edited = edit(language, root, tree, index, path, block, plan, plan_index);
     let outcome = edited.outcome;
-    *index_length = edited.index_length as u64;
+    *index_length = edited.indexed as u64;
     hand_over(Answer { outcome: outcome }, plan_length)
 }

@@ -52,6 +52,10 @@ map-long h q (span s z ∷ l) =
     ap length (entries-cons (h (span s z)) (map h l))
     ∙ (length-append (entry (h (span s z))) (entries (map h l)) ∙ (omega (arith, q (span s z), map-long h q l, entries-long s z l)))
 
+no-more : (v : List ℕ) → v ++ entries [] ≡ v
+unfolding entries concatMap
+no-more v = append-nil v
+
 -- move_entries: the entries that are still to be put, and what was put.
 pub record Moving (i o o′ : List ℕ) (from stop start old new n p m : ℕ) (l : List Span) : Type 0 where
   pub left : List Span
@@ -168,13 +172,9 @@ module _ (i o o′ : List ℕ) (from stop start old new n p m : ℕ) (l : List S
   move-done h =
       let mv = moved start old new in
       let none : w .left ≡ [] = go (w .left) (w .part) in
-      let z : entries (map mv l) ≡ w .dealt = w .all ∙ (ap (λ (v : List Span). w .dealt ++ entries (map mv v)) none ∙ nothing) in
+      let z : entries (map mv l) ≡ w .dealt = w .all ∙ (ap (λ (v : List Span). w .dealt ++ entries (map mv v)) none ∙ no-more (w .dealt)) in
       w .put ∙ ap (spliced o n) (sym z)
     where
-      nothing : w .dealt ++ entries [] ≡ w .dealt
-      unfolding entries concatMap
-      nothing = append-nil (w .dealt)
-
       go : (left : List Span) → Part i p stop left → left ≡ []
       go [] q = refl
       go (span s x ∷ left) q = let e = q .end in absurd (omega (arith, entries-long s x left))

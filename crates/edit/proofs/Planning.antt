@@ -55,7 +55,7 @@ use Rattle.edit.proofs.Entries.{new-long}
 
 -- A refusal.
 abbrev pub Refuses : Reason → Edited → Type 0
-Refuses x r = (r .outcome ≡ Refused x) × (r .index_length ≡ 0)
+Refuses x r = (r .outcome ≡ Refused x) × (r .indexed ≡ 0)
 
 pub gives-refused : (m : Result Code) (plan index : List ℕ) (x : Reason) (r : Edited) → m ≡ refused x → Refuses x r → Gives m plan plan index index r
 gives-refused m plan index x r e w = rw e (record { outcome = w .0; long = w .1; plan-is = refl; index-is = refl })
@@ -204,7 +204,7 @@ module _ (x s b i path block : List ℕ) (kind of start old : ℕ) (l : Language
 
               pub both-put : n ≤ length index → (plan′ index′ : List ℕ) → plan′ ≡ spliced plan 0 (take start b ++ (block ++ drop (start + old) b))
                   → index′ ≡ spliced index 0 (entries (movedSpans start old u (parts .front) (parts .back)))
-                  → Gives (inRooms (length plan) (length index) next) plan plan′ index index′ (record { outcome = Accepted z; index_length = n })
+                  → Gives (inRooms (length plan) (length index) next) plan plan′ index index′ (record { outcome = Accepted z; indexed = n })
               both-put h plan′ index′ f g =
                   let y : ltb (length index) (length (indexOf next)) ≡ false = le-ltb (length index) (length (indexOf next)) (omega (arith, whole-index)) in
                   rw (plan-fits, y) (record {
@@ -376,7 +376,7 @@ module _ (s : List ℕ) (root : ℕ) (b i path block : List ℕ) {o : Outcome} (
 
 -- The answer told by numbers.
 pub tells : (d : Editing) (plan index : List ℕ) (r : Edited) → Hands d plan index r → (n m : ℕ) → n ≡ numberOf (r .outcome) → m ≡ lengthOf (r .outcome)
-    → EditTold d n m (r .index_length) plan index
+    → EditTold d n m (r .indexed) plan index
 tells d plan index r w n m en em = record {
   number-is = en ∙ ap numberOf (w .outcome);
   plan-long = em ∙ ap lengthOf (w .outcome);

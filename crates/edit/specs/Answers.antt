@@ -9,7 +9,7 @@ use Rattle.edit.specs.declared.edit.Edited.{Edited}
 -- The answer, and the outputs that are left, are those of the definition.
 pub record Hands (d : Editing) (plan index : List ℕ) (r : Edited) : Type 0 where
   pub outcome : r .outcome ≡ d .outcome
-  pub long : r .index_length ≡ d .indexLength
+  pub long : r .indexed ≡ d .indexLength
   pub plan-is : plan ≡ d .plan
   pub index-is : index ≡ d .index
 

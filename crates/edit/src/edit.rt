@@ -19,34 +19,32 @@ ghost use mathlib.Core.Path.{_≡_};
 ghost use mathlib.Core.List.{List};
 ghost use Prim.Native.Nat.{ℕ, _+_, _-_, _≤_};
 ghost use lib.ListN.{length};
-ghost use Rattle.fields.specs.Outcome.{_>>=_};
 ghost use Rattle.language.specs.Language.{Language};
 ghost use Rattle.reader.specs.Code.{Code};
 ghost use Rattle.index.specs.Operations.{longest};
 ghost use Rattle.block.specs.Blocks.{blockOf, blockAt, everyKind};
-ghost use Rattle.block.specs.Operations.{found};
 ghost use Rattle.edit.specs.Plans.{replaceAt};
-ghost use Rattle.edit.specs.Operations.{newBlock, newPlan, inRooms, editTree};
+ghost use Rattle.edit.specs.Operations.{inRooms, editTree};
 ghost use Rattle.edit.specs.Answers.{Hands};
-ghost use Rattle.edit.specs.Inner.Moving.{Replaces, Reaches, Owns, Gives};
+ghost use Rattle.edit.specs.Inner.Moving.{Replaces, Reaches, Owns, planIn, blockIn, pathIn, Gives};
 
 // The levels that a tree handed in may have.
 const TREE_LEVELS: usize = 64;
 
-// What the edit hands back: an acceptance has the length of the new plan, and its index has the other length. A refusal has 0
-// in both.
+// What the edit hands back: an acceptance has the length of the new plan, and `indexed` is the length of its index. A refusal
+// has 0 in both.
 pub struct Edited {
     pub outcome: Outcome,
-    pub index_length: usize,
+    pub indexed: usize,
 }
 
 // A refusal.
 fn refuse_edit(reason: Reason) -> Edited
-    ensures { λ r. ⌜ (r .outcome ≡ Outcome.Refused reason) × (r .index_length ≡ 0) ⌝ }
+    ensures { λ r. ⌜ (r .outcome ≡ Outcome.Refused reason) × (r .indexed ≡ 0) ⌝ }
 {
     Edited {
         outcome: Outcome::Refused(reason),
-        index_length: 0,
+        indexed: 0,
     }
 }
 
@@ -85,7 +83,7 @@ fn rewrite(
     put_index(language, places, of, block, index, start, old, first, last, plan_index);
     Edited {
         outcome: Outcome::Accepted(size),
-        index_length: length,
+        indexed: length,
     }
 }
 
@@ -106,7 +104,7 @@ fn replace(
         × Replaces (now places) (now language) (now tree) (now index) path (now block) kind of start old l t a u) ⌝ }
     ensures { λ r. ⌜ ((path : List ℕ) (kind : ℕ) (l : Language) (t a u : Code)
         → Replaces (now (places .entry)) (now (language .entry)) (now (tree .entry)) (now (index .entry)) path (now (block .entry)) kind of start old l t a u
-        → Gives (newPlan path u t >>= λ v. inRooms (length (now (plan .entry))) (length (now («plan_index» .entry))) v) (now (plan .entry)) (now (plan .exit)) (now («plan_index» .entry)) (now («plan_index» .exit)) r) ⌝ }
+        → Gives (planIn (length (now (plan .entry))) (length (now («plan_index» .entry))) path u t) (now (plan .entry)) (now (plan .exit)) (now («plan_index» .entry)) (now («plan_index» .exit)) r) ⌝ }
 {
     let size = tree.len() - old + block.len();
     if LONGEST < size {
@@ -143,7 +141,7 @@ fn replace_block(
         × Reaches (now places) (now language) (now tree) (now index) path kind of start old numbers l t a) ⌝ }
     ensures { λ r. ⌜ ((path : List ℕ) (kind : ℕ) (l : Language) (t a : Code)
         → Reaches (now (places .entry)) (now (language .entry)) (now (tree .entry)) (now (index .entry)) path kind of start old numbers l t a
-        → Gives ((newBlock l path (blockOf start of a) (now (block .entry)) >>= λ u. newPlan path u t) >>= λ v. inRooms (length (now (plan .entry))) (length (now («plan_index» .entry))) v) (now (plan .entry)) (now (plan .exit)) (now («plan_index» .entry)) (now («plan_index» .exit)) r) ⌝ }
+        → Gives (blockIn (length (now (plan .entry))) (length (now («plan_index» .entry))) l path (blockOf start of a) (now (block .entry)) t) (now (plan .entry)) (now (plan .exit)) (now («plan_index» .entry)) (now («plan_index» .exit)) r) ⌝ }
 {
     match read(Syntax::Tree, language, places, &[], of, block, 0, levels_left(numbers)) {
         Read::End(e) => {
@@ -171,7 +169,7 @@ fn edit_legal(
 ) -> Edited
     requires { ⌜ ((l : Language) × (t : Code) × Owns (now places) (now language) (now tree) (now index) kind l t) ⌝ }
     ensures { λ r. ⌜ ((l : Language) (t : Code) → Owns (now (places .entry)) (now (language .entry)) (now (tree .entry)) (now (index .entry)) kind l t
-        → Gives ((found (blockAt everyKind l (now (path .entry)) (blockOf 0 kind t)) >>= λ b. newBlock l (now (path .entry)) b (now (block .entry)) >>= λ u. newPlan (now (path .entry)) u t) >>= λ v. inRooms (length (now (plan .entry))) (length (now («plan_index» .entry))) v) (now (plan .entry)) (now (plan .exit)) (now («plan_index» .entry)) (now («plan_index» .exit)) r) ⌝ }
+        → Gives (pathIn (length (now (plan .entry))) (length (now («plan_index» .entry))) l (now (path .entry)) (blockAt everyKind l (now (path .entry)) (blockOf 0 kind t)) (now (block .entry)) t) (now (plan .entry)) (now (plan .exit)) (now («plan_index» .entry)) (now («plan_index» .exit)) r) ⌝ }
 {
     match descend(language, places, kind, tree, index, path, EVERY_KIND) {
         Step::To(start, of, entry) => replace_block(

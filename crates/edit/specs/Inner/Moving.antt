@@ -5,7 +5,7 @@ use mathlib.Core.Bool.{true, cond}
 use mathlib.Core.List.{List, [], _∷_, _++_, map}
 use lib.ListN.{length, drop}
 use lib.Dec.{leb, ltb}
-use Rattle.fields.specs.Outcome.{Result}
+use Rattle.fields.specs.Outcome.{Result, _>>=_}
 use Rattle.language.specs.Language.{Language, isIn}
 use Rattle.reader.specs.Code.{Code}
 use Rattle.reader.specs.Syntax.{write, tree}
@@ -13,9 +13,10 @@ use Rattle.index.specs.Spans.{Span, span, size, spans, entries, indexOf}
 use Rattle.index.specs.Operations.{longest}
 use Rattle.index.specs.Inner.Lying.{Index, There}
 use Rattle.index.specs.Inner.Starts.{Below, Behind}
-use Rattle.block.specs.Blocks.{blockOf, reached, blockAt, everyKind}
+use Rattle.block.specs.Blocks.{Block, blockOf, Reached, reached, blockAt, everyKind}
+use Rattle.block.specs.Operations.{found}
 use Rattle.block.specs.Inner.Descent.{Along}
-use Rattle.edit.specs.Operations.{handedBack}
+use Rattle.edit.specs.Operations.{newBlock, newPlan, inRooms, handedBack}
 use Rattle.edit.specs.Answers.{Hands}
 use Rattle.edit.specs.declared.edit.Edited.{Edited}
 
@@ -91,6 +92,18 @@ pub record Owns (places s b index : List ℕ) (kind : ℕ) (l : Language) (t : C
   pub plan : b ≡ write tree t
   pub own : index ≡ indexOf t
   pub along : Along places s b index 0 kind 0 l t
+
+-- What is left to be decided once the new block is read, once the old one is found, and once the old plan is: the last links of
+-- the chain of `editTree`, for so much room for plan and index.
+abbrev pub planIn : (plan index : ℕ) (path : List ℕ) (u t : Code) → Result Code
+planIn plan index path u t = newPlan path u t >>= λ v. inRooms plan index v
+
+abbrev pub blockIn : (plan index : ℕ) → Language → (path : List ℕ) → Block → (block : List ℕ) → Code → Result Code
+blockIn plan index l path b block t = (newBlock l path b block >>= λ u. newPlan path u t) >>= λ v. inRooms plan index v
+
+abbrev pub pathIn : (plan index : ℕ) → Language → (path : List ℕ) → Reached → (block : List ℕ) → Code → Result Code
+pathIn plan index l path d block t =
+    (found d >>= λ b. newBlock l path b block >>= λ u. newPlan path u t) >>= λ v. inRooms plan index v
 
 -- The answer and the outputs that are left are those of a result.
 abbrev pub Gives : Result Code → (plan plan′ index index′ : List ℕ) → Edited → Type 0

@@ -1,3 +1,12 @@
+use Prim.Native.Nat.{_-_}
+use mathlib.Core.Path.{_≡_, refl, _∙_}
+use mathlib.Core.List.{List}
+use native.Mathlib.Omega.{arith}
+use lib.ListN.{length}
+use borrow.Author.Needs.{needs}
+use Rattle.index.specs.Spans.{Span}
+use Rattle.edit.specs.Inner.Moving.{Part}
+use Rattle.edit.proofs.Entries.{Moving, move-begin, move-inside, move-fits, move-apart, move-next, move-done}
 use Rattle.edit.proofs.moves.move_entries.Statement.{statement}
 use Rattle.edit.proofs.moves.move_entries.Tie as tie
 use Rattle.edit.proofs.moves.move_entries.Reads as reads
@@ -5,42 +14,43 @@ use Rattle.edit.proofs.moves.move_entries.Lts as lts
 use Rattle.edit.proofs.moves.move_entry.Reads as move-entry-reads
 
 abbrev Inv-loop : tie.InvT-loop
-Inv-loop index from stop start old new out₀ n p₀ m₀ out p m = ?
+Inv-loop index from stop start old new out₀ n p₀ m₀ out p m =
+    (length out ≡ length out₀) × ((l : List Span) → Part index from stop l → Moving index out₀ out from stop start old new n p m l)
 
 abbrev μ-loop : tie.MeasureT-loop
-μ-loop index from stop start old new out₀ n p₀ m₀ out p m = ?
+μ-loop index from stop start old new out₀ n p₀ m₀ out p m = stop - p
 
 -- src/moves.rt:67:5
 loop-holds : tie.Need-loop-holds Inv-loop μ-loop
-loop-holds c = ?
+loop-holds c = (refl, λ l h. move-begin _ _ _ _ _ _ _ _ l h)
 
 -- src/moves.rt:68:9
 move-entry-requires : tie.Need-move-entry-requires Inv-loop μ-loop
-move-entry-requires c κs = ?
+move-entry-requires c κs = let w = (@loop .inv .1 (@pre .3 .1) (@pre .3 .2)) in let y = move-inside _ _ _ _ _ _ _ _ _ _ _ (@pre .3 .1) w (@loop-test .taken) in (y .0, omega (arith, y .1, @pre .0, @loop .inv .0), omega (arith, y .1, @pre .1), @pre .2, move-fits _ _ _ _ _ _ _ _ _ _ _ (@pre .3 .1) w (@loop-test .taken) _ (@pre .3 .3) (@pre .3 .4), move-apart _ _ _ _ _ _ _ _ _ _ _ (@pre .3 .1) w (@loop-test .taken) _ (@pre .3 .3) (@pre .3 .4))
 
 -- src/moves.rt:69:9
 add-p : tie.Need-add-p Inv-loop μ-loop
-add-p c = ?
+add-p c = let y = move-inside _ _ _ _ _ _ _ _ _ _ _ (@pre .3 .1) (@loop .inv .1 (@pre .3 .1) (@pre .3 .2)) (@loop-test .taken) in omega (arith, y .0)
 
 -- src/moves.rt:70:9
 add-m : tie.Need-add-m Inv-loop μ-loop
-add-m c = ?
+add-m c = let y = move-inside _ _ _ _ _ _ _ _ _ _ _ (@pre .3 .1) (@loop .inv .1 (@pre .3 .1) (@pre .3 .2)) (@loop-test .taken) in omega (arith, y .1, @pre .1)
 
 -- src/moves.rt:67:5
 loop-less : tie.Need-loop-less Inv-loop μ-loop
-loop-less c = ?
+loop-less c = search needs
 
 -- src/moves.rt:67:5
 loop-again : tie.Need-loop-again Inv-loop μ-loop
-loop-again c = ?
+loop-again c = (@move-entry .kept .1 .1 .1 .1 .1 .0 ∙ @loop .inv .0, λ l h. move-next _ _ _ _ _ _ _ _ _ _ _ l (@loop .inv .1 l h) (@loop-test .taken) (@pre .0) _ (@move-entry .ensures))
 
 -- src/moves.rt:50:1
 same-length : tie.Need-same-length Inv-loop μ-loop
-same-length c = ?
+same-length c = search needs
 
 -- src/moves.rt:50:1
 returns : tie.Need-returns Inv-loop μ-loop
-returns c = ?
+returns c = λ l h. move-done _ _ _ _ _ _ _ _ _ _ _ l (@loop .inv .1 l h) (@loop-test .left)
 
 pub move-entries-spec : {M : Type 1} → statement M
 move-entries-spec =

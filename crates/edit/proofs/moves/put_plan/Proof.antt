@@ -1,3 +1,5 @@
+use native.Mathlib.Omega.{arith}
+use Rattle.edit.proofs.Entries.{plan-put}
 use borrow.Author.Needs.{needs}
 use Rattle.edit.proofs.moves.put_plan.Statement.{statement}
 use Rattle.edit.proofs.moves.put_plan.Tie as tie
@@ -8,7 +10,7 @@ use Rattle.fields.proofs.copy.put_both.Reads as put-both-reads
 
 -- src/moves.rt:106:5
 put-both-requires : tie.Need-put-both-requires
-put-both-requires c κs = search needs
+put-both-requires c κs = (record { rise = omega arith; fits = omega (arith, @pre .0, @pre .1) }, (record { rise = omega arith; fits = omega arith }, omega arith))
 
 -- src/moves.rt:107:38
 add-put : tie.Need-add-put
@@ -16,7 +18,7 @@ add-put c = search needs
 
 -- src/moves.rt:107:5
 put-requires : tie.Need-put-requires
-put-requires c κs = search needs
+put-requires c κs = (record { rise = @pre .1; fits = omega arith }, omega (arith, @pre .0, @pre .1, @pre .2))
 
 -- src/moves.rt:102:1
 same-length : tie.Need-same-length
@@ -24,7 +26,7 @@ same-length c = search needs
 
 -- src/moves.rt:102:1
 returns : tie.Need-returns
-returns c = ?
+returns c = plan-put _ _ _ _ _ _ _ (@pre .0) (@pre .1) (@pre .2) _ _ (@put-both .ensures) (@put-both .kept .1 .1 .1 .1 .1 .1 .0) (@put .ensures)
 
 pub put-plan-spec : {M : Type 1} → statement M
 put-plan-spec = tie.close (tie.spec put-both-requires add-put put-requires same-length returns)
