@@ -19,7 +19,7 @@ use Rattle.index.specs.Spans.{Span, span, size, spans, entry, entries}
 use Rattle.index.specs.Operations.{longest}
 use Rattle.index.specs.Inner.Marking.{lastPlace}
 use Rattle.index.proofs.Pairs.{entry-length, Entry, entry-read}
-use Rattle.index.proofs.Walking.{entries-append, entries-cons}
+use Rattle.index.proofs.Walking.{entries-append, entries-cons, entries-few}
 use Rattle.index.proofs.Starts.{no-entries, entries-long}
 use Rattle.edit.specs.Inner.Moving.{moved, Movable, Part, Fits, Parted, Rewrites, movedSpans}
 
@@ -187,7 +187,7 @@ stores-fit v o o′ n Full w h = absurd (omega (arith, w .full refl))
 module _ (b : List ℕ) (start stop : ℕ) (block o o₁ o₂ : List ℕ) (rise : start ≤ stop) (inside : stop ≤ length b)
     (room : start + length block + (length b - stop) ≤ length o) where
   first-slice : slice 0 start b ≡ take start b
-  first-slice = slice-is b 0 start (omega arith) (omega arith)
+  first-slice = refl
 
   block-slice : slice 0 (length block) block ≡ block
   block-slice = take-length block
@@ -255,6 +255,23 @@ module _ (x s block i : List ℕ) (of start old top p q : ℕ) (l : Language) (a
       ∙ (length-append (entries (map mv front)) (entries (spans start u ++ map mv back))
       ∙ (ap (λ (j : ℕ). length (entries (map mv front)) + j) (ap length (entries-append (spans start u) (map mv back)) ∙ length-append (entries (spans start u)) (entries (map mv back)))
       ∙ omega arith))
+
+  -- The places of the parts.
+  pub parts-room : (room : ℕ) → length (entries (movedSpans start old u front back)) ≤ room
+      → (p ≤ room) × (p ≤ 400000) × (p + length (entries (spans start u)) + (length i - q) ≤ room) × (p + length (entries (spans start u)) + (length i - q) < lastPlace)
+      × (start + old ≤ longest)
+  parts-room room h =
+      let n = index-long in
+      let f = w .first in
+      let g = w .last in
+      let long = new-long in
+      let few = entries-few u start in
+      let k = w .few in
+      let short = w .short in
+      let e = w .whole in
+      let top = w .inside in
+      let b = w .fits .before in
+      (omega arith, omega arith, omega arith, omega arith, omega arith)
 
   module _ (o o₁ o₂ o₃ : List ℕ) (room : length (entries (movedSpans start old u front back)) ≤ length o) (n m : ℕ) (en : n ≡ length block) where
     pub index-put : o₁ ≡ spliced o 0 (entries (map (moved start old n) front)) → length o₁ ≡ length o

@@ -1,6 +1,6 @@
 -- The edit by the old plan and its index: a law for each return of the functions of edit.rt.
 use Prim.Native.Nat.{ℕ, suc, _+_, _-_, _*_, _<_, _≤_}
-use mathlib.Core.Path.{_≡_, refl, sym, ap, _∙_}
+use mathlib.Core.Path.{_≡_, refl, sym, ap, subst, _∙_}
 use mathlib.Core.Bool.{Bool, true, false, _||_}
 use mathlib.Core.List.{List, [], _∷_, _++_, map, append-assoc, append-nil}
 use mathlib.Core.Option.{some}
@@ -33,6 +33,7 @@ use Rattle.reader.proofs.Sound.{Right, read-done}
 use Rattle.index.specs.Spans.{Span, span, size, spans, entries, indexOf}
 use Rattle.index.specs.Operations.{longest, isLong, indexedTree, checkIndexed}
 use Rattle.index.specs.Inner.Lying.{There}
+use Rattle.index.specs.Inner.Marking.{lastPlace}
 use Rattle.index.specs.Inner.Starts.{Behind, Splits}
 use Rattle.index.proofs.Pairs.{Entry}
 use Rattle.index.proofs.Walking.{entries-append, entries-few}
@@ -51,7 +52,7 @@ use Rattle.edit.specs.Answers.{Hands, EditTold}
 use Rattle.edit.specs.Inner.Moving.{moved, Movable, Fits, Parted, Rewrites, movedSpans, Replaces, Reaches, Owns, Gives}
 use Rattle.edit.specs.declared.edit.Edited.{Edited}
 use Rattle.edit.proofs.Replacing.{Moved, size-some, edited-moved, replaced}
-use Rattle.edit.proofs.Entries.{new-long}
+use Rattle.edit.proofs.Entries.{new-long, parts-room}
 
 -- A refusal.
 abbrev pub Refuses : Reason → Edited → Type 0
@@ -112,13 +113,13 @@ module _ (x s b i path block : List ℕ) (kind of start old : ℕ) (l : Language
     is = w .own ∙ ap entries (parts .spans-were);
     below = parts .below;
     behind = parts .behind;
-    in-front = rw (w .size-is) (parts .in-front);
-    at-back = rw (w .size-is) (parts .at-back);
+    in-front = subst (λ (n : ℕ). Movable start n (length b) (parts .front)) (sym (w .size-is)) (parts .in-front);
+    at-back = subst (λ (n : ℕ). Movable start n (length b) (parts .back)) (sym (w .size-is)) (parts .at-back);
   }
 
   pub index-is : indexOf next ≡ entries (movedSpans start old u (parts .front) (parts .back))
   unfolding indexOf
-  index-is = rw (w .size-is) (ap entries (parts .spans-are))
+  index-is = ap entries (parts .spans-are) ∙ ap (λ (n : ℕ). entries (movedSpans start n u (parts .front) (parts .back))) (sym (w .size-is))
 
   pub index-few : length i ≤ 400000
   unfolding indexOf
@@ -147,7 +148,7 @@ module _ (x s b i path block : List ℕ) (kind of start old : ℕ) (l : Language
               ∙ (ap (drop (length (entries (parts .front)))) (own-parted .is ∙ entries-append (parts .front) (spans start a ++ parts .back))
               ∙ drop-append-seam (entries (parts .front)) (entries (spans start a ++ parts .back)));
           below = spans-below a start (start + old) (omega (arith, w .size-is));
-          behind = rw (w .size-is) (parts .behind);
+          behind = subst (λ (n : ℕ). Behind (start + n) (parts .back)) (sym (w .size-is)) (parts .behind);
         }
 
     module _ (q : ℕ) (eq : q ≡ p + length (entries (spans start a))) where
@@ -167,6 +168,7 @@ module _ (x s b i path block : List ℕ) (kind of start old : ℕ) (l : Language
             record {
               parted = own-parted;
               fits = record { before = w .short; after = omega arith };
+              inside = block-inside;
               size-is = w .size-is;
               first = omega arith;
               last = eq;
@@ -176,43 +178,51 @@ module _ (x s b i path block : List ℕ) (kind of start old : ℕ) (l : Language
               few = index-few;
             }
 
+        pub plan-room : (plan : List ℕ) → z ≤ length plan → start + length block + (length b - (start + old)) ≤ length plan
+        plan-room plan h = let k = block-inside in omega arith
+
         -- The length of the new index.
-        module _ (end n : ℕ) (ee : end ≡ p + length (entries (spans start u))) (en : n ≡ end + (length i - q)) where
-          pub length-is : n ≡ length (entries (movedSpans start old u (parts .front) (parts .back)))
-          length-is = let m = new-long x s block i of start old (length b) p q l a u (parts .front) (parts .back) rewrites in omega arith
+        module _ (end : ℕ) (ee : end ≡ p + length (entries (spans start u))) where
+          pub length-small : end + (length i - q) < lastPlace
+          length-small =
+              let y = parts-room x s block i of start old (length b) p q l a u (parts .front) (parts .back) rewrites
+              (length (entries (movedSpans start old u (parts .front) (parts .back)))) (omega arith) in
+              omega (arith, y .3)
 
-          whole-index : n ≡ length (indexOf next)
-          whole-index = length-is ∙ sym (ap length index-is)
+          module _ (n : ℕ) (en : n ≡ end + (length i - q)) where
+            pub length-is : n ≡ length (entries (movedSpans start old u (parts .front) (parts .back)))
+            length-is = let m = new-long x s block i of start old (length b) p q l a u (parts .front) (parts .back) rewrites in omega arith
 
-          module _ (plan index : List ℕ) (r : Edited) where
-            pub plan-too-short : length plan < z → Refuses OutputTooShort r → Gives (inRooms (length plan) (length index) next) plan plan index index r
-            plan-too-short h c =
+            whole-index : n ≡ length (indexOf next)
+            whole-index = length-is ∙ sym (ap length index-is)
+
+            pub plan-too-short : (plan index : List ℕ) (r : Edited) → length plan < z → Refuses OutputTooShort r
+                → Gives (inRooms (length plan) (length index) next) plan plan index index r
+            plan-too-short plan index r h c =
                 let y : ltb (length plan) (length (write tree next)) ≡ true = lt-ltb (length plan) (length (write tree next)) (omega (arith, new-size)) in
-                gives-refused _ plan index OutputTooShort r (rw y) c
+                gives-refused (inRooms (length plan) (length index) next) plan index OutputTooShort r (rw y) c
 
-            module _ (roomy : z ≤ length plan) where
-              plan-fits : ltb (length plan) (length (write tree next)) ≡ false
-              plan-fits = le-ltb (length plan) (length (write tree next)) (omega (arith, new-size))
+            plan-fits : (plan : List ℕ) → z ≤ length plan → ltb (length plan) (length (write tree next)) ≡ false
+            plan-fits plan h = le-ltb (length plan) (length (write tree next)) (omega (arith, new-size))
 
-              pub index-too-short : length index < n → Refuses OutputTooShort r → Gives (inRooms (length plan) (length index) next) plan plan index index r
-              index-too-short h c =
-                  let y : ltb (length index) (length (indexOf next)) ≡ true = lt-ltb (length index) (length (indexOf next)) (omega (arith, whole-index)) in
-                  gives-refused _ plan index OutputTooShort r (rw (plan-fits, y)) c
+            pub index-too-short : (plan index : List ℕ) (r : Edited) → z ≤ length plan → length index < n → Refuses OutputTooShort r
+                → Gives (inRooms (length plan) (length index) next) plan plan index index r
+            index-too-short plan index r k h c =
+                let y : ltb (length index) (length (indexOf next)) ≡ true = lt-ltb (length index) (length (indexOf next)) (omega (arith, whole-index)) in
+                gives-refused (inRooms (length plan) (length index) next) plan index OutputTooShort r (rw (plan-fits plan k, y)) c
 
-              pub plan-room : start + length block + (length b - (start + old)) ≤ length plan
-              plan-room = let h = block-inside in omega arith
-
-              pub both-put : n ≤ length index → (plan′ index′ : List ℕ) → plan′ ≡ spliced plan 0 (take start b ++ (block ++ drop (start + old) b))
-                  → index′ ≡ spliced index 0 (entries (movedSpans start old u (parts .front) (parts .back)))
-                  → Gives (inRooms (length plan) (length index) next) plan plan′ index index′ (record { outcome = Accepted z; indexed = n })
-              both-put h plan′ index′ f g =
-                  let y : ltb (length index) (length (indexOf next)) ≡ false = le-ltb (length index) (length (indexOf next)) (omega (arith, whole-index)) in
-                  rw (plan-fits, y) (record {
-                    outcome = ap Accepted (ez ∙ sym new-size);
-                    long = whole-index;
-                    plan-is = f ∙ (ap (spliced plan 0) (sym bytes-are) ∙ put-first plan (write tree next));
-                    index-is = g ∙ (ap (spliced index 0) (sym index-is) ∙ put-first index (indexOf next));
-                  })
+            pub both-put : (plan index : List ℕ) → z ≤ length plan → n ≤ length index → (plan′ index′ : List ℕ)
+                → plan′ ≡ spliced plan 0 (take start b ++ (block ++ drop (start + old) b))
+                → index′ ≡ spliced index 0 (entries (movedSpans start old u (parts .front) (parts .back)))
+                → Gives (inRooms (length plan) (length index) next) plan plan′ index index′ (record { outcome = Accepted z; indexed = n })
+            both-put plan index k h plan′ index′ f g =
+                let y : ltb (length index) (length (indexOf next)) ≡ false = le-ltb (length index) (length (indexOf next)) (omega (arith, whole-index)) in
+                rw (plan-fits plan k, y) (record {
+                  outcome = ap Accepted (ez ∙ sym new-size);
+                  long = whole-index;
+                  plan-is = f ∙ (ap (spliced plan 0) (sym bytes-are) ∙ put-first plan (write tree next));
+                  index-is = g ∙ (ap (spliced index 0) (sym index-is) ∙ put-first index (indexOf next));
+                })
 
   -- replace
   module _ (plan index : List ℕ) (z : ℕ) (ez : z ≡ length b - old + length block) where
@@ -220,7 +230,7 @@ module _ (x s b i path block : List ℕ) (kind of start old : ℕ) (l : Language
         → Gives (newPlan path u t >>= λ v. inRooms (length plan) (length index) v) plan plan index index r
     plan-too-long h r c =
         let y : isLong (write tree next) ≡ true = lt-ltb longest (length (write tree next)) (omega (arith, new-size)) in
-        gives-refused _ plan index NotIndexed r (rw y) c
+        gives-refused (newPlan path u t >>= λ v. inRooms (length plan) (length index) v) plan index NotIndexed r (rw y) c
 
     pub plan-given : z ≤ longest → (plan′ index′ : List ℕ) (r : Edited) → Gives (inRooms (length plan) (length index) next) plan plan′ index index′ r
         → Gives (newPlan path u t >>= λ v. inRooms (length plan) (length index) v) plan plan′ index index′ r
@@ -248,35 +258,38 @@ module _ (x s b i path block : List ℕ) (kind of start old numbers : ℕ) (l : 
   pub block-ready : Ready x s of block 0
   block-ready = record { sound = w .index-of .indexed .sound; kind = in-below s of l (w .index-of .indexed .entries) (w .known); inside = omega arith }
 
-  module _ (plan index : List ℕ) (n : ℕ) (en : n ≡ 64 - numbers) (r : Read) (er : restAt block r ≡ restOf (Meant.read tree l [] n of block)) where
+  -- What is left to be decided.
+  abbrev After : (plan index : List ℕ) → Result Code → Result Code
+  After plan index o = (o >>= λ u. newPlan path u t) >>= λ v. inRooms (length plan) (length index) v
+
+  module _ (n : ℕ) (en : n ≡ 64 - numbers) (r : Read) (er : restAt block r ≡ restOf (Meant.read tree l [] n of block)) where
     abbrev what : Meant.Read Code
     what = Meant.read tree l [] (treeLevels - length path) of block
 
     read-is : restAt block r ≡ restOf what
     read-is = er ∙ ap (λ (m : ℕ). restOf (Meant.read tree l [] m of block)) (en ∙ ap (λ (m : ℕ). 64 - m) (w .numbers-are))
 
-    abbrev After : Result Code → Result Code
-    After o = (o >>= λ u. newPlan path u t) >>= λ v. inRooms (length plan) (length index) v
-
-    pub block-deep : r ≡ Deep → (e : Edited) → Refuses TooDeep e → Gives (After (newBlock l path (blockOf start of a) block)) plan plan index index e
-    block-deep q e c =
+    pub block-deep : (plan index : List ℕ) → r ≡ Deep → (e : Edited) → Refuses TooDeep e → Gives (After plan index (newBlock l path (blockOf start of a) block)) plan plan index index e
+    block-deep plan index q e c =
         let z : what ≡ Meant.deep = deep-of what (sym (ap (restAt block) q) ∙ read-is) in
-        gives-refused _ plan index TooDeep e (ap (λ (o : Meant.Read Code). After (wholeTree o)) z) c
+        gives-refused (After plan index (wholeTree what)) plan index TooDeep e (ap (λ (o : Meant.Read Code). After plan index (wholeTree o)) z) c
 
-    pub block-broken : r ≡ Broken → (e : Edited) → Refuses IllegalTree e → Gives (After (newBlock l path (blockOf start of a) block)) plan plan index index e
-    block-broken q e c =
+    pub block-broken : (plan index : List ℕ) → r ≡ Broken → (e : Edited) → Refuses IllegalTree e → Gives (After plan index (newBlock l path (blockOf start of a) block)) plan plan index index e
+    block-broken plan index q e c =
         let z : what ≡ Meant.broken = broken-of what (sym (ap (restAt block) q) ∙ read-is) in
-        gives-refused _ plan index IllegalTree e (ap (λ (o : Meant.Read Code). After (wholeTree o)) z) c
+        gives-refused (After plan index (wholeTree what)) plan index IllegalTree e (ap (λ (o : Meant.Read Code). After plan index (wholeTree o)) z) c
 
     module _ (e : ℕ) (q : r ≡ End e) (inside : EndsBy (length block) r) where
-      done-is : (u : Code) × (what ≡ Meant.done u (drop e block))
+      pub done-is : (u : Code) × (what ≡ Meant.done u (drop e block))
       done-is = done-of what (drop e block) (sym (ap (restAt block) q) ∙ read-is)
 
-      pub block-left : (e ≡ length block → ⊥) → (d : Edited) → Refuses IllegalTree d → Gives (After (newBlock l path (blockOf start of a) block)) plan plan index index d
-      block-left h d c =
+      pub block-left : (plan index : List ℕ) → (e ≡ length block → ⊥) → (d : Edited) → Refuses IllegalTree d
+          → Gives (After plan index (newBlock l path (blockOf start of a) block)) plan plan index index d
+      block-left plan index h d c =
           let j : e ≤ length block = rw q at inside in
           let g : e < length block = omega arith in
-          gives-refused _ plan index IllegalTree d (ap (λ (o : Meant.Read Code). After (wholeTree o)) (done-is .1 ∙ ap (Meant.done (done-is .0)) (front block e g))) c
+          gives-refused (After plan index (wholeTree what)) plan index IllegalTree d
+          (ap (λ (o : Meant.Read Code). After plan index (wholeTree o)) (done-is .1 ∙ ap (Meant.done (done-is .0)) (front block e g))) c
 
       module _ (all : e ≡ length block) where
         whole-is : what ≡ Meant.done (done-is .0) []
@@ -299,23 +312,29 @@ module _ (x s b i path block : List ℕ) (kind of start old numbers : ℕ) (l : 
               new = y ∙ append-nil (write tree (done-is .0));
             }
 
-        pub block-given : (plan′ index′ : List ℕ) (d : Edited) → Gives (newPlan path (done-is .0) t >>= λ v. inRooms (length plan) (length index) v) plan plan′ index index′ d
-            → Gives (After (newBlock l path (blockOf start of a) block)) plan plan′ index index′ d
-        block-given plan′ index′ d c =
+        pub block-given : (plan index plan′ index′ : List ℕ) (d : Edited) → Gives (newPlan path (done-is .0) t >>= λ v. inRooms (length plan) (length index) v) plan plan′ index index′ d
+            → Gives (After plan index (newBlock l path (blockOf start of a) block)) plan plan′ index index′ d
+        block-given plan index plan′ index′ d c =
             let z : newBlock l path (blockOf start of a) block ≡ value (done-is .0) = ap wholeTree whole-is in
             rw z c
 
 -- edit_legal
-module _ (x s b i path block : List ℕ) (kind : ℕ) (l : Language) (t : Code) (w : Owns x s b i kind l t)
-    (r : Step) (er : Ends x s b i l (blockAt everyKind l path (blockOf 0 kind t)) r) (plan index : List ℕ) where
-  abbrev Whole : Result Block → Result Code
-  Whole o = (o >>= λ c. newBlock l path c block >>= λ u. newPlan path u t) >>= λ v. inRooms (length plan) (length index) v
+module _ (x s b i path : List ℕ) (kind : ℕ) (l : Language) (t : Code) (w : Owns x s b i kind l t)
+    (r : Step) (er : Ends x s b i l (blockAt everyKind l path (blockOf 0 kind t)) r) where
+  abbrev Whole : (block plan index : List ℕ) → Result Block → Result Code
+  Whole block plan index o = (o >>= λ c. newBlock l path c block >>= λ u. newPlan path u t) >>= λ v. inRooms (length plan) (length index) v
 
-  pub path-nowhere : r ≡ Nowhere → (e : Edited) → Refuses NoBlock e → Gives (Whole (found (blockAt everyKind l path (blockOf 0 kind t)))) plan plan index index e
-  path-nowhere q e c = gives-refused _ plan index NoBlock e (ap (λ (o : Reached). Whole (found o)) (er .nowhere q)) c
+  pub path-nowhere : (block plan index : List ℕ) → r ≡ Nowhere → (e : Edited) → Refuses NoBlock e
+      → Gives (Whole block plan index (found (blockAt everyKind l path (blockOf 0 kind t)))) plan plan index index e
+  path-nowhere block plan index q e c =
+      gives-refused (Whole block plan index (found (blockAt everyKind l path (blockOf 0 kind t)))) plan index NoBlock e
+      (ap (λ (o : Reached). Whole block plan index (found o)) (er .nowhere q)) c
 
-  pub path-unseen : r ≡ Unseen → (e : Edited) → Refuses Hidden e → Gives (Whole (found (blockAt everyKind l path (blockOf 0 kind t)))) plan plan index index e
-  path-unseen q e c = gives-refused _ plan index Hidden e (ap (λ (o : Reached). Whole (found o)) (er .unseen q)) c
+  pub path-unseen : (block plan index : List ℕ) → r ≡ Unseen → (e : Edited) → Refuses Hidden e
+      → Gives (Whole block plan index (found (blockAt everyKind l path (blockOf 0 kind t)))) plan plan index index e
+  path-unseen block plan index q e c =
+      gives-refused (Whole block plan index (found (blockAt everyKind l path (blockOf 0 kind t)))) plan index Hidden e
+      (ap (λ (o : Reached). Whole block plan index (found o)) (er .unseen q)) c
 
   module _ (a k p : ℕ) (q : r ≡ To a k p) where
     pub path-entry : (v : List ℕ) × Entry i p a (size (er .to a k p q .0)) v
@@ -335,19 +354,20 @@ module _ (x s b i path block : List ℕ) (kind : ℕ) (l : Language) (t : Code) 
           known = z .2 .there .lies .known;
         }
 
-    pub path-given : (plan′ index′ : List ℕ) (e : Edited)
+    pub path-given : (block plan index plan′ index′ : List ℕ) (e : Edited)
         → Gives ((newBlock l path (blockOf a k (er .to a k p q .0)) block >>= λ u. newPlan path u t) >>= λ v. inRooms (length plan) (length index) v) plan plan′ index index′ e
-        → Gives (Whole (found (blockAt everyKind l path (blockOf 0 kind t)))) plan plan′ index index′ e
-    path-given plan′ index′ e c = rw (er .to a k p q .1) c
+        → Gives (Whole block plan index (found (blockAt everyKind l path (blockOf 0 kind t)))) plan plan′ index index′ e
+    path-given block plan index plan′ index′ e c = rw (er .to a k p q .1) c
 
 -- edit
-module _ (s : List ℕ) (root : ℕ) (b i path block : List ℕ) {o : Outcome} (eo : o ≡ checkIndexed s root b i) (plan index : List ℕ) where
-  pub edit-refused : {y : Reason} → o ≡ Refused y → (r : Edited) → Refuses y r → Hands (editTree s root b i path block plan index) plan index r
+module _ (s : List ℕ) (root : ℕ) (b i : List ℕ) {o : Outcome} (eo : o ≡ checkIndexed s root b i) where
+  pub edit-refused : (path block plan index : List ℕ) {y : Reason} → o ≡ Refused y → (r : Edited) → Refuses y r → Hands (editTree s root b i path block plan index) plan index r
   unfolding editTree editPlan
-  edit-refused {y} q r c =
+  edit-refused path block plan index {y} q r c =
       let z : editPlan s root b i path block ≡ refused y =
       refused-own s root b i (λ l t. found (blockAt everyKind l path (blockOf 0 root t)) >>= λ d. newBlock l path d block >>= λ u. newPlan path u t) (sym eo ∙ q) in
-      gives-refused _ plan index y r (ap (λ (m : Result Code). m >>= λ v. inRooms (length plan) (length index) v) z) c
+      gives-refused (editPlan s root b i path block >>= λ v. inRooms (length plan) (length index) v) plan index y r
+      (ap (λ (m : Result Code). m >>= λ v. inRooms (length plan) (length index) v) z) c
 
   module _ {n : ℕ} (accepted : o ≡ Accepted n) where
     pub owned : Owned s root b i
@@ -368,11 +388,11 @@ module _ (s : List ℕ) (root : ℕ) (b i path block : List ℕ) {o : Outcome} (
       };
     }
 
-    pub edit-given : (plan′ index′ : List ℕ) (r : Edited)
+    pub edit-given : (path block plan index plan′ index′ : List ℕ) (r : Edited)
         → Gives ((found (blockAt everyKind (owned .language) path (blockOf 0 root (owned .subject))) >>= λ c. newBlock (owned .language) path c block >>= λ u. newPlan path u (owned .subject)) >>= λ v. inRooms (length plan) (length index) v) plan plan′ index index′ r
         → Hands (editTree s root b i path block plan index) plan′ index′ r
     unfolding editTree editPlan
-    edit-given plan′ index′ r c = let w = owned .by in rw (w .is, w .indexed-is) c
+    edit-given path block plan index plan′ index′ r c = let w = owned .by in rw (w .is, w .indexed-is) c
 
 -- The answer told by numbers.
 pub tells : (d : Editing) (plan index : List ℕ) (r : Edited) → Hands d plan index r → (n m : ℕ) → n ≡ numberOf (r .outcome) → m ≡ lengthOf (r .outcome)

@@ -100,23 +100,25 @@ module _ (l : Language) (u : Code) (c : Block) where
       → blockAt everyKind l path (blockOf (x .start) (x .kind) (replaceAt path u (x .subtree))) ≡ reached (blockOf (c .start) (c .kind) u)
   unfolding blockAt replaceAt
   path-replaced [] x e = ap (λ (y : Block). reached (blockOf (y .start) (y .kind) u)) (reached-inj e)
-  path-replaced (i ∷ path) x e = go (argumentOf l (x .start) (x .subtree) i) refl e
+  path-replaced (i ∷ path) x e = go (λ d f. path-replaced path d f) (argumentOf l (x .start) (x .subtree) i) refl e
     where
-      go : (o : Option Block) → argumentOf l (x .start) (x .subtree) i ≡ o → elim o [ none ↦ nowhere | some d ↦ blockAt everyKind l path d ] ≡ reached c
+      go : ((d : Block) → blockAt everyKind l path d ≡ reached c → blockAt everyKind l path (blockOf (d .start) (d .kind) (replaceAt path u (d .subtree))) ≡ reached (blockOf (c .start) (c .kind) u))
+          → (o : Option Block) → argumentOf l (x .start) (x .subtree) i ≡ o → elim o [ none ↦ nowhere | some d ↦ blockAt everyKind l path d ] ≡ reached c
           → elim (argumentOf l (x .start) (replaceAt (i ∷ path) u (x .subtree)) i) [ none ↦ nowhere | some d ↦ blockAt everyKind l path d ] ≡ reached (blockOf (c .start) (c .kind) u)
-      go none q f = nowhere-reached f
-      go (some d) q f = rw (argument-replaced l path u d i (x .start) (x .subtree) q) (path-replaced path d f)
+      go h none q f = nowhere-reached f
+      go h (some d) q f = rw (argument-replaced l path u d i (x .start) (x .subtree) q) (h d f)
 
   path-typed : (path : List ℕ) (x : Block) → blockAt everyKind l path x ≡ reached c → Typed l [] (x .subtree) (x .kind) → Typed l [] u (c .kind)
       → Typed l [] (replaceAt path u (x .subtree)) (x .kind)
   unfolding blockAt replaceAt
   path-typed [] x e w v = rw (reached-inj e) v
-  path-typed (i ∷ path) x e w v = go (argumentOf l (x .start) (x .subtree) i) refl e
+  path-typed (i ∷ path) x e w v = go (λ d f y. path-typed path d f y v) (argumentOf l (x .start) (x .subtree) i) refl e
     where
-      go : (o : Option Block) → argumentOf l (x .start) (x .subtree) i ≡ o → elim o [ none ↦ nowhere | some d ↦ blockAt everyKind l path d ] ≡ reached c
+      go : ((d : Block) → blockAt everyKind l path d ≡ reached c → Typed l [] (d .subtree) (d .kind) → Typed l [] (replaceAt path u (d .subtree)) (d .kind))
+          → (o : Option Block) → argumentOf l (x .start) (x .subtree) i ≡ o → elim o [ none ↦ nowhere | some d ↦ blockAt everyKind l path d ] ≡ reached c
           → Typed l [] (replaceAt (i ∷ path) u (x .subtree)) (x .kind)
-      go none q f = nowhere-reached f
-      go (some d) q f = argument-typed l path u d i (x .start) (x .subtree) (x .kind) w q (λ y. path-typed path d f y v)
+      go h none q f = nowhere-reached f
+      go h (some d) q f = argument-typed l path u d i (x .start) (x .subtree) (x .kind) w q (h d f)
 
 -- The steps of an edit that was made.
 module _ (s : List ℕ) (root : ℕ) (bytes index path block : List ℕ) (byte : (i : ℕ) → byteAt bytes i < 256) (blocks : (i : ℕ) → byteAt block i < 256)

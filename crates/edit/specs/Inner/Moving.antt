@@ -54,6 +54,7 @@ pub record Parted (index : List ℕ) (start old top : ℕ) (a : Code) (front bac
 pub record Rewrites (places s block index : List ℕ) (of start old top p q : ℕ) (l : Language) (a u : Code) (front back : List Span) : Type 0 where
   pub parted : Parted index start old top a front back
   pub fits : Fits old (length block) top
+  pub inside : start + old ≤ top
   pub size-is : old ≡ size a
   pub first : p ≡ length (entries front)
   pub last : q ≡ p + length (entries (spans start a))

@@ -1,0 +1,55 @@
+use mathlib.Core.Path.{refl}
+use native.Mathlib.Omega.{arith}
+use Rattle.edit.proofs.Planning.{block-inside, plan-too-long, plan-given}
+use borrow.Author.Needs.{needs}
+use Rattle.edit.proofs.edit.replace.Statement.{statement}
+use Rattle.edit.proofs.edit.replace.Tie as tie
+use Rattle.edit.proofs.edit.replace.Reads as reads
+use Rattle.edit.proofs.edit.replace.Lts as lts
+use Rattle.edit.proofs.edit.refuse_edit.Reads as refuse-edit-reads
+use Rattle.edit.proofs.edit.rewrite.Reads as rewrite-reads
+
+-- src/edit.rt:109:16
+sub-size : tie.Need-sub-size
+sub-size c = omega (arith, block-inside _ _ _ _ (@pre .0) _ (@pre .1) _ _ _ (@pre .2) (@pre .3) (@pre .4) (@pre .5) (@pre .6))
+
+-- src/edit.rt:109:16
+add-size : tie.Need-add-size
+add-size c = search needs
+
+-- src/edit.rt:111:9
+refuse-edit-requires : tie.Need-refuse-edit-requires
+refuse-edit-requires c κs = search needs
+
+-- src/edit.rt:111:9
+returns : tie.Need-returns
+returns c = λ path kind l t a u w. plan-too-long _ _ _ _ path _ kind _ _ _ l t a u w _ _ _ refl (@if1 .taken) _ (@refuse-edit .ensures)
+
+-- src/edit.rt:113:5
+rewrite-requires : tie.Need-rewrite-requires
+rewrite-requires c κs = (refl, @if1 .left, (@pre))
+
+-- src/edit.rt:91:1
+same-length : tie.Need-same-length
+same-length c = search needs
+
+-- src/edit.rt:91:1
+same-length-2 : tie.Need-same-length-2
+same-length-2 c = search needs
+
+-- src/edit.rt:91:1
+returns-2 : tie.Need-returns-2
+returns-2 c = λ path kind l t a u w. plan-given _ _ _ _ path _ kind _ _ _ l t a u w _ _ _ refl (@if1 .left) _ _ _ (@rewrite .ensures path kind l t a u w)
+
+pub replace-spec : {M : Type 1} → statement M
+replace-spec =
+    tie.close
+    (tie.spec
+    sub-size
+    add-size
+    refuse-edit-requires
+    returns
+    rewrite-requires
+    same-length
+    same-length-2
+    returns-2)
