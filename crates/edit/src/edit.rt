@@ -80,7 +80,18 @@ fn rewrite(
         return refuse_edit(Reason::OutputTooShort);
     }
     put_plan(tree, start, start + old, block, plan);
-    put_index(language, places, of, block, index, start, old, first, last, plan_index);
+    put_index(
+        language,
+        places,
+        of,
+        block,
+        index,
+        start,
+        old,
+        first,
+        last,
+        plan_index,
+    );
     Edited {
         outcome: Outcome::Accepted(size),
         indexed: length,
@@ -110,7 +121,19 @@ fn replace(
     if LONGEST < size {
         return refuse_edit(Reason::NotIndexed);
     }
-    rewrite(language, places, of, tree, index, start, old, block, size, plan, plan_index)
+    rewrite(
+        language,
+        places,
+        of,
+        tree,
+        index,
+        start,
+        old,
+        block,
+        size,
+        plan,
+        plan_index,
+    )
 }
 
 // How many levels are left below a path of so many numbers.
@@ -143,12 +166,32 @@ fn replace_block(
         → Reaches (now (places .entry)) (now (language .entry)) (now (tree .entry)) (now (index .entry)) path kind of start old numbers l t a
         → Gives (blockIn (length (now (plan .entry))) (length (now («plan_index» .entry))) l path (blockOf start of a) (now (block .entry)) t) (now (plan .entry)) (now (plan .exit)) (now («plan_index» .entry)) (now («plan_index» .exit)) r) ⌝ }
 {
-    match read(Syntax::Tree, language, places, &[], of, block, 0, levels_left(numbers)) {
+    match read(
+        Syntax::Tree,
+        language,
+        places,
+        &[],
+        of,
+        block,
+        0,
+        levels_left(numbers),
+    ) {
         Read::End(e) => {
             if e != block.len() {
                 return refuse_edit(Reason::IllegalTree);
             }
-            replace(language, places, of, tree, index, start, old, block, plan, plan_index)
+            replace(
+                language,
+                places,
+                of,
+                tree,
+                index,
+                start,
+                old,
+                block,
+                plan,
+                plan_index,
+            )
         }
         Read::Deep => refuse_edit(Reason::TooDeep),
         Read::Broken => refuse_edit(Reason::IllegalTree),
@@ -211,5 +254,15 @@ pub fn edit(
     if let Outcome::Refused(reason) = outcome {
         return refuse_edit(reason);
     }
-    edit_legal(language, &places, root as u8, tree, index, path, block, plan, plan_index)
+    edit_legal(
+        language,
+        &places,
+        root as u8,
+        tree,
+        index,
+        path,
+        block,
+        plan,
+        plan_index,
+    )
 }

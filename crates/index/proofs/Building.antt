@@ -58,9 +58,9 @@ module _ (i o o′ : List ℕ) (e : ℕ) (t : Code) (r : Marked) (w : Walks true
       let n : m ≡ length v = x .end ∙ omega arith in
       same-truth (eqb m (length i)) (sameNumbers i (indexOf t))
       (λ y.
-        let k : length (v ++ h .rest) ≡ length v = sym (ap length (h .is)) ∙ (sym (eqb-true m (length i) y) ∙ n) in
-        let j : i ≡ v = h .is ∙ (ap (λ (z : List ℕ). v ++ z) (empty-rest v (h .rest) k) ∙ append-nil v) in
-        rw (← j) (equal-numbers i))
+      let k : length (v ++ h .rest) ≡ length v = sym (ap length (h .is)) ∙ (sym (eqb-true m (length i) y) ∙ n) in
+      let j : i ≡ v = h .is ∙ (ap (λ (z : List ℕ). v ++ z) (empty-rest v (h .rest) k) ∙ append-nil v) in
+      rw (← j) (equal-numbers i))
       (λ y. eq-eqb m (length i) (n ∙ sym (ap length (numbers-equal i (indexOf t) y))))
 
   pub own-unlike : r ≡ Differs → false ≡ sameNumbers i (indexOf t)

@@ -108,7 +108,13 @@ pub fn index(language: &[u8], root: u32, tree: &[u8], output: &mut [u8]) -> Answ
 
 // Check a tree and the index that stands beside it: 1 to 4 for the language, 14 to 16 for the tree, 22 where it is too long
 // or the index is not its own. Where they are accepted, the language's index was built in an index that was all zero.
-pub fn check_own(language: &[u8], root: u32, tree: &[u8], index: &[u8], places: &mut [u16]) -> Answer
+pub fn check_own(
+    language: &[u8],
+    root: u32,
+    tree: &[u8],
+    index: &[u8],
+    places: &mut [u16],
+) -> Answer
     requires { ⌜ (length (now places) ≡ indexLength) × ((j : ℕ) → getD (now places) j 0 ≡ 0) ⌝ }
     ensures { λ r. ⌜ (r .outcome ≡ checkIndexed (now (language .entry)) root (now (tree .entry)) (now (index .entry)))
         × ((n : ℕ) (l : Language) → r .outcome ≡ Accepted n → entriesOf (now (language .entry)) ≡ some l

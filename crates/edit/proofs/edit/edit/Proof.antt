@@ -29,7 +29,7 @@ refuse-edit-requires c κs = search needs
 
 -- src/edit.rt:212:9
 returns : tie.Need-returns
-returns c = edit-refused _ _ _ _ (@check-own .ensures .0) _ _ _ _ (@outcome .given .1) _ (@refuse-edit .ensures)
+returns c = edit-refused _ _ _ _ (c .before .before .before .before .before .check-own .ensures .0) _ _ _ _ (c .before .before .outcome .given .1) _ (c .refuse-edit .ensures)
 
 enum-told : tie.Need-enum-told
 enum-told c = search needs
@@ -40,11 +40,11 @@ slice-aggregate-edit-legal c = search needs
 
 -- src/edit.rt:214:35
 cast-edit-legal : tie.Need-cast-edit-legal
-cast-edit-legal c = omega (arith, root-small _ _ _ _ (@check-own .ensures .0) (@enum-told .given .1))
+cast-edit-legal c = omega (arith, root-small _ _ _ _ (c .before .before .before .before .check-own .ensures .0) (c .before .enum-told .given .1))
 
 -- src/edit.rt:214:5
 edit-legal-requires : tie.Need-edit-legal-requires
-edit-legal-requires c κs = (owned _ _ _ _ (@check-own .ensures .0) (@enum-told .given .1) .language, owned _ _ _ _ (@check-own .ensures .0) (@enum-told .given .1) .subject, (owns _ _ _ _ (@check-own .ensures .0) (@enum-told .given .1) _ (λ j. omega (arith, @shared-slice-known2 .given j)) (@check-own .ensures .1)))
+edit-legal-requires c κs = (owned _ _ _ _ (c .before .before .before .before .before .before .check-own .ensures .0) (c .before .before .before .enum-told .given .1) .language, owned _ _ _ _ (c .before .before .before .before .before .before .check-own .ensures .0) (c .before .before .before .enum-told .given .1) .subject, (owns _ _ _ _ (c .before .before .before .before .before .before .check-own .ensures .0) (c .before .before .before .enum-told .given .1) _ (λ j. omega (arith, c .before .before .before .before .before .before .before .before .before .before .before .before .before .shared-slice-known2 .given j)) (c .before .before .before .before .before .before .check-own .ensures .1)))
 
 -- src/edit.rt:195:1
 same-length : tie.Need-same-length
@@ -56,7 +56,7 @@ same-length-2 c = search needs
 
 -- src/edit.rt:195:1
 returns-2 : tie.Need-returns-2
-returns-2 c = edit-given _ _ _ _ (@check-own .ensures .0) (@enum-told .given .1) _ _ _ _ _ _ _ (@edit-legal .ensures _ _ (owns _ _ _ _ (@check-own .ensures .0) (@enum-told .given .1) _ (λ j. omega (arith, @shared-slice-known2 .given j)) (@check-own .ensures .1)))
+returns-2 c = edit-given _ _ _ _ (c .before .before .before .before .before .before .before .before .before .before .before .check-own .ensures .0) (c .before .before .before .before .before .before .before .before .enum-told .given .1) _ _ _ _ _ _ _ (c .before .before .before .before .edit-legal .ensures _ _ (owns _ _ _ _ (c .before .before .before .before .before .before .before .before .before .before .before .check-own .ensures .0) (c .before .before .before .before .before .before .before .before .enum-told .given .1) _ (λ j. omega (arith, c .before .before .before .before .before .before .before .before .before .before .before .before .before .before .before .before .before .before .shared-slice-known2 .given j)) (c .before .before .before .before .before .before .before .before .before .before .before .check-own .ensures .1)))
 
 pub edit-spec : {M : Type 1} → statement M
 edit-spec =

@@ -20,7 +20,7 @@ levels-left-requires c κs = search needs
 
 -- src/edit.rt:146:11
 read-requires : tie.Need-read-requires
-read-requires c κs = block-ready _ _ _ _ (@pre .0) _ (@pre .1) _ _ _ _ (@pre .2) (@pre .3) (@pre .4) (@pre .5)
+read-requires c κs = block-ready _ _ _ _ (c .before .before .before .before .before .before .before .before .before .pre .0) _ (c .before .before .before .before .before .before .before .before .before .pre .1) _ _ _ _ (c .before .before .before .before .before .before .before .before .before .pre .2) (c .before .before .before .before .before .before .before .before .before .pre .3) (c .before .before .before .before .before .before .before .before .before .pre .4) (c .before .before .before .before .before .before .before .before .before .pre .5)
 
 -- src/edit.rt:147:19
 enum-known-e : tie.Need-enum-known-e
@@ -32,11 +32,11 @@ refuse-edit-requires c κs = search needs
 
 -- src/edit.rt:149:17
 returns : tie.Need-returns
-returns c = λ path kind l t a w. block-left _ _ _ _ path _ kind _ _ _ _ l t a w _ (@levels-left .ensures) _ (@read .ensures .0 l (w .index-of .indexed)) _ (@e .given .1) (@read .ensures .1) _ _ (@if1 .taken) _ (@refuse-edit .ensures)
+returns c = λ path kind l t a w. block-left _ _ _ _ path _ kind _ _ _ _ l t a w _ (c .before .before .before .before .before .before .levels-left .ensures) _ (c .before .before .before .before .before .read .ensures .0 l (w .index-of .indexed)) _ (c .before .before .before .e .given .1) (c .before .before .before .before .before .read .ensures .1) _ _ (c .before .if1 .taken) _ (c .refuse-edit .ensures)
 
 -- src/edit.rt:151:13
 replace-requires : tie.Need-replace-requires
-replace-requires c κs = (@pre .0, @pre .1, @pre .2, @pre .3, @pre .4, done-is _ _ _ _ (@pre .0) _ (@pre .1) _ _ _ _ (@pre .2) (@pre .3) (@pre .4) (@pre .5) _ (@levels-left .ensures) _ (@read .ensures .0 (@pre .2) ((@pre .5) .index-of .indexed)) _ (@e .given .1) (@read .ensures .1) .0, block-replaces _ _ _ _ (@pre .0) _ (@pre .1) _ _ _ _ (@pre .2) (@pre .3) (@pre .4) (@pre .5) _ (@levels-left .ensures) _ (@read .ensures .0 (@pre .2) ((@pre .5) .index-of .indexed)) _ (@e .given .1) (@read .ensures .1) (@if1 .left) (λ j. omega (arith, @shared-slice-known5 .given j)))
+replace-requires c κs = (c .before .before .before .before .before .before .before .before .before .before .before .before .before .before .before .before .pre .0, c .before .before .before .before .before .before .before .before .before .before .before .before .before .before .before .before .pre .1, c .before .before .before .before .before .before .before .before .before .before .before .before .before .before .before .before .pre .2, c .before .before .before .before .before .before .before .before .before .before .before .before .before .before .before .before .pre .3, c .before .before .before .before .before .before .before .before .before .before .before .before .before .before .before .before .pre .4, done-is _ _ _ _ (c .before .before .before .before .before .before .before .before .before .before .before .before .before .before .before .before .pre .0) _ (c .before .before .before .before .before .before .before .before .before .before .before .before .before .before .before .before .pre .1) _ _ _ _ (c .before .before .before .before .before .before .before .before .before .before .before .before .before .before .before .before .pre .2) (c .before .before .before .before .before .before .before .before .before .before .before .before .before .before .before .before .pre .3) (c .before .before .before .before .before .before .before .before .before .before .before .before .before .before .before .before .pre .4) (c .before .before .before .before .before .before .before .before .before .before .before .before .before .before .before .before .pre .5) _ (c .before .before .before .before .before .before .before .levels-left .ensures) _ (c .before .before .before .before .before .before .read .ensures .0 (c .before .before .before .before .before .before .before .before .before .before .before .before .before .before .before .before .pre .2) ((c .before .before .before .before .before .before .before .before .before .before .before .before .before .before .before .before .pre .5) .index-of .indexed)) _ (c .before .before .before .before .e .given .1) (c .before .before .before .before .before .before .read .ensures .1) .0, block-replaces _ _ _ _ (c .before .before .before .before .before .before .before .before .before .before .before .before .before .before .before .before .pre .0) _ (c .before .before .before .before .before .before .before .before .before .before .before .before .before .before .before .before .pre .1) _ _ _ _ (c .before .before .before .before .before .before .before .before .before .before .before .before .before .before .before .before .pre .2) (c .before .before .before .before .before .before .before .before .before .before .before .before .before .before .before .before .pre .3) (c .before .before .before .before .before .before .before .before .before .before .before .before .before .before .before .before .pre .4) (c .before .before .before .before .before .before .before .before .before .before .before .before .before .before .before .before .pre .5) _ (c .before .before .before .before .before .before .before .levels-left .ensures) _ (c .before .before .before .before .before .before .read .ensures .0 (c .before .before .before .before .before .before .before .before .before .before .before .before .before .before .before .before .pre .2) ((c .before .before .before .before .before .before .before .before .before .before .before .before .before .before .before .before .pre .5) .index-of .indexed)) _ (c .before .before .before .before .e .given .1) (c .before .before .before .before .before .before .read .ensures .1) (c .before .before .if1 .left) (λ j. omega (arith, c .before .before .before .before .before .before .before .before .before .before .before .shared-slice-known5 .given j)))
 
 -- src/edit.rt:153:35
 enum-told : tie.Need-enum-told
@@ -64,15 +64,15 @@ same-length-2 c = search needs
 
 -- src/edit.rt:127:1
 returns-2 : tie.Need-returns-2
-returns-2 c = λ path kind l t a w. block-given _ _ _ _ path _ kind _ _ _ _ l t a w _ (@levels-left .ensures) _ (@read .ensures .0 l (w .index-of .indexed)) _ (@e .given .1) (@read .ensures .1) (@if1 .left) _ _ _ _ _ (@replace .ensures path kind l t a _ (block-replaces _ _ _ _ path _ kind _ _ _ _ l t a w _ (@levels-left .ensures) _ (@read .ensures .0 l (w .index-of .indexed)) _ (@e .given .1) (@read .ensures .1) (@if1 .left) (λ j. omega (arith, @shared-slice-known5 .given j))))
+returns-2 c = λ path kind l t a w. block-given _ _ _ _ path _ kind _ _ _ _ l t a w _ (c .before .before .before .before .before .before .before .before .before .before .before .before .levels-left .ensures) _ (c .before .before .before .before .before .before .before .before .before .before .before .read .ensures .0 l (w .index-of .indexed)) _ (c .before .before .before .before .before .before .before .before .before .e .given .1) (c .before .before .before .before .before .before .before .before .before .before .before .read .ensures .1) (c .before .before .before .before .before .before .before .if1 .left) (c .before .before .before .before .before .before .before .before .before .before .before .before .before .before .before .before .before .before .before .before .before .args .plan .now) (c .before .before .before .before .before .before .before .before .before .before .before .before .before .before .before .before .before .before .before .before .before .args .plan-index .now) _ _ _ (c .before .before .before .before .replace .ensures path kind l t a _ (block-replaces _ _ _ _ path _ kind _ _ _ _ l t a w _ (c .before .before .before .before .before .before .before .before .before .before .before .before .levels-left .ensures) _ (c .before .before .before .before .before .before .before .before .before .before .before .read .ensures .0 l (w .index-of .indexed)) _ (c .before .before .before .before .before .before .before .before .before .e .given .1) (c .before .before .before .before .before .before .before .before .before .before .before .read .ensures .1) (c .before .before .before .before .before .before .before .if1 .left) (λ j. omega (arith, c .before .before .before .before .before .before .before .before .before .before .before .before .before .before .before .before .shared-slice-known5 .given j))))
 
 -- src/edit.rt:127:1
 returns-3 : tie.Need-returns-3
-returns-3 c = λ path kind l t a w. block-deep _ _ _ _ path _ kind _ _ _ _ l t a w _ (@levels-left .ensures) _ (@read .ensures .0 l (w .index-of .indexed)) _ _ (@enum-told .given .1) _ (@refuse-edit2 .ensures)
+returns-3 c = λ path kind l t a w. block-deep _ _ _ _ path _ kind _ _ _ _ l t a w _ (c .before .before .before .before .levels-left .ensures) _ (c .before .before .before .read .ensures .0 l (w .index-of .indexed)) _ _ (c .before .enum-told .given .1) _ (c .refuse-edit2 .ensures)
 
 -- src/edit.rt:127:1
 returns-4 : tie.Need-returns-4
-returns-4 c = λ path kind l t a w. block-broken _ _ _ _ path _ kind _ _ _ _ l t a w _ (@levels-left .ensures) _ (@read .ensures .0 l (w .index-of .indexed)) _ _ (@enum-told2 .given .1) _ (@refuse-edit3 .ensures)
+returns-4 c = λ path kind l t a w. block-broken _ _ _ _ path _ kind _ _ _ _ l t a w _ (c .before .before .before .before .levels-left .ensures) _ (c .before .before .before .read .ensures .0 l (w .index-of .indexed)) _ _ (c .before .enum-told2 .given .1) _ (c .refuse-edit3 .ensures)
 
 pub replace-block-spec : {M : Type 1} → statement M
 replace-block-spec =

@@ -26,15 +26,15 @@ loop-holds c = (refl, λ l h. move-begin _ _ _ _ _ _ _ _ l h)
 
 -- src/moves.rt:68:9
 move-entry-requires : tie.Need-move-entry-requires Inv-loop μ-loop
-move-entry-requires c κs = let w = (@loop .inv .1 (@pre .3 .1) (@pre .3 .2)) in let y = move-inside _ _ _ _ _ _ _ _ _ _ _ (@pre .3 .1) w (@loop-test .taken) in (y .0, omega (arith, y .1, @pre .0, @loop .inv .0), omega (arith, y .1, @pre .1), @pre .2, move-fits _ _ _ _ _ _ _ _ _ _ _ (@pre .3 .1) w (@loop-test .taken) _ (@pre .3 .3) (@pre .3 .4), move-apart _ _ _ _ _ _ _ _ _ _ _ (@pre .3 .1) w (@loop-test .taken) _ (@pre .3 .3) (@pre .3 .4))
+move-entry-requires c κs = let w = (c .before .before .loop .inv .1 (c .before .before .before .before .before .pre .3 .1) (c .before .before .before .before .before .pre .3 .2)) in let y = move-inside _ _ _ _ _ _ _ _ _ _ _ (c .before .before .before .before .before .pre .3 .1) w (c .before .loop-test .taken) in (y .0, omega (arith, y .1, c .before .before .before .before .before .pre .0, c .before .before .loop .inv .0), omega (arith, y .1, c .before .before .before .before .before .pre .1), c .before .before .before .before .before .pre .2, move-fits _ _ _ _ _ _ _ _ _ _ _ (c .before .before .before .before .before .pre .3 .1) w (c .before .loop-test .taken) _ (c .before .before .before .before .before .pre .3 .3) (c .before .before .before .before .before .pre .3 .4), move-apart _ _ _ _ _ _ _ _ _ _ _ (c .before .before .before .before .before .pre .3 .1) w (c .before .loop-test .taken) _ (c .before .before .before .before .before .pre .3 .3) (c .before .before .before .before .before .pre .3 .4))
 
 -- src/moves.rt:69:9
 add-p : tie.Need-add-p Inv-loop μ-loop
-add-p c = let y = move-inside _ _ _ _ _ _ _ _ _ _ _ (@pre .3 .1) (@loop .inv .1 (@pre .3 .1) (@pre .3 .2)) (@loop-test .taken) in omega (arith, y .0)
+add-p c = let y = move-inside _ _ _ _ _ _ _ _ _ _ _ (c .before .before .before .before .before .before .before .before .pre .3 .1) (c .before .before .before .before .before .loop .inv .1 (c .before .before .before .before .before .before .before .before .pre .3 .1) (c .before .before .before .before .before .before .before .before .pre .3 .2)) (c .before .before .before .before .loop-test .taken) in omega (arith, y .0)
 
 -- src/moves.rt:70:9
 add-m : tie.Need-add-m Inv-loop μ-loop
-add-m c = let y = move-inside _ _ _ _ _ _ _ _ _ _ _ (@pre .3 .1) (@loop .inv .1 (@pre .3 .1) (@pre .3 .2)) (@loop-test .taken) in omega (arith, y .1, @pre .1)
+add-m c = let y = move-inside _ _ _ _ _ _ _ _ _ _ _ (c .before .before .before .before .before .before .before .before .pre .3 .1) (c .before .before .before .before .before .loop .inv .1 (c .before .before .before .before .before .before .before .before .pre .3 .1) (c .before .before .before .before .before .before .before .before .pre .3 .2)) (c .before .before .before .before .loop-test .taken) in omega (arith, y .1, c .before .before .before .before .before .before .before .before .pre .1)
 
 -- src/moves.rt:67:5
 loop-less : tie.Need-loop-less Inv-loop μ-loop
@@ -42,7 +42,7 @@ loop-less c = search needs
 
 -- src/moves.rt:67:5
 loop-again : tie.Need-loop-again Inv-loop μ-loop
-loop-again c = (@move-entry .kept .1 .1 .1 .1 .1 .0 ∙ @loop .inv .0, λ l h. move-next _ _ _ _ _ _ _ _ _ _ _ l (@loop .inv .1 l h) (@loop-test .taken) (@pre .0) _ (@move-entry .ensures))
+loop-again c = (c .before .before .move-entry .kept .1 .1 .1 .1 .1 .0 ∙ c .before .before .before .before .before .loop .inv .0, λ l h. move-next _ _ _ _ _ _ _ _ _ _ _ l (c .before .before .before .before .before .loop .inv .1 l h) (c .before .before .before .before .loop-test .taken) (c .before .before .before .before .before .before .before .before .pre .0) _ (c .before .before .move-entry .ensures))
 
 -- src/moves.rt:50:1
 same-length : tie.Need-same-length Inv-loop μ-loop
@@ -50,7 +50,7 @@ same-length c = search needs
 
 -- src/moves.rt:50:1
 returns : tie.Need-returns Inv-loop μ-loop
-returns c = λ l h. move-done _ _ _ _ _ _ _ _ _ _ _ l (@loop .inv .1 l h) (@loop-test .left)
+returns c = λ l h. move-done _ _ _ _ _ _ _ _ _ _ _ l (c .before .loop .inv .1 l h) (c .loop-test .left)
 
 pub move-entries-spec : {M : Type 1} → statement M
 move-entries-spec =

@@ -10,7 +10,7 @@ use Rattle.fields.proofs.copy.put_both.Reads as put-both-reads
 
 -- src/moves.rt:106:5
 put-both-requires : tie.Need-put-both-requires
-put-both-requires c κs = (record { rise = omega arith; fits = omega (arith, @pre .0, @pre .1) }, (record { rise = omega arith; fits = omega arith }, omega arith))
+put-both-requires c κs = (record { rise = omega arith; fits = omega (arith, c .before .before .before .before .pre .0, c .before .before .before .before .pre .1) }, (record { rise = omega arith; fits = omega arith }, omega arith))
 
 -- src/moves.rt:107:38
 add-put : tie.Need-add-put
@@ -18,7 +18,7 @@ add-put c = search needs
 
 -- src/moves.rt:107:5
 put-requires : tie.Need-put-requires
-put-requires c κs = (record { rise = @pre .1; fits = omega arith }, omega (arith, @pre .0, @pre .1, @pre .2))
+put-requires c κs = (record { rise = c .before .before .before .before .before .before .before .before .pre .1; fits = omega arith }, omega (arith, c .before .before .before .before .before .before .before .before .pre .0, c .before .before .before .before .before .before .before .before .pre .1, c .before .before .before .before .before .before .before .before .pre .2))
 
 -- src/moves.rt:102:1
 same-length : tie.Need-same-length
@@ -26,7 +26,7 @@ same-length c = search needs
 
 -- src/moves.rt:102:1
 returns : tie.Need-returns
-returns c = plan-put _ _ _ _ _ _ _ (@pre .0) (@pre .1) (@pre .2) _ _ (@put-both .ensures) (@put-both .kept .1 .1 .1 .1 .1 .1 .0) (@put .ensures)
+returns c = plan-put _ _ _ (c .before .before .before .before .before .before .before .before .before .before .before .args .block .now) _ _ _ (c .before .before .before .before .before .before .before .before .before .before .before .pre .0) (c .before .before .before .before .before .before .before .before .before .before .before .pre .1) (c .before .before .before .before .before .before .before .before .before .before .before .pre .2) _ _ (c .before .before .before .before .before .before .put-both .ensures) (c .before .before .before .before .before .before .put-both .kept .1 .1 .1 .1 .1 .1 .0) (c .before .before .put .ensures)
 
 pub put-plan-spec : {M : Type 1} → statement M
 put-plan-spec = tie.close (tie.spec put-both-requires add-put put-requires same-length returns)
