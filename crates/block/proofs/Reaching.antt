@@ -13,7 +13,7 @@ use Rattle.reader.specs.Typing.{Typed, typed-node, typed-token, typed-argument}
 use Rattle.reader.specs.Syntax.{write, tree}
 use Rattle.index.specs.Inner.Lying.{Lies, LieAll}
 use Rattle.index.proofs.Lying.{node-lies, head-lies, tail-lie}
-use Rattle.block.specs.Blocks.{Block, argumentAfter, argumentOf, Reached, reached, nowhere, hidden, blockAt}
+use Rattle.block.specs.Blocks.{Block, argumentAfter, argumentOf, Reached, reached, nowhere, hidden, blockAt, everyKind}
 
 -- A block that is an argument lies in the bytes.
 module _ (l : Language) (b : List ℕ) (c : Block) where
@@ -67,3 +67,20 @@ path-lies sees l b c (i ∷ path) a h e =
         → elim t [ false ↦ hidden | true ↦ elim o [ none ↦ nowhere | some d ↦ blockAt sees l path d ] ] ≡ reached c → Lies l b (c .start) (c .kind) (c .subtree)
     see true o g f = go o g f
     see false o g f = not-reached hidden refl f
+
+-- A block that is reached where some kinds may be seen is reached where all may be.
+pub seen-reached : (sees : ℕ → Bool) (l : Language) (c : Block) (path : List ℕ) (a : Block) → blockAt sees l path a ≡ reached c → blockAt everyKind l path a ≡ reached c
+unfolding blockAt
+seen-reached sees l c [] a e = ap reached (cond-reached (sees (a .kind)) a c e)
+seen-reached sees l c (i ∷ path) a e = see (λ d f. seen-reached sees l c path d f) (sees (a .kind)) (argumentOf l (a .start) (a .subtree) i) e
+  where
+    go : ((d : Block) → blockAt sees l path d ≡ reached c → blockAt everyKind l path d ≡ reached c) → (o : Option Block)
+        → elim o [ none ↦ nowhere | some d ↦ blockAt sees l path d ] ≡ reached c → elim o [ none ↦ nowhere | some d ↦ blockAt everyKind l path d ] ≡ reached c
+    go g none f = nowhere-reached f
+    go g (some d) f = g d f
+
+    see : ((d : Block) → blockAt sees l path d ≡ reached c → blockAt everyKind l path d ≡ reached c) → (t : Bool) (o : Option Block)
+        → elim t [ false ↦ hidden | true ↦ elim o [ none ↦ nowhere | some d ↦ blockAt sees l path d ] ] ≡ reached c
+        → elim o [ none ↦ nowhere | some d ↦ blockAt everyKind l path d ] ≡ reached c
+    see g true o f = go g o f
+    see g false o f = not-reached hidden refl f

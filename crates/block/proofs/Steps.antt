@@ -1,5 +1,5 @@
 -- Steps from a block to its arguments: a law for each return and turn of `argument_among` and `argument`.
-use Prim.Native.Nat.{ℕ, zero, suc, _+_, _-_, _<_, _≤_}
+use Prim.Native.Nat.{ℕ, suc, _+_, _-_, _<_, _≤_}
 use mathlib.Core.Path.{_≡_, refl, sym, ap, _∙_}
 use mathlib.Core.List.{List, [], _∷_, _++_, append-assoc}
 use mathlib.Core.Option.{Option, none, some, Option·getD}
@@ -9,13 +9,13 @@ use lib.Seq.{slice, drop-drop, drop-append-seam}
 use Rattle.fields.specs.Fields.{pairAt}
 use Rattle.fields.proofs.Lists.{part-done}
 use Rattle.language.specs.Language.{Language}
-use Rattle.reader.specs.Code.{Code, node, token, argument, Codes, nil, cons}
+use Rattle.reader.specs.Code.{Code, node, token, argument, Codes}
 use Rattle.reader.specs.Syntax.{write, writeAll, tree}
 use Rattle.reader.specs.Inner.Positions.{KindsIn}
 use Rattle.index.specs.Spans.{Span, span, size, spans, spansAll, entry, entries}
 use Rattle.index.specs.Operations.{longest}
-use Rattle.index.specs.Inner.Lying.{There, Row, Shape, production, value, Opens}
-use Rattle.index.specs.Inner.Starts.{Behind, Splits, Entered}
+use Rattle.index.specs.Inner.Lying.{Shape, production, value, Opens}
+use Rattle.index.specs.Inner.Starts.{Behind, Splits}
 use Rattle.index.proofs.Lying.{past-inside}
 use Rattle.index.proofs.Rows.{kinds-end, Turn, turn}
 use Rattle.index.proofs.Pairs.{Entry, entry-read}

@@ -1,18 +1,17 @@
 -- Entries of the old index put at their new places: a law for each return and turn of the functions of moves.rt.
-use Prim.Native.Nat.{ℕ, suc, _+_, _-_, _<_, _≤_}
+use Prim.Native.Nat.{ℕ, _+_, _-_, _<_, _≤_}
 use mathlib.Core.Path.{_≡_, refl, sym, ap, _∙_}
 use mathlib.Core.List.{List, [], _∷_, _++_, map, append-assoc, append-nil}
 use native.Mathlib.Omega.{arith}
 use lib.ListN.{length, take, drop, length-append, length-drop}
 use lib.Seq.{slice, drop-drop, drop-append-seam, length-take-le, take-length}
-use lib.Dec.{leb, ltb}
 use borrow.Author.Tests.{lt-ltb, le-ltb, le-leb, lt-leb}
 use Rattle.fields.specs.Fields.{pairAt}
 use Rattle.fields.specs.Lists.{concatMap}
 use Rattle.fields.specs.Inner.Writing.{spliced, Stores}
 use Rattle.fields.specs.declared.copy.Stored.{Stored}
 use Rattle.fields.specs.declared.copy.Stored.the-variants.{To, Full}
-use Rattle.fields.proofs.Splices.{slice-is, splice-splice, length-spliced, nothing-spliced}
+use Rattle.fields.proofs.Splices.{splice-splice, nothing-spliced}
 use Rattle.language.specs.Language.{Language}
 use Rattle.reader.specs.Code.{Code}
 use Rattle.index.specs.Spans.{Span, span, size, spans, entry, entries}
@@ -21,7 +20,7 @@ use Rattle.index.specs.Inner.Marking.{lastPlace}
 use Rattle.index.proofs.Pairs.{entry-length, Entry, entry-read}
 use Rattle.index.proofs.Walking.{entries-append, entries-cons, entries-few}
 use Rattle.index.proofs.Starts.{no-entries, entries-long}
-use Rattle.edit.specs.Inner.Moving.{moved, Movable, Part, Fits, Parted, Rewrites, movedSpans}
+use Rattle.edit.specs.Inner.Moving.{moved, Movable, Part, Fits, Rewrites, movedSpans}
 
 -- move_entry
 module _ (start old new : ℕ) (i o o′ : List ℕ) (at n from z : ℕ) (ef : from ≡ pairAt i at) (ez : z ≡ pairAt i (at + 2)) where

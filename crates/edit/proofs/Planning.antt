@@ -1,17 +1,17 @@
 -- The edit by the old plan and its index: a law for each return of the functions of edit.rt.
-use Prim.Native.Nat.{ℕ, suc, _+_, _-_, _*_, _<_, _≤_}
+use Prim.Native.Nat.{ℕ, _+_, _-_, _<_, _≤_}
 use mathlib.Core.Path.{_≡_, refl, sym, ap, subst, _∙_}
-use mathlib.Core.Bool.{Bool, true, false, _||_}
-use mathlib.Core.List.{List, [], _∷_, _++_, map, append-assoc, append-nil}
+use mathlib.Core.Bool.{Bool, true, false}
+use mathlib.Core.List.{List, [], _∷_, _++_, append-nil}
 use mathlib.Core.Option.{some}
 use native.Mathlib.Omega.{arith}
 use lib.ListN.{length, getD, take, drop, length-append, drop-of-length-le}
-use lib.Seq.{take-append-seam, drop-append-seam, drop-append-add, drop-drop}
+use lib.Seq.{drop-append-seam}
 use lib.Dec.{ltb}
 use borrow.Author.Tests.{lt-ltb, le-ltb}
 use Rattle.fields.specs.Fields.{pairAt}
 use Rattle.fields.specs.Inner.Writing.{spliced}
-use Rattle.fields.specs.Outcome.{Result, value, refused, refuseIf, _>>=_, outputAfter, numberOf, lengthOf}
+use Rattle.fields.specs.Outcome.{Result, value, refused, _>>=_, numberOf, lengthOf}
 use Rattle.fields.specs.declared.outcome.Outcome.{Outcome}
 use Rattle.fields.specs.declared.outcome.Outcome.the-variants.{Accepted, Refused}
 use Rattle.fields.specs.declared.outcome.Reason.{Reason}
@@ -19,7 +19,7 @@ use Rattle.fields.specs.declared.outcome.Reason.the-variants.{OutputTooShort, N
 use Rattle.fields.proofs.Codec.{bytes-from}
 use Rattle.fields.proofs.Split.{front}
 use Rattle.language.specs.Language.{Language}
-use Rattle.language.specs.LanguageFile.{entriesOf, languageOf}
+use Rattle.language.specs.LanguageFile.{entriesOf}
 use Rattle.reader.specs.Code.{Code}
 use Rattle.reader.specs.Syntax as Meant
 use Rattle.reader.specs.Syntax.{write, tree}
@@ -27,12 +27,11 @@ use Rattle.reader.specs.Operations.{treeLevels, wholeTree}
 use Rattle.reader.specs.declared.node.Read.{Read}
 use Rattle.reader.specs.declared.node.Read.the-variants.{End, Deep, Broken}
 use Rattle.reader.specs.Inner.Index.{Indexed, Ready}
-use Rattle.reader.specs.Inner.Positions.{EndsBy, restAt, restOf, Rest, rest, deep, broken}
+use Rattle.reader.specs.Inner.Positions.{EndsBy, restAt, restOf, rest, deep, broken}
 use Rattle.reader.proofs.Members.{in-below}
-use Rattle.reader.proofs.Sound.{Right, read-done}
+use Rattle.reader.proofs.Sound.{read-done}
 use Rattle.index.specs.Spans.{Span, span, size, spans, entries, indexOf}
-use Rattle.index.specs.Operations.{longest, isLong, indexedTree, checkIndexed}
-use Rattle.index.specs.Inner.Lying.{There}
+use Rattle.index.specs.Operations.{longest, isLong, checkIndexed}
 use Rattle.index.specs.Inner.Marking.{lastPlace}
 use Rattle.index.specs.Inner.Starts.{Behind, Splits}
 use Rattle.index.proofs.Pairs.{Entry}
@@ -41,17 +40,18 @@ use Rattle.index.proofs.Starts.{own-span, spans-below, entered-own, own-entered
 use Rattle.index.proofs.Building.{put-first}
 use Rattle.index.proofs.Checking.{tree-bytes}
 use Rattle.index.proofs.Owning.{Owned, accepted-own, refused-own, owned-small, owned-there}
-use Rattle.block.specs.Blocks.{Block, blockOf, Reached, reached, nowhere, hidden, blockAt, everyKind}
+use Rattle.block.specs.Blocks.{Block, blockOf, Reached, nowhere, blockAt, everyKind}
 use Rattle.block.specs.Operations.{found}
-use Rattle.block.specs.Inner.Descent.{Along, Ends}
+use Rattle.block.proofs.Reaching.{seen-reached}
+use Rattle.block.specs.Inner.Descent.{Ends}
 use Rattle.block.specs.declared.descent.Step.{Step}
 use Rattle.block.specs.declared.descent.Step.the-variants.{To, Nowhere, Unseen}
 use Rattle.edit.specs.Plans.{replaceAt}
-use Rattle.edit.specs.Operations.{newBlock, newPlan, editPlan, inRooms, Editing, handedBack, editTree}
+use Rattle.edit.specs.Operations.{newBlock, newPlan, editPlan, inRooms, Editing, editTree}
 use Rattle.edit.specs.Answers.{Hands, EditTold}
-use Rattle.edit.specs.Inner.Moving.{moved, Movable, Fits, Parted, Rewrites, movedSpans, Replaces, Reaches, Owns, Gives}
+use Rattle.edit.specs.Inner.Moving.{Movable, Parted, Rewrites, movedSpans, Replaces, Reaches, Owns, Gives}
 use Rattle.edit.specs.declared.edit.Edited.{Edited}
-use Rattle.edit.proofs.Replacing.{Moved, size-some, edited-moved, replaced}
+use Rattle.edit.proofs.Replacing.{Moved, around, edited-moved, replaced}
 use Rattle.edit.proofs.Entries.{new-long, parts-room}
 
 -- A refusal.
@@ -91,13 +91,10 @@ module _ (x s b i path block : List ℕ) (kind of start old : ℕ) (l : Language
   -- The bytes of the new plan.
   pub bytes-are : write tree next ≡ take start b ++ (block ++ drop (start + old) b)
   bytes-are =
-      let h : take start b ≡ parts .head = ap (λ (n : ℕ). take n b) start-is ∙ (ap (take (length (parts .head))) b-is ∙ take-append-seam (parts .head) (write tree a ++ parts .tail)) in
-      let n : start + old ≡ length (parts .head) + length (write tree a) = omega (arith, start-is, w .size-is) in
-      let d : drop (start + old) b ≡ parts .tail =
-      ap (λ (j : ℕ). drop j b) n
-      ∙ (ap (drop (length (parts .head) + length (write tree a))) b-is
-      ∙ (drop-append-add (parts .head) (write tree a ++ parts .tail) (length (write tree a)) ∙ drop-append-seam (write tree a) (parts .tail))) in
-      parts .bytes-are ∙ (ap (λ (v : List ℕ). parts .head ++ (v ++ parts .tail)) (sym (w .new)) ∙ (λ j. sym h j ++ (block ++ sym d j)))
+      around parts
+      ∙ (ap (λ (v : List ℕ). take start v ++ (write tree u ++ drop (start + size a) v)) (sym (w .plan))
+      ∙ (ap (λ (v : List ℕ). take start b ++ (v ++ drop (start + size a) b)) (sym (w .new))
+      ∙ ap (λ (n : ℕ). take start b ++ (block ++ drop (start + n) b)) (sym (w .size-is))))
 
   pub new-size : length (write tree next) ≡ length b - old + length block
   new-size =
@@ -319,21 +316,21 @@ module _ (x s b i path block : List ℕ) (kind of start old numbers : ℕ) (l : 
             rw z c
 
 -- edit_legal
-module _ (x s b i path : List ℕ) (kind : ℕ) (l : Language) (t : Code) (w : Owns x s b i kind l t)
-    (r : Step) (er : Ends x s b i l (blockAt everyKind l path (blockOf 0 kind t)) r) where
+module _ (x s b i path : List ℕ) (kind : ℕ) (l : Language) (t : Code) (sees : ℕ → Bool) (w : Owns x s b i kind l t)
+    (r : Step) (er : Ends x s b i l (blockAt sees l path (blockOf 0 kind t)) r) where
   abbrev Whole : (block plan index : List ℕ) → Result Block → Result Code
   Whole block plan index o = (o >>= λ c. newBlock l path c block >>= λ u. newPlan path u t) >>= λ v. inRooms (length plan) (length index) v
 
   pub path-nowhere : (block plan index : List ℕ) → r ≡ Nowhere → (e : Edited) → Refuses NoBlock e
-      → Gives (Whole block plan index (found (blockAt everyKind l path (blockOf 0 kind t)))) plan plan index index e
+      → Gives (Whole block plan index (found (blockAt sees l path (blockOf 0 kind t)))) plan plan index index e
   path-nowhere block plan index q e c =
-      gives-refused (Whole block plan index (found (blockAt everyKind l path (blockOf 0 kind t)))) plan index NoBlock e
+      gives-refused (Whole block plan index (found (blockAt sees l path (blockOf 0 kind t)))) plan index NoBlock e
       (ap (λ (o : Reached). Whole block plan index (found o)) (er .nowhere q)) c
 
   pub path-unseen : (block plan index : List ℕ) → r ≡ Unseen → (e : Edited) → Refuses Hidden e
-      → Gives (Whole block plan index (found (blockAt everyKind l path (blockOf 0 kind t)))) plan plan index index e
+      → Gives (Whole block plan index (found (blockAt sees l path (blockOf 0 kind t)))) plan plan index index e
   path-unseen block plan index q e c =
-      gives-refused (Whole block plan index (found (blockAt everyKind l path (blockOf 0 kind t)))) plan index Hidden e
+      gives-refused (Whole block plan index (found (blockAt sees l path (blockOf 0 kind t)))) plan index Hidden e
       (ap (λ (o : Reached). Whole block plan index (found o)) (er .unseen q)) c
 
   module _ (a k p : ℕ) (q : r ≡ To a k p) where
@@ -347,7 +344,7 @@ module _ (x s b i path : List ℕ) (kind : ℕ) (l : Language) (t : Code) (w : O
           plan = w .plan;
           own = w .own;
           short = w .along .short;
-          leads = z .1;
+          leads = seen-reached sees l (blockOf a k (z .0)) path (blockOf 0 kind t) (z .1);
           size-is = en ∙ path-entry .1 .long;
           numbers-are = em;
           index-of = z .2 .there .index-of;
@@ -356,7 +353,7 @@ module _ (x s b i path : List ℕ) (kind : ℕ) (l : Language) (t : Code) (w : O
 
     pub path-given : (block plan index plan′ index′ : List ℕ) (e : Edited)
         → Gives ((newBlock l path (blockOf a k (er .to a k p q .0)) block >>= λ u. newPlan path u t) >>= λ v. inRooms (length plan) (length index) v) plan plan′ index index′ e
-        → Gives (Whole block plan index (found (blockAt everyKind l path (blockOf 0 kind t)))) plan plan′ index index′ e
+        → Gives (Whole block plan index (found (blockAt sees l path (blockOf 0 kind t)))) plan plan′ index index′ e
     path-given block plan index plan′ index′ e c = rw (er .to a k p q .1) c
 
 -- edit

@@ -5,8 +5,8 @@ use mathlib.Core.Bool.{Bool, true, false, cond}
 use mathlib.Core.List.{List, [], _∷_, _++_, map, append-assoc, append-nil}
 use mathlib.Core.Option.{Option, none, some, Option·getD}
 use native.Mathlib.Omega.{arith}
-use lib.ListN.{length, length-append}
-use lib.Dec.{leb, ltb}
+use lib.ListN.{length, take, drop, length-append}
+use lib.Seq.{take-append-seam, drop-append-seam, drop-append-add}
 use borrow.Author.Tests.{lt-ltb, le-ltb, le-leb, lt-leb}
 use Rattle.fields.proofs.Truth.{none-some, some-inj}
 use Rattle.language.specs.Language.{Language, argumentsOf}
@@ -15,7 +15,7 @@ use Rattle.reader.specs.Syntax.{write, writeAll, tree}
 use Rattle.index.specs.Spans.{Span, span, size, spans, spansAll}
 use Rattle.index.specs.Inner.Starts.{Below, Behind}
 use Rattle.index.proofs.Starts.{own-span, below-append, spans-below}
-use Rattle.block.specs.Blocks.{Block, blockOf, argumentAfter, argumentOf, Reached, reached, nowhere, hidden, blockAt}
+use Rattle.block.specs.Blocks.{Block, blockOf, argumentAfter, argumentOf, reached, nowhere, hidden, blockAt}
 use Rattle.block.proofs.Reaching.{reached-inj, not-reached, nowhere-reached}
 use Rattle.edit.specs.Plans.{replaceAfter, replaceAt}
 use Rattle.edit.specs.Inner.Moving.{moved, Movable}
@@ -156,6 +156,19 @@ pub record Moved (a b : Code) (s at top : ℕ) (bytes bytes′ : List ℕ) (old-
   pub behind : Behind (s + size a) back
   pub in-front : Movable s (size a) top front
   pub at-back : Movable s (size a) top back
+
+-- The bytes before and after the block are the old ones.
+pub around : {a b : Code} {s top : ℕ} {w w′ : List ℕ} {old-spans new-spans : List Span} → Moved a b s 0 top w w′ old-spans new-spans
+    → w′ ≡ take s w ++ (write tree b ++ drop (s + size a) w)
+around {a} {b} {s} {top} {w} m =
+    let e : s ≡ length (m .head) = m .starts ∙ omega arith in
+    let h : take s w ≡ m .head = ap (λ (n : ℕ). take n w) e ∙ (ap (take (length (m .head))) (m .bytes-were) ∙ take-append-seam (m .head) (write tree a ++ m .tail)) in
+    let n : s + size a ≡ length (m .head) + size a = ap (λ (j : ℕ). j + size a) e in
+    let d : drop (s + size a) w ≡ m .tail =
+    ap (λ (j : ℕ). drop j w) n
+    ∙ (ap (drop (length (m .head) + size a)) (m .bytes-were)
+    ∙ (drop-append-add (m .head) (write tree a ++ m .tail) (size a) ∙ drop-append-seam (write tree a) (m .tail))) in
+    m .bytes-are ∙ (λ j. sym h j ++ (write tree b ++ sym d j))
 
 three : (x y z : List ℕ) → length (x ++ (y ++ z)) ≡ length x + (length y + length z)
 three x y z = length-append x (y ++ z) ∙ ap (λ (n : ℕ). length x + n) (length-append y z)

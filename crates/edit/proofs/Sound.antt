@@ -1,42 +1,40 @@
 -- Every edit is sound: the bytes around the block stay, the new plan is legal, and the path gives the new block.
 use Prim.Native.Nat.{ℕ, zero, suc, max, _+_, _-_, _<_, _≤_}
 use mathlib.Core.Path.{_≡_, refl, sym, ap, subst, _∙_}
-use mathlib.Core.Bool.{Bool, true, false, cond, not, _||_}
+use mathlib.Core.Bool.{false}
 use mathlib.Core.List.{List, [], _∷_, _++_, append-nil}
 use mathlib.Core.Option.{Option, none, some, Option·getD}
 use native.Mathlib.Omega.{arith}
 use lib.ListN.{length, take, drop}
-use lib.Seq.{take-append-seam, drop-append-seam, drop-append-add}
 use Rattle.fields.specs.Fields.{byteAt}
-use Rattle.fields.specs.Lists.{sameNumbers}
-use Rattle.fields.specs.Outcome.{Result, value, refused, refuseIf, _>>=_}
+use Rattle.fields.specs.Outcome.{value}
 use Rattle.fields.specs.declared.outcome.Reason.the-variants.{NotIndexed}
 use Rattle.fields.proofs.Truth.{none-some, some-inj, equal-numbers}
-use Rattle.fields.proofs.Codec.{bytes-from, refused-value, value-inj, step-value}
-use Rattle.language.specs.Language.{Language, argumentsOf, isIn, clashes}
+use Rattle.fields.proofs.Codec.{bytes-from, value-inj, step-value}
+use Rattle.language.specs.Language.{Language, argumentsOf}
 use Rattle.language.specs.LanguageFile.{languageOf}
 use Rattle.reader.specs.Code.{Code, node, token, argument, Codes, nil, cons, levels, levelsAll}
-use Rattle.reader.specs.Typing.{Typed, TypedAll, typed-node, typed-token, typed-argument, typed-nil, typed-cons}
+use Rattle.reader.specs.Typing.{Typed, TypedAll, typed-node, typed-token, typed-argument, typed-cons}
 use Rattle.reader.specs.Syntax.{done, read, write, tree}
-use Rattle.reader.specs.Operations.{treeLevels, wholeTree, treeOf}
+use Rattle.reader.specs.Operations.{treeLevels, treeOf}
 use Rattle.reader.proofs.Sound.{Right, read-done}
 use Rattle.reader.proofs.Larger.{apart}
 use Rattle.reader.proofs.RoundTrip.{round, as-tree}
 use Rattle.translation.proofs.Fitting.{refuse-value}
-use Rattle.checks.proofs.Legal.{tree-done, tree-right, tree-of}
+use Rattle.checks.proofs.Legal.{tree-done, tree-of}
 use Rattle.index.specs.Spans.{size, spans, indexOf}
-use Rattle.index.specs.Operations.{longest, isLong, indexedTree}
+use Rattle.index.specs.Operations.{isLong, indexedTree}
 use Rattle.index.specs.Inner.Lying.{Lies}
 use Rattle.index.proofs.Checking.{tree-bytes, tree-lies, language-facts}
 use Rattle.index.proofs.Owning.{OwnedBy, indexed-owned}
-use Rattle.block.specs.Blocks.{Block, blockOf, bytesOf, argumentAfter, argumentOf, Reached, reached, nowhere, hidden, blockAt, everyKind}
+use Rattle.block.specs.Blocks.{Block, blockOf, bytesOf, argumentAfter, argumentOf, reached, nowhere, blockAt, everyKind}
 use Rattle.block.specs.Operations.{found, findBlock}
-use Rattle.block.proofs.Reaching.{reached-inj, not-reached, nowhere-reached, path-lies}
+use Rattle.block.proofs.Reaching.{reached-inj, nowhere-reached}
 use Rattle.block.proofs.Legal.{found-reached}
 use Rattle.edit.specs.Plans.{replaceAfter, replaceAt}
-use Rattle.edit.specs.Operations.{newBlock, newPlan, editPlan}
+use Rattle.edit.specs.Operations.{newBlock, editPlan}
 use Rattle.edit.specs.Laws.{Edits, EditsAreSound}
-use Rattle.edit.proofs.Replacing.{Edited, whole, inside, EditedIn, here, past, Moved, edited-moved, replaced}
+use Rattle.edit.proofs.Replacing.{Edited, whole, inside, EditedIn, here, past, Moved, around, edited-moved, replaced}
 
 -- Levels: a path goes no deeper than the tree, and the new tree is no deeper than the old one or than the new block at its
 -- place.
@@ -166,21 +164,14 @@ module _ (s : List ℕ) (root : ℕ) (bytes index path block : List ℕ) (byte :
   unfolding indexedTree
   next-indexed = rw (next-tree, short, equal-numbers (indexOf next))
 
-  start-is : c .start ≡ length (parts .head)
-  start-is = parts .starts ∙ omega arith
-
   bytes-were : bytes ≡ parts .head ++ (bytesOf c ++ parts .tail)
   bytes-were = sym plan-is ∙ parts .bytes-were
 
   next-around : write tree next ≡ take (c .start) bytes ++ (block ++ drop (c .start + length (bytesOf c)) bytes)
   next-around =
-      let h : take (c .start) bytes ≡ parts .head = ap (λ (n : ℕ). take n bytes) start-is ∙ (ap (take (length (parts .head))) bytes-were ∙ take-append-seam (parts .head) (bytesOf c ++ parts .tail)) in
-      let n : c .start + length (bytesOf c) ≡ length (parts .head) + length (bytesOf c) = omega (arith, start-is) in
-      let d : drop (c .start + length (bytesOf c)) bytes ≡ parts .tail =
-      ap (λ (j : ℕ). drop j bytes) n
-      ∙ (ap (drop (length (parts .head) + length (bytesOf c))) bytes-were
-      ∙ (drop-append-add (parts .head) (bytesOf c ++ parts .tail) (length (bytesOf c)) ∙ drop-append-seam (bytesOf c) (parts .tail))) in
-      parts .bytes-are ∙ (ap (λ (v : List ℕ). parts .head ++ (v ++ parts .tail)) new-is ∙ (λ j. sym h j ++ (block ++ sym d j)))
+      around parts
+      ∙ (ap (λ (v : List ℕ). take (c .start) v ++ (write tree u ++ drop (c .start + length (bytesOf c)) v)) plan-is
+      ∙ ap (λ (v : List ℕ). take (c .start) bytes ++ (v ++ drop (c .start + length (bytesOf c)) bytes)) new-is)
 
   same-bytes : block ≡ bytesOf c → write tree next ≡ bytes
   same-bytes e = parts .bytes-are ∙ (ap (λ (v : List ℕ). parts .head ++ (v ++ parts .tail)) (new-is ∙ e) ∙ sym bytes-were)

@@ -16,13 +16,15 @@ use reader::node::Read;
 use reader::node::Syntax;
 use reader::read::read;
 ghost use mathlib.Core.Path.{_≡_};
+ghost use mathlib.Core.Bool.{Bool};
 ghost use mathlib.Core.List.{List};
 ghost use Prim.Native.Nat.{ℕ, _+_, _-_, _≤_};
 ghost use lib.ListN.{length};
 ghost use Rattle.language.specs.Language.{Language};
 ghost use Rattle.reader.specs.Code.{Code};
 ghost use Rattle.index.specs.Operations.{longest};
-ghost use Rattle.block.specs.Blocks.{blockOf, blockAt, everyKind};
+ghost use Rattle.block.specs.Blocks.{blockOf, blockAt};
+ghost use Rattle.block.specs.Inner.Descent.{SetOf};
 ghost use Rattle.edit.specs.Plans.{replaceAt};
 ghost use Rattle.edit.specs.Operations.{inRooms, editTree};
 ghost use Rattle.edit.specs.Answers.{Hands};
@@ -198,7 +200,8 @@ fn replace_block(
     }
 }
 
-// The edit of a legal plan that has the index: 21 along the path, 15 and 16 for the new block, 22, 17.
+// The edit of a legal plan that has the index, where `seen` is the set of kinds that may be seen: 25 and 21 along the path, 15
+// and 16 for the new block, 22, 17.
 fn edit_legal(
     language: &[u8],
     places: &[u16],
@@ -206,15 +209,16 @@ fn edit_legal(
     tree: &[u8],
     index: &[u8],
     path: &[u8],
+    seen: u32,
     block: &[u8],
     plan: &mut [u8],
     plan_index: &mut [u8],
 ) -> Edited
     requires { ⌜ ((l : Language) × (t : Code) × Owns (now places) (now language) (now tree) (now index) kind l t) ⌝ }
-    ensures { λ r. ⌜ ((l : Language) (t : Code) → Owns (now (places .entry)) (now (language .entry)) (now (tree .entry)) (now (index .entry)) kind l t
-        → Gives (pathIn (length (now (plan .entry))) (length (now («plan_index» .entry))) l (now (path .entry)) (blockAt everyKind l (now (path .entry)) (blockOf 0 kind t)) (now (block .entry)) t) (now (plan .entry)) (now (plan .exit)) (now («plan_index» .entry)) (now («plan_index» .exit)) r) ⌝ }
+    ensures { λ r. ⌜ ((l : Language) (t : Code) (sees : ℕ → Bool) → Owns (now (places .entry)) (now (language .entry)) (now (tree .entry)) (now (index .entry)) kind l t → SetOf seen sees
+        → Gives (pathIn (length (now (plan .entry))) (length (now («plan_index» .entry))) l (now (path .entry)) (blockAt sees l (now (path .entry)) (blockOf 0 kind t)) (now (block .entry)) t) (now (plan .entry)) (now (plan .exit)) (now («plan_index» .entry)) (now («plan_index» .exit)) r) ⌝ }
 {
-    match descend(language, places, kind, tree, index, path, EVERY_KIND) {
+    match descend(language, places, kind, tree, index, path, seen) {
         Step::To(start, of, entry) => replace_block(
             language,
             places,
@@ -261,6 +265,7 @@ pub fn edit(
         tree,
         index,
         path,
+        EVERY_KIND,
         block,
         plan,
         plan_index,

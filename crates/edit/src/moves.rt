@@ -13,7 +13,7 @@ ghost use Rattle.fields.specs.Fields.{pairAt};
 ghost use Rattle.fields.specs.Inner.Writing.{spliced};
 ghost use Rattle.language.specs.Language.{Language};
 ghost use Rattle.reader.specs.Code.{Code};
-ghost use Rattle.index.specs.Spans.{Span, span, spans, entry, entries};
+ghost use Rattle.index.specs.Spans.{Span, span, entry, entries};
 ghost use Rattle.index.specs.Operations.{longest};
 ghost use Rattle.index.specs.Inner.Marking.{lastPlace};
 ghost use Rattle.edit.specs.Inner.Moving.{moved, Movable, Part, Fits, Rewrites, movedSpans};

@@ -1,7 +1,7 @@
 -- The operation that builds an index, and the test of one: a law for each return of the functions of build.rt.
 use Prim.Native.Nat.{ℕ, _+_, _<_, _≤_}
 use mathlib.Core.Path.{_≡_, refl, sym, ap, _∙_}
-use mathlib.Core.Bool.{Bool, true, false}
+use mathlib.Core.Bool.{true, false}
 use mathlib.Core.List.{List, [], _∷_, _++_, append-nil}
 use native.Mathlib.Omega.{arith}
 use lib.ListN.{length, drop, length-append}
@@ -9,19 +9,18 @@ use lib.Dec.{eqb, ltb}
 use borrow.Author.Tests.{eq-eqb, eqb-true, lt-ltb, le-ltb}
 use Rattle.fields.specs.Lists.{sameNumbers}
 use Rattle.fields.specs.Inner.Writing.{spliced}
-use Rattle.fields.specs.Outcome.{Result, value, refused, refuseIf, _>>=_, written, outputAfter}
+use Rattle.fields.specs.Outcome.{refused, refuseIf, written, outputAfter}
 use Rattle.fields.specs.declared.outcome.Outcome.{Outcome}
 use Rattle.fields.specs.declared.outcome.Outcome.the-variants.{Accepted, Refused}
 use Rattle.fields.specs.declared.outcome.Reason.{Reason}
 use Rattle.fields.specs.declared.outcome.Reason.the-variants.{OutputTooShort, NotIndexed}
 use Rattle.fields.proofs.Truth.{false-true, refuted, same-truth, numbers-equal, equal-numbers}
 use Rattle.fields.proofs.Splices.{opened}
-use Rattle.language.specs.Language.{Language}
 use Rattle.reader.specs.Code.{Code}
 use Rattle.reader.specs.Operations.{checkTree}
 use Rattle.translation.specs.Operations.{fitted}
 use Rattle.checks.proofs.Legal.{Checked, refused-tree}
-use Rattle.index.specs.Spans.{size, spans, entries, indexOf}
+use Rattle.index.specs.Spans.{spans, entries, indexOf}
 use Rattle.index.specs.Operations.{longest, isLong, indexBytes, indexTree}
 use Rattle.index.specs.Inner.Marking.{Has, Walks}
 use Rattle.index.specs.declared.walk.Marked.{Marked}

@@ -4,17 +4,17 @@ use mathlib.Core.Path.{_≡_, refl, sym, ap, _∙_}
 use mathlib.Core.Bool.{Bool, true, false}
 use mathlib.Core.List.{List, [], _∷_, _++_, append-assoc}
 use native.Mathlib.Omega.{arith}
-use lib.ListN.{length, getD, drop, take, set, length-append, length-drop}
-use lib.Seq.{sets, sets-eq, drop-drop, drop-append-seam, take-append-seam}
+use lib.ListN.{length, getD, drop, take, set, length-drop}
+use lib.Seq.{sets-eq, drop-drop}
 use lib.Dec.{eqb}
 use borrow.Author.Tests.{eqb-true, eqb-false}
 use Rattle.fields.specs.Fields.{pairAt, twoBytes}
 use Rattle.fields.specs.Inner.Writing.{spliced}
 use Rattle.fields.proofs.Split.{front, pair-drop}
-use Rattle.fields.proofs.Splices.{opened, splice-splice, length-spliced}
+use Rattle.fields.proofs.Splices.{splice-splice}
 use Rattle.fields.proofs.Truth.{not-both}
-use Rattle.index.specs.Spans.{Span, span, entry}
-use Rattle.index.specs.Inner.Marking.{Has, Deals, Unlike, Marks}
+use Rattle.index.specs.Spans.{span, entry}
+use Rattle.index.specs.Inner.Marking.{Has, Marks}
 
 pub entry-length : (s z : ℕ) → length (entry (span s z)) ≡ 4
 unfolding entry

@@ -1,5 +1,5 @@
 -- Trees that lie one behind the other: the first of them and the others.
-use Prim.Native.Nat.{ℕ, suc, _+_, _-_, _<_, _≤_}
+use Prim.Native.Nat.{ℕ, _+_, _-_, _<_, _≤_}
 use mathlib.Core.Path.{_≡_, refl, sym}
 use mathlib.Core.List.{List, [], _∷_}
 use native.Mathlib.Omega.{arith}
@@ -13,7 +13,7 @@ use Rattle.reader.specs.Inner.Index.{Ready}
 use Rattle.reader.specs.Inner.Positions.{KindsIn}
 use Rattle.reader.proofs.Members.{in-below}
 use Rattle.index.specs.Spans.{size}
-use Rattle.index.specs.Inner.Lying.{LieAll, Index, There, Row}
+use Rattle.index.specs.Inner.Lying.{LieAll, There, Row}
 use Rattle.index.proofs.Lying.{head-lies, tail-lie}
 
 -- What a walk asks of the reader.

@@ -2,23 +2,22 @@
 use Prim.Native.Nat.{ℕ, zero, suc, _+_, _*_, _-_, _<_, _≤_}
 use mathlib.Core.Path.{_≡_, refl, sym, ap, _∙_}
 use mathlib.Core.List.{List, []}
-use mathlib.Core.Option.{Option, none, some}
+use mathlib.Core.Option.{none, some}
 use native.Mathlib.Omega.{arith}
-use lib.ListN.{length, getD, drop}
+use lib.ListN.{length, getD}
 use lib.Seq.{slice}
 use Rattle.fields.specs.Fields.{pairAt}
 use Rattle.fields.specs.Inner.Places.{fieldEnd}
 use Rattle.fields.specs.Lists.{all}
 use Rattle.fields.proofs.Truth.{none-some}
-use Rattle.language.specs.Language.{Language, Range, rangeOf, argumentsOf, productionKey}
+use Rattle.language.specs.Language.{Language, Range, argumentsOf, productionKey}
 use Rattle.reader.specs.Code.{Code, node, token, Codes, nil, levelsAll}
-use Rattle.reader.specs.Typing.{kindAt, Typed, TypedAll, typed-node, typed-token, typed-argument, typed-nil}
+use Rattle.reader.specs.Typing.{kindAt, Typed, typed-node, typed-token, typed-argument, typed-nil}
 use Rattle.reader.specs.Syntax.{write, tree}
 use Rattle.reader.specs.Inner.Index.{rangeBefore, argumentsBefore}
-use Rattle.reader.specs.Inner.Positions.{KindsIn}
 use Rattle.reader.proofs.Larger.{apart}
 use Rattle.reader.proofs.Members.{in-below}
-use Rattle.index.specs.Inner.Lying.{Lies, Index, There, Row, Shape, production, value, Opens}
+use Rattle.index.specs.Inner.Lying.{Lies, Index, There, Shape, production, value, Opens}
 use Rattle.index.proofs.Lying.{past-inside, past-is, node-byte, node-lies}
 
 -- A place of the language's index is not 0 exactly if there is such an entry.

@@ -1,5 +1,5 @@
 -- Spans by their starts: a law for each return and turn of `entry_from`.
-use Prim.Native.Nat.{ℕ, suc, _+_, _-_, _<_, _≤_}
+use Prim.Native.Nat.{ℕ, _+_, _-_, _<_, _≤_}
 use mathlib.Core.Path.{_≡_, refl, sym, ap, _∙_}
 use mathlib.Core.List.{List, [], _∷_, _++_, append-assoc, append-nil}
 use native.Mathlib.Omega.{arith}
@@ -11,7 +11,7 @@ use Rattle.reader.specs.Syntax.{write, writeAll, tree}
 use Rattle.index.specs.Spans.{Span, span, size, spans, spansAll, entry, entries, indexOf}
 use Rattle.index.specs.Inner.Starts.{Below, Behind, Splits, Entered}
 use Rattle.index.proofs.Pairs.{entry-length, Entry, entry-read}
-use Rattle.index.proofs.Walking.{entries-append, entries-cons}
+use Rattle.index.proofs.Walking.{entries-cons}
 
 -- The first span of a tree is its own.
 pub own-span : (a : ℕ) (t : Code) → (r : List Span) × (spans a t ≡ span a (size t) ∷ r)

@@ -1,23 +1,22 @@
 -- The walk that deals with the entries of a tree: a law for each return and turn of `mark_at`.
-use Prim.Native.Nat.{ℕ, suc, _+_, _-_, _*_, _<_, _≤_}
+use Prim.Native.Nat.{ℕ, _+_, _-_, _*_, _<_, _≤_}
 use mathlib.Core.Path.{_≡_, refl, sym, ap, _∙_}
 use mathlib.Core.Bool.{Bool, true, false}
 use mathlib.Core.List.{List, [], _∷_, _++_, append-assoc, append-nil}
 use native.Mathlib.Omega.{arith}
-use lib.ListN.{length, getD, drop, take, length-append, length-take}
+use lib.ListN.{length, drop, take, length-append}
 use lib.Seq.{drop-drop, drop-append-seam, take-append-le, drop-at, length-take-le, take-take}
 use Rattle.fields.specs.Inner.Writing.{spliced}
 use Rattle.fields.specs.Lists.{concatMap}
 use Rattle.fields.proofs.Codec.{concat-append}
-use Rattle.fields.proofs.Splices.{opened, splice-splice, length-spliced, nothing-spliced}
+use Rattle.fields.proofs.Splices.{opened, splice-splice, nothing-spliced}
 use Rattle.language.specs.Language.{Language}
 use Rattle.reader.specs.Code.{Code, node, token, argument, Codes, nil, cons}
 use Rattle.reader.specs.Syntax.{write, writeAll, tree}
 use Rattle.reader.specs.Inner.Positions.{KindsIn}
 use Rattle.index.specs.Spans.{Span, span, size, spans, spansAll, entry, entries}
-use Rattle.index.specs.Operations.{longest}
-use Rattle.index.specs.Inner.Lying.{There, Row, Shape, production, value, Opens}
-use Rattle.index.specs.Inner.Marking.{lastPlace, Has, Deals, Unlike, Marks, Walks, Small}
+use Rattle.index.specs.Inner.Lying.{Row, Shape, production, value, Opens}
+use Rattle.index.specs.Inner.Marking.{lastPlace, Has, Deals, Unlike, Marks, Walks}
 use Rattle.index.specs.declared.walk.Marked.{Marked}
 use Rattle.index.specs.declared.walk.Marked.the-variants.{To, Differs}
 use Rattle.index.proofs.Rows.{kinds-end, Turn, turn, none-left}

@@ -1,15 +1,11 @@
 -- Entries of an index that are written, or compared with those of an index that is there.
-use Prim.Native.Nat.{ℕ, _+_, _-_, _*_, _<_, _≤_}
+use Prim.Native.Nat.{ℕ, _+_, _-_, _*_, _≤_}
 use mathlib.Core.Path.{_≡_}
 use mathlib.Core.Bool.{Bool, true, false}
 use mathlib.Core.List.{List, _++_}
 use lib.ListN.{length, drop}
 use Rattle.fields.specs.Inner.Writing.{spliced}
-use Rattle.reader.specs.Code.{Code, Codes}
-use Rattle.language.specs.Language.{Language}
-use Rattle.index.specs.Spans.{Span, size, spans, entry, entries}
 use Rattle.index.specs.Operations.{longest}
-use Rattle.index.specs.Inner.Lying.{There}
 use Rattle.index.specs.declared.walk.Marked.{Marked}
 use Rattle.index.specs.declared.walk.Marked.the-variants.{To, Differs}
 

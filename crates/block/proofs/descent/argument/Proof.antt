@@ -1,6 +1,5 @@
 use native.Mathlib.Omega.{arith}
 use Rattle.block.proofs.Steps.{zero-none, entry-inside, opened-row, argument-leads}
-use borrow.Author.Needs.{needs}
 use Rattle.block.proofs.descent.argument.Statement.{statement}
 use Rattle.block.proofs.descent.argument.Tie as tie
 use Rattle.block.proofs.descent.argument.Reads as reads
@@ -8,23 +7,18 @@ use Rattle.block.proofs.descent.argument.Lts as lts
 use Rattle.block.proofs.descent.argument_among.Reads as argument-among-reads
 use Rattle.index.proofs.operands.operands_at.Reads as operands-at-reads
 
--- src/descent.rt:85:9
 returns : tie.Need-returns
 returns c = λ l t h. zero-none _ _ _ _ _ _ _ l t h _ (c .if1 .taken)
 
--- src/descent.rt:87:9
 operands-at-requires : tie.Need-operands-at-requires
 operands-at-requires c κs = (c .before .before .before .before .before .pre .0, c .before .before .before .before .before .pre .1, (c .before .before .before .before .before .pre .2) .there)
 
--- src/descent.rt:94:9
 add-argument-among : tie.Need-add-argument-among
 add-argument-among c = omega (arith, entry-inside _ _ _ _ _ _ _ (c .before .before .before .before .before .before .pre .0) (c .before .before .before .before .before .before .pre .1) (c .before .before .before .before .before .before .pre .2))
 
--- src/descent.rt:88:5
 argument-among-requires : tie.Need-argument-among-requires
 argument-among-requires c κs = (omega (arith, c .before .if1 .left), (c .operands-at .ensures (c .before .before .before .before .before .before .pre .0) (c .before .before .before .before .before .before .pre .1) ((c .before .before .before .before .before .before .pre .2) .there)) .kinds, (_, _, c .before .before .before .before .before .before .pre .0, (c .operands-at .ensures (c .before .before .before .before .before .before .pre .0) (c .before .before .before .before .before .before .pre .1) ((c .before .before .before .before .before .before .pre .2) .there)) .operands, opened-row _ _ _ _ _ _ _ (c .before .before .before .before .before .before .pre .0) (c .before .before .before .before .before .before .pre .1) (c .before .before .before .before .before .before .pre .2) _ _ _ (c .operands-at .ensures (c .before .before .before .before .before .before .pre .0) (c .before .before .before .before .before .before .pre .1) ((c .before .before .before .before .before .before .pre .2) .there))))
 
--- src/descent.rt:70:1
 returns-2 : tie.Need-returns-2
 returns-2 c = λ l t h. argument-leads _ _ _ _ _ _ _ l t h _ _ _ (c .before .operands-at .ensures l t (h .there)) _ (c .before .before .if1 .left) _ (c .argument-among .ensures _ _ l _ (opened-row _ _ _ _ _ _ _ l t h _ _ _ (c .before .operands-at .ensures l t (h .there))))
 

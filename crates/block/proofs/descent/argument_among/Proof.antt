@@ -21,51 +21,36 @@ Inv-loop language first last index at entry number q₀ to₀ p₀ left₀ q to 
 abbrev μ-loop : tie.MeasureT-loop
 μ-loop language first last index at entry number q₀ to₀ p₀ left₀ q to p left = last - q
 
--- src/descent.rt:57:5
 loop-holds : tie.Need-loop-holds Inv-loop μ-loop
 loop-holds c = (c .before .before .pre .0, omega arith, λ x b l ts h. record { others = ts; row = h; same = refl })
 
--- src/descent.rt:59:33
 shared-slice-read-t14 : tie.Need-shared-slice-read-t14 Inv-loop μ-loop
 shared-slice-read-t14 c = c .before .before .before .before .before .before .pre .1 _ (c .before .before .before .loop .inv .1) (c .before .before .loop-test .taken) .0
 
--- src/descent.rt:59:13
 returns : tie.Need-returns Inv-loop μ-loop
 returns c = λ x b l ts h. walk-here _ _ _ _ _ _ _ _ _ _ _ _ l ts (c .before .before .before .loop .inv .2 x b l ts h) (c .before .before .before .before .before .before .pre .1) (c .before .before .before .loop .inv .1) (c .before .before .loop-test .taken) (c .before .if1 .taken)
 
--- src/descent.rt:61:30
 add-pair-in : tie.Need-add-pair-in Inv-loop μ-loop
 add-pair-in c = let y = walk-entry _ _ _ _ _ _ _ _ _ _ _ _ (c .before .before .before .before .before .pre .2 .2) (c .before .before .before .before .before .pre .2 .3) (c .before .before .loop .inv .2 (c .before .before .before .before .before .pre .2 .0) (c .before .before .before .before .before .pre .2 .1) (c .before .before .before .before .before .pre .2 .2) (c .before .before .before .before .before .pre .2 .3) (c .before .before .before .before .before .pre .2 .4)) (c .before .before .before .before .before .pre .1) (c .before .before .loop .inv .1) (c .before .loop-test .taken) .1 .inside in omega (arith, y)
 
--- src/descent.rt:61:15
 pair-in-requires : tie.Need-pair-in-requires Inv-loop μ-loop
 pair-in-requires c κs = let y = walk-entry _ _ _ _ _ _ _ _ _ _ _ _ (c .before .before .before .before .before .pre .2 .2) (c .before .before .before .before .before .pre .2 .3) (c .before .before .loop .inv .2 (c .before .before .before .before .before .pre .2 .0) (c .before .before .before .before .before .pre .2 .1) (c .before .before .before .before .before .pre .2 .2) (c .before .before .before .before .before .pre .2 .3) (c .before .before .before .before .before .pre .2 .4)) (c .before .before .before .before .before .pre .1) (c .before .before .loop .inv .1) (c .before .loop-test .taken) .1 .inside in omega (arith, y)
 
--- src/descent.rt:61:9
 add-to : tie.Need-add-to Inv-loop μ-loop
 add-to c = let y = walk-inside _ _ _ _ _ _ _ _ _ _ _ _ (c .before .before .before .before .before .before .pre .2 .2) (c .before .before .before .before .before .before .pre .2 .3) (c .before .before .before .loop .inv .2 (c .before .before .before .before .before .before .pre .2 .0) (c .before .before .before .before .before .before .pre .2 .1) (c .before .before .before .before .before .before .pre .2 .2) (c .before .before .before .before .before .before .pre .2 .3) (c .before .before .before .before .before .before .pre .2 .4)) (c .before .before .before .before .before .before .pre .1) (c .before .before .before .loop .inv .1) (c .before .before .loop-test .taken) in let z = size-read _ _ _ _ _ _ _ _ _ _ _ _ (c .before .before .before .before .before .before .pre .2 .2) (c .before .before .before .before .before .before .pre .2 .3) (c .before .before .before .loop .inv .2 (c .before .before .before .before .before .before .pre .2 .0) (c .before .before .before .before .before .before .pre .2 .1) (c .before .before .before .before .before .before .pre .2 .2) (c .before .before .before .before .before .before .pre .2 .3) (c .before .before .before .before .before .before .pre .2 .4)) (c .before .before .before .before .before .before .pre .1) (c .before .before .before .loop .inv .1) (c .before .before .loop-test .taken) _ (c .pair-in .ensures .0) in omega (arith, y, z)
 
--- src/descent.rt:62:9
 entry-from-requires : tie.Need-entry-from-requires Inv-loop μ-loop
 entry-from-requires c κs = let y = walk-entry _ _ _ _ _ _ _ _ _ _ _ _ (c .before .before .before .before .before .before .pre .2 .2) (c .before .before .before .before .before .before .pre .2 .3) (c .before .before .before .loop .inv .2 (c .before .before .before .before .before .before .pre .2 .0) (c .before .before .before .before .before .before .pre .2 .1) (c .before .before .before .before .before .before .pre .2 .2) (c .before .before .before .before .before .before .pre .2 .3) (c .before .before .before .before .before .before .pre .2 .4)) (c .before .before .before .before .before .before .pre .1) (c .before .before .before .loop .inv .1) (c .before .before .loop-test .taken) .1 .inside in omega (arith, y)
 
--- src/descent.rt:63:9
 sub-left : tie.Need-sub-left Inv-loop μ-loop
 sub-left c = omega (arith, c .before .before .before .before .loop .inv .0)
 
--- src/descent.rt:64:9
 add-q : tie.Need-add-q Inv-loop μ-loop
 add-q c = let y = c .before .before .before .before .before .before .before .pre .1 _ (c .before .before .before .before .loop .inv .1) (c .before .before .before .loop-test .taken) .0 in search needs
 
--- src/descent.rt:57:5
-loop-less : tie.Need-loop-less Inv-loop μ-loop
-loop-less c = search needs
-
--- src/descent.rt:57:5
 loop-again : tie.Need-loop-again Inv-loop μ-loop
 loop-again c = (omega (arith, c .before .before .before .before .loop .inv .0, c .before .before .if1 .left), omega (arith, c .before .before .before .before .loop .inv .1), λ x b l ts h. let w = (c .before .before .before .before .loop .inv .2 x b l ts h) in walk-on _ _ _ _ _ _ _ _ _ _ _ _ l ts w (c .before .before .before .before .before .before .before .pre .1) (c .before .before .before .before .loop .inv .1) (c .before .before .before .loop-test .taken) _ (c .before .pair-in .ensures .0) (c .before .before .if1 .left) (c .before .before .before .before .loop .inv .0) _ (c .entry-from .ensures _ _ (walk-splits _ _ _ _ _ _ _ _ _ _ _ _ l ts w (c .before .before .before .before .before .before .before .pre .1) (c .before .before .before .before .loop .inv .1) (c .before .before .before .loop-test .taken) _ (c .before .pair-in .ensures .0))))
 
--- src/descent.rt:39:1
 returns-2 : tie.Need-returns-2 Inv-loop μ-loop
 returns-2 c = λ x b l ts h. walk-done _ _ _ _ _ _ _ _ _ _ _ _ l ts (c .before .loop .inv .2 x b l ts h) (c .loop-test .left)
 
@@ -84,6 +69,6 @@ argument-among-spec =
     entry-from-requires
     sub-left
     add-q
-    loop-less
+    (λ c. search needs)
     loop-again
     returns-2)

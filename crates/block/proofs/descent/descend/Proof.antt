@@ -22,67 +22,33 @@ Inv-loop language places kind tree index path seen at₀ of₀ p₀ i₀ at of p
 abbrev μ-loop : tie.MeasureT-loop
 μ-loop language places kind tree index path seen at₀ of₀ p₀ i₀ at of p i = length path - i
 
--- src/descent.rt:117:5
 loop-holds : tie.Need-loop-holds Inv-loop μ-loop
 loop-holds c = λ l t sees h y. record { subtree = t; along = h; same = refl }
 
--- src/descent.rt:118:13
 in-set-requires : tie.Need-in-set-requires Inv-loop μ-loop
 in-set-requires c κs = along-kind ((c .before .loop .inv (c .before .before .before .before .before .before .before .pre .0) (c .before .before .before .before .before .before .before .pre .1) (inSet (c .before .before .before .before .before .before .before .args .seen)) (c .before .before .before .before .before .before .before .pre .2) (λ k q. refl)) .along)
 
--- src/descent.rt:119:13
 returns : tie.Need-returns Inv-loop μ-loop
 returns c = λ l t sees h y. path-hidden _ _ _ _ _ _ _ _ _ _ _ l t sees (c .before .before .before .loop .inv l t sees h y) y _ (c .before .in-set .ensures) (not-true _ (c .if1 .taken))
 
--- src/descent.rt:121:66
-shared-slice-read-argument : tie.Need-shared-slice-read-argument Inv-loop μ-loop
-shared-slice-read-argument c = search needs
-
--- src/descent.rt:121:15
 argument-requires : tie.Need-argument-requires Inv-loop μ-loop
 argument-requires c κs = (c .before .before .before .before .before .before .before .before .before .before .pre .0, (c .before .before .before .before .loop .inv (c .before .before .before .before .before .before .before .before .before .before .pre .0) (c .before .before .before .before .before .before .before .before .before .before .pre .1) (inSet (c .before .before .before .before .before .before .before .before .before .before .args .seen)) (c .before .before .before .before .before .before .before .before .before .before .pre .2) (λ k q. refl)) .subtree, (c .before .before .before .before .loop .inv (c .before .before .before .before .before .before .before .before .before .before .pre .0) (c .before .before .before .before .before .before .before .before .before .before .pre .1) (inSet (c .before .before .before .before .before .before .before .before .before .before .args .seen)) (c .before .before .before .before .before .before .before .before .before .before .pre .2) (λ k q. refl)) .along)
 
--- src/descent.rt:122:22
-enum-known-start : tie.Need-enum-known-start Inv-loop μ-loop
-enum-known-start c = search needs
-
--- src/descent.rt:128:17
-enum-told : tie.Need-enum-told Inv-loop μ-loop
-enum-told c = search needs
-
--- src/descent.rt:128:17
 returns-2 : tie.Need-returns-2 Inv-loop μ-loop
 returns-2 c = λ l t sees h y. let w = c .before .before .before .before .before .before .before .loop .inv l t sees h y in path-stops _ _ _ _ _ _ _ _ _ _ _ l t sees w y _ (c .before .before .before .before .before .in-set .ensures) (not-false _ (c .before .before .before .before .if1 .left)) (c .before .before .before .before .before .before .loop-test .taken) _ (c .before .before .argument .ensures l _ (w .along)) (c .enum-told .given .1)
 
--- src/descent.rt:131:17
-enum-told-2 : tie.Need-enum-told-2 Inv-loop μ-loop
-enum-told-2 c = search needs
-
--- src/descent.rt:131:17
 returns-3 : tie.Need-returns-3 Inv-loop μ-loop
 returns-3 c = λ l t sees h y. let w = c .before .before .before .before .before .before .before .loop .inv l t sees h y in absurd (c .before .before .argument .ensures l _ (w .along) .seen (c .enum-told2 .given .1))
 
--- src/descent.rt:134:9
-add-i : tie.Need-add-i Inv-loop μ-loop
-add-i c = search needs
-
--- src/descent.rt:117:5
-loop-less : tie.Need-loop-less Inv-loop μ-loop
-loop-less c = search needs
-
--- src/descent.rt:117:5
 loop-again : tie.Need-loop-again Inv-loop μ-loop
 loop-again c = λ l t sees h y. let w = c .before .before .before .before .before .before .before .before .loop .inv l t sees h y in path-next _ _ _ _ _ _ _ _ _ _ _ l t sees w y _ (c .before .before .before .before .before .before .in-set .ensures) (not-false _ (c .before .before .before .before .before .if1 .left)) (c .before .before .before .before .before .before .before .loop-test .taken) _ (c .before .before .before .argument .ensures l _ (w .along)) _ _ _ (c .before .start .given .1)
 
--- src/descent.rt:136:9
 in-set-requires-2 : tie.Need-in-set-requires-2 Inv-loop μ-loop
 in-set-requires-2 c κs = along-kind ((c .before .loop .inv (c .before .before .before .before .before .before .before .pre .0) (c .before .before .before .before .before .before .before .pre .1) (inSet (c .before .before .before .before .before .before .before .args .seen)) (c .before .before .before .before .before .before .before .pre .2) (λ k q. refl)) .along)
 
--- src/descent.rt:137:9
 returns-4 : tie.Need-returns-4 Inv-loop μ-loop
 returns-4 c = λ l t sees h y. path-hidden _ _ _ _ _ _ _ _ _ _ _ l t sees (c .before .before .before .loop .inv l t sees h y) y _ (c .before .in-set2 .ensures) (not-true _ (c .if2 .taken))
 
--- src/descent.rt:100:1
 returns-5 : tie.Need-returns-5 Inv-loop μ-loop
 returns-5 c = λ l t sees h y. path-done _ _ _ _ _ _ _ _ _ _ _ l t sees (c .before .before .before .loop .inv l t sees h y) y _ (c .before .in-set2 .ensures) (not-false _ (c .if2 .left)) (c .before .before .loop-test .left)
 
@@ -95,15 +61,15 @@ descend-spec =
     loop-holds
     in-set-requires
     returns
-    shared-slice-read-argument
+    (λ c. search needs)
     argument-requires
-    enum-known-start
-    enum-told
+    (λ c. search needs)
+    (λ c. search needs)
     returns-2
-    enum-told-2
+    (λ c. search needs)
     returns-3
-    add-i
-    loop-less
+    (λ c. search needs)
+    (λ c. search needs)
     loop-again
     in-set-requires-2
     returns-4

@@ -11,42 +11,18 @@ use Rattle.block.proofs.show.nothing.Reads as nothing-reads
 use Rattle.block.proofs.show.place_in.Reads as place-in-reads
 use Rattle.index.proofs.build.check_own.Reads as check-own-reads
 
--- src/show.rt:72:57
-slice-aggregate-check-own : tie.Need-slice-aggregate-check-own
-slice-aggregate-check-own c = search needs
-
--- src/show.rt:72:9
 check-own-requires : tie.Need-check-own-requires
 check-own-requires c κs = (refl, zeros 8224)
 
--- src/show.rt:74:29
-enum-known-outcome : tie.Need-enum-known-outcome
-enum-known-outcome c = search needs
-
--- src/show.rt:75:9
-nothing-requires : tie.Need-nothing-requires
-nothing-requires c κs = search needs
-
--- src/show.rt:75:9
 returns : tie.Need-returns
 returns c = place-refused _ _ _ _ (c .before .before .before .before .before .check-own .ensures .0) _ (c .before .before .outcome .given .1) _ (c .nothing .ensures)
 
-enum-told : tie.Need-enum-told
-enum-told c = search needs
-
--- src/show.rt:77:24
-slice-aggregate-place-in : tie.Need-slice-aggregate-place-in
-slice-aggregate-place-in c = search needs
-
--- src/show.rt:77:33
 cast-place-in : tie.Need-cast-place-in
 cast-place-in c = omega (arith, root-small _ _ _ _ (c .before .before .before .before .check-own .ensures .0) (c .before .enum-told .given .1))
 
--- src/show.rt:77:5
 place-in-requires : tie.Need-place-in-requires
 place-in-requires c κs = (owned _ _ _ _ (c .before .before .before .before .check-own .ensures .0) (c .before .enum-told .given .1) .language, owned _ _ _ _ (c .before .before .before .before .check-own .ensures .0) (c .before .enum-told .given .1) .subject, (tree-along _ _ _ _ (c .before .before .before .before .check-own .ensures .0) (c .before .enum-told .given .1) _ (λ j. omega (arith, c .before .before .before .before .before .before .before .before .shared-slice-known2 .given j)) (c .before .before .before .before .check-own .ensures .1)))
 
--- src/show.rt:68:1
 returns-2 : tie.Need-returns-2
 returns-2 c = place-found _ _ _ _ (c .before .before .before .before .before .check-own .ensures .0) (c .before .before .enum-told .given .1) _ (λ j. omega (arith, c .before .before .before .before .before .before .before .before .before .shared-slice-known2 .given j)) (c .before .before .before .before .before .check-own .ensures .1) _ _ (c .place-in .ensures _ _ (tree-along _ _ _ _ (c .before .before .before .before .before .check-own .ensures .0) (c .before .before .enum-told .given .1) _ (λ j. omega (arith, c .before .before .before .before .before .before .before .before .before .shared-slice-known2 .given j)) (c .before .before .before .before .before .check-own .ensures .1)))
 
@@ -54,13 +30,13 @@ pub place-spec : {M : Type 1} → statement M
 place-spec =
     tie.close
     (tie.spec
-    slice-aggregate-check-own
+    (λ c. search needs)
     check-own-requires
-    enum-known-outcome
-    nothing-requires
+    (λ c. search needs)
+    (λ c κs. search needs)
     returns
-    enum-told
-    slice-aggregate-place-in
+    (λ c. search needs)
+    (λ c. search needs)
     cast-place-in
     place-in-requires
     returns-2)

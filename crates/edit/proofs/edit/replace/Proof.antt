@@ -9,35 +9,15 @@ use Rattle.edit.proofs.edit.replace.Lts as lts
 use Rattle.edit.proofs.edit.refuse_edit.Reads as refuse-edit-reads
 use Rattle.edit.proofs.edit.rewrite.Reads as rewrite-reads
 
--- src/edit.rt:109:16
 sub-size : tie.Need-sub-size
 sub-size c = omega (arith, block-inside _ _ _ _ (c .before .before .before .before .before .before .before .pre .0) _ (c .before .before .before .before .before .before .before .pre .1) _ _ _ (c .before .before .before .before .before .before .before .pre .2) (c .before .before .before .before .before .before .before .pre .3) (c .before .before .before .before .before .before .before .pre .4) (c .before .before .before .before .before .before .before .pre .5) (c .before .before .before .before .before .before .before .pre .6))
 
--- src/edit.rt:109:16
-add-size : tie.Need-add-size
-add-size c = search needs
-
--- src/edit.rt:111:9
-refuse-edit-requires : tie.Need-refuse-edit-requires
-refuse-edit-requires c κs = search needs
-
--- src/edit.rt:111:9
 returns : tie.Need-returns
 returns c = λ path kind l t a u w. plan-too-long _ _ _ _ path _ kind _ _ _ l t a u w _ _ _ refl (c .before .if1 .taken) _ (c .refuse-edit .ensures)
 
--- src/edit.rt:113:5
 rewrite-requires : tie.Need-rewrite-requires
 rewrite-requires c κs = (refl, c .before .before .if1 .left, (c .before .before .before .before .before .before .before .before .before .before .pre))
 
--- src/edit.rt:91:1
-same-length : tie.Need-same-length
-same-length c = search needs
-
--- src/edit.rt:91:1
-same-length-2 : tie.Need-same-length-2
-same-length-2 c = search needs
-
--- src/edit.rt:91:1
 returns-2 : tie.Need-returns-2
 returns-2 c = λ path kind l t a u w. plan-given _ _ _ _ path _ kind _ _ _ l t a u w (c .before .before .before .before .before .before .before .before .before .before .before .before .before .before .before .args .plan .now) (c .before .before .before .before .before .before .before .before .before .before .before .before .before .before .before .args .plan-index .now) _ refl (c .before .before .before .before .before .before .before .if1 .left) _ _ _ (c .before .before .before .before .rewrite .ensures path kind l t a u w)
 
@@ -46,10 +26,10 @@ replace-spec =
     tie.close
     (tie.spec
     sub-size
-    add-size
-    refuse-edit-requires
+    (λ c. search needs)
+    (λ c κs. search needs)
     returns
     rewrite-requires
-    same-length
-    same-length-2
+    (λ c. search needs)
+    (λ c. search needs)
     returns-2)

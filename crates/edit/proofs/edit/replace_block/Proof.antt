@@ -10,67 +10,21 @@ use Rattle.edit.proofs.edit.refuse_edit.Reads as refuse-edit-reads
 use Rattle.edit.proofs.edit.replace.Reads as replace-reads
 use Rattle.reader.proofs.read.read.Reads as read-reads
 
--- src/edit.rt:146:48
-slice-aggregate-read : tie.Need-slice-aggregate-read
-slice-aggregate-read c = search needs
-
--- src/edit.rt:146:67
-levels-left-requires : tie.Need-levels-left-requires
-levels-left-requires c κs = search needs
-
--- src/edit.rt:146:11
 read-requires : tie.Need-read-requires
 read-requires c κs = block-ready _ _ _ _ (c .before .before .before .before .before .before .before .before .before .pre .0) _ (c .before .before .before .before .before .before .before .before .before .pre .1) _ _ _ _ (c .before .before .before .before .before .before .before .before .before .pre .2) (c .before .before .before .before .before .before .before .before .before .pre .3) (c .before .before .before .before .before .before .before .before .before .pre .4) (c .before .before .before .before .before .before .before .before .before .pre .5)
 
--- src/edit.rt:147:19
-enum-known-e : tie.Need-enum-known-e
-enum-known-e c = search needs
-
--- src/edit.rt:149:17
-refuse-edit-requires : tie.Need-refuse-edit-requires
-refuse-edit-requires c κs = search needs
-
--- src/edit.rt:149:17
 returns : tie.Need-returns
 returns c = λ path kind l t a w. block-left _ _ _ _ path _ kind _ _ _ _ l t a w _ (c .before .before .before .before .before .before .levels-left .ensures) _ (c .before .before .before .before .before .read .ensures .0 l (w .index-of .indexed)) _ (c .before .before .before .e .given .1) (c .before .before .before .before .before .read .ensures .1) _ _ (c .before .if1 .taken) _ (c .refuse-edit .ensures)
 
--- src/edit.rt:151:13
 replace-requires : tie.Need-replace-requires
 replace-requires c κs = (c .before .before .before .before .before .before .before .before .before .before .before .before .before .before .before .before .pre .0, c .before .before .before .before .before .before .before .before .before .before .before .before .before .before .before .before .pre .1, c .before .before .before .before .before .before .before .before .before .before .before .before .before .before .before .before .pre .2, c .before .before .before .before .before .before .before .before .before .before .before .before .before .before .before .before .pre .3, c .before .before .before .before .before .before .before .before .before .before .before .before .before .before .before .before .pre .4, done-is _ _ _ _ (c .before .before .before .before .before .before .before .before .before .before .before .before .before .before .before .before .pre .0) _ (c .before .before .before .before .before .before .before .before .before .before .before .before .before .before .before .before .pre .1) _ _ _ _ (c .before .before .before .before .before .before .before .before .before .before .before .before .before .before .before .before .pre .2) (c .before .before .before .before .before .before .before .before .before .before .before .before .before .before .before .before .pre .3) (c .before .before .before .before .before .before .before .before .before .before .before .before .before .before .before .before .pre .4) (c .before .before .before .before .before .before .before .before .before .before .before .before .before .before .before .before .pre .5) _ (c .before .before .before .before .before .before .before .levels-left .ensures) _ (c .before .before .before .before .before .before .read .ensures .0 (c .before .before .before .before .before .before .before .before .before .before .before .before .before .before .before .before .pre .2) ((c .before .before .before .before .before .before .before .before .before .before .before .before .before .before .before .before .pre .5) .index-of .indexed)) _ (c .before .before .before .before .e .given .1) (c .before .before .before .before .before .before .read .ensures .1) .0, block-replaces _ _ _ _ (c .before .before .before .before .before .before .before .before .before .before .before .before .before .before .before .before .pre .0) _ (c .before .before .before .before .before .before .before .before .before .before .before .before .before .before .before .before .pre .1) _ _ _ _ (c .before .before .before .before .before .before .before .before .before .before .before .before .before .before .before .before .pre .2) (c .before .before .before .before .before .before .before .before .before .before .before .before .before .before .before .before .pre .3) (c .before .before .before .before .before .before .before .before .before .before .before .before .before .before .before .before .pre .4) (c .before .before .before .before .before .before .before .before .before .before .before .before .before .before .before .before .pre .5) _ (c .before .before .before .before .before .before .before .levels-left .ensures) _ (c .before .before .before .before .before .before .read .ensures .0 (c .before .before .before .before .before .before .before .before .before .before .before .before .before .before .before .before .pre .2) ((c .before .before .before .before .before .before .before .before .before .before .before .before .before .before .before .before .pre .5) .index-of .indexed)) _ (c .before .before .before .before .e .given .1) (c .before .before .before .before .before .before .read .ensures .1) (c .before .before .if1 .left) (λ j. omega (arith, c .before .before .before .before .before .before .before .before .before .before .before .shared-slice-known5 .given j)))
 
--- src/edit.rt:153:35
-enum-told : tie.Need-enum-told
-enum-told c = search needs
-
--- src/edit.rt:153:23
-refuse-edit-requires-2 : tie.Need-refuse-edit-requires-2
-refuse-edit-requires-2 c κs = search needs
-
--- src/edit.rt:154:37
-enum-told-2 : tie.Need-enum-told-2
-enum-told-2 c = search needs
-
--- src/edit.rt:154:25
-refuse-edit-requires-3 : tie.Need-refuse-edit-requires-3
-refuse-edit-requires-3 c κs = search needs
-
--- src/edit.rt:127:1
-same-length : tie.Need-same-length
-same-length c = search needs
-
--- src/edit.rt:127:1
-same-length-2 : tie.Need-same-length-2
-same-length-2 c = search needs
-
--- src/edit.rt:127:1
 returns-2 : tie.Need-returns-2
 returns-2 c = λ path kind l t a w. block-given _ _ _ _ path _ kind _ _ _ _ l t a w _ (c .before .before .before .before .before .before .before .before .before .before .before .before .levels-left .ensures) _ (c .before .before .before .before .before .before .before .before .before .before .before .read .ensures .0 l (w .index-of .indexed)) _ (c .before .before .before .before .before .before .before .before .before .e .given .1) (c .before .before .before .before .before .before .before .before .before .before .before .read .ensures .1) (c .before .before .before .before .before .before .before .if1 .left) (c .before .before .before .before .before .before .before .before .before .before .before .before .before .before .before .before .before .before .before .before .before .args .plan .now) (c .before .before .before .before .before .before .before .before .before .before .before .before .before .before .before .before .before .before .before .before .before .args .plan-index .now) _ _ _ (c .before .before .before .before .replace .ensures path kind l t a _ (block-replaces _ _ _ _ path _ kind _ _ _ _ l t a w _ (c .before .before .before .before .before .before .before .before .before .before .before .before .levels-left .ensures) _ (c .before .before .before .before .before .before .before .before .before .before .before .read .ensures .0 l (w .index-of .indexed)) _ (c .before .before .before .before .before .before .before .before .before .e .given .1) (c .before .before .before .before .before .before .before .before .before .before .before .read .ensures .1) (c .before .before .before .before .before .before .before .if1 .left) (λ j. omega (arith, c .before .before .before .before .before .before .before .before .before .before .before .before .before .before .before .before .shared-slice-known5 .given j))))
 
--- src/edit.rt:127:1
 returns-3 : tie.Need-returns-3
 returns-3 c = λ path kind l t a w. block-deep _ _ _ _ path _ kind _ _ _ _ l t a w _ (c .before .before .before .before .levels-left .ensures) _ (c .before .before .before .read .ensures .0 l (w .index-of .indexed)) _ _ (c .before .enum-told .given .1) _ (c .refuse-edit2 .ensures)
 
--- src/edit.rt:127:1
 returns-4 : tie.Need-returns-4
 returns-4 c = λ path kind l t a w. block-broken _ _ _ _ path _ kind _ _ _ _ l t a w _ (c .before .before .before .before .levels-left .ensures) _ (c .before .before .before .read .ensures .0 l (w .index-of .indexed)) _ _ (c .before .enum-told2 .given .1) _ (c .refuse-edit3 .ensures)
 
@@ -78,19 +32,19 @@ pub replace-block-spec : {M : Type 1} → statement M
 replace-block-spec =
     tie.close
     (tie.spec
-    slice-aggregate-read
-    levels-left-requires
+    (λ c. search needs)
+    (λ c κs. search needs)
     read-requires
-    enum-known-e
-    refuse-edit-requires
+    (λ c. search needs)
+    (λ c κs. search needs)
     returns
     replace-requires
-    enum-told
-    refuse-edit-requires-2
-    enum-told-2
-    refuse-edit-requires-3
-    same-length
-    same-length-2
+    (λ c. search needs)
+    (λ c κs. search needs)
+    (λ c. search needs)
+    (λ c κs. search needs)
+    (λ c. search needs)
+    (λ c. search needs)
     returns-2
     returns-3
     returns-4)

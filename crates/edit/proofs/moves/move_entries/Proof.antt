@@ -20,35 +20,21 @@ Inv-loop index from stop start old new out₀ n p₀ m₀ out p m =
 abbrev μ-loop : tie.MeasureT-loop
 μ-loop index from stop start old new out₀ n p₀ m₀ out p m = stop - p
 
--- src/moves.rt:67:5
 loop-holds : tie.Need-loop-holds Inv-loop μ-loop
 loop-holds c = (refl, λ l h. move-begin _ _ _ _ _ _ _ _ l h)
 
--- src/moves.rt:68:9
 move-entry-requires : tie.Need-move-entry-requires Inv-loop μ-loop
 move-entry-requires c κs = let w = (c .before .before .loop .inv .1 (c .before .before .before .before .before .pre .3 .1) (c .before .before .before .before .before .pre .3 .2)) in let y = move-inside _ _ _ _ _ _ _ _ _ _ _ (c .before .before .before .before .before .pre .3 .1) w (c .before .loop-test .taken) in (y .0, omega (arith, y .1, c .before .before .before .before .before .pre .0, c .before .before .loop .inv .0), omega (arith, y .1, c .before .before .before .before .before .pre .1), c .before .before .before .before .before .pre .2, move-fits _ _ _ _ _ _ _ _ _ _ _ (c .before .before .before .before .before .pre .3 .1) w (c .before .loop-test .taken) _ (c .before .before .before .before .before .pre .3 .3) (c .before .before .before .before .before .pre .3 .4), move-apart _ _ _ _ _ _ _ _ _ _ _ (c .before .before .before .before .before .pre .3 .1) w (c .before .loop-test .taken) _ (c .before .before .before .before .before .pre .3 .3) (c .before .before .before .before .before .pre .3 .4))
 
--- src/moves.rt:69:9
 add-p : tie.Need-add-p Inv-loop μ-loop
 add-p c = let y = move-inside _ _ _ _ _ _ _ _ _ _ _ (c .before .before .before .before .before .before .before .before .pre .3 .1) (c .before .before .before .before .before .loop .inv .1 (c .before .before .before .before .before .before .before .before .pre .3 .1) (c .before .before .before .before .before .before .before .before .pre .3 .2)) (c .before .before .before .before .loop-test .taken) in omega (arith, y .0)
 
--- src/moves.rt:70:9
 add-m : tie.Need-add-m Inv-loop μ-loop
 add-m c = let y = move-inside _ _ _ _ _ _ _ _ _ _ _ (c .before .before .before .before .before .before .before .before .pre .3 .1) (c .before .before .before .before .before .loop .inv .1 (c .before .before .before .before .before .before .before .before .pre .3 .1) (c .before .before .before .before .before .before .before .before .pre .3 .2)) (c .before .before .before .before .loop-test .taken) in omega (arith, y .1, c .before .before .before .before .before .before .before .before .pre .1)
 
--- src/moves.rt:67:5
-loop-less : tie.Need-loop-less Inv-loop μ-loop
-loop-less c = search needs
-
--- src/moves.rt:67:5
 loop-again : tie.Need-loop-again Inv-loop μ-loop
 loop-again c = (c .before .before .move-entry .kept .1 .1 .1 .1 .1 .0 ∙ c .before .before .before .before .before .loop .inv .0, λ l h. move-next _ _ _ _ _ _ _ _ _ _ _ l (c .before .before .before .before .before .loop .inv .1 l h) (c .before .before .before .before .loop-test .taken) (c .before .before .before .before .before .before .before .before .pre .0) _ (c .before .before .move-entry .ensures))
 
--- src/moves.rt:50:1
-same-length : tie.Need-same-length Inv-loop μ-loop
-same-length c = search needs
-
--- src/moves.rt:50:1
 returns : tie.Need-returns Inv-loop μ-loop
 returns c = λ l h. move-done _ _ _ _ _ _ _ _ _ _ _ l (c .before .loop .inv .1 l h) (c .loop-test .left)
 
@@ -62,7 +48,7 @@ move-entries-spec =
     move-entry-requires
     add-p
     add-m
-    loop-less
+    (λ c. search needs)
     loop-again
-    same-length
+    (λ c. search needs)
     returns)

@@ -1,4 +1,4 @@
-use mathlib.Core.Path.{refl, sym, _∙_}
+use mathlib.Core.Path.{sym, _∙_}
 use native.Mathlib.Omega.{arith}
 use borrow.Author.Tests.{not-true, not-false}
 use Rattle.translation.proofs.Accepted.{refused-not}
@@ -14,70 +14,21 @@ use Rattle.fields.proofs.outcome.accept.Reads as accept-reads
 use Rattle.fields.proofs.outcome.refuse.Reads as refuse-reads
 use Rattle.index.proofs.build.is_own.Reads as is-own-reads
 
--- src/build.rt:116:9
-check-indexed-requires : tie.Need-check-indexed-requires
-check-indexed-requires c κs = search needs
-
--- src/build.rt:118:29
-enum-known-outcome : tie.Need-enum-known-outcome
-enum-known-outcome c = search needs
-
--- src/build.rt:119:9
-refuse-requires : tie.Need-refuse-requires
-refuse-requires c κs = search needs
-
--- src/build.rt:119:9
-same-length : tie.Need-same-length
-same-length c = search needs
-
--- src/build.rt:119:9
 returns : tie.Need-returns
 returns c = (own-refused _ _ _ _ (c .before .before .before .before .before .before .check-indexed .ensures .0) (c .before .before .outcome .given .1) (c .refuse .ensures), λ n l q e. refused-not (sym (c .refuse .ensures) ∙ q))
 
-enum-told : tie.Need-enum-told
-enum-told c = search needs
-
--- src/build.rt:122:9
-refuse-requires-2 : tie.Need-refuse-requires-2
-refuse-requires-2 c κs = search needs
-
--- src/build.rt:122:9
-same-length-2 : tie.Need-same-length-2
-same-length-2 c = search needs
-
--- src/build.rt:122:9
 returns-2 : tie.Need-returns-2
 returns-2 c = (own-long _ _ _ _ (c .before .before .before .before .before .before .check-indexed .ensures .0) (c .before .before .enum-told .given .1) (c .before .if1 .taken) (c .refuse2 .ensures), λ n l q e. refused-not (sym (c .refuse2 .ensures) ∙ q))
 
--- src/build.rt:124:34
 cast-is-own : tie.Need-cast-is-own
 cast-is-own c = omega (arith, root-small _ _ _ (c .before .before .before .before .before .before .check-indexed .ensures .0) (c .before .before .enum-told .given .1))
 
--- src/build.rt:124:9
 is-own-requires : tie.Need-is-own-requires
 is-own-requires c κs = (c .before .if1 .left, (checked-tree _ _ _ (c .before .before .before .before .before .before .check-indexed .ensures .0) (c .before .before .enum-told .given .1) .language, checked-tree _ _ _ (c .before .before .before .before .before .before .check-indexed .ensures .0) (c .before .before .enum-told .given .1) .subject, tree-there _ _ _ (c .before .before .before .before .before .before .check-indexed .ensures .0) (c .before .before .enum-told .given .1) _ (λ i. omega (arith, c .before .before .before .before .before .before .before .before .before .before .shared-slice-known2 .given i)) (c .before .before .before .before .before .before .check-indexed .ensures .1)))
 
--- src/build.rt:125:9
-refuse-requires-3 : tie.Need-refuse-requires-3
-refuse-requires-3 c κs = search needs
-
--- src/build.rt:125:9
-same-length-3 : tie.Need-same-length-3
-same-length-3 c = search needs
-
--- src/build.rt:125:9
 returns-3 : tie.Need-returns-3
 returns-3 c = (own-other _ _ _ _ (c .before .before .before .before .before .before .before .before .before .check-indexed .ensures .0) (c .before .before .before .before .before .enum-told .given .1) (c .before .before .before .before .if1 .left) _ (c .before .before .is-own .ensures _ _ (tree-there _ _ _ (c .before .before .before .before .before .before .before .before .before .check-indexed .ensures .0) (c .before .before .before .before .before .enum-told .given .1) _ (λ i. omega (arith, c .before .before .before .before .before .before .before .before .before .before .before .before .before .shared-slice-known2 .given i)) (c .before .before .before .before .before .before .before .before .before .check-indexed .ensures .1))) (not-true _ (c .before .if2 .taken)) (c .refuse3 .ensures), λ n l q e. refused-not (sym (c .refuse3 .ensures) ∙ q))
 
--- src/build.rt:127:5
-accept-requires : tie.Need-accept-requires
-accept-requires c κs = search needs
-
--- src/build.rt:110:1
-same-length-4 : tie.Need-same-length-4
-same-length-4 c = search needs
-
--- src/build.rt:110:1
 returns-4 : tie.Need-returns-4
 returns-4 c = (own-accepted _ _ _ _ (c .before .before .before .before .before .before .before .before .before .check-indexed .ensures .0) (c .before .before .before .before .before .enum-told .given .1) (c .before .before .before .before .if1 .left) _ (c .before .before .is-own .ensures _ _ (tree-there _ _ _ (c .before .before .before .before .before .before .before .before .before .check-indexed .ensures .0) (c .before .before .before .before .before .enum-told .given .1) _ (λ i. omega (arith, c .before .before .before .before .before .before .before .before .before .before .before .before .before .shared-slice-known2 .given i)) (c .before .before .before .before .before .before .before .before .before .check-indexed .ensures .1))) (not-false _ (c .before .if2 .left)) (c .accept .ensures), λ n l q e. c .before .before .before .before .before .before .before .before .before .check-indexed .ensures .1 _ l (c .before .before .before .before .before .enum-told .given .1) e)
 
@@ -85,20 +36,20 @@ pub check-own-spec : {M : Type 1} → statement M
 check-own-spec =
     tie.close
     (tie.spec
-    check-indexed-requires
-    enum-known-outcome
-    refuse-requires
-    same-length
+    (λ c κs. search needs)
+    (λ c. search needs)
+    (λ c κs. search needs)
+    (λ c. search needs)
     returns
-    enum-told
-    refuse-requires-2
-    same-length-2
+    (λ c. search needs)
+    (λ c κs. search needs)
+    (λ c. search needs)
     returns-2
     cast-is-own
     is-own-requires
-    refuse-requires-3
-    same-length-3
+    (λ c κs. search needs)
+    (λ c. search needs)
     returns-3
-    accept-requires
-    same-length-4
+    (λ c κs. search needs)
+    (λ c. search needs)
     returns-4)

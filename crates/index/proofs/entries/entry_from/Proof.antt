@@ -19,31 +19,18 @@ Inv-loop index entry position p₀ p = (p ≤ length index + 4) × ((front back 
 abbrev μ-loop : tie.MeasureT-loop
 μ-loop index entry position p₀ p = length index - p
 
--- src/entries.rt:78:5
 loop-holds : tie.Need-loop-holds Inv-loop μ-loop
 loop-holds c = (omega (arith, (c .before .pre)), λ front back h. record { left = front; splits = h; same = refl })
 
--- src/entries.rt:79:24
 pair-at-requires : tie.Need-pair-at-requires Inv-loop μ-loop
 pair-at-requires c κs = omega (arith, c .loop-test .taken)
 
--- src/entries.rt:80:13
 returns : tie.Need-returns Inv-loop μ-loop
 returns c = λ front back h. pass-stop _ _ _ _ front back (c .before .before .before .loop .inv .1 front back h) _ (c .before .pair-at .ensures .0) (c .if1 .taken)
 
--- src/entries.rt:82:9
-add-p : tie.Need-add-p Inv-loop μ-loop
-add-p c = search needs
-
--- src/entries.rt:78:5
-loop-less : tie.Need-loop-less Inv-loop μ-loop
-loop-less c = search needs
-
--- src/entries.rt:78:5
 loop-again : tie.Need-loop-again Inv-loop μ-loop
 loop-again c = (omega arith, λ front back h. pass-on _ _ _ _ front back (c .before .before .before .loop .inv .1 front back h) _ (c .before .pair-at .ensures .0) (c .before .before .loop-test .taken) (λ q. omega (arith, c .if1 .left)))
 
--- src/entries.rt:73:1
 returns-2 : tie.Need-returns-2 Inv-loop μ-loop
 returns-2 c = λ front back h. pass-end _ _ _ _ front back (c .before .loop .inv .1 front back h) (c .loop-test .left)
 
@@ -56,7 +43,7 @@ entry-from-spec =
     loop-holds
     pair-at-requires
     returns
-    add-p
-    loop-less
+    (λ c. search needs)
+    (λ c. search needs)
     loop-again
     returns-2)

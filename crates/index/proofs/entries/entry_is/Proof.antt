@@ -9,35 +9,16 @@ use Rattle.index.proofs.entries.entry_is.Reads as reads
 use Rattle.index.proofs.entries.entry_is.Lts as lts
 use Rattle.fields.proofs.bytes.pair_in.Reads as pair-in-reads
 
--- src/entries.rt:41:22
-add-if1 : tie.Need-add-if1
-add-if1 c = search needs
-
--- src/entries.rt:42:9
 returns : tie.Need-returns
 returns c = ((λ q. not-both q refl), λ q w. too-short _ _ _ _ (c .if1 .taken) w)
 
--- src/entries.rt:44:8
-pair-in-requires : tie.Need-pair-in-requires
-pair-in-requires c κs = search needs
-
--- src/entries.rt:45:9
 returns-2 : tie.Need-returns-2
 returns-2 c = ((λ q. not-both q refl), λ q w. other-start _ _ _ _ _ (c .before .pair-in .ensures .0) (c .if2 .taken) w)
 
--- src/entries.rt:47:20
-add-pair-in : tie.Need-add-pair-in
-add-pair-in c = search needs
-
--- src/entries.rt:47:5
-pair-in-requires-2 : tie.Need-pair-in-requires-2
-pair-in-requires-2 c κs = search needs
-
--- src/entries.rt:37:1
 returns-3 : tie.Need-returns-3
 returns-3 c = ((λ q. same-entry _ _ _ _ _ (c .pair-in2 .ensures .0) (c .before .before .before .if1 .left) (λ i. omega (arith, c .before .before .before .before .shared-slice-known .given i)) _ (c .before .before .pair-in .ensures .0) (c .before .if2 .left) q), λ q w. other-size _ _ _ _ _ (c .pair-in2 .ensures .0) q w)
 
 pub entry-is-spec : {M : Type 1} → statement M
 entry-is-spec =
     tie.close
-    (tie.spec add-if1 returns pair-in-requires returns-2 add-pair-in pair-in-requires-2 returns-3)
+    (tie.spec (λ c. search needs) returns (λ c κs. search needs) returns-2 (λ c. search needs) (λ c κs. search needs) returns-3)
