@@ -1,5 +1,5 @@
 /* The C interface of the library algebra: three checks, reduce, run, score, score_loose,
- * join_table, export, import and block.
+ * join_table, export, import, index, block and edit.
  *
  * Each function returns the number of the answer: ALGEBRA_ACCEPTED, or the number of a
  * refusal (enum algebra_answer). Figures of the answer, such as a length, are stored through
@@ -39,6 +39,11 @@
 #define ALGEBRA_LANGUAGE_BYTES 1024
 #define ALGEBRA_TRANSLATION_BYTES 4096
 #define ALGEBRA_PACK_BYTES 32768
+
+/* The longest tree that has an index, in bytes: over this is ALGEBRA_NOT_INDEXED. An index has
+ * ALGEBRA_ENTRY_BYTES bytes for each node, and a node has a byte or more of its own. */
+#define ALGEBRA_INDEXED_BYTES 65535
+#define ALGEBRA_ENTRY_BYTES 4
 
 /* Reduce needs a workspace and an output of at least so many bytes. What it accepts is at most
  * ALGEBRA_TRANSLATION_BYTES long. */
@@ -183,14 +188,37 @@ uint32_t algebra_import(const uint8_t *language, size_t language_length,
                         uint8_t *output, size_t output_length,
                         uint64_t *length);
 
-/* Looks up the block of a tree at a path of argument numbers, one byte each, from 1: 0 to 4, 14
- * to 16, 21. The block is the part of the tree from start on with that length, a legal tree of
- * the kind. The empty path gives the whole tree. */
+/* Builds the index of a tree: for each node, tokens too, in reading order its start and its
+ * length, two bytes each: 0 to 4, 14 to 17, 22. */
+uint32_t algebra_index(const uint8_t *language, size_t language_length,
+                       uint32_t root,
+                       const uint8_t *tree, size_t tree_length,
+                       uint8_t *output, size_t output_length,
+                       uint64_t *length);
+
+/* Looks up the block of a tree, with its index, at a path of argument numbers, one byte each, from
+ * 1: 0 to 4, 14 to 16, 21, 22. The block is the part of the tree from start on with that length, a
+ * legal tree of the kind. The empty path gives the whole tree. */
 uint32_t algebra_block(const uint8_t *language, size_t language_length,
                        uint32_t root,
                        const uint8_t *tree, size_t tree_length,
+                       const uint8_t *index, size_t index_length,
                        const uint8_t *path, size_t path_length,
                        uint64_t *start, uint64_t *length, uint32_t *kind);
+
+/* Replaces the block of a tree, with its index, at a path by a legal tree of the same kind, and
+ * gives the new plan and its index, each in an output of its own: 0 to 4, 14 to 17, 21, 22. The
+ * bytes before and behind the block stay. The index is the one that algebra_index builds of the new
+ * plan. A refusal stores 0 twice and leaves both outputs unchanged. */
+uint32_t algebra_edit(const uint8_t *language, size_t language_length,
+                      uint32_t root,
+                      const uint8_t *tree, size_t tree_length,
+                      const uint8_t *index, size_t index_length,
+                      const uint8_t *path, size_t path_length,
+                      const uint8_t *block, size_t block_length,
+                      uint8_t *plan, size_t plan_room,
+                      uint8_t *plan_index, size_t plan_index_room,
+                      uint64_t *plan_length, uint64_t *plan_index_length);
 
 #ifdef __cplusplus
 }

@@ -7,11 +7,13 @@
  *   ask score LANGUAGE ROOT TREE TABLE         ask loose LANGUAGE ROOT PLAN TABLE
  *   ask join TRANSLATION TABLE
  *   ask export LANGUAGE ROOT TREE              ask import LANGUAGE ROOT TEXT
- *   ask block LANGUAGE ROOT TREE PATH
+ *   ask index LANGUAGE ROOT TREE               ask block LANGUAGE ROOT TREE PATH [INDEX]
+ *   ask edit LANGUAGE ROOT TREE PATH BLOCK [INDEX]
  *   ask bytes FILE                             writes the bytes themselves
  *
- * Prints `accepted LENGTH` (or a score, or `LEAST to GREATEST` of a loose plan), the bytes of a result on a second line, and kind and start of a block on a third; or
- * `refused NUMBER`. The text of an import is read, and that of an export printed, as it is. */
+ * Prints `accepted LENGTH` (or a score, or `LEAST to GREATEST` of a loose plan), the bytes of a result on a second line, and kind and start of a block or the index of an edited plan on
+ * a third; or `refused NUMBER`. The text of an import is read, and that of an export printed, as it is. An INDEX that is not
+ * named is built. */
 #include "algebra.h"
 #include <stdio.h>
 #include <stdlib.h>
@@ -98,6 +100,13 @@ static struct bytes load_text(const char *name)
     return bytes;
 }
 
+/* Prints bytes on a line of their own, if there are any. */
+static void put_bytes(const uint8_t *bytes, uint64_t length)
+{
+    for (uint64_t i = 0; i < length; i++)
+        printf("%02X%c", bytes[i], i + 1 == length ? '\n' : ' ');
+}
+
 /* Prints the answer of an operation, and the bytes that it gave, if they are told. */
 static void answer(uint32_t number, uint64_t length, const uint8_t *output)
 {
@@ -105,8 +114,8 @@ static void answer(uint32_t number, uint64_t length, const uint8_t *output)
         printf("refused %u\n", (unsigned)number);
     else
         printf("accepted %u\n", (unsigned)length);
-    for (uint64_t i = 0; output != NULL && i < length; i++)
-        printf("%02X%c", output[i], i + 1 == length ? '\n' : ' ');
+    if (output != NULL)
+        put_bytes(output, length);
 }
 
 /* The number in a word that may be missing. */
@@ -200,17 +209,54 @@ static void import_tree(char **words)
     answer(number, length, tree);
 }
 
+/* The index of a tree, empty where it is refused. */
+static struct bytes index_of(struct bytes language, uint32_t root, struct bytes tree)
+{
+    uint64_t length;
+    struct bytes index = { room_for(LONGEST), 0 };
+    algebra_index(language.at, language.length, root, tree.at, tree.length, index.at, LONGEST, &length);
+    index.length = length;
+    return index;
+}
+
+/* Builds the index of a tree. */
+static void index_tree(char **words)
+{
+    struct bytes language = load(words[0]), tree = load(words[2]);
+    uint8_t *index = room_for(LONGEST);
+    uint64_t length;
+    uint32_t number = algebra_index(language.at, language.length, (uint32_t)number_or(words[1], 0), tree.at, tree.length,
+                                    index, LONGEST, &length);
+    answer(number, length, index);
+}
+
 /* Looks up a block. */
 static void block(char **words)
 {
     struct bytes language = load(words[0]), tree = load(words[2]), path = load(words[3]);
+    uint32_t kind, root = (uint32_t)number_or(words[1], 0);
+    struct bytes index = words[4] == NULL ? index_of(language, root, tree) : load(words[4]);
     uint64_t start, length;
-    uint32_t kind;
-    uint32_t number = algebra_block(language.at, language.length, (uint32_t)number_or(words[1], 0), tree.at, tree.length,
+    uint32_t number = algebra_block(language.at, language.length, root, tree.at, tree.length, index.at, index.length,
                                     path.at, path.length, &start, &length, &kind);
     answer(number, length, tree.at + start);
     if (number == ALGEBRA_ACCEPTED)
         printf("kind %u, start %u\n", (unsigned)kind, (unsigned)start);
+}
+
+/* Edits a plan. */
+static void edit(char **words)
+{
+    struct bytes language = load(words[0]), tree = load(words[2]), path = load(words[3]), block = load(words[4]);
+    uint32_t root = (uint32_t)number_or(words[1], 0);
+    struct bytes index = words[5] == NULL ? index_of(language, root, tree) : load(words[5]);
+    uint8_t *plan = room_for(LONGEST), *plan_index = room_for(LONGEST);
+    uint64_t length, index_length;
+    uint32_t number = algebra_edit(language.at, language.length, root, tree.at, tree.length, index.at, index.length,
+                                   path.at, path.length, block.at, block.length, plan, LONGEST, plan_index, LONGEST,
+                                   &length, &index_length);
+    answer(number, length, plan);
+    put_bytes(plan_index, index_length);
 }
 
 /* Checks a language. */
@@ -258,7 +304,9 @@ static const struct {
     { "join", join, 2, 2 },
     { "export", export_tree, 3, 3 },
     { "import", import_tree, 3, 3 },
-    { "block", block, 4, 4 },
+    { "index", index_tree, 3, 3 },
+    { "block", block, 4, 5 },
+    { "edit", edit, 5, 6 },
     { "bytes", write_bytes, 1, 1 },
 };
 

@@ -15,6 +15,7 @@ static const uint8_t pack[] = { 0x30, 0, 5, 0x12, 0, 2, 1, 0, 0x32, 0, 3, 0x55, 
 static const uint8_t tree[] = { 0 };
 static const uint8_t table[] = { 0x24, 0, 4, 1, 0, 0xFF, 0xF9 };
 static const uint8_t text[] = { '<', 'x', '1', '.', '0', '>', '<', '/', 'x', '1', '.', '0', '>' };
+static const uint8_t entries[] = { 0, 0, 0, 1 };
 static const uint8_t elsewhere[] = { MARK };
 
 static uint8_t workspace[WORKSPACE], output[OUTPUT], no_bytes[] = { MARK };
@@ -94,29 +95,58 @@ static uint32_t join(const uint8_t *t, size_t t_length, const uint8_t *b, size_t
     return number;
 }
 
-/* Export and import have the same form. */
+/* Export, import and index have the same form. */
 typedef uint32_t conversion(const uint8_t *, size_t, uint32_t, const uint8_t *, size_t, uint8_t *, size_t, uint64_t *);
 
-/* Exports or imports by the tree's root kind; a refusal must store length 0. */
+/* Exports, imports or builds an index by the tree's root kind; a refusal must store length 0. */
 static uint32_t convert(conversion *of, size_t due, const uint8_t *l, size_t l_length,
                         const uint8_t *i, size_t i_length, uint8_t *o, size_t o_length)
 {
     uint64_t length = UINT64_MAX;
     uint32_t number = of(l, l_length, 1, i, i_length, o, o_length, &length);
-    count("the length of an export or import", length == (number == 0 ? due : 0));
+    count("the length of an export, import or index", length == (number == 0 ? due : 0));
     return number;
+}
+
+/* Builds the index of a tree of the tree's root kind; a refusal must store length 0. */
+static uint32_t build(const uint8_t *l, size_t l_length, const uint8_t *t, size_t t_length,
+                      uint8_t *o, size_t o_length)
+{
+    return convert(algebra_index, sizeof entries, l, l_length, t, t_length, o, o_length);
 }
 
 /* Looks up a block of the tree's root kind; a refusal must store 0 three times. */
 static uint32_t block(const uint8_t *l, size_t l_length, const uint8_t *t, size_t t_length,
-                      const uint8_t *p, size_t p_length)
+                      const uint8_t *i, size_t i_length, const uint8_t *p, size_t p_length)
 {
     uint64_t start = UINT64_MAX, length = UINT64_MAX;
     uint32_t kind = UINT32_MAX;
-    uint32_t number = algebra_block(l, l_length, 1, t, t_length, p, p_length, &start, &length, &kind);
+    uint32_t number = algebra_block(l, l_length, 1, t, t_length, i, i_length, p, p_length, &start, &length, &kind);
     count("the start of a block", start == 0);
     count("the length of a block", length == (number == 0 ? sizeof tree : 0));
     count("the kind of a block", kind == (number == 0 ? 1 : 0));
+    return number;
+}
+
+/* What an edit is given besides language, path and outputs. */
+struct edited {
+    const uint8_t *tree;
+    size_t tree_length;
+    const uint8_t *index;
+    size_t index_length;
+    const uint8_t *block;
+    size_t block_length;
+};
+
+/* Edits the whole plan, in a language and with outputs of these lengths; a refusal must store 0 twice. */
+static uint32_t edit(const uint8_t *l, size_t l_length, struct edited e, uint8_t *o, size_t o_length,
+                     uint8_t *x, size_t x_length)
+{
+    uint64_t length = UINT64_MAX, index_length = UINT64_MAX;
+    uint32_t number = algebra_edit(l, l_length, 1, e.tree, e.tree_length, e.index, e.index_length, NULL, 0, e.block,
+                                   e.block_length, o, o_length, x, x_length, &length, &index_length);
+    count("the length of an edited plan", length == (number == 0 ? sizeof tree : 0));
+    count("the length of its index", index_length == (number == 0 ? sizeof entries : 0));
     return number;
 }
 
@@ -230,18 +260,60 @@ static void texts(void)
     count("imported tree", memcmp(output, tree, sizeof tree) == 0);
 }
 
+/* Indexes. */
+static void indexes(void)
+{
+    same("index, language", 14, build(NULL, 0, tree, sizeof tree, output, OUTPUT),
+         build(elsewhere, 0, tree, sizeof tree, output, OUTPUT));
+    same("index, tree", 15, build(language, sizeof language, NULL, 0, output, OUTPUT),
+         build(language, sizeof language, elsewhere, 0, output, OUTPUT));
+    same("index, output", 17, build(language, sizeof language, tree, sizeof tree, NULL, 0),
+         build(language, sizeof language, tree, sizeof tree, no_bytes, 0));
+    same("index, all", 14, build(NULL, 0, NULL, 0, NULL, 0), build(elsewhere, 0, elsewhere, 0, no_bytes, 0));
+    gives("index", ALGEBRA_ACCEPTED, build(language, sizeof language, tree, sizeof tree, output, OUTPUT));
+    count("the index", memcmp(output, entries, sizeof entries) == 0);
+}
+
 /* Lookups of blocks. */
 static void blocks(void)
 {
-    same("block, language", 14, block(NULL, 0, tree, sizeof tree, tree, 0),
-         block(elsewhere, 0, tree, sizeof tree, tree, 0));
-    same("block, tree", 15, block(language, sizeof language, NULL, 0, tree, 0),
-         block(language, sizeof language, elsewhere, 0, tree, 0));
-    same("block, path", 0, block(language, sizeof language, tree, sizeof tree, NULL, 0),
-         block(language, sizeof language, tree, sizeof tree, elsewhere, 0));
-    same("block, all", 14, block(NULL, 0, NULL, 0, NULL, 0), block(elsewhere, 0, elsewhere, 0, elsewhere, 0));
+    same("block, language", 14, block(NULL, 0, tree, sizeof tree, entries, sizeof entries, tree, 0),
+         block(elsewhere, 0, tree, sizeof tree, entries, sizeof entries, tree, 0));
+    same("block, tree", 15, block(language, sizeof language, NULL, 0, entries, sizeof entries, tree, 0),
+         block(language, sizeof language, elsewhere, 0, entries, sizeof entries, tree, 0));
+    same("block, index", 22, block(language, sizeof language, tree, sizeof tree, NULL, 0, tree, 0),
+         block(language, sizeof language, tree, sizeof tree, elsewhere, 0, tree, 0));
+    same("block, path", 0, block(language, sizeof language, tree, sizeof tree, entries, sizeof entries, NULL, 0),
+         block(language, sizeof language, tree, sizeof tree, entries, sizeof entries, elsewhere, 0));
+    same("block, all", 14, block(NULL, 0, NULL, 0, NULL, 0, NULL, 0),
+         block(elsewhere, 0, elsewhere, 0, elsewhere, 0, elsewhere, 0));
     gives("no such block", ALGEBRA_NO_BLOCK,
-          block(language, sizeof language, tree, sizeof tree, elsewhere, sizeof elsewhere));
+          block(language, sizeof language, tree, sizeof tree, entries, sizeof entries, elsewhere, sizeof elsewhere));
+}
+
+/* Edits. */
+static void edits(void)
+{
+    static uint8_t index[OUTPUT];
+    struct edited whole = { tree, sizeof tree, entries, sizeof entries, tree, sizeof tree };
+    struct edited null = { NULL, 0, NULL, 0, NULL, 0 }, empty = { elsewhere, 0, elsewhere, 0, elsewhere, 0 };
+    struct edited no_index = whole, no_index_here = whole, no_block = whole, no_block_here = whole;
+    no_index.index = NULL, no_index.index_length = 0, no_index_here.index_length = 0;
+    no_block.block = NULL, no_block.block_length = 0, no_block_here.block_length = 0;
+    same("edit, language", 14, edit(NULL, 0, whole, output, OUTPUT, index, OUTPUT),
+         edit(elsewhere, 0, whole, output, OUTPUT, index, OUTPUT));
+    same("edit, tree and all", 15, edit(language, sizeof language, null, output, OUTPUT, index, OUTPUT),
+         edit(language, sizeof language, empty, output, OUTPUT, index, OUTPUT));
+    same("edit, index", 22, edit(language, sizeof language, no_index, output, OUTPUT, index, OUTPUT),
+         edit(language, sizeof language, no_index_here, output, OUTPUT, index, OUTPUT));
+    same("edit, block", 15, edit(language, sizeof language, no_block, output, OUTPUT, index, OUTPUT),
+         edit(language, sizeof language, no_block_here, output, OUTPUT, index, OUTPUT));
+    same("edit, plan", 17, edit(language, sizeof language, whole, NULL, 0, index, OUTPUT),
+         edit(language, sizeof language, whole, no_bytes, 0, index, OUTPUT));
+    same("edit, index of the plan", 17, edit(language, sizeof language, whole, output, OUTPUT, NULL, 0),
+         edit(language, sizeof language, whole, output, OUTPUT, no_bytes, 0));
+    gives("edit", ALGEBRA_ACCEPTED, edit(language, sizeof language, whole, output, OUTPUT, index, OUTPUT));
+    count("edited plan", memcmp(output, tree, sizeof tree) == 0 && memcmp(index, entries, sizeof entries) == 0);
 }
 
 /* A file that is put together, and how long it is. */
@@ -330,6 +402,32 @@ static void levels(void)
     gives("one more than that", ALGEBRA_ILLEGAL_TERM, term_of(ALGEBRA_TERM_LEVELS + 1));
 }
 
+/* Adds a tree in which each production has two arguments, down to so many levels: 0.0 (0 0), and 0.1 inside. */
+static size_t full_tree(uint8_t *at, size_t levels)
+{
+    size_t left;
+    at[0] = levels == 1;
+    if (levels == 1)
+        return 1;
+    left = full_tree(at + 1, levels - 1);
+    return 1 + left + full_tree(at + 1 + left, levels - 1);
+}
+
+/* The longest tree that has an index: 16 levels of two arguments each; one more byte is 0.2 (0) around it. */
+static void indexed_lengths(void)
+{
+    static const uint8_t pairs[] = { 0x12, 0, 4, 0, 0, 0, 0, 0x12, 0, 2, 0, 1, 0x12, 0, 3, 0, 2, 0 };
+    static uint8_t longest[1 + ALGEBRA_INDEXED_BYTES], index[ALGEBRA_ENTRY_BYTES * ALGEBRA_INDEXED_BYTES];
+    uint64_t length;
+    longest[0] = 2;
+    count("the longest tree", full_tree(longest + 1, 16) == ALGEBRA_INDEXED_BYTES);
+    gives("bytes of a tree that has an index", ALGEBRA_ACCEPTED,
+          algebra_index(pairs, sizeof pairs, 0, longest + 1, ALGEBRA_INDEXED_BYTES, index, sizeof index, &length));
+    count("bytes of its index", length == sizeof index);
+    gives("one more than that", ALGEBRA_NOT_INDEXED,
+          algebra_index(pairs, sizeof pairs, 0, longest, sizeof longest, index, sizeof index, &length));
+}
+
 /* A production of a kind, with so many arguments of that kind. */
 static uint32_t production_of(uint8_t kind, uint8_t arguments)
 {
@@ -373,8 +471,11 @@ int main(void)
     loose_scores();
     joins();
     texts();
+    indexes();
     blocks();
+    edits();
     lengths();
+    indexed_lengths();
     rooms();
     levels();
     numbers();

@@ -4,9 +4,10 @@
 //! [reduces](reduce) a pack to a translation, one that [runs](run) a translation on a tree, one that
 //! [scores](score()) a tree by a load table and one that scores a [loose plan](score_loose), one
 //! that [joins](join_table) such a table onto a translation, two that [export](export()) a tree as
-//! XML and [import](import()) it back, and one that looks up a [block](block()) of a tree. Each is
-//! accepted or gives a [`Refusal`]. What a call answers depends on its arguments alone; any number
-//! of threads may call at the same time.
+//! XML and [import](import()) it back, one that builds the [index](index()) of a tree, and two that
+//! look up a [block](block()) of a tree by its index and [edit](edit()) it there. Each is accepted
+//! or gives a [`Refusal`]. What a call answers depends on its arguments alone; any number of threads
+//! may call at the same time.
 //!
 //! # The strap
 //!
@@ -59,6 +60,7 @@
 #![warn(missing_docs)]
 
 mod block;
+mod edit;
 mod limits;
 mod loose;
 pub mod raw;
@@ -67,9 +69,10 @@ mod score;
 mod xml;
 
 pub use block::{block, Block};
+pub use edit::{edit, edit_to_vec, index, index_to_vec, Edited};
 pub use limits::{
-    CODE_LEVELS, LANGUAGE_BYTES, PACK_BYTES, STACK_BYTES, TABLE_BYTES, TERM_LEVELS,
-    TRANSLATION_BYTES, TREE_LEVELS, WORKSPACE_BYTES,
+    CODE_LEVELS, ENTRY_BYTES, INDEXED_BYTES, LANGUAGE_BYTES, PACK_BYTES, STACK_BYTES, TABLE_BYTES,
+    TERM_LEVELS, TRANSLATION_BYTES, TREE_LEVELS, WORKSPACE_BYTES,
 };
 pub use loose::{score_loose, LooseScore};
 pub use refusal::{Refusal, UnknownNumber};

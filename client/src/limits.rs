@@ -15,6 +15,10 @@ pub const TREE_LEVELS: usize = 64;
 pub const CODE_LEVELS: usize = 16;
 /// A term has at most this many levels.
 pub const TERM_LEVELS: usize = 12;
+/// A tree that has an index has at most this many bytes.
+pub const INDEXED_BYTES: usize = 65_535;
+/// An index has so many bytes for each node.
+pub const ENTRY_BYTES: usize = 4;
 /// The workspace of [`raw::reduce`](crate::raw::reduce) has at least this many bytes.
 pub const WORKSPACE_BYTES: usize = 65_536;
 /// A call uses at most this many bytes of stack.

@@ -7,11 +7,13 @@
 #![allow(unsafe_code)]
 
 mod block;
+mod edit;
 mod loose;
 mod score;
 mod xml;
 
 pub use block::{block, BlockAnswer};
+pub use edit::{edit, index, EditAnswer};
 pub use loose::{score_loose, LooseScoreAnswer};
 pub use score::{join_table, score, ScoreAnswer};
 pub use xml::{export, import};

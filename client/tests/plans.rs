@@ -1,6 +1,10 @@
-//! Loose plans on the strap: what a call stores when it refuses.
+//! Loose plans, indexes and edits on the strap: what a call stores when it refuses, and which bytes
+//! it leaves alone.
 
-use algebra::raw;
+use algebra::{raw, Refusal};
+
+/// What fills a buffer before a call.
+const MARK: u8 = 0xEE;
 
 /// Minutes of 1 to 240; 1.1 (2), a row, and 1.2 (1 1), a sequence.
 const LANGUAGE: [u8; 21] =
@@ -15,4 +19,45 @@ fn a_refused_loose_plan_scores_0_and_0() {
     assert_eq!(answer, raw::LooseScoreAnswer { number: 0, least: 5, greatest: 7 });
     let answer = raw::score_loose(&LANGUAGE, 1, &[1, 0, 7, 0, 5], &TABLE);
     assert_eq!(answer, raw::LooseScoreAnswer { number: 15, least: 0, greatest: 0 });
+}
+
+/// A row of 5 minutes, then one of 7, and its index.
+const TREE: [u8; 7] = [2, 1, 0, 5, 1, 0, 7];
+const INDEX: [u8; 20] = [0, 0, 0, 7, 0, 1, 0, 3, 0, 2, 0, 2, 0, 4, 0, 3, 0, 5, 0, 2];
+
+#[test]
+fn an_index_leaves_the_output_alone_behind_it() {
+    let mut output = [MARK; 22];
+    assert_eq!(algebra::index(&LANGUAGE, 1, &TREE, &mut output), Ok(20));
+    assert_eq!(output, [&INDEX[..], &[MARK; 2]].concat()[..]);
+    let mut short = [MARK; 19];
+    assert_eq!(algebra::index(&LANGUAGE, 1, &TREE, &mut short), Err(Refusal::OutputTooShort));
+    assert_eq!(short, [MARK; 19]);
+}
+
+/// Puts 9 minutes in the place of the 7, in outputs of so many bytes, which are given back.
+fn edited(index: &[u8], plan: usize, plan_index: usize) -> (raw::EditAnswer, Vec<u8>, Vec<u8>) {
+    let (mut plan, mut plan_index) = (vec![MARK; plan], vec![MARK; plan_index]);
+    let answer =
+        raw::edit(&LANGUAGE, 1, &TREE, index, &[2, 1], &[0, 9], &mut plan, &mut plan_index);
+    (answer, plan, plan_index)
+}
+
+#[test]
+fn an_edit_leaves_both_outputs_alone_behind_its_results() {
+    let (answer, plan, index) = edited(&INDEX, 8, 21);
+    assert_eq!(answer, raw::EditAnswer { number: 0, plan_length: 7, index_length: 20 });
+    assert_eq!(plan, [2, 1, 0, 5, 1, 0, 9, MARK]);
+    assert_eq!(index, [&INDEX[..], &[MARK]].concat());
+}
+
+#[test]
+fn a_refused_edit_leaves_both_outputs_alone() {
+    for (index, plan, plan_index, number) in
+        [(&INDEX[..], 6, 20, 17), (&INDEX, 7, 19, 17), (&INDEX[..19], 7, 20, 22)]
+    {
+        let (answer, left, index_left) = edited(index, plan, plan_index);
+        assert_eq!(answer, raw::EditAnswer { number, plan_length: 0, index_length: 0 });
+        assert!(left.iter().chain(&index_left).all(|&byte| byte == MARK));
+    }
 }

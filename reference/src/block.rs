@@ -1,6 +1,7 @@
 //! One block of a tree: the part of the lent tree to which a path of argument numbers leads.
 
 use crate::grammar::Grammar;
+use crate::index::check_index;
 use crate::language::read_language;
 use crate::outcome::{Outcome, Refusal};
 use crate::tree::{read_tree, root_kind, tree_end, Nothing};
@@ -55,9 +56,21 @@ impl Place {
     }
 }
 
-/// The block of a tree of the root kind at a path.
-pub fn block<'a>(language: &[u8], root: u32, tree: &'a [u8], path: &[u8]) -> Block<'a> {
-    match find_block(language, root, tree, path) {
+/// The node of a legal tree to which a path leads.
+pub fn find_place(grammar: &Grammar, root: u8, tree: &[u8], path: &[u8]) -> Result<Place, Refusal> {
+    let step = |place: Place, &number: &u8| place.argument(grammar, tree, number);
+    path.iter().try_fold(Place::root(root, tree), step).ok_or(Refusal::Path)
+}
+
+/// The block of a tree of the root kind, with its index, at a path.
+pub fn block<'a>(
+    language: &[u8],
+    root: u32,
+    tree: &'a [u8],
+    index: &[u8],
+    path: &[u8],
+) -> Block<'a> {
+    match find_block(language, root, tree, index, path) {
         Ok(block) => block,
         Err(reason) => Block { outcome: Outcome::Refused(reason), part: &[], start: 0, kind: 0 },
     }
@@ -68,14 +81,15 @@ fn find_block<'a>(
     language: &[u8],
     root: u32,
     tree: &'a [u8],
+    index: &[u8],
     path: &[u8],
 ) -> Result<Block<'a>, Refusal> {
     let language = read_language(language)?;
     let root = root_kind(&language, root)?;
     let grammar = Grammar::new(&language);
     read_tree(&grammar, root, tree, Nothing, ())?;
-    let step = |place: Place, &number: &u8| place.argument(&grammar, tree, number);
-    let place = path.iter().try_fold(Place::root(root, tree), step).ok_or(Refusal::Path)?;
+    check_index(&grammar, root, tree, index)?;
+    let place = find_place(&grammar, root, tree, path)?;
     let part = &tree[place.start..place.end(&grammar, tree)];
     let outcome = Outcome::Accepted(part.len() as u64);
     Ok(Block { outcome, part, start: place.start as u64, kind: u32::from(place.kind) })

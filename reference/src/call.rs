@@ -1,10 +1,10 @@
 //! A call of one of the operations, by the reference or by the library.
 
-use crate::generate::{BlockCase, ExportCase, ImportCase, JoinTableCase};
+use crate::generate::{BlockCase, EditCase, ExportCase, ImportCase, IndexCase, JoinTableCase};
 use crate::generate::{ReduceCase, RunCase, ScoreCase, TreeCase};
 use crate::outcome::Outcome;
-use crate::{block, check_language, check_translation, check_tree, export, import, join_table};
-use crate::{reduce, run, score, score_loose, Block, LooseScore, Score};
+use crate::{block, check_language, check_translation, check_tree, edit, export, import, index};
+use crate::{join_table, reduce, run, score, score_loose, Block, Edit, LooseScore, Score};
 #[cfg(feature = "library")]
 use algebra::raw as library;
 
@@ -22,22 +22,28 @@ pub enum Call {
     JoinTable(JoinTableCase),
     Export(ExportCase),
     Import(ImportCase),
+    Index(IndexCase),
     Block(BlockCase),
+    Edit(EditCase),
 }
 
-/// The buffers that are lent to a call; a check has none, nor has a lookup.
-#[derive(Clone, Debug, PartialEq, Eq)]
+/// The buffers that are lent to a call; a check has none, nor has a lookup. The index is the second
+/// output of an edit.
+#[derive(Clone, Debug, Default, PartialEq, Eq)]
 pub struct Buffers {
     pub workspace: Vec<u8>,
     pub output: Vec<u8>,
+    pub index: Vec<u8>,
 }
 
 /// What a call answered: the number and the length, and figures that are 0 where the operation
-/// has none: start and kind of a block, the score, and the least and greatest score of a loose plan.
+/// has none: the length of an edited plan's index, start and kind of a block, the score, and the
+/// least and greatest score of a loose plan.
 #[derive(Clone, Copy, Debug, Default, PartialEq, Eq)]
 pub struct Answer {
     pub number: u32,
     pub length: u64,
+    pub index_length: u64,
     pub start: u64,
     pub kind: u32,
     pub score: i64,
@@ -68,6 +74,12 @@ impl From<LooseScore> for Answer {
     }
 }
 
+impl From<Edit> for Answer {
+    fn from(edit: Edit) -> Answer {
+        Answer { index_length: edit.index_length, ..edit.outcome.into() }
+    }
+}
+
 impl From<Block<'_>> for Answer {
     fn from(block: Block) -> Answer {
         Answer { start: block.start, kind: block.kind, ..block.outcome.into() }
@@ -88,26 +100,34 @@ impl Call {
             Call::JoinTable(_) => "join_table",
             Call::Export(_) => "export",
             Call::Import(_) => "import",
+            Call::Index(_) => "index",
             Call::Block(_) => "block",
+            Call::Edit(_) => "edit",
         }
     }
 
     /// Marked buffers of the lengths that the call is to have.
     pub fn buffers(&self) -> Buffers {
-        let (workspace, output) = match self {
-            Call::Reduce(case) => (case.workspace, case.output),
-            Call::Run(case) => (0, case.output),
-            Call::JoinTable(case) => (0, case.output),
-            Call::Export(case) => (0, case.output),
-            Call::Import(case) => (0, case.output),
-            _ => (0, 0),
+        let (workspace, output, index) = match self {
+            Call::Reduce(case) => (case.workspace, case.output, 0),
+            Call::Run(case) => (0, case.output, 0),
+            Call::JoinTable(case) => (0, case.output, 0),
+            Call::Export(case) => (0, case.output, 0),
+            Call::Import(case) => (0, case.output, 0),
+            Call::Index(case) => (0, case.output, 0),
+            Call::Edit(case) => (0, case.plan, case.plan_index),
+            _ => (0, 0, 0),
         };
-        Buffers { workspace: vec![WORKSPACE_MARK; workspace], output: vec![OUTPUT_MARK; output] }
+        Buffers {
+            workspace: vec![WORKSPACE_MARK; workspace],
+            output: vec![OUTPUT_MARK; output],
+            index: vec![OUTPUT_MARK; index],
+        }
     }
 
     /// Calls the reference.
     pub fn by_reference(&self, buffers: &mut Buffers) -> Answer {
-        let Buffers { workspace, output } = buffers;
+        let Buffers { workspace, output, index: plan_index } = buffers;
         match self {
             Call::CheckLanguage(language) => check_language(language).into(),
             Call::CheckTranslation(translation) => check_translation(translation).into(),
@@ -121,14 +141,18 @@ impl Call {
             Call::JoinTable(case) => join_table(&case.translation, &case.table, output).into(),
             Call::Export(case) => export(&case.language, case.root, &case.tree, output).into(),
             Call::Import(case) => import(&case.language, case.root, &case.text, output).into(),
-            Call::Block(case) => block(&case.language, case.root, &case.tree, &case.path).into(),
+            Call::Index(case) => index(&case.language, case.root, &case.tree, output).into(),
+            Call::Block(case) => {
+                block(&case.language, case.root, &case.tree, &case.index, &case.path).into()
+            }
+            Call::Edit(case) => edit(&case.input(), output, plan_index).into(),
         }
     }
 
     /// Calls the library.
     #[cfg(feature = "library")]
     pub fn by_library(&self, buffers: &mut Buffers) -> Answer {
-        let Buffers { workspace, output } = buffers;
+        let Buffers { workspace, output, index: plan_index } = buffers;
         let checked = |number| Answer { number, ..Answer::default() };
         match self {
             Call::CheckLanguage(language) => checked(library::check_language(language)),
@@ -155,10 +179,34 @@ impl Call {
             Call::Import(case) => {
                 library::import(&case.language, case.root, &case.text, output).into()
             }
-            Call::Block(case) => {
-                library::block(&case.language, case.root, &case.tree, &case.path).into()
+            Call::Index(case) => {
+                library::index(&case.language, case.root, &case.tree, output).into()
             }
+            Call::Block(case) => {
+                library::block(&case.language, case.root, &case.tree, &case.index, &case.path)
+                    .into()
+            }
+            Call::Edit(case) => library_edit(case, output, plan_index).into(),
         }
+    }
+}
+
+/// Edits a plan by the library.
+#[cfg(feature = "library")]
+pub fn library_edit(
+    case: &EditCase,
+    plan: &mut [u8],
+    plan_index: &mut [u8],
+) -> library::EditAnswer {
+    let EditCase { language, tree, index, path, block, .. } = case;
+    library::edit(language, case.root, tree, index, path, block, plan, plan_index)
+}
+
+#[cfg(feature = "library")]
+impl From<library::EditAnswer> for Answer {
+    fn from(answer: library::EditAnswer) -> Answer {
+        let library::EditAnswer { number, plan_length, index_length } = answer;
+        Answer { number, length: plan_length, index_length, ..Answer::default() }
     }
 }
 

@@ -3,7 +3,7 @@
 
 use crate::call::{Answer, Buffers, Call, WORKSPACE_MARK};
 use crate::files::{class, clause, load, mapping, pack, production, stepped_class, translation};
-use crate::generate::{BlockCase, ExportCase, ImportCase, JoinTableCase};
+use crate::generate::{BlockCase, EditCase, ExportCase, ImportCase, IndexCase, JoinTableCase};
 use crate::generate::{ReduceCase, RunCase, ScoreCase, TreeCase};
 use crate::reduce::{OUTPUT_LEAST, WORKSPACE_LEAST};
 
@@ -15,6 +15,8 @@ pub struct Example {
     pub answer: Answer,
     /// What stands first in the output of an accepted call.
     pub bytes: Vec<u8>,
+    /// What stands first in the second output, for the index of an edited plan.
+    pub index: Vec<u8>,
 }
 
 /// An output that is long enough for any result but an endless one.
@@ -133,7 +135,7 @@ fn refused(what: &str, call: Call, number: u32) -> Example {
 
 /// A call that gives the answer and has no output.
 fn answered(what: &str, call: Call, answer: Answer) -> Example {
-    Example { what: what.to_string(), call, answer, bytes: vec![] }
+    Example { what: what.to_string(), call, answer, bytes: vec![], index: vec![] }
 }
 
 /// So many times 04, then 01 00 05.
@@ -284,16 +286,22 @@ fn checks() -> Vec<Example> {
     ]
 }
 
-/// Blocks of a sequence of C: a row of 5 minutes, and a rest of 3.
+/// A sequence of C: a row of 5 minutes, and a rest of 3; and its index.
+const SESSION: [u8; 7] = [2, 1, 0, 5, 3, 0, 3];
+const SESSION_INDEX: [u8; 20] = [0, 0, 0, 7, 0, 1, 0, 3, 0, 2, 0, 2, 0, 4, 0, 3, 0, 5, 0, 2];
+
+/// Blocks of the sequence, by its index and by others.
 fn blocks() -> Vec<Example> {
-    let looked_up = |tree: &[u8], path: &[u8]| {
-        let (language, tree, path) = (language_c(), tree.to_vec(), path.to_vec());
-        Call::Block(BlockCase { language, root: 1, tree, path })
+    let looked_up = |tree: &[u8], index: &[u8], path: &[u8]| {
+        let (tree, index, path) = (tree.to_vec(), index.to_vec(), path.to_vec());
+        Call::Block(BlockCase { language: language_c(), root: 1, tree, index, path })
     };
-    let at = |path: &[u8]| looked_up(&[2, 1, 0, 5, 3, 0, 3], path);
+    let at = |path: &[u8]| looked_up(&SESSION, &SESSION_INDEX, path);
     let found = |what, path, start, length, kind| {
         answered(what, at(path), Answer { length, start, kind, ..Answer::default() })
     };
+    let mut off = SESSION_INDEX;
+    off[19] = 3;
     vec![
         found("the whole sequence", &[], 0, 7, 1),
         found("the row", &[1], 1, 3, 1),
@@ -302,7 +310,61 @@ fn blocks() -> Vec<Example> {
         refused("number 0", at(&[0]), 21),
         refused("a third block of two", at(&[3]), 21),
         refused("below the minutes", at(&[2, 1, 1]), 21),
-        refused("a byte left over", looked_up(&[1, 0, 5, 0], &[0]), 15),
+        refused("a byte left over", looked_up(&[1, 0, 5, 0], &[], &[0]), 15),
+        refused("no index", looked_up(&SESSION, &[], &[0]), 22),
+        refused("an index one byte off", looked_up(&SESSION, &off, &[0]), 22),
+        refused("a short index", looked_up(&SESSION, &SESSION_INDEX[..16], &[1]), 22),
+    ]
+}
+
+/// Indexes of sessions of C.
+fn indexes() -> Vec<Example> {
+    let built = |tree: &[u8], output| {
+        Call::Index(IndexCase { language: language_c(), root: 1, tree: tree.to_vec(), output })
+    };
+    vec![
+        accepted("a sequence", built(&SESSION, 20), &SESSION_INDEX),
+        accepted("a row", built(&[1, 0, 5], 30), &[0, 0, 0, 3, 0, 1, 0, 2]),
+        refused("a sequence, one byte short", built(&SESSION, 19), 17),
+        refused("a byte left over", built(&[1, 0, 5, 0], 30), 15),
+    ]
+}
+
+/// An edit that is accepted and gives this plan and this index.
+fn edited(what: &str, call: Call, plan: &[u8], index: &[u8]) -> Example {
+    let index_length = index.len() as u64;
+    let example = accepted(what, call, plan);
+    let answer = Answer { index_length, ..example.answer };
+    Example { answer, index: index.to_vec(), ..example }
+}
+
+/// Edits of the sequence.
+fn edits() -> Vec<Example> {
+    let by = |path: &[u8], block: &[u8], plan, plan_index| {
+        let (tree, index) = (SESSION.to_vec(), SESSION_INDEX.to_vec());
+        let (path, block) = (path.to_vec(), block.to_vec());
+        let language = language_c();
+        Call::Edit(EditCase { language, root: 1, tree, index, path, block, plan, plan_index })
+    };
+    let with_row = [0, 0, 0, 7, 0, 1, 0, 3, 0, 2, 0, 2, 0, 4, 0, 3, 0, 5, 0, 2];
+    vec![
+        edited(
+            "a row for the rest",
+            by(&[2], &[1, 0, 9], 7, 20),
+            &[2, 1, 0, 5, 1, 0, 9],
+            &with_row,
+        ),
+        edited("8 minutes of rest", by(&[2, 1], &[0, 8], 9, 20), &[2, 1, 0, 5, 3, 0, 8], &with_row),
+        edited("a row for all", by(&[], &[1, 0, 9], 7, 20), &[1, 0, 9], &[0, 0, 0, 3, 0, 1, 0, 2]),
+        edited("the same rest", by(&[2], &[3, 0, 3], 7, 20), &SESSION, &SESSION_INDEX),
+        refused("a plan one byte short", by(&[2], &[1, 0, 9], 6, 20), 17),
+        refused("an index one byte short", by(&[2], &[1, 0, 9], 7, 19), 17),
+        refused("no such argument", by(&[3], &[1, 0, 9], 7, 20), 21),
+        refused("241 minutes", by(&[2], &[1, 0, 241], 7, 20), 15),
+        refused("minutes for a block", by(&[2], &[0, 9], 7, 20), 15),
+        refused("a byte behind the block", by(&[2], &[1, 0, 9, 0], 9, 20), 15),
+        refused("63 more levels, and one more", by(&[2], &[2; 63], 99, 99), 16),
+        refused("62 more levels, then nothing", by(&[2], &[2; 62], 99, 99), 15),
     ]
 }
 
@@ -390,7 +452,8 @@ fn texts() -> Vec<Example> {
 /// All examples.
 pub fn examples() -> Vec<Example> {
     let first = [reductions(), accepted_runs(), refused_runs(), wider_strap(), rates(), checks()];
-    [first.concat(), scores(), loose_scores(), texts(), blocks()].concat()
+    let sessions = [scores(), loose_scores(), texts(), blocks(), indexes(), edits()];
+    [first.concat(), sessions.concat()].concat()
 }
 
 impl Example {
@@ -399,6 +462,13 @@ impl Example {
         let mut output = self.call.buffers().output;
         output[..self.bytes.len()].copy_from_slice(&self.bytes);
         output
+    }
+
+    /// The second output at the end.
+    fn index(&self) -> Vec<u8> {
+        let mut index = self.call.buffers().index;
+        index[..self.index.len()].copy_from_slice(&self.index);
+        index
     }
 
     /// The workspace at the end: all zero, or as it was after an early refusal.
@@ -415,8 +485,8 @@ impl Example {
         if found != self.answer {
             return Some(format!("{found:?} instead of {:?}", self.answer));
         }
-        let Buffers { workspace, output } = buffers;
+        let Buffers { workspace, output, index } = buffers;
         let kept = workspace == self.workspace() && output == self.output();
-        (!kept).then(|| "output or workspace are wrong".to_string())
+        (!kept || index != self.index()).then(|| "output or workspace are wrong".to_string())
     }
 }

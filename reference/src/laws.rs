@@ -1,5 +1,6 @@
 //! The law of runs and the law of sums, for the operations of any implementation.
 
+pub mod edits;
 pub mod loose;
 
 use crate::generate::{legal_tree, pack_with_term, LawPack, Random};

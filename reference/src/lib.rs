@@ -1,8 +1,8 @@
 //! Languages, translations and a reducer over bytes: a reference on decoded structures.
 //!
 //! The operations are `check_language`, `check_translation`, `check_tree`, `reduce`, `run`,
-//! `score`, `score_loose`, `join_table`, `export`, `import` and `block`. Each answers with an
-//! `Outcome`: accepted with a length, or refused.
+//! `score`, `score_loose`, `join_table`, `export`, `import`, `index`, `block` and `edit`. Each
+//! answers with an `Outcome`: accepted with a length, or refused.
 #![deny(unsafe_code)]
 
 mod block;
@@ -10,8 +10,10 @@ mod body;
 mod code;
 #[cfg(test)]
 mod earlier;
+mod edit;
 mod field;
 mod grammar;
+mod index;
 mod language;
 mod loose;
 mod operators;
@@ -38,6 +40,8 @@ pub mod steps;
 pub mod xslt;
 
 pub use block::{block, Block};
+pub use edit::{edit, Edit, EditInput};
+pub use index::index;
 pub use language::check_language;
 pub use loose::{score_loose, Ends, LooseScore};
 pub use outcome::{Outcome, Refusal};

@@ -46,6 +46,8 @@ pub enum Refusal {
     Text = 20,
     /// A path number is 0, or there is no such argument.
     Path = 21,
+    /// The tree is too long for an index, or the index is not the tree's own.
+    Index = 22,
 }
 
 /// The answer of an operation.

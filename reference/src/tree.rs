@@ -100,6 +100,13 @@ pub fn read_tree<T: Tally>(
     Ok(reader.tally)
 }
 
+/// Reads exactly one tree of a kind with at most so many levels.
+pub fn read_levels(grammar: &Grammar, kind: u8, tree: &[u8], levels: usize) -> Result<(), Refusal> {
+    let mut reader = Reader { grammar, rest: tree, tally: Nothing };
+    reader.read(kind, levels, ())?;
+    require(reader.rest.is_empty(), Refusal::Tree)
+}
+
 /// Where the legal tree of a kind that starts at a place ends.
 pub fn tree_end(grammar: &Grammar, tree: &[u8], kind: u8, start: usize) -> usize {
     if grammar.class(kind).is_some() {
@@ -112,9 +119,7 @@ pub fn tree_end(grammar: &Grammar, tree: &[u8], kind: u8, start: usize) -> usize
 
 /// Whether the bytes are a legal tree of a kind, at any depth: no tree has more levels than bytes.
 pub fn is_legal_tree(language: &Language, kind: u8, tree: &[u8]) -> bool {
-    let grammar = Grammar::new(language);
-    let mut reader = Reader { grammar: &grammar, rest: tree, tally: Nothing };
-    reader.read(kind, tree.len(), ()).is_ok() && reader.rest.is_empty()
+    read_levels(&Grammar::new(language), kind, tree, tree.len()).is_ok()
 }
 
 /// The root as a kind of the language, or the refusal of a root that is not in it.

@@ -4,9 +4,9 @@ mod build;
 mod model;
 
 use build::*;
-use model::{Grammar, Tree};
+use model::{own_index, Grammar, Tree};
 use reference::call::Answer;
-use reference::generate::{block_case, Random};
+use reference::generate::{block_case, index_bytes, Random, TreeCase};
 use reference::{block, check_tree};
 
 /// Class 2; kind 1: a leaf 0, a link 1 to itself, 2 with a token, and 3 with tokens around.
@@ -16,9 +16,16 @@ fn language() -> Vec<u8> {
     [vec![class(2, 5, 9)], productions.collect()].concat().concat()
 }
 
-/// The answer of a lookup by a root; the part lies in the tree at the start that is told.
+/// The answer of a lookup by a root and the tree's own index.
 fn answer(language: &[u8], root: u32, tree: &[u8], path: &[u8]) -> Answer {
-    let found = block(language, root, tree, path);
+    let case = TreeCase { language: language.to_vec(), root, tree: tree.to_vec() };
+    answer_by(language, root, tree, &index_bytes(&case), path)
+}
+
+/// The answer of a lookup by a root and an index; the part lies in the tree at the start that is
+/// told.
+fn answer_by(language: &[u8], root: u32, tree: &[u8], index: &[u8], path: &[u8]) -> Answer {
+    let found = block(language, root, tree, index, path);
     let (start, length) = (found.start as usize, found.outcome.length() as usize);
     assert_eq!(found.part, &tree[start..start + length]);
     if found.outcome.number() == 0 {
@@ -107,6 +114,23 @@ fn a_path_through_all_levels() {
 }
 
 #[test]
+fn an_index_that_is_not_the_trees_own() {
+    let own = own_index(&Grammar::new(&language()).tree(1, &TREE));
+    let number = |index: &[u8]| answer_by(&language(), 1, &TREE, index, &[9]).number;
+    assert_eq!(own.len(), 4 * 8);
+    assert_eq!(number(&own), 21);
+    for place in 0..own.len() {
+        let mut off = own.clone();
+        off[place] = off[place].wrapping_add(1);
+        assert_eq!(number(&off), 22, "byte {place}");
+        assert_eq!(number(&own[..place]), 22, "{place} bytes");
+    }
+    assert_eq!(number(&[&own[..], &[0]].concat()), 22);
+    assert_eq!(number(&[&own[..], &[0; 4]].concat()), 22);
+    assert_eq!(answer_by(&language(), 1, &TREE[..11], &own, &[]).number, 15);
+}
+
+#[test]
 fn eight_arguments() {
     let language = [production(1, 0, &[]), production(1, 8, &[1; 8])].concat();
     let tree = [8, 0, 0, 0, 0, 0, 0, 0, 0];
@@ -130,10 +154,13 @@ fn defined(tree: &Tree, path: &[u8], start: usize) -> Option<(usize, Tree)> {
 }
 
 /// What a lookup must answer.
-fn expected(language: &[u8], root: u32, tree: &[u8], path: &[u8]) -> Answer {
+fn expected(language: &[u8], root: u32, tree: &[u8], index: &[u8], path: &[u8]) -> Answer {
     let number = check_tree(language, root, tree).number();
     if number != 0 {
         return Answer { number, ..Answer::default() };
+    }
+    if tree.len() > 65_535 || index != own_index(&Grammar::new(language).tree(root, tree)) {
+        return Answer { number: 22, ..Answer::default() };
     }
     match defined(&Grammar::new(language).tree(root, tree), path, 0) {
         None => Answer { number: 21, ..Answer::default() },
@@ -146,22 +173,24 @@ fn expected(language: &[u8], root: u32, tree: &[u8], path: &[u8]) -> Answer {
 
 #[test]
 fn lookups_answer_as_defined_and_reach_every_answer() {
-    let (mut random, mut counts) = (Random::new(21), [0; 22]);
+    let (mut random, mut counts) = (Random::new(21), [0; 23]);
     let mut deep = 0;
     for case in 0..20_000 {
         let input = block_case(&mut random);
-        let found = answer(&input.language, input.root, &input.tree, &input.path);
-        let expected = expected(&input.language, input.root, &input.tree, &input.path);
+        let (language, root, tree, index) =
+            (&input.language, input.root, &input.tree, &input.index);
+        let found = answer_by(language, root, tree, index, &input.path);
+        let expected = expected(language, root, tree, index, &input.path);
         assert_eq!(found, expected, "case {case}: {input:?}");
         counts[found.number as usize] += 1;
         deep += usize::from(found.number == 0 && input.path.len() >= 60);
         if found.number == 0 {
-            let part = block(&input.language, input.root, &input.tree, &input.path).part;
+            let part = block(language, root, tree, index, &input.path).part;
             assert_eq!(check_tree(&input.language, found.kind, part).number(), 0);
         }
     }
     for (number, &count) in counts.iter().enumerate() {
-        let possible = [0, 1, 2, 3, 4, 14, 15, 16, 21].contains(&number);
+        let possible = [0, 1, 2, 3, 4, 14, 15, 16, 21, 22].contains(&number);
         assert_eq!(count >= 20, possible, "{number}: {counts:?}");
     }
     assert!(deep >= 100, "{deep}");

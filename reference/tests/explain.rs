@@ -6,8 +6,9 @@ mod build;
 use build::{class, clause, field, load, mapping, pack, production, translation};
 use reference::explain::{self, Fault};
 use reference::generate::{
-    block_case, export_case, import_case, join_table_case, language_file, long_run_case,
-    reduce_case, run_case, score_case, translation_file, tree_case, Random,
+    block_case, export_case, import_case, index_bytes, join_table_case, language_file,
+    long_run_case, reduce_case, run_case, score_case, translation_file, tree_case, Random,
+    TreeCase,
 };
 use reference::{
     block, check_language, check_translation, check_tree, export, import, join_table, reduce, run,
@@ -20,7 +21,7 @@ const CASES: u64 = 4000;
 const LONG_CASES: u64 = 20;
 
 /// Answers are counted by number.
-const NUMBERS: usize = 22;
+const NUMBERS: usize = 23;
 
 /// What stands where no reason was found: it must not be reached.
 const VAGUE: [&str; 4] = [
@@ -147,11 +148,12 @@ fn imports() {
 
 #[test]
 fn blocks() {
-    compare_all(CASES, &[0, 1, 2, 3, 4, 14, 15, 16, 21], |random, case| {
+    compare_all(CASES, &[0, 1, 2, 3, 4, 14, 15, 16, 21, 22], |random, case| {
         let input = block_case(random);
-        let outcome = block(&input.language, input.root, &input.tree, &input.path).outcome;
-        let fault = explain::block(&input.language, input.root, &input.tree, &input.path);
-        compare(case, outcome, fault)
+        let (language, root, tree, index) =
+            (&input.language, input.root, &input.tree, &input.index);
+        let outcome = block(language, root, tree, index, &input.path).outcome;
+        compare(case, outcome, explain::block(language, root, tree, index, &input.path))
     });
 }
 
@@ -221,7 +223,11 @@ fn the_place_in_a_table_is_a_line() {
 fn the_place_in_a_path_is_told_with_its_node() {
     let language = [class(2, 1, 240), production(1, 1, &[2]), production(1, 2, &[1, 1])].concat();
     let tree = [2, 1, 0, 5, 1, 0, 6];
-    let found = |path: &[u8]| text(explain::block(&language, 1, &tree, path));
+    let case = TreeCase { language: language.clone(), root: 1, tree: tree.to_vec() };
+    let index = index_bytes(&case);
+    let found = |path: &[u8]| text(explain::block(&language, 1, &tree, &index, path));
+    let wrong = explain::block(&language, 1, &tree, &index[1..], &[]);
+    assert!(text(wrong).starts_with("where: byte "), "the place in an index");
     let expected = "where: byte 0 of the path, at the root\n\
                     fault: production 1.2 has no argument 3: it has 2";
     assert_eq!(found(&[3]), expected);

@@ -2,7 +2,7 @@
 //! trees, exports and imports, joined load tables and scores, and blocks.
 
 use reference::listing::listing;
-use reference::{block, export, import, join_table, reduce, run, score};
+use reference::{block, export, import, index, join_table, reduce, run, score};
 use std::fs;
 use std::path::{Path, PathBuf};
 
@@ -77,7 +77,10 @@ fn block_at(source: &Path) -> String {
     let (language, root) = words.split_once(", root ").expect("a language and a root");
     let beside = |name| bytes(&source.with_file_name(name));
     let (tree, path) = (beside(tree), bytes(&source.with_extension("")));
-    let found = block(&beside(language), root.parse().expect("a root"), &tree, &path);
+    let (language, root) = (beside(language), root.parse().expect("a root"));
+    let mut built = vec![0; 4 * tree.len()];
+    let length = index(&language, root, &tree, &mut built).length() as usize;
+    let found = block(&language, root, &tree, &built[..length], &path);
     match found.outcome.number() {
         0 => format!("{}kind {}, start {}\n", accepted(found.part), found.kind, found.start),
         number => format!("refused {number}\n"),

@@ -17,7 +17,9 @@ pub enum Verb {
     JoinTable,
     Export,
     Import,
+    Index,
     Block,
+    Edit,
     List,
     Show,
     Explain,
@@ -25,7 +27,7 @@ pub enum Verb {
 }
 
 /// The verbs with their names.
-pub const VERBS: [(&str, Verb); 15] = [
+pub const VERBS: [(&str, Verb); 17] = [
     ("check-language", Verb::CheckLanguage),
     ("check-translation", Verb::CheckTranslation),
     ("check-tree", Verb::CheckTree),
@@ -36,7 +38,9 @@ pub const VERBS: [(&str, Verb); 15] = [
     ("join-table", Verb::JoinTable),
     ("export", Verb::Export),
     ("import", Verb::Import),
+    ("index", Verb::Index),
     ("block", Verb::Block),
+    ("edit", Verb::Edit),
     ("list", Verb::List),
     ("show", Verb::Show),
     ("explain", Verb::Explain),
@@ -68,6 +72,10 @@ pub struct Options {
     pub sort: Option<Sort>,
     /// Trees are shown as XML.
     pub xml: bool,
+    /// The file that has the index of the tree.
+    pub index: Option<OsString>,
+    /// The file that the index of an edited plan is written to.
+    pub new_index: Option<OsString>,
 }
 
 /// A verb with what it is to work on.
@@ -103,17 +111,24 @@ impl Verb {
     /// The numbers of operands that the verb takes.
     fn operand_counts(self) -> &'static [usize] {
         match self {
+            Verb::Edit => &[5],
             Verb::Score | Verb::ScoreLoose | Verb::Block => &[4],
             Verb::JoinTable => &[2],
-            Verb::CheckTree | Verb::Run | Verb::Export | Verb::Import | Verb::Steps => &[3],
             Verb::Show => &[1, 3],
-            _ => &[1],
+            Verb::CheckLanguage | Verb::CheckTranslation | Verb::Reduce => &[1],
+            Verb::List | Verb::Explain => &[1],
+            _ => &[3],
         }
     }
 
     /// Whether the operand at a place is a file.
     fn takes_file(self, place: usize) -> bool {
-        !(self == Verb::Block && place == PATH_PLACE)
+        !(self.takes_path() && place == PATH_PLACE)
+    }
+
+    /// Whether the verb takes a path, and an index of the tree.
+    fn takes_path(self) -> bool {
+        matches!(self, Verb::Block | Verb::Edit)
     }
 
     /// Whether the verb is an operation of the library, which can be explained.
@@ -123,7 +138,8 @@ impl Verb {
 
     /// Whether the verb is an operation that is lent an output.
     fn has_output(self) -> bool {
-        matches!(self, Verb::Reduce | Verb::Run | Verb::JoinTable | Verb::Export | Verb::Import)
+        let on_tree = matches!(self, Verb::Export | Verb::Import | Verb::Index | Verb::Edit);
+        on_tree || matches!(self, Verb::Reduce | Verb::Run | Verb::JoinTable)
     }
 
     /// Whether the verb takes an option.
@@ -132,6 +148,8 @@ impl Verb {
             "-o" => self.has_output() || self == Verb::Block,
             "--limit" => self.has_output() || matches!(self, Verb::Explain | Verb::Steps),
             "--xml" => self == Verb::Steps,
+            "--index" => self.takes_path() || self == Verb::Explain,
+            "--new-index" => self == Verb::Edit,
             "--as" => matches!(self, Verb::Run | Verb::Show | Verb::Explain),
             _ => true,
         }
@@ -191,6 +209,8 @@ fn parse_option<'a>(
         "--hex" => options.hexadecimal = true,
         "--xml" => options.xml = true,
         "-o" => options.output = Some(value()?.clone()),
+        "--index" => options.index = Some(value()?.clone()),
+        "--new-index" => options.new_index = Some(value()?.clone()),
         "--limit" => options.limit = Some(number(verb, "limit", value()?)?),
         "--as" => options.sort = Some(sort(verb, value()?)?),
         _ => return Err(misused(format!("{option} is no option"))),
@@ -257,15 +277,21 @@ impl Call {
         if !operation.operand_counts().contains(&count) {
             return Err(format!("{count} operands are not what {} takes", operation.name()));
         }
-        let (limit, sort) = (self.options.limit.is_some(), self.options.sort.is_some());
-        let mut given = [("--limit", limit), ("--as", sort)].into_iter();
-        if let Some((option, _)) = given.find(|(option, is)| *is && !operation.takes(option)) {
+        let Options { limit, sort, index, new_index, .. } = &self.options;
+        let given =
+            [("--limit", limit.is_some()), ("--as", sort.is_some()), ("--index", index.is_some())];
+        if let Some((option, _)) = given.iter().find(|(option, is)| *is && !operation.takes(option))
+        {
             return Err(format!("{} does not take {option}", operation.name()));
         }
         let streams = self.operands.iter().enumerate();
         let streams = streams.filter(|(place, name)| *name == "-" && operation.takes_file(*place));
-        if streams.count() > 1 {
+        let indexes = index.iter().filter(|name| *name == "-");
+        if streams.count() + indexes.count() > 1 {
             return Err("the standard input can be only one of the files".to_string());
+        }
+        if new_index.as_deref().is_some_and(|name| name == "-") {
+            return Err("the new index must be written to a file".to_string());
         }
         Ok(())
     }
@@ -300,7 +326,8 @@ mod tests {
         assert_eq!(call.operands, ["a", "1", "b"]);
         let output = Some(OsString::from("out"));
         let (limit, sort) = (Some(7), Some(Sort::Pack));
-        assert_eq!(call.options, Options { hexadecimal: true, output, limit, sort, xml: false });
+        let given = Options { hexadecimal: true, output, limit, sort, ..Options::default() };
+        assert_eq!(call.options, given);
     }
 
     #[test]
@@ -356,6 +383,27 @@ mod tests {
         }
         assert_eq!(right("block - 1 a -").operands, ["-", "1", "a", "-"]);
         assert_eq!(wrong("block - 1 - 2"), "the standard input can be only one of the files");
+    }
+
+    #[test]
+    fn indexes_are_files() {
+        let call = right("edit a 1 b 2.1 c --index d --new-index e");
+        assert_eq!(call.operands, ["a", "1", "b", "2.1", "c"]);
+        assert_eq!(
+            (call.options.index, call.options.new_index),
+            (Some("d".into()), Some("e".into()))
+        );
+        assert_eq!(right("block a 1 b - --index -").options.index, Some("-".into()));
+        assert_eq!(right("explain block a 1 b 1 --index c").explained, Some(Verb::Block));
+        let twice = "the standard input can be only one of the files";
+        assert_eq!(wrong("block a 1 - 1 --index -"), twice);
+        assert_eq!(wrong("edit a 1 - 1 -"), twice);
+        assert_eq!(
+            wrong("edit a 1 b 1 c --new-index -"),
+            "the new index must be written to a file"
+        );
+        assert_eq!(wrong("explain index a 1 b --index c"), "index does not take --index");
+        assert_eq!(wrong("block a 1 b 1 --new-index c"), "block does not take --new-index");
     }
 
     #[test]

@@ -1,7 +1,7 @@
 //! What an accepted operation gives, and how it is printed and written.
 
 use crate::output::hexadecimal_lines;
-use algebra::{Block, LooseScore};
+use algebra::{Block, Edited, LooseScore};
 use std::fmt;
 
 /// What an accepted operation gives.
@@ -16,6 +16,8 @@ pub enum Given {
     Scores(LooseScore),
     /// A block of a tree.
     Block { kind: u32, start: usize, bytes: Vec<u8> },
+    /// A plan that was edited, with its index.
+    Edited(Edited),
 }
 
 /// What stands behind the word 'accepted'.
@@ -59,6 +61,7 @@ impl Given {
     pub fn figures(&self) -> String {
         match self {
             Given::Block { kind, start, .. } => format!("kind {kind}, start {start}\n"),
+            Given::Edited(edited) => format!("index {}\n", edited.index.len()),
             _ => String::new(),
         }
     }
@@ -74,10 +77,16 @@ impl Given {
     /// The result as it is written to a file; text is written as it is.
     pub fn written(&self, hexadecimal: bool) -> Vec<u8> {
         match self {
-            Given::Bytes(bytes) | Given::Block { bytes, .. } if hexadecimal => {
-                hexadecimal_lines(bytes).into_bytes()
-            }
-            _ => self.bytes().to_vec(),
+            Given::Text(text) => text.clone(),
+            _ => in_file(self.bytes(), hexadecimal),
+        }
+    }
+
+    /// The index of an edited plan, as it is written to a file.
+    pub fn written_index(&self, hexadecimal: bool) -> Option<Vec<u8>> {
+        match self {
+            Given::Edited(edited) => Some(in_file(&edited.index, hexadecimal)),
+            _ => None,
         }
     }
 
@@ -85,7 +94,16 @@ impl Given {
     pub fn bytes(&self) -> &[u8] {
         match self {
             Given::Bytes(bytes) | Given::Text(bytes) | Given::Block { bytes, .. } => bytes,
+            Given::Edited(edited) => &edited.plan,
             Given::Score(_) | Given::Scores(_) => &[],
         }
+    }
+}
+
+/// Bytes as a file has them: as they are, or as text.
+fn in_file(bytes: &[u8], hexadecimal: bool) -> Vec<u8> {
+    match hexadecimal {
+        true => hexadecimal_lines(bytes).into_bytes(),
+        false => bytes.to_vec(),
     }
 }

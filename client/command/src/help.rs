@@ -36,10 +36,14 @@ fn synopsis(verb: Verb) -> &'static str {
         Verb::JoinTable => "TRANSLATION TABLE [-o FILE] [--limit BYTES]",
         Verb::Export => "LANGUAGE ROOT TREE [-o FILE] [--limit BYTES]",
         Verb::Import => "LANGUAGE ROOT TEXT [-o FILE] [--limit BYTES]",
-        Verb::Block => "LANGUAGE ROOT TREE PATH [-o FILE]",
+        Verb::Index => "LANGUAGE ROOT TREE [-o FILE] [--limit BYTES]",
+        Verb::Block => "LANGUAGE ROOT TREE PATH [--index FILE] [-o FILE]",
+        Verb::Edit => {
+            "LANGUAGE ROOT TREE PATH BLOCK [--index FILE] [-o FILE] [--new-index FILE] [--limit BYTES]"
+        }
         Verb::List => "PACK",
         Verb::Show => "FILE [--as SORT] | LANGUAGE ROOT TREE",
-        Verb::Explain => "VERB OPERANDS [--limit BYTES] [--as SORT]",
+        Verb::Explain => "VERB OPERANDS [--limit BYTES] [--as SORT] [--index FILE]",
         Verb::Steps => "PACK ROOT TREE [--limit BYTES] [--xml]",
     }
 }
@@ -57,7 +61,9 @@ fn summary(verb: Verb) -> &'static str {
         Verb::JoinTable => "Join a load table onto a translation",
         Verb::Export => "Write a tree as XML",
         Verb::Import => "Read a tree from XML that export wrote",
+        Verb::Index => "Build the index of a tree",
         Verb::Block => "Look up one block of a tree",
+        Verb::Edit => "Replace one block of a tree",
         Verb::List => "List the clauses of what a pack reduces to",
         Verb::Show => "Show a language, a translation, a pack, a load table or a tree in words",
         Verb::Explain => "Tell where the fault is that an operation refuses",
@@ -146,16 +152,43 @@ for the language and the result. The tree is printed in hexadecimal digits below
 Refusals: 1 to 4, 14, 16, 17, 20.
 "
         }
+        Verb::Index => {
+            "\
+ROOT is the number of a kind. An index has for each node of the tree, tokens too, in reading order
+its start and its length, two bytes each. It is printed in hexadecimal digits below the first line.
+  -o FILE        write it to the file instead, as bytes, or as text with --hex. The file is
+                 written whole or not at all. With - the index alone goes to the standard
+                 output, and the first line to the standard error.
+  --limit BYTES  lend an output of that many bytes; without it, 262140, which always suffices
+Refusals: 1 to 4, 14 to 17, 22.
+"
+        }
         Verb::Block => {
             "\
 ROOT is the number of a kind. PATH leads from the root to the block: argument numbers, from 1,
 with points between them, such as 2.1; - or an empty word is the path to the whole tree. Below the
 first line, which has the length of the block, stand its kind and where it starts in the tree, and
 then its bytes in hexadecimal digits.
+  --index FILE   take the index of the tree from the file; without it, it is built
   -o FILE        write the bytes to the file instead, or digits with --hex. The file is written
                  whole or not at all. With - the bytes alone go to the standard output, and the
                  lines to the standard error.
-Refusals: 1 to 4, 14 to 16, 21.
+Refusals: 1 to 4, 14 to 16, 21, 22.
+"
+        }
+        Verb::Edit => {
+            "\
+ROOT is the number of a kind, and PATH leads to a block as for the verb block. BLOCK is a tree of the
+same kind, which takes its place. Below the first line, which has the length of the new plan, stand
+the length of its index, and then the plan in hexadecimal digits.
+  --index FILE   take the index of the tree from the file; without it, it is built
+  -o FILE        write the plan to the file instead, as bytes, or as text with --hex. The file is
+                 written whole or not at all. With - the plan alone goes to the standard output,
+                 and the lines to the standard error.
+  --new-index FILE
+                 write the index of the new plan to the file, likewise, before the plan is written
+  --limit BYTES  lend outputs of that many bytes each; without it, as many as are needed
+Refusals: 1 to 4, 14 to 17, 21, 22.
 "
         }
         Verb::List => {
@@ -175,12 +208,13 @@ fields 24 only, and a tree if it is legal.
         Verb::Explain => {
             "\
 VERB is one of check-language, check-translation, check-tree, reduce, run, score, score-loose,
-join-table, export, import and block, with its operands. Below the first line stands where the fault
-is (the byte, counted from 0, the field, the clause, the path of argument numbers in a tree, the
-operand in a term) and what it is. These lines come from a second implementation; if it does not
-come to the same number, that is said.
+join-table, export, import, index, block and edit, with its operands. Below the first line stands
+where the fault is (the byte, counted from 0, the field, the clause, the path of argument numbers in
+a tree, the operand in a term) and what it is. These lines come from a second implementation; if it
+does not come to the same number, that is said.
   --limit BYTES  explain the call with an output of that many bytes
   --as SORT      for run: take the first file as a 'translation' or a 'pack'
+  --index FILE   for block and edit: take the index of the tree from the file
 "
         }
         Verb::Steps => {

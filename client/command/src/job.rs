@@ -4,6 +4,7 @@
 use crate::arguments::{misuse, number, Call, Sort, Verb};
 use crate::explanation::Finding;
 use crate::given::Given;
+use crate::index_job::IndexJob;
 use crate::input::read_file;
 use crate::tree_job::TreeJob;
 use crate::{Failure, Streams};
@@ -25,6 +26,7 @@ pub enum Job {
     Run(Run),
     JoinTable { translation: Vec<u8>, table: Vec<u8>, limit: usize },
     OnTree(TreeJob),
+    OnIndex(IndexJob),
 }
 
 /// The inputs of a run.
@@ -96,6 +98,9 @@ impl Job {
             Verb::Show | Verb::Explain | Verb::Steps => {
                 Err(misuse(Some(verb), "this is no operation"))
             }
+            Verb::Index | Verb::Block | Verb::Edit => {
+                IndexJob::load(verb, call, streams).map(Job::OnIndex)
+            }
             _ => TreeJob::load(verb, call, streams).map(Job::OnTree),
         }
     }
@@ -113,6 +118,7 @@ impl Job {
         match self {
             Job::Run(run) => run.tree.len(),
             Job::OnTree(job) => job.length(),
+            Job::OnIndex(job) => job.length(),
             _ => 0,
         }
     }
@@ -129,6 +135,7 @@ impl Job {
                 joined(translation, table, *limit).map(Given::Bytes)
             }
             Job::OnTree(job) => job.answer(),
+            Job::OnIndex(job) => job.answer(),
         }
     }
 
@@ -143,6 +150,7 @@ impl Job {
                 explain::join_table(translation, table, *limit)
             }
             Job::OnTree(job) => return job.fault(),
+            Job::OnIndex(job) => return job.fault(),
         };
         fault.map(Finding::from)
     }

@@ -2,10 +2,12 @@
 #![forbid(unsafe_code)]
 
 mod arguments;
+mod edits;
 mod explanation;
 mod given;
 mod grammar;
 mod help;
+mod index_job;
 mod input;
 mod job;
 mod loose;

@@ -1,4 +1,4 @@
-//! A second reading of a loose plan, node by node, which tells where it is at fault.
+//! A second reading of a tree or a loose plan, node by node, which tells where it is at fault.
 
 use crate::explanation::Finding;
 use crate::grammar::{two_bytes, Class, Grammar};
@@ -9,6 +9,10 @@ pub struct Node {
     pub kind: u8,
     /// Where the node starts.
     pub start: usize,
+    /// Its bytes, with those of its arguments.
+    pub length: usize,
+    /// How many argument numbers lead to it.
+    depth: usize,
 }
 
 /// Bytes that are read as a tree.
@@ -17,7 +21,7 @@ pub struct Reader<'a> {
     /// What the bytes are called.
     pub input: &'static str,
     pub bytes: &'a [u8],
-    /// How many values stand for a token, in order: two in a loose plan.
+    /// How many values stand for a token, in order: one in a tree, two in a loose plan.
     pub values: usize,
 }
 
@@ -37,6 +41,27 @@ pub fn place_name(path: &[usize]) -> String {
     }
 }
 
+/// The places of a node's arguments among the nodes of a tree.
+pub fn arguments(nodes: &[Node], place: usize) -> Vec<usize> {
+    let depth = nodes[place].depth;
+    let behind = nodes.iter().enumerate().skip(place + 1);
+    let within = behind.take_while(|(_, node)| node.depth > depth);
+    within.filter(|(_, node)| node.depth == depth + 1).map(|(place, _)| place).collect()
+}
+
+/// The path to the node at a place, found from the node back to the root.
+pub fn path_to(nodes: &[Node], place: usize) -> Vec<usize> {
+    let mut depth = nodes[place].depth;
+    let mut path = vec![0; depth];
+    for node in nodes[..=place].iter().rev() {
+        depth = depth.min(node.depth);
+        if node.depth == depth && depth > 0 {
+            path[depth - 1] += 1;
+        }
+    }
+    path
+}
+
 impl Reader<'_> {
     /// The nodes of a tree of a kind that has at most so many levels, or the first fault.
     pub fn nodes(&self, kind: u8, levels: usize) -> Result<Vec<Node>, Finding> {
@@ -54,11 +79,14 @@ impl Reader<'_> {
 
     /// Reads a tree of a kind, with so many levels left.
     fn read(&self, state: &mut State, kind: u8, levels: usize) -> Result<(), Finding> {
-        state.nodes.push(Node { kind, start: state.at });
+        let (start, depth, place) = (state.at, state.path.len(), state.nodes.len());
+        state.nodes.push(Node { kind, start, length: 0, depth });
         match self.grammar.class(kind) {
-            Some(class) => self.read_token(state, kind, class),
-            None => self.read_production(state, kind, levels),
+            Some(class) => self.read_token(state, kind, class)?,
+            None => self.read_production(state, kind, levels)?,
         }
+        state.nodes[place].length = state.at - start;
+        Ok(())
     }
 
     /// Reads a token: legal values in order.
@@ -113,5 +141,27 @@ impl Reader<'_> {
         let place = place_name(&state.path);
         let place = format!("byte {} of the {}, {place}", state.at, self.input);
         Err(Finding::new(refusal, &place, &what))
+    }
+}
+
+#[cfg(test)]
+mod tests {
+    use super::*;
+
+    #[test]
+    fn nodes_know_their_arguments_and_paths() {
+        let language = [0x11, 0, 5, 2, 0, 1, 0, 240, 0x12, 0, 3, 1, 1, 2, 0x12, 0, 4, 1, 2, 1, 1];
+        let (grammar, bytes) = (Grammar::new(&language), [2, 1, 0, 5, 2, 1, 0, 6, 1, 0, 7]);
+        let reader = Reader { grammar: &grammar, input: "tree", bytes: &bytes, values: 1 };
+        let nodes = reader.nodes(1, 3).expect("a legal tree");
+        let spans: Vec<_> = nodes.iter().map(|node| (node.start, node.length)).collect();
+        let rows = [(5, 3), (6, 2), (8, 3), (9, 2)];
+        assert_eq!(spans, [&[(0, 11), (1, 3), (2, 2), (4, 7)][..], &rows].concat());
+        assert_eq!((arguments(&nodes, 0), arguments(&nodes, 3)), (vec![1, 3], vec![4, 6]));
+        assert_eq!(arguments(&nodes, 2), []);
+        assert_eq!((path_to(&nodes, 0), path_to(&nodes, 7)), (vec![], vec![2, 2, 1]));
+        assert_eq!((path_to(&nodes, 3), path_to(&nodes, 4)), (vec![2], vec![2, 1]));
+        let deep = reader.nodes(1, 2).err().expect("three levels");
+        assert_eq!(deep.number, Refusal::TooDeep.number());
     }
 }

@@ -1,6 +1,6 @@
 //! An operation on a tree, or on its text, in a language.
 
-use crate::arguments::{path, Call, Verb, PATH_PLACE};
+use crate::arguments::{Call, Verb};
 use crate::explanation::Finding;
 use crate::given::Given;
 use crate::input::read_file;
@@ -28,7 +28,6 @@ enum Operation {
     ScoreLoose { table: Vec<u8> },
     Export { limit: usize },
     Import { limit: usize },
-    Block { path: Vec<u8> },
 }
 
 /// The text, which is the third operand and never hexadecimal.
@@ -37,14 +36,13 @@ fn text(call: &Call, streams: &mut Streams) -> Result<Vec<u8>, Failure> {
 }
 
 impl TreeJob {
-    /// Reads the inputs of a verb; numbers and paths are looked at before any file.
+    /// Reads the inputs of a verb; numbers are looked at before any file.
     pub fn load(verb: Verb, call: &Call, streams: &mut Streams) -> Result<TreeJob, Failure> {
         let mut operation = match verb {
             Verb::Score => Operation::Score { table: vec![] },
             Verb::ScoreLoose => Operation::ScoreLoose { table: vec![] },
             Verb::Export => Operation::Export { limit: run_limit(call) },
             Verb::Import => Operation::Import { limit: run_limit(call) },
-            Verb::Block => Operation::Block { path: path(call.verb, &call.operands[PATH_PLACE])? },
             _ => Operation::Check,
         };
         let (root, language) = (root(call)?, operand(call, 0, LANGUAGE_BYTES, streams)?);
@@ -82,9 +80,6 @@ impl TreeJob {
             Operation::Import { limit } => {
                 algebra::import_to_vec(language, *root, tree, *limit).map(Given::Bytes)
             }
-            Operation::Block { path } => {
-                algebra::block(language, *root, tree, path).map(Given::from)
-            }
         }
     }
 
@@ -99,7 +94,6 @@ impl TreeJob {
             }
             Operation::Export { limit } => explain::export(language, *root, tree, *limit),
             Operation::Import { limit } => explain::import(language, *root, tree, *limit),
-            Operation::Block { path } => explain::block(language, *root, tree, path),
         };
         fault.map(Finding::from)
     }

@@ -50,11 +50,14 @@ fn operate(verb: Verb, call: &Call, streams: &mut Streams) -> Result<Printed, Fa
     let answer = work(job.tree_length(), streams, || job.answer())?;
     let first = figure(&answer);
     let Ok(given) = answer else { return Ok(printed(first, "")) };
-    let figures = given.figures();
+    let (figures, hexadecimal) = (given.figures(), call.options.hexadecimal);
+    if let (Some(file), Some(index)) = (&call.options.new_index, given.written_index(hexadecimal)) {
+        write_file(file, &index)?;
+    }
     let Some(file) = &call.options.output else {
         return Ok(printed(first, &(figures + &given.shown())));
     };
-    let bytes = given.written(call.options.hexadecimal);
+    let bytes = given.written(hexadecimal);
     if file == "-" {
         let messages = format!("{}\n{figures}", answer_line(first));
         return Ok(Printed { output: bytes, messages, status: ACCEPTED });

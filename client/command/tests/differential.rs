@@ -1,7 +1,7 @@
 //! The command on generated cases, in process: its first line, status and result are those of the
 //! library, a refusal leaves the file of `-o` as it was, and both routes of a join are equal.
 
-use algebra::{Block, LooseScore, Refusal, TRANSLATION_BYTES};
+use algebra::{Block, Edited, LooseScore, Refusal, TRANSLATION_BYTES};
 use algebra_command::{command, Streams, ACCEPTED, REFUSED};
 use reference::generate::{
     block_case, export_case, import_case, join_table_case, language_file, law_pack, long_run_case,
@@ -509,12 +509,80 @@ fn block() {
         let input = block_case(&mut Random::new(case));
         let (language, root, tree, path) = (&input.language, input.root, &input.tree, &input.path);
         let operands = [File(language), Root(root), File(tree), Path(path)];
-        let answer = algebra::block(language, root, tree, path);
+        let index = algebra::index_to_vec(language, root, tree).unwrap_or_default();
+        let answer = algebra::block(language, root, tree, &index, path);
         compare_block(&folder, case, &operands, answer);
-        let second = reference::block(language, root, tree, path).outcome.number();
+        let number = answer.err().map_or(0, Refusal::number);
         let length = answer.map(|block| block.bytes.len());
-        compare_explanation(&folder, case, "block", &operands, &[], length, second);
+        compare_explanation(&folder, case, "block", &operands, &[], length, number);
     }
+}
+
+#[test]
+fn index() {
+    let folder = Folder::new("index");
+    for case in 0..CASES {
+        let random = &mut Random::new(case);
+        let input = block_case(random);
+        let (language, root, tree) = (&input.language, input.root, &input.tree);
+        let room = random.below(8 * tree.len() + 1);
+        let operands = [File(language), Root(root), File(tree)];
+        let (mut output, options) = (vec![0; room], limit_options(room));
+        let answer = algebra::index(language, root, tree, &mut output);
+        let result = answer.map(|length| &output[..length]);
+        compare_result(&folder, case, "index", &operands, &options, result);
+        let number = answer.err().map_or(0, Refusal::number);
+        compare_explanation(&folder, case, "index", &operands, &options, answer, number);
+    }
+}
+
+/// Edits a plan by the command and compares all that it prints and writes with the library's answer.
+fn compare_edit(
+    folder: &Folder,
+    case: u64,
+    operands: &[Operand],
+    answer: &Result<Edited, Refusal>,
+) {
+    let random = &mut Random::new(case);
+    let printed = folder.call(random, &["edit"], operands, &[]);
+    printed.compare(case, answer, |edited| edited.plan.len());
+    let figures = answer.as_ref().ok().map(|edited| format!("index {}", edited.index.len()));
+    assert_eq!(printed.text().lines().nth(1), figures.as_deref(), "case {case}");
+    let digits: Vec<&str> = printed.text().lines().skip(2).collect();
+    let plan = answer.as_ref().map_or(&[][..], |edited| &edited.plan);
+    assert_eq!(decoded(&digits.join("\n")).as_deref(), Some(plan), "case {case}");
+    let [_, file] = folder.output_options().try_into().expect("an option and its file");
+    let options = ["--new-index".to_string(), file];
+    let printed = folder.call(random, &["edit"], operands, &options);
+    let index = answer.as_ref().map_or(OLD, |edited| &edited.index);
+    assert_eq!(folder.written(&printed), index, "case {case}");
+}
+
+#[test]
+fn edit() {
+    let folder = Folder::new("edit");
+    let (mut accepted, mut refused) = (0, 0);
+    for case in 0..CASES {
+        let random = &mut Random::new(case);
+        let input = block_case(random);
+        let (language, root, tree, path) = (&input.language, input.root, &input.tree, &input.path);
+        let index = algebra::index_to_vec(language, root, tree).unwrap_or_default();
+        let old = algebra::block(language, root, tree, &index, path).map_or(&[][..], |of| of.bytes);
+        let block = match random.below(4) {
+            0 => tree,
+            1 => &tree[random.below(tree.len() + 1)..],
+            _ => old,
+        };
+        let operands = [File(language), Root(root), File(tree), Path(path), File(block)];
+        let answer = algebra::edit_to_vec(language, root, tree, &index, path, block);
+        compare_edit(&folder, case, &operands, &answer);
+        let number = answer.as_ref().map_or_else(|refusal| refusal.number(), |_| 0);
+        accepted += usize::from(number == 0);
+        refused += usize::from(number != 0);
+        let length = answer.map(|edited| edited.plan.len());
+        compare_explanation(&folder, case, "edit", &operands, &[], length, number);
+    }
+    assert!(accepted > 100 && refused > 100, "{accepted} accepted, {refused} refused");
 }
 
 #[test]

@@ -9,6 +9,8 @@ extern "C" {
         root: u32,
         tree: *const u8,
         tree_length: usize,
+        index: *const u8,
+        index_length: usize,
         path: *const u8,
         path_length: usize,
         start: *mut u64,
@@ -30,8 +32,8 @@ pub struct BlockAnswer {
     pub kind: u32,
 }
 
-/// Looks up the block of a tree at a path.
-pub fn block(language: &[u8], root: u32, tree: &[u8], path: &[u8]) -> BlockAnswer {
+/// Looks up the block of a tree, with its index, at a path.
+pub fn block(language: &[u8], root: u32, tree: &[u8], index: &[u8], path: &[u8]) -> BlockAnswer {
     let (mut start, mut length, mut kind) = (NOT_STORED, NOT_STORED, u32::MAX);
     // SAFETY: pointers and lengths are those of slices that are lent for the call, and the
     // figures are lent for writing.
@@ -42,6 +44,8 @@ pub fn block(language: &[u8], root: u32, tree: &[u8], path: &[u8]) -> BlockAnswe
             root,
             tree.as_ptr(),
             tree.len(),
+            index.as_ptr(),
+            index.len(),
             path.as_ptr(),
             path.len(),
             &mut start,

@@ -7,6 +7,9 @@ ghost use Rattle.translation.specs.Operations.{checkTranslation, runTree};
 ghost use Rattle.reducer.specs.Operations as Reducing;
 ghost use Rattle.block.specs.Operations.{showBlock};
 ghost use Rattle.block.specs.Parts.{Told};
+ghost use Rattle.edit.specs.Operations.{editTree};
+ghost use Rattle.edit.specs.Answers.{EditTold};
+ghost use Rattle.index.specs.Operations.{indexTree};
 ghost use Rattle.score.specs.Operations.{scoreTree};
 ghost use Rattle.loads.specs.Joined.{joinTable};
 ghost use Rattle.loose.specs.Operations.{scoreLoose};
@@ -14,9 +17,11 @@ ghost use Rattle.xml.specs.Operations.{exportTree, importTree};
 use block::show::place;
 use checks::translations::check_translation;
 use checks::trees::check_tree;
+use edit::edit::edit;
 use fields::outcome::Answer;
 use fields::outcome::length_of;
 use fields::outcome::number;
+use index::build::index;
 use language::check::check_language;
 use loads::join::join_table;
 use loose::operation::score_loose;
@@ -193,24 +198,66 @@ pub extern "C" fn algebra_import(
     hand_over(answer, length)
 }
 
-// Show one block of a tree of the root kind. Where it starts in the tree, how many bytes it has there and its kind are put
-// into `start`, `length` and `kind`.
+// Build the index of a tree of the root kind; its length is put into `length`.
+#[no_mangle]
+pub extern "C" fn algebra_index(
+    language: &[u8],
+    root: u32,
+    tree: &[u8],
+    output: &mut [u8],
+    length: &mut u64,
+) -> u32
+    ensures { λ r. ⌜ (r ≡ numberOf (indexTree (now (language .entry)) root (now (tree .entry)) (now (output .entry)) .outcome))
+        × (now (length .exit) ≡ lengthOf (indexTree (now (language .entry)) root (now (tree .entry)) (now (output .entry)) .outcome))
+        × (now (output .exit) ≡ indexTree (now (language .entry)) root (now (tree .entry)) (now (output .entry)) .output) ⌝ }
+{
+    let answer = index(language, root, tree, output);
+    hand_over(answer, length)
+}
+
+// Show one block of a tree of the root kind that has the index. Where it starts in the tree, how many bytes it has there and its
+// kind are put into `start`, `length` and `kind`.
 #[no_mangle]
 pub extern "C" fn algebra_block(
     language: &[u8],
     root: u32,
     tree: &[u8],
+    index: &[u8],
     path: &[u8],
     start: &mut u64,
     length: &mut u64,
     kind: &mut u32,
 ) -> u32
-    ensures { λ r. ⌜ Told (showBlock (now (language .entry)) root (now (tree .entry)) (now (path .entry))) (now (tree .entry))
+    ensures { λ r. ⌜ Told (showBlock (now (language .entry)) root (now (tree .entry)) (now (index .entry)) (now (path .entry))) (now (tree .entry))
         r (now (start .exit)) (now (length .exit)) (now (kind .exit)) ⌝ }
 {
-    let placed = place(language, root, tree, path);
+    let placed = place(language, root, tree, index, path);
     let outcome = placed.outcome;
     *start = placed.start as u64;
     *kind = placed.kind;
     hand_over(Answer { outcome: outcome }, length)
+}
+
+// Replace the block at a path of a plan of the root kind that has the index. The new plan and its index are put into `plan` and
+// `plan_index`, their lengths into `plan_length` and `index_length`.
+#[no_mangle]
+pub extern "C" fn algebra_edit(
+    language: &[u8],
+    root: u32,
+    tree: &[u8],
+    index: &[u8],
+    path: &[u8],
+    block: &[u8],
+    plan: &mut [u8],
+    plan_index: &mut [u8],
+    plan_length: &mut u64,
+    index_length: &mut u64,
+) -> u32
+    ensures { λ r. ⌜ EditTold (editTree (now (language .entry)) root (now (tree .entry)) (now (index .entry)) (now (path .entry)) (now (block .entry)) (now (plan .entry)) (now («plan_index» .entry)))
+        r (now («plan_length» .exit)) (now («index_length» .exit)) (now (plan .exit)) (now («plan_index» .exit)) ⌝ }
+{
+    let edited = edit(language, root, tree, index, path, block, plan, plan_index);
+    let outcome = edited.outcome;
+    *index_length = edited.indexed as u64;
+    hand_over(Answer { outcome: outcome }, plan_length)
 }

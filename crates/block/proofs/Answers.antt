@@ -1,38 +1,35 @@
 -- The operation that shows a block: a law for each return.
-use Prim.Native.Nat.{ℕ, _+_, _-_, _<_}
+use Prim.Native.Nat.{ℕ, _+_, _-_, _<_, _≤_}
 use mathlib.Core.Path.{_≡_, refl, sym, ap, _∙_}
-use mathlib.Core.Bool.{false}
-use mathlib.Core.List.{List, [], append-nil}
-use mathlib.Core.Option.{Option, some}
+use mathlib.Core.List.{List}
+use mathlib.Core.Option.{some}
 use native.Mathlib.Omega.{arith}
 use lib.ListN.{length, getD, take, drop}
 use denote.Ref.{RefT, ptr, now}
-use Rattle.fields.specs.Fields.{byteAt}
+use Rattle.fields.specs.Fields.{pairAt}
 use Rattle.fields.specs.Outcome.{Result, value, refused, numberOf, lengthOf}
 use Rattle.fields.specs.declared.outcome.Outcome.{Outcome}
 use Rattle.fields.specs.declared.outcome.Outcome.the-variants.{Accepted, Refused}
 use Rattle.fields.specs.declared.outcome.Reason.{Reason}
-use Rattle.fields.specs.declared.outcome.Reason.the-variants.{NoBlock}
-use Rattle.fields.proofs.Codec.{bytes-from, value-inj}
-use Rattle.language.specs.Language.{Language, clashes}
-use Rattle.language.specs.LanguageFile.{entriesOf, languageOf}
-use Rattle.language.specs.Operations.{checkLanguage}
+use Rattle.fields.specs.declared.outcome.Reason.the-variants.{NoBlock, Hidden}
+use Rattle.language.specs.Language.{Language}
+use Rattle.language.specs.LanguageFile.{entriesOf}
 use Rattle.reader.specs.Code.{Code}
 use Rattle.reader.specs.Syntax.{write, tree}
-use Rattle.reader.specs.Operations.{treeOf, checkTree}
 use Rattle.reader.specs.Inner.Index.{Indexed}
-use Rattle.reader.proofs.Members.{in-below}
-use Rattle.checks.proofs.TreeChain.{accepts}
-use Rattle.checks.proofs.Legal.{tree-right, Checked, accepted-tree, refused-tree}
-use Rattle.block.specs.Blocks.{Block, blockOf, blockAt}
+use Rattle.index.specs.Spans.{size}
+use Rattle.index.specs.Operations.{checkIndexed}
+use Rattle.index.proofs.Lying.{past-inside, part-is}
+use Rattle.index.proofs.Pairs.{Entry}
+use Rattle.index.proofs.Starts.{entered-own, own-entered}
+use Rattle.index.proofs.Owning.{Owned, accepted-own, refused-own, owned-small, owned-there}
+use Rattle.block.specs.Blocks.{Block, blockOf, Reached, blockAt, everyKind}
 use Rattle.block.specs.Operations.{found, findBlock, Shown, shown, showBlock}
 use Rattle.block.specs.Parts.{PartOf, Places, Handed, Told}
-use Rattle.block.specs.Inner.Lying.{Lies, There, stepOf}
+use Rattle.block.specs.Inner.Descent.{Along, Ends}
 use Rattle.block.specs.declared.show.Placed.{Placed}
 use Rattle.block.specs.declared.descent.Step.{Step}
-use Rattle.block.specs.declared.descent.Step.the-variants.{To, Nowhere}
-use Rattle.block.proofs.Lying.{past-inside, part-is, path-lies}
-use Rattle.block.proofs.Paths.{nowhere-none, to-some}
+use Rattle.block.specs.declared.descent.Step.the-variants.{To, Nowhere, Unseen}
 
 -- A refusal places nothing.
 abbrev Empty : Reason → Placed → Type 0
@@ -49,100 +46,68 @@ places-nothing b x d r q w = rw q (record {
 })
 
 -- place_in
-module _ (index s b path : List ℕ) (kind : ℕ) (l : Language) (t : Code) (h : There index s b 0 kind l t)
-    (r : Step) (er : r ≡ stepOf (blockAt l path (blockOf 0 kind t))) where
-  pub placed-nothing : r ≡ Nowhere → (p : Placed) → Empty NoBlock p → Places (shown (found (blockAt l path (blockOf 0 kind t)))) b p
-  placed-nothing q p w =
-      places-nothing b NoBlock _ p (ap (λ (o : Option Block). shown (found o)) (nowhere-none (blockAt l path (blockOf 0 kind t)) (sym er ∙ q))) w
+module _ (x s b i path : List ℕ) (kind : ℕ) (l : Language) (t : Code)
+    (r : Step) (er : Ends x s b i l (blockAt everyKind l path (blockOf 0 kind t)) r) where
+  pub placed-nowhere : r ≡ Nowhere → (p : Placed) → Empty NoBlock p → Places (shown (found (blockAt everyKind l path (blockOf 0 kind t)))) b p
+  placed-nowhere q p w = places-nothing b NoBlock _ p (ap (λ (o : Reached). shown (found o)) (er .nowhere q)) w
 
-  -- The block that was reached.
-  pub record Block-there (a k : ℕ) : Type 0 where
-    pub subtree : Code
-    pub is : blockAt l path (blockOf 0 kind t) ≡ some (blockOf a k subtree)
-    pub there : There index s b a k l subtree
+  pub placed-hidden : r ≡ Unseen → (p : Placed) → Empty Hidden p → Places (shown (found (blockAt everyKind l path (blockOf 0 kind t)))) b p
+  placed-hidden q p w = places-nothing b Hidden _ p (ap (λ (o : Reached). shown (found o)) (er .unseen q)) w
 
-  pub block-there : (a k : ℕ) → r ≡ To a k → Block-there a k
-  block-there a k q =
-      let z = to-some (blockAt l path (blockOf 0 kind t)) a k (sym er ∙ q) in
-      record {
-        subtree = z .0;
-        is = z .1;
-        there = record { index-of = h .index-of; lies = path-lies l b (blockOf a k (z .0)) path (blockOf 0 kind t) (h .lies) (z .1) };
-      }
+  module _ (a k p : ℕ) (q : r ≡ To a k p) where
+    -- The entry of the block that was reached.
+    pub placed-entry : (v : List ℕ) × Entry i p a (size (er .to a k p q .0)) v
+    placed-entry = entered-own i p a (er .to a k p q .0) (er .to a k p q .2 .entered)
 
-  pub placed-block : (a k : ℕ) (w : Block-there a k) (e : ℕ) → e ≡ a + length (write tree (w .subtree))
-      → Places (shown (found (blockAt l path (blockOf 0 kind t)))) b (record { outcome = Accepted (e - a); start = a; stop = e; kind = k })
-  placed-block a k w e y =
-      let n : e - a ≡ length (write tree (w .subtree)) = omega arith in
-      let v = w .there .lies in
-      rw (w .is) (record {
-        outcome = ap Accepted n;
-        start = refl;
-        stop = y;
-        kind = refl;
-        inside = omega (arith, past-inside b a (write tree (w .subtree)) _ (v .inside) (v .is));
-        bytes = part-is b a (write tree (w .subtree)) _ (v .inside) (v .is);
-      })
+    block-inside : a + size (er .to a k p q .0) ≤ length b
+    block-inside = let v = er .to a k p q .2 .there .lies in past-inside b a (write tree (er .to a k p q .0)) _ (v .inside) (v .is)
 
--- A tree that was accepted is its bytes, and lies in them.
-pub tree-bytes : (l : Language) (k : ℕ) (b : List ℕ) (t : Code) → ((i : ℕ) → byteAt b i < 256) → treeOf l k b ≡ value t → write tree t ≡ b
-tree-bytes l k b t bytes e = sym (tree-right l k b t e .1 .2 (bytes-from b (λ i j. bytes i)) .0 ∙ append-nil (write tree t))
+    pub placed-inside : (n : ℕ) → n ≡ pairAt i (p + 2) → a + n ≤ length b
+    placed-inside n en = omega (arith, en, placed-entry .1 .long, block-inside)
 
-pub tree-lies : (l : Language) (k : ℕ) (b : List ℕ) (t : Code) → ((i : ℕ) → byteAt b i < 256) → treeOf l k b ≡ value t → Lies l b 0 k t
-tree-lies l k b t bytes e =
-    let w = tree-right l k b t e in
-    record {
-      rest = [];
-      is = sym (append-nil (write tree t) ∙ tree-bytes l k b t bytes e);
-      inside = omega arith;
-      typed = w .1 .0;
-      within = w .1 .1;
-      known = w .0;
-    }
-
--- What is known of a language that was accepted.
-accepted-language : (s : List ℕ) (l : Language) → languageOf s ≡ value l → checkLanguage s ≡ Accepted 0
-unfolding checkLanguage
-accepted-language s l e = rw e
-
-pub language-facts : (s : List ℕ) (l : Language) → languageOf s ≡ value l → (entriesOf s ≡ some l) × (clashes l l ≡ false)
-language-facts s l e =
-    let a = accepts s {o = checkLanguage s} refl {n = 0} (accepted-language s l e) in
-    let z : a .language ≡ l = value-inj (sym (a .is) ∙ e) in
-    (a .entries ∙ ap some z, rw z at (a .apart))
+    pub placed-block : (n : ℕ) → n ≡ pairAt i (p + 2)
+        → Places (shown (found (blockAt everyKind l path (blockOf 0 kind t)))) b (record { outcome = Accepted n; start = a; stop = a + n; kind = k })
+    placed-block n en =
+        let z = er .to a k p q in
+        let v = z .2 .there .lies in
+        let y : n ≡ length (write tree (z .0)) = en ∙ placed-entry .1 .long in
+        rw (z .1) (record {
+          outcome = ap Accepted y;
+          start = refl;
+          stop = ap (λ (j : ℕ). a + j) y;
+          kind = refl;
+          inside = placed-inside n en;
+          bytes = part-is b a (write tree (z .0)) _ (v .inside) (v .is);
+        })
 
 -- place
-module _ (s : List ℕ) (root : ℕ) (b : List ℕ) {o : Outcome} (eo : o ≡ checkTree s root b) where
-  pub place-refused : (path : List ℕ) {x : Reason} → o ≡ Refused x → (p : Placed) → Empty x p → Places (showBlock s root b path) b p
+module _ (s : List ℕ) (root : ℕ) (b i : List ℕ) {o : Outcome} (eo : o ≡ checkIndexed s root b i) where
+  pub place-refused : (path : List ℕ) {x : Reason} → o ≡ Refused x → (p : Placed) → Empty x p → Places (showBlock s root b i path) b p
   unfolding showBlock findBlock
   place-refused path {x} q p w =
-      places-nothing b x (showBlock s root b path) p
-      (ap shown (refused-tree s root b (λ l t. found (blockAt l path (blockOf 0 root t))) (sym eo ∙ q))) w
+      places-nothing b x (showBlock s root b i path) p
+      (ap shown (refused-own s root b i (λ l t. found (blockAt everyKind l path (blockOf 0 root t))) (sym eo ∙ q))) w
 
   module _ {n : ℕ} (accepted : o ≡ Accepted n) where
-    pub checked-tree : Checked s root b
-    checked-tree = accepted-tree s root b (sym eo ∙ accepted)
+    pub owned : Owned s root b i
+    owned = accepted-own s root b i (sym eo ∙ accepted)
 
     pub root-small : root < 32
-    root-small =
-        let c = checked-tree in
-        in-below s root (c .language) (language-facts s (c .language) (c .is) .0) (tree-right (c .language) root b (c .subject) (c .tree-is) .0)
+    root-small = owned-small s root b i (owned .language) (owned .subject) (owned .by)
 
-    module _ (index : List ℕ) (bytes : (i : ℕ) → getD b i 0 < 256)
-        (indexed : (m : ℕ) (l : Language) → o ≡ Accepted m → entriesOf s ≡ some l → Indexed index s l) where
-      pub tree-there : There index s b 0 root (checked-tree .language) (checked-tree .subject)
-      tree-there =
-          let c = checked-tree in
-          let f = language-facts s (c .language) (c .is) in
-          record {
-            index-of = record { indexed = indexed n (c .language) accepted (f .0); apart = f .1 };
-            lies = tree-lies (c .language) root b (c .subject) bytes (c .tree-is);
-          }
+    module _ (places : List ℕ) (bytes : (j : ℕ) → getD b j 0 < 256)
+        (indexed : (m : ℕ) (l : Language) → o ≡ Accepted m → entriesOf s ≡ some l → Indexed places s l) where
+      pub tree-along : Along places s b i 0 root 0 (owned .language) (owned .subject)
+      tree-along = record {
+        there = owned-there s root b i (owned .language) (owned .subject) (owned .by) places bytes (λ l e. indexed n l accepted e);
+        entered = own-entered i (owned .subject) (owned .by .own);
+        short = owned .by .short;
+      }
 
-      pub place-found : (path : List ℕ) (p : Placed) → Places (shown (found (blockAt (checked-tree .language) path (blockOf 0 root (checked-tree .subject))))) b p
-          → Places (showBlock s root b path) b p
+      pub place-found : (path : List ℕ) (p : Placed) → Places (shown (found (blockAt everyKind (owned .language) path (blockOf 0 root (owned .subject))))) b p
+          → Places (showBlock s root b i path) b p
       unfolding showBlock findBlock
-      place-found path p w = let c = checked-tree in rw (c .is, c .tree-is) w
+      place-found path p w = let c = owned in rw (c .by .is, c .by .indexed-is) w
 
 -- block
 module _ (d : Shown) (s : RefT (List ℕ)) (r : Placed) (w : Places d (now s) r)
@@ -166,14 +131,14 @@ shown-length : (m : Result Block) → lengthOf (shown m .outcome) ≡ length (sh
 shown-length (value b) = refl
 shown-length (refused r) = refl
 
-module _ (s : List ℕ) (root : ℕ) (b path : List ℕ) (r : Placed) (w : Places (showBlock s root b path) b r) where
-  block-length : lengthOf (showBlock s root b path .outcome) ≡ length (showBlock s root b path .bytes)
+module _ (s : List ℕ) (root : ℕ) (b i path : List ℕ) (r : Placed) (w : Places (showBlock s root b i path) b r) where
+  block-length : lengthOf (showBlock s root b i path .outcome) ≡ length (showBlock s root b i path .bytes)
   unfolding showBlock
-  block-length = shown-length (findBlock s root b path)
+  block-length = shown-length (findBlock s root b i path)
 
-  pub tells : (n m : ℕ) → n ≡ numberOf (r .outcome) → m ≡ lengthOf (r .outcome) → Told (showBlock s root b path) b n (r .start) m (r .kind)
+  pub tells : (n m : ℕ) → n ≡ numberOf (r .outcome) → m ≡ lengthOf (r .outcome) → Told (showBlock s root b i path) b n (r .start) m (r .kind)
   tells n m en em =
-      let d = showBlock s root b path in
+      let d = showBlock s root b i path in
       let y : m ≡ lengthOf (d .outcome) = em ∙ ap lengthOf (w .outcome) in
       let z : m ≡ length (d .bytes) = y ∙ block-length in
       record {

@@ -2,43 +2,44 @@
 use Prim.Native.Nat.{ℕ}
 use mathlib.Core.Path.{_≡_, refl, sym, ap, _∙_}
 use mathlib.Core.List.{List, [], append-nil}
-use mathlib.Core.Option.{Option, none, some}
 use Rattle.fields.specs.Outcome.{value}
-use Rattle.fields.proofs.Truth.{some-inj}
 use Rattle.fields.proofs.Codec.{refused-value, value-inj, step-value}
 use Rattle.language.specs.Language.{Language}
 use Rattle.language.specs.LanguageFile.{languageOf}
-use Rattle.reader.specs.Code.{Code}
 use Rattle.reader.specs.Syntax.{done, read, tree}
-use Rattle.reader.specs.Operations.{treeLevels, treeOf}
+use Rattle.reader.specs.Operations.{treeLevels}
 use Rattle.reader.proofs.Larger.{apart}
 use Rattle.reader.proofs.RoundTrip.{round, as-tree}
 use Rattle.checks.proofs.Legal.{tree-of}
-use Rattle.block.specs.Blocks.{Block, blockOf, bytesOf, blockAt}
+use Rattle.block.specs.Blocks.{Block, blockOf, bytesOf, Reached, reached, nowhere, hidden, blockAt, everyKind}
 use Rattle.block.specs.Operations.{found, findBlock}
 use Rattle.block.specs.Legal.{LegalPart, BlocksAreLegal, EmptyPathIsWhole}
-use Rattle.block.specs.Inner.Lying.{Lies}
-use Rattle.block.proofs.Lying.{past-inside, part-is, path-lies}
-use Rattle.block.proofs.Answers.{tree-bytes, tree-lies, language-facts}
+use Rattle.index.specs.Operations.{indexedTree}
+use Rattle.index.specs.Inner.Lying.{Lies}
+use Rattle.index.proofs.Lying.{past-inside, part-is}
+use Rattle.index.proofs.Checking.{tree-bytes, tree-lies, language-facts}
+use Rattle.index.proofs.Owning.{Owned, indexed-owned}
+use Rattle.block.proofs.Reaching.{reached-inj, path-lies}
 
-found-some : (o : Option Block) (b : Block) → found o ≡ value b → o ≡ some b
-found-some none b e = refused-value e
-found-some (some c) b e = ap some (value-inj e)
+pub found-reached : (o : Reached) (b : Block) → found o ≡ value b → o ≡ reached b
+found-reached (reached c) b e = ap reached (value-inj e)
+found-reached nowhere b e = refused-value e
+found-reached hidden b e = refused-value e
 
 -- The tree that a block was found in.
-record In (language : List ℕ) (root : ℕ) (bytes path : List ℕ) (b : Block) : Type 0 where
-  language-of : Language
-  subject : Code
-  is : languageOf language ≡ value language-of
-  tree-is : treeOf language-of root bytes ≡ value subject
-  there : blockAt language-of path (blockOf 0 root subject) ≡ some b
+record In (language : List ℕ) (root : ℕ) (bytes index path : List ℕ) (b : Block) : Type 0 where
+  owned : Owned language root bytes index
+  there : blockAt everyKind (owned .language) path (blockOf 0 root (owned .subject)) ≡ reached b
 
-found-in : (language : List ℕ) (root : ℕ) (bytes path : List ℕ) (b : Block) → findBlock language root bytes path ≡ value b → In language root bytes path b
+found-in : (language : List ℕ) (root : ℕ) (bytes index path : List ℕ) (b : Block) → findBlock language root bytes index path ≡ value b → In language root bytes index path b
 unfolding findBlock
-found-in language root bytes path b e =
+found-in language root bytes index path b e =
     let l = step-value (languageOf language) _ e in
-    let t = step-value (treeOf (l .0) root bytes) _ (l .2) in
-    record { language-of = l .0; subject = t .0; is = l .1; tree-is = t .1; there = found-some _ b (t .2) }
+    let t = step-value (indexedTree (l .0) root bytes index) _ (l .2) in
+    record {
+      owned = record { language = l .0; subject = t .0; by = indexed-owned language root bytes index (l .0) (t .0) (l .1) (t .1) };
+      there = found-reached _ b (t .2);
+    }
 
 legal-part : (s bytes : List ℕ) (l : Language) (b : Block) → languageOf s ≡ value l → Lies l bytes (b .start) (b .kind) (b .subtree) → LegalPart l bytes b
 legal-part s bytes l b e h =
@@ -54,16 +55,18 @@ legal-part s bytes l b e h =
     }
 
 pub blocks-are-legal : BlocksAreLegal
-blocks-are-legal language root bytes path l b byte e f =
-    let w = found-in language root bytes path b f in
-    let z : w .language-of ≡ l = value-inj (sym (w .is) ∙ e) in
-    let h = path-lies (w .language-of) bytes b path (blockOf 0 root (w .subject))
-    (tree-lies (w .language-of) root bytes (w .subject) byte (w .tree-is)) (w .there) in
+blocks-are-legal language root bytes index path l b byte e f =
+    let w = found-in language root bytes index path b f in
+    let o = w .owned in
+    let z : o .language ≡ l = value-inj (sym (o .by .is) ∙ e) in
+    let h = path-lies everyKind (o .language) bytes b path (blockOf 0 root (o .subject))
+    (tree-lies (o .language) root bytes (o .subject) byte (o .by .tree-is)) (w .there) in
     legal-part language bytes l b e (rw z at h)
 
 pub empty-path-is-whole : EmptyPathIsWhole
 unfolding blockAt
-empty-path-is-whole language root bytes b byte f =
-    let w = found-in language root bytes [] b f in
-    let q : blockOf 0 root (w .subject) ≡ b = some-inj (w .there) in
-    rw (← q) (refl, refl, tree-bytes (w .language-of) root bytes (w .subject) byte (w .tree-is))
+empty-path-is-whole language root bytes index b byte f =
+    let w = found-in language root bytes index [] b f in
+    let o = w .owned in
+    let q : blockOf 0 root (o .subject) ≡ b = reached-inj (w .there) in
+    rw (← q) (refl, refl, tree-bytes (o .language) root bytes (o .subject) byte (o .by .tree-is))

@@ -1,6 +1,5 @@
-pub mod Lying
+pub mod Reaching
 pub mod Steps
-pub mod Nodes
 pub mod Paths
 pub mod Answers
 pub mod Legal

@@ -1,66 +1,105 @@
--- The descent along a path: a law for each return and turn.
-use Prim.Native.Nat.{ℕ, _+_, _<_, _≤_}
+-- The descent along a path: a law for each return and turn of `descend`.
+use Prim.Native.Nat.{ℕ, _+_, _/_, _%_, _^_, _<_, _≤_}
+use lib.Dec.{eqb}
 use mathlib.Core.Path.{_≡_, refl, sym, ap, _∙_}
-use mathlib.Core.List.{List, _∷_}
-use mathlib.Core.Option.{Option, none, some}
+use mathlib.Core.Bool.{Bool, true, false}
+use mathlib.Core.List.{List, [], _∷_}
+use mathlib.Core.Option.{none, some}
 use native.Mathlib.Omega.{arith}
 use lib.ListN.{length, getD, drop, drop-of-length-le}
+use Rattle.fields.specs.Lists.{all, countUp}
 use Rattle.fields.proofs.Split.{front}
+use Rattle.fields.proofs.Truth.{all-mem, mem-count}
 use Rattle.language.specs.Language.{Language}
 use Rattle.reader.specs.Code.{Code}
-use Rattle.block.specs.Blocks.{Block, blockOf, argumentOf, blockAt}
-use Rattle.block.specs.Inner.Lying.{There, stepOf}
+use Rattle.index.proofs.Rows.{there-ready}
+use Rattle.block.specs.Blocks.{Block, blockOf, argumentOf, Reached, reached, nowhere, hidden, blockAt, everyKind}
+use Rattle.block.specs.Inner.Descent.{inSet, SetOf, Along, Leads, Ends}
 use Rattle.block.specs.declared.descent.Step.{Step}
-use Rattle.block.specs.declared.descent.Step.the-variants.{To, Nowhere}
-use Rattle.block.proofs.Lying.{argument-lies}
+use Rattle.block.specs.declared.descent.Step.the-variants.{To, Nowhere, Unseen}
+use Rattle.block.proofs.Steps.{to-nowhere, nowhere-unseen, to-unseen}
 
--- Where a step led, or that it led nowhere.
-pub nowhere-none : (o : Option Block) → stepOf o ≡ Nowhere → o ≡ none
-nowhere-none none e = refl
-nowhere-none (some c) e = let z : _≡_ {A = ℕ} 0 1 = cc in absurd (omega arith)
+-- in_set
+pub in-set-is : (set k : ℕ) → eqb (set / 2 ^ k % 2) 1 ≡ inSet set k
+unfolding inSet
+in-set-is set k = refl
 
-pub to-some : (o : Option Block) (a k : ℕ) → stepOf o ≡ To a k → (t : Code) × (o ≡ some (blockOf a k t))
-to-some none a k e = let z : _≡_ {A = ℕ} 0 1 = cc in absurd (omega arith)
-to-some (some c) a k e =
-    let i : c .start ≡ a = cc in
-    let j : c .kind ≡ k = cc in
-    (c .subtree, ap (λ (x : ℕ). some (blockOf x (c .kind) (c .subtree))) i ∙ ap (λ (x : ℕ). some (blockOf a x (c .subtree))) j)
+pub every-kind : SetOf 4294967295 everyKind
+unfolding inSet all countUp
+every-kind k h = all-mem (inSet 4294967295) (countUp 32 0) refl k (mem-count 32 0 k (omega arith) h)
 
--- A step of a path.
-module _ (l : Language) (i : ℕ) (path : List ℕ) (b : Block) where
-  step-stops : argumentOf l (b .start) (b .subtree) i ≡ none → blockAt l (i ∷ path) b ≡ none
+-- A block whose kind may not be seen, and a step of a path from one that may.
+pub unseen-hidden : (sees : ℕ → Bool) (l : Language) (path : List ℕ) (b : Block) → sees (b .kind) ≡ false → blockAt sees l path b ≡ hidden
+unfolding blockAt
+unseen-hidden sees l [] b h = rw h
+unseen-hidden sees l (i ∷ path) b h = cc
+
+module _ (sees : ℕ → Bool) (l : Language) (b : Block) (seen : sees (b .kind) ≡ true) where
+  pub path-ends : blockAt sees l [] b ≡ reached b
   unfolding blockAt
-  step-stops e = cc
+  path-ends = rw seen
 
-  step-leads : {c : Block} → argumentOf l (b .start) (b .subtree) i ≡ some c → blockAt l (i ∷ path) b ≡ blockAt l path c
+  pub step-stops : (i : ℕ) (path : List ℕ) → argumentOf l (b .start) (b .subtree) i ≡ none → blockAt sees l (i ∷ path) b ≡ nowhere
   unfolding blockAt
-  step-leads e = cc
+  step-stops i path e = cc
+
+  pub step-leads : (i : ℕ) (path : List ℕ) {c : Block} → argumentOf l (b .start) (b .subtree) i ≡ some c → blockAt sees l (i ∷ path) b ≡ blockAt sees l path c
+  unfolding blockAt
+  step-leads i path e = cc
+
+-- Answers of the descent.
+module _ (x s b i : List ℕ) (l : Language) (d : Reached) where
+  ends-nowhere : d ≡ nowhere → Ends x s b i l d Nowhere
+  ends-nowhere h = record { to = λ a k p e. to-nowhere e; nowhere = λ e. h; unseen = λ e. nowhere-unseen e }
+
+  ends-unseen : d ≡ hidden → Ends x s b i l d Unseen
+  ends-unseen h = record { to = λ a k p e. to-unseen (sym e); nowhere = λ e. nowhere-unseen (sym e); unseen = λ e. h }
+
+  ends-to : (a k p : ℕ) (t : Code) → d ≡ reached (blockOf a k t) → Along x s b i a k p l t → Ends x s b i l d (To a k p)
+  ends-to a k p t h w = record {
+    to = λ a′ k′ p′ e. let ea : a ≡ a′ = cc in let ek : k ≡ k′ = cc in let ep : p ≡ p′ = cc in rw (← ea, ← ek, ← ep) (t, h, w);
+    nowhere = λ e. to-nowhere (sym e);
+    unseen = λ e. to-unseen e;
+  }
 
 -- The descent stands at a block from where the rest of the path leads on.
-pub record Reached (index s b path : List ℕ) (kind at of i : ℕ) (l : Language) (t : Code) : Type 0 where
+pub record Going (x s b i path : List ℕ) (kind at of p j : ℕ) (l : Language) (t : Code) (sees : ℕ → Bool) : Type 0 where
   pub subtree : Code
-  pub there : There index s b at of l subtree
-  pub same : blockAt l (drop i path) (blockOf at of subtree) ≡ blockAt l path (blockOf 0 kind t)
+  pub along : Along x s b i at of p l subtree
+  pub same : blockAt sees l (drop j path) (blockOf at of subtree) ≡ blockAt sees l path (blockOf 0 kind t)
 
-module _ (index s b path : List ℕ) (kind at of i : ℕ) (l : Language) (t : Code) (w : Reached index s b path kind at of i l t) where
-  pub path-done : length path ≤ i → To at of ≡ stepOf (blockAt l path (blockOf 0 kind t))
-  unfolding blockAt
-  path-done h = ap stepOf (ap (λ (p : List ℕ). blockAt l p (blockOf at of (w .subtree))) (sym (drop-of-length-le path {i = i} h)) ∙ w .same)
+pub along-kind : {x s b i : List ℕ} {at k p : ℕ} {l : Language} {t : Code} → Along x s b i at k p l t → k < 32
+along-kind {x} {s} {b} {i} {at} {k} {p} {l} {t} w = there-ready x s b at k l t (w .there) .kind
 
-  module _ (here : i < length path) (r : Step) (er : r ≡ stepOf (argumentOf l at (w .subtree) (getD path i 0))) where
-    opened : blockAt l (getD path i 0 ∷ drop (i + 1) path) (blockOf at of (w .subtree)) ≡ blockAt l path (blockOf 0 kind t)
-    opened = ap (λ (p : List ℕ). blockAt l p (blockOf at of (w .subtree))) (sym (front path i here)) ∙ w .same
+module _ (x s b i path : List ℕ) (kind at of p j set : ℕ) (l : Language) (t : Code) (sees : ℕ → Bool) (w : Going x s b i path kind at of p j l t sees)
+    (in-set : SetOf set sees) (r : Bool) (er : r ≡ inSet set of) where
+  kind-seen : r ≡ sees of
+  kind-seen = er ∙ in-set of (along-kind (w .along))
 
-    pub path-stops : r ≡ Nowhere → Nowhere ≡ stepOf (blockAt l path (blockOf 0 kind t))
-    path-stops h =
-        let z = nowhere-none (argumentOf l at (w .subtree) (getD path i 0)) (sym er ∙ h) in
-        ap stepOf (sym (step-stops l (getD path i 0) (drop (i + 1) path) (blockOf at of (w .subtree)) z) ∙ opened)
+  pub path-hidden : r ≡ false → Ends x s b i l (blockAt sees l path (blockOf 0 kind t)) Unseen
+  path-hidden h = ends-unseen x s b i l _ (sym (w .same) ∙ unseen-hidden sees l (drop j path) (blockOf at of (w .subtree)) (sym kind-seen ∙ h))
 
-    pub path-next : (a k : ℕ) → r ≡ To a k → Reached index s b path kind a k (i + 1) l t
-    path-next a k h =
-        let z = to-some (argumentOf l at (w .subtree) (getD path i 0)) a k (sym er ∙ h) in
-        record {
-          subtree = z .0;
-          there = record { index-of = w .there .index-of; lies = argument-lies l b (blockOf a k (z .0)) at of (w .subtree) (getD path i 0) (w .there .lies) (z .1) };
-          same = sym (step-leads l (getD path i 0) (drop (i + 1) path) (blockOf at of (w .subtree)) (z .1)) ∙ opened;
-        }
+  module _ (seen : r ≡ true) where
+    pub path-done : length path ≤ j → Ends x s b i l (blockAt sees l path (blockOf 0 kind t)) (To at of p)
+    path-done h =
+        ends-to x s b i l _ at of p (w .subtree)
+        (sym (w .same) ∙ (ap (λ (v : List ℕ). blockAt sees l v (blockOf at of (w .subtree))) (drop-of-length-le path {i = j} h)
+        ∙ path-ends sees l (blockOf at of (w .subtree)) (sym kind-seen ∙ seen))) (w .along)
+
+    module _ (here : j < length path) (q : Step) (eq : Leads x s b i l (argumentOf l at (w .subtree) (getD path j 0)) q) where
+      opened : blockAt sees l (getD path j 0 ∷ drop (j + 1) path) (blockOf at of (w .subtree)) ≡ blockAt sees l path (blockOf 0 kind t)
+      opened = ap (λ (v : List ℕ). blockAt sees l v (blockOf at of (w .subtree))) (sym (front path j here)) ∙ w .same
+
+      pub path-stops : q ≡ Nowhere → Ends x s b i l (blockAt sees l path (blockOf 0 kind t)) Nowhere
+      path-stops h =
+          ends-nowhere x s b i l _
+          (sym opened ∙ step-stops sees l (blockOf at of (w .subtree)) (sym kind-seen ∙ seen) (getD path j 0) (drop (j + 1) path) (eq .nowhere h))
+
+      pub path-next : (a k e : ℕ) → q ≡ To a k e → Going x s b i path kind a k e (j + 1) l t sees
+      path-next a k e h =
+          let z = eq .to a k e h in
+          record {
+            subtree = z .0;
+            along = z .2;
+            same = sym (step-leads sees l (blockOf at of (w .subtree)) (sym kind-seen ∙ seen) (getD path j 0) (drop (j + 1) path) (z .1)) ∙ opened;
+          }

@@ -1,127 +1,201 @@
--- Steps along a path: a law for each return and turn of the functions of the descent.
+-- Steps from a block to its arguments: a law for each return and turn of `argument_among` and `argument`.
 use Prim.Native.Nat.{ℕ, suc, _+_, _-_, _<_, _≤_}
 use mathlib.Core.Path.{_≡_, refl, sym, ap, _∙_}
-use mathlib.Core.List.{List, [], _∷_}
-use mathlib.Core.Option.{some}
+use mathlib.Core.List.{List, [], _∷_, _++_, append-assoc}
+use mathlib.Core.Option.{Option, none, some, Option·getD}
 use native.Mathlib.Omega.{arith}
-use lib.ListN.{length, getD, drop, length-drop}
-use lib.Seq.{slice}
-use Rattle.fields.proofs.Lists.{part-done, part-next}
+use lib.ListN.{length, getD, drop, length-append}
+use lib.Seq.{slice, drop-drop, drop-append-seam}
+use Rattle.fields.specs.Fields.{pairAt}
+use Rattle.fields.proofs.Lists.{part-done}
 use Rattle.language.specs.Language.{Language}
-use Rattle.reader.specs.Code.{Code, Codes, cons}
-use Rattle.reader.specs.Typing.{TypedAll, typed-cons}
-use Rattle.reader.specs.Syntax as Meant
-use Rattle.reader.specs.Syntax.{write, tree}
-use Rattle.reader.specs.Operations.{treeLevels}
-use Rattle.reader.specs.declared.node.Read.{Read}
-use Rattle.reader.specs.declared.node.Read.the-variants.{End, Deep, Broken}
-use Rattle.reader.specs.Inner.Index.{Ready}
-use Rattle.reader.specs.Inner.Positions.{EndsBy, KindsIn, restAt, restOf, rest, deep, broken}
-use Rattle.reader.proofs.Larger.{apart}
-use Rattle.reader.proofs.Members.{in-below}
-use Rattle.reader.proofs.RoundTrip.{round, as-tree}
-use Rattle.block.specs.Blocks.{blockOf, argumentAfter}
-use Rattle.block.specs.Inner.Lying.{LieAll, Index, There, Row, stepOf}
-use Rattle.block.specs.declared.descent.Step.the-variants.{To, Nowhere}
-use Rattle.block.proofs.Lying.{past-inside, past-is, head-lies, tail-lie}
+use Rattle.reader.specs.Code.{Code, node, token, argument, Codes}
+use Rattle.reader.specs.Syntax.{write, writeAll, tree}
+use Rattle.reader.specs.Inner.Positions.{KindsIn}
+use Rattle.index.specs.Spans.{Span, span, size, spans, spansAll, entry, entries}
+use Rattle.index.specs.Operations.{longest}
+use Rattle.index.specs.Inner.Lying.{Shape, production, value, Opens}
+use Rattle.index.specs.Inner.Starts.{Behind, Splits}
+use Rattle.index.proofs.Lying.{past-inside}
+use Rattle.index.proofs.Rows.{kinds-end, Turn, turn}
+use Rattle.index.proofs.Pairs.{Entry, entry-read}
+use Rattle.index.proofs.Walking.{shape-size, shape-spans, entries-append, entries-cons}
+use Rattle.index.proofs.Starts.{spans-below, row-behind, entered-own}
+use Rattle.block.specs.Blocks.{Block, blockOf, argumentAfter, argumentOf}
+use Rattle.block.specs.Inner.Descent.{Along, AlongRow, Leads}
+use Rattle.block.specs.declared.descent.Step.{Step}
+use Rattle.block.specs.declared.descent.Step.the-variants.{To, Nowhere, Unseen}
 
--- What a step asks of the reader.
-pub there-ready : (index s b : List ℕ) (at k : ℕ) (l : Language) (t : Code) → There index s b at k l t → Ready index s k b at
-there-ready index s b at k l t h = record {
-  sound = h .index-of .indexed .sound;
-  kind = in-below s k l (h .index-of .indexed .entries) (h .lies .known);
-  inside = h .lies .inside;
-}
+-- Answers of a step.
+pub to-nowhere : {A : Type 0} {a k p : ℕ} → Nowhere ≡ To a k p → A
+to-nowhere e = let z : _≡_ {A = ℕ} 0 1 = cc in absurd (omega arith)
 
--- end_of
-module _ (index s b : List ℕ) (at k : ℕ) (l : Language) (t : Code) (h : There index s b at k l t) where
-  read-is : Meant.read Meant.tree l [] treeLevels k (drop at b) ≡ Meant.done t (h .lies .rest)
-  read-is =
-      ap (Meant.read Meant.tree l [] treeLevels k) (h .lies .is)
-      ∙ round l (apart l (h .index-of .apart)) (h .lies .typed) as-tree treeLevels (h .lies .rest) (h .lies .within)
+pub nowhere-unseen : {A : Type 0} → Nowhere ≡ Unseen → A
+nowhere-unseen e = let z : _≡_ {A = ℕ} 0 1 = cc in absurd (omega arith)
 
-  module _ (f : Read) (ef : restAt b f ≡ restOf (Meant.read Meant.tree l [] 64 k (drop at b))) where
-    left : restAt b f ≡ rest (h .lies .rest)
-    left = ef ∙ ap restOf read-is
+pub to-unseen : {A : Type 0} {a k p : ℕ} → To a k p ≡ Unseen → A
+to-unseen e = let z : _≡_ {A = ℕ} 0 1 = cc in absurd (omega arith)
 
-    pub ends-there : (e : ℕ) → f ≡ End e → EndsBy (length b) f → e ≡ at + length (write tree t)
-    ends-there e q inside =
-        let i : e ≤ length b = rw q at inside in
-        let a : drop e b ≡ h .lies .rest = let z : rest (drop e b) ≡ rest (h .lies .rest) = sym (ap (restAt b) q) ∙ left in cc in
-        let v = write tree t in
-        let j : at + length v ≤ length b = past-inside b at v _ (h .lies .inside) (h .lies .is) in
-        let d : drop (at + length v) b ≡ h .lies .rest = past-is b at v _ (h .lies .inside) (h .lies .is) in
-        let z : length b - e ≡ length b - (at + length v) = sym (length-drop e b) ∙ (ap length (a ∙ sym d) ∙ length-drop (at + length v) b) in
-        omega arith
+module _ (x s b i : List ℕ) (l : Language) (o : Option Block) where
+  leads-nowhere : o ≡ none → Leads x s b i l o Nowhere
+  leads-nowhere h = record { to = λ a k p e. to-nowhere e; nowhere = λ e. h; seen = λ e. nowhere-unseen e }
 
-    pub not-deep : {A : Type 0} → f ≡ Deep → A
-    not-deep q = let y : deep ≡ rest (h .lies .rest) = sym (ap (restAt b) q) ∙ left in let z : _≡_ {A = ℕ} 0 1 = cc in absurd (omega arith)
-
-    pub not-broken : {A : Type 0} → f ≡ Broken → A
-    not-broken q = let y : broken ≡ rest (h .lies .rest) = sym (ap (restAt b) q) ∙ left in let z : _≡_ {A = ℕ} 0 1 = cc in absurd (omega arith)
-
--- argument_among: the first of the arguments that are left.
-pub record Turn (index s b : List ℕ) (to q last : ℕ) (l : Language) (ts : Codes) : Type 0 where
-  pub head : Code
-  pub tail : Codes
-  pub there : There index s b to (getD s q 0) l head
-  pub row : Row index s b (to + length (write tree head)) (q + 1) last l tail
-  pub here : argumentAfter (slice q last s) ts 0 to ≡ some (blockOf to (getD s q 0) head)
-  pub next : (n : ℕ) → argumentAfter (slice q last s) ts (suc n) to ≡ argumentAfter (slice (q + 1) last s) tail n (to + length (write tree head))
-
-cons-of : {l : Language} {ts : Codes} {k : ℕ} {ks : List ℕ} → TypedAll l [] ts (k ∷ ks) → (t : Code) × (us : Codes) × (ts ≡ cons t us)
-cons-of (typed-cons {a = a} {t = t} h hs) = (a, t, refl)
-
-module _ (index s b : List ℕ) (to q last : ℕ) (l : Language) where
-  turn-cons : (ks : List ℕ) (t : Code) (us : Codes) → slice q last s ≡ getD s q 0 ∷ ks → slice (q + 1) last s ≡ ks
-      → Index index s l → LieAll l b to (getD s q 0 ∷ ks) (cons t us) → Turn index s b to q last l (cons t us)
-  unfolding argumentAfter
-  turn-cons ks t us e f x h = record {
-    head = t;
-    tail = us;
-    there = record { index-of = x; lies = head-lies l b to (getD s q 0) ks t us h };
-    row = record { index-of = x; lie = rw f (tail-lie l b to (getD s q 0) ks t us h) };
-    here = rw e;
-    next = λ n. rw (e, f);
+  leads-to : (a k p : ℕ) (t : Code) → o ≡ some (blockOf a k t) → Along x s b i a k p l t → Leads x s b i l o (To a k p)
+  leads-to a k p t h w = record {
+    to = λ a′ k′ p′ e. let ea : a ≡ a′ = cc in let ek : k ≡ k′ = cc in let ep : p ≡ p′ = cc in rw (← ea, ← ek, ← ep) (t, h, w);
+    nowhere = λ e. to-nowhere (sym e);
+    seen = λ e. to-unseen e;
   }
 
-  pub turn : (ts : Codes) → q < last → last ≤ length s → Row index s b to q last l ts → Turn index s b to q last l ts
-  turn ts h i r =
-      let e : slice q last s ≡ getD s q 0 ∷ slice (q + 1) last s = sym (part-next (λ (x : List ℕ). x) s q last (slice q last s) refl h i) in
-      let w : LieAll l b to (getD s q 0 ∷ slice (q + 1) last s) ts = rw e at (r .lie) in
-      let c = cons-of (w .typed) in
-      rw (c .2) (turn-cons (slice (q + 1) last s) (c .0) (c .1) e refl (r .index-of) (rw (c .2) at w))
+-- The first of the arguments that are left, by the index.
+pub record Next (x s b i : List ℕ) (to p q last : ℕ) (l : Language) (ts : Codes) : Type 0 where
+  pub head : Code
+  pub tail : Codes
+  pub along : Along x s b i to (getD s q 0) p l head
+  pub after : List Span
+  pub splits : Splits i p (to + size head) (spans to head) after
+  pub row : (p′ : ℕ) → p′ ≡ p + length (entries (spans to head)) → AlongRow x s b i (to + size head) p′ (q + 1) last l tail
+  pub here : argumentAfter (slice q last s) ts 0 to ≡ some (blockOf to (getD s q 0) head)
+  pub next : (n : ℕ) → argumentAfter (slice q last s) ts (suc n) to ≡ argumentAfter (slice (q + 1) last s) tail n (to + size head)
 
--- The walk stands at the argument that so many numbers are left to.
-pub record Walking (index s b : List ℕ) (first last at number q to left : ℕ) (l : Language) (ts : Codes) : Type 0 where
+module _ (x s b i : List ℕ) (to p q last : ℕ) (l : Language) (ts : Codes) (w : AlongRow x s b i to p q last l ts) (h : q < last) (end : last ≤ length s) where
+  abbrev one : Turn x s b to q last l ts
+  one = turn x s b to q last l ts (w .row) h end
+
+  abbrev behind-one : List Span
+  behind-one = spansAll (to + size (one .head)) (one .tail) ++ w .rest
+
+  all-are : drop p i ≡ entries (spans to (one .head) ++ behind-one)
+  unfolding spans
+  all-are =
+      w .is ∙ (ap (λ (c : Codes). entries (spansAll to c ++ w .rest)) (one .is)
+      ∙ ap entries (append-assoc (spans to (one .head)) (spansAll (to + size (one .head)) (one .tail)) (w .rest)))
+
+  ends-are : to + length (writeAll tree ts) ≡ to + size (one .head) + length (writeAll tree (one .tail))
+  unfolding write
+  ends-are =
+      let n : length (writeAll tree ts) ≡ size (one .head) + length (writeAll tree (one .tail)) =
+      ap (λ (c : Codes). length (writeAll tree c)) (one .is) ∙ length-append (write tree (one .head)) (writeAll tree (one .tail)) in
+      omega arith
+
+  behind-is : Behind (to + size (one .head)) behind-one
+  behind-is = row-behind (one .tail) (to + size (one .head)) (w .rest) (rw ends-are at (w .behind))
+
+  pub next-argument : Next x s b i to p q last l ts
+  unfolding argumentAfter
+  next-argument = record {
+    head = one .head;
+    tail = one .tail;
+    along = record { there = one .there; entered = record { rest = behind-one; is = all-are; behind = behind-is }; short = w .short };
+    after = behind-one;
+    splits = record { is = all-are; below = spans-below (one .head) to (to + size (one .head)) (omega arith); behind = behind-is };
+    row = λ p′ e. rw e (record {
+      row = one .row;
+      short = w .short;
+      rest = w .rest;
+      is =
+          sym (drop-drop (length (entries (spans to (one .head)))) p i)
+          ∙ (ap (drop (length (entries (spans to (one .head))))) (all-are ∙ entries-append (spans to (one .head)) behind-one)
+          ∙ drop-append-seam (entries (spans to (one .head))) (entries behind-one));
+      behind = rw ends-are at (w .behind);
+    });
+    here = ap (λ (v : List ℕ). argumentAfter v ts 0 to) (one .kinds) ∙ ap (λ (c : Codes). argumentAfter (getD s q 0 ∷ slice (q + 1) last s) c 0 to) (one .is);
+    next = λ n. ap (λ (v : List ℕ). argumentAfter v ts (suc n) to) (one .kinds) ∙ ap (λ (c : Codes). argumentAfter (getD s q 0 ∷ slice (q + 1) last s) c (suc n) to) (one .is);
+  }
+
+-- argument_among: the walk stands at the argument that so many numbers are left to.
+pub record Walking (x s b i : List ℕ) (first last at number q to p left : ℕ) (l : Language) (ts : Codes) : Type 0 where
   pub others : Codes
-  pub row : Row index s b to q last l others
+  pub row : AlongRow x s b i to p q last l others
   pub same : argumentAfter (slice q last s) others (left - 1) to ≡ argumentAfter (slice first last s) ts (number - 1) at
 
-kinds-end : (s : List ℕ) (first last q : ℕ) → KindsIn s first last → first ≤ q → q < last → last ≤ length s
-kinds-end s first last q h i j = let w = h (last - 1) (omega arith) (omega arith) in omega (arith, w .0)
-
-module _ (index s b : List ℕ) (first last at number q to left : ℕ) (l : Language) (ts : Codes)
-    (w : Walking index s b first last at number q to left l ts) where
-  pub walk-done : last ≤ q → Nowhere ≡ stepOf (argumentAfter (slice first last s) ts (number - 1) at)
+module _ (x s b i : List ℕ) (first last at number q to p left : ℕ) (l : Language) (ts : Codes) (w : Walking x s b i first last at number q to p left l ts) where
+  pub walk-done : last ≤ q → Leads x s b i l (argumentAfter (slice first last s) ts (number - 1) at) Nowhere
   unfolding argumentAfter
-  walk-done h = ap stepOf (part-done (λ (x : List ℕ). argumentAfter x (w .others) (left - 1) to) s q last _ refl h ∙ w .same)
+  walk-done h =
+      leads-nowhere x s b i l _ (sym (part-done (λ (v : List ℕ). argumentAfter v (w .others) (left - 1) to) s q last _ refl h ∙ w .same))
 
   module _ (kinds : KindsIn s first last) (low : first ≤ q) (here : q < last) where
-    pub walk-turn : Turn index s b to q last l (w .others)
-    walk-turn = turn index s b to q last l (w .others) here (kinds-end s first last q kinds low here) (w .row)
+    pub walk-next : Next x s b i to p q last l (w .others)
+    walk-next = next-argument x s b i to p q last l (w .others) (w .row) here (kinds-end s first last q kinds low here)
 
-    pub walk-here : left ≡ 1 → To to (getD s q 0) ≡ stepOf (argumentAfter (slice first last s) ts (number - 1) at)
+    pub walk-here : left ≡ 1 → Leads x s b i l (argumentAfter (slice first last s) ts (number - 1) at) (To to (getD s q 0) p)
     walk-here h =
         let z : 0 ≡ left - 1 = omega arith in
-        ap stepOf (sym (walk-turn .here) ∙ (ap (λ (n : ℕ). argumentAfter (slice q last s) (w .others) n to) z ∙ w .same))
+        leads-to x s b i l _ to (getD s q 0) p (walk-next .head)
+        (sym (w .same) ∙ (ap (λ (n : ℕ). argumentAfter (slice q last s) (w .others) n to) (sym z) ∙ walk-next .here)) (walk-next .along)
 
-    pub walk-next : (left ≡ 1 → ⊥) → 0 < left → (e : ℕ) → e ≡ to + length (write tree (walk-turn .head))
-        → Walking index s b first last at number (q + 1) e (left - 1) l ts
-    walk-next h i e y =
-        let z : suc (left - 1 - 1) ≡ left - 1 = omega arith in
-        rw y (record {
-          others = walk-turn .tail;
-          row = walk-turn .row;
-          same = sym (walk-turn .next (left - 1 - 1)) ∙ (ap (λ (n : ℕ). argumentAfter (slice q last s) (w .others) n to) z ∙ w .same);
-        })
+    -- The argument ends in the bytes.
+    pub walk-inside : to + size (walk-next .head) ≤ longest
+    walk-inside =
+        let v = walk-next .along .there .lies in
+        let e = past-inside b to (write tree (walk-next .head)) (v .rest) (v .inside) (v .is) in
+        omega (arith, walk-next .along .short)
+
+    -- The entry of the argument, and the one behind its entries.
+    pub walk-entry : (v : List ℕ) × Entry i p to (size (walk-next .head)) v
+    walk-entry = entered-own i p to (walk-next .head) (walk-next .along .entered)
+
+    module _ (n : ℕ) (en : n ≡ pairAt i (p + 2)) where
+      pub size-read : n ≡ size (walk-next .head)
+      size-read = en ∙ walk-entry .1 .long
+
+      pub walk-splits : Splits i p (to + n) (spans to (walk-next .head)) (walk-next .after)
+      walk-splits = rw size-read (walk-next .splits)
+
+      pub walk-on : (left ≡ 1 → ⊥) → 0 < left → (p′ : ℕ) → p′ ≡ p + length (entries (spans to (walk-next .head)))
+          → Walking x s b i first last at number (q + 1) (to + n) p′ (left - 1) l ts
+      walk-on h j p′ e =
+          let z : suc (left - 1 - 1) ≡ left - 1 = omega arith in
+          rw size-read (record {
+            others = walk-next .tail;
+            row = walk-next .row p′ e;
+            same = sym (walk-next .next (left - 1 - 1)) ∙ (ap (λ (m : ℕ). argumentAfter (slice q last s) (w .others) m to) z ∙ w .same);
+          })
+
+-- argument
+shape-numbered : {l : Language} {k : ℕ} {t : Code} {ts : Codes} {ks : List ℕ} {f : ℕ} → Shape l k t ts ks f → (at n : ℕ)
+    → argumentOf l at t (suc n) ≡ argumentAfter ks ts n (at + f)
+unfolding argumentOf argumentAfter
+shape-numbered (production {ts = ts} e) at n = ap (λ (o : Option (List ℕ)). argumentAfter (Option·getD o []) ts n (at + 1)) e
+shape-numbered value at n = refl
+
+no-zeroth : (l : Language) (at : ℕ) (t : Code) → argumentOf l at t 0 ≡ none
+unfolding argumentOf
+no-zeroth l at (node k p ts) = refl
+no-zeroth l at (token v) = refl
+no-zeroth l at (argument j) = refl
+
+module _ (x s b i : List ℕ) (at k p : ℕ) (l : Language) (t : Code) (w : Along x s b i at k p l t) where
+  pub zero-none : (n : ℕ) → n ≡ 0 → Leads x s b i l (argumentOf l at t n) Nowhere
+  zero-none n e = leads-nowhere x s b i l _ (rw e (no-zeroth l at t))
+
+  pub entry-inside : p + 4 ≤ length i
+  entry-inside = entered-own i p at t (w .entered) .1 .inside
+
+  module _ (first last to : ℕ) (o : Opens x s b at k l t first last to) where
+    pub opened-row : AlongRow x s b i to (p + 4) first last l (o .operands)
+    opened-row =
+        let y : at + o .front ≡ to = sym (o .past) in
+        let n = shape-size (o .shape) in
+        let z : at + size t ≡ to + length (writeAll tree (o .operands)) = omega arith in
+        let e : drop p i ≡ entry (span at (size t)) ++ entries (spansAll to (o .operands) ++ w .entered .rest) =
+        w .entered .is
+        ∙ (ap (λ (v : List Span). entries (v ++ w .entered .rest)) (shape-spans (o .shape) at ∙ ap (λ (j : ℕ). span at (size t) ∷ spansAll j (o .operands)) y)
+        ∙ entries-cons (span at (size t)) (spansAll to (o .operands) ++ w .entered .rest)) in
+        record {
+          row = o .row;
+          short = w .short;
+          rest = w .entered .rest;
+          is = entry-read i p at (size t) _ e .others;
+          behind = rw z at (w .entered .behind);
+        }
+
+    pub argument-leads : (n : ℕ) → (n ≡ 0 → ⊥) → (r : Step) → Leads x s b i l (argumentAfter (slice first last s) (o .operands) (n - 1) to) r
+        → Leads x s b i l (argumentOf l at t n) r
+    argument-leads n h r v =
+        let m : suc (n - 1) ≡ n = omega arith in
+        let y : at + o .front ≡ to = sym (o .past) in
+        let e : argumentAfter (slice first last s) (o .operands) (n - 1) to ≡ argumentOf l at t n =
+        ap (argumentAfter (slice first last s) (o .operands) (n - 1)) (sym y) ∙ (sym (shape-numbered (o .shape) at (n - 1)) ∙ ap (argumentOf l at t) m) in
+        rw (← e) v

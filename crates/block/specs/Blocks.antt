@@ -1,5 +1,6 @@
 -- The blocks of a tree and the paths to them (paper 02, 2026-06).
 use Prim.Native.Nat.{ℕ, zero, suc, _+_}
+use mathlib.Core.Bool.{Bool, true, false, cond}
 use mathlib.Core.List.{List, [], _∷_}
 use mathlib.Core.Option.{Option, none, some, Option·getD}
 use lib.ListN.{length}
@@ -36,7 +37,23 @@ argumentOf l start (node k p ts) (suc n) = argumentAfter (Option·getD (argument
 argumentOf l start (token v) i = none
 argumentOf l start (argument j) i = none
 
--- The block at a path: its numbers are followed one after the other, and the empty path stays where it is.
-unfoldable pub blockAt : Language → (path : List ℕ) → Block → Option Block
-blockAt l [] b = some b
-blockAt l (i ∷ path) b = elim (argumentOf l (b .start) (b .subtree) i) [ none ↦ none | some c ↦ blockAt l path c ]
+-- What following a path comes to: a block; no such argument; or a block of a kind that may not be seen.
+pub data Reached : Type 0 where
+  reached : Block → Reached
+  nowhere : Reached
+  hidden : Reached
+
+-- The block at a path, where the kinds that may be seen are given: the numbers are followed one after the other, and the
+-- empty path stays where it is. At each block on the way, the first and the last too, its kind is looked at before the next
+-- number (paper 02, 2026-12).
+unfoldable pub blockAt : (sees : ℕ → Bool) → Language → (path : List ℕ) → Block → Reached
+blockAt sees l [] b = cond (sees (b .kind)) (reached b) hidden
+blockAt sees l (i ∷ path) b =
+    elim (sees (b .kind)) [
+      | false ↦ hidden
+      | true ↦ elim (argumentOf l (b .start) (b .subtree) i) [ none ↦ nowhere | some c ↦ blockAt sees l path c ]
+    ]
+
+-- Every kind may be seen.
+abbrev pub everyKind : ℕ → Bool
+everyKind k = true

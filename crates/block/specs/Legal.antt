@@ -24,11 +24,11 @@ pub record LegalPart (l : Language) (bytes : List ℕ) (b : Block) : Type 0 wher
 -- Every block that is found is such a part of the tree.
 abbrev pub BlocksAreLegal : Type 0
 BlocksAreLegal =
-    (language : List ℕ) (root : ℕ) (bytes path : List ℕ) (l : Language) (b : Block) → ((i : ℕ) → byteAt bytes i < 256)
-    → languageOf language ≡ value l → findBlock language root bytes path ≡ value b → LegalPart l bytes b
+    (language : List ℕ) (root : ℕ) (bytes index path : List ℕ) (l : Language) (b : Block) → ((i : ℕ) → byteAt bytes i < 256)
+    → languageOf language ≡ value l → findBlock language root bytes index path ≡ value b → LegalPart l bytes b
 
 -- The empty path gives the whole tree.
 abbrev pub EmptyPathIsWhole : Type 0
 EmptyPathIsWhole =
-    (language : List ℕ) (root : ℕ) (bytes : List ℕ) (b : Block) → ((i : ℕ) → byteAt bytes i < 256)
-    → findBlock language root bytes [] ≡ value b → (b .start ≡ 0) × (b .kind ≡ root) × (bytesOf b ≡ bytes)
+    (language : List ℕ) (root : ℕ) (bytes index : List ℕ) (b : Block) → ((i : ℕ) → byteAt bytes i < 256)
+    → findBlock language root bytes index [] ≡ value b → (b .start ≡ 0) × (b .kind ≡ root) × (bytesOf b ≡ bytes)

@@ -1,27 +1,28 @@
--- The operation that shows one block of a tree (paper 02, 2026-06).
+-- The operation that shows one block of a tree (paper 02, 2026-06; the index by 2026-08).
 use Prim.Native.Nat.{ℕ}
 use mathlib.Core.List.{List, []}
-use mathlib.Core.Option.{Option, none, some}
 use lib.ListN.{length}
 use Rattle.fields.specs.Outcome.{Result, value, refused, _>>=_}
 use Rattle.fields.specs.declared.outcome.Outcome.{Outcome}
 use Rattle.fields.specs.declared.outcome.Outcome.the-variants.{Accepted, Refused}
-use Rattle.fields.specs.declared.outcome.Reason.the-variants.{NoBlock}
+use Rattle.fields.specs.declared.outcome.Reason.the-variants.{NoBlock, Hidden}
 use Rattle.language.specs.LanguageFile.{languageOf}
-use Rattle.reader.specs.Operations.{treeOf}
-use Rattle.block.specs.Blocks.{Block, blockOf, bytesOf, blockAt}
+use Rattle.index.specs.Operations.{indexedTree}
+use Rattle.block.specs.Blocks.{Block, blockOf, bytesOf, Reached, reached, nowhere, hidden, blockAt, everyKind}
 
--- 21 where a path number is 0, is past the arguments, or stands at a token.
-abbrev pub found : Option Block → Result Block
-found none = refused NoBlock
-found (some b) = value b
+-- 21 where a path number is 0, is past the arguments, or stands at a token; 25 where a block on the way may not be seen.
+abbrev pub found : Reached → Result Block
+found (reached b) = value b
+found nowhere = refused NoBlock
+found hidden = refused Hidden
 
--- Find a block: 1 to 4 for the language, 14 to 16 over the whole tree, then 21 for the path.
-unfoldable pub findBlock : (language : List ℕ) (root : ℕ) (bytes path : List ℕ) → Result Block
-findBlock language root bytes path =
+-- Find a block, whatever its kind: 1 to 4 for the language, 14 to 16 over the whole tree, 22 for the index, then 21 for the
+-- path.
+unfoldable pub findBlock : (language : List ℕ) (root : ℕ) (bytes index path : List ℕ) → Result Block
+findBlock language root bytes index path =
     languageOf language >>= λ l.
-    treeOf l root bytes >>= λ t.
-    found (blockAt l path (blockOf 0 root t))
+    indexedTree l root bytes index >>= λ t.
+    found (blockAt everyKind l path (blockOf 0 root t))
 
 -- All that the operation answers: number and length, and the block by its start, its bytes and its kind.
 pub record Shown : Type 0 where
@@ -36,5 +37,5 @@ shown (value b) = record { outcome = Accepted (length (bytesOf b)); start = b .s
 shown (refused r) = record { outcome = Refused r; start = 0; bytes = []; kind = 0 }
 
 -- Show one block.
-unfoldable pub showBlock : (language : List ℕ) (root : ℕ) (bytes path : List ℕ) → Shown
-showBlock language root bytes path = shown (findBlock language root bytes path)
+unfoldable pub showBlock : (language : List ℕ) (root : ℕ) (bytes index path : List ℕ) → Shown
+showBlock language root bytes index path = shown (findBlock language root bytes index path)

@@ -1,19 +1,20 @@
 // The operation that shows one block of a tree.
+use crate::descent::EVERY_KIND;
 use crate::descent::Step;
 use crate::descent::descend;
-use crate::descent::end_of;
-use checks::trees::check_indexed;
+use fields::bytes::pair_in;
 use fields::outcome::Outcome;
 use fields::outcome::Reason;
 use fields::outcome::number;
+use index::build::check_own;
 use reader::index::INDEX;
 ghost use mathlib.Core.Path.{_≡_};
 ghost use Rattle.language.specs.Language.{Language};
 ghost use Rattle.reader.specs.Code.{Code};
-ghost use Rattle.block.specs.Blocks.{blockOf, blockAt};
+ghost use Rattle.block.specs.Blocks.{blockOf, blockAt, everyKind};
 ghost use Rattle.block.specs.Operations.{found, shown, showBlock};
 ghost use Rattle.block.specs.Parts.{Places, Handed};
-ghost use Rattle.block.specs.Inner.Lying.{There};
+ghost use Rattle.block.specs.Inner.Descent.{Along};
 
 // What the lookup answers: the block is of a kind and lies in the tree from `start` up to `stop`. A refusal has 0 in each.
 pub struct Placed {
@@ -35,35 +36,45 @@ fn nothing(reason: Reason) -> Placed
     }
 }
 
-// The place of the block at a path, in a legal tree of a kind: 21 where there is none.
-fn place_in(language: &[u8], index: &[u16], kind: u8, tree: &[u8], path: &[u8]) -> Placed
-    requires { ⌜ ((l : Language) × (t : Code) × There (now index) (now language) (now tree) 0 kind l t) ⌝ }
-    ensures { λ r. ⌜ ((l : Language) (t : Code) → There (now (index .entry)) (now (language .entry)) (now (tree .entry)) 0 kind l t
-        → Places (shown (found (blockAt l (now (path .entry)) (blockOf 0 kind t)))) (now (tree .entry)) r) ⌝ }
+// The place of the block at a path, in a legal tree of a kind that has the index: 21 where there is none.
+fn place_in(
+    language: &[u8],
+    places: &[u16],
+    kind: u8,
+    tree: &[u8],
+    index: &[u8],
+    path: &[u8],
+) -> Placed
+    requires { ⌜ ((l : Language) × (t : Code) × Along (now places) (now language) (now tree) (now index) 0 kind 0 l t) ⌝ }
+    ensures { λ r. ⌜ ((l : Language) (t : Code) → Along (now (places .entry)) (now (language .entry)) (now (tree .entry)) (now (index .entry)) 0 kind 0 l t
+        → Places (shown (found (blockAt everyKind l (now (path .entry)) (blockOf 0 kind t)))) (now (tree .entry)) r) ⌝ }
 {
-    let Step::To(start, of) = descend(language, index, kind, tree, path) else {
-        return nothing(Reason::NoBlock);
-    };
-    let stop = end_of(language, index, of, tree, start);
-    Placed {
-        outcome: Outcome::Accepted(stop - start),
-        start: start,
-        stop: stop,
-        kind: of as u32,
+    match descend(language, places, kind, tree, index, path, EVERY_KIND) {
+        Step::To(start, of, entry) => {
+            let size = pair_in(index, entry + 2);
+            Placed {
+                outcome: Outcome::Accepted(size),
+                start: start,
+                stop: start + size,
+                kind: of as u32,
+            }
+        }
+        Step::Nowhere => nothing(Reason::NoBlock),
+        Step::Unseen => nothing(Reason::Hidden),
     }
 }
 
-// Where the block at a path lies: 1 to 4 for the language, 14 to 16 for the whole tree, 21 for the path.
-pub fn place(language: &[u8], root: u32, tree: &[u8], path: &[u8]) -> Placed
-    ensures { λ r. ⌜ Places (showBlock (now (language .entry)) root (now (tree .entry)) (now (path .entry))) (now (tree .entry)) r ⌝ }
+// Where the block at a path lies: 1 to 4 for the language, 14 to 16 for the whole tree, 22 for its index, 21 for the path.
+pub fn place(language: &[u8], root: u32, tree: &[u8], index: &[u8], path: &[u8]) -> Placed
+    ensures { λ r. ⌜ Places (showBlock (now (language .entry)) root (now (tree .entry)) (now (index .entry)) (now (path .entry))) (now (tree .entry)) r ⌝ }
 {
-    let mut index = [0u16; INDEX];
-    let answer = check_indexed(language, root, tree, &mut index);
+    let mut places = [0u16; INDEX];
+    let answer = check_own(language, root, tree, index, &mut places);
     let outcome = answer.outcome;
     if let Outcome::Refused(reason) = outcome {
         return nothing(reason);
     }
-    place_in(language, &index, root as u8, tree, path)
+    place_in(language, &places, root as u8, tree, index, path)
 }
 
 // Show one block: the part of the lent tree that holds it. Its number and its kind go where the caller says.
@@ -71,13 +82,14 @@ pub fn block<'a>(
     language: &[u8],
     root: u32,
     tree: &'a [u8],
+    index: &[u8],
     path: &[u8],
     outcome: &mut u32,
     kind: &mut u32,
 ) -> &'a [u8]
-    ensures { λ r. ⌜ Handed (showBlock (now (language .entry)) root (now (tree .entry)) (now (path .entry))) (tree .entry) (now (outcome .exit)) (now (kind .exit)) r ⌝ }
+    ensures { λ r. ⌜ Handed (showBlock (now (language .entry)) root (now (tree .entry)) (now (index .entry)) (now (path .entry))) (tree .entry) (now (outcome .exit)) (now (kind .exit)) r ⌝ }
 {
-    let placed = place(language, root, tree, path);
+    let placed = place(language, root, tree, index, path);
     let start = placed.start;
     let stop = placed.stop;
     let answer = placed.outcome;

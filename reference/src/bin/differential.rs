@@ -7,6 +7,8 @@
 
 #[path = "differential/block.rs"]
 mod block;
+#[path = "differential/edit.rs"]
+mod edit;
 #[path = "differential/figures.rs"]
 mod figures;
 #[path = "differential/loose.rs"]
@@ -26,7 +28,7 @@ use std::process::ExitCode;
 use std::time::Instant;
 
 /// Answers are counted by number, and so is what the laws say.
-const NUMBERS: usize = 22;
+const NUMBERS: usize = 23;
 
 /// What one side answered: number, length and the buffers at the end.
 #[derive(PartialEq, Eq)]
@@ -132,15 +134,33 @@ const OPERATIONS: &[Operation] = &[
     },
     Operation {
         name: "block",
-        possible: &[0, 1, 2, 3, 4, 14, 15, 16, 21],
+        possible: &[0, 1, 2, 3, 4, 14, 15, 16, 21, 22],
         label: answer_label,
         find: block::find,
+    },
+    Operation {
+        name: "index",
+        possible: &[0, 1, 2, 3, 4, 14, 15, 16, 17, 22],
+        label: answer_label,
+        find: |random| edit::compare_index(random).finding(),
+    },
+    Operation {
+        name: "edit",
+        possible: &[0, 1, 2, 3, 4, 14, 15, 16, 17, 21, 22],
+        label: answer_label,
+        find: edit::find_edit,
     },
     Operation {
         name: "laws",
         possible: &[0, 1, 2, 3, 4],
         label: |number| reference::laws::SAID[number].to_string(),
         find: laws::find,
+    },
+    Operation {
+        name: "edit_laws",
+        possible: &[0, 1, 2, 3, 4, 5],
+        label: |number| reference::laws::edits::SAID[number].to_string(),
+        find: edit::find_laws,
     },
     Operation {
         name: "loose_laws",

@@ -96,7 +96,7 @@ pub fn import(language: &[u8], root: u32, text: &[u8], output: usize) -> Option<
     xml::check_import(language, root, text, output).err()
 }
 
-/// Looks for a fault of a language, a root, a tree and a path.
-pub fn block(language: &[u8], root: u32, tree: &[u8], path: &[u8]) -> Option<Fault> {
-    block::check(language, root, tree, path).err()
+/// Looks for a fault of a language, a root, a tree, its index and a path.
+pub fn block(language: &[u8], root: u32, tree: &[u8], index: &[u8], path: &[u8]) -> Option<Fault> {
+    block::check(language, root, tree, index, path).err()
 }

@@ -1,11 +1,10 @@
 //! Lookups of blocks: paths that lead to a block at any level, and paths that go wrong at some
 //! place.
 
-use super::long_trees::long_tree_case;
+use super::indexes::{index_for, indexed_tree_case, is_legal};
 use super::random::Random;
-use super::trees::{tree_case, TreeCase};
+use super::trees::TreeCase;
 use crate::block::Place;
-use crate::check_tree;
 use crate::grammar::Grammar;
 use crate::language::read_language;
 
@@ -15,11 +14,9 @@ pub struct BlockCase {
     pub language: Vec<u8>,
     pub root: u32,
     pub tree: Vec<u8>,
+    pub index: Vec<u8>,
     pub path: Vec<u8>,
 }
-
-/// One lookup in so many is in a long tree.
-const CASES_FOR_A_LONG_ONE: usize = 300;
 
 /// A path in a legal tree, and how many arguments there are at its end.
 struct Walk {
@@ -86,26 +83,25 @@ fn damage_path(random: &mut Random, walk: &mut Walk) {
     }
 }
 
-/// A path for a legal tree; it is wrong in some cases.
-fn path_in(random: &mut Random, case: &TreeCase) -> Vec<u8> {
+/// A path for a legal tree, which is wrong in so many of a hundred cases.
+pub fn path_in(random: &mut Random, case: &TreeCase, wrong: usize) -> Vec<u8> {
     let language = read_language(&case.language).expect("an accepted language");
     let (grammar, on) = (Grammar::new(&language), random.pick(&[50, 85, 98, 100]));
     let mut walk = walk(random, &grammar, case.root as u8, &case.tree, on);
-    if random.percent(30) {
+    if random.percent(wrong) {
         damage_path(random, &mut walk);
     }
     walk.path
 }
 
-/// A language, a root, a tree and a path.
+/// A language, a root, a tree with an index, and a path.
 pub fn block_case(random: &mut Random) -> BlockCase {
-    let long = random.below(CASES_FOR_A_LONG_ONE) == 0;
-    let case = if long { long_tree_case(random) } else { tree_case(random) };
-    let legal = check_tree(&case.language, case.root, &case.tree).number() == 0;
-    let path = match legal {
-        true => path_in(random, &case),
+    let case = indexed_tree_case(random);
+    let path = match is_legal(&case) {
+        true => path_in(random, &case, 30),
         false => (0..random.below(4)).map(|_| random.within(0..=3) as u8).collect(),
     };
+    let index = index_for(random, &case, 15);
     let TreeCase { language, root, tree } = case;
-    BlockCase { language, root, tree, path }
+    BlockCase { language, root, tree, index, path }
 }

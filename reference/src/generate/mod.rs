@@ -3,7 +3,10 @@
 mod blocks;
 mod codes;
 mod damage;
+mod edits;
+mod exact;
 mod heights;
+mod indexes;
 mod languages;
 mod lengths;
 mod long;
@@ -21,6 +24,8 @@ mod trees;
 mod written;
 
 pub use blocks::{block_case, BlockCase};
+pub use edits::{edit_case, EditCase};
+pub use indexes::{index_bytes, index_case, IndexCase};
 pub use languages::language_file;
 pub use long::{long_run_case, LongRunCase, LONG_TREE};
 pub use long_trees::long_tree_case;

@@ -65,7 +65,9 @@ pub fn full_with_steps(random: &mut Random, bytes: usize, steps: usize) -> (Lang
 mod tests {
     use super::*;
     use crate::call::Call;
-    use crate::generate::{block_case, export_case, import_case, join_table_case, loose_case};
+    use crate::generate::{
+        block_case, edit_case, export_case, import_case, index_case, join_table_case, loose_case,
+    };
     use crate::generate::{reduce_case, run_case, score_case, translation_file, tree_case};
     use crate::pack::PACK_LIMIT;
     use crate::translation::TRANSLATION_LIMIT;
@@ -83,7 +85,9 @@ mod tests {
             Call::JoinTable(case) => write_steps_within(random, &mut case.translation),
             Call::Export(case) => write_steps(random, 80, &mut case.language),
             Call::Import(case) => write_steps(random, 80, &mut case.language),
+            Call::Index(case) => write_steps(random, 80, &mut case.language),
             Call::Block(case) => write_steps(random, 80, &mut case.language),
+            Call::Edit(case) => write_steps(random, 80, &mut case.language),
         }
     }
 
@@ -119,7 +123,7 @@ mod tests {
 
     #[test]
     fn written_steps_of_1_change_no_answer() {
-        let makers: [fn(&mut Random) -> Call; 10] = [
+        let makers: [fn(&mut Random) -> Call; 12] = [
             |random| Call::CheckTree(tree_case(random)),
             |random| Call::CheckTranslation(translation_file(random)),
             |random| Call::Run(run_case(random)),
@@ -129,7 +133,9 @@ mod tests {
             |random| Call::JoinTable(join_table_case(random)),
             |random| Call::Export(export_case(random)),
             |random| Call::Import(import_case(random)),
+            |random| Call::Index(index_case(random)),
             |random| Call::Block(block_case(random)),
+            |random| Call::Edit(edit_case(random)),
         ];
         for make in makers {
             let changed = compare(5000, make);

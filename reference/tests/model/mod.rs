@@ -94,6 +94,29 @@ impl Tree {
     }
 }
 
+/// Appends the nodes of a tree that starts at a place, in reading order: where each starts and ends;
+/// gives the end of the tree.
+fn put_spans(tree: &Tree, start: usize, list: &mut Vec<(usize, usize)>) -> usize {
+    let place = list.len();
+    list.push((start, start));
+    let end = match tree {
+        Tree::Token { .. } => start + 2,
+        Tree::Production { arguments, .. } => {
+            arguments.iter().fold(start + 1, |place, tree| put_spans(tree, place, list))
+        }
+    };
+    list[place].1 = end;
+    end
+}
+
+/// The index of a tree by its definition.
+pub fn own_index(tree: &Tree) -> Vec<u8> {
+    let mut spans = Vec::new();
+    put_spans(tree, 0, &mut spans);
+    let numbers = spans.into_iter().flat_map(|(start, end)| [start, end - start]);
+    numbers.flat_map(|number| (number as u16).to_be_bytes()).collect()
+}
+
 /// A decoded code; arguments are numbered from 1.
 #[derive(Clone, Debug, PartialEq, Eq)]
 pub enum Code {

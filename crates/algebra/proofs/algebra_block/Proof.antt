@@ -8,7 +8,7 @@ use Rattle.algebra.proofs.hand_over.Reads as hand-over-reads
 use Rattle.block.proofs.show.place.Reads as place-reads
 
 returns : tie.Need-returns
-returns c = tells _ _ _ _ _ (c .before .before .place .ensures) _ _ (c .hand-over .ensures .0) (c .hand-over .ensures .1)
+returns c = tells _ _ _ _ _ _ (c .before .before .place .ensures) _ _ (c .hand-over .ensures .0) (c .hand-over .ensures .1)
 
 pub algebra-block-spec : {M : Type 1} → statement M
 algebra-block-spec =

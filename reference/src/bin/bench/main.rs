@@ -80,8 +80,13 @@ fn trees() -> [Vec<u8>; 3] {
 
 /// Prints the time for a byte at 8 MB over that at 100 KB, for both sides.
 fn print_growth(name: &str, growth: Growth) {
+    print_growth_of(name, "8 MB over 100 KB", growth);
+}
+
+/// Prints the time for a byte at one size over that at another, for both sides.
+fn print_growth_of(name: &str, sizes: &str, growth: Growth) {
     println!(
-        "{name}: ns/byte at 8 MB over 100 KB: library {:.2}, reference {:.2}",
+        "{name}: ns/byte at {sizes}: library {:.2}, reference {:.2}",
         growth.library, growth.reference
     );
 }

@@ -16,8 +16,9 @@ struct Figures {
 /// Compares one lookup: number, start, length and kind.
 pub fn find(random: &mut Random) -> Finding {
     let case = block_case(random);
-    let expected = reference::block(&case.language, case.root, &case.tree, &case.path);
-    let found = library::block(&case.language, case.root, &case.tree, &case.path);
+    let (language, tree, index) = (&case.language, &case.tree, &case.index);
+    let expected = reference::block(language, case.root, tree, index, &case.path);
+    let found = library::block(language, case.root, tree, index, &case.path);
     let figures = |start, length, kind| Figures { start, length, kind };
     let library = (found.number, figures(found.start, found.length, found.kind));
     let (number, length) = (expected.outcome.number(), expected.outcome.length());
@@ -26,6 +27,7 @@ pub fn find(random: &mut Random) -> Finding {
         ("language", Input::Bytes(case.language)),
         ("root", Input::Number(u64::from(case.root))),
         ("tree", Input::Bytes(case.tree)),
+        ("index", Input::Bytes(case.index)),
         ("path", Input::Bytes(case.path)),
     ];
     finding(library, reference, inputs)

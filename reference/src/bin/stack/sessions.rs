@@ -1,14 +1,15 @@
-//! Cases of operations on one tree: scores of fixed and loose plans, exports, imports of texts, and lookups of blocks; and
-//! joins of load tables.
+//! Cases of operations on one tree: scores of fixed and loose plans, exports, imports of texts,
+//! indexes, lookups of blocks and edits; and joins of load tables.
 
 use crate::shapes::{Shape, TREE_LEVELS};
 use crate::{random_cases, translation_cases, tree_cases, Case, LONG_CASES, RANDOM_CASES};
 use reference::call::Call;
 use reference::check_translation;
 use reference::generate::{
-    block_case, doubled, export_case, import_case, join_table_case, lenient_text, long_tree_case,
-    loose_case, score_case, unit_table, unit_target_table, BlockCase, ExportCase, ImportCase,
-    JoinTableCase, Random, ScoreCase, TreeCase,
+    block_case, doubled, edit_case, export_case, import_case, index_bytes, index_case,
+    join_table_case, lenient_text, long_tree_case, loose_case, score_case, unit_table,
+    unit_target_table, BlockCase, EditCase, ExportCase, ImportCase, IndexCase, JoinTableCase,
+    Random, ScoreCase, TreeCase,
 };
 
 /// No joined table is longer.
@@ -59,16 +60,33 @@ fn imported(case: TreeCase) -> Call {
     Call::Import(ImportCase { language, root, text, output: tree.len() })
 }
 
-/// A lookup of a block down to the last level, if the deep argument is the same at each.
-fn deep_block(shape: &Shape, case: TreeCase) -> Call {
-    let TreeCase { language, root, tree } = case;
-    Call::Block(BlockCase { language, root, tree, path: vec![shape.used; TREE_LEVELS - 1] })
+/// A path down to the last level, if the deep argument is the same at each.
+fn deep_path(shape: &Shape) -> Vec<u8> {
+    vec![shape.used; TREE_LEVELS - 1]
 }
 
-/// A lookup of the whole of a tree.
-fn whole_block(case: TreeCase) -> Call {
+/// The index of a tree, with an output that is long enough.
+fn indexed(case: TreeCase) -> Call {
     let TreeCase { language, root, tree } = case;
-    Call::Block(BlockCase { language, root, tree, path: vec![] })
+    let output = 4 * tree.len();
+    Call::Index(IndexCase { language, root, tree, output })
+}
+
+/// A lookup of the block of a tree at a path.
+fn block_at(case: TreeCase, path: Vec<u8>) -> Call {
+    let index = index_bytes(&case);
+    let TreeCase { language, root, tree } = case;
+    Call::Block(BlockCase { language, root, tree, index, path })
+}
+
+/// An edit that puts the whole tree in the place of its root or, one level too deep for most,
+/// in the place of the block at a path.
+fn edited(case: TreeCase, path: Vec<u8>) -> Call {
+    let index = index_bytes(&case);
+    let TreeCase { language, root, tree } = case;
+    let (block, plan) = (tree.clone(), 2 * tree.len());
+    let plan_index = 4 * plan;
+    Call::Edit(EditCase { language, root, tree, index, path, block, plan, plan_index })
 }
 
 /// Cases of one operation: on built trees, random ones, and ones on long trees.
@@ -81,6 +99,18 @@ fn cases_of(
     let random = random_cases(seed, RANDOM_CASES, "random", random);
     let long = random_cases(seed, LONG_CASES, "long tree", long);
     tree_cases(built).into_iter().chain(random).chain(long).collect()
+}
+
+/// Edits at the root and at the last level, random ones, and ones of long trees.
+fn edit_cases(seed: u64) -> Vec<Case> {
+    let deep = tree_cases(|shape, case| edited(case, deep_path(shape)));
+    let whole = cases_of(
+        seed,
+        |_, case| edited(case, vec![]),
+        |random| Call::Edit(edit_case(random)),
+        |random| edited(long_tree_case(random), vec![]),
+    );
+    deep.into_iter().chain(whole).collect()
 }
 
 /// All cases of each operation.
@@ -109,11 +139,17 @@ pub fn cases(seed: u64) -> Vec<Vec<Case>> {
         |random| Call::Import(import_case(random)),
         |random| imported(long_tree_case(random)),
     );
+    let index = cases_of(
+        seed,
+        |_, case| indexed(case),
+        |random| Call::Index(index_case(random)),
+        |random| indexed(long_tree_case(random)),
+    );
     let block = cases_of(
         seed,
-        deep_block,
+        |shape, case| block_at(case, deep_path(shape)),
         |random| Call::Block(block_case(random)),
-        |random| whole_block(long_tree_case(random)),
+        |random| block_at(long_tree_case(random), vec![]),
     );
-    vec![score, loose, join_cases(seed), export, import, block]
+    vec![score, loose, join_cases(seed), export, import, index, block, edit_cases(seed)]
 }

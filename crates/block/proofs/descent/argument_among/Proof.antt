@@ -1,40 +1,58 @@
-use Rattle.block.proofs.Steps.{Walking, walk-done, walk-turn, walk-here, walk-next}
-use Prim.Native.Nat.{_-_, _<_, _≤_}
+use Prim.Native.Nat.{ℕ, _-_, _<_, _≤_}
 use mathlib.Core.Path.{refl}
+use mathlib.Core.List.{List}
 use native.Mathlib.Omega.{arith}
+use borrow.Author.Needs.{needs}
 use Rattle.language.specs.Language.{Language}
 use Rattle.reader.specs.Code.{Codes}
-use Rattle.block.specs.Inner.Lying.{Row}
-use borrow.Author.Needs.{needs}
+use Rattle.block.specs.Inner.Descent.{AlongRow}
+use Rattle.block.proofs.Steps.{Walking, walk-done, walk-here, walk-inside, walk-entry, size-read, walk-splits, walk-on}
 use Rattle.block.proofs.descent.argument_among.Statement.{statement}
 use Rattle.block.proofs.descent.argument_among.Tie as tie
 use Rattle.block.proofs.descent.argument_among.Reads as reads
 use Rattle.block.proofs.descent.argument_among.Lts as lts
-use Rattle.block.proofs.descent.end_of.Reads as end-of-reads
+use Rattle.fields.proofs.bytes.pair_in.Reads as pair-in-reads
+use Rattle.index.proofs.entries.entry_from.Reads as entry-from-reads
 
 abbrev Inv-loop : tie.InvT-loop
-Inv-loop language index first last tree at number q₀ to₀ left₀ q to left = (0 < left) × (first ≤ q) × ((l : Language) (ts : Codes) → Row index language tree at first last l ts → Walking index language tree first last at number q to left l ts)
+Inv-loop language first last index at entry number q₀ to₀ p₀ left₀ q to p left =
+    (0 < left) × (first ≤ q) × ((x b : List ℕ) (l : Language) (ts : Codes) → AlongRow x language b index at entry first last l ts → Walking x language b index first last at number q to p left l ts)
 
 abbrev μ-loop : tie.MeasureT-loop
-μ-loop language index first last tree at number q₀ to₀ left₀ q to left = last - q
+μ-loop language first last index at entry number q₀ to₀ p₀ left₀ q to p left = last - q
 
 loop-holds : tie.Need-loop-holds Inv-loop μ-loop
-loop-holds c = (c .before .before .before .pre .0, omega arith, λ l ts h. record { others = ts; row = h; same = refl })
+loop-holds c = (c .before .before .pre .0, omega arith, λ x b l ts h. record { others = ts; row = h; same = refl })
 
-shared-slice-read-kind : tie.Need-shared-slice-read-kind Inv-loop μ-loop
-shared-slice-read-kind c = c .before .before .before .before .before .before .pre .1 _ (c .before .before .loop .inv .1) (c .before .loop-test .taken) .0
+shared-slice-read-t14 : tie.Need-shared-slice-read-t14 Inv-loop μ-loop
+shared-slice-read-t14 c = c .before .before .before .before .before .before .pre .1 _ (c .before .before .before .loop .inv .1) (c .before .before .loop-test .taken) .0
 
 returns : tie.Need-returns Inv-loop μ-loop
-returns c = λ l ts h. walk-here _ _ _ _ _ _ _ _ _ _ l ts (c .before .before .before .loop .inv .2 l ts h) (c .before .before .before .before .before .before .before .pre .1) (c .before .before .before .loop .inv .1) (c .before .before .loop-test .taken) (c .if1 .taken)
+returns c = λ x b l ts h. walk-here _ _ _ _ _ _ _ _ _ _ _ _ l ts (c .before .before .before .loop .inv .2 x b l ts h) (c .before .before .before .before .before .before .pre .1) (c .before .before .before .loop .inv .1) (c .before .before .loop-test .taken) (c .before .if1 .taken)
 
-end-of-requires : tie.Need-end-of-requires Inv-loop μ-loop
-end-of-requires c κs = let p = c .before .before .before .before .before .before .before .pre .2 in let w = walk-turn _ _ _ _ _ _ _ _ _ _ (p .0) (p .1) (c .before .before .before .loop .inv .2 (p .0) (p .1) (p .2)) (c .before .before .before .before .before .before .before .pre .1) (c .before .before .before .loop .inv .1) (c .before .before .loop-test .taken) in (p .0, w .head, w .there)
+add-pair-in : tie.Need-add-pair-in Inv-loop μ-loop
+add-pair-in c = let y = walk-entry _ _ _ _ _ _ _ _ _ _ _ _ (c .before .before .before .before .before .pre .2 .2) (c .before .before .before .before .before .pre .2 .3) (c .before .before .loop .inv .2 (c .before .before .before .before .before .pre .2 .0) (c .before .before .before .before .before .pre .2 .1) (c .before .before .before .before .before .pre .2 .2) (c .before .before .before .before .before .pre .2 .3) (c .before .before .before .before .before .pre .2 .4)) (c .before .before .before .before .before .pre .1) (c .before .before .loop .inv .1) (c .before .loop-test .taken) .1 .inside in omega (arith, y)
+
+pair-in-requires : tie.Need-pair-in-requires Inv-loop μ-loop
+pair-in-requires c κs = let y = walk-entry _ _ _ _ _ _ _ _ _ _ _ _ (c .before .before .before .before .before .pre .2 .2) (c .before .before .before .before .before .pre .2 .3) (c .before .before .loop .inv .2 (c .before .before .before .before .before .pre .2 .0) (c .before .before .before .before .before .pre .2 .1) (c .before .before .before .before .before .pre .2 .2) (c .before .before .before .before .before .pre .2 .3) (c .before .before .before .before .before .pre .2 .4)) (c .before .before .before .before .before .pre .1) (c .before .before .loop .inv .1) (c .before .loop-test .taken) .1 .inside in omega (arith, y)
+
+add-to : tie.Need-add-to Inv-loop μ-loop
+add-to c = let y = walk-inside _ _ _ _ _ _ _ _ _ _ _ _ (c .before .before .before .before .before .before .pre .2 .2) (c .before .before .before .before .before .before .pre .2 .3) (c .before .before .before .loop .inv .2 (c .before .before .before .before .before .before .pre .2 .0) (c .before .before .before .before .before .before .pre .2 .1) (c .before .before .before .before .before .before .pre .2 .2) (c .before .before .before .before .before .before .pre .2 .3) (c .before .before .before .before .before .before .pre .2 .4)) (c .before .before .before .before .before .before .pre .1) (c .before .before .before .loop .inv .1) (c .before .before .loop-test .taken) in let z = size-read _ _ _ _ _ _ _ _ _ _ _ _ (c .before .before .before .before .before .before .pre .2 .2) (c .before .before .before .before .before .before .pre .2 .3) (c .before .before .before .loop .inv .2 (c .before .before .before .before .before .before .pre .2 .0) (c .before .before .before .before .before .before .pre .2 .1) (c .before .before .before .before .before .before .pre .2 .2) (c .before .before .before .before .before .before .pre .2 .3) (c .before .before .before .before .before .before .pre .2 .4)) (c .before .before .before .before .before .before .pre .1) (c .before .before .before .loop .inv .1) (c .before .before .loop-test .taken) _ (c .pair-in .ensures .0) in omega (arith, y, z)
+
+entry-from-requires : tie.Need-entry-from-requires Inv-loop μ-loop
+entry-from-requires c κs = let y = walk-entry _ _ _ _ _ _ _ _ _ _ _ _ (c .before .before .before .before .before .before .pre .2 .2) (c .before .before .before .before .before .before .pre .2 .3) (c .before .before .before .loop .inv .2 (c .before .before .before .before .before .before .pre .2 .0) (c .before .before .before .before .before .before .pre .2 .1) (c .before .before .before .before .before .before .pre .2 .2) (c .before .before .before .before .before .before .pre .2 .3) (c .before .before .before .before .before .before .pre .2 .4)) (c .before .before .before .before .before .before .pre .1) (c .before .before .before .loop .inv .1) (c .before .before .loop-test .taken) .1 .inside in omega (arith, y)
+
+sub-left : tie.Need-sub-left Inv-loop μ-loop
+sub-left c = omega (arith, c .before .before .before .before .loop .inv .0)
+
+add-q : tie.Need-add-q Inv-loop μ-loop
+add-q c = let y = c .before .before .before .before .before .before .before .pre .1 _ (c .before .before .before .before .loop .inv .1) (c .before .before .before .loop-test .taken) .0 in search needs
 
 loop-again : tie.Need-loop-again Inv-loop μ-loop
-loop-again c = (omega (arith, c .before .before .before .before .loop .inv .0, c .before .if1 .left), omega (arith, c .before .before .before .before .loop .inv .1), λ l ts h. let w = c .before .before .before .before .loop .inv .2 l ts h in walk-next _ _ _ _ _ _ _ _ _ _ l ts w (c .before .before .before .before .before .before .before .before .pre .1) (c .before .before .before .before .loop .inv .1) (c .before .before .before .loop-test .taken) (c .before .if1 .left) (c .before .before .before .before .loop .inv .0) _ (c .end-of .ensures l _ (walk-turn _ _ _ _ _ _ _ _ _ _ l ts w (c .before .before .before .before .before .before .before .before .pre .1) (c .before .before .before .before .loop .inv .1) (c .before .before .before .loop-test .taken) .there)))
+loop-again c = (omega (arith, c .before .before .before .before .loop .inv .0, c .before .before .if1 .left), omega (arith, c .before .before .before .before .loop .inv .1), λ x b l ts h. let w = (c .before .before .before .before .loop .inv .2 x b l ts h) in walk-on _ _ _ _ _ _ _ _ _ _ _ _ l ts w (c .before .before .before .before .before .before .before .pre .1) (c .before .before .before .before .loop .inv .1) (c .before .before .before .loop-test .taken) _ (c .before .pair-in .ensures .0) (c .before .before .if1 .left) (c .before .before .before .before .loop .inv .0) _ (c .entry-from .ensures _ _ (walk-splits _ _ _ _ _ _ _ _ _ _ _ _ l ts w (c .before .before .before .before .before .before .before .pre .1) (c .before .before .before .before .loop .inv .1) (c .before .before .before .loop-test .taken) _ (c .before .pair-in .ensures .0))))
 
 returns-2 : tie.Need-returns-2 Inv-loop μ-loop
-returns-2 c = λ l ts h. walk-done _ _ _ _ _ _ _ _ _ _ l ts (c .before .loop .inv .2 l ts h) (c .loop-test .left)
+returns-2 c = λ x b l ts h. walk-done _ _ _ _ _ _ _ _ _ _ _ _ l ts (c .before .loop .inv .2 x b l ts h) (c .loop-test .left)
 
 pub argument-among-spec : {M : Type 1} → statement M
 argument-among-spec =
@@ -43,11 +61,14 @@ argument-among-spec =
     Inv-loop
     μ-loop
     loop-holds
-    shared-slice-read-kind
+    shared-slice-read-t14
     returns
-    end-of-requires
-    (λ c. search needs)
-    (λ c. search needs)
+    add-pair-in
+    pair-in-requires
+    add-to
+    entry-from-requires
+    sub-left
+    add-q
     (λ c. search needs)
     loop-again
     returns-2)

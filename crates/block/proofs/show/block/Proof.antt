@@ -1,5 +1,5 @@
-use Rattle.block.proofs.Answers.{hands}
 use mathlib.Core.Path.{refl}
+use Rattle.block.proofs.Answers.{hands}
 use borrow.Author.Needs.{needs}
 use Rattle.block.proofs.show.block.Statement.{statement}
 use Rattle.block.proofs.show.block.Tie as tie

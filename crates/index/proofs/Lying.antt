@@ -1,21 +1,20 @@
--- Trees that lie in bytes: what lies behind them, their arguments, and the block at a path.
-use Prim.Native.Nat.{ℕ, zero, suc, _+_, _-_, _<_, _≤_}
-use mathlib.Core.Path.{_≡_, refl, sym, ap, _∙_}
+-- Trees that lie in bytes: what lies behind them, and their operands.
+use Prim.Native.Nat.{ℕ, suc, _+_, _-_, _<_, _≤_}
+use mathlib.Core.Path.{_≡_, sym, ap, _∙_}
 use mathlib.Core.List.{List, [], _∷_, _++_, append-assoc}
-use mathlib.Core.Option.{Option, none, some, Option·getD}
+use mathlib.Core.Option.{some}
 use native.Mathlib.Omega.{arith}
 use lib.ListN.{length, getD, take, drop, length-append, length-drop}
 use lib.Seq.{drop-drop, drop-append-seam, take-append-seam}
-use Rattle.fields.proofs.Truth.{mem-all, none-some, some-inj}
+use Rattle.fields.proofs.Truth.{mem-all}
 use Rattle.fields.proofs.Lists.{all-true}
 use Rattle.fields.proofs.Split.{front}
 use Rattle.language.specs.Language.{Language, isIn, argumentsOf}
 use Rattle.language.proofs.Lookup.{arguments-mem, argument-in}
-use Rattle.reader.specs.Code.{Code, node, Codes, nil, cons, levels}
-use Rattle.reader.specs.Typing.{Typed, TypedAll, typed-node, typed-token, typed-argument, typed-cons}
+use Rattle.reader.specs.Code.{Code, node, Codes, cons, levels}
+use Rattle.reader.specs.Typing.{Typed, TypedAll, typed-cons}
 use Rattle.reader.specs.Syntax.{write, writeAll, tree}
-use Rattle.block.specs.Blocks.{Block, argumentAfter, argumentOf, blockAt}
-use Rattle.block.specs.Inner.Lying.{Lies, LieAll}
+use Rattle.index.specs.Inner.Lying.{Lies, LieAll}
 
 -- What lies behind bytes that lie somewhere.
 module _ (b : List ℕ) (at : ℕ) (v r : List ℕ) (inside : at ≤ length b) (is : drop at b ≡ v ++ r) where
@@ -95,37 +94,3 @@ module _ (l : Language) (b : List ℕ) (at k : ℕ) (ks : List ℕ) (t : Code) (
         within = omega arith;
         known = all-true (isIn l) k ks (h .known) .1;
       }
-
--- A block that is an argument lies in the bytes.
-module _ (l : Language) (b : List ℕ) (c : Block) where
-  after-lies : (ks : List ℕ) (ts : Codes) (n at : ℕ) → LieAll l b at ks ts → argumentAfter ks ts n at ≡ some c → Lies l b (c .start) (c .kind) (c .subtree)
-  unfolding argumentAfter
-  after-lies [] ts n at h e = none-some e
-  after-lies (k ∷ ks) nil n at h e = none-some e
-  after-lies (k ∷ ks) (cons t ts) zero at h e = rw (← (some-inj e)) (head-lies l b at k ks t ts h)
-  after-lies (k ∷ ks) (cons t ts) (suc n) at h e = after-lies ks ts n (at + length (write tree t)) (tail-lie l b at k ks t ts h) e
-
-  typed-lies : (at k : ℕ) (t : Code) (i : ℕ) → Typed l [] t k → Lies l b at k t → argumentOf l at t i ≡ some c → Lies l b (c .start) (c .kind) (c .subtree)
-  unfolding argumentOf
-  typed-lies at k t zero (typed-node e w) h q = none-some q
-  typed-lies at k t (suc n) (typed-node {p = p} {t = ts} {ks = ks} e w) h q =
-      after-lies ks ts n (at + 1) (node-lies l b at k p ts h ks e w)
-      (sym (ap (λ (o : Option (List ℕ)). argumentAfter (Option·getD o []) ts n (at + 1)) e) ∙ q)
-  typed-lies at k t i (typed-token e w) h q = none-some q
-  typed-lies at k t i (typed-argument e) h q = none-some q
-
-  pub argument-lies : (at k : ℕ) (t : Code) (i : ℕ) → Lies l b at k t → argumentOf l at t i ≡ some c → Lies l b (c .start) (c .kind) (c .subtree)
-  argument-lies at k t i h q = typed-lies at k t i (h .typed) h q
-
--- So does the block at a path.
-pub path-lies : (l : Language) (b : List ℕ) (c : Block) (path : List ℕ) (a : Block) → Lies l b (a .start) (a .kind) (a .subtree) → blockAt l path a ≡ some c
-    → Lies l b (c .start) (c .kind) (c .subtree)
-unfolding blockAt
-path-lies l b c [] a h e = rw (← (some-inj e)) h
-path-lies l b c (i ∷ path) a h e =
-    go (argumentOf l (a .start) (a .subtree) i) (λ d q f. path-lies l b c path d (argument-lies l b d (a .start) (a .kind) (a .subtree) i h q) f) e
-  where
-    go : (o : Option Block) → ((d : Block) → o ≡ some d → blockAt l path d ≡ some c → Lies l b (c .start) (c .kind) (c .subtree))
-        → elim o [ none ↦ none | some d ↦ blockAt l path d ] ≡ some c → Lies l b (c .start) (c .kind) (c .subtree)
-    go none g f = none-some f
-    go (some d) g f = g d refl f

@@ -1,0 +1,155 @@
+//! Where an index, a path or an edit is at fault.
+
+use crate::explanation::Finding;
+use crate::grammar::{two_bytes, Grammar};
+use crate::reading::{arguments, path_to, place_name, Node, Reader};
+use algebra::{Refusal, ENTRY_BYTES, INDEXED_BYTES, TREE_LEVELS};
+use reference::explain;
+
+/// A tree with its index, if one is given.
+pub struct Indexed<'a> {
+    pub language: &'a [u8],
+    pub root: u32,
+    pub tree: &'a [u8],
+    pub index: Option<&'a [u8]>,
+}
+
+/// A tree that was read: its grammar, and its nodes in reading order.
+struct Read {
+    grammar: Grammar,
+    nodes: Vec<Node>,
+}
+
+impl Indexed<'_> {
+    /// Looks for a fault of a tree, and of the length of an output for its index.
+    pub fn index_fault(&self, output: usize) -> Option<Finding> {
+        let read = self.read();
+        read.and_then(|read| fits("index", ENTRY_BYTES * read.nodes.len(), output)).err()
+    }
+
+    /// Looks for a fault of a tree, its index and a path.
+    pub fn block_fault(&self, path: &[u8]) -> Option<Finding> {
+        self.read().and_then(|read| self.find(&read, path)).err()
+    }
+
+    /// Looks for a fault of an edit, with outputs of so many bytes each.
+    pub fn edit_fault(&self, path: &[u8], block: &[u8], output: usize) -> Option<Finding> {
+        self.check_edit(path, block, output).err()
+    }
+
+    /// The tests of an edit in order.
+    fn check_edit(&self, path: &[u8], block: &[u8], output: usize) -> Result<(), Finding> {
+        let read = self.read()?;
+        let old = &read.nodes[self.find(&read, path)?];
+        let reader = Reader { grammar: &read.grammar, input: "block", bytes: block, values: 1 };
+        let new = reader.nodes(old.kind, TREE_LEVELS - path.len())?;
+        let length = self.tree.len() - old.length + block.len();
+        check_length("new plan", length)?;
+        fits("plan", length, output)?;
+        let inside = old.start..old.start + old.length;
+        let outside = read.nodes.iter().filter(|node| !inside.contains(&node.start));
+        fits("index", ENTRY_BYTES * (outside.count() + new.len()), output)
+    }
+
+    /// Reads the tree, which must be legal and short enough, and compares its index.
+    fn read(&self) -> Result<Read, Finding> {
+        if let Some(fault) = explain::tree(self.language, self.root, self.tree) {
+            return Err(fault.into());
+        }
+        check_length("tree", self.tree.len())?;
+        let grammar = Grammar::new(self.language);
+        let reader = Reader { grammar: &grammar, input: "tree", bytes: self.tree, values: 1 };
+        let nodes = reader.nodes(self.root as u8, TREE_LEVELS)?;
+        if let Some(index) = self.index {
+            check_index(&nodes, index)?;
+        }
+        Ok(Read { grammar, nodes })
+    }
+
+    /// The place of the node to which a path leads.
+    fn find(&self, read: &Read, path: &[u8]) -> Result<usize, Finding> {
+        let mut place = 0;
+        for (at, &number) in path.iter().enumerate() {
+            let all = arguments(&read.nodes, place);
+            let next = usize::from(number).checked_sub(1).and_then(|number| all.get(number));
+            place = *next.ok_or_else(|| self.no_block(read, place, path, at, all.len()))?;
+        }
+        Ok(place)
+    }
+
+    /// The fault of the path number at a place: the node that has so many arguments and not this.
+    fn no_block(&self, read: &Read, node: usize, path: &[u8], at: usize, count: usize) -> Finding {
+        let (Node { kind, start, .. }, number) = (&read.nodes[node], path[at]);
+        let what = match (read.grammar.class(*kind), number) {
+            (_, 0) => "the number is 0, and arguments count from 1".to_string(),
+            (Some(_), _) => format!("a token of class {kind} has no argument {number}"),
+            (None, _) => {
+                let name = self.tree[*start];
+                format!("production {kind}.{name} has no argument {number}: it has {count}")
+            }
+        };
+        let place = format!("byte {at} of the path, {}", behind(&path[..at]));
+        Finding::new(Refusal::NoBlock, &place, &what)
+    }
+}
+
+/// What stands before a number of a path.
+fn behind(path: &[u8]) -> String {
+    let numbers: Vec<String> = path.iter().map(u8::to_string).collect();
+    match path {
+        [] => "at the root".to_string(),
+        _ => format!("behind {}", numbers.join(".")),
+    }
+}
+
+/// A tree of so many bytes must be short enough for an index.
+fn check_length(name: &str, length: usize) -> Result<(), Finding> {
+    if length <= INDEXED_BYTES {
+        return Ok(());
+    }
+    let what = format!("it has {length} bytes, more than {INDEXED_BYTES}");
+    Err(Finding::new(Refusal::NotIndexed, &format!("the {name}"), &what))
+}
+
+/// A result of so many bytes must fit the output.
+fn fits(name: &str, length: usize, output: usize) -> Result<(), Finding> {
+    if length <= output {
+        return Ok(());
+    }
+    let what = format!("its length is {output}, and that of the {name} {length}");
+    Err(Finding::new(Refusal::OutputTooShort, "the output", &what))
+}
+
+/// Compares an index with the nodes of its tree, entry by entry.
+fn check_index(nodes: &[Node], index: &[u8]) -> Result<(), Finding> {
+    let entries = index.chunks(ENTRY_BYTES);
+    let wrong = entries.zip(nodes).position(|(entry, node)| {
+        entry.len() < ENTRY_BYTES
+            || usize::from(two_bytes(entry[0], entry[1])) != node.start
+            || usize::from(two_bytes(entry[2], entry[3])) != node.length
+    });
+    if let Some(entry) = wrong {
+        return Err(wrong_entry(nodes, index, entry));
+    }
+    let own = ENTRY_BYTES * nodes.len();
+    if index.len() == own {
+        return Ok(());
+    }
+    let place = format!("byte {} of the index", index.len().min(own));
+    let what = format!("it has {} bytes, and that of the tree has {own}", index.len());
+    Err(Finding::new(Refusal::NotIndexed, &place, &what))
+}
+
+/// The fault of an entry that is not that of its node.
+fn wrong_entry(nodes: &[Node], index: &[u8], entry: usize) -> Finding {
+    let (at, node) = (ENTRY_BYTES * entry, &nodes[entry]);
+    let place = format!("byte {at} of the index, {}", place_name(&path_to(nodes, entry)));
+    let told = match index[at..] {
+        [a, b, c, d, ..] => {
+            format!("it has start {}, length {}", two_bytes(a, b), two_bytes(c, d))
+        }
+        _ => "the entry is cut off".to_string(),
+    };
+    let what = format!("{told}; the node has start {}, length {}", node.start, node.length);
+    Finding::new(Refusal::NotIndexed, &place, &what)
+}

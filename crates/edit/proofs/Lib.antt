@@ -1,0 +1,4 @@
+pub mod Replacing
+pub mod Entries
+pub mod Planning
+pub mod Sound

@@ -1,0 +1,40 @@
+-- What holds of every edit (paper 02, 2026-08).
+use Prim.Native.Nat.{ℕ, _+_, _<_}
+use mathlib.Core.Path.{_≡_}
+use mathlib.Core.List.{List, _++_}
+use lib.ListN.{length, take, drop}
+use Rattle.fields.specs.Fields.{byteAt}
+use Rattle.fields.specs.Outcome.{value}
+use Rattle.language.specs.Language.{Language}
+use Rattle.language.specs.LanguageFile.{languageOf}
+use Rattle.reader.specs.Code.{Code}
+use Rattle.reader.specs.Syntax.{write, tree}
+use Rattle.index.specs.Spans.{indexOf}
+use Rattle.index.specs.Operations.{indexedTree}
+use Rattle.block.specs.Blocks.{Block, bytesOf}
+use Rattle.block.specs.Operations.{findBlock}
+use Rattle.edit.specs.Operations.{editPlan}
+
+-- A new plan, by the block that stood at the path.
+pub record Edits (language : List ℕ) (root : ℕ) (bytes index path block : List ℕ) (t : Code) : Type 0 where
+  pub old : Block
+  -- The path leads to a block of the old plan.
+  pub there : findBlock language root bytes index path ≡ value old
+  -- The bytes before and after the block are those of the old plan.
+  pub around : write tree t ≡ take (old .start) bytes ++ (block ++ drop (old .start + length (bytesOf old)) bytes)
+  -- The new plan is a legal tree of the root kind, within the levels and not too long, and its index is its own.
+  pub legal : (l : Language) → languageOf language ≡ value l → indexedTree l root (write tree t) (indexOf t) ≡ value t
+  -- On the new plan the path gives the new block, of the same kind and at the same place.
+  pub new : Block
+  pub shown : findBlock language root (write tree t) (indexOf t) path ≡ value new
+  pub same-place : (new .start ≡ old .start) × (new .kind ≡ old .kind)
+  pub is-new : bytesOf new ≡ block
+  -- The block that stood there changes nothing.
+  pub unchanged : block ≡ bytesOf old → (write tree t ≡ bytes) × (indexOf t ≡ index)
+
+-- Every edit that is made is such a one.
+abbrev pub EditsAreSound : Type 0
+EditsAreSound =
+    (language : List ℕ) (root : ℕ) (bytes index path block : List ℕ) (t : Code)
+    → ((i : ℕ) → byteAt bytes i < 256) → ((i : ℕ) → byteAt block i < 256)
+    → editPlan language root bytes index path block ≡ value t → Edits language root bytes index path block t

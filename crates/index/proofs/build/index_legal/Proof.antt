@@ -1,0 +1,28 @@
+use Rattle.index.proofs.Building.{legal-short, legal-put}
+use borrow.Author.Needs.{needs}
+use Rattle.index.proofs.build.index_legal.Statement.{statement}
+use Rattle.index.proofs.build.index_legal.Tie as tie
+use Rattle.index.proofs.build.index_legal.Reads as reads
+use Rattle.index.proofs.build.index_legal.Lts as lts
+use Rattle.fields.proofs.outcome.accept.Reads as accept-reads
+use Rattle.fields.proofs.outcome.refuse.Reads as refuse-reads
+use Rattle.index.proofs.build.write_index.Reads as write-index-reads
+
+returns : tie.Need-returns
+returns c = λ l t h. legal-short t _ _ (c .before .before .before .write-index .ensures l t h .0) (c .before .if1 .taken) _ (c .refuse .ensures)
+
+returns-2 : tie.Need-returns-2
+returns-2 c = λ l t h. legal-put t _ _ (c .before .before .before .before .before .before .before .write-index .ensures l t h .0) (c .before .before .before .before .before .if1 .left) _ _ (c .before .before .before .write-index2 .ensures l t h) _ (c .accept .ensures)
+
+pub index-legal-spec : {M : Type 1} → statement M
+index-legal-spec =
+    tie.close
+    (tie.spec
+    (λ c. search needs)
+    (λ c κs. search needs)
+    (λ c κs. search needs)
+    returns
+    (λ c κs. search needs)
+    (λ c κs. search needs)
+    (λ c. search needs)
+    returns-2)

@@ -1,0 +1,135 @@
+// The operation that builds the index of a tree, and the test of an index that is handed in.
+use crate::walk::Marked;
+use crate::walk::mark_at;
+use checks::trees::check_indexed;
+use fields::outcome::Answer;
+use fields::outcome::Outcome;
+use fields::outcome::Reason;
+use fields::outcome::accept;
+use fields::outcome::refuse;
+use reader::index::INDEX;
+ghost use mathlib.Core.Path.{_≡_};
+ghost use mathlib.Core.Option.{some};
+ghost use Prim.Native.Nat.{ℕ, _+_, _≤_};
+ghost use lib.ListN.{length, getD};
+ghost use Rattle.fields.specs.Lists.{sameNumbers};
+ghost use Rattle.fields.specs.Inner.Writing.{spliced};
+ghost use Rattle.fields.specs.Outcome.{written, outputAfter};
+ghost use Rattle.fields.specs.declared.outcome.Outcome.the-variants.{Accepted};
+ghost use Rattle.language.specs.Language.{Language};
+ghost use Rattle.language.specs.LanguageFile.{entriesOf};
+ghost use Rattle.reader.specs.Code.{Code};
+ghost use Rattle.reader.specs.Inner.Index.{Indexed, indexLength};
+ghost use Rattle.translation.specs.Operations.{fitted};
+ghost use Rattle.index.specs.Spans.{spans, entries, indexOf};
+ghost use Rattle.index.specs.Operations.{longest, indexTree, checkIndexed};
+ghost use Rattle.index.specs.Inner.Lying.{There};
+
+// The most bytes of a tree that has an index.
+pub const LONGEST: usize = 65535;
+
+// Writes the index of the legal tree of a kind, whose start is counted as `base`, behind the first n bytes of an output, where
+// there is room for it, and gives where it ends.
+pub fn write_index(
+    language: &[u8],
+    places: &[u16],
+    kind: u8,
+    tree: &[u8],
+    base: usize,
+    out: &mut [u8],
+    n: usize,
+) -> usize
+    requires { ⌜ (base + length (now tree) ≤ longest) × (n ≤ 400000) × ((l : Language) × (t : Code) × There (now places) (now language) (now tree) 0 kind l t) ⌝ }
+    ensures { λ r. ⌜ ((l : Language) (t : Code) → There (now (places .entry)) (now (language .entry)) (now (tree .entry)) 0 kind l t
+        → (r ≡ n + length (entries (spans base t))) × (r ≤ length (now (out .entry)) → now (out .exit) ≡ spliced (now (out .entry)) n (entries (spans base t)))) ⌝ }
+{
+    match mark_at(language, places, kind, tree, 0, base, false, &[], out, n) {
+        Marked::To(e, m) => m,
+        Marked::Differs => n,
+    }
+}
+
+// Whether an index is the own one of the legal tree of a kind.
+pub fn is_own(language: &[u8], places: &[u16], kind: u8, tree: &[u8], index: &[u8]) -> bool
+    requires { ⌜ (length (now tree) ≤ longest) × ((l : Language) × (t : Code) × There (now places) (now language) (now tree) 0 kind l t) ⌝ }
+    ensures { λ r. ⌜ ((l : Language) (t : Code) → There (now (places .entry)) (now (language .entry)) (now (tree .entry)) 0 kind l t
+        → r ≡ sameNumbers (now (index .entry)) (indexOf t)) ⌝ }
+{
+    let mut nowhere = [0u8; 1];
+    match mark_at(
+        language,
+        places,
+        kind,
+        tree,
+        0,
+        0,
+        true,
+        index,
+        &mut nowhere,
+        0,
+    ) {
+        Marked::To(e, m) => m == index.len(),
+        Marked::Differs => false,
+    }
+}
+
+// The index of a legal tree: 17 where it is longer than the output.
+fn index_legal(language: &[u8], places: &[u16], kind: u8, tree: &[u8], output: &mut [u8]) -> Answer
+    requires { ⌜ (length (now tree) ≤ longest) × ((l : Language) × (t : Code) × There (now places) (now language) (now tree) 0 kind l t) ⌝ }
+    ensures { λ r. ⌜ ((l : Language) (t : Code) → There (now (places .entry)) (now (language .entry)) (now (tree .entry)) 0 kind l t
+        → (r .outcome ≡ written (fitted (length (now (output .entry))) (indexOf t)))
+        × (now (output .exit) ≡ outputAfter (now (output .entry)) (fitted (length (now (output .entry))) (indexOf t)))) ⌝ }
+{
+    let mut nowhere = [0u8; 1];
+    let length = write_index(language, places, kind, tree, 0, &mut nowhere, 0);
+    if output.len() < length {
+        return refuse(Reason::OutputTooShort);
+    }
+    write_index(language, places, kind, tree, 0, output, 0);
+    accept(length)
+}
+
+// Build the index of a tree: 1 to 4 for the language, 14 to 16 for the tree, 22 where it is too long, 17.
+pub fn index(language: &[u8], root: u32, tree: &[u8], output: &mut [u8]) -> Answer
+    ensures { λ r. ⌜ (r .outcome ≡ indexTree (now (language .entry)) root (now (tree .entry)) (now (output .entry)) .outcome)
+        × (now (output .exit) ≡ indexTree (now (language .entry)) root (now (tree .entry)) (now (output .entry)) .output) ⌝ }
+{
+    let mut places = [0u16; INDEX];
+    let answer = check_indexed(language, root, tree, &mut places);
+    let outcome = answer.outcome;
+    if let Outcome::Refused(reason) = outcome {
+        return refuse(reason);
+    }
+    if LONGEST < tree.len() {
+        return refuse(Reason::NotIndexed);
+    }
+    index_legal(language, &places, root as u8, tree, output)
+}
+
+// Check a tree and the index that stands beside it: 1 to 4 for the language, 14 to 16 for the tree, 22 where it is too long
+// or the index is not its own. Where they are accepted, the language's index was built in an index that was all zero.
+pub fn check_own(
+    language: &[u8],
+    root: u32,
+    tree: &[u8],
+    index: &[u8],
+    places: &mut [u16],
+) -> Answer
+    requires { ⌜ (length (now places) ≡ indexLength) × ((j : ℕ) → getD (now places) j 0 ≡ 0) ⌝ }
+    ensures { λ r. ⌜ (r .outcome ≡ checkIndexed (now (language .entry)) root (now (tree .entry)) (now (index .entry)))
+        × ((n : ℕ) (l : Language) → r .outcome ≡ Accepted n → entriesOf (now (language .entry)) ≡ some l
+        → Indexed (now (places .exit)) (now (language .entry)) l) ⌝ }
+{
+    let answer = check_indexed(language, root, tree, places);
+    let outcome = answer.outcome;
+    if let Outcome::Refused(reason) = outcome {
+        return refuse(reason);
+    }
+    if LONGEST < tree.len() {
+        return refuse(Reason::NotIndexed);
+    }
+    if !is_own(language, places, root as u8, tree, index) {
+        return refuse(Reason::NotIndexed);
+    }
+    accept(0)
+}

@@ -1,0 +1,85 @@
+// The entries of an index, four bytes each: a start and a length.
+use fields::bytes::pair_at;
+use fields::bytes::pair_in;
+ghost use mathlib.Core.Path.{_≡_};
+ghost use mathlib.Core.Bool.{true, false};
+ghost use mathlib.Core.List.{List};
+ghost use Prim.Native.Nat.{_+_, _<_, _≤_};
+ghost use lib.ListN.{length};
+ghost use Rattle.fields.specs.Fields.{twoBytes};
+ghost use Rattle.fields.specs.Inner.Writing.{spliced};
+ghost use Rattle.index.specs.Spans.{Span, span, entry, entries};
+ghost use Rattle.index.specs.Inner.Marking.{Has, Marks};
+ghost use Rattle.index.specs.Inner.Starts.{Splits};
+
+// How many bytes an entry has.
+pub const ENTRY: usize = 4;
+
+// Puts the two bytes of a number into an output that has room for them.
+fn put_pair(value: usize, out: &mut [u8], n: usize)
+    requires { ⌜ (value < 65536) × (n + 2 ≤ length (now out)) ⌝ }
+    ensures { λ r. ⌜ now (out .exit) ≡ spliced (now (out .entry)) n (twoBytes value) ⌝ }
+{
+    out[n] = (value / 256) as u8;
+    out[n + 1] = (value % 256) as u8;
+}
+
+// Puts an entry, where there is room for it.
+pub fn put_entry(start: usize, size: usize, out: &mut [u8], n: usize)
+    requires { ⌜ (start < 65536) × (size < 65536) × (n < 1000000) ⌝ }
+    ensures { λ r. ⌜ (n + 4 ≤ length (now (out .entry)) → now (out .exit) ≡ spliced (now (out .entry)) n (entry (span start size))) ⌝ }
+{
+    if out.len() < n + ENTRY {
+        return;
+    }
+    put_pair(start, out, n);
+    put_pair(size, out, n + 2);
+}
+
+// Whether an entry stands in an index.
+fn entry_is(index: &[u8], n: usize, start: usize, size: usize) -> bool
+    requires { ⌜ (start < 65536) × (size < 65536) × (n < 1000000) ⌝ }
+    ensures { λ r. ⌜ (r ≡ true → Has (now (index .entry)) n (entry (span start size))) × (r ≡ false → Has (now (index .entry)) n (entry (span start size)) → ⊥) ⌝ }
+{
+    if index.len() < n + ENTRY {
+        return false;
+    }
+    if pair_in(index, n) != start {
+        return false;
+    }
+    pair_in(index, n + 2) == size
+}
+
+// Compares an entry with the one of an index, or puts it where there is room for it. The answer is whether it may be so.
+pub fn mark(
+    start: usize,
+    size: usize,
+    compare: bool,
+    index: &[u8],
+    out: &mut [u8],
+    n: usize,
+) -> bool
+    requires { ⌜ (start < 65536) × (size < 65536) × (n < 1000000) ⌝ }
+    ensures { λ r. ⌜ Marks compare (now (index .entry)) (entry (span start size)) (now (out .entry)) (now (out .exit)) n r ⌝ }
+{
+    if compare {
+        return entry_is(index, n, start, size);
+    }
+    put_entry(start, size, out, n);
+    true
+}
+
+// Where in an index, from an entry on, the first entry stands whose start is not before a position.
+pub fn entry_from(index: &[u8], entry: usize, position: usize) -> usize
+    requires { ⌜ entry ≤ length (now index) ⌝ }
+    ensures { λ r. ⌜ ((front back : List Span) → Splits (now (index .entry)) entry position front back → r ≡ entry + length (entries front)) ⌝ }
+{
+    let mut p = entry;
+    while p < index.len() {
+        if position <= pair_at(index, p) {
+            return p;
+        }
+        p += ENTRY;
+    }
+    p
+}

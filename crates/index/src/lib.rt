@@ -1,0 +1,5 @@
+// The index of a tree: where each node starts and how long it is.
+pub mod build;
+pub mod entries;
+pub mod operands;
+pub mod walk;
