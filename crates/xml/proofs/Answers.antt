@@ -28,10 +28,11 @@ use Rattle.translation.proofs.Fitting.{refuse-value}
 use Rattle.translation.proofs.Accepted.{refused-not}
 use Rattle.xml.specs.Text.{export}
 use Rattle.xml.specs.Operations.{exportText, exportTree}
-use Rattle.xml.specs.declared.export.Step.{Step}
-use Rattle.xml.specs.declared.export.Step.the-variants.{To, Full}
-use Rattle.xml.specs.Inner.Putting.{Put}
-use Rattle.xml.specs.Inner.Exporting.{Steps, Exports, ExportsTree}
+use Rattle.putting.specs.declared.put.Step.{Step}
+use Rattle.putting.specs.declared.put.Step.the-variants.{To, Full}
+use Rattle.putting.specs.Inner.Putting.{Put}
+use Rattle.putting.specs.Inner.Passing.{Steps, Passes}
+use Rattle.xml.specs.Inner.Exporting.{ExportsTree}
 use Rattle.xml.specs.Inner.Answering.{Gives, GivesExport}
 use Rattle.xml.proofs.Inverse.{tree-done}
 
@@ -55,7 +56,7 @@ module _ (s index : List ℕ) (k : ℕ) (b o o₁ : List ℕ) {x : Step} (first 
       rw y (gives-long (export l k a) o i h)
 
   module _ {e m : ℕ} (ex : x ≡ To e m) {o₂ : List ℕ} {r : Step} (second : ExportsTree true s index k b 0 treeLevels o₁ o₂ 0 r) where
-    by-step : (l : Language) (a : Code) → Exports true (export l k a) b [] o₁ o₂ 0 r → length (export l k a) ≤ length o₁ → (y : Step) → r ≡ y
+    by-step : (l : Language) (a : Code) → Passes true (export l k a) b [] o₁ o₂ 0 r → length (export l k a) ≤ length o₁ → (y : Step) → r ≡ y
         → o₂ ≡ spliced o₁ 0 (export l k a)
     by-step l a w h (To d n) q = w .put d n q .bytes refl
     by-step l a w h Full q = let z = w .full q in absurd (omega arith)

@@ -1,0 +1,4 @@
+pub mod Puts
+pub mod Passing
+pub mod Reading
+pub mod Walking
