@@ -16,10 +16,22 @@ ghost use lib.ListN.{length, drop, take};
 ghost use Rattle.reader.specs.Inner.Index.{Sound, Ready};
 ghost use Rattle.reader.specs.Inner.Positions.{KindsIn};
 ghost use Rattle.putting.specs.Inner.Passing.{Steps, Passes};
-ghost use Rattle.mask.specs.Inner.Masking.{MasksHidden, MasksTree, MasksTrees};
+ghost use Rattle.mask.specs.Inner.Masking.{EndsTree, MasksHidden, MasksTree, MasksTrees};
 
 // The byte that stands for a hidden block.
 const HIDDEN: u8 = 0xFF;
+
+// Where the legal tree of a kind ends that starts at a position.
+fn end_at(language: &[u8], index: &[u16], kind: u8, tree: &[u8], at: usize, levels: usize) -> usize
+    requires { ⌜ Ready (now index) (now language) kind (now tree) at ⌝ }
+    ensures { λ r. ⌜ EndsTree (now (language .entry)) (now (index .entry)) kind (now (tree .entry)) at levels r ⌝ }
+{
+    match read(Syntax::Tree, language, index, &[], kind, tree, at, levels) {
+        Read::End(e) => e,
+        Read::Deep => at,
+        Read::Broken => at,
+    }
+}
 
 // Passes over the tree of a hidden kind, and puts one byte for it.
 fn mask_hidden(
@@ -37,11 +49,7 @@ fn mask_hidden(
     ensures { λ r. ⌜ Steps store (now (tree .entry)) (now (out .entry)) (now (out .exit)) r
         × MasksHidden store (now (language .entry)) (now (index .entry)) kind (now (tree .entry)) at levels (now (out .entry)) (now (out .exit)) n r ⌝ }
 {
-    let end = match read(Syntax::Tree, language, index, &[], kind, tree, at, levels) {
-        Read::End(e) => e,
-        Read::Deep => at,
-        Read::Broken => at,
-    };
+    let end = end_at(language, index, kind, tree, at, levels);
     let hidden = [HIDDEN; 1];
     let Stored::To(m) = put_word(&hidden, store, out, n) else {
         return Step::Full;

@@ -2,13 +2,14 @@
 use Prim.Native.Nat.{ℕ, _+_, _<_, _≤_}
 use mathlib.Core.Path.{_≡_, refl, sym, ap, _∙_}
 use mathlib.Core.Bool.{Bool, true, false}
-use mathlib.Core.List.{List}
+use mathlib.Core.List.{List, _++_}
 use native.Mathlib.Omega.{arith}
-use lib.ListN.{length, drop}
+use lib.ListN.{length, drop, length-append}
 use Rattle.putting.specs.declared.put.Step.{Step}
 use Rattle.putting.specs.declared.put.Step.the-variants.{To, Full}
 use Rattle.putting.specs.Inner.Putting.{Put}
 use Rattle.putting.specs.Inner.Passing.{Steps, Passes}
+use Rattle.putting.proofs.Puts.{put-then}
 
 not-full : {e m : ℕ} {A : Type 0} → Full ≡ To e m → A
 not-full h = let z : _≡_ {A = ℕ} 0 1 = cc in absurd (omega arith)
@@ -37,3 +38,18 @@ passes-to {store} {v} {b} {rest} {o} {o′} {n} {e} {m} h p = record {
 
 pub passes-same : {store : Bool} {v u b rest o o′ : List ℕ} {n : ℕ} {r : Step} → v ≡ u → Passes store v b rest o o′ n r → Passes store u b rest o o′ n r
 passes-same e w = rw (← e) w
+
+-- One text, and behind it what a walk puts.
+module _ {store : Bool} (u v : List ℕ) {b rest o o₁ o₂ : List ℕ} {n m : ℕ} (begun : Put store u o o₁ n m) (long : length o₁ ≡ length o) {y : Step} where
+  pub passes-then : Passes store v b rest o₁ o₂ m y → Passes store (u ++ v) b rest o o₂ n y
+  passes-then w = record {
+    left = w .left;
+    put = λ e k q. put-then u v o o₁ o₂ n m k begun (w .put e k q) long;
+    full = λ q. omega (arith, w .full q, begun .end, length-append u v);
+  }
+
+pub steps-then : {store : Bool} {b o o₁ o₂ : List ℕ} {y : Step} → (store ≡ false → o₁ ≡ o) → length o₁ ≡ length o → Steps store b o₁ o₂ y → Steps store b o o₂ y
+steps-then h long w = record {
+  inside = λ e m q. let i = w .inside e m q in (i .0, omega (arith, i .1));
+  kept = λ q. w .kept q ∙ h q;
+}

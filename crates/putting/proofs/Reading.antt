@@ -101,7 +101,7 @@ token-cut c [] h = refl
 token-cut c (x ∷ []) h = refl
 token-cut c (x ∷ y ∷ u) h = absurd (omega arith)
 
-two : (b : List ℕ) (at : ℕ) → 2 ≤ length b - at → drop at b ≡ getD b at 0 ∷ getD b (at + 1) 0 ∷ drop (at + 2) b
+pub two : (b : List ℕ) (at : ℕ) → 2 ≤ length b - at → drop at b ≡ getD b at 0 ∷ getD b (at + 1) 0 ∷ drop (at + 2) b
 two b at h =
     let i : at < length b = omega arith in
     let j : at + 1 < length b = omega arith in

@@ -1,5 +1,5 @@
 -- The masked form of what stands in bytes, put into an output or only measured against it.
-use Prim.Native.Nat.{ℕ}
+use Prim.Native.Nat.{ℕ, _≤_}
 use mathlib.Core.Path.{_≡_}
 use mathlib.Core.Bool.{Bool}
 use mathlib.Core.List.{List, []}
@@ -18,6 +18,11 @@ use Rattle.card.specs.Inner.Sets.{Holds}
 use Rattle.putting.specs.declared.put.Step.{Step}
 use Rattle.putting.specs.Inner.Passing.{Passes}
 use Rattle.mask.specs.Mask.{hiddenBlock, masked, maskedAll}
+
+-- e is where the tree of kind k ends that stands at `at`, with so many levels left; it lies in the bytes in any case.
+pub record EndsTree (s index : List ℕ) (k : ℕ) (b : List ℕ) (at levels e : ℕ) : Type 0 where
+  pub inside : e ≤ length b
+  pub left : (l : Language) (a : Code) (rest : List ℕ) → Indexed index s l → read tree l [] levels k (drop at b) ≡ done a rest → drop e b ≡ rest
 
 -- One byte for the tree of kind k that stands at `at`, with so many levels left.
 abbrev pub MasksHidden : Bool → List ℕ → List ℕ → ℕ → List ℕ → ℕ → ℕ → List ℕ → List ℕ → ℕ → Step → Type 0
