@@ -5,7 +5,6 @@ use mathlib.Core.Bool.{Bool}
 use mathlib.Core.List.{List, []}
 use lib.ListN.{length, drop}
 use lib.Seq.{slice}
-use Rattle.fields.specs.Outcome.{written, outputAfter}
 use Rattle.fields.specs.declared.outcome.Outcome.{Outcome}
 use Rattle.language.specs.Language.{Language}
 use Rattle.reader.specs.Code.{Code, Codes}
@@ -17,6 +16,7 @@ use Rattle.card.specs.Card.{Card}
 use Rattle.card.specs.Inner.Sets.{Holds}
 use Rattle.putting.specs.declared.put.Step.{Step}
 use Rattle.putting.specs.Inner.Passing.{Passes}
+use Rattle.putting.specs.Inner.Answering.{Gives}
 use Rattle.mask.specs.Mask.{hiddenBlock, masked, maskedAll}
 
 -- e is where the tree of kind k ends that stands at `at`, with so many levels left; it lies in the bytes in any case.
@@ -47,4 +47,4 @@ MasksTrees store s index kinds q e b at levels o o′ n r =
 abbrev pub GivesMasked : List ℕ → List ℕ → ℕ → ℕ → List ℕ → List ℕ → List ℕ → Outcome → Type 0
 GivesMasked s index kinds k b before after outcome =
     (l : Language) (card : Card) (a : Code) → Indexed index s l → Holds kinds card → read tree l [] treeLevels k b ≡ done a []
-    → (outcome ≡ written (fitted (length before) (masked l card k a))) × (after ≡ outputAfter before (fitted (length before) (masked l card k a)))
+    → Gives (fitted (length before) (masked l card k a)) before after outcome

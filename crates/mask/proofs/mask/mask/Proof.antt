@@ -1,3 +1,7 @@
+use mathlib.Core.Path.{refl}
+use native.Mathlib.Omega.{arith}
+use Rattle.reader.proofs.Lookup.{zeros}
+use Rattle.mask.proofs.Answers.{mask-refused, legal, entries, small, mask-done}
 use borrow.Author.Needs.{needs}
 use Rattle.mask.proofs.mask.mask.Statement.{statement}
 use Rattle.mask.proofs.mask.mask.Tie as tie
@@ -19,7 +23,7 @@ slice-aggregate-check-indexed c = search needs
 
 -- src/mask.rt:71:9
 check-indexed-requires : tie.Need-check-indexed-requires
-check-indexed-requires c κs = ?
+check-indexed-requires c κs = (refl, zeros 8224)
 
 -- src/mask.rt:73:39
 lowest-requires : tie.Need-lowest-requires
@@ -35,7 +39,7 @@ refuse-requires c κs = search needs
 
 -- src/mask.rt:74:9
 returns : tie.Need-returns
-returns c = ?
+returns c = mask-refused _ _ _ _ (c .before .before .before .before .before .before .check-indexed .ensures .0) (c .before .before .before .before .before .before .before .before .read-card .ensures .outcome) (c .before .before .before .before .lowest .ensures) _ (c .before .before .reason .given .1) (c .refuse .ensures)
 
 enum-told : tie.Need-enum-told
 enum-told c = search needs
@@ -46,11 +50,11 @@ slice-aggregate-mask-legal c = search needs
 
 -- src/mask.rt:76:46
 cast-mask-legal : tie.Need-cast-mask-legal
-cast-mask-legal c = ?
+cast-mask-legal c = let w = small _ _ _ _ (c .before .before .before .before .before .check-indexed .ensures .0) (c .before .before .before .before .before .before .before .read-card .ensures .outcome) (c .before .before .before .lowest .ensures) (legal _ _ _ _ (c .before .before .before .before .before .check-indexed .ensures .0) (c .before .before .before .before .before .before .before .read-card .ensures .outcome) (c .before .before .before .lowest .ensures) (c .before .enum-told .given .1)) in omega arith
 
 -- src/mask.rt:76:5
 mask-legal-requires : tie.Need-mask-legal-requires
-mask-legal-requires c κs = ?
+mask-legal-requires c κs = let w = legal _ _ _ _ (c .before .before .before .before .before .before .check-indexed .ensures .0) (c .before .before .before .before .before .before .before .before .read-card .ensures .outcome) (c .before .before .before .before .lowest .ensures) (c .before .before .enum-told .given .1) in record { sound = c .before .before .before .before .before .before .check-indexed .ensures .1 _ _ (w .accepted) (entries _ _ _ _ (c .before .before .before .before .before .before .check-indexed .ensures .0) (c .before .before .before .before .before .before .before .before .read-card .ensures .outcome) (c .before .before .before .before .lowest .ensures) w) .sound; kind = small _ _ _ _ (c .before .before .before .before .before .before .check-indexed .ensures .0) (c .before .before .before .before .before .before .before .before .read-card .ensures .outcome) (c .before .before .before .before .lowest .ensures) w; inside = omega arith }
 
 -- src/mask.rt:64:1
 same-length : tie.Need-same-length
@@ -58,7 +62,7 @@ same-length c = search needs
 
 -- src/mask.rt:64:1
 returns-2 : tie.Need-returns-2
-returns-2 c = ?
+returns-2 c = let w = legal _ _ _ _ (c .before .before .before .before .before .before .before .before .before .check-indexed .ensures .0) (c .before .before .before .before .before .before .before .before .before .before .before .read-card .ensures .outcome) (c .before .before .before .before .before .before .before .lowest .ensures) (c .before .before .before .before .before .enum-told .given .1) in mask-done _ _ _ _ (c .before .before .before .before .before .before .before .before .before .check-indexed .ensures .0) (c .before .before .before .before .before .before .before .before .before .before .before .read-card .ensures .outcome) (c .before .before .before .before .before .before .before .lowest .ensures) w _ _ _ _ (c .before .before .before .before .before .before .before .before .before .check-indexed .ensures .1 _ _ (w .accepted) (entries _ _ _ _ (c .before .before .before .before .before .before .before .before .before .check-indexed .ensures .0) (c .before .before .before .before .before .before .before .before .before .before .before .read-card .ensures .outcome) (c .before .before .before .before .before .before .before .lowest .ensures) w)) (c .before .before .before .before .before .before .before .before .before .before .before .read-card .ensures .holds _ (w .card-is)) (c .before .before .mask-legal .ensures)
 
 pub mask-spec : {M : Type 1} → statement M
 mask-spec =

@@ -1,3 +1,4 @@
+use Rattle.mask.proofs.Answers.{legal-full, legal-done}
 use borrow.Author.Needs.{needs}
 use Rattle.mask.proofs.mask.mask_legal.Statement.{statement}
 use Rattle.mask.proofs.mask.mask_legal.Tie as tie
@@ -29,7 +30,7 @@ same-length c = search needs
 
 -- src/mask.rt:45:9
 returns : tie.Need-returns
-returns c = ?
+returns c = legal-full _ _ _ _ _ _ _ (c .before .before .before .before .before .mask-at .ensures .1) (c .before .before .before .before .before .mask-at .ensures .0) (c .before .enum-told .given .1) (c .refuse .ensures)
 
 -- src/mask.rt:47:5
 mask-at-requires-2 : tie.Need-mask-at-requires-2
@@ -45,7 +46,7 @@ same-length-2 c = search needs
 
 -- src/mask.rt:22:1
 returns-2 : tie.Need-returns-2
-returns-2 c = ?
+returns-2 c = legal-done _ _ _ _ _ _ _ (c .before .before .before .before .before .before .before .before .before .before .mask-at .ensures .1) (c .before .before .before .before .before .before .before .before .before .before .mask-at .ensures .0) (c .before .before .before .before .before .before .end .given .1) (c .before .before .before .mask-at2 .ensures .1) (c .accept .ensures)
 
 pub mask-legal-spec : {M : Type 1} → statement M
 mask-legal-spec =
