@@ -1,5 +1,5 @@
 -- A law for each return and each turn of `is_card`, `contents` and `read_card`.
-use Prim.Native.Nat.{ℕ, zero, suc, _+_, _-_, _^_, _<_, _≤_}
+use Prim.Native.Nat.{ℕ, suc, _+_, _-_, _^_, _<_, _≤_}
 use mathlib.Core.Path.{_≡_, refl, sym, ap, _∙_}
 use mathlib.Core.Bool.{Bool, true, false, cond, not, _&&_, _||_}
 use mathlib.Core.List.{List, [], _∷_}
@@ -10,18 +10,18 @@ use lib.Seq.{take-all}
 use lib.Dec.{eqb, leb, ltb}
 use lib.Pow.{pow-mono, pow-pos}
 use borrow.Author.Tests.{eq-eqb, ne-eqb, lt-ltb, le-ltb, le-leb, lt-leb, ltb-true, ltb-false, leb-true, leb-false, eqb-true}
-use Rattle.fields.specs.Fields.{Field, field, pairAt, fieldsOf}
+use Rattle.fields.specs.Fields.{Field, pairAt, fieldsOf}
 use Rattle.fields.specs.Inner.Places.{fieldEnd, fieldAt}
 use Rattle.fields.specs.Lists.{all, any, before}
 use Rattle.fields.specs.Keyed.{risingFrom, rising}
 use Rattle.fields.proofs.Truth.{false-true, by-test, both-and, and-both}
 use Rattle.fields.proofs.Split.{front, fields-done, fields-next, fields-cut}
-use Rattle.fields.specs.Outcome.{Result, value, refused, refuseIf, checked}
+use Rattle.fields.specs.Outcome.{value, refused, refuseIf, checked}
 use Rattle.fields.specs.declared.outcome.Outcome.the-variants.{Accepted, Refused}
 use Rattle.fields.specs.declared.outcome.Reason.{Reason}
 use Rattle.fields.specs.declared.outcome.Reason.the-variants.{BrokenField, OutOfOrder}
 use Rattle.language.specs.LanguageFile.{isKind}
-use Rattle.card.specs.Card.{Card, sees, cardIn, cardOf}
+use Rattle.card.specs.Card.{sees, cardIn, cardOf}
 use Rattle.card.specs.declared.read.Seen.{Seen}
 use Rattle.card.specs.declared.read.Kinds.{Kinds}
 use Rattle.card.specs.declared.read.Kinds.the-variants.{Set, Broken, Unordered}

@@ -1,28 +1,24 @@
 -- The laws of specs/Laws.antt.
-use Prim.Native.Nat.{ℕ, zero, suc, _+_, _*_, _/_, _%_, _≤_}
+use Prim.Native.Nat.{ℕ, zero, suc, _+_, _*_, _/_, _%_}
 use mathlib.Core.Path.{_≡_, refl, sym, ap, _∙_}
-use mathlib.Core.Bool.{Bool, true, false, cond}
+use mathlib.Core.Bool.{true, false}
 use mathlib.Core.List.{List, [], _∷_, _++_, append-assoc, append-nil}
-use mathlib.Core.Option.{Option, none, some}
-use native.Mathlib.Omega.{arith}
+use mathlib.Core.Option.{none, some}
 use native.Mathlib.Nat.{div-add-mod'}
-use lib.ListN.{length, take, drop}
+use lib.ListN.{length, drop}
 use lib.Seq.{take-at}
-use lib.Dec.{ltb}
 use Rattle.fields.specs.Fields.{twoBytes}
-use Rattle.fields.specs.Outcome.{Result, value, refused, _>>=_, written, outputAfter, lengthOf}
-use Rattle.fields.proofs.Truth.{by-test, not-both, none-some, some-inj}
+use Rattle.fields.specs.Outcome.{Result, value, refused, written, outputAfter}
+use Rattle.fields.proofs.Truth.{by-test, none-some, some-inj}
 use Rattle.language.specs.Language.{Language, Range, argumentsOf, rangeOf}
-use Rattle.language.specs.LanguageFile.{languageOf}
 use Rattle.language.proofs.Codec.{language-good}
-use Rattle.reader.specs.Code.{Code, node, token, argument, Codes, nil, cons}
+use Rattle.reader.specs.Code.{Code, node, token, Codes, nil, cons}
 use Rattle.reader.specs.Typing.{kindAt, Typed, TypedAll, typed-node, typed-token, typed-argument, typed-nil, typed-cons}
 use Rattle.reader.specs.Syntax.{write, writeAll, tree}
-use Rattle.reader.specs.Operations.{treeOf}
 use Rattle.reader.proofs.Larger.{apart}
-use Rattle.translation.specs.Operations.{fitted, Ran}
+use Rattle.translation.specs.Operations.{fitted}
 use Rattle.checks.proofs.Legal.{tree-right}
-use Rattle.card.specs.Card.{Card, sees, cardOf}
+use Rattle.card.specs.Card.{Card, sees}
 use Rattle.mask.specs.Mask.{hiddenBlock, masked, maskedAll}
 use Rattle.mask.specs.Operations.{maskBytes, maskTree}
 use Rattle.mask.specs.Agreement.{Agree, both-hidden, same-token, same-production, AgreeAll, agree-nil, agree-cons, Visible, itself, below, VisibleAmong, in-first, in-later, Open, open-token, open-production, OpenAll, open-nil, open-cons}
@@ -101,6 +97,7 @@ module _ (l : Language) (c : Card) (j : ℕ) (b : Code) where
 module _ (l : Language) (c : Card) where
   mutual
     unfolding write writeAll
+
     own : {k : ℕ} {a : Code} → Open l c k a → masked l c k a ≡ write tree a
     own (open-token {k = k} {v = v} h) = masked-token l c k v h
     own (open-production {k = k} {p = p} {ks = ks} {t = t} h e w) = masked-node l c k p ks t h e ∙ ap (λ (u : List ℕ). p ∷ u) (own-all w)

@@ -10,7 +10,6 @@ use reader::node::Syntax;
 use reader::node::place_at;
 use reader::node::production_place;
 use reader::read::read;
-ghost use mathlib.Core.Path.{_≡_};
 ghost use Prim.Native.Nat.{_+_, _-_, _<_, _≤_};
 ghost use lib.ListN.{length, drop, take};
 ghost use Rattle.reader.specs.Inner.Index.{Sound, Ready};

@@ -1,24 +1,23 @@
 -- What the operations answer: a law for each return of `export_legal` and `export`.
-use Prim.Native.Nat.{ℕ, _+_, _<_, _≤_}
-use mathlib.Core.Path.{_≡_, refl, sym, ap, _∙_}
-use mathlib.Core.Bool.{Bool, true, false, not}
-use mathlib.Core.List.{List, [], _∷_, _++_}
+use Prim.Native.Nat.{ℕ, _<_, _≤_}
+use mathlib.Core.Path.{_≡_, refl, sym, _∙_}
+use mathlib.Core.Bool.{true, false, not}
+use mathlib.Core.List.{List, []}
 use mathlib.Core.Option.{some}
-use native.Mathlib.Omega.{arith}
-use lib.ListN.{length, getD, drop}
+use lib.ListN.{length}
 use lib.Dec.{ltb}
 use borrow.Author.Tests.{ltb-false}
-use Rattle.fields.specs.Outcome.{Result, value, refused, _>>=_, checked, written, outputAfter}
+use Rattle.fields.specs.Outcome.{Result, value, refused, _>>=_, checked}
 use Rattle.fields.specs.declared.outcome.Outcome.{Outcome}
 use Rattle.fields.specs.declared.outcome.Outcome.the-variants.{Accepted, Refused}
 use Rattle.fields.specs.declared.outcome.Reason.{Reason}
 use Rattle.fields.specs.declared.outcome.Reason.the-variants as Why
-use Rattle.fields.proofs.Truth.{by-test, true-not}
-use Rattle.language.specs.Language.{Language, isIn, clashes, entryKey}
+use Rattle.fields.proofs.Truth.{true-not}
+use Rattle.language.specs.Language.{Language, isIn}
 use Rattle.language.specs.LanguageFile.{languageOf, languageLimit, entriesOf}
 use Rattle.language.proofs.Codec.{language-good}
 use Rattle.reader.specs.Code.{Code}
-use Rattle.reader.specs.Syntax.{Read, done, deep, broken, read, tree}
+use Rattle.reader.specs.Syntax.{done, read, tree}
 use Rattle.reader.specs.Operations.{treeLevels, wholeTree, treeOf, checkTree}
 use Rattle.reader.specs.Inner.Index.{Indexed}
 use Rattle.reader.proofs.Members.{in-below}

@@ -1,13 +1,13 @@
 -- Numbers in decimal: what is written is read back, and what is read is what is written.
 use Prim.Native.Nat.{ℕ, zero, suc, _+_, _*_, _/_, _%_, _-_, _<_, _≤_}
 use mathlib.Core.Path.{_≡_, refl, sym, ap, _∙_}
-use mathlib.Core.Bool.{Bool, true, false}
+use mathlib.Core.Bool.{true, false}
 use mathlib.Core.List.{List, [], _∷_, _++_, append-assoc}
 use native.Mathlib.Omega.{arith}
 use lib.Dec.{ltb, leb, eqb}
 use borrow.Author.Tests.{ltb-true, ltb-false, lt-ltb, le-ltb, leb-true, le-leb, eqb-true, eqb-false, eq-eqb, ne-eqb}
 use Rattle.fields.proofs.Truth.{by-test, and-both}
-use Rattle.reader.specs.Syntax.{Read, done, deep, broken, andThen}
+use Rattle.reader.specs.Syntax.{done}
 pub use Rattle.putting.proofs.Reading.{same-done, deep-not, broken-not, then-done}
 use Rattle.xml.specs.Text.{decimalBy, decimal}
 use Rattle.xml.specs.Import.{readWord, isDigit, readDigits, readNumber, readNamed}

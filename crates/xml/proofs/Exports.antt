@@ -1,7 +1,7 @@
 -- A law for each return and loop turn of `export_token`, `export_at` and `export_all`.
 use Prim.Native.Nat.{ℕ, _+_, _-_, _<_, _≤_}
 use mathlib.Core.Path.{_≡_, refl, sym, ap, _∙_}
-use mathlib.Core.Bool.{Bool, true, false, cond}
+use mathlib.Core.Bool.{Bool, false, cond}
 use mathlib.Core.List.{List, [], _∷_, _++_}
 use native.Mathlib.Omega.{arith}
 use lib.ListN.{length, getD, drop, length-append}
@@ -19,7 +19,7 @@ use Rattle.reader.specs.declared.node.Syntax.the-variants.{Tree}
 use Rattle.xml.specs.Text.{decimal, nodeTag, tokenTag, openNode, closeNode, openToken, closeToken, export, exportAll}
 use Rattle.putting.specs.declared.put.Step.{Step}
 use Rattle.putting.specs.declared.put.Step.the-variants.{To, Full}
-use Rattle.putting.specs.Inner.Putting.{Put, Puts}
+use Rattle.putting.specs.Inner.Putting.{Puts}
 use Rattle.putting.specs.Inner.Passing.{Steps, Passes, forAll}
 use Rattle.putting.proofs.Puts.{put-then}
 use Rattle.putting.proofs.Passing.{steps-full, steps-to, passes-full, passes-to, passes-same}

@@ -1,7 +1,7 @@
 -- Tags and decimals put into an output: a law for each return of `width`, `put_number` and the tags.
-use Prim.Native.Nat.{ℕ, _+_, _*_, _/_, _%_, _-_, _<_, _≤_}
+use Prim.Native.Nat.{ℕ, _+_, _/_, _%_, _-_, _<_, _≤_}
 use mathlib.Core.Path.{_≡_, refl, sym, ap, _∙_}
-use mathlib.Core.Bool.{Bool, true, false}
+use mathlib.Core.Bool.{Bool}
 use mathlib.Core.List.{List, [], _∷_, _++_, append-assoc}
 use native.Mathlib.Omega.{arith}
 use lib.ListN.{length, take, drop}
@@ -12,7 +12,7 @@ use borrow.Author.Tests.{ltb-true, ltb-false}
 use Rattle.fields.proofs.Truth.{by-test}
 use Rattle.putting.specs.Inner.Putting.{Puts}
 use Rattle.putting.proofs.Puts.{puts-full, puts-then, puts-same}
-use Rattle.xml.specs.Text.{decimal, nodeTag, tokenTag, openToken, closeToken, point, tagEnd}
+use Rattle.xml.specs.Text.{decimal, nodeTag, tokenTag, point, tagEnd}
 use Rattle.xml.proofs.Decimal.{decimal-small, decimal-large}
 
 -- Decimals of one to five digits.

@@ -18,47 +18,21 @@ Inv-loop card kinds₀ least₀ rising₀ i₀ kinds least rising i = Going card
 abbrev μ-loop : tie.MeasureT-loop
 μ-loop card kinds₀ least₀ rising₀ i₀ kinds least rising i = length card - i
 
--- src/read.rt:61:5
 loop-holds : tie.Need-loop-holds Inv-loop μ-loop
 loop-holds c = going-start _ (c .before .pre)
 
--- src/read.rt:62:20
-shared-slice-read-kind : tie.Need-shared-slice-read-kind Inv-loop μ-loop
-shared-slice-read-kind c = search needs
-
--- src/read.rt:64:13
 returns : tie.Need-returns Inv-loop μ-loop
 returns c = going-broken _ (c .before .before .before .loop .inv) (c .before .before .loop-test .taken) refl (c .if1 .taken)
 
--- src/read.rt:69:22
-only-requires : tie.Need-only-requires Inv-loop μ-loop
-only-requires c κs = search needs
-
--- src/read.rt:69:13
 add-kinds : tie.Need-add-kinds Inv-loop μ-loop
 add-kinds c = let w = going-fits _ (c .before .before .before .before .before .loop .inv) (c .before .before .before .before .loop-test .taken) refl (c .before .before .if1 .left) (c .before .if2 .left) (c .only .ensures) in omega arith
 
--- src/read.rt:70:21
-add-least : tie.Need-add-least Inv-loop μ-loop
-add-least c = search needs
-
--- src/read.rt:72:9
-add-i : tie.Need-add-i Inv-loop μ-loop
-add-i c = search needs
-
--- src/read.rt:61:5
-loop-less : tie.Need-loop-less Inv-loop μ-loop
-loop-less c = search needs
-
--- src/read.rt:61:5
 loop-again : tie.Need-loop-again Inv-loop μ-loop
 loop-again c = ⊎-elim (λ w. going-unordered _ (c .before .before .before .before .loop .inv) (c .before .before .before .loop-test .taken) refl (c .before .if1 .left) (w .0 .taken) (w .1) (w .2) (w .3)) (λ w. going-next _ (c .before .before .before .before .loop .inv) (c .before .before .before .loop-test .taken) refl (c .before .if1 .left) (w .0 .left) (w .1 .ensures) (w .2) (w .3) (w .4)) (c .if2 .came)
 
--- src/read.rt:75:9
 returns-2 : tie.Need-returns-2 Inv-loop μ-loop
 returns-2 c = going-fails _ (c .before .before .loop .inv) (c .before .loop-test .left) (not-true _ (c .if3 .taken))
 
--- src/read.rt:53:1
 returns-3 : tie.Need-returns-3 Inv-loop μ-loop
 returns-3 c = going-done _ (c .before .before .loop .inv) (c .before .loop-test .left) (not-false _ (c .if3 .left))
 
@@ -69,13 +43,13 @@ contents-spec =
     Inv-loop
     μ-loop
     loop-holds
-    shared-slice-read-kind
+    (λ c. search needs)
     returns
-    only-requires
+    (λ c κs. search needs)
     add-kinds
-    add-least
-    add-i
-    loop-less
+    (λ c. search needs)
+    (λ c. search needs)
+    (λ c. search needs)
     loop-again
     returns-2
     returns-3)

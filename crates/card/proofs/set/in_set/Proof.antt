@@ -6,14 +6,9 @@ use Rattle.card.proofs.set.in_set.Tie as tie
 use Rattle.card.proofs.set.in_set.Reads as reads
 use Rattle.card.proofs.set.in_set.Lts as lts
 
--- src/set.rt:19:6
-shr-result : tie.Need-shr-result
-shr-result c = search needs
-
--- src/set.rt:15:1
 returns : tie.Need-returns
 unfolding inSet
 returns c = refl
 
 pub in-set-spec : {M : Type 1} → statement M
-in-set-spec = tie.close (tie.spec shr-result returns)
+in-set-spec = tie.close (tie.spec (λ c. search needs) returns)

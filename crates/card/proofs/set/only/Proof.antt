@@ -5,11 +5,8 @@ use Rattle.card.proofs.set.only.Tie as tie
 use Rattle.card.proofs.set.only.Reads as reads
 use Rattle.card.proofs.set.only.Lts as lts
 
-shl-result : tie.Need-shl-result
-shl-result c = search needs
-
 returns : tie.Need-returns
 returns c = one-shifted _ (c .pre)
 
 pub only-spec : {M : Type 1} → statement M
-only-spec = tie.close (tie.spec shl-result returns)
+only-spec = tie.close (tie.spec (λ c. search needs) returns)
