@@ -20,12 +20,14 @@ use Rattle.fields.specs.Outcome.{value, refused, refuseIf, checked}
 use Rattle.fields.specs.declared.outcome.Outcome.the-variants.{Accepted, Refused}
 use Rattle.fields.specs.declared.outcome.Reason.{Reason}
 use Rattle.fields.specs.declared.outcome.Reason.the-variants.{BrokenField, OutOfOrder}
+use Rattle.fields.proofs.Codec.{refused-value, value-inj}
 use Rattle.language.specs.LanguageFile.{isKind}
 use Rattle.card.specs.Card.{sees, cardIn, cardOf}
 use Rattle.card.specs.declared.read.Seen.{Seen}
 use Rattle.card.specs.declared.read.Kinds.{Kinds}
 use Rattle.card.specs.declared.read.Kinds.the-variants.{Set, Broken, Unordered}
 use Rattle.card.specs.Inner.Sets.{inSet, Holds, Scans, Reads, isCard}
+use Rattle.card.proofs.Refusals.{not-accepted}
 use Rattle.card.proofs.Sets.{no-bit, put-bit, put-small}
 
 -- is_card
@@ -249,15 +251,6 @@ module _ (s : List ℕ) where
       and-true true = refl
       and-true false = refl
 
-no-value : {A B : Type 0} {x : Reason} {a : A} → refused x ≡ value a → B
-no-value e = let z : _≡_ {A = ℕ} 0 1 = cc in absurd (omega arith)
-
-same-value : {A : Type 0} {a b : A} → value a ≡ value b → a ≡ b
-same-value e = cc
-
-not-accepted : {n : ℕ} {x : Reason} {A : Type 0} → Accepted n ≡ Refused x → A
-not-accepted e = let z : _≡_ {A = ℕ} 0 1 = cc in absurd (omega arith)
-
 -- read_card
 module _ (s : List ℕ) where
   of-broken : (isCard s && all isKind (drop 3 s)) ≡ false → cardOf s ≡ refused BrokenField
@@ -271,7 +264,7 @@ module _ (s : List ℕ) where
   refused-reads : {x : Reason} {r : Seen} → cardOf s ≡ refused x → r .outcome ≡ Refused x → r .kinds ≡ 0 → Reads (cardOf s) r
   refused-reads {x} e o k = record {
     outcome = o ∙ sym (ap checked e);
-    holds = λ card q. no-value (sym e ∙ q);
+    holds = λ card q. refused-value (sym e ∙ q);
     none = λ reason q. k;
   }
 
@@ -297,6 +290,6 @@ module _ (s : List ℕ) where
         let v : cardOf s ≡ value (drop 3 s) = of-card (both-and _ _ is (u .0)) ∙ ap (λ (b : Bool). refuseIf (not b) OutOfOrder (value (drop 3 s))) (u .1) in
         record {
           outcome = sym (ap checked v);
-          holds = λ card q. let z : drop 3 s ≡ card = same-value (sym v ∙ q) in rw (← z) (u .2);
+          holds = λ card q. let z : drop 3 s ≡ card = value-inj (sym v ∙ q) in rw (← z) (u .2);
           none = λ reason q. not-accepted q;
         }

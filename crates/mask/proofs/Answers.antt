@@ -1,21 +1,19 @@
 -- What the operation answers: a law for each return of `mask_legal` and `mask`.
 use Prim.Native.Nat.{ℕ, _<_}
-use mathlib.Core.Path.{_≡_, refl, sym, ap, _∙_}
+use mathlib.Core.Path.{_≡_, refl, sym, _∙_}
 use mathlib.Core.Bool.{Bool, true, false, not}
 use mathlib.Core.List.{List, [], _∷_}
-use mathlib.Core.Option.{Option, none, some}
+use mathlib.Core.Option.{some}
 use native.Mathlib.Omega.{arith}
 use lib.ListN.{length}
-use Rattle.fields.specs.Fields.{fieldsOf}
-use Rattle.fields.specs.Keyed.{rising}
-use Rattle.fields.specs.Outcome.{Result, value, refused, refuseIf, _>>=_, checked, reasonNumber}
+use Rattle.fields.specs.Outcome.{value, refused, refuseIf, checked, reasonNumber}
 use Rattle.fields.specs.declared.outcome.Outcome.{Outcome}
 use Rattle.fields.specs.declared.outcome.Outcome.the-variants.{Accepted, Refused}
 use Rattle.fields.specs.declared.outcome.Reason.{Reason}
 use Rattle.fields.specs.declared.outcome.Reason.the-variants as Why
 use Rattle.fields.proofs.Codec.{refused-value}
 use Rattle.language.specs.Language.{Language, isIn}
-use Rattle.language.specs.LanguageFile.{languageOf, entriesOf, whole}
+use Rattle.language.specs.LanguageFile.{languageOf, entriesOf}
 use Rattle.language.proofs.Codec.{language-good}
 use Rattle.reader.specs.Code.{Code}
 use Rattle.reader.specs.Syntax.{Read, done, deep, broken, read, tree}
@@ -23,12 +21,11 @@ use Rattle.reader.specs.Operations.{treeLevels, wholeTree, treeOf, checkTree}
 use Rattle.reader.specs.Inner.Index.{Indexed}
 use Rattle.reader.proofs.Members.{in-below}
 use Rattle.translation.specs.Operations.{fitted}
-use Rattle.translation.proofs.Accepted.{refused-not}
 use Rattle.translation.proofs.Fitting.{refuse-value}
 use Rattle.checks.proofs.Legal.{tree-done, tree-right, Checked, accepted-tree}
-use Rattle.card.specs.Card.{Card, cardIn, cardOf, lower, together}
+use Rattle.card.specs.Card.{Card, cardOf}
 use Rattle.card.specs.Inner.Sets.{Holds, lowestOf}
-use Rattle.card.proofs.Refusals.{lower-second}
+use Rattle.card.proofs.Refusals.{same-refusal, lowest-accepted, accepted-card, together-refused}
 use Rattle.putting.specs.declared.put.Step.{Step}
 use Rattle.putting.specs.declared.put.Step.the-variants.{To, Full}
 use Rattle.putting.specs.Inner.Passing.{Steps}
@@ -46,22 +43,7 @@ module _ (s index : List ℕ) (kinds k : ℕ) (b o o₁ : List ℕ) {x : Step} (
       → {out : Outcome} → out ≡ Accepted m → GivesMasked s index kinds k b o o₂ out
   legal-done ex second h l card a z c f = answers-done (masked l card k a) b o o₁ (first l card a [] z c f) steps ex (second l card a [] z c f) h
 
--- A card is refused by 2 or 3, a tree by 14 to 16.
-same-refusal : {A : Type 0} {p q : Reason} → _≡_ {A = Result A} (refused p) (refused q) → p ≡ q
-same-refusal e = cc
-
-card-low : (c : List ℕ) (q : Reason) → cardOf c ≡ refused q → reasonNumber q < 4
-unfolding cardOf
-card-low c q e = go (cardIn (fieldsOf c)) e
-  where
-    by-order : (b : Bool) (card : Card) → refuseIf b Why.OutOfOrder (value card) ≡ refused q → reasonNumber q < 4
-    by-order true card h = rw (← same-refusal {A = Card} h) (omega arith)
-    by-order false card h = refused-value (sym h)
-
-    go : (o : Option Card) → (whole o >>= λ card. refuseIf (not (rising (λ k. k) card)) Why.OutOfOrder (value card)) ≡ refused q → reasonNumber q < 4
-    go none h = rw (← same-refusal {A = Card} h) (omega arith)
-    go (some card) h = by-order (not (rising (λ k. k) card)) card h
-
+-- A tree is refused by 14 to 16.
 tree-high : (l : Language) (k : ℕ) (b : List ℕ) (p : Reason) → treeOf l k b ≡ refused p → 13 < reasonNumber p
 unfolding treeOf
 tree-high l k b p e = go (not (isIn l k)) (read tree l [] treeLevels k b) e
@@ -77,40 +59,11 @@ tree-high l k b p e = go (not (isIn l k)) (read tree l [] treeLevels k b) e
     go false o h = by-reading o h
 
 -- mask
-same-reason : {p q : Reason} → Refused p ≡ Refused q → p ≡ q
-same-reason e = cc
-
-lowest-accepted : (a b : Outcome) (n : ℕ) → lowestOf a b ≡ Accepted n → (a ≡ Accepted n) × (m : ℕ) × (b ≡ Accepted m)
-lowest-accepted a (Accepted m) n e = (e, m, refl)
-lowest-accepted (Accepted i) (Refused q) n e = refused-not {n = n} {r = q} e
-lowest-accepted (Refused p) (Refused q) n e = refused-not {n = n} {r = lower p q} e
-
 module _ (s : List ℕ) (root : ℕ) (c b : List ℕ) where
-  abbrev goes-on : ℕ → Language → Card → Result (List ℕ)
-  goes-on room l card = treeOf l root b >>= λ t. fitted room (masked l card root t)
-
-  module _ (room : ℕ) {r : Reason} where
-    tree-stays : (l : Language) (card : Card) (m : Result Code) → checked m ≡ Refused r → (m >>= λ t. fitted room (masked l card root t)) ≡ refused r
-    tree-stays l card (value t) h = refused-not {n = 0} {r = r} (sym h)
-    tree-stays l card (refused p) h = ap refused (same-reason h)
-
-    card-stays : (q : Reason) (l : Language) (m : Result Code) → cardOf c ≡ refused q → treeOf l root b ≡ m
-        → lowestOf (checked m) (Refused q) ≡ Refused r → _≡_ {A = Result (List ℕ)} (refused q) (refused r)
-    card-stays q l (value t) e f h = ap refused (same-reason h)
-    card-stays q l (refused p) e f h =
-        let i : reasonNumber q < reasonNumber p = omega (arith, card-low c q e, tree-high l root b p f) in
-        ap refused (sym (lower-second p q i) ∙ same-reason h)
-
-    stays : (m : Result Language) (d : Result Card) → cardOf c ≡ d
-        → lowestOf (checked (m >>= λ l. treeOf l root b)) (checked d) ≡ Refused r → together m d (goes-on room) ≡ refused r
-    stays (value l) (value card) e h = tree-stays l card (treeOf l root b) h
-    stays (value l) (refused q) e h = card-stays q l (treeOf l root b) e refl h
-    stays (refused p) (value card) e h = ap refused (same-reason h)
-    stays (refused p) (refused q) e h = ap refused (same-reason h)
-
-    bytes-refused : lowestOf (checkTree s root b) (checked (cardOf c)) ≡ Refused r → maskBytes s root c b room ≡ refused r
-    unfolding maskBytes checkTree
-    bytes-refused h = stays (languageOf s) (cardOf c) refl h
+  bytes-refused : (room : ℕ) {r : Reason} → lowestOf (checkTree s root b) (checked (cardOf c)) ≡ Refused r → maskBytes s root c b room ≡ refused r
+  unfolding maskBytes checkTree
+  bytes-refused room h =
+      together-refused (λ l. treeOf l root b) (λ l p e. omega (arith, tree-high l root b p e)) (λ l card t. fitted room (masked l card root t)) c (languageOf s) h
 
   module _ {on-tree on-card low : Outcome} (et : on-tree ≡ checkTree s root b) (ec : on-card ≡ checked (cardOf c)) (el : low ≡ lowestOf on-tree on-card) where
     pub mask-refused : (o : List ℕ) {r : Reason} {out : Outcome} → low ≡ Refused r → out ≡ Refused r
@@ -127,14 +80,10 @@ module _ (s : List ℕ) (root : ℕ) (c b : List ℕ) where
       pub accepted : on-tree ≡ Accepted n
       pub subject : Checked s root b
 
-    card-value : (d : Result Card) (m : ℕ) → checked d ≡ Accepted m → (card : Card) × (d ≡ value card)
-    card-value (value card) m h = (card, refl)
-    card-value (refused q) m h = refused-not {n = m} {r = q} h
-
     pub legal : {n : ℕ} → low ≡ Accepted n → Legal n
     legal {n} h =
         let w = lowest-accepted on-tree on-card n (sym el ∙ h) in
-        let v = card-value (cardOf c) (w .1) (sym ec ∙ w .2) in
+        let v = accepted-card (cardOf c) (w .1) (sym ec ∙ w .2) in
         record { card = v .0; card-is = v .1; accepted = w .0; subject = accepted-tree s root b (sym et ∙ w .0) }
 
     module _ {n : ℕ} (w : Legal n) where
