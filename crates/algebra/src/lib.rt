@@ -14,6 +14,7 @@ ghost use Rattle.score.specs.Operations.{scoreTree};
 ghost use Rattle.loads.specs.Joined.{joinTable};
 ghost use Rattle.loose.specs.Operations.{scoreLoose};
 ghost use Rattle.xml.specs.Operations.{exportTree, importTree};
+ghost use Rattle.mask.specs.Operations.{maskTree};
 use block::show::place;
 use checks::translations::check_translation;
 use checks::trees::check_tree;
@@ -25,6 +26,7 @@ use index::build::index;
 use language::check::check_language;
 use loads::join::join_table;
 use loose::operation::score_loose;
+use mask::mask::mask;
 use reducer::reduce::reduce;
 use runner::run::run;
 use score::score::score;
@@ -212,6 +214,24 @@ pub extern "C" fn algebra_index(
         × (now (output .exit) ≡ indexTree (now (language .entry)) root (now (tree .entry)) (now (output .entry)) .output) ⌝ }
 {
     let answer = index(language, root, tree, output);
+    hand_over(answer, length)
+}
+
+// Mask a tree of the root kind for the holder of a card; the length of the masked bytes is put into `length`.
+#[no_mangle]
+pub extern "C" fn algebra_mask(
+    language: &[u8],
+    root: u32,
+    card: &[u8],
+    tree: &[u8],
+    output: &mut [u8],
+    length: &mut u64,
+) -> u32
+    ensures { λ r. ⌜ (r ≡ numberOf (maskTree (now (language .entry)) root (now (card .entry)) (now (tree .entry)) (now (output .entry)) .outcome))
+        × (now (length .exit) ≡ lengthOf (maskTree (now (language .entry)) root (now (card .entry)) (now (tree .entry)) (now (output .entry)) .outcome))
+        × (now (output .exit) ≡ maskTree (now (language .entry)) root (now (card .entry)) (now (tree .entry)) (now (output .entry)) .output) ⌝ }
+{
+    let answer = mask(language, root, card, tree, output);
     hand_over(answer, length)
 }
 
