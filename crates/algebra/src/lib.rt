@@ -258,8 +258,8 @@ pub extern "C" fn algebra_block(
     hand_over(Answer { outcome: outcome }, length)
 }
 
-// Replace the block at a path of a plan of the root kind that has the index. The new plan and its index are put into `plan` and
-// `plan_index`, their lengths into `plan_length` and `index_length`.
+// Replace the block at a path of a plan of the root kind that has the index, for the holder of a card. The new plan and its index
+// are put into `plan` and `plan_index`, their lengths into `plan_length` and `index_length`.
 #[no_mangle]
 pub extern "C" fn algebra_edit(
     language: &[u8],
@@ -267,16 +267,27 @@ pub extern "C" fn algebra_edit(
     tree: &[u8],
     index: &[u8],
     path: &[u8],
+    card: &[u8],
     block: &[u8],
     plan: &mut [u8],
     plan_index: &mut [u8],
     plan_length: &mut u64,
     index_length: &mut u64,
 ) -> u32
-    ensures { λ r. ⌜ EditTold (editTree (now (language .entry)) root (now (tree .entry)) (now (index .entry)) (now (path .entry)) (now (block .entry)) (now (plan .entry)) (now («plan_index» .entry)))
+    ensures { λ r. ⌜ EditTold (editTree (now (language .entry)) root (now (tree .entry)) (now (index .entry)) (now (path .entry)) (now (card .entry)) (now (block .entry)) (now (plan .entry)) (now («plan_index» .entry)))
         r (now («plan_length» .exit)) (now («index_length» .exit)) (now (plan .exit)) (now («plan_index» .exit)) ⌝ }
 {
-    let edited = edit(language, root, tree, index, path, block, plan, plan_index);
+    let edited = edit(
+        language,
+        root,
+        tree,
+        index,
+        path,
+        card,
+        block,
+        plan,
+        plan_index,
+    );
     let outcome = edited.outcome;
     *index_length = edited.indexed as u64;
     hand_over(Answer { outcome: outcome }, plan_length)

@@ -69,6 +69,14 @@ pub accepted-card : (d : Result Card) (m : ℕ) → checked d ≡ Accepted m →
 accepted-card (value card) m h = (card, refl)
 accepted-card (refused q) m h = not-accepted {n = m} {x = q} (sym h)
 
+-- What `together` gives comes of both values.
+pub together-value : {A B C : Type 0} (m : Result A) (d : Result B) (f : A → B → Result C) {v : C} → together m d f ≡ value v
+    → (a : A) × (b : B) × (m ≡ value a) × (d ≡ value b) × (f a b ≡ value v)
+together-value (value a) (value b) f e = (a, b, refl, refl, e)
+together-value (value a) (refused s) f e = refused-value e
+together-value (refused r) (value b) f e = refused-value e
+together-value (refused r) (refused s) f e = refused-value e
+
 -- Something is read, and a step is made on it whose refusals come after 3. The lowest refusal of that step and of a card is what
 -- `together` refuses, whatever goes on from there.
 module _ {A B C : Type 0} (step : A → Result B) (high : (a : A) (p : Reason) → step a ≡ refused p → 3 < reasonNumber p)

@@ -1,22 +1,20 @@
 -- What the operation answers: a law for each return of `mask_legal` and `mask`.
 use Prim.Native.Nat.{ℕ, _<_}
 use mathlib.Core.Path.{_≡_, refl, sym, _∙_}
-use mathlib.Core.Bool.{Bool, true, false, not}
-use mathlib.Core.List.{List, [], _∷_}
+use mathlib.Core.Bool.{true, false, not}
+use mathlib.Core.List.{List, []}
 use mathlib.Core.Option.{some}
 use native.Mathlib.Omega.{arith}
 use lib.ListN.{length}
-use Rattle.fields.specs.Outcome.{value, refused, refuseIf, checked, reasonNumber}
+use Rattle.fields.specs.Outcome.{value, refused, checked}
 use Rattle.fields.specs.declared.outcome.Outcome.{Outcome}
 use Rattle.fields.specs.declared.outcome.Outcome.the-variants.{Accepted, Refused}
 use Rattle.fields.specs.declared.outcome.Reason.{Reason}
 use Rattle.fields.specs.declared.outcome.Reason.the-variants as Why
-use Rattle.fields.proofs.Codec.{refused-value}
-use Rattle.language.specs.Language.{Language, isIn}
+use Rattle.language.specs.Language.{isIn}
 use Rattle.language.specs.LanguageFile.{languageOf, entriesOf}
 use Rattle.language.proofs.Codec.{language-good}
-use Rattle.reader.specs.Code.{Code}
-use Rattle.reader.specs.Syntax.{Read, done, deep, broken, read, tree}
+use Rattle.reader.specs.Syntax.{done, read, tree}
 use Rattle.reader.specs.Operations.{treeLevels, wholeTree, treeOf, checkTree}
 use Rattle.reader.specs.Inner.Index.{Indexed}
 use Rattle.reader.proofs.Members.{in-below}
@@ -25,7 +23,8 @@ use Rattle.translation.proofs.Fitting.{refuse-value}
 use Rattle.checks.proofs.Legal.{tree-done, tree-right, Checked, accepted-tree}
 use Rattle.card.specs.Card.{Card, cardOf}
 use Rattle.card.specs.Inner.Sets.{Holds, lowestOf}
-use Rattle.card.proofs.Refusals.{same-refusal, lowest-accepted, accepted-card, together-refused}
+use Rattle.card.proofs.Trees.{tree-high}
+use Rattle.card.proofs.Refusals.{lowest-accepted, accepted-card, together-refused}
 use Rattle.putting.specs.declared.put.Step.{Step}
 use Rattle.putting.specs.declared.put.Step.the-variants.{To, Full}
 use Rattle.putting.specs.Inner.Passing.{Steps}
@@ -42,21 +41,6 @@ module _ (s index : List ℕ) (kinds k : ℕ) (b o o₁ : List ℕ) {x : Step} (
   pub legal-done : {e m : ℕ} → x ≡ To e m → {o₂ : List ℕ} {r : Step} → MasksTree true s index kinds k b 0 treeLevels o₁ o₂ 0 r
       → {out : Outcome} → out ≡ Accepted m → GivesMasked s index kinds k b o o₂ out
   legal-done ex second h l card a z c f = answers-done (masked l card k a) b o o₁ (first l card a [] z c f) steps ex (second l card a [] z c f) h
-
--- A tree is refused by 14 to 16.
-tree-high : (l : Language) (k : ℕ) (b : List ℕ) (p : Reason) → treeOf l k b ≡ refused p → 13 < reasonNumber p
-unfolding treeOf
-tree-high l k b p e = go (not (isIn l k)) (read tree l [] treeLevels k b) e
-  where
-    by-reading : (o : Read Code) → wholeTree o ≡ refused p → 13 < reasonNumber p
-    by-reading (done t []) h = refused-value (sym h)
-    by-reading (done t (x ∷ r)) h = rw (← same-refusal {A = Code} h) (omega arith)
-    by-reading deep h = rw (← same-refusal {A = Code} h) (omega arith)
-    by-reading broken h = rw (← same-refusal {A = Code} h) (omega arith)
-
-    go : (out : Bool) (o : Read Code) → refuseIf out Why.UnknownRoot (wholeTree o) ≡ refused p → 13 < reasonNumber p
-    go true o h = rw (← same-refusal {A = Code} h) (omega arith)
-    go false o h = by-reading o h
 
 -- mask
 module _ (s : List ℕ) (root : ℕ) (c b : List ℕ) where
