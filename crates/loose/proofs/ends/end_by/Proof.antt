@@ -5,11 +5,9 @@ use Rattle.loose.proofs.ends.end_by.Tie as tie
 use Rattle.loose.proofs.ends.end_by.Reads as reads
 use Rattle.loose.proofs.ends.end_by.Lts as lts
 
--- src/ends.rt:42:9
 returns : tie.Need-returns
 returns c = other-taken _ _ _ _ _ (toZ-ofZ (c .before .fits .factor)) (toZ-ofZ (c .before .fits .other)) (c .if1 .taken)
 
--- src/ends.rt:38:1
 returns-2 : tie.Need-returns-2
 returns-2 c = same-taken _ _ _ _ _ (toZ-ofZ (c .before .fits .factor)) (toZ-ofZ (c .before .fits .same)) (c .if1 .left)
 

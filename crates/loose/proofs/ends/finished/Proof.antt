@@ -10,26 +10,15 @@ use Rattle.loose.proofs.ends.finished.Reads as reads
 use Rattle.loose.proofs.ends.finished.Lts as lts
 use Rattle.score.proofs.figures.is_score.Reads as is-score-reads
 
--- src/ends.rt:51:9
-is-score-requires : tie.Need-is-score-requires
-is-score-requires c κs = search needs
-
--- src/ends.rt:52:9
 returns : tie.Need-returns
 returns c = (least-out _ _ _ (ap isScore (sym (toZ-ofZ (c .before .before .fits .least))) ∙ (sym (c .before .is-score .ensures) ∙ not-true _ (c .if1 .taken))), tt)
 
--- src/ends.rt:54:9
-is-score-requires-2 : tie.Need-is-score-requires-2
-is-score-requires-2 c κs = search needs
-
--- src/ends.rt:55:9
 returns-2 : tie.Need-returns-2
 returns-2 c = (greatest-out _ _ _ (ap isScore (sym (toZ-ofZ (c .before .before .before .before .fits .least))) ∙ (sym (c .before .before .before .is-score .ensures) ∙ not-false _ (c .before .before .if1 .left))) (ap isScore (sym (toZ-ofZ (c .before .before .before .before .fits .greatest))) ∙ (sym (c .before .is-score2 .ensures) ∙ not-true _ (c .if2 .taken))), tt)
 
--- src/ends.rt:48:1
 returns-3 : tie.Need-returns-3
 returns-3 c = (both-in _ _ _ _ _ (toZ-ofZ (c .before .before .before .before .fits .least)) (toZ-ofZ (c .before .before .before .before .fits .greatest)) (ap isScore (sym (toZ-ofZ (c .before .before .before .before .fits .least))) ∙ (sym (c .before .before .before .is-score .ensures) ∙ not-false _ (c .before .before .if1 .left))) (ap isScore (sym (toZ-ofZ (c .before .before .before .before .fits .greatest))) ∙ (sym (c .before .is-score2 .ensures) ∙ not-false _ (c .if2 .left))), both-near _ _ _ _ (toZ-ofZ (c .before .before .before .before .fits .least)) (toZ-ofZ (c .before .before .before .before .fits .greatest)) (ap isScore (sym (toZ-ofZ (c .before .before .before .before .fits .least))) ∙ (sym (c .before .before .before .is-score .ensures) ∙ not-false _ (c .before .before .if1 .left))) (ap isScore (sym (toZ-ofZ (c .before .before .before .before .fits .greatest))) ∙ (sym (c .before .is-score2 .ensures) ∙ not-false _ (c .if2 .left))))
 
 pub finished-spec : {M : Type 1} → statement M
 finished-spec =
-    tie.close (tie.spec is-score-requires returns is-score-requires-2 returns-2 returns-3)
+    tie.close (tie.spec (λ c κs. search needs) returns (λ c κs. search needs) returns-2 returns-3)

@@ -14,83 +14,24 @@ use Rattle.loose.proofs.operation.accept.Reads as accept-reads
 use Rattle.loose.proofs.operation.refuse.Reads as refuse-reads
 use Rattle.reader.proofs.index.put_all.Reads as put-all-reads
 
--- src/operation.rt:57:30
-slice-aggregate-put-all : tie.Need-slice-aggregate-put-all
-slice-aggregate-put-all c = search needs
-
--- src/operation.rt:57:5
-put-all-requires : tie.Need-put-all-requires
-put-all-requires c κs = search needs
-
--- src/operation.rt:58:29
-slice-aggregate-ends-at : tie.Need-slice-aggregate-ends-at
-slice-aggregate-ends-at c = search needs
-
--- src/operation.rt:58:11
 ends-at-requires : tie.Need-ends-at-requires
 ends-at-requires c κs = (c .before .before .before .before .before .before .pre .0, omega arith, ((c .before .before .before .before .before .before .pre .1 .0), _, (world-is _ _ (c .before .before .before .before .before .before .pre .1 .0) (c .before .before .before .before .before .before .pre .1 .1) (λ i. omega (arith, c .before .before .before .before .before .shared-slice-known .given i)) (c .before .before .before .before .before .before .pre .1 .2) _ _ refl (zeros 8224) (c .before .before .put-all .ensures))))
 
--- src/operation.rt:59:25
-enum-known-low : tie.Need-enum-known-low
-enum-known-low c = search needs
-
--- src/operation.rt:61:17
-refuse-requires : tie.Need-refuse-requires
-refuse-requires c κs = search needs
-
--- src/operation.rt:61:17
 returns : tie.Need-returns
 returns c = λ l w h. kind-more l w _ (c .before .before .before .before .before .before .before .before .before .before .before .before .args .tree .now) _ (c .before .before .before .before .before .ends-at .ensures .0 l _ (world-is _ _ l w (λ i. omega (arith, c .before .before .before .before .before .before .before .before .before .before .before .shared-slice-known .given i)) h _ _ refl (zeros 8224) (c .before .before .before .before .before .before .before .before .put-all .ensures))) _ _ _ (c .before .before .before .low .given .1) (c .before .if1 .taken) (c .refuse .ensures)
 
--- src/operation.rt:63:13
-accept-requires : tie.Need-accept-requires
-accept-requires c κs = search needs
-
--- src/operation.rt:65:25
-enum-known-e : tie.Need-enum-known-e
-enum-known-e c = search needs
-
--- src/operation.rt:67:17
-refuse-requires-2 : tie.Need-refuse-requires-2
-refuse-requires-2 c κs = search needs
-
--- src/operation.rt:67:17
 returns-2 : tie.Need-returns-2
 returns-2 c = λ l w h. kind-out-more l w _ (c .before .before .before .before .before .before .before .before .before .before .before .before .args .tree .now) _ (c .before .before .before .before .before .ends-at .ensures .0 l _ (world-is _ _ l w (λ i. omega (arith, c .before .before .before .before .before .before .before .before .before .before .before .shared-slice-known .given i)) h _ _ refl (zeros 8224) (c .before .before .before .before .before .before .before .before .put-all .ensures))) _ (c .before .before .before .e .given .1) (c .before .if2 .taken) (c .refuse2 .ensures)
 
--- src/operation.rt:69:13
-refuse-requires-3 : tie.Need-refuse-requires-3
-refuse-requires-3 c κs = search needs
-
--- src/operation.rt:71:32
-enum-told : tie.Need-enum-told
-enum-told c = search needs
-
--- src/operation.rt:71:25
-refuse-requires-4 : tie.Need-refuse-requires-4
-refuse-requires-4 c κs = search needs
-
--- src/operation.rt:72:34
-enum-told-2 : tie.Need-enum-told-2
-enum-told-2 c = search needs
-
--- src/operation.rt:72:27
-refuse-requires-5 : tie.Need-refuse-requires-5
-refuse-requires-5 c κs = search needs
-
--- src/operation.rt:51:1
 returns-3 : tie.Need-returns-3
 returns-3 c = λ l w h. kind-ends l w _ (c .before .before .before .before .before .before .before .before .before .before .before .before .args .tree .now) _ (c .before .before .before .before .before .ends-at .ensures .0 l _ (world-is _ _ l w (λ i. omega (arith, c .before .before .before .before .before .before .before .before .before .before .before .shared-slice-known .given i)) h _ _ refl (zeros 8224) (c .before .before .before .before .before .before .before .before .put-all .ensures))) _ _ _ (c .before .before .before .low .given .1) (c .before .if1 .left) _ _ (ends-back _ _ _ _ (c .before .before .before .before .before .ends-at .ensures .1) (c .before .before .before .low .given .1) .0) (ends-back _ _ _ _ (c .before .before .before .before .before .ends-at .ensures .1) (c .before .before .before .low .given .1) .1) (c .accept .ensures)
 
--- src/operation.rt:51:1
 returns-4 : tie.Need-returns-4
 returns-4 c = λ l w h. kind-out l w _ (c .before .before .before .before .before .before .before .before .before .before .before .before .args .tree .now) _ (c .before .before .before .before .before .ends-at .ensures .0 l _ (world-is _ _ l w (λ i. omega (arith, c .before .before .before .before .before .before .before .before .before .before .before .shared-slice-known .given i)) h _ _ refl (zeros 8224) (c .before .before .before .before .before .before .before .before .put-all .ensures))) _ (c .before .before .before .e .given .1) (c .before .if2 .left) (c .refuse3 .ensures)
 
--- src/operation.rt:51:1
 returns-5 : tie.Need-returns-5
 returns-5 c = λ l w h. kind-deep l w _ (c .before .before .before .before .before .before .before .before .before .before .args .tree .now) _ (c .before .before .before .ends-at .ensures .0 l _ (world-is _ _ l w (λ i. omega (arith, c .before .before .before .before .before .before .before .before .before .shared-slice-known .given i)) h _ _ refl (zeros 8224) (c .before .before .before .before .before .before .put-all .ensures))) (c .before .enum-told .given .1) (c .refuse4 .ensures)
 
--- src/operation.rt:51:1
 returns-6 : tie.Need-returns-6
 returns-6 c = λ l w h. kind-broken l w _ (c .before .before .before .before .before .before .before .before .before .before .args .tree .now) _ (c .before .before .before .ends-at .ensures .0 l _ (world-is _ _ l w (λ i. omega (arith, c .before .before .before .before .before .before .before .before .before .shared-slice-known .given i)) h _ _ refl (zeros 8224) (c .before .before .before .before .before .before .put-all .ensures))) (c .before .enum-told2 .given .1) (c .refuse5 .ensures)
 
@@ -98,22 +39,22 @@ pub loose-kind-spec : {M : Type 1} → statement M
 loose-kind-spec =
     tie.close
     (tie.spec
-    slice-aggregate-put-all
-    put-all-requires
-    slice-aggregate-ends-at
+    (λ c. search needs)
+    (λ c κs. search needs)
+    (λ c. search needs)
     ends-at-requires
-    enum-known-low
-    refuse-requires
+    (λ c. search needs)
+    (λ c κs. search needs)
     returns
-    accept-requires
-    enum-known-e
-    refuse-requires-2
+    (λ c κs. search needs)
+    (λ c. search needs)
+    (λ c κs. search needs)
     returns-2
-    refuse-requires-3
-    enum-told
-    refuse-requires-4
-    enum-told-2
-    refuse-requires-5
+    (λ c κs. search needs)
+    (λ c. search needs)
+    (λ c κs. search needs)
+    (λ c. search needs)
+    (λ c κs. search needs)
     returns-3
     returns-4
     returns-5

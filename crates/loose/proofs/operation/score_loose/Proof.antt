@@ -11,42 +11,18 @@ use Rattle.loose.proofs.operation.loose_kind.Reads as loose-kind-reads
 use Rattle.loose.proofs.operation.refuse.Reads as refuse-reads
 use Rattle.score.proofs.prepare.prepare.Reads as prepare-reads
 
--- src/operation.rt:84:50
-slice-aggregate-prepare : tie.Need-slice-aggregate-prepare
-slice-aggregate-prepare c = search needs
-
--- src/operation.rt:84:9
 prepare-requires : tie.Need-prepare-requires
 prepare-requires c κs = (refl, zeros-small 1024)
 
--- src/operation.rt:85:29
-enum-known-outcome : tie.Need-enum-known-outcome
-enum-known-outcome c = search needs
-
--- src/operation.rt:86:9
-refuse-requires : tie.Need-refuse-requires
-refuse-requires c κs = search needs
-
--- src/operation.rt:86:9
 returns : tie.Need-returns
 returns c = ground-refused _ _ _ _ (c .before .before .before .before .before .prepare .ensures .0) (c .before .before .outcome .given .1) (c .refuse .ensures)
 
-enum-told : tie.Need-enum-told
-enum-told c = search needs
-
--- src/operation.rt:88:26
-slice-aggregate-loose-kind : tie.Need-slice-aggregate-loose-kind
-slice-aggregate-loose-kind c = search needs
-
--- src/operation.rt:88:36
 cast-loose-kind : tie.Need-cast-loose-kind
 cast-loose-kind c = omega (arith, (c .before .before .before .before .prepare .ensures .1 ((ground-there (c .before .before .before .before .before .before .before .before .before .args .language .now) (c .before .before .before .before .before .before .before .before .before .args .root) (c .before .before .before .before .before .before .before .before .before .args .table .now) (c .before .before .before .before .prepare .ensures .0) (c .before .enum-told .given .1)) .0) ((ground-there (c .before .before .before .before .before .before .before .before .before .args .language .now) (c .before .before .before .before .before .before .before .before .before .args .root) (c .before .before .before .before .before .before .before .before .before .args .table .now) (c .before .before .before .before .prepare .ensures .0) (c .before .enum-told .given .1)) .1)) .kind)
 
--- src/operation.rt:88:5
 loose-kind-requires : tie.Need-loose-kind-requires
 loose-kind-requires c κs = ((c .before .before .before .before .prepare .ensures .1 ((ground-there (c .before .before .before .before .before .before .before .before .before .args .language .now) (c .before .before .before .before .before .before .before .before .before .args .root) (c .before .before .before .before .before .before .before .before .before .args .table .now) (c .before .before .before .before .prepare .ensures .0) (c .before .enum-told .given .1)) .0) ((ground-there (c .before .before .before .before .before .before .before .before .before .args .language .now) (c .before .before .before .before .before .before .before .before .before .args .root) (c .before .before .before .before .before .before .before .before .before .args .table .now) (c .before .before .before .before .prepare .ensures .0) (c .before .enum-told .given .1)) .1)) .kind, ((ground-there (c .before .before .before .before .before .before .before .before .before .args .language .now) (c .before .before .before .before .before .before .before .before .before .args .root) (c .before .before .before .before .before .before .before .before .before .args .table .now) (c .before .before .before .before .prepare .ensures .0) (c .before .enum-told .given .1)) .0 .language, (ground-there (c .before .before .before .before .before .before .before .before .before .args .language .now) (c .before .before .before .before .before .before .before .before .before .args .root) (c .before .before .before .before .before .before .before .before .before .args .table .now) (c .before .before .before .before .prepare .ensures .0) (c .before .enum-told .given .1)) .0 .table, (c .before .before .before .before .prepare .ensures .1 ((ground-there (c .before .before .before .before .before .before .before .before .before .args .language .now) (c .before .before .before .before .before .before .before .before .before .args .root) (c .before .before .before .before .before .before .before .before .before .args .table .now) (c .before .before .before .before .prepare .ensures .0) (c .before .enum-told .given .1)) .0) ((ground-there (c .before .before .before .before .before .before .before .before .before .args .language .now) (c .before .before .before .before .before .before .before .before .before .args .root) (c .before .before .before .before .before .before .before .before .before .args .table .now) (c .before .before .before .before .prepare .ensures .0) (c .before .enum-told .given .1)) .1)) .held))
 
--- src/operation.rt:78:1
 returns-2 : tie.Need-returns-2
 returns-2 c = ground-scored _ _ _ _ ((ground-there (c .before .before .before .before .before .before .before .before .before .before .args .language .now) (c .before .before .before .before .before .before .before .before .before .before .args .root) (c .before .before .before .before .before .before .before .before .before .before .args .table .now) (c .before .before .before .before .before .prepare .ensures .0) (c .before .before .enum-told .given .1)) .0) ((ground-there (c .before .before .before .before .before .before .before .before .before .before .args .language .now) (c .before .before .before .before .before .before .before .before .before .before .args .root) (c .before .before .before .before .before .before .before .before .before .before .args .table .now) (c .before .before .before .before .before .prepare .ensures .0) (c .before .before .enum-told .given .1)) .1) (c .loose-kind .ensures _ _ ((c .before .before .before .before .before .prepare .ensures .1 ((ground-there (c .before .before .before .before .before .before .before .before .before .before .args .language .now) (c .before .before .before .before .before .before .before .before .before .before .args .root) (c .before .before .before .before .before .before .before .before .before .before .args .table .now) (c .before .before .before .before .before .prepare .ensures .0) (c .before .before .enum-told .given .1)) .0) ((ground-there (c .before .before .before .before .before .before .before .before .before .before .args .language .now) (c .before .before .before .before .before .before .before .before .before .before .args .root) (c .before .before .before .before .before .before .before .before .before .before .args .table .now) (c .before .before .before .before .before .prepare .ensures .0) (c .before .before .enum-told .given .1)) .1)) .held))
 
@@ -54,13 +30,13 @@ pub score-loose-spec : {M : Type 1} → statement M
 score-loose-spec =
     tie.close
     (tie.spec
-    slice-aggregate-prepare
+    (λ c. search needs)
     prepare-requires
-    enum-known-outcome
-    refuse-requires
+    (λ c. search needs)
+    (λ c κs. search needs)
     returns
-    enum-told
-    slice-aggregate-loose-kind
+    (λ c. search needs)
+    (λ c. search needs)
     cast-loose-kind
     loose-kind-requires
     returns-2)
