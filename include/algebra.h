@@ -1,5 +1,5 @@
 /* The C interface of the library algebra: three checks, reduce, run, score, score_loose,
- * join_table, export, import, index, block and edit.
+ * join_table, export, import, index, block, edit and mask.
  *
  * Each function returns the number of the answer: ALGEBRA_ACCEPTED, or the number of a
  * refusal (enum algebra_answer). Figures of the answer, such as a length, are stored through
@@ -44,6 +44,9 @@
  * ALGEBRA_ENTRY_BYTES bytes for each node, and a node has a byte or more of its own. */
 #define ALGEBRA_INDEXED_BYTES 65535
 #define ALGEBRA_ENTRY_BYTES 4
+
+/* What stands for a hidden block in a masked plan. */
+#define ALGEBRA_HIDDEN_BYTE 0xFF
 
 /* Reduce needs a workspace and an output of at least so many bytes. What it accepts is at most
  * ALGEBRA_TRANSLATION_BYTES long. */
@@ -207,18 +210,29 @@ uint32_t algebra_block(const uint8_t *language, size_t language_length,
                        uint64_t *start, uint64_t *length, uint32_t *kind);
 
 /* Replaces the block of a tree, with its index, at a path by a legal tree of the same kind, and
- * gives the new plan and its index, each in an output of its own: 0 to 4, 14 to 17, 21, 22. The
- * bytes before and behind the block stay. The index is the one that algebra_index builds of the new
- * plan. A refusal stores 0 twice and leaves both outputs unchanged. */
+ * gives the new plan and its index, each in an output of its own: 0 to 4, 14 to 17, 21, 22, 25. The
+ * card must show the block and each one on the way to it. The bytes before and behind the block
+ * stay. The index is the one that algebra_index builds of the new plan. A refusal stores 0 twice and
+ * leaves both outputs unchanged. */
 uint32_t algebra_edit(const uint8_t *language, size_t language_length,
                       uint32_t root,
                       const uint8_t *tree, size_t tree_length,
                       const uint8_t *index, size_t index_length,
                       const uint8_t *path, size_t path_length,
+                      const uint8_t *card, size_t card_length,
                       const uint8_t *block, size_t block_length,
                       uint8_t *plan, size_t plan_room,
                       uint8_t *plan_index, size_t plan_index_room,
                       uint64_t *plan_length, uint64_t *plan_index_length);
+
+/* Masks a tree by a card: each block of a kind that is not on the card, root and tokens included,
+ * is the one byte ALGEBRA_HIDDEN_BYTE: 0 to 4, 14 to 17. A masked plan is not longer than the tree. */
+uint32_t algebra_mask(const uint8_t *language, size_t language_length,
+                      uint32_t root,
+                      const uint8_t *card, size_t card_length,
+                      const uint8_t *tree, size_t tree_length,
+                      uint8_t *output, size_t output_length,
+                      uint64_t *length);
 
 #ifdef __cplusplus
 }

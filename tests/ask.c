@@ -8,12 +8,13 @@
  *   ask join TRANSLATION TABLE
  *   ask export LANGUAGE ROOT TREE              ask import LANGUAGE ROOT TEXT
  *   ask index LANGUAGE ROOT TREE               ask block LANGUAGE ROOT TREE PATH [INDEX]
- *   ask edit LANGUAGE ROOT TREE PATH BLOCK [INDEX]
+ *   ask edit LANGUAGE ROOT TREE PATH BLOCK CARD [INDEX]
+ *   ask mask LANGUAGE ROOT CARD TREE
  *   ask bytes FILE                             writes the bytes themselves
  *
  * Prints `accepted LENGTH` (or a score, or `LEAST to GREATEST` of a loose plan), the bytes of a result on a second line, and kind and start of a block or the index of an edited plan on
  * a third; or `refused NUMBER`. The text of an import is read, and that of an export printed, as it is. An INDEX that is not
- * named is built. */
+ * named is built, and a CARD that is `-` shows every kind. */
 #include "algebra.h"
 #include <stdio.h>
 #include <stdlib.h>
@@ -244,19 +245,43 @@ static void block(char **words)
         printf("kind %u, start %u\n", (unsigned)kind, (unsigned)start);
 }
 
+/* The card that shows every kind. */
+static struct bytes all_kinds(void)
+{
+    struct bytes card = { room_for(3 + ALGEBRA_KINDS), 0 };
+    repeat(&card, 0x27, 1, "a card");
+    repeat(&card, 0, 1, "a card");
+    repeat(&card, ALGEBRA_KINDS, 1, "a card");
+    for (uint8_t kind = 0; kind < ALGEBRA_KINDS; kind++)
+        repeat(&card, kind, 1, "a card");
+    return card;
+}
+
 /* Edits a plan. */
 static void edit(char **words)
 {
     struct bytes language = load(words[0]), tree = load(words[2]), path = load(words[3]), block = load(words[4]);
+    struct bytes card = strcmp(words[5], "-") == 0 ? all_kinds() : load(words[5]);
     uint32_t root = (uint32_t)number_or(words[1], 0);
-    struct bytes index = words[5] == NULL ? index_of(language, root, tree) : load(words[5]);
+    struct bytes index = words[6] == NULL ? index_of(language, root, tree) : load(words[6]);
     uint8_t *plan = room_for(LONGEST), *plan_index = room_for(LONGEST);
     uint64_t length, index_length;
     uint32_t number = algebra_edit(language.at, language.length, root, tree.at, tree.length, index.at, index.length,
-                                   path.at, path.length, block.at, block.length, plan, LONGEST, plan_index, LONGEST,
-                                   &length, &index_length);
+                                   path.at, path.length, card.at, card.length, block.at, block.length, plan, LONGEST,
+                                   plan_index, LONGEST, &length, &index_length);
     answer(number, length, plan);
     put_bytes(plan_index, index_length);
+}
+
+/* Masks a plan. */
+static void mask(char **words)
+{
+    struct bytes language = load(words[0]), card = load(words[2]), tree = load(words[3]);
+    uint8_t *masked = room_for(LONGEST);
+    uint64_t length;
+    uint32_t number = algebra_mask(language.at, language.length, (uint32_t)number_or(words[1], 0), card.at, card.length,
+                                   tree.at, tree.length, masked, LONGEST, &length);
+    answer(number, length, masked);
 }
 
 /* Checks a language. */
@@ -306,7 +331,8 @@ static const struct {
     { "import", import_tree, 3, 3 },
     { "index", index_tree, 3, 3 },
     { "block", block, 4, 5 },
-    { "edit", edit, 5, 6 },
+    { "edit", edit, 6, 7 },
+    { "mask", mask, 4, 4 },
     { "bytes", write_bytes, 1, 1 },
 };
 

@@ -16,6 +16,7 @@ static const uint8_t tree[] = { 0 };
 static const uint8_t table[] = { 0x24, 0, 4, 1, 0, 0xFF, 0xF9 };
 static const uint8_t text[] = { '<', 'x', '1', '.', '0', '>', '<', '/', 'x', '1', '.', '0', '>' };
 static const uint8_t entries[] = { 0, 0, 0, 1 };
+static const uint8_t card[] = { 0x27, 0, 1, 1 };
 static const uint8_t elsewhere[] = { MARK };
 
 static uint8_t workspace[WORKSPACE], output[OUTPUT], no_bytes[] = { MARK };
@@ -134,6 +135,8 @@ struct edited {
     size_t tree_length;
     const uint8_t *index;
     size_t index_length;
+    const uint8_t *card;
+    size_t card_length;
     const uint8_t *block;
     size_t block_length;
 };
@@ -143,8 +146,9 @@ static uint32_t edit(const uint8_t *l, size_t l_length, struct edited e, uint8_t
                      uint8_t *x, size_t x_length)
 {
     uint64_t length = UINT64_MAX, index_length = UINT64_MAX;
-    uint32_t number = algebra_edit(l, l_length, 1, e.tree, e.tree_length, e.index, e.index_length, NULL, 0, e.block,
-                                   e.block_length, o, o_length, x, x_length, &length, &index_length);
+    uint32_t number = algebra_edit(l, l_length, 1, e.tree, e.tree_length, e.index, e.index_length, NULL, 0, e.card,
+                                   e.card_length, e.block, e.block_length, o, o_length, x, x_length, &length,
+                                   &index_length);
     count("the length of an edited plan", length == (number == 0 ? sizeof tree : 0));
     count("the length of its index", index_length == (number == 0 ? sizeof entries : 0));
     return number;
@@ -294,18 +298,25 @@ static void blocks(void)
 /* Edits. */
 static void edits(void)
 {
+    static const uint8_t no_kinds[] = { 0x27, 0, 0 };
     static uint8_t index[OUTPUT];
-    struct edited whole = { tree, sizeof tree, entries, sizeof entries, tree, sizeof tree };
-    struct edited null = { NULL, 0, NULL, 0, NULL, 0 }, empty = { elsewhere, 0, elsewhere, 0, elsewhere, 0 };
-    struct edited no_index = whole, no_index_here = whole, no_block = whole, no_block_here = whole;
+    struct edited whole = { tree, sizeof tree, entries, sizeof entries, card, sizeof card, tree, sizeof tree };
+    struct edited no_tree = whole, no_tree_here = whole, no_index = whole, no_index_here = whole;
+    struct edited no_card = whole, no_card_here = whole, no_block = whole, no_block_here = whole, hidden = whole;
+    no_tree.tree = NULL, no_tree.tree_length = 0, no_tree_here.tree_length = 0;
     no_index.index = NULL, no_index.index_length = 0, no_index_here.index_length = 0;
+    no_card.card = NULL, no_card.card_length = 0, no_card_here.card_length = 0;
     no_block.block = NULL, no_block.block_length = 0, no_block_here.block_length = 0;
+    hidden.card = no_kinds, hidden.card_length = sizeof no_kinds;
     same("edit, language", 14, edit(NULL, 0, whole, output, OUTPUT, index, OUTPUT),
          edit(elsewhere, 0, whole, output, OUTPUT, index, OUTPUT));
-    same("edit, tree and all", 15, edit(language, sizeof language, null, output, OUTPUT, index, OUTPUT),
-         edit(language, sizeof language, empty, output, OUTPUT, index, OUTPUT));
+    same("edit, tree", 15, edit(language, sizeof language, no_tree, output, OUTPUT, index, OUTPUT),
+         edit(language, sizeof language, no_tree_here, output, OUTPUT, index, OUTPUT));
     same("edit, index", 22, edit(language, sizeof language, no_index, output, OUTPUT, index, OUTPUT),
          edit(language, sizeof language, no_index_here, output, OUTPUT, index, OUTPUT));
+    same("edit, card", 2, edit(language, sizeof language, no_card, output, OUTPUT, index, OUTPUT),
+         edit(language, sizeof language, no_card_here, output, OUTPUT, index, OUTPUT));
+    gives("edit, hidden", ALGEBRA_HIDDEN, edit(language, sizeof language, hidden, output, OUTPUT, index, OUTPUT));
     same("edit, block", 15, edit(language, sizeof language, no_block, output, OUTPUT, index, OUTPUT),
          edit(language, sizeof language, no_block_here, output, OUTPUT, index, OUTPUT));
     same("edit, plan", 17, edit(language, sizeof language, whole, NULL, 0, index, OUTPUT),
@@ -314,6 +325,35 @@ static void edits(void)
          edit(language, sizeof language, whole, output, OUTPUT, no_bytes, 0));
     gives("edit", ALGEBRA_ACCEPTED, edit(language, sizeof language, whole, output, OUTPUT, index, OUTPUT));
     count("edited plan", memcmp(output, tree, sizeof tree) == 0 && memcmp(index, entries, sizeof entries) == 0);
+}
+
+/* Masks a tree of the tree's root kind; a refusal must store length 0. */
+static uint32_t mask(const uint8_t *l, size_t l_length, const uint8_t *c, size_t c_length,
+                     const uint8_t *t, size_t t_length, uint8_t *o, size_t o_length)
+{
+    uint64_t length = UINT64_MAX;
+    uint32_t number = algebra_mask(l, l_length, 1, c, c_length, t, t_length, o, o_length, &length);
+    count("the length of a masked plan", length == (number == 0 ? sizeof tree : 0));
+    return number;
+}
+
+/* Masked plans. */
+static void masks(void)
+{
+    static const uint8_t other[] = { 0x27, 0, 1, 2 };
+    same("mask, language", 14, mask(NULL, 0, card, sizeof card, tree, sizeof tree, output, OUTPUT),
+         mask(elsewhere, 0, card, sizeof card, tree, sizeof tree, output, OUTPUT));
+    same("mask, card", 2, mask(language, sizeof language, NULL, 0, tree, sizeof tree, output, OUTPUT),
+         mask(language, sizeof language, elsewhere, 0, tree, sizeof tree, output, OUTPUT));
+    same("mask, tree", 15, mask(language, sizeof language, card, sizeof card, NULL, 0, output, OUTPUT),
+         mask(language, sizeof language, card, sizeof card, elsewhere, 0, output, OUTPUT));
+    same("mask, output", 17, mask(language, sizeof language, card, sizeof card, tree, sizeof tree, NULL, 0),
+         mask(language, sizeof language, card, sizeof card, tree, sizeof tree, no_bytes, 0));
+    same("mask, all", 2, mask(NULL, 0, NULL, 0, NULL, 0, NULL, 0), mask(elsewhere, 0, elsewhere, 0, elsewhere, 0, no_bytes, 0));
+    gives("mask", ALGEBRA_ACCEPTED, mask(language, sizeof language, card, sizeof card, tree, sizeof tree, output, OUTPUT));
+    count("a block that is seen", output[0] == tree[0]);
+    gives("mask", ALGEBRA_ACCEPTED, mask(language, sizeof language, other, sizeof other, tree, sizeof tree, output, OUTPUT));
+    count("a hidden block", output[0] == ALGEBRA_HIDDEN_BYTE);
 }
 
 /* A file that is put together, and how long it is. */
@@ -474,6 +514,7 @@ int main(void)
     indexes();
     blocks();
     edits();
+    masks();
     lengths();
     indexed_lengths();
     rooms();

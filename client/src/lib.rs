@@ -4,10 +4,10 @@
 //! [reduces](reduce) a pack to a translation, one that [runs](run) a translation on a tree, one that
 //! [scores](score()) a tree by a load table and one that scores a [loose plan](score_loose), one
 //! that [joins](join_table) such a table onto a translation, two that [export](export()) a tree as
-//! XML and [import](import()) it back, one that builds the [index](index()) of a tree, and two that
-//! look up a [block](block()) of a tree by its index and [edit](edit()) it there. Each is accepted
-//! or gives a [`Refusal`]. What a call answers depends on its arguments alone; any number of threads
-//! may call at the same time.
+//! XML and [import](import()) it back, one that builds the [index](index()) of a tree, two that
+//! look up a [block](block()) of a tree by its index and [edit](edit()) it there, and one that
+//! [masks](mask()) a tree by a viewer's card. Each is accepted or gives a [`Refusal`]. What a call
+//! answers depends on its arguments alone; any number of threads may call at the same time.
 //!
 //! # The strap
 //!
@@ -63,6 +63,7 @@ mod block;
 mod edit;
 mod limits;
 mod loose;
+mod mask;
 pub mod raw;
 mod refusal;
 mod score;
@@ -75,6 +76,7 @@ pub use limits::{
     TERM_LEVELS, TRANSLATION_BYTES, TREE_LEVELS, WORKSPACE_BYTES,
 };
 pub use loose::{score_loose, LooseScore};
+pub use mask::{card, mask, mask_to_vec};
 pub use refusal::{Refusal, UnknownNumber};
 pub use score::{join_table, join_table_to_vec, score};
 pub use xml::{export, export_to_vec, import, import_to_vec};

@@ -9,12 +9,14 @@
 mod block;
 mod edit;
 mod loose;
+mod mask;
 mod score;
 mod xml;
 
 pub use block::{block, BlockAnswer};
 pub use edit::{edit, index, EditAnswer};
 pub use loose::{score_loose, LooseScoreAnswer};
+pub use mask::mask;
 pub use score::{join_table, score, ScoreAnswer};
 pub use xml::{export, import};
 

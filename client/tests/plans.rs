@@ -1,4 +1,4 @@
-//! Loose plans, indexes and edits on the strap: what a call stores when it refuses, and which bytes
+//! Loose plans, indexes, edits and masks on the strap: what a call stores when it refuses, and which bytes
 //! it leaves alone.
 
 use algebra::{raw, Refusal};
@@ -25,6 +25,9 @@ fn a_refused_loose_plan_scores_0_and_0() {
 const TREE: [u8; 7] = [2, 1, 0, 5, 1, 0, 7];
 const INDEX: [u8; 20] = [0, 0, 0, 7, 0, 1, 0, 3, 0, 2, 0, 2, 0, 4, 0, 3, 0, 5, 0, 2];
 
+/// A card that shows blocks and minutes.
+const CARD: [u8; 5] = [0x27, 0, 2, 1, 2];
+
 #[test]
 fn an_index_leaves_the_output_alone_behind_it() {
     let mut output = [MARK; 22];
@@ -39,7 +42,7 @@ fn an_index_leaves_the_output_alone_behind_it() {
 fn edited(index: &[u8], plan: usize, plan_index: usize) -> (raw::EditAnswer, Vec<u8>, Vec<u8>) {
     let (mut plan, mut plan_index) = (vec![MARK; plan], vec![MARK; plan_index]);
     let answer =
-        raw::edit(&LANGUAGE, 1, &TREE, index, &[2, 1], &[0, 9], &mut plan, &mut plan_index);
+        raw::edit(&LANGUAGE, 1, &TREE, index, &[2, 1], &CARD, &[0, 9], &mut plan, &mut plan_index);
     (answer, plan, plan_index)
 }
 
@@ -60,4 +63,14 @@ fn a_refused_edit_leaves_both_outputs_alone() {
         assert_eq!(answer, raw::EditAnswer { number, plan_length: 0, index_length: 0 });
         assert!(left.iter().chain(&index_left).all(|&byte| byte == MARK));
     }
+}
+
+#[test]
+fn a_mask_leaves_the_output_alone_behind_it() {
+    let (blocks, mut output) = (algebra::card([1]), [MARK; 7]);
+    assert_eq!(algebra::mask(&LANGUAGE, 1, &blocks, &TREE, &mut output), Ok(5));
+    assert_eq!(output, [2, 1, 0xFF, 1, 0xFF, MARK, MARK]);
+    let mut short = [MARK; 4];
+    let refused = algebra::mask(&LANGUAGE, 1, &blocks, &TREE, &mut short);
+    assert_eq!((refused, short), (Err(Refusal::OutputTooShort), [MARK; 4]));
 }

@@ -1,10 +1,10 @@
 //! A call of one of the operations, by the reference or by the library.
 
 use crate::generate::{BlockCase, EditCase, ExportCase, ImportCase, IndexCase, JoinTableCase};
-use crate::generate::{ReduceCase, RunCase, ScoreCase, TreeCase};
+use crate::generate::{MaskCase, ReduceCase, RunCase, ScoreCase, TreeCase};
 use crate::outcome::Outcome;
 use crate::{block, check_language, check_translation, check_tree, edit, export, import, index};
-use crate::{join_table, reduce, run, score, score_loose, Block, Edit, LooseScore, Score};
+use crate::{join_table, mask, reduce, run, score, score_loose, Block, Edit, LooseScore, Score};
 #[cfg(feature = "library")]
 use algebra::raw as library;
 
@@ -25,6 +25,7 @@ pub enum Call {
     Index(IndexCase),
     Block(BlockCase),
     Edit(EditCase),
+    Mask(MaskCase),
 }
 
 /// The buffers that are lent to a call; a check has none, nor has a lookup. The index is the second
@@ -103,6 +104,7 @@ impl Call {
             Call::Index(_) => "index",
             Call::Block(_) => "block",
             Call::Edit(_) => "edit",
+            Call::Mask(_) => "mask",
         }
     }
 
@@ -115,6 +117,7 @@ impl Call {
             Call::Export(case) => (0, case.output, 0),
             Call::Import(case) => (0, case.output, 0),
             Call::Index(case) => (0, case.output, 0),
+            Call::Mask(case) => (0, case.output, 0),
             Call::Edit(case) => (0, case.plan, case.plan_index),
             _ => (0, 0, 0),
         };
@@ -146,6 +149,9 @@ impl Call {
                 block(&case.language, case.root, &case.tree, &case.index, &case.path).into()
             }
             Call::Edit(case) => edit(&case.input(), output, plan_index).into(),
+            Call::Mask(case) => {
+                mask(&case.language, case.root, &case.card, &case.tree, output).into()
+            }
         }
     }
 
@@ -187,6 +193,9 @@ impl Call {
                     .into()
             }
             Call::Edit(case) => library_edit(case, output, plan_index).into(),
+            Call::Mask(case) => {
+                library::mask(&case.language, case.root, &case.card, &case.tree, output).into()
+            }
         }
     }
 }
@@ -198,8 +207,8 @@ pub fn library_edit(
     plan: &mut [u8],
     plan_index: &mut [u8],
 ) -> library::EditAnswer {
-    let EditCase { language, tree, index, path, block, .. } = case;
-    library::edit(language, case.root, tree, index, path, block, plan, plan_index)
+    let EditCase { language, tree, index, path, card, block, .. } = case;
+    library::edit(language, case.root, tree, index, path, card, block, plan, plan_index)
 }
 
 #[cfg(feature = "library")]

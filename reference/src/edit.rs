@@ -1,9 +1,10 @@
 //! Edits of a plan: the block at a path is replaced by another legal tree of its kind.
 
-use crate::block::{find_place, Place};
+use crate::block::Place;
+use crate::card::read_language_and_card;
 use crate::grammar::Grammar;
 use crate::index::{check_index, index_of, put_result};
-use crate::language::read_language;
+use crate::language::{bit, Kinds};
 use crate::outcome::{require, Outcome, Refusal};
 use crate::tree::{read_levels, read_tree, root_kind, Nothing, TREE_LEVELS};
 
@@ -15,6 +16,7 @@ pub struct EditInput<'a> {
     pub tree: &'a [u8],
     pub index: &'a [u8],
     pub path: &'a [u8],
+    pub card: &'a [u8],
     pub block: &'a [u8],
 }
 
@@ -51,15 +53,37 @@ fn write_edit(
     Ok((put_result(&edited.plan, plan)?, put_result(&edited.index, plan_index)?))
 }
 
+/// Refuses a block of a kind that is not seen.
+fn check_seen(seen: Kinds, place: Place) -> Result<Place, Refusal> {
+    require(seen & bit(place.kind) != 0, Refusal::Hidden)?;
+    Ok(place)
+}
+
+/// The node of a legal tree to which a path leads, if no block on the way is hidden: each block is
+/// looked at before the next number.
+fn find_seen_place(
+    grammar: &Grammar,
+    seen: Kinds,
+    root: u8,
+    tree: &[u8],
+    path: &[u8],
+) -> Result<Place, Refusal> {
+    let root = check_seen(seen, Place::root(root, tree))?;
+    path.iter().try_fold(root, |place, &number| {
+        let next = place.argument(grammar, tree, number).ok_or(Refusal::Path)?;
+        check_seen(seen, next)
+    })
+}
+
 /// The tests of `edit` in order up to the outputs, and then the new plan with its index.
 fn edited(input: &EditInput) -> Result<Indexed, Refusal> {
     let EditInput { tree, path, block, .. } = *input;
-    let language = read_language(input.language)?;
+    let (language, seen) = read_language_and_card(input.language, input.card)?;
     let root = root_kind(&language, input.root)?;
     let grammar = Grammar::new(&language);
     read_tree(&grammar, root, tree, Nothing, ())?;
     check_index(&grammar, root, tree, input.index)?;
-    let place: Place = find_place(&grammar, root, tree, path)?;
+    let place = find_seen_place(&grammar, seen, root, tree, path)?;
     read_levels(&grammar, place.kind, block, TREE_LEVELS - path.len())?;
     let end = place.end(&grammar, tree);
     let plan = [&tree[..place.start], block, &tree[end..]].concat();

@@ -2,9 +2,11 @@
 //! strap W with a wider class, and what reduces and runs from them.
 
 use crate::call::{Answer, Buffers, Call, WORKSPACE_MARK};
-use crate::files::{class, clause, load, mapping, pack, production, stepped_class, translation};
+use crate::files::{
+    card, class, clause, load, mapping, pack, production, stepped_class, translation,
+};
 use crate::generate::{BlockCase, EditCase, ExportCase, ImportCase, IndexCase, JoinTableCase};
-use crate::generate::{ReduceCase, RunCase, ScoreCase, TreeCase};
+use crate::generate::{MaskCase, ReduceCase, RunCase, ScoreCase, TreeCase};
 use crate::reduce::{OUTPUT_LEAST, WORKSPACE_LEAST};
 
 /// A call with the answer and the bytes that it must give.
@@ -343,8 +345,8 @@ fn edits() -> Vec<Example> {
     let by = |path: &[u8], block: &[u8], plan, plan_index| {
         let (tree, index) = (SESSION.to_vec(), SESSION_INDEX.to_vec());
         let (path, block) = (path.to_vec(), block.to_vec());
-        let language = language_c();
-        Call::Edit(EditCase { language, root: 1, tree, index, path, block, plan, plan_index })
+        let (language, root, card) = (language_c(), 1, card(&[1, 2]));
+        Call::Edit(EditCase { language, root, tree, index, path, card, block, plan, plan_index })
     };
     let with_row = [0, 0, 0, 7, 0, 1, 0, 3, 0, 2, 0, 2, 0, 4, 0, 3, 0, 5, 0, 2];
     vec![
@@ -365,6 +367,36 @@ fn edits() -> Vec<Example> {
         refused("a byte behind the block", by(&[2], &[1, 0, 9, 0], 9, 20), 15),
         refused("63 more levels, and one more", by(&[2], &[2; 63], 99, 99), 16),
         refused("62 more levels, then nothing", by(&[2], &[2; 62], 99, 99), 15),
+    ]
+}
+
+/// Masked sessions of C, and edits of the sequence by one who may see only some of it.
+fn masks() -> Vec<Example> {
+    let by = |card: Vec<u8>, tree: &[u8], output| {
+        let (language, tree) = (language_c(), tree.to_vec());
+        Call::Mask(MaskCase { language, root: 1, card, tree, output })
+    };
+    let edit = |kinds: &[u8], path: &[u8]| {
+        let (tree, index, card) = (SESSION.to_vec(), SESSION_INDEX.to_vec(), card(kinds));
+        let (language, path, block) = (language_c(), path.to_vec(), vec![1, 0, 9]);
+        let (root, plan, plan_index) = (1, 7, 20);
+        Call::Edit(EditCase { language, root, tree, index, path, card, block, plan, plan_index })
+    };
+    let hidden = [2, 1, 0xFF, 3, 0xFF];
+    vec![
+        accepted("all seen", by(card(&[1, 2]), &SESSION, 7), &SESSION),
+        accepted("minutes hidden", by(card(&[1]), &SESSION, 5), &hidden),
+        accepted("blocks hidden", by(card(&[2]), &SESSION, 1), &[0xFF]),
+        accepted("an empty card", by(card(&[]), &SESSION, 9), &[0xFF]),
+        refused("minutes hidden, one byte short", by(card(&[1]), &SESSION, 4), 17),
+        refused("no card", by(vec![], &SESSION, 9), 2),
+        refused("a card with kind 32", by(card(&[1, 32]), &SESSION, 9), 2),
+        refused("a card out of order", by(card(&[2, 1]), &SESSION, 9), 3),
+        refused("a byte left over", by(card(&[]), &[1, 0, 5, 0], 9), 15),
+        refused("an edit of hidden minutes", edit(&[1], &[2, 1]), 25),
+        refused("a number below hidden minutes", edit(&[1], &[2, 1, 0]), 25),
+        refused("no such argument of a seen block", edit(&[1], &[3]), 21),
+        refused("an edit with the root hidden", edit(&[2], &[3]), 25),
     ]
 }
 
@@ -452,7 +484,7 @@ fn texts() -> Vec<Example> {
 /// All examples.
 pub fn examples() -> Vec<Example> {
     let first = [reductions(), accepted_runs(), refused_runs(), wider_strap(), rates(), checks()];
-    let sessions = [scores(), loose_scores(), texts(), blocks(), indexes(), edits()];
+    let sessions = [scores(), loose_scores(), texts(), blocks(), indexes(), edits(), masks()];
     [first.concat(), sessions.concat()].concat()
 }
 

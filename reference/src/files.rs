@@ -39,6 +39,11 @@ pub fn load(result: u8, name: u8, constant: i16, factors: &[i16]) -> Vec<u8> {
     field(0x24, &[&[result, name], &figures[..]].concat())
 }
 
+/// A field 27.
+pub fn card(kinds: &[u8]) -> Vec<u8> {
+    field(0x27, kinds)
+}
+
 /// A translation from its parts.
 pub fn translation(source: &[u8], target: &[u8], body: &[u8]) -> Vec<u8> {
     [field(0x20, source), field(0x21, target), body.to_vec()].concat()

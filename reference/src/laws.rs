@@ -2,6 +2,7 @@
 
 pub mod edits;
 pub mod loose;
+pub mod masks;
 
 use crate::generate::{legal_tree, pack_with_term, LawPack, Random};
 use crate::translation::{read_translation, Translation};

@@ -1,12 +1,13 @@
 //! Languages, translations and a reducer over bytes: a reference on decoded structures.
 //!
 //! The operations are `check_language`, `check_translation`, `check_tree`, `reduce`, `run`,
-//! `score`, `score_loose`, `join_table`, `export`, `import`, `index`, `block` and `edit`. Each
-//! answers with an `Outcome`: accepted with a length, or refused.
+//! `score`, `score_loose`, `join_table`, `export`, `import`, `index`, `block`, `edit` and `mask`.
+//! Each answers with an `Outcome`: accepted with a length, or refused.
 #![deny(unsafe_code)]
 
 mod block;
 mod body;
+mod card;
 mod code;
 #[cfg(test)]
 mod earlier;
@@ -40,6 +41,7 @@ pub mod steps;
 pub mod xslt;
 
 pub use block::{block, Block};
+pub use card::mask;
 pub use edit::{edit, Edit, EditInput};
 pub use index::index;
 pub use language::check_language;

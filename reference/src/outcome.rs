@@ -48,6 +48,8 @@ pub enum Refusal {
     Path = 21,
     /// The tree is too long for an index, or the index is not the tree's own.
     Index = 22,
+    /// The path has reached a hidden block.
+    Hidden = 25,
 }
 
 /// The answer of an operation.

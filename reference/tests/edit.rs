@@ -58,9 +58,8 @@ fn edit_by(
 ) -> (u32, Vec<u8>, Vec<u8>) {
     let [plan, plan_index] = rooms;
     let (tree, index, path, block) = (tree.to_vec(), index.to_vec(), path.to_vec(), block.to_vec());
-    let language = language();
-    let case = EditCase { language, root: 1, tree, index, path, block, plan, plan_index };
-    answer(&case)
+    let (language, root, card) = (language(), 1, card(&[1, 2]));
+    answer(&EditCase { language, root, tree, index, path, card, block, plan, plan_index })
 }
 
 /// An edit by the tree's own index.
@@ -251,8 +250,9 @@ fn either_output_too_short_is_17_and_last() {
 #[test]
 fn refusals_of_an_edit_in_order() {
     let case = |language: Vec<u8>, root, tree: &[u8], index: &[u8]| {
-        let (tree, index, path, block) = (tree.to_vec(), index.to_vec(), vec![9], vec![7]);
-        answer(&EditCase { language, root, tree, index, path, block, plan: 9, plan_index: 9 }).0
+        let (tree, index, path, card) = (tree.to_vec(), index.to_vec(), vec![9], card(&[1]));
+        let (block, plan, plan_index) = (vec![7], 9, 9);
+        answer(&EditCase { language, root, tree, index, path, card, block, plan, plan_index }).0
     };
     assert_eq!(case(vec![0; 1025], 9, &[], &[]), 1);
     assert_eq!(case(vec![0x11], 9, &[], &[]), 2);
@@ -267,15 +267,61 @@ fn refusals_of_an_edit_in_order() {
     assert_eq!(case(language(), 1, &TREE, &own(&TREE)), 21);
 }
 
+/// The number of an edit of the tree at a path by a card.
+fn seen_by(card: &[u8], path: &[u8]) -> u32 {
+    let (language, root, tree, index) = (language(), 1, TREE.to_vec(), own(&TREE));
+    let (path, card, block, plan, plan_index) = (path.to_vec(), card.to_vec(), vec![7], 0, 0);
+    answer(&EditCase { language, root, tree, index, path, card, block, plan, plan_index }).0
+}
+
+#[test]
+fn a_hidden_block_is_25_before_the_next_number() {
+    let blocks = card(&[1]);
+    assert_eq!(seen_by(&blocks, &[1, 1]), 25);
+    assert_eq!(seen_by(&blocks, &[1, 1, 0]), 25);
+    assert_eq!(seen_by(&blocks, &[1, 1, 1, 1]), 25);
+    assert_eq!(seen_by(&blocks, &[2, 1]), 25);
+    assert_eq!(seen_by(&blocks, &[1, 0]), 21);
+    assert_eq!(seen_by(&blocks, &[1, 4]), 21);
+    assert_eq!(seen_by(&blocks, &[3]), 21);
+    assert_eq!(seen_by(&blocks, &[1, 2]), 15);
+    for path in [&[][..], &[0], &[3], &[1], &[1, 1]] {
+        assert_eq!(seen_by(&card(&[2]), path), 25, "{path:?}");
+        assert_eq!(seen_by(&card(&[]), path), 25, "{path:?}");
+    }
+    assert_eq!(seen_by(&card(&[0, 1, 2, 31]), &[1, 1]), 15);
+}
+
+#[test]
+fn card_and_language_give_the_lowest_refusal() {
+    let number = |language: Vec<u8>, card: &[u8]| {
+        let (root, tree, index, path) = (9, vec![], vec![], vec![]);
+        let (card, block, plan, plan_index) = (card.to_vec(), vec![], 0, 0);
+        answer(&EditCase { language, root, tree, index, path, card, block, plan, plan_index }).0
+    };
+    let order = [language(), class(2, 5, 9)].concat();
+    let clash = [class(1, 5, 9), language()].concat();
+    assert_eq!(number(vec![0; 1025], &[]), 1);
+    assert_eq!(number(order.clone(), &[]), 2);
+    assert_eq!(number(clash.clone(), &[]), 2);
+    assert_eq!(number(language(), &[]), 2);
+    assert_eq!(number(clash.clone(), &card(&[2, 1])), 3);
+    assert_eq!(number(vec![0x11], &card(&[2, 1])), 2);
+    assert_eq!(number(language(), &card(&[2, 1])), 3);
+    assert_eq!(number(language(), &card(&[1, 1])), 3);
+    assert_eq!(number(clash, &card(&[1])), 4);
+    assert_eq!(number(language(), &card(&[1])), 14);
+}
+
 /// The number of indexes and edits for so many cases.
-fn count(cases: usize, mut next: impl FnMut() -> u32) -> [usize; 23] {
-    let mut counts = [0; 23];
+fn count(cases: usize, mut next: impl FnMut() -> u32) -> [usize; 26] {
+    let mut counts = [0; 26];
     (0..cases).for_each(|_| counts[next() as usize] += 1);
     counts
 }
 
 /// Exactly these numbers are reached, each a few times.
-fn assert_reached(counts: [usize; 23], possible: &[usize]) {
+fn assert_reached(counts: [usize; 26], possible: &[usize]) {
     for (number, &count) in counts.iter().enumerate() {
         assert_eq!(count >= 20, possible.contains(&number), "{number}: {counts:?}");
     }
@@ -312,7 +358,7 @@ fn edits_are_as_defined_and_reach_every_answer() {
         }
         number
     });
-    assert_reached(counts, &[0, 1, 2, 3, 4, 14, 15, 16, 17, 21, 22]);
+    assert_reached(counts, &[0, 1, 2, 3, 4, 14, 15, 16, 17, 21, 22, 25]);
 }
 
 /// Number and index of a tree.

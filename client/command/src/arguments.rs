@@ -20,6 +20,7 @@ pub enum Verb {
     Index,
     Block,
     Edit,
+    Mask,
     List,
     Show,
     Explain,
@@ -27,7 +28,7 @@ pub enum Verb {
 }
 
 /// The verbs with their names.
-pub const VERBS: [(&str, Verb); 17] = [
+pub const VERBS: [(&str, Verb); 18] = [
     ("check-language", Verb::CheckLanguage),
     ("check-translation", Verb::CheckTranslation),
     ("check-tree", Verb::CheckTree),
@@ -41,6 +42,7 @@ pub const VERBS: [(&str, Verb); 17] = [
     ("index", Verb::Index),
     ("block", Verb::Block),
     ("edit", Verb::Edit),
+    ("mask", Verb::Mask),
     ("list", Verb::List),
     ("show", Verb::Show),
     ("explain", Verb::Explain),
@@ -57,6 +59,7 @@ pub enum Sort {
     Translation,
     Pack,
     Table,
+    Card,
 }
 
 /// The options of a call.
@@ -76,6 +79,8 @@ pub struct Options {
     pub index: Option<OsString>,
     /// The file that the index of an edited plan is written to.
     pub new_index: Option<OsString>,
+    /// The file that has the card of an edit.
+    pub card: Option<OsString>,
 }
 
 /// A verb with what it is to work on.
@@ -112,7 +117,7 @@ impl Verb {
     fn operand_counts(self) -> &'static [usize] {
         match self {
             Verb::Edit => &[5],
-            Verb::Score | Verb::ScoreLoose | Verb::Block => &[4],
+            Verb::Score | Verb::ScoreLoose | Verb::Block | Verb::Mask => &[4],
             Verb::JoinTable => &[2],
             Verb::Show => &[1, 3],
             Verb::CheckLanguage | Verb::CheckTranslation | Verb::Reduce => &[1],
@@ -139,7 +144,7 @@ impl Verb {
     /// Whether the verb is an operation that is lent an output.
     fn has_output(self) -> bool {
         let on_tree = matches!(self, Verb::Export | Verb::Import | Verb::Index | Verb::Edit);
-        on_tree || matches!(self, Verb::Reduce | Verb::Run | Verb::JoinTable)
+        on_tree || matches!(self, Verb::Mask | Verb::Reduce | Verb::Run | Verb::JoinTable)
     }
 
     /// Whether the verb takes an option.
@@ -150,6 +155,7 @@ impl Verb {
             "--xml" => self == Verb::Steps,
             "--index" => self.takes_path() || self == Verb::Explain,
             "--new-index" => self == Verb::Edit,
+            "--card" => matches!(self, Verb::Edit | Verb::Explain),
             "--as" => matches!(self, Verb::Run | Verb::Show | Verb::Explain),
             _ => true,
         }
@@ -211,6 +217,7 @@ fn parse_option<'a>(
         "-o" => options.output = Some(value()?.clone()),
         "--index" => options.index = Some(value()?.clone()),
         "--new-index" => options.new_index = Some(value()?.clone()),
+        "--card" => options.card = Some(value()?.clone()),
         "--limit" => options.limit = Some(number(verb, "limit", value()?)?),
         "--as" => options.sort = Some(sort(verb, value()?)?),
         _ => return Err(misused(format!("{option} is no option"))),
@@ -248,6 +255,7 @@ fn sort(verb: Verb, text: &OsStr) -> Result<Sort, Failure> {
     match text.to_str() {
         Some("language") if verb == Verb::Show => Ok(Sort::Language),
         Some("table") if verb == Verb::Show => Ok(Sort::Table),
+        Some("card") if verb == Verb::Show => Ok(Sort::Card),
         Some("translation") => Ok(Sort::Translation),
         Some("pack") => Ok(Sort::Pack),
         _ => Err(misuse(Some(verb), &format!("a file cannot be taken as {}", text.display()))),
@@ -277,17 +285,27 @@ impl Call {
         if !operation.operand_counts().contains(&count) {
             return Err(format!("{count} operands are not what {} takes", operation.name()));
         }
-        let Options { limit, sort, index, new_index, .. } = &self.options;
-        let given =
-            [("--limit", limit.is_some()), ("--as", sort.is_some()), ("--index", index.is_some())];
+        let Options { limit, sort, index, card, .. } = &self.options;
+        let given = [
+            ("--limit", limit.is_some()),
+            ("--as", sort.is_some()),
+            ("--index", index.is_some()),
+            ("--card", card.is_some()),
+        ];
         if let Some((option, _)) = given.iter().find(|(option, is)| *is && !operation.takes(option))
         {
             return Err(format!("{} does not take {option}", operation.name()));
         }
+        self.check_streams(operation)
+    }
+
+    /// Says what is wrong with the files that stand for streams, if anything.
+    fn check_streams(&self, operation: Verb) -> Result<(), String> {
+        let Options { index, new_index, card, .. } = &self.options;
         let streams = self.operands.iter().enumerate();
         let streams = streams.filter(|(place, name)| *name == "-" && operation.takes_file(*place));
-        let indexes = index.iter().filter(|name| *name == "-");
-        if streams.count() + indexes.count() > 1 {
+        let others = index.iter().chain(card).filter(|name| *name == "-");
+        if streams.count() + others.count() > 1 {
             return Err("the standard input can be only one of the files".to_string());
         }
         if new_index.as_deref().is_some_and(|name| name == "-") {
@@ -398,6 +416,9 @@ mod tests {
         let twice = "the standard input can be only one of the files";
         assert_eq!(wrong("block a 1 - 1 --index -"), twice);
         assert_eq!(wrong("edit a 1 - 1 -"), twice);
+        assert_eq!(wrong("edit a 1 b 1 c --index - --card -"), twice);
+        assert_eq!(wrong("block a 1 b 1 --card c"), "block does not take --card");
+        assert_eq!(wrong("explain block a 1 b 1 --card c"), "block does not take --card");
         assert_eq!(
             wrong("edit a 1 b 1 c --new-index -"),
             "the new index must be written to a file"

@@ -1,17 +1,19 @@
 //! Where an index, a path or an edit is at fault.
 
+use crate::card;
 use crate::explanation::Finding;
 use crate::grammar::{two_bytes, Grammar};
 use crate::reading::{arguments, path_to, place_name, Node, Reader};
 use algebra::{Refusal, ENTRY_BYTES, INDEXED_BYTES, TREE_LEVELS};
 use reference::explain;
 
-/// A tree with its index, if one is given.
+/// A tree with its index, and the card of the one who looks at it, if they are given.
 pub struct Indexed<'a> {
     pub language: &'a [u8],
     pub root: u32,
     pub tree: &'a [u8],
     pub index: Option<&'a [u8]>,
+    pub card: Option<&'a [u8]>,
 }
 
 /// A tree that was read: its grammar, and its nodes in reading order.
@@ -53,6 +55,9 @@ impl Indexed<'_> {
 
     /// Reads the tree, which must be legal and short enough, and compares its index.
     fn read(&self) -> Result<Read, Finding> {
+        if let Some(card) = self.card {
+            card::check_with_language(self.language, card)?;
+        }
         if let Some(fault) = explain::tree(self.language, self.root, self.tree) {
             return Err(fault.into());
         }
@@ -69,12 +74,26 @@ impl Indexed<'_> {
     /// The place of the node to which a path leads.
     fn find(&self, read: &Read, path: &[u8]) -> Result<usize, Finding> {
         let mut place = 0;
+        self.check_shown(&read.nodes[place], &[])?;
         for (at, &number) in path.iter().enumerate() {
             let all = arguments(&read.nodes, place);
             let next = usize::from(number).checked_sub(1).and_then(|number| all.get(number));
             place = *next.ok_or_else(|| self.no_block(read, place, path, at, all.len()))?;
+            self.check_shown(&read.nodes[place], &path[..=at])?;
         }
         Ok(place)
+    }
+
+    /// The node to which a path leads must be shown by the card, if there is one.
+    fn check_shown(&self, node: &Node, path: &[u8]) -> Result<(), Finding> {
+        match self.card {
+            Some(card) if !card::shows(card, node.kind) => {
+                let what = format!("the block there is of kind {}, which is hidden", node.kind);
+                let place = format!("the path, {}", behind(path));
+                Err(Finding::new(Refusal::Hidden, &place, &what))
+            }
+            _ => Ok(()),
+        }
     }
 
     /// The fault of the path number at a place: the node that has so many arguments and not this.

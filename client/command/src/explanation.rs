@@ -15,6 +15,16 @@ impl Finding {
     pub fn new(refusal: Refusal, place: &str, what: &str) -> Finding {
         Finding { number: refusal.number(), lines: format!("where: {place}\nfault: {what}\n") }
     }
+
+    /// The refusal, by its number.
+    pub fn refusal(&self) -> Refusal {
+        Refusal::try_from(self.number).expect("both implementations have the same numbers")
+    }
+
+    /// The lines that tell where and what.
+    pub fn lines(&self) -> &str {
+        &self.lines
+    }
 }
 
 impl From<Fault> for Finding {

@@ -39,11 +39,13 @@ fn synopsis(verb: Verb) -> &'static str {
         Verb::Index => "LANGUAGE ROOT TREE [-o FILE] [--limit BYTES]",
         Verb::Block => "LANGUAGE ROOT TREE PATH [--index FILE] [-o FILE]",
         Verb::Edit => {
-            "LANGUAGE ROOT TREE PATH BLOCK [--index FILE] [-o FILE] [--new-index FILE] [--limit BYTES]"
+            "LANGUAGE ROOT TREE PATH BLOCK [--card FILE] [--index FILE] [-o FILE] [--new-index FILE] \
+             [--limit BYTES]"
         }
+        Verb::Mask => "LANGUAGE ROOT TREE CARD [-o FILE] [--limit BYTES]",
         Verb::List => "PACK",
         Verb::Show => "FILE [--as SORT] | LANGUAGE ROOT TREE",
-        Verb::Explain => "VERB OPERANDS [--limit BYTES] [--as SORT] [--index FILE]",
+        Verb::Explain => "VERB OPERANDS [--limit BYTES] [--as SORT] [--index FILE] [--card FILE]",
         Verb::Steps => "PACK ROOT TREE [--limit BYTES] [--xml]",
     }
 }
@@ -64,8 +66,11 @@ fn summary(verb: Verb) -> &'static str {
         Verb::Index => "Build the index of a tree",
         Verb::Block => "Look up one block of a tree",
         Verb::Edit => "Replace one block of a tree",
+        Verb::Mask => "Hide the blocks of a tree that a card does not show",
         Verb::List => "List the clauses of what a pack reduces to",
-        Verb::Show => "Show a language, a translation, a pack, a load table or a tree in words",
+        Verb::Show => {
+            "Show a language, a translation, a pack, a load table, a card or a tree in words"
+        }
         Verb::Explain => "Tell where the fault is that an operation refuses",
         Verb::Steps => "Show a join's runs in turn beside the run of the join",
     }
@@ -181,6 +186,8 @@ Refusals: 1 to 4, 14 to 16, 21, 22.
 ROOT is the number of a kind, and PATH leads to a block as for the verb block. BLOCK is a tree of the
 same kind, which takes its place. Below the first line, which has the length of the new plan, stand
 the length of its index, and then the plan in hexadecimal digits.
+  --card FILE    the card of the one who edits: it must show the block and each one on the way to
+                 it; without it, every kind is seen
   --index FILE   take the index of the tree from the file; without it, it is built
   -o FILE        write the plan to the file instead, as bytes, or as text with --hex. The file is
                  written whole or not at all. With - the plan alone goes to the standard output,
@@ -188,7 +195,19 @@ the length of its index, and then the plan in hexadecimal digits.
   --new-index FILE
                  write the index of the new plan to the file, likewise, before the plan is written
   --limit BYTES  lend outputs of that many bytes each; without it, as many as are needed
-Refusals: 1 to 4, 14 to 17, 21, 22.
+Refusals: 1 to 4, 14 to 17, 21, 22, 25.
+"
+        }
+        Verb::Mask => {
+            "\
+ROOT is the number of a kind, and CARD a field 27 with the kinds that a person may see. In the masked
+plan each block of another kind, root and tokens included, is the one byte FF. It is printed in
+hexadecimal digits below the first line.
+  -o FILE        write it to the file instead, as bytes, or as text with --hex. The file is
+                 written whole or not at all. With - the masked plan alone goes to the standard
+                 output, and the first line to the standard error.
+  --limit BYTES  lend an output of that many bytes; without it, as many as the tree has
+Refusals: 1 to 4, 14 to 17.
 "
         }
         Verb::List => {
@@ -202,19 +221,20 @@ each clause its result, name and code; or 'refused' and the number.
 Prints a line for each entry. What the file is, its first byte tells. A file is shown whether
 or not it is accepted, unless it is refused with 1 or 2; a load table is shown if it has whole
 fields 24 only, and a tree if it is legal.
-  --as SORT      take the file as a 'language', a 'translation', a 'pack' or a 'table'
+  --as SORT      take the file as a 'language', a 'translation', a 'pack', a 'table' or a 'card'
 "
         }
         Verb::Explain => {
             "\
 VERB is one of check-language, check-translation, check-tree, reduce, run, score, score-loose,
-join-table, export, import, index, block and edit, with its operands. Below the first line stands
-where the fault is (the byte, counted from 0, the field, the clause, the path of argument numbers in
-a tree, the operand in a term) and what it is. These lines come from a second implementation; if it
-does not come to the same number, that is said.
+join-table, export, import, index, block, edit and mask, with its operands. Below the first line
+stands where the fault is (the byte, counted from 0, the field, the clause, the path of argument
+numbers in a tree, the operand in a term) and what it is. These lines come from a second
+implementation; if it does not come to the same number, that is said.
   --limit BYTES  explain the call with an output of that many bytes
   --as SORT      for run: take the first file as a 'translation' or a 'pack'
   --index FILE   for block and edit: take the index of the tree from the file
+  --card FILE    for edit: take the card from the file
 "
         }
         Verb::Steps => {

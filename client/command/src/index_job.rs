@@ -1,6 +1,7 @@
 //! An operation on a tree with its index.
 
 use crate::arguments::{path, Call, Verb, PATH_PLACE};
+use crate::card::CARD_BYTES;
 use crate::edits::Indexed;
 use crate::explanation::Finding;
 use crate::given::Given;
@@ -9,9 +10,12 @@ use crate::job::{operand, root, tree, TREE_BYTES};
 use crate::{Failure, Streams};
 use algebra::{Edited, Refusal, ENTRY_BYTES, INDEXED_BYTES, LANGUAGE_BYTES};
 use std::borrow::Cow;
+use std::ffi::OsString;
 
 /// The place of the new block among the operands of an edit.
 const BLOCK_PLACE: usize = 4;
+/// There are so many kinds.
+const KINDS: u8 = 32;
 /// No index is longer.
 const INDEX_BYTES: usize = ENTRY_BYTES * INDEXED_BYTES;
 
@@ -31,13 +35,18 @@ pub struct IndexJob {
 enum Operation {
     Index,
     Block { path: Vec<u8> },
-    Edit { path: Vec<u8>, block: Vec<u8> },
+    Edit { path: Vec<u8>, card: Option<Vec<u8>>, block: Vec<u8> },
 }
 
-/// The index of the tree, if the options name a file for it.
-fn stored(call: &Call, streams: &mut Streams) -> Result<Option<Vec<u8>>, Failure> {
-    let Some(name) = &call.options.index else { return Ok(None) };
-    read_file(name, call.options.hexadecimal, INDEX_BYTES, streams).map(Some)
+/// The file that an option names, if it does, of which so many bytes matter.
+fn optional(
+    name: &Option<OsString>,
+    call: &Call,
+    limit: usize,
+    streams: &mut Streams,
+) -> Result<Option<Vec<u8>>, Failure> {
+    let Some(name) = name else { return Ok(None) };
+    read_file(name, call.options.hexadecimal, limit, streams).map(Some)
 }
 
 impl IndexJob {
@@ -46,13 +55,15 @@ impl IndexJob {
         let path = || path(call.verb, &call.operands[PATH_PLACE]);
         let mut operation = match verb {
             Verb::Block => Operation::Block { path: path()? },
-            Verb::Edit => Operation::Edit { path: path()?, block: vec![] },
+            Verb::Edit => Operation::Edit { path: path()?, card: None, block: vec![] },
             _ => Operation::Index,
         };
         let (root, language) = (root(call)?, operand(call, 0, LANGUAGE_BYTES, streams)?);
-        let (tree, index) = (tree(call, streams)?, stored(call, streams)?);
-        if let Operation::Edit { block, .. } = &mut operation {
+        let tree = tree(call, streams)?;
+        let index = optional(&call.options.index, call, INDEX_BYTES, streams)?;
+        if let Operation::Edit { card, block, .. } = &mut operation {
             *block = operand(call, BLOCK_PLACE, TREE_BYTES, streams)?;
+            *card = optional(&call.options.card, call, CARD_BYTES, streams)?;
         }
         let limit = call.options.limit.unwrap_or(INDEX_BYTES).min(INDEX_BYTES);
         Ok(IndexJob { operation, language, root, tree, index, limit })
@@ -65,21 +76,25 @@ impl IndexJob {
 
     /// What the library answers.
     pub fn answer(&self) -> Result<Given, Refusal> {
+        let IndexJob { language, root, tree, .. } = self;
         match &self.operation {
             Operation::Index => self.built(self.limit).map(Given::Bytes),
             Operation::Block { path } => {
-                let index = self.index()?;
-                algebra::block(&self.language, self.root, &self.tree, &index, path).map(Given::from)
+                algebra::block(language, *root, tree, &self.index(), path).map(Given::from)
             }
-            Operation::Edit { path, block } => self.edited(path, block).map(Given::Edited),
+            Operation::Edit { path, card, block } => {
+                let card = card.clone().unwrap_or_else(|| algebra::card(0..KINDS));
+                self.edited(path, &card, block).map(Given::Edited)
+            }
         }
     }
 
-    /// The index that is stored, or else the one that is built.
-    fn index(&self) -> Result<Cow<'_, [u8]>, Refusal> {
+    /// The index that is stored, or else the one that is built. Where that is refused there is none,
+    /// and what takes it is refused before it is looked at.
+    fn index(&self) -> Cow<'_, [u8]> {
         match &self.index {
-            Some(index) => Ok(Cow::Borrowed(index)),
-            None => self.built(INDEX_BYTES).map(Cow::Owned),
+            Some(index) => Cow::Borrowed(index),
+            None => Cow::Owned(self.built(INDEX_BYTES).unwrap_or_default()),
         }
     }
 
@@ -92,12 +107,12 @@ impl IndexJob {
     }
 
     /// What an edit gives.
-    fn edited(&self, path: &[u8], block: &[u8]) -> Result<Edited, Refusal> {
+    fn edited(&self, path: &[u8], card: &[u8], block: &[u8]) -> Result<Edited, Refusal> {
         let IndexJob { language, root, tree, limit, .. } = self;
         let (mut plan, mut index) = (vec![0; *limit], vec![0; *limit]);
-        let old = self.index()?;
+        let old = self.index();
         let lengths =
-            algebra::edit(language, *root, tree, &old, path, block, &mut plan, &mut index)?;
+            algebra::edit(language, *root, tree, &old, path, card, block, &mut plan, &mut index)?;
         plan.truncate(lengths.0);
         index.truncate(lengths.1);
         Ok(Edited { plan, index })
@@ -106,11 +121,15 @@ impl IndexJob {
     /// Where a second reading finds a fault, if it does.
     pub fn fault(&self) -> Option<Finding> {
         let IndexJob { language, root, tree, index, limit, .. } = self;
-        let indexed = Indexed { language, root: *root, tree, index: index.as_deref() };
+        let card = match &self.operation {
+            Operation::Edit { card, .. } => card.as_deref(),
+            _ => None,
+        };
+        let indexed = Indexed { language, root: *root, tree, index: index.as_deref(), card };
         match &self.operation {
             Operation::Index => indexed.index_fault(*limit),
             Operation::Block { path } => indexed.block_fault(path),
-            Operation::Edit { path, block } => indexed.edit_fault(path, block, *limit),
+            Operation::Edit { path, block, .. } => indexed.edit_fault(path, block, *limit),
         }
     }
 }

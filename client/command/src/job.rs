@@ -49,6 +49,7 @@ pub fn sort_of(file: &[u8]) -> Option<Sort> {
         None | Some(0x11 | 0x12) => Some(Sort::Language),
         Some(0x20..=0x23) => Some(Sort::Translation),
         Some(0x24) => Some(Sort::Table),
+        Some(0x27) => Some(Sort::Card),
         Some(0x30..=0x32) => Some(Sort::Pack),
         Some(_) => None,
     }

@@ -2,6 +2,7 @@
 #![forbid(unsafe_code)]
 
 mod arguments;
+mod card;
 mod edits;
 mod explanation;
 mod given;

@@ -1,6 +1,7 @@
 //! An operation on a tree, or on its text, in a language.
 
 use crate::arguments::{Call, Verb};
+use crate::card::{mask_fault, CARD_BYTES};
 use crate::explanation::Finding;
 use crate::given::Given;
 use crate::input::read_file;
@@ -9,8 +10,9 @@ use crate::{loose, Failure, Streams};
 use algebra::{Refusal, LANGUAGE_BYTES, TABLE_BYTES};
 use reference::explain;
 
-/// The place of a load table among the operands of a score.
+/// The place of a load table among the operands of a score, and of a card among those of a mask.
 const TABLE_PLACE: usize = 3;
+const CARD_PLACE: usize = 3;
 
 /// The inputs of one operation.
 pub struct TreeJob {
@@ -28,6 +30,7 @@ enum Operation {
     ScoreLoose { table: Vec<u8> },
     Export { limit: usize },
     Import { limit: usize },
+    Mask { card: Vec<u8>, limit: Option<usize> },
 }
 
 /// The text, which is the third operand and never hexadecimal.
@@ -43,6 +46,7 @@ impl TreeJob {
             Verb::ScoreLoose => Operation::ScoreLoose { table: vec![] },
             Verb::Export => Operation::Export { limit: run_limit(call) },
             Verb::Import => Operation::Import { limit: run_limit(call) },
+            Verb::Mask => Operation::Mask { card: vec![], limit: call.options.limit },
             _ => Operation::Check,
         };
         let (root, language) = (root(call)?, operand(call, 0, LANGUAGE_BYTES, streams)?);
@@ -50,8 +54,12 @@ impl TreeJob {
             Operation::Import { .. } => text(call, streams)?,
             _ => tree(call, streams)?,
         };
-        if let Operation::Score { table } | Operation::ScoreLoose { table } = &mut operation {
-            *table = operand(call, TABLE_PLACE, TABLE_BYTES, streams)?;
+        match &mut operation {
+            Operation::Score { table } | Operation::ScoreLoose { table } => {
+                *table = operand(call, TABLE_PLACE, TABLE_BYTES, streams)?;
+            }
+            Operation::Mask { card, .. } => *card = operand(call, CARD_PLACE, CARD_BYTES, streams)?,
+            _ => (),
         }
         Ok(TreeJob { operation, language, root, tree })
     }
@@ -80,7 +88,17 @@ impl TreeJob {
             Operation::Import { limit } => {
                 algebra::import_to_vec(language, *root, tree, *limit).map(Given::Bytes)
             }
+            Operation::Mask { card, limit } => self.masked(card, *limit).map(Given::Bytes),
         }
+    }
+
+    /// The masked plan, in an output of so many bytes, or of those of the tree.
+    fn masked(&self, card: &[u8], limit: Option<usize>) -> Result<Vec<u8>, Refusal> {
+        let TreeJob { language, root, tree, .. } = self;
+        let mut output = vec![0; limit.unwrap_or(tree.len()).min(tree.len())];
+        let length = algebra::mask(language, *root, card, tree, &mut output)?;
+        output.truncate(length);
+        Ok(output)
     }
 
     /// Where a second reading finds a fault, if it does.
@@ -94,6 +112,10 @@ impl TreeJob {
             }
             Operation::Export { limit } => explain::export(language, *root, tree, *limit),
             Operation::Import { limit } => explain::import(language, *root, tree, *limit),
+            Operation::Mask { card, limit } => {
+                let limit = limit.unwrap_or(tree.len());
+                return mask_fault(language, *root, card, tree, limit);
+            }
         };
         fault.map(Finding::from)
     }

@@ -1,14 +1,13 @@
 //! What each verb prints.
 
 use crate::arguments::{misuse, Call, Sort, Verb};
-use crate::explanation::explanation;
+use crate::explanation::{explanation, Finding};
 use crate::given::{Figure, Given};
 use crate::job::{operand, root, sort_of, tree, Job};
 use crate::output::write_file;
 use crate::work::work;
-use crate::{steps, Failure, Printed, Streams, ACCEPTED, REFUSED};
+use crate::{card, steps, Failure, Printed, Streams, ACCEPTED, REFUSED};
 use algebra::{Refusal, LANGUAGE_BYTES, PACK_BYTES};
-use reference::explain::Fault;
 use reference::listing::clause_lines;
 use reference::show;
 use std::fmt::Display;
@@ -96,7 +95,8 @@ fn show(call: &Call, streams: &mut Streams) -> Result<Printed, Failure> {
     }
     let (root, language) = (root(call)?, operand(call, 0, LANGUAGE_BYTES, streams)?);
     let tree = tree(call, streams)?;
-    work(tree.len(), streams, || show::tree(&language, root, &tree)).map(shown)
+    let task = || show::tree(&language, root, &tree).map_err(Finding::from);
+    work(tree.len(), streams, task).map(shown)
 }
 
 /// Prints a file in words.
@@ -108,23 +108,19 @@ fn show_file(call: &Call, streams: &mut Streams) -> Result<Printed, Failure> {
         return Err(misuse(Some(Verb::Show), &what));
     };
     let task = || match sort {
-        Sort::Language => show::language(&file),
-        Sort::Translation => show::translation(&file),
-        Sort::Pack => show::pack(&file),
-        Sort::Table => show::table(&file),
+        Sort::Language => show::language(&file).map_err(Finding::from),
+        Sort::Translation => show::translation(&file).map_err(Finding::from),
+        Sort::Pack => show::pack(&file).map_err(Finding::from),
+        Sort::Table => show::table(&file).map_err(Finding::from),
+        Sort::Card => card::shown(&file),
     };
     work(0, streams, task).map(shown)
 }
 
 /// What is printed for something that can be shown, or not.
-fn shown(text: Result<String, Fault>) -> Printed {
+fn shown(text: Result<String, Finding>) -> Printed {
     match text {
         Ok(text) => Printed { output: text.into(), messages: String::new(), status: ACCEPTED },
-        Err(fault) => printed(Err::<usize, _>(refusal_of(&fault)), &format!("{fault}\n")),
+        Err(finding) => printed(Err::<usize, _>(finding.refusal()), finding.lines()),
     }
-}
-
-/// The refusal of a fault, by its number.
-fn refusal_of(fault: &Fault) -> Refusal {
-    Refusal::try_from(fault.reason as u32).expect("both implementations have the same numbers")
 }

@@ -38,16 +38,17 @@ struct Printed {
     hexadecimal: bool,
 }
 
-/// An input of a call, a root, or a path.
+/// An input of a call, a root, a path, or an option that a file follows.
 enum Operand<'a> {
     File(&'a [u8]),
     /// A file that is never hexadecimal.
     Text(&'a [u8]),
     Root(u32),
     Path(&'a [u8]),
+    Word(&'static str),
 }
 
-use Operand::{File, Path, Root, Text};
+use Operand::{File, Path, Root, Text, Word};
 
 impl Operand<'_> {
     /// The contents of a file, or the word of an operand that is none.
@@ -55,6 +56,7 @@ impl Operand<'_> {
         match self {
             Root(root) => Err(root.to_string()),
             Path(numbers) => Err(path_text(numbers)),
+            Word(word) => Err(word.to_string()),
             Text(bytes) => Ok(bytes.to_vec()),
             File(bytes) => Ok(encoded(bytes, hexadecimal)),
         }
@@ -560,7 +562,7 @@ fn compare_edit(
 
 #[test]
 fn edit() {
-    let folder = Folder::new("edit");
+    let (folder, all) = (Folder::new("edit"), algebra::card(0..32));
     let (mut accepted, mut refused) = (0, 0);
     for case in 0..CASES {
         let random = &mut Random::new(case);
@@ -574,7 +576,7 @@ fn edit() {
             _ => old,
         };
         let operands = [File(language), Root(root), File(tree), Path(path), File(block)];
-        let answer = algebra::edit_to_vec(language, root, tree, &index, path, block);
+        let answer = algebra::edit_to_vec(language, root, tree, &index, path, &all, block);
         compare_edit(&folder, case, &operands, &answer);
         let number = answer.as_ref().map_or_else(|refusal| refusal.number(), |_| 0);
         accepted += usize::from(number == 0);
@@ -583,6 +585,55 @@ fn edit() {
         compare_explanation(&folder, case, "edit", &operands, &[], length, number);
     }
     assert!(accepted > 100 && refused > 100, "{accepted} accepted, {refused} refused");
+}
+
+/// A card that shows each kind in half of the cases, or bytes that are none.
+fn some_card(random: &mut Random) -> Vec<u8> {
+    let mut card = algebra::card((0..32).filter(|_| random.percent(50)));
+    if random.percent(20) {
+        let place = random.below(card.len());
+        card[place] = random.below(40) as u8;
+    }
+    card
+}
+
+#[test]
+fn mask() {
+    let folder = Folder::new("mask");
+    for case in 0..CASES {
+        let random = &mut Random::new(case);
+        let (input, card) = (tree_case(random), some_card(random));
+        let (language, root, tree) = (&input.language, input.root, &input.tree);
+        let room = random.below(tree.len() + 2);
+        let operands = [File(language), Root(root), File(tree), File(&card)];
+        let (mut output, options) = (vec![0; room], limit_options(room));
+        let answer = algebra::mask(language, root, &card, tree, &mut output);
+        let result = answer.map(|length| &output[..length]);
+        compare_result(&folder, case, "mask", &operands, &options, result);
+        let number = answer.err().map_or(0, Refusal::number);
+        compare_explanation(&folder, case, "mask", &operands, &options, answer, number);
+    }
+}
+
+#[test]
+fn edit_by_a_card() {
+    let folder = Folder::new("card");
+    for case in 0..CASES {
+        let random = &mut Random::new(case);
+        let (input, card) = (block_case(random), some_card(random));
+        let (language, root, tree, path) = (&input.language, input.root, &input.tree, &input.path);
+        let index = algebra::index_to_vec(language, root, tree).unwrap_or_default();
+        let old = algebra::block(language, root, tree, &index, path).map_or(&[][..], |of| of.bytes);
+        let answer = algebra::edit_to_vec(language, root, tree, &index, path, &card, old);
+        let (plan, by) = (File(tree), File(&card));
+        let operands =
+            [File(language), Root(root), plan, Path(path), File(old), Word("--card"), by];
+        let printed = folder.call(random, &["edit"], &operands, &[]);
+        printed.compare(case, &answer, |edited| edited.plan.len());
+        let number = answer.as_ref().map_or_else(|refusal| refusal.number(), |_| 0);
+        let length = answer.map(|edited| edited.plan.len());
+        compare_explanation(&folder, case, "edit", &operands, &[], length, number);
+    }
 }
 
 #[test]

@@ -23,6 +23,8 @@ extern "C" {
         index_length: usize,
         path: *const u8,
         path_length: usize,
+        card: *const u8,
+        card_length: usize,
         block: *const u8,
         block_length: usize,
         plan: *mut u8,
@@ -65,8 +67,8 @@ pub fn index(language: &[u8], root: u32, tree: &[u8], output: &mut [u8]) -> Answ
     Answer { number, length }
 }
 
-/// Replaces the block of a tree at a path; the new plan and its index are each at the start of
-/// their output.
+/// Replaces the block of a tree at a path, if the card shows the way there; the new plan and its
+/// index are each at the start of their output.
 #[allow(clippy::too_many_arguments)]
 pub fn edit(
     language: &[u8],
@@ -74,6 +76,7 @@ pub fn edit(
     tree: &[u8],
     index: &[u8],
     path: &[u8],
+    card: &[u8],
     block: &[u8],
     plan: &mut [u8],
     plan_index: &mut [u8],
@@ -92,6 +95,8 @@ pub fn edit(
             index.len(),
             path.as_ptr(),
             path.len(),
+            card.as_ptr(),
+            card.len(),
             block.as_ptr(),
             block.len(),
             plan.as_mut_ptr(),

@@ -14,6 +14,7 @@ ghost use Rattle.score.specs.Operations.{scoreTree};
 ghost use Rattle.loads.specs.Joined.{joinTable};
 ghost use Rattle.loose.specs.Operations.{scoreLoose};
 ghost use Rattle.xml.specs.Operations.{exportTree, importTree};
+ghost use Rattle.mask.specs.Operations.{maskTree};
 use block::show::place;
 use checks::translations::check_translation;
 use checks::trees::check_tree;
@@ -25,6 +26,7 @@ use index::build::index;
 use language::check::check_language;
 use loads::join::join_table;
 use loose::operation::score_loose;
+use mask::mask::mask;
 use reducer::reduce::reduce;
 use runner::run::run;
 use score::score::score;
@@ -215,6 +217,24 @@ pub extern "C" fn algebra_index(
     hand_over(answer, length)
 }
 
+// Mask a tree of the root kind for the holder of a card; the length of the masked bytes is put into `length`.
+#[no_mangle]
+pub extern "C" fn algebra_mask(
+    language: &[u8],
+    root: u32,
+    card: &[u8],
+    tree: &[u8],
+    output: &mut [u8],
+    length: &mut u64,
+) -> u32
+    ensures { λ r. ⌜ (r ≡ numberOf (maskTree (now (language .entry)) root (now (card .entry)) (now (tree .entry)) (now (output .entry)) .outcome))
+        × (now (length .exit) ≡ lengthOf (maskTree (now (language .entry)) root (now (card .entry)) (now (tree .entry)) (now (output .entry)) .outcome))
+        × (now (output .exit) ≡ maskTree (now (language .entry)) root (now (card .entry)) (now (tree .entry)) (now (output .entry)) .output) ⌝ }
+{
+    let answer = mask(language, root, card, tree, output);
+    hand_over(answer, length)
+}
+
 // Show one block of a tree of the root kind that has the index. Where it starts in the tree, how many bytes it has there and its
 // kind are put into `start`, `length` and `kind`.
 #[no_mangle]
@@ -238,8 +258,8 @@ pub extern "C" fn algebra_block(
     hand_over(Answer { outcome: outcome }, length)
 }
 
-// Replace the block at a path of a plan of the root kind that has the index. The new plan and its index are put into `plan` and
-// `plan_index`, their lengths into `plan_length` and `index_length`.
+// Replace the block at a path of a plan of the root kind that has the index, for the holder of a card. The new plan and its index
+// are put into `plan` and `plan_index`, their lengths into `plan_length` and `index_length`.
 #[no_mangle]
 pub extern "C" fn algebra_edit(
     language: &[u8],
@@ -247,16 +267,27 @@ pub extern "C" fn algebra_edit(
     tree: &[u8],
     index: &[u8],
     path: &[u8],
+    card: &[u8],
     block: &[u8],
     plan: &mut [u8],
     plan_index: &mut [u8],
     plan_length: &mut u64,
     index_length: &mut u64,
 ) -> u32
-    ensures { λ r. ⌜ EditTold (editTree (now (language .entry)) root (now (tree .entry)) (now (index .entry)) (now (path .entry)) (now (block .entry)) (now (plan .entry)) (now («plan_index» .entry)))
+    ensures { λ r. ⌜ EditTold (editTree (now (language .entry)) root (now (tree .entry)) (now (index .entry)) (now (path .entry)) (now (card .entry)) (now (block .entry)) (now (plan .entry)) (now («plan_index» .entry)))
         r (now («plan_length» .exit)) (now («index_length» .exit)) (now (plan .exit)) (now («plan_index» .exit)) ⌝ }
 {
-    let edited = edit(language, root, tree, index, path, block, plan, plan_index);
+    let edited = edit(
+        language,
+        root,
+        tree,
+        index,
+        path,
+        card,
+        block,
+        plan,
+        plan_index,
+    );
     let outcome = edited.outcome;
     *index_length = edited.indexed as u64;
     hand_over(Answer { outcome: outcome }, plan_length)

@@ -3,7 +3,6 @@ use Prim.Native.Nat.{ℕ, _+_, _-_, _<_, _≤_}
 use mathlib.Core.Path.{_≡_, refl, sym, ap, subst, _∙_}
 use mathlib.Core.Bool.{Bool, true, false}
 use mathlib.Core.List.{List, [], _∷_, _++_, append-nil}
-use mathlib.Core.Option.{some}
 use native.Mathlib.Omega.{arith}
 use lib.ListN.{length, getD, take, drop, length-append, drop-of-length-le}
 use lib.Seq.{drop-append-seam}
@@ -12,34 +11,30 @@ use borrow.Author.Tests.{lt-ltb, le-ltb}
 use Rattle.fields.specs.Fields.{pairAt}
 use Rattle.fields.specs.Inner.Writing.{spliced}
 use Rattle.fields.specs.Outcome.{Result, value, refused, _>>=_, numberOf, lengthOf}
-use Rattle.fields.specs.declared.outcome.Outcome.{Outcome}
 use Rattle.fields.specs.declared.outcome.Outcome.the-variants.{Accepted, Refused}
 use Rattle.fields.specs.declared.outcome.Reason.{Reason}
 use Rattle.fields.specs.declared.outcome.Reason.the-variants.{OutputTooShort, NotIndexed, NoBlock, Hidden, IllegalTree, TooDeep}
 use Rattle.fields.proofs.Codec.{bytes-from}
 use Rattle.fields.proofs.Split.{front}
 use Rattle.language.specs.Language.{Language}
-use Rattle.language.specs.LanguageFile.{entriesOf}
 use Rattle.reader.specs.Code.{Code}
 use Rattle.reader.specs.Syntax as Meant
 use Rattle.reader.specs.Syntax.{write, tree}
 use Rattle.reader.specs.Operations.{treeLevels, wholeTree}
 use Rattle.reader.specs.declared.node.Read.{Read}
 use Rattle.reader.specs.declared.node.Read.the-variants.{End, Deep, Broken}
-use Rattle.reader.specs.Inner.Index.{Indexed, Ready}
+use Rattle.reader.specs.Inner.Index.{Ready}
 use Rattle.reader.specs.Inner.Positions.{EndsBy, restAt, restOf, rest, deep, broken}
 use Rattle.reader.proofs.Members.{in-below}
 use Rattle.reader.proofs.Sound.{read-done}
 use Rattle.index.specs.Spans.{Span, span, size, spans, entries, indexOf}
-use Rattle.index.specs.Operations.{longest, isLong, checkIndexed}
+use Rattle.index.specs.Operations.{longest, isLong}
 use Rattle.index.specs.Inner.Marking.{lastPlace}
 use Rattle.index.specs.Inner.Starts.{Behind, Splits}
 use Rattle.index.proofs.Pairs.{Entry}
 use Rattle.index.proofs.Walking.{entries-append, entries-few}
-use Rattle.index.proofs.Starts.{own-span, spans-below, entered-own, own-entered}
+use Rattle.index.proofs.Starts.{own-span, spans-below, entered-own}
 use Rattle.index.proofs.Building.{put-first}
-use Rattle.index.proofs.Checking.{tree-bytes}
-use Rattle.index.proofs.Owning.{Owned, accepted-own, refused-own, owned-small, owned-there}
 use Rattle.block.specs.Blocks.{Block, blockOf, Reached, nowhere, blockAt, everyKind}
 use Rattle.block.specs.Operations.{found}
 use Rattle.block.proofs.Reaching.{seen-reached}
@@ -47,7 +42,7 @@ use Rattle.block.specs.Inner.Descent.{Ends}
 use Rattle.block.specs.declared.descent.Step.{Step}
 use Rattle.block.specs.declared.descent.Step.the-variants.{To, Nowhere, Unseen}
 use Rattle.edit.specs.Plans.{replaceAt}
-use Rattle.edit.specs.Operations.{newBlock, newPlan, editPlan, inRooms, Editing, editTree}
+use Rattle.edit.specs.Operations.{newBlock, newPlan, inRooms, Editing}
 use Rattle.edit.specs.Answers.{Hands, EditTold}
 use Rattle.edit.specs.Inner.Moving.{Movable, Parted, Rewrites, movedSpans, Replaces, Reaches, Owns, Gives}
 use Rattle.edit.specs.declared.edit.Edited.{Edited}
@@ -355,41 +350,6 @@ module _ (x s b i path : List ℕ) (kind : ℕ) (l : Language) (t : Code) (sees 
         → Gives ((newBlock l path (blockOf a k (er .to a k p q .0)) block >>= λ u. newPlan path u t) >>= λ v. inRooms (length plan) (length index) v) plan plan′ index index′ e
         → Gives (Whole block plan index (found (blockAt sees l path (blockOf 0 kind t)))) plan plan′ index index′ e
     path-given block plan index plan′ index′ e c = rw (er .to a k p q .1) c
-
--- edit
-module _ (s : List ℕ) (root : ℕ) (b i : List ℕ) {o : Outcome} (eo : o ≡ checkIndexed s root b i) where
-  pub edit-refused : (path block plan index : List ℕ) {y : Reason} → o ≡ Refused y → (r : Edited) → Refuses y r → Hands (editTree s root b i path block plan index) plan index r
-  unfolding editTree editPlan
-  edit-refused path block plan index {y} q r c =
-      let z : editPlan s root b i path block ≡ refused y =
-      refused-own s root b i (λ l t. found (blockAt everyKind l path (blockOf 0 root t)) >>= λ d. newBlock l path d block >>= λ u. newPlan path u t) (sym eo ∙ q) in
-      gives-refused (editPlan s root b i path block >>= λ v. inRooms (length plan) (length index) v) plan index y r
-      (ap (λ (m : Result Code). m >>= λ v. inRooms (length plan) (length index) v) z) c
-
-  module _ {n : ℕ} (accepted : o ≡ Accepted n) where
-    pub owned : Owned s root b i
-    owned = accepted-own s root b i (sym eo ∙ accepted)
-
-    pub root-small : root < 32
-    root-small = owned-small s root b i (owned .language) (owned .subject) (owned .by)
-
-    pub owns : (places : List ℕ) → ((j : ℕ) → getD b j 0 < 256) → ((m : ℕ) (l : Language) → o ≡ Accepted m → entriesOf s ≡ some l → Indexed places s l)
-        → Owns places s b i root (owned .language) (owned .subject)
-    owns places bytes indexed = record {
-      plan = sym (tree-bytes (owned .language) root b (owned .subject) bytes (owned .by .tree-is));
-      own = owned .by .own;
-      along = record {
-        there = owned-there s root b i (owned .language) (owned .subject) (owned .by) places bytes (λ l e. indexed n l accepted e);
-        entered = own-entered i (owned .subject) (owned .by .own);
-        short = owned .by .short;
-      };
-    }
-
-    pub edit-given : (path block plan index plan′ index′ : List ℕ) (r : Edited)
-        → Gives ((found (blockAt everyKind (owned .language) path (blockOf 0 root (owned .subject))) >>= λ c. newBlock (owned .language) path c block >>= λ u. newPlan path u (owned .subject)) >>= λ v. inRooms (length plan) (length index) v) plan plan′ index index′ r
-        → Hands (editTree s root b i path block plan index) plan′ index′ r
-    unfolding editTree editPlan
-    edit-given path block plan index plan′ index′ r c = let w = owned .by in rw (w .is, w .indexed-is) c
 
 -- The answer told by numbers.
 pub tells : (d : Editing) (plan index : List ℕ) (r : Edited) → Hands d plan index r → (n m : ℕ) → n ≡ numberOf (r .outcome) → m ≡ lengthOf (r .outcome)

@@ -27,9 +27,11 @@ use Rattle.index.specs.Operations.{isLong, indexedTree}
 use Rattle.index.specs.Inner.Lying.{Lies}
 use Rattle.index.proofs.Checking.{tree-bytes, tree-lies, language-facts}
 use Rattle.index.proofs.Owning.{OwnedBy, indexed-owned}
+use Rattle.card.specs.Card.{Card, sees, cardOf}
+use Rattle.card.proofs.Refusals.{together-value}
 use Rattle.block.specs.Blocks.{Block, blockOf, bytesOf, argumentAfter, argumentOf, reached, nowhere, blockAt, everyKind}
 use Rattle.block.specs.Operations.{found, findBlock}
-use Rattle.block.proofs.Reaching.{reached-inj, nowhere-reached}
+use Rattle.block.proofs.Reaching.{reached-inj, nowhere-reached, seen-reached}
 use Rattle.block.proofs.Legal.{found-reached}
 use Rattle.edit.specs.Plans.{replaceAfter, replaceAt}
 use Rattle.edit.specs.Operations.{newBlock, editPlan}
@@ -119,12 +121,15 @@ module _ (l : Language) (u : Code) (c : Block) where
       go h (some d) q f = argument-typed l path u d i (x .start) (x .subtree) (x .kind) w q (h d f)
 
 -- The steps of an edit that was made.
-module _ (s : List ℕ) (root : ℕ) (bytes index path block : List ℕ) (byte : (i : ℕ) → byteAt bytes i < 256) (blocks : (i : ℕ) → byteAt block i < 256)
-    (l : Language) (t : Code) (c : Block) (u : Code) (el : languageOf s ≡ value l) (et : indexedTree l root bytes index ≡ value t)
-    (ec : blockAt everyKind l path (blockOf 0 root t) ≡ reached c) (eu : newBlock l path c block ≡ value u)
+module _ (s : List ℕ) (root : ℕ) (bytes index path card block : List ℕ) (byte : (i : ℕ) → byteAt bytes i < 256) (blocks : (i : ℕ) → byteAt block i < 256)
+    (l : Language) (d : Card) (t : Code) (c : Block) (u : Code) (el : languageOf s ≡ value l) (ed : cardOf card ≡ value d)
+    (et : indexedTree l root bytes index ≡ value t) (es : blockAt (sees d) l path (blockOf 0 root t) ≡ reached c) (eu : newBlock l path c block ≡ value u)
     (short : isLong (write tree (replaceAt path u t)) ≡ false) where
   abbrev next : Code
   next = replaceAt path u t
+
+  ec : blockAt everyKind l path (blockOf 0 root t) ≡ reached c
+  ec = seen-reached (sees d) l c path (blockOf 0 root t) es
 
   by : OwnedBy s root bytes index l t
   by = indexed-owned s root bytes index l t el et
@@ -179,11 +184,21 @@ module _ (s : List ℕ) (root : ℕ) (bytes index path block : List ℕ) (byte :
   same-plan : block ≡ bytesOf c → next ≡ t
   same-plan e = value-inj (sym next-tree ∙ (ap (treeOf l root) (same-bytes e) ∙ by .tree-is))
 
-  pub edits : Edits s root bytes index path block next
+  seen-there : (k : Language) (e : Card) (p : Code) → languageOf s ≡ value k → cardOf card ≡ value e → indexedTree k root bytes index ≡ value p
+      → blockAt (sees e) k path (blockOf 0 root p) ≡ reached c
+  seen-there k e p ek ee ep =
+      let x : l ≡ k = value-inj (sym el ∙ ek) in
+      let y : d ≡ e = value-inj (sym ed ∙ ee) in
+      let q : indexedTree l root bytes index ≡ value p = rw x ep in
+      let z : t ≡ p = value-inj (sym et ∙ q) in
+      rw (← x, ← y, ← z) es
+
+  pub edits : Edits s root bytes index path card block next
   unfolding findBlock
   edits = record {
     old = c;
     there = rw (el, et, ec);
+    seen = seen-there;
     around = next-around;
     legal = λ k ek. let z : l ≡ k = value-inj (sym el ∙ ek) in rw (← z) next-indexed;
     new = blockOf (c .start) (c .kind) u;
@@ -195,12 +210,13 @@ module _ (s : List ℕ) (root : ℕ) (bytes index path block : List ℕ) (byte :
 
 pub edits-are-sound : EditsAreSound
 unfolding editPlan
-edits-are-sound s root bytes index path block t byte blocks e =
-    let l = step-value (languageOf s) _ e in
-    let p = step-value (indexedTree (l .0) root bytes index) _ (l .2) in
-    let c = step-value (found (blockAt everyKind (l .0) path (blockOf 0 root (p .0)))) _ (p .2) in
-    let u = step-value (newBlock (l .0) path (c .0) block) _ (c .2) in
+edits-are-sound s root bytes index path card block t byte blocks e =
+    let b = together-value (languageOf s) (cardOf card) _ e in
+    let l = b .0 in
+    let p = step-value (indexedTree l root bytes index) _ (b .4) in
+    let c = step-value (found (blockAt (sees (b .1)) l path (blockOf 0 root (p .0)))) _ (p .2) in
+    let u = step-value (newBlock l path (c .0) block) _ (c .2) in
     let r = refuse-value (isLong (write tree (replaceAt path (u .0) (p .0)))) NotIndexed (value (replaceAt path (u .0) (p .0))) (u .2) in
     let z : replaceAt path (u .0) (p .0) ≡ t = value-inj (r .1) in
-    subst (Edits s root bytes index path block) z
-    (edits s root bytes index path block byte blocks (l .0) (p .0) (c .0) (u .0) (l .1) (p .1) (found-reached _ (c .0) (c .1)) (u .1) (r .0))
+    subst (Edits s root bytes index path card block) z
+    (edits s root bytes index path card block byte blocks l (b .1) (p .0) (c .0) (u .0) (b .2) (b .3) (p .1) (found-reached _ (c .0) (c .1)) (u .1) (r .0))

@@ -1,4 +1,4 @@
--- What holds of every edit (paper 02, 2026-08).
+-- What holds of every edit (paper 02, 2026-08; the card by 2026-12).
 use Prim.Native.Nat.{ℕ, _+_, _<_}
 use mathlib.Core.Path.{_≡_}
 use mathlib.Core.List.{List, _++_}
@@ -11,15 +11,19 @@ use Rattle.reader.specs.Code.{Code}
 use Rattle.reader.specs.Syntax.{write, tree}
 use Rattle.index.specs.Spans.{indexOf}
 use Rattle.index.specs.Operations.{indexedTree}
-use Rattle.block.specs.Blocks.{Block, bytesOf}
+use Rattle.card.specs.Card.{Card, sees, cardOf}
+use Rattle.block.specs.Blocks.{Block, blockOf, bytesOf, reached, blockAt}
 use Rattle.block.specs.Operations.{findBlock}
 use Rattle.edit.specs.Operations.{editPlan}
 
 -- A new plan, by the block that stood at the path.
-pub record Edits (language : List ℕ) (root : ℕ) (bytes index path block : List ℕ) (t : Code) : Type 0 where
+pub record Edits (language : List ℕ) (root : ℕ) (bytes index path card block : List ℕ) (t : Code) : Type 0 where
   pub old : Block
-  -- The path leads to a block of the old plan.
+  -- The path leads to a block of the old plan: to the one that is shown there without a card,
   pub there : findBlock language root bytes index path ≡ value old
+  -- and the card sees each block on the way, the root and that block included.
+  pub seen : (l : Language) (c : Card) (plan : Code) → languageOf language ≡ value l → cardOf card ≡ value c → indexedTree l root bytes index ≡ value plan
+      → blockAt (sees c) l path (blockOf 0 root plan) ≡ reached old
   -- The bytes before and after the block are those of the old plan.
   pub around : write tree t ≡ take (old .start) bytes ++ (block ++ drop (old .start + length (bytesOf old)) bytes)
   -- The new plan is a legal tree of the root kind, within the levels and not too long, and its index is its own.
@@ -35,6 +39,6 @@ pub record Edits (language : List ℕ) (root : ℕ) (bytes index path block : Li
 -- Every edit that is made is such a one.
 abbrev pub EditsAreSound : Type 0
 EditsAreSound =
-    (language : List ℕ) (root : ℕ) (bytes index path block : List ℕ) (t : Code)
+    (language : List ℕ) (root : ℕ) (bytes index path card block : List ℕ) (t : Code)
     → ((i : ℕ) → byteAt bytes i < 256) → ((i : ℕ) → byteAt block i < 256)
-    → editPlan language root bytes index path block ≡ value t → Edits language root bytes index path block t
+    → editPlan language root bytes index path card block ≡ value t → Edits language root bytes index path card block t

@@ -1,4 +1,4 @@
--- The edit of a plan (paper 02, 2026-08).
+-- The edit of a plan (paper 02, 2026-08; the card by 2026-12).
 use Prim.Native.Nat.{ℕ, _-_}
 use mathlib.Core.Bool.{_||_}
 use mathlib.Core.List.{List, []}
@@ -15,7 +15,8 @@ use Rattle.reader.specs.Syntax.{read, write, tree}
 use Rattle.reader.specs.Operations.{treeLevels, wholeTree}
 use Rattle.index.specs.Spans.{indexOf}
 use Rattle.index.specs.Operations.{isLong, indexedTree}
-use Rattle.block.specs.Blocks.{Block, blockOf, blockAt, everyKind}
+use Rattle.card.specs.Card.{sees, cardOf, together}
+use Rattle.block.specs.Blocks.{Block, blockOf, blockAt}
 use Rattle.block.specs.Operations.{found}
 use Rattle.edit.specs.Plans.{replaceAt}
 
@@ -28,13 +29,13 @@ newBlock l path b block = wholeTree (read tree l [] (treeLevels - length path) (
 abbrev pub newPlan : (path : List ℕ) → (block plan : Code) → Result Code
 newPlan path u t = refuseIf (isLong (write tree (replaceAt path u t))) NotIndexed (value (replaceAt path u t))
 
--- Edit: 1 to 4 for the language, 14 to 16 for the old plan, 22 for its index, 21 along the path, 15 and 16 for the new block,
--- 22 for the new plan.
-unfoldable pub editPlan : (language : List ℕ) (root : ℕ) (bytes index path block : List ℕ) → Result Code
-editPlan language root bytes index path block =
-    languageOf language >>= λ l.
+-- Edit: the lowest of 1 to 4 for the language and the card, 14 to 16 for the old plan, 22 for its index, 25 and 21 along the
+-- path, 15 and 16 for the new block, 22 for the new plan.
+unfoldable pub editPlan : (language : List ℕ) (root : ℕ) (bytes index path card block : List ℕ) → Result Code
+editPlan language root bytes index path card block =
+    together (languageOf language) (cardOf card) λ l c.
     indexedTree l root bytes index >>= λ t.
-    found (blockAt everyKind l path (blockOf 0 root t)) >>= λ b.
+    found (blockAt (sees c) l path (blockOf 0 root t)) >>= λ b.
     newBlock l path b block >>= λ u.
     newPlan path u t
 
@@ -61,6 +62,6 @@ handedBack plan index (value t) = record {
 handedBack plan index (refused r) = record { outcome = Refused r; indexLength = 0; plan = plan; index = index }
 
 -- The edit, with the outputs as they are lent.
-unfoldable pub editTree : (language : List ℕ) (root : ℕ) (bytes index path block plan planIndex : List ℕ) → Editing
-editTree language root bytes index path block plan planIndex =
-    handedBack plan planIndex (editPlan language root bytes index path block >>= λ t. inRooms (length plan) (length planIndex) t)
+unfoldable pub editTree : (language : List ℕ) (root : ℕ) (bytes index path card block plan planIndex : List ℕ) → Editing
+editTree language root bytes index path card block plan planIndex =
+    handedBack plan planIndex (editPlan language root bytes index path card block >>= λ t. inRooms (length plan) (length planIndex) t)

@@ -1,9 +1,10 @@
 // The operation that replaces one block of a plan.
 use crate::moves::put_index;
 use crate::moves::put_plan;
-use block::descent::EVERY_KIND;
 use block::descent::Step;
 use block::descent::descend;
+use card::lowest::lowest;
+use card::read::read_card;
 use fields::bytes::pair_in;
 use fields::outcome::Outcome;
 use fields::outcome::Reason;
@@ -237,25 +238,28 @@ fn edit_legal(
     }
 }
 
-// Edit: 1 to 4 for the language, 14 to 16 for the plan, 22 for its index, 21 along the path, 15 and 16 for the new block, 22 for
-// a new plan that is too long, 17 where one of the outputs is too short.
+// Edit: the lowest of 1 to 4 for the language and the card, 14 to 16 for the plan, 22 for its index, 25 and 21 along the path, 15
+// and 16 for the new block, 22 for a new plan that is too long, 17 where one of the outputs is too short.
 pub fn edit(
     language: &[u8],
     root: u32,
     tree: &[u8],
     index: &[u8],
     path: &[u8],
+    card: &[u8],
     block: &[u8],
     plan: &mut [u8],
     plan_index: &mut [u8],
 ) -> Edited
-    ensures { λ r. ⌜ Hands (editTree (now (language .entry)) root (now (tree .entry)) (now (index .entry)) (now (path .entry)) (now (block .entry)) (now (plan .entry)) (now («plan_index» .entry)))
+    ensures { λ r. ⌜ Hands (editTree (now (language .entry)) root (now (tree .entry)) (now (index .entry)) (now (path .entry)) (now (card .entry)) (now (block .entry)) (now (plan .entry)) (now («plan_index» .entry)))
         (now (plan .exit)) (now («plan_index» .exit)) r ⌝ }
 {
+    let seen = read_card(card);
+    let on_card = seen.outcome;
     let mut places = [0u16; INDEX];
     let answer = check_own(language, root, tree, index, &mut places);
-    let outcome = answer.outcome;
-    if let Outcome::Refused(reason) = outcome {
+    let on_plan = answer.outcome;
+    if let Outcome::Refused(reason) = lowest(on_plan, on_card) {
         return refuse_edit(reason);
     }
     edit_legal(
@@ -265,7 +269,7 @@ pub fn edit(
         tree,
         index,
         path,
-        EVERY_KIND,
+        seen.kinds,
         block,
         plan,
         plan_index,

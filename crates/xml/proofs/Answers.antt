@@ -1,76 +1,46 @@
 -- What the operations answer: a law for each return of `export_legal` and `export`.
-use Prim.Native.Nat.{ℕ, _+_, _<_, _≤_}
-use mathlib.Core.Path.{_≡_, refl, sym, ap, _∙_}
-use mathlib.Core.Bool.{Bool, true, false, not}
-use mathlib.Core.List.{List, [], _∷_, _++_}
+use Prim.Native.Nat.{ℕ, _<_, _≤_}
+use mathlib.Core.Path.{_≡_, refl, sym, _∙_}
+use mathlib.Core.Bool.{true, false, not}
+use mathlib.Core.List.{List, []}
 use mathlib.Core.Option.{some}
-use native.Mathlib.Omega.{arith}
-use lib.ListN.{length, getD, drop}
+use lib.ListN.{length}
 use lib.Dec.{ltb}
-use borrow.Author.Tests.{lt-ltb, le-ltb, ltb-false}
-use Rattle.fields.specs.Outcome.{Result, value, refused, _>>=_, checked, written, outputAfter}
-use Rattle.fields.specs.Inner.Writing.{spliced}
+use borrow.Author.Tests.{ltb-false}
+use Rattle.fields.specs.Outcome.{Result, value, refused, _>>=_, checked}
 use Rattle.fields.specs.declared.outcome.Outcome.{Outcome}
 use Rattle.fields.specs.declared.outcome.Outcome.the-variants.{Accepted, Refused}
 use Rattle.fields.specs.declared.outcome.Reason.{Reason}
 use Rattle.fields.specs.declared.outcome.Reason.the-variants as Why
-use Rattle.fields.proofs.Truth.{by-test, true-not}
-use Rattle.language.specs.Language.{Language, isIn, clashes, entryKey}
+use Rattle.fields.proofs.Truth.{true-not}
+use Rattle.language.specs.Language.{Language, isIn}
 use Rattle.language.specs.LanguageFile.{languageOf, languageLimit, entriesOf}
 use Rattle.language.proofs.Codec.{language-good}
 use Rattle.reader.specs.Code.{Code}
-use Rattle.reader.specs.Syntax.{Read, done, deep, broken, read, tree}
+use Rattle.reader.specs.Syntax.{done, read, tree}
 use Rattle.reader.specs.Operations.{treeLevels, wholeTree, treeOf, checkTree}
 use Rattle.reader.specs.Inner.Index.{Indexed}
 use Rattle.reader.proofs.Members.{in-below}
-use Rattle.translation.specs.Operations.{fitted}
 use Rattle.translation.proofs.Fitting.{refuse-value}
 use Rattle.translation.proofs.Accepted.{refused-not}
 use Rattle.xml.specs.Text.{export}
 use Rattle.xml.specs.Operations.{exportText, exportTree}
-use Rattle.xml.specs.declared.export.Step.{Step}
-use Rattle.xml.specs.declared.export.Step.the-variants.{To, Full}
-use Rattle.xml.specs.Inner.Putting.{Put}
-use Rattle.xml.specs.Inner.Exporting.{Steps, Exports, ExportsTree}
-use Rattle.xml.specs.Inner.Answering.{Gives, GivesExport}
+use Rattle.putting.specs.declared.put.Step.{Step}
+use Rattle.putting.specs.declared.put.Step.the-variants.{To, Full}
+use Rattle.putting.specs.Inner.Passing.{Steps}
+use Rattle.putting.proofs.Answering.{answers-full, answers-done}
+use Rattle.xml.specs.Inner.Exporting.{ExportsTree}
+use Rattle.xml.specs.Inner.Answering.{GivesExport}
 use Rattle.xml.proofs.Inverse.{tree-done}
-
--- A result that fits, and one that does not.
-pub gives-long : (v o : List ℕ) {out : Outcome} → length o < length v → out ≡ Refused Why.OutputTooShort → Gives (fitted (length o) v) o o out
-gives-long v o h e = rw (lt-ltb (length o) (length v) h) (e, refl)
-
-pub gives-fit : (v o o′ : List ℕ) {out : Outcome} → length v ≤ length o → out ≡ Accepted (length v) → o′ ≡ spliced o 0 v → Gives (fitted (length o) v) o o′ out
-unfolding spliced
-gives-fit v o o′ h e b =
-    let z : 0 + length v ≡ length v = omega arith in
-    rw (le-ltb (length o) (length v) h) (e, b ∙ ap (λ (n : ℕ). v ++ drop n o) z)
 
 -- export_legal
 module _ (s index : List ℕ) (k : ℕ) (b o o₁ : List ℕ) {x : Step} (first : ExportsTree false s index k b 0 treeLevels o o₁ 0 x) (steps : Steps false b o o₁ x) where
   pub legal-full : {out : Outcome} → x ≡ Full → out ≡ Refused Why.OutputTooShort → GivesExport s index k b o o₁ out
-  legal-full e h l a z f =
-      let w = first l a [] z f .full e in
-      let i : length o < length (export l k a) = omega arith in
-      let y : o₁ ≡ o = steps .kept refl in
-      rw y (gives-long (export l k a) o i h)
+  legal-full e h l a z f = answers-full (export l k a) b o o₁ (first l a [] z f) steps e h
 
   module _ {e m : ℕ} (ex : x ≡ To e m) {o₂ : List ℕ} {r : Step} (second : ExportsTree true s index k b 0 treeLevels o₁ o₂ 0 r) where
-    by-step : (l : Language) (a : Code) → Exports true (export l k a) b [] o₁ o₂ 0 r → length (export l k a) ≤ length o₁ → (y : Step) → r ≡ y
-        → o₂ ≡ spliced o₁ 0 (export l k a)
-    by-step l a w h (To d n) q = w .put d n q .bytes refl
-    by-step l a w h Full q = let z = w .full q in absurd (omega arith)
-
     pub legal-done : {out : Outcome} → out ≡ Accepted m → GivesExport s index k b o o₂ out
-    legal-done h l a z f =
-        let w = first l a [] z f .put e m ex in
-        let end = w .end in
-        let fits = w .fits in
-        let n : m ≡ length (export l k a) = omega arith in
-        let y : o₁ ≡ o = steps .kept refl in
-        let i : length (export l k a) ≤ length o = omega arith in
-        let j : length (export l k a) ≤ length o₁ = rw y i in
-        gives-fit (export l k a) o o₂ i (h ∙ ap Accepted n)
-        (by-step l a (second l a [] z f) j r refl ∙ ap (λ (p : List ℕ). spliced p 0 (export l k a)) y)
+    legal-done h l a z f = answers-done (export l k a) b o o₁ (first l a [] z f) steps ex (second l a [] z f) h
 
 -- export: what a tree that was accepted is.
 pub record Legal (s : List ℕ) (root : ℕ) (b : List ℕ) : Type 0 where

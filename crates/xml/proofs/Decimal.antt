@@ -1,42 +1,16 @@
 -- Numbers in decimal: what is written is read back, and what is read is what is written.
 use Prim.Native.Nat.{ℕ, zero, suc, _+_, _*_, _/_, _%_, _-_, _<_, _≤_}
 use mathlib.Core.Path.{_≡_, refl, sym, ap, _∙_}
-use mathlib.Core.Bool.{Bool, true, false}
+use mathlib.Core.Bool.{true, false}
 use mathlib.Core.List.{List, [], _∷_, _++_, append-assoc}
 use native.Mathlib.Omega.{arith}
 use lib.Dec.{ltb, leb, eqb}
 use borrow.Author.Tests.{ltb-true, ltb-false, lt-ltb, le-ltb, leb-true, le-leb, eqb-true, eqb-false, eq-eqb, ne-eqb}
 use Rattle.fields.proofs.Truth.{by-test, and-both}
-use Rattle.reader.specs.Syntax.{Read, done, deep, broken, andThen}
+use Rattle.reader.specs.Syntax.{done}
+pub use Rattle.putting.proofs.Reading.{same-done, deep-not, broken-not, then-done}
 use Rattle.xml.specs.Text.{decimalBy, decimal}
 use Rattle.xml.specs.Import.{readWord, isDigit, readDigits, readNumber, readNamed}
-
--- What was read, and what is left of it.
-abbrev readOr : {A : Type 0} → A → Read A → A
-readOr d (done a r) = a
-readOr d deep = d
-readOr d broken = d
-
-abbrev left : {A : Type 0} → Read A → List ℕ
-left (done a r) = r
-left deep = []
-left broken = []
-
-pub same-done : {A : Type 0} (a b : A) (r u : List ℕ) → done a r ≡ done b u → (a ≡ b) × (r ≡ u)
-same-done a b r u e = (ap (readOr a) e, ap left e)
-
-pub deep-not : {A B : Type 0} {a : A} {r : List ℕ} → deep ≡ done a r → B
-deep-not e = let z : _≡_ {A = ℕ} 0 1 = cc in absurd (omega arith)
-
-pub broken-not : {A B : Type 0} {a : A} {r : List ℕ} → broken ≡ done a r → B
-broken-not e = let z : _≡_ {A = ℕ} 0 1 = cc in absurd (omega arith)
-
--- Where the next reading was done, the one before it was.
-pub then-done : {A B : Type 0} (o : Read A) (f : A → List ℕ → Read B) (b : B) (u : List ℕ) → andThen o f ≡ done b u
-    → (a : A) × (r : List ℕ) × (o ≡ done a r) × (f a r ≡ done b u)
-then-done (done a r) f b u e = (a, r, refl, e)
-then-done deep f b u e = deep-not e
-then-done broken f b u e = broken-not e
 
 -- Decimals.
 by-fuel : (f g n : ℕ) → n < f → n < g → decimalBy f n ≡ decimalBy g n

@@ -33,7 +33,7 @@ use Rattle.xml.specs.declared.import.Text.the-variants.{End, Deep, Broke
 use Rattle.xml.specs.Inner.Scanning.{Stands, Numbers, Tokens}
 use Rattle.xml.specs.Inner.Importing.{Stored, Inside, Imports, ImportsTree, ImportsTrees, placeOf}
 use Rattle.xml.proofs.Round.{class-text, no-class}
-use Rattle.xml.proofs.Reading.{class-known, class-none, production-none, production-known}
+use Rattle.putting.proofs.Reading.{class-known, class-none, production-none, production-known}
 use Rattle.xml.proofs.Scans.{no-number, number-at}
 
 -- Answers.

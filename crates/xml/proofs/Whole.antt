@@ -32,9 +32,10 @@ use Rattle.xml.specs.Operations.{wholeText, importOf, importBytes, impor
 use Rattle.xml.specs.declared.import.Text.{Text}
 use Rattle.xml.specs.declared.import.Text.the-variants.{End, Deep, Broken}
 use Rattle.xml.specs.Inner.Importing.{Stored, Inside, Imports, ImportsTree}
-use Rattle.xml.specs.Inner.Answering.{Gives, GivesWhole, GivesImport}
+use Rattle.putting.specs.Inner.Answering.{Gives}
+use Rattle.xml.specs.Inner.Answering.{GivesWhole, GivesImport}
 use Rattle.xml.proofs.Decimal.{same-done, deep-not, broken-not}
-use Rattle.xml.proofs.Answers.{gives-long, gives-fit}
+use Rattle.putting.proofs.Answering.{gives-long, gives-fit}
 
 gives-refused : (x : Result (List ℕ)) (o : List ℕ) {out : Outcome} (r : Reason) → x ≡ refused r → out ≡ Refused r → Gives x o o out
 gives-refused x o r e h = (h ∙ sym (ap written e), sym (ap (outputAfter o) e))

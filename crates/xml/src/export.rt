@@ -4,6 +4,7 @@ use crate::put::put_token;
 use fields::bytes::pair_in;
 use fields::bytes::to_usize;
 use fields::copy::Stored;
+use putting::put::Step;
 use reader::node::Syntax;
 use reader::node::place_at;
 use reader::node::production_place;
@@ -14,20 +15,15 @@ ghost use Rattle.fields.specs.Fields.{pairAt};
 ghost use Rattle.reader.specs.Inner.Index.{Sound, Ready};
 ghost use Rattle.reader.specs.Inner.Positions.{KindsIn};
 ghost use Rattle.xml.specs.Text.{decimal, tokenTag, openToken, closeToken};
-ghost use Rattle.xml.specs.Inner.Exporting.{Steps, Exports, ExportsTree, ExportsTrees};
-
-// Where a tree ended and where its text did, or that the output is too short.
-pub enum Step {
-    To(usize, usize),
-    Full,
-}
+ghost use Rattle.putting.specs.Inner.Passing.{Steps, Passes};
+ghost use Rattle.xml.specs.Inner.Exporting.{ExportsTree, ExportsTrees};
 
 // Puts the token of a kind that stands in two bytes of the tree.
 fn export_token(kind: u8, tree: &[u8], at: usize, store: bool, out: &mut [u8], n: usize) -> Step
     requires { ⌜ (at ≤ length (now tree)) × (n ≤ length (now out)) ⌝ }
     ensures steps { λ r. ⌜ Steps store (now (tree .entry)) (now (out .entry)) (now (out .exit)) r ⌝ }
     ensures is { λ r. ⌜ (2 ≤ length (now (tree .entry)) - at
-        → Exports store (tokenTag openToken kind ++ (decimal (pairAt (now (tree .entry)) at) ++ tokenTag closeToken kind))
+        → Passes store (tokenTag openToken kind ++ (decimal (pairAt (now (tree .entry)) at) ++ tokenTag closeToken kind))
         (now (tree .entry)) (drop (at + 2) (now (tree .entry))) (now (out .entry)) (now (out .exit)) n r) ⌝ }
 {
     if tree.len() - at < 2 {

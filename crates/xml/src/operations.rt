@@ -1,5 +1,4 @@
 // The operations export and import.
-use crate::export::Step;
 use crate::export::export_at;
 use crate::import::Text;
 use crate::import::text_at;
@@ -10,6 +9,7 @@ use fields::outcome::Reason;
 use fields::outcome::accept;
 use fields::outcome::refuse;
 use language::check::check_language;
+use putting::put::Step;
 use reader::index::INDEX;
 use reader::index::build;
 use reader::kinds::is_in;

@@ -1,27 +1,12 @@
 // Texts that are put into an output, or only measured against it.
 use fields::copy::Stored;
-use fields::copy::put;
+use putting::put::put_word;
 ghost use mathlib.Core.Path.{_≡_};
 ghost use mathlib.Core.List.{_++_};
 ghost use Prim.Native.Nat.{_+_, _<_, _≤_};
 ghost use lib.ListN.{length};
 ghost use Rattle.xml.specs.Text.{decimal, nodeTag, tokenTag, openToken, closeToken};
-ghost use Rattle.xml.specs.Inner.Putting.{Puts};
-
-// Puts a text behind the first n bytes, if it is to be stored.
-fn put_word(word: &[u8], store: bool, out: &mut [u8], n: usize) -> Stored
-    requires { ⌜ n ≤ length (now out) ⌝ }
-    ensures { λ r. ⌜ Puts store (now (word .entry)) (now (out .entry)) (now (out .exit)) n r ⌝ }
-{
-    let size = word.len();
-    if out.len() - n < size {
-        return Stored::Full;
-    }
-    if !store {
-        return Stored::To(n + size);
-    }
-    put(word, 0, size, out, n)
-}
+ghost use Rattle.putting.specs.Inner.Putting.{Puts};
 
 // A digit as a byte.
 fn ascii(digit: usize) -> u8

@@ -13,6 +13,8 @@ mod edit;
 mod figures;
 #[path = "differential/loose.rs"]
 mod loose;
+#[path = "differential/mask.rs"]
+mod mask;
 #[path = "differential/score.rs"]
 mod score;
 #[path = "differential/xml.rs"]
@@ -28,7 +30,7 @@ use std::process::ExitCode;
 use std::time::Instant;
 
 /// Answers are counted by number, and so is what the laws say.
-const NUMBERS: usize = 23;
+const NUMBERS: usize = 26;
 
 /// What one side answered: number, length and the buffers at the end.
 #[derive(PartialEq, Eq)]
@@ -146,9 +148,15 @@ const OPERATIONS: &[Operation] = &[
     },
     Operation {
         name: "edit",
-        possible: &[0, 1, 2, 3, 4, 14, 15, 16, 17, 21, 22],
+        possible: &[0, 1, 2, 3, 4, 14, 15, 16, 17, 21, 22, 25],
         label: answer_label,
         find: edit::find_edit,
+    },
+    Operation {
+        name: "mask",
+        possible: &[0, 1, 2, 3, 4, 14, 15, 16, 17],
+        label: answer_label,
+        find: |random| mask::compare(random).finding(),
     },
     Operation {
         name: "laws",
@@ -161,6 +169,12 @@ const OPERATIONS: &[Operation] = &[
         possible: &[0, 1, 2, 3, 4, 5],
         label: |number| reference::laws::edits::SAID[number].to_string(),
         find: edit::find_laws,
+    },
+    Operation {
+        name: "mask_laws",
+        possible: &[0, 1, 2, 3, 4],
+        label: |number| reference::laws::masks::SAID[number].to_string(),
+        find: mask::find_laws,
     },
     Operation {
         name: "loose_laws",

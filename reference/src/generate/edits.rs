@@ -1,6 +1,7 @@
 //! Edits: blocks of the right kind and of others, at any level, with the plan at its limits.
 
 use super::blocks::path_in;
+use super::cards::{card_for, card_of};
 use super::damage::damage_bytes;
 use super::exact::{exact_language, exact_tree, EXACT_KIND};
 use super::indexes::{index_bytes, index_for, indexed_tree_case, is_legal, room_for};
@@ -11,7 +12,7 @@ use crate::block::{find_place, Place};
 use crate::edit::{edit, EditInput};
 use crate::grammar::Grammar;
 use crate::index::{ENTRY_BYTES, INDEXED_BYTES};
-use crate::language::{read_language, Language};
+use crate::language::{read_language, Kinds, Language};
 use crate::tree::TREE_LEVELS;
 
 /// The input of an edit, with the lengths of its outputs.
@@ -22,6 +23,7 @@ pub struct EditCase {
     pub tree: Vec<u8>,
     pub index: Vec<u8>,
     pub path: Vec<u8>,
+    pub card: Vec<u8>,
     pub block: Vec<u8>,
     pub plan: usize,
     pub plan_index: usize,
@@ -33,8 +35,8 @@ const CASES_FOR_A_LIMIT: usize = 400;
 impl EditCase {
     /// What the edit is given.
     pub fn input(&self) -> EditInput<'_> {
-        let EditCase { language, tree, index, path, block, .. } = self;
-        EditInput { language, root: self.root, tree, index, path, block }
+        let EditCase { language, tree, index, path, card, block, .. } = self;
+        EditInput { language, root: self.root, tree, index, path, card, block }
     }
 
     /// The lengths of outputs that are long enough.
@@ -122,9 +124,9 @@ fn limit_case(random: &mut Random) -> EditCase {
         }
         _ => vec![0, 5],
     };
-    let index = index_bytes(&case);
+    let (index, card) = (index_bytes(&case), card_of(Kinds::MAX));
     let TreeCase { language, root, tree } = case;
-    EditCase { language, root, tree, index, path, block, plan: 0, plan_index: 0 }
+    EditCase { language, root, tree, index, path, card, block, plan: 0, plan_index: 0 }
 }
 
 /// So many cases are made, mostly, to find one with a tree of some bytes.
@@ -142,7 +144,7 @@ fn mostly_larger_case(random: &mut Random) -> TreeCase {
     case
 }
 
-/// A language, a root, a tree with an index, a path, a block and the lengths of both outputs.
+/// A language, a root, a tree with an index, a path, a card, a block and the lengths of both outputs.
 pub fn edit_case(random: &mut Random) -> EditCase {
     if random.below(CASES_FOR_A_LIMIT) == 0 {
         return limit_case(random).with_outputs(random);
@@ -157,7 +159,8 @@ pub fn edit_case(random: &mut Random) -> EditCase {
         false => (vec![random.below(3) as u8], vec![0, 5]),
     };
     let index = index_for(random, &case, 10);
+    let card = card_for(random, &case.language, 75, 4);
     let TreeCase { language, root, tree } = case;
-    let case = EditCase { language, root, tree, index, path, block, plan: 0, plan_index: 0 };
+    let case = EditCase { language, root, tree, index, path, card, block, plan: 0, plan_index: 0 };
     case.with_outputs(random)
 }

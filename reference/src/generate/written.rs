@@ -65,6 +65,7 @@ pub fn full_with_steps(random: &mut Random, bytes: usize, steps: usize) -> (Lang
 mod tests {
     use super::*;
     use crate::call::Call;
+    use crate::generate::mask_case;
     use crate::generate::{
         block_case, edit_case, export_case, import_case, index_case, join_table_case, loose_case,
     };
@@ -88,6 +89,7 @@ mod tests {
             Call::Index(case) => write_steps(random, 80, &mut case.language),
             Call::Block(case) => write_steps(random, 80, &mut case.language),
             Call::Edit(case) => write_steps(random, 80, &mut case.language),
+            Call::Mask(case) => write_steps(random, 80, &mut case.language),
         }
     }
 
@@ -123,7 +125,7 @@ mod tests {
 
     #[test]
     fn written_steps_of_1_change_no_answer() {
-        let makers: [fn(&mut Random) -> Call; 12] = [
+        let makers: [fn(&mut Random) -> Call; 13] = [
             |random| Call::CheckTree(tree_case(random)),
             |random| Call::CheckTranslation(translation_file(random)),
             |random| Call::Run(run_case(random)),
@@ -136,6 +138,7 @@ mod tests {
             |random| Call::Index(index_case(random)),
             |random| Call::Block(block_case(random)),
             |random| Call::Edit(edit_case(random)),
+            |random| Call::Mask(mask_case(random)),
         ];
         for make in makers {
             let changed = compare(5000, make);

@@ -121,10 +121,11 @@ pub fn law_of_edits(operations: &Operations, random: &mut Random) -> Result<Vec<
         .and_then(|()| same_stays(operations, &case))
         .and_then(|()| said(operations, &case));
     tried.map_err(|what| {
-        let EditCase { language, tree, path, block, .. } = case;
+        let EditCase { language, tree, path, card, block, .. } = case;
         let root = case.root.to_be_bytes().to_vec();
         let given = [("language", language), ("root", root), ("tree", tree)];
-        let inputs = given.into_iter().chain([("path", path), ("block", block), ("plan", plan)]);
+        let more = [("path", path), ("card", card), ("block", block), ("plan", plan)];
+        let inputs = given.into_iter().chain(more);
         Broken { what, inputs: inputs.collect() }
     })
 }

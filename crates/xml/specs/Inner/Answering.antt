@@ -4,7 +4,7 @@ use mathlib.Core.Path.{_≡_}
 use mathlib.Core.List.{List, []}
 use lib.ListN.{length}
 use mathlib.Core.Option.{some}
-use Rattle.fields.specs.Outcome.{Result, _>>=_, written, outputAfter}
+use Rattle.fields.specs.Outcome.{_>>=_}
 use Rattle.fields.specs.declared.outcome.Outcome.{Outcome}
 use Rattle.language.specs.Language.{Language}
 use Rattle.reader.specs.Code.{Code}
@@ -13,15 +13,12 @@ use Rattle.reader.specs.Syntax.{done, read, write, tree}
 use Rattle.reader.specs.Operations.{treeLevels}
 use Rattle.reader.specs.Inner.Index.{Indexed}
 use Rattle.translation.specs.Operations.{fitted}
+use Rattle.putting.specs.Inner.Answering.{Gives}
 use Rattle.xml.specs.Text.{export}
 use Rattle.xml.specs.Import.{readText}
 use Rattle.xml.specs.Operations.{wholeText, importOf}
 
--- The outcome, and the output that is left, are those of a result.
-abbrev pub Gives : Result (List ℕ) → List ℕ → List ℕ → Outcome → Type 0
-Gives result before after outcome = (outcome ≡ written result) × (after ≡ outputAfter before result)
-
--- They are those of the export of the tree of kind k that the bytes b are.
+-- The outcome, and the output that is left, are those of the export of the tree of kind k that the bytes b are.
 abbrev pub GivesExport : List ℕ → List ℕ → ℕ → List ℕ → List ℕ → List ℕ → Outcome → Type 0
 GivesExport s index k b before after outcome =
     (l : Language) (a : Code) → Indexed index s l → read tree l [] treeLevels k b ≡ done a []

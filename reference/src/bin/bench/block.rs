@@ -5,7 +5,7 @@ use crate::measure::{compare, growth};
 use crate::{print_growth_of, print_line};
 use algebra::raw as library;
 use reference::call::library_edit;
-use reference::generate::{index_bytes, EditCase, TreeCase};
+use reference::generate::{card_of, index_bytes, EditCase, TreeCase};
 use std::hint::black_box;
 
 /// The root kind of the trees, and the most arguments of a production.
@@ -25,8 +25,8 @@ fn plan(bytes: usize) -> EditCase {
     let path = last_block(&case, &index);
     let TreeCase { language, root, tree } = case;
     let block = reference::block(&language, root, &tree, &index, &path).part.to_vec();
-    let (plan, plan_index) = (tree.len(), index.len());
-    EditCase { language, root, tree, index, path, block, plan, plan_index }
+    let (plan, plan_index, card) = (tree.len(), index.len(), card_of(u32::MAX));
+    EditCase { language, root, tree, index, path, card, block, plan, plan_index }
 }
 
 /// The path to the last block of the root's kind among the root's arguments: what stands before

@@ -8,6 +8,7 @@
 mod block;
 mod clock;
 mod inputs;
+mod mask;
 mod measure;
 mod score;
 mod xml;
@@ -215,4 +216,5 @@ fn main() {
     score::bench();
     xml::bench();
     block::bench();
+    mask::bench();
 }

@@ -44,6 +44,7 @@ fn inputs(case: EditCase) -> Vec<(&'static str, Input)> {
         ("tree", Input::Bytes(case.tree)),
         ("index", Input::Bytes(case.index)),
         ("path", Input::Bytes(case.path)),
+        ("card", Input::Bytes(case.card)),
         ("block", Input::Bytes(case.block)),
         ("plan length", Input::Number(case.plan as u64)),
         ("index length", Input::Number(case.plan_index as u64)),

@@ -1,15 +1,15 @@
 //! Cases of operations on one tree: scores of fixed and loose plans, exports, imports of texts,
-//! indexes, lookups of blocks and edits; and joins of load tables.
+//! indexes, lookups of blocks, edits and masks; and joins of load tables.
 
-use crate::shapes::{Shape, TREE_LEVELS};
+use crate::shapes::{Shape, TOKEN_KIND, TREE_LEVELS};
 use crate::{random_cases, translation_cases, tree_cases, Case, LONG_CASES, RANDOM_CASES};
 use reference::call::Call;
 use reference::check_translation;
 use reference::generate::{
-    block_case, doubled, edit_case, export_case, import_case, index_bytes, index_case,
-    join_table_case, lenient_text, long_tree_case, loose_case, score_case, unit_table,
+    block_case, card_of, doubled, edit_case, export_case, import_case, index_bytes, index_case,
+    join_table_case, lenient_text, long_tree_case, loose_case, mask_case, score_case, unit_table,
     unit_target_table, BlockCase, EditCase, ExportCase, ImportCase, IndexCase, JoinTableCase,
-    Random, ScoreCase, TreeCase,
+    MaskCase, Random, ScoreCase, TreeCase,
 };
 
 /// No joined table is longer.
@@ -84,9 +84,28 @@ fn block_at(case: TreeCase, path: Vec<u8>) -> Call {
 fn edited(case: TreeCase, path: Vec<u8>) -> Call {
     let index = index_bytes(&case);
     let TreeCase { language, root, tree } = case;
-    let (block, plan) = (tree.clone(), 2 * tree.len());
+    let (block, plan, card) = (tree.clone(), 2 * tree.len(), card_of(u32::MAX));
     let plan_index = 4 * plan;
-    Call::Edit(EditCase { language, root, tree, index, path, block, plan, plan_index })
+    Call::Edit(EditCase { language, root, tree, index, path, card, block, plan, plan_index })
+}
+
+/// A tree masked by a card that shows all, or all but the tokens.
+fn masked(case: TreeCase, kinds: u32) -> Call {
+    let TreeCase { language, root, tree } = case;
+    let (card, output) = (card_of(kinds), tree.len());
+    Call::Mask(MaskCase { language, root, card, tree, output })
+}
+
+/// Masks that hide the tokens, that hide nothing, random ones, and ones of long trees.
+fn mask_cases(seed: u64) -> Vec<Case> {
+    let tokens = tree_cases(|_, case| masked(case, !(1 << TOKEN_KIND)));
+    let all = cases_of(
+        seed,
+        |_, case| masked(case, u32::MAX),
+        |random| Call::Mask(mask_case(random)),
+        |random| masked(long_tree_case(random), u32::MAX),
+    );
+    tokens.into_iter().chain(all).collect()
 }
 
 /// Cases of one operation: on built trees, random ones, and ones on long trees.
@@ -151,5 +170,7 @@ pub fn cases(seed: u64) -> Vec<Vec<Case>> {
         |random| Call::Block(block_case(random)),
         |random| block_at(long_tree_case(random), vec![]),
     );
-    vec![score, loose, join_cases(seed), export, import, index, block, edit_cases(seed)]
+    let last = [edit_cases(seed), mask_cases(seed)];
+    let first = [score, loose, join_cases(seed), export, import, index, block];
+    first.into_iter().chain(last).collect()
 }

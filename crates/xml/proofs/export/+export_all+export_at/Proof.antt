@@ -7,9 +7,10 @@ use native.Mathlib.Omega.{arith}
 use lib.ListN.{length}
 use Rattle.reader.specs.Inner.Positions.{KindsIn}
 use Rattle.reader.proofs.Laws.{name-in, kinds-in}
-use Rattle.xml.proofs.Puts.{puts-inside}
-use Rattle.xml.proofs.Reading.{found-name}
-use Rattle.xml.proofs.Exports.{steps-full, steps-to, at-token, at-deep, at-name, node-same, at-open-full, at-all-full, at-close-full, at-done, Goes, goes-start, goes-full, goes-next, goes-done}
+use Rattle.putting.proofs.Puts.{puts-inside}
+use Rattle.putting.proofs.Reading.{found-name}
+use Rattle.putting.proofs.Passing.{steps-full, steps-to}
+use Rattle.xml.proofs.Exports.{at-token, at-deep, at-name, node-same, at-open-full, at-all-full, at-close-full, at-done, Goes, goes-start, goes-full, goes-next, goes-done}
 use Prim.Native.Nat.{ℕ, _<_}
 use borrow.Fn.Kinds.{In}
 use borrow.Fn.PlainCycle.{Measures, is, falls, and}

@@ -1,11 +1,11 @@
-use Rattle.xml.proofs.Puts.{puts-full, puts-inside, puts-then}
+use Rattle.putting.proofs.Puts.{puts-full, puts-inside, puts-then}
 use borrow.Author.Needs.{needs}
 use Rattle.xml.proofs.put.put_named.Statement.{statement}
 use Rattle.xml.proofs.put.put_named.Tie as tie
 use Rattle.xml.proofs.put.put_named.Reads as reads
 use Rattle.xml.proofs.put.put_named.Lts as lts
 use Rattle.xml.proofs.put.put_number.Reads as put-number-reads
-use Rattle.xml.proofs.put.put_word.Reads as put-word-reads
+use Rattle.putting.proofs.put.put_word.Reads as put-word-reads
 
 returns : tie.Need-returns
 returns c = puts-full _ _ _ _ (c .before .before .before .before .put-word .ensures) _ (c .enum-told .given .1)

@@ -1,11 +1,12 @@
-use Rattle.xml.proofs.Puts.{puts-inside, node-first-full, node-second-full, node-all}
+use Rattle.putting.proofs.Puts.{puts-inside}
+use Rattle.xml.proofs.Puts.{node-first-full, node-second-full, node-all}
 use borrow.Author.Needs.{needs}
 use Rattle.xml.proofs.put.put_node_tag.Statement.{statement}
 use Rattle.xml.proofs.put.put_node_tag.Tie as tie
 use Rattle.xml.proofs.put.put_node_tag.Reads as reads
 use Rattle.xml.proofs.put.put_node_tag.Lts as lts
 use Rattle.xml.proofs.put.put_named.Reads as put-named-reads
-use Rattle.xml.proofs.put.put_word.Reads as put-word-reads
+use Rattle.putting.proofs.put.put_word.Reads as put-word-reads
 
 returns : tie.Need-returns
 returns c = node-first-full _ _ _ _ _ _ (c .before .before .before .before .put-named .ensures) (c .enum-told .given .1)

@@ -1,11 +1,12 @@
-use Rattle.xml.proofs.Puts.{puts-same, number-digits}
+use Rattle.putting.proofs.Puts.{puts-same}
+use Rattle.xml.proofs.Puts.{number-digits}
 use borrow.Author.Needs.{needs}
 use Rattle.xml.proofs.put.put_number.Statement.{statement}
 use Rattle.xml.proofs.put.put_number.Tie as tie
 use Rattle.xml.proofs.put.put_number.Reads as reads
 use Rattle.xml.proofs.put.put_number.Lts as lts
 use Rattle.xml.proofs.put.ascii.Reads as ascii-reads
-use Rattle.xml.proofs.put.put_word.Reads as put-word-reads
+use Rattle.putting.proofs.put.put_word.Reads as put-word-reads
 use Rattle.xml.proofs.put.width.Reads as width-reads
 
 returns : tie.Need-returns

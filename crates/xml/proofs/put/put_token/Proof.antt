@@ -1,4 +1,4 @@
-use Rattle.xml.proofs.Puts.{puts-inside, puts-full, puts-then}
+use Rattle.putting.proofs.Puts.{puts-inside, puts-full, puts-then}
 use borrow.Author.Needs.{needs}
 use Rattle.xml.proofs.put.put_token.Statement.{statement}
 use Rattle.xml.proofs.put.put_token.Tie as tie

@@ -1,11 +1,12 @@
-use Rattle.xml.proofs.Puts.{puts-inside, tag-full, tag-all}
+use Rattle.putting.proofs.Puts.{puts-inside}
+use Rattle.xml.proofs.Puts.{tag-full, tag-all}
 use borrow.Author.Needs.{needs}
 use Rattle.xml.proofs.put.put_token_tag.Statement.{statement}
 use Rattle.xml.proofs.put.put_token_tag.Tie as tie
 use Rattle.xml.proofs.put.put_token_tag.Reads as reads
 use Rattle.xml.proofs.put.put_token_tag.Lts as lts
 use Rattle.xml.proofs.put.put_named.Reads as put-named-reads
-use Rattle.xml.proofs.put.put_word.Reads as put-word-reads
+use Rattle.putting.proofs.put.put_word.Reads as put-word-reads
 
 returns : tie.Need-returns
 returns c = tag-full _ _ _ _ _ (c .before .before .before .before .put-named .ensures) (c .enum-told .given .1)

@@ -1,10 +1,10 @@
 use borrow.Author.Tests.{not-true, not-false}
-use Rattle.xml.proofs.Puts.{word-full, word-measured, word-stored}
+use Rattle.putting.proofs.Puts.{word-full, word-measured, word-stored}
 use borrow.Author.Needs.{needs}
-use Rattle.xml.proofs.put.put_word.Statement.{statement}
-use Rattle.xml.proofs.put.put_word.Tie as tie
-use Rattle.xml.proofs.put.put_word.Reads as reads
-use Rattle.xml.proofs.put.put_word.Lts as lts
+use Rattle.putting.proofs.put.put_word.Statement.{statement}
+use Rattle.putting.proofs.put.put_word.Tie as tie
+use Rattle.putting.proofs.put.put_word.Reads as reads
+use Rattle.putting.proofs.put.put_word.Lts as lts
 use Rattle.fields.proofs.copy.put.Reads as put-reads
 
 returns : tie.Need-returns

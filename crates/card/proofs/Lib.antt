@@ -1,0 +1,4 @@
+pub mod Sets
+pub mod Cards
+pub mod Refusals
+pub mod Trees

@@ -1,0 +1,4 @@
+pub mod Masks
+pub mod Answers
+pub mod Laws
+pub mod Examples
