@@ -6,7 +6,7 @@ use mathlib.Core.List.{List, [], _∷_, _++_, map, append-assoc, append-nil}
 use mathlib.Core.Option.{Option, none, some}
 use native.Mathlib.Omega.{arith}
 use lib.ListN.{length, getD, drop, take, set, length-append}
-use lib.Seq.{slice, sets, sets-eq}
+use lib.Seq.{slice}
 use lib.Dec.{ltb, eqb}
 use borrow.Author.Tests.{lt-ltb, le-ltb, ltb-true, ltb-false, eqb-true}
 use Rattle.fields.specs.Fields.{pairAt, twoBytes}
@@ -35,6 +35,7 @@ use Rattle.xml.specs.Inner.Importing.{Stored, Inside, Imports, ImportsTr
 use Rattle.xml.proofs.Round.{class-text, no-class}
 use Rattle.putting.proofs.Reading.{class-known, class-none, production-none, production-known}
 use Rattle.xml.proofs.Scans.{no-number, number-at}
+use Rattle.xml.proofs.Puts.{set-stored}
 
 -- Answers.
 not-end : {e m : ℕ} {A : Type 0} → Deep ≡ End e m → A
@@ -88,13 +89,6 @@ stored-then v u o o₁ o₂ n m k a b l = record {
 }
 
 -- store and store_value
-set-stored : (o : List ℕ) (n : ℕ) (v : List ℕ) → n + length v ≤ length o → sets o n v ≡ spliced o n v
-unfolding spliced
-set-stored o n v h = sets-eq v o n h ∙ append-assoc (take n o) v (drop (n + length v) o)
-
-pub store-in : (o : List ℕ) (n b : ℕ) → n < length o → set o n b ≡ spliced o n (b ∷ [])
-store-in o n b h = set-stored o n (b ∷ []) (omega arith)
-
 pub store-two : (o : List ℕ) (n a b v : ℕ) → 2 ≤ length o - n → n < length o → a ≡ v / 256 → b ≡ v % 256 → set (set o n a) (n + 1) b ≡ spliced o n (twoBytes v)
 store-two o n a b v h i ea eb =
     let z : n + 1 ≡ suc n = omega arith in

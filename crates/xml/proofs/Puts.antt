@@ -1,19 +1,129 @@
--- Tags and decimals put into an output: a law for each return of `width`, `put_number` and the tags.
-use Prim.Native.Nat.{ℕ, _+_, _/_, _%_, _-_, _<_, _≤_}
+-- Texts written one behind the other, decimals, and a law for each return of the functions of put.rt.
+use Prim.Native.Nat.{ℕ, suc, _+_, _*_, _/_, _%_, _-_, _<_, _≤_}
 use mathlib.Core.Path.{_≡_, refl, sym, ap, _∙_}
-use mathlib.Core.Bool.{Bool}
+use mathlib.Core.Bool.{Bool, true, false}
 use mathlib.Core.List.{List, [], _∷_, _++_, append-assoc}
 use native.Mathlib.Omega.{arith}
-use lib.ListN.{length, take, drop}
+use lib.ListN.{length, take, drop, set, length-append}
+use lib.Seq.{sets, sets-eq}
 use Rattle.fields.specs.declared.copy.Stored.{Stored}
 use Rattle.fields.specs.declared.copy.Stored.the-variants.{To, Full}
-use lib.Dec.{ltb}
-use borrow.Author.Tests.{ltb-true, ltb-false}
-use Rattle.fields.proofs.Truth.{by-test}
+use Rattle.fields.specs.Inner.Writing.{spliced, Written}
+use Rattle.fields.proofs.Truth.{not-both}
+use Rattle.fields.proofs.Splices.{splice-splice}
+use Rattle.xml.specs.Text.{decimal, nodeTag, tokenTag, openNode, closeNode, openToken, closeToken, point, tagEnd}
 use Rattle.putting.specs.Inner.Putting.{Puts}
-use Rattle.putting.proofs.Puts.{puts-full, puts-then, puts-same}
-use Rattle.xml.specs.Text.{decimal, nodeTag, tokenTag, point, tagEnd}
 use Rattle.xml.proofs.Decimal.{decimal-small, decimal-large}
+
+not-full : {m : ℕ} {A : Type 0} → Full ≡ To m → A
+not-full e = let z : _≡_ {A = ℕ} 0 1 = cc in absurd (omega arith)
+
+not-to : {m : ℕ} {A : Type 0} → To m ≡ Full → A
+not-to e = not-full (sym e)
+
+to-same : {m k : ℕ} → To m ≡ To k → m ≡ k
+to-same e = cc
+
+-- Bytes set one behind the other.
+pub set-stored : (o : List ℕ) (n : ℕ) (v : List ℕ) → n + length v ≤ length o → sets o n v ≡ spliced o n v
+unfolding spliced
+set-stored o n v h = sets-eq v o n h ∙ append-assoc (take n o) v (drop (n + length v) o)
+
+pub store-in : (o : List ℕ) (n b : ℕ) → n < length o → set o n b ≡ spliced o n (b ∷ [])
+store-in o n b h = set-stored o n (b ∷ []) (omega arith)
+
+-- write_byte and write_digit
+pub written-byte : (o : List ℕ) (n b : ℕ) → n < length o → Written (b ∷ []) o (set o n b) n (n + 1)
+written-byte o n b h = record { end = refl; fits = omega arith; bytes = store-in o n b h }
+
+-- One text behind another, and the same text said in another way.
+pub written-then : {v u o o₁ o₂ : List ℕ} {n m k : ℕ} → Written v o o₁ n m → length o₁ ≡ length o → Written u o₁ o₂ m k → Written (v ++ u) o o₂ n k
+written-then {v} {u} {o} {o₁} {o₂} {n} {m} {k} a l b =
+    let f : n + length v ≤ length o = omega (arith, a .end, a .fits) in
+    record {
+      end = omega (arith, length-append v u, a .end, b .end);
+      fits = omega (arith, b .fits);
+      bytes = b .bytes ∙ (ap (λ (p : List ℕ). spliced p m u) (a .bytes) ∙ (ap (λ (j : ℕ). spliced (spliced o n v) j u) (a .end) ∙ splice-splice o n v f u));
+    }
+
+pub written-same : {v u o o′ : List ℕ} {n m : ℕ} → v ≡ u → Written v o o′ n m → Written u o o′ n m
+written-same e w = rw (← e) w
+
+-- put_opening, put_closing and put_token
+module _ (store : Bool) (v o : List ℕ) (n : ℕ) {size : ℕ} (es : size ≡ length v) where
+  pub text-full : length o - n < size → n ≤ length o → Puts store v o o n Full
+  text-full h i = record { done = λ m e. not-full e; full = λ e. omega arith; kept = λ e. refl }
+
+  pub text-measured : store ≡ false → size ≤ length o - n → n ≤ length o → Puts store v o o n (To (n + size))
+  text-measured h i j = record {
+    done = λ m e. let z : n + size ≡ m = to-same e in record { end = omega arith; fits = omega arith; bytes = λ q. not-both q h };
+    full = λ e. not-to e;
+    kept = λ e. refl;
+  }
+
+pub text-stored : (store : Bool) (v o : List ℕ) (n : ℕ) {o′ : List ℕ} {m : ℕ} → store ≡ true → Written v o o′ n m → Puts store v o o′ n (To m)
+text-stored store v o n {o′} {m} h w = record {
+  done = λ k e. let z : m ≡ k = to-same e in rw (← z) (record { end = w .end; fits = w .fits; bytes = λ q. w .bytes });
+  full = λ e. not-to e;
+  kept = λ q. not-both h q;
+}
+
+-- Lengths of tags.
+pub node-length : (w : List ℕ) (k p : ℕ) → length (nodeTag w k p) ≡ length w + (length (decimal k) + (1 + (length (decimal p) + 1)))
+unfolding nodeTag
+node-length w k p =
+    let b : length (decimal k ++ (point ++ (decimal p ++ tagEnd))) ≡ length (decimal k) + suc (length (decimal p ++ tagEnd)) =
+    length-append (decimal k) (point ++ (decimal p ++ tagEnd)) in
+    let c : length (decimal p ++ tagEnd) ≡ length (decimal p) + 1 = length-append (decimal p) tagEnd in
+    let d : length w + length (decimal k ++ (point ++ (decimal p ++ tagEnd))) ≡ length w + (length (decimal k) + (1 + (length (decimal p) + 1))) =
+    omega (arith, b, c) in
+    length-append w (decimal k ++ (point ++ (decimal p ++ tagEnd))) ∙ d
+
+tag-length : (w : List ℕ) (k : ℕ) → length (tokenTag w k) ≡ length w + (length (decimal k) + 1)
+unfolding tokenTag
+tag-length w k = length-append w (decimal k ++ tagEnd) ∙ ap (λ (x : ℕ). length w + x) (length-append (decimal k) tagEnd)
+
+sum-of : (a b c d e f : ℕ) → a ≡ 2 + (e + 1) → b ≡ 3 + (e + 1) → c ≡ a + d → d ≡ f + b → c ≡ 7 + 2 * e + f
+sum-of a b c d e f h i j k = omega arith
+
+pub token-length : (k v : ℕ) → length (tokenTag openToken k ++ (decimal v ++ tokenTag closeToken k)) ≡ 7 + 2 * length (decimal k) + length (decimal v)
+token-length k v =
+    sum-of _ _ _ _ _ _ (tag-length openToken k) (tag-length closeToken k) (length-append (tokenTag openToken k) (decimal v ++ tokenTag closeToken k))
+    (length-append (decimal v) (tokenTag closeToken k))
+
+-- What the parts of tags make up, and how long that is.
+pub node-is : (w : List ℕ) (k p : ℕ) → w ++ (decimal k ++ (point ++ (decimal p ++ tagEnd))) ≡ nodeTag w k p
+unfolding nodeTag
+node-is w k p = refl
+
+pub token-is : (k v : ℕ)
+    → (60 ∷ []) ++ ((116 ∷ (decimal k ++ tagEnd)) ++ (decimal v ++ ((60 ∷ []) ++ ((47 ∷ []) ++ (116 ∷ (decimal k ++ tagEnd))))))
+    ≡ tokenTag openToken k ++ (decimal v ++ tokenTag closeToken k)
+unfolding tokenTag
+token-is k v = refl
+
+pub opening-size : (k p : ℕ) {a b : ℕ} → a ≡ length (decimal k) → b ≡ length (decimal p) → 4 + a + b ≡ length (nodeTag openNode k p)
+opening-size k p e f = omega (arith, node-length openNode k p)
+
+pub closing-size : (k p : ℕ) {a b : ℕ} → a ≡ length (decimal k) → b ≡ length (decimal p) → 5 + a + b ≡ length (nodeTag closeNode k p)
+closing-size k p e f = omega (arith, node-length closeNode k p)
+
+pub token-size : (k v : ℕ) {a b : ℕ} → a ≡ length (decimal k) → b ≡ length (decimal v)
+    → 7 + 2 * a + b ≡ length (tokenTag openToken k ++ (decimal v ++ tokenTag closeToken k))
+token-size k v e f = omega (arith, token-length k v)
+
+-- Where what was written ends.
+pub byte-after : {v o o₁ : List ℕ} {n a : ℕ} → Written v o o₁ n a → length o₁ ≡ length o → n + length v < length o → a < length o₁
+byte-after w l h = omega (arith, w .end)
+
+pub byte-end : {b : ℕ} {o o₁ : List ℕ} {n a : ℕ} → Written (b ∷ []) o o₁ n a → a ≡ n + 1
+byte-end w = w .end
+
+pub kind-end : (k : ℕ) {o o₁ : List ℕ} {n a : ℕ} → Written (116 ∷ (decimal k ++ tagEnd)) o o₁ n a → a ≡ n + (2 + length (decimal k))
+kind-end k {n = n} w =
+    let z : length (decimal k ++ tagEnd) ≡ length (decimal k) + 1 = length-append (decimal k) tagEnd in
+    let y : suc (length (decimal k ++ tagEnd)) ≡ 2 + length (decimal k) = omega (arith, z) in
+    w .end ∙ ap (λ (x : ℕ). n + x) y
 
 -- Decimals of one to five digits.
 pub digits-1 : (v : ℕ) → v < 10 → decimal v ≡ (48 + v) ∷ []
@@ -42,62 +152,38 @@ digits-5 v g h =
     let c : v / 10 / 1000 ≡ v / 10000 = omega arith in
     decimal-large v (omega arith) ∙ (ap (λ (l : List ℕ). l ++ ((48 + v % 10) ∷ [])) (digits-4 (v / 10) (omega arith) (omega arith)) ∙ rw (a, b, c))
 
--- put_number
-module _ (v : ℕ) (small : v < 65536) {w a b c d e : ℕ} (ew : w ≡ length (decimal v)) (ea : a ≡ 48 + v / 10000) (eb : b ≡ 48 + v / 1000 % 10)
-    (ec : c ≡ 48 + v / 100 % 10) (ed : d ≡ 48 + v / 10 % 10) (ee : e ≡ 48 + v % 10) where
-  abbrev five : List ℕ
-  five = a ∷ b ∷ c ∷ d ∷ e ∷ []
+-- How many digits there are, and the last ones.
+pub width-1 : (v : ℕ) → v < 10 → length (decimal v) ≡ 1
+width-1 v h = ap length (digits-1 v h)
 
-  cut : (n : ℕ) (l : List ℕ) → decimal v ≡ l → length l ≡ n → l ≡ take (5 - (5 - n)) (drop (5 - n) five) → take (5 - (5 - w)) (drop (5 - w) five) ≡ decimal v
-  cut n l h i j = let z : w ≡ n = ew ∙ (ap length h ∙ i) in ap (λ (m : ℕ). take (5 - (5 - m)) (drop (5 - m) five)) z ∙ sym (h ∙ j)
+pub width-2 : (v : ℕ) → 10 ≤ v → v < 100 → length (decimal v) ≡ 2
+width-2 v g h = ap length (digits-2 v g h)
 
-  pub number-digits : take (5 - (5 - w)) (drop (5 - w) five) ≡ decimal v
-  number-digits =
-      by-test (ltb v 10)
-      (λ t.
-      let h = ltb-true v 10 t in
-      let z : v % 10 ≡ v = omega arith in
-      cut 1 _ (digits-1 v h) refl (cc))
-      (λ t. by-test (ltb v 100)
-      (λ u.
-      let z : v / 10 % 10 ≡ v / 10 = omega (arith, ltb-true v 100 u) in
-      cut 2 _ (digits-2 v (ltb-false v 10 t) (ltb-true v 100 u)) refl (cc))
-      (λ u. by-test (ltb v 1000)
-      (λ t.
-      let z : v / 100 % 10 ≡ v / 100 = omega (arith, ltb-true v 1000 t) in
-      cut 3 _ (digits-3 v (ltb-false v 100 u) (ltb-true v 1000 t)) refl (cc))
-      (λ t. by-test (ltb v 10000)
-      (λ u.
-      let z : v / 1000 % 10 ≡ v / 1000 = omega (arith, ltb-true v 10000 u) in
-      cut 4 _ (digits-4 v (ltb-false v 1000 t) (ltb-true v 10000 u)) refl (cc))
-      (λ u. cut 5 _ (digits-5 v (ltb-false v 10000 u) (omega arith)) refl (cc)))))
+last-2 : (v : ℕ) → 100 ≤ v → decimal v ≡ decimal (v / 100) ++ ((48 + v / 10 % 10) ∷ (48 + v % 10) ∷ [])
+last-2 v h =
+    let a : v / 10 / 10 ≡ v / 100 = omega arith in
+    decimal-large v (omega arith) ∙ (ap (λ (l : List ℕ). l ++ ((48 + v % 10) ∷ [])) (decimal-large (v / 10) (omega arith)) ∙ rw a (append-assoc (decimal (v / 100)) ((48 + v / 10 % 10) ∷ []) ((48 + v % 10) ∷ [])))
 
--- put_node_tag
-module _ {store : Bool} (w : List ℕ) (k p : ℕ) (o o₁ : List ℕ) (n : ℕ) {x : Stored} (first : Puts store (w ++ decimal k) o o₁ n x) where
-  node-parts : (w ++ decimal k) ++ ((point ++ decimal p) ++ tagEnd) ≡ nodeTag w k p
-  unfolding nodeTag
-  node-parts = simp append-assoc
+pub last-3 : (v : ℕ) → 1000 ≤ v → decimal v ≡ decimal (v / 1000) ++ ((48 + v / 100 % 10) ∷ (48 + v / 10 % 10) ∷ (48 + v % 10) ∷ [])
+last-3 v h =
+    let a : v / 10 / 100 ≡ v / 1000 = omega arith in
+    let b : v / 10 / 10 ≡ v / 100 = omega arith in
+    decimal-large v (omega arith)
+    ∙ (ap (λ (l : List ℕ). l ++ ((48 + v % 10) ∷ [])) (last-2 (v / 10) (omega arith))
+    ∙ rw (a, b) (append-assoc (decimal (v / 1000)) ((48 + v / 100 % 10) ∷ (48 + v / 10 % 10) ∷ []) ((48 + v % 10) ∷ [])))
 
-  pub node-first-full : x ≡ Full → Puts store (nodeTag w k p) o o₁ n Full
-  node-first-full e = puts-same node-parts (puts-full (w ++ decimal k) o o₁ n first _ e)
+pub last-1 : (v : ℕ) → 100 ≤ v → decimal v ≡ decimal (v / 10) ++ ((48 + v % 10) ∷ [])
+last-1 v h = decimal-large v (omega arith)
 
-  module _ {a : ℕ} (ea : x ≡ To a) (long : length o₁ ≡ length o) (o₂ : List ℕ) {y : Stored} (second : Puts store (point ++ decimal p) o₁ o₂ a y) where
-    pub node-second-full : y ≡ Full → Puts store (nodeTag w k p) o o₂ n Full
-    node-second-full e =
-        puts-same node-parts (puts-then (w ++ decimal k) o o₁ n first _ ea long (puts-full (point ++ decimal p) o₁ o₂ a second _ e))
+pub last-two : (v : ℕ) → 1000 ≤ v → decimal v ≡ decimal (v / 100) ++ ((48 + v / 10 % 10) ∷ (48 + v % 10) ∷ [])
+last-two v h = last-2 v (omega arith)
 
-    pub node-all : {b : ℕ} → y ≡ To b → length o₂ ≡ length o₁ → (o₃ : List ℕ) {z : Stored} → Puts store tagEnd o₂ o₃ b z → Puts store (nodeTag w k p) o o₃ n z
-    node-all eb l o₃ third =
-        puts-same node-parts (puts-then (w ++ decimal k) o o₁ n first _ ea long (puts-then (point ++ decimal p) o₁ o₂ a second _ eb l third))
+pub fewer-1 : (v : ℕ) → 100 ≤ v → length (decimal v) ≡ length (decimal (v / 10)) + 1
+fewer-1 v h = ap length (last-1 v h) ∙ length-append (decimal (v / 10)) ((48 + v % 10) ∷ [])
 
--- put_token_tag
-module _ {store : Bool} (w : List ℕ) (k : ℕ) (o o₁ : List ℕ) (n : ℕ) {x : Stored} (first : Puts store (w ++ decimal k) o o₁ n x) where
-  tag-parts : (w ++ decimal k) ++ tagEnd ≡ tokenTag w k
-  unfolding tokenTag
-  tag-parts = append-assoc w (decimal k) tagEnd
+pub fewer-2 : (v : ℕ) → 1000 ≤ v → length (decimal v) ≡ length (decimal (v / 100)) + 2
+fewer-2 v h = ap length (last-two v h) ∙ length-append (decimal (v / 100)) ((48 + v / 10 % 10) ∷ (48 + v % 10) ∷ [])
 
-  pub tag-full : x ≡ Full → Puts store (tokenTag w k) o o₁ n Full
-  tag-full e = puts-same tag-parts (puts-full (w ++ decimal k) o o₁ n first _ e)
-
-  pub tag-all : {a : ℕ} → x ≡ To a → length o₁ ≡ length o → (o₂ : List ℕ) {z : Stored} → Puts store tagEnd o₁ o₂ a z → Puts store (tokenTag w k) o o₂ n z
-  tag-all ea long o₂ second = puts-same tag-parts (puts-then (w ++ decimal k) o o₁ n first _ ea long second)
+pub fewer-3 : (v : ℕ) → 1000 ≤ v → length (decimal v) ≡ length (decimal (v / 1000)) + 3
+fewer-3 v h =
+    ap length (last-3 v h) ∙ length-append (decimal (v / 1000)) ((48 + v / 100 % 10) ∷ (48 + v / 10 % 10) ∷ (48 + v % 10) ∷ [])

@@ -1,5 +1,6 @@
 // The export of a tree. It is measured first, and written only where it fits.
-use crate::put::put_node_tag;
+use crate::put::put_closing;
+use crate::put::put_opening;
 use crate::put::put_token;
 use fields::bytes::pair_in;
 use fields::bytes::to_usize;
@@ -60,7 +61,7 @@ pub fn export_at(
         return Step::Full;
     }
     let name = to_usize(tree[at]);
-    let Stored::To(m) = put_node_tag(b"<x", to_usize(kind), name, store, out, n) else {
+    let Stored::To(m) = put_opening(to_usize(kind), name, store, out, n) else {
         return Step::Full;
     };
     let stop = place + 2 + pair_in(language, place);
@@ -78,7 +79,7 @@ pub fn export_at(
     ) else {
         return Step::Full;
     };
-    let Stored::To(j) = put_node_tag(b"</x", to_usize(kind), name, store, out, k) else {
+    let Stored::To(j) = put_closing(to_usize(kind), name, store, out, k) else {
         return Step::Full;
     };
     Step::To(e, j)

@@ -1,19 +1,30 @@
-// Texts that are put into an output, or only measured against it.
+// Texts that are put into an output, or only measured against it. They are measured by arithmetic; what has room is
+// written byte by byte, with no loop.
 use fields::copy::Stored;
-use putting::put::put_word;
 ghost use mathlib.Core.Path.{_≡_};
-ghost use mathlib.Core.List.{_++_};
-ghost use Prim.Native.Nat.{_+_, _<_, _≤_};
+ghost use mathlib.Core.List.{[], _∷_, _++_};
+ghost use Prim.Native.Nat.{_+_, _*_, _<_, _≤_};
 ghost use lib.ListN.{length};
-ghost use Rattle.xml.specs.Text.{decimal, nodeTag, tokenTag, openToken, closeToken};
+ghost use Rattle.fields.specs.Inner.Writing.{Written};
+ghost use Rattle.xml.specs.Text.{decimal, nodeTag, tokenTag, openNode, closeNode, openToken, closeToken, point, tagEnd};
 ghost use Rattle.putting.specs.Inner.Putting.{Puts};
 
-// A digit as a byte.
-fn ascii(digit: usize) -> u8
-    requires { ⌜ digit < 10 ⌝ }
-    ensures { λ r. ⌜ r ≡ 48 + digit ⌝ }
+// Writes a byte.
+fn write_byte(byte: u8, out: &mut [u8], n: usize) -> usize
+    requires { ⌜ n < length (now out) ⌝ }
+    ensures { λ r. ⌜ Written (byte ∷ []) (now (out .entry)) (now (out .exit)) n r ⌝ }
 {
-    48 + digit as u8
+    out[n] = byte;
+    n + 1
+}
+
+// Writes a digit.
+fn write_digit(digit: usize, out: &mut [u8], n: usize) -> usize
+    requires { ⌜ (digit < 10) × (n < length (now out)) ⌝ }
+    ensures { λ r. ⌜ Written ((48 + digit) ∷ []) (now (out .entry)) (now (out .exit)) n r ⌝ }
+{
+    out[n] = 48 + digit as u8;
+    n + 1
 }
 
 // How many digits a number has in decimal.
@@ -36,74 +47,130 @@ fn width(number: usize) -> usize
     5
 }
 
-// Puts a number in decimal.
-fn put_number(number: usize, store: bool, out: &mut [u8], n: usize) -> Stored
-    requires { ⌜ (number < 65536) × (n ≤ length (now out)) ⌝ }
-    ensures { λ r. ⌜ Puts store (decimal number) (now (out .entry)) (now (out .exit)) n r ⌝ }
+// Writes a number of one or two digits.
+fn write_short(number: usize, out: &mut [u8], n: usize) -> usize
+    requires { ⌜ (number < 100) × (n + length (decimal number) ≤ length (now out)) ⌝ }
+    ensures { λ r. ⌜ Written (decimal number) (now (out .entry)) (now (out .exit)) n r ⌝ }
 {
-    let mut digits = [0u8; 5];
-    digits[0] = ascii(number / 10000);
-    digits[1] = ascii(number / 1000 % 10);
-    digits[2] = ascii(number / 100 % 10);
-    digits[3] = ascii(number / 10 % 10);
-    digits[4] = ascii(number % 10);
-    let from = 5 - width(number);
-    put_word(&digits[from..], store, out, n)
+    if number < 10 {
+        return write_digit(number, out, n);
+    }
+    let a = write_digit(number / 10, out, n);
+    write_digit(number % 10, out, a)
 }
 
-// Puts a text and a number behind it.
-fn put_named(begin: &[u8], number: usize, store: bool, out: &mut [u8], n: usize) -> Stored
-    requires { ⌜ (number < 65536) × (n ≤ length (now out)) ⌝ }
-    ensures { λ r. ⌜ Puts store (now (begin .entry) ++ decimal number) (now (out .entry)) (now (out .exit)) n r ⌝ }
+// Writes a number of four or five digits.
+fn write_long(number: usize, out: &mut [u8], n: usize) -> usize
+    requires { ⌜ (1000 ≤ number) × (number < 65536) × (n + length (decimal number) ≤ length (now out)) ⌝ }
+    ensures { λ r. ⌜ Written (decimal number) (now (out .entry)) (now (out .exit)) n r ⌝ }
 {
-    let Stored::To(m) = put_word(begin, store, out, n) else {
-        return Stored::Full;
-    };
-    put_number(number, store, out, m)
+    if number < 10000 {
+        let a = write_short(number / 100, out, n);
+        let b = write_digit(number / 10 % 10, out, a);
+        return write_digit(number % 10, out, b);
+    }
+    let a = write_short(number / 1000, out, n);
+    let b = write_digit(number / 100 % 10, out, a);
+    let c = write_digit(number / 10 % 10, out, b);
+    write_digit(number % 10, out, c)
 }
 
-// Puts a tag of a production.
-pub fn put_node_tag(
-    begin: &[u8],
-    kind: usize,
-    name: usize,
-    store: bool,
-    out: &mut [u8],
-    n: usize,
-) -> Stored
+// Writes a number in decimal.
+fn write_number(number: usize, out: &mut [u8], n: usize) -> usize
+    requires { ⌜ (number < 65536) × (n + length (decimal number) ≤ length (now out)) ⌝ }
+    ensures { λ r. ⌜ Written (decimal number) (now (out .entry)) (now (out .exit)) n r ⌝ }
+{
+    if number < 100 {
+        return write_short(number, out, n);
+    }
+    if number < 1000 {
+        let a = write_short(number / 10, out, n);
+        return write_digit(number % 10, out, a);
+    }
+    write_long(number, out, n)
+}
+
+// Writes what the tags of a production end with.
+fn write_name(kind: usize, name: usize, out: &mut [u8], n: usize) -> usize
+    requires { ⌜ (kind < 65536) × (name < 65536) × (n + length (decimal kind) + length (decimal name) + 2 ≤ length (now out)) ⌝ }
+    ensures { λ r. ⌜ Written (decimal kind ++ (point ++ (decimal name ++ tagEnd))) (now (out .entry)) (now (out .exit)) n r ⌝ }
+{
+    let a = write_number(kind, out, n);
+    let b = write_byte(46, out, a);
+    let c = write_number(name, out, b);
+    write_byte(62, out, c)
+}
+
+// Puts the opening tag of a production, if it is to be stored.
+pub fn put_opening(kind: usize, name: usize, store: bool, out: &mut [u8], n: usize) -> Stored
     requires { ⌜ (kind < 65536) × (name < 65536) × (n ≤ length (now out)) ⌝ }
-    ensures { λ r. ⌜ Puts store (nodeTag (now (begin .entry)) kind name) (now (out .entry)) (now (out .exit)) n r ⌝ }
+    ensures { λ r. ⌜ Puts store (nodeTag openNode kind name) (now (out .entry)) (now (out .exit)) n r ⌝ }
 {
-    let Stored::To(a) = put_named(begin, kind, store, out, n) else {
+    let size = 4 + width(kind) + width(name);
+    if out.len() - n < size {
         return Stored::Full;
-    };
-    let Stored::To(b) = put_named(b".", name, store, out, a) else {
-        return Stored::Full;
-    };
-    put_word(b">", store, out, b)
+    }
+    if !store {
+        return Stored::To(n + size);
+    }
+    let a = write_byte(60, out, n);
+    let b = write_byte(120, out, a);
+    Stored::To(write_name(kind, name, out, b))
 }
 
-// Puts a tag of a token.
-fn put_token_tag(begin: &[u8], kind: usize, store: bool, out: &mut [u8], n: usize) -> Stored
-    requires { ⌜ (kind < 65536) × (n ≤ length (now out)) ⌝ }
-    ensures { λ r. ⌜ Puts store (tokenTag (now (begin .entry)) kind) (now (out .entry)) (now (out .exit)) n r ⌝ }
+// Puts the closing tag of a production, if it is to be stored.
+pub fn put_closing(kind: usize, name: usize, store: bool, out: &mut [u8], n: usize) -> Stored
+    requires { ⌜ (kind < 65536) × (name < 65536) × (n ≤ length (now out)) ⌝ }
+    ensures { λ r. ⌜ Puts store (nodeTag closeNode kind name) (now (out .entry)) (now (out .exit)) n r ⌝ }
 {
-    let Stored::To(a) = put_named(begin, kind, store, out, n) else {
+    let size = 5 + width(kind) + width(name);
+    if out.len() - n < size {
         return Stored::Full;
-    };
-    put_word(b">", store, out, a)
+    }
+    if !store {
+        return Stored::To(n + size);
+    }
+    let a = write_byte(60, out, n);
+    let b = write_byte(47, out, a);
+    let c = write_byte(120, out, b);
+    Stored::To(write_name(kind, name, out, c))
 }
 
-// Puts a token with its tags.
+// Writes what the tags of a token end with.
+fn write_kind(kind: usize, out: &mut [u8], n: usize) -> usize
+    requires { ⌜ (kind < 65536) × (n + length (decimal kind) + 2 ≤ length (now out)) ⌝ }
+    ensures { λ r. ⌜ Written (116 ∷ (decimal kind ++ tagEnd)) (now (out .entry)) (now (out .exit)) n r ⌝ }
+{
+    let a = write_byte(116, out, n);
+    let b = write_number(kind, out, a);
+    write_byte(62, out, b)
+}
+
+// Writes a token with its tags.
+fn write_token(kind: usize, value: usize, out: &mut [u8], n: usize) -> usize
+    requires { ⌜ (kind < 65536) × (value < 65536)
+        × (n + (7 + 2 * length (decimal kind) + length (decimal value)) ≤ length (now out)) ⌝ }
+    ensures { λ r. ⌜ Written (tokenTag openToken kind ++ (decimal value ++ tokenTag closeToken kind)) (now (out .entry)) (now (out .exit)) n r ⌝ }
+{
+    let a = write_byte(60, out, n);
+    let b = write_kind(kind, out, a);
+    let c = write_number(value, out, b);
+    let d = write_byte(60, out, c);
+    let e = write_byte(47, out, d);
+    write_kind(kind, out, e)
+}
+
+// Puts a token with its tags, if it is to be stored.
 pub fn put_token(kind: usize, value: usize, store: bool, out: &mut [u8], n: usize) -> Stored
     requires { ⌜ (kind < 65536) × (value < 65536) × (n ≤ length (now out)) ⌝ }
     ensures { λ r. ⌜ Puts store (tokenTag openToken kind ++ (decimal value ++ tokenTag closeToken kind)) (now (out .entry)) (now (out .exit)) n r ⌝ }
 {
-    let Stored::To(a) = put_token_tag(b"<t", kind, store, out, n) else {
+    let size = 7 + 2 * width(kind) + width(value);
+    if out.len() - n < size {
         return Stored::Full;
-    };
-    let Stored::To(b) = put_number(value, store, out, a) else {
-        return Stored::Full;
-    };
-    put_token_tag(b"</t", kind, store, out, b)
+    }
+    if !store {
+        return Stored::To(n + size);
+    }
+    Stored::To(write_token(kind, value, out, n))
 }

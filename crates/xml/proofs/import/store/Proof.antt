@@ -1,5 +1,5 @@
 use native.Mathlib.Omega.{arith}
-use Rattle.xml.proofs.Imports.{store-in}
+use Rattle.xml.proofs.Puts.{store-in}
 use borrow.Author.Needs.{needs}
 use Rattle.xml.proofs.import.store.Statement.{statement}
 use Rattle.xml.proofs.import.store.Tie as tie
