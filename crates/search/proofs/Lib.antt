@@ -1,0 +1,4 @@
+pub mod Choosing
+pub mod Putting
+pub mod Found
+pub mod Wrapping
