@@ -30,7 +30,7 @@ use Rattle.needs.specs.Inner.Setting.{Seeks}
 use Rattle.backward.specs.Sources.{searchOf}
 use Rattle.backward.specs.Operations.{found, foundIn}
 use Rattle.backward.proofs.Finding.{search-first, search-none}
-use Rattle.search.specs.Inner.Puts.{Puts}
+use Rattle.first.specs.Inner.Puts.{Puts}
 use Rattle.search.specs.Inner.Finding.{Rooted, Answers}
 
 module _ (table source index target places kinds bytes memory free : List ℕ) (k : ℕ) (f : Translation) (u : Code)

@@ -1,4 +1,2 @@
-pub mod Choosing
-pub mod Putting
 pub mod Found
 pub mod Wrapping

@@ -6,10 +6,11 @@ use mathlib.Core.List.{List, [], _∷_, map, append-nil}
 use mathlib.Core.Option.{Option, none, some}
 use native.Mathlib.Omega.{arith}
 use lib.ListN.{length, getD, replicate}
+use lib.Seq.{slice}
 use lib.Dec.{eqb, leb}
 use borrow.Author.Tests.{le-ltb, le-leb, lt-leb}
 use Rattle.fields.specs.Fields.{byteAt}
-use Rattle.fields.specs.Inner.Places.{places}
+use Rattle.fields.specs.Inner.Places.{places, fieldEnd}
 use Rattle.fields.specs.Outcome.{Result, value, refused, refuseIf, _>>=_, written, outputAfter}
 use Rattle.fields.specs.declared.outcome.Outcome.{Outcome}
 use Rattle.fields.specs.declared.outcome.Outcome.the-variants.{Accepted, Refused}
@@ -19,7 +20,7 @@ use Rattle.fields.proofs.Codec.{bytes-from, value-inj}
 use Rattle.fields.proofs.Truth.{Mem, map-cases}
 use Rattle.language.specs.Language.{Language, Entry, class, production, Range, argumentsOf, isIn}
 use Rattle.language.specs.LanguageFile.{entriesOf, languageLimit, languageOf}
-use Rattle.language.specs.Inner.Entries.{entryAt}
+use Rattle.language.specs.Inner.Entries.{entryAt, classRange}
 use Rattle.language.proofs.Lookup.{arguments-mem}
 use Rattle.language.proofs.Holds.{holds-entries}
 use Rattle.reader.specs.Code.{Code}
@@ -60,12 +61,15 @@ named-of s l e narrow k p ks known =
     let z = map-cases (entryAt s) (production k p ks) (places s) m in
     at-place (z .0) (z .2)
   where
+    named-byte : (b : Bool) (r q : ℕ) (c : Range) (js : List ℕ) → production k p ks ≡ cond b (class r c) (production r q js) → p ≡ q
+    named-byte true r q c js y = class-production y
+    named-byte false r q c js y = production-name y
+
     at-place : (q : ℕ) → production k p ks ≡ entryAt s q → p < 256
-    at-place q d = go (eqb (byteAt s q) 0x11) d
-      where
-        go : (b : Bool) → production k p ks ≡ cond b (class (byteAt s (q + 3)) _) (production (byteAt s (q + 3)) (byteAt s (q + 4)) _) → p < 256
-        go true y = class-production y
-        go false y = let n = narrow (q + 4) in let x : p ≡ getD s (q + 4) 0 = production-name y in omega arith
+    at-place q d =
+        let n = narrow (q + 4) in
+        let x : p ≡ byteAt s (q + 4) = named-byte (eqb (byteAt s q) 0x11) (byteAt s (q + 3)) (byteAt s (q + 4)) (classRange s q) (slice (q + 5) (fieldEnd s q) s) d in
+        rw x n
 
 -- Bytes that are all zero.
 pub all-zero : (w : List ℕ) (n : ℕ) → length w ≡ n → ((i : ℕ) → getD w i 0 ≡ 0) → w ≡ replicate n 0

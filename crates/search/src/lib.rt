@@ -1,4 +1,2 @@
-// Which source tree gives this one: the first in byte order whose run is a given target tree.
-pub mod choice;
-pub mod put;
+// The search back: which source tree gives a target tree.
 pub mod search;

@@ -1,5 +1,5 @@
 // The operation that searches back. It measures the first source tree and writes it only where it fits.
-use crate::put::put_first;
+use first::put::put_first;
 use checks::translations::check_translation;
 use checks::trees::check_indexed;
 use emitter::prepare::prepare;

@@ -11,7 +11,7 @@ use Rattle.search.proofs.search.find.Lts as lts
 use Rattle.fields.proofs.outcome.accept.Reads as accept-reads
 use Rattle.fields.proofs.outcome.refuse.Reads as refuse-reads
 use Rattle.needs.proofs.levels.need.Reads as need-reads
-use Rattle.search.proofs.put.put_first.Reads as put-first-reads
+use Rattle.first.proofs.put.put_first.Reads as put-first-reads
 
 -- src/search.rt:62:9
 add-past : tie.Need-add-past

@@ -1,10 +1,10 @@
-use Rattle.search.proofs.Putting.{puts-then}
+use Rattle.first.proofs.Putting.{puts-then}
 use borrow.Author.Needs.{needs}
-use Rattle.search.proofs.put.put_value.Statement.{statement}
-use Rattle.search.proofs.put.put_value.Tie as tie
-use Rattle.search.proofs.put.put_value.Reads as reads
-use Rattle.search.proofs.put.put_value.Lts as lts
-use Rattle.search.proofs.put.put_byte.Reads as put-byte-reads
+use Rattle.first.proofs.put.put_value.Statement.{statement}
+use Rattle.first.proofs.put.put_value.Tie as tie
+use Rattle.first.proofs.put.put_value.Reads as reads
+use Rattle.first.proofs.put.put_value.Lts as lts
+use Rattle.first.proofs.put.put_byte.Reads as put-byte-reads
 
 -- src/put.rt:44:45
 cast-put-byte : tie.Need-cast-put-byte

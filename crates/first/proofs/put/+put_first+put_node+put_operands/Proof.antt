@@ -11,30 +11,30 @@ use Rattle.translation.specs.Running.{clausesOf}
 use Rattle.sources.specs.Inner.Goals.{Goal, FirstAll}
 use Rattle.needs.specs.Inner.Setting.{Truthful, Seeks, SeeksAll}
 use Rattle.needs.proofs.Needing.{plain, class-positive, class-whole, seeks-still, key-inside, key-small, name-unknown, name-known, asks-match, name-unmatched, name-seeks, count-inside, count-is, kind-inside, operand-seeks, operand-kind}
-use Rattle.search.proofs.Putting.{puts-past, puts-same, token-written, no-levels, one-level, node-put, first-of, unknown-none, go-on, Going, going-start, going-end, going-first, going-next}
+use Rattle.first.proofs.Putting.{puts-past, puts-same, token-written, no-levels, one-level, node-put, first-of, unknown-none, go-on, Going, going-start, going-end, going-first, going-next}
 use Prim.Native.Nat.{ℕ, _<_}
 use borrow.Fn.Kinds.{In}
 use borrow.Fn.PlainCycle.{Measures, is, falls, and}
-use Rattle.search.proofs.put.put_first.Reads as put-first
-use Rattle.search.proofs.put.put_first.Kinds as put-first-kinds
-use Rattle.search.proofs.put.+put_first+put_node+put_operands.Lts-put_first as put-first-lts
-use Rattle.search.proofs.put.put_node.Reads as put-node
-use Rattle.search.proofs.put.put_node.Kinds as put-node-kinds
-use Rattle.search.proofs.put.+put_first+put_node+put_operands.Lts-put_node as put-node-lts
-use Rattle.search.proofs.put.put_operands.Reads as put-operands
-use Rattle.search.proofs.put.put_operands.Kinds as put-operands-kinds
-use Rattle.search.proofs.put.+put_first+put_node+put_operands.Lts-put_operands as put-operands-lts
+use Rattle.first.proofs.put.put_first.Reads as put-first
+use Rattle.first.proofs.put.put_first.Kinds as put-first-kinds
+use Rattle.first.proofs.put.+put_first+put_node+put_operands.Lts-put_first as put-first-lts
+use Rattle.first.proofs.put.put_node.Reads as put-node
+use Rattle.first.proofs.put.put_node.Kinds as put-node-kinds
+use Rattle.first.proofs.put.+put_first+put_node+put_operands.Lts-put_node as put-node-lts
+use Rattle.first.proofs.put.put_operands.Reads as put-operands
+use Rattle.first.proofs.put.put_operands.Kinds as put-operands-kinds
+use Rattle.first.proofs.put.+put_first+put_node+put_operands.Lts-put_operands as put-operands-lts
 use Rattle.emitter.proofs.table.clause_at.Reads as clause-at-reads
 use Rattle.emitter.proofs.table.index_at.Reads as index-at-reads
 use Rattle.emitter.proofs.table.source_at.Reads as source-at-reads
 use Rattle.needs.proofs.clause.matches.Reads as matches-reads
 use Rattle.needs.proofs.levels.token_value.Reads as token-value-reads
 use Rattle.reader.proofs.node.place_at.Reads as place-at-reads
-use Rattle.search.proofs.choice.choose.Reads as choose-reads
-use Rattle.search.proofs.put.put_byte.Reads as put-byte-reads
-use Rattle.search.proofs.put.put_value.Reads as put-value-reads
-use Rattle.search.proofs.put.+put_first+put_node+put_operands.{statement}
-use Rattle.search.proofs.put.+put_first+put_node+put_operands.Tie.{close}
+use Rattle.first.proofs.choice.choose.Reads as choose-reads
+use Rattle.first.proofs.put.put_byte.Reads as put-byte-reads
+use Rattle.first.proofs.put.put_value.Reads as put-value-reads
+use Rattle.first.proofs.put.+put_first+put_node+put_operands.{statement}
+use Rattle.first.proofs.put.+put_first+put_node+put_operands.Tie.{close}
 
 abbrev μ-put-first : Measures 10 put-first-kinds.ps ℕ
 μ-put-first κs a = a .1 .1 .1 .1 .1 .1 .1 .1 .1 .1 .1 .0 * 3

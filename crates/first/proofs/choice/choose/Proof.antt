@@ -8,11 +8,11 @@ use Rattle.translation.specs.Running.{clausesOf}
 use Rattle.sources.specs.Inner.Goals.{Goal}
 use Rattle.needs.specs.Inner.Setting.{Truthful, Seeks}
 use Rattle.needs.proofs.Needing.{seeks-still}
-use Rattle.search.proofs.Choosing.{NoneBelow, none-start, none-next, choose-here, choose-last}
-use Rattle.search.proofs.choice.choose.Statement.{statement}
-use Rattle.search.proofs.choice.choose.Tie as tie
-use Rattle.search.proofs.choice.choose.Reads as reads
-use Rattle.search.proofs.choice.choose.Lts as lts
+use Rattle.first.proofs.Choosing.{NoneBelow, none-start, none-next, choose-here, choose-last}
+use Rattle.first.proofs.choice.choose.Statement.{statement}
+use Rattle.first.proofs.choice.choose.Tie as tie
+use Rattle.first.proofs.choice.choose.Reads as reads
+use Rattle.first.proofs.choice.choose.Lts as lts
 use Rattle.needs.proofs.levels.name_need.Reads as name-need-reads
 
 abbrev Inv-loop : tie.InvT-loop

@@ -20,7 +20,7 @@ ghost use Rattle.translation.specs.Translation.{Translation};
 ghost use Rattle.translation.specs.Running.{clausesOf};
 ghost use Rattle.sources.specs.Inner.Goals.{Goal, First, FirstAll};
 ghost use Rattle.needs.specs.Inner.Setting.{Truthful, Seeks, SeeksAll};
-ghost use Rattle.search.specs.Inner.Puts.{Puts};
+ghost use Rattle.first.specs.Inner.Puts.{Puts};
 
 // Puts a byte into the output, where there is room, and answers where the next one goes; past the limit nothing is put.
 fn put_byte(output: &mut [u8], limit: usize, pos: usize, byte: u8) -> usize

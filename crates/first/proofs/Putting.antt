@@ -22,7 +22,7 @@ use Rattle.sources.proofs.Answers.{cons-first, first-nil, needs-zero, node-firs
 use Rattle.sources.proofs.Tokens.{first-token}
 use Rattle.needs.specs.Inner.Setting.{Seeks, valueAt}
 use Rattle.needs.proofs.Needing.{source-apart, the-range, value-for}
-use Rattle.search.specs.Inner.Puts.{Puts}
+use Rattle.first.specs.Inner.Puts.{Puts}
 
 -- A byte.
 pub byte-past : (limit pos byte : ℕ) (o : List ℕ) → limit ≤ pos → pos ≤ limit → Puts limit (byte ∷ []) o o pos limit

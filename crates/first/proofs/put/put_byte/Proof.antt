@@ -1,10 +1,10 @@
 use native.Mathlib.Omega.{arith}
-use Rattle.search.proofs.Putting.{byte-past, byte-put, byte-off}
+use Rattle.first.proofs.Putting.{byte-past, byte-put, byte-off}
 use borrow.Author.Needs.{needs}
-use Rattle.search.proofs.put.put_byte.Statement.{statement}
-use Rattle.search.proofs.put.put_byte.Tie as tie
-use Rattle.search.proofs.put.put_byte.Reads as reads
-use Rattle.search.proofs.put.put_byte.Lts as lts
+use Rattle.first.proofs.put.put_byte.Statement.{statement}
+use Rattle.first.proofs.put.put_byte.Tie as tie
+use Rattle.first.proofs.put.put_byte.Reads as reads
+use Rattle.first.proofs.put.put_byte.Lts as lts
 
 -- src/put.rt:31:9
 returns : tie.Need-returns
