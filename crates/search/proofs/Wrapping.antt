@@ -27,10 +27,15 @@ use Rattle.reader.specs.Code.{Code}
 use Rattle.reader.specs.Syntax.{write, tree}
 use Rattle.reader.specs.Operations.{treeOf, checkTree}
 use Rattle.reader.specs.Inner.Index.{Indexed}
-use Rattle.translation.specs.Translation.{Translation, mapped}
+use Rattle.reader.proofs.Members.{in-below}
+use Rattle.translation.specs.Translation.{Translation, Body, mapped}
 use Rattle.translation.specs.Running.{clausesOf}
 use Rattle.translation.specs.TranslationFile.{translationOf}
 use Rattle.translation.specs.Operations.{checkTranslation}
+use Rattle.translation.specs.Inner.Parts.{sourceIn, targetIn, bodyIn}
+use Rattle.translation.specs.Inner.ItemIndex.{IndexedItems, mappedAt}
+use Rattle.translation.proofs.IndexedItems.{mapped-is}
+use Rattle.translation.proofs.Cuts.{pieces-in, body-in-short}
 use Rattle.translation.proofs.Accepted.{refused-not}
 use Rattle.translation.proofs.Codec.{translation-whole, rises-parts}
 use Rattle.checks.proofs.Legal as Legal
@@ -114,8 +119,12 @@ target-language {f = f} z =
     let w = translation-whole (z .file) f (z .accepted) .1 in
     rw (le-ltb languageLimit (length _) (z .pieces .target-short), z .pieces .target, rises-parts f (w .rises) .1, w .target-apart)
 
+-- kinds_of
+pub kinds-mapped : (body index kinds : List ℕ) (b : Body) → IndexedItems index body b → ((k : ℕ) → k < 32 → getD kinds k 0 ≡ mappedAt body index k) → Mapped kinds b
+kinds-mapped body index kinds b x maps = record { maps = λ k small. maps k small ∙ mapped-is body index b x k small }
+
 -- search_in
-module _ (source target body kinds bytes : List ℕ) (k limit : ℕ) (f : Translation) (z : Checked source target body f) (maps : Mapped kinds f) (small : k < 32)
+module _ (source target body kinds bytes : List ℕ) (k limit : ℕ) (f : Translation) (z : Checked source target body f) (maps : Mapped kinds (f .body)) (small : k < 32)
     (root : ℕ) (root-is : root ≡ getD kinds k 0) (c : Outcome) (told : c ≡ checkTree target root bytes) where
   root-mapped : root ≡ mapped (f .body) k
   root-mapped = root-is ∙ maps .maps k small
@@ -198,6 +207,19 @@ module _ (s : List ℕ) (root : ℕ) (bytes : List ℕ) (limit : ℕ) (workspace
       go (refused x) e d = rw e (cc)
 
   module _ (f : Translation) (is : translationOf s ≡ value f) where
+    pub parts-checked : {x y z : List ℕ} → x ≡ sourceIn s → y ≡ targetIn s → z ≡ bodyIn s → Checked x y z f
+    parts-checked ex ey ez = rw (ex, ey, ez) (record { pieces = pieces-in s f is; short = body-in-short s f is; file = s; accepted = is })
+
+    pub source-in : {x : List ℕ} → x ≡ sourceIn s → entriesOf x ≡ some (f .source)
+    source-in ex = ap entriesOf ex ∙ pieces-in s f is .source
+
+    pub root-past : 31 < root → isIn (f .source) root ≡ false
+    root-past h = go (isIn (f .source) root) refl
+      where
+        go : (b : Bool) → isIn (f .source) root ≡ b → b ≡ false
+        go true e = let z = in-below (sourceIn s) root (f .source) (pieces-in s f is .source) e in absurd (omega arith)
+        go false e = refl
+
     pub search-unknown : isIn (f .source) root ≡ false → out ≡ Refused UnknownRoot → AsSearched s root bytes limit workspace workspace o o out
     unfolding ready
     search-unknown e i = as-leaves o workspace (leaves-refused (ready s root bytes limit) root bytes limit o workspace out UnknownRoot (rw (is, e)) i)

@@ -4,7 +4,6 @@ use checks::translations::check_translation;
 use checks::trees::check_indexed;
 use emitter::prepare::prepare;
 use fields::bytes::byte_at;
-use fields::bytes::to_usize;
 use fields::outcome::Answer;
 use fields::outcome::Outcome;
 use fields::outcome::Reason;
@@ -30,11 +29,12 @@ ghost use Prim.Native.Nat.{ℕ, _<_, _≤_};
 ghost use lib.ListN.{length, getD, replicate};
 ghost use Rattle.language.specs.Language.{isIn};
 ghost use Rattle.reader.specs.Code.{Code};
-ghost use Rattle.translation.specs.Translation.{Translation, mapped};
+ghost use Rattle.translation.specs.Translation.{Translation, Body, mapped};
+ghost use Rattle.translation.specs.TranslationFile.{bodyOf};
 ghost use Rattle.emitter.specs.Inner.Table.{Checked};
 ghost use Rattle.needs.specs.Inner.Setting.{Seeks};
 ghost use Rattle.backward.specs.Operations.{foundIn, searchTree};
-ghost use Rattle.search.specs.Inner.Finding.{Rooted, Placed, Answers, readyIn, Leaves};
+ghost use Rattle.search.specs.Inner.Finding.{Rooted, Mapped, Placed, Answers, readyIn, Leaves};
 
 // The most levels that a search may have.
 const MOST_LEVELS: u32 = 16;
@@ -162,12 +162,22 @@ fn search_placed(
     answer
 }
 
+// Puts the kind that each kind maps to, by a body, into a table of 32.
+fn kinds_of(body: &[u8], kinds: &mut [u8])
+    requires { ⌜ (length (now body) ≤ 32768) × (length (now kinds) ≡ 32) × ((b : Body) × (bodyOf (now body) ≡ some b)) ⌝ }
+    ensures { λ _. ⌜ ((b : Body) → bodyOf (now (body .entry)) ≡ some b → Mapped (now (kinds .exit)) b) ⌝ }
+{
+    let mut items = [0u16; INDEX];
+    build_items(body, &mut items);
+    map_kinds(body, &items, kinds);
+}
+
 // The search in a translation that was accepted, for a source kind that is in it: 15, 16, 24, 23, 17.
 fn search_in(
     source: &[u8],
     target: &[u8],
     body: &[u8],
-    kind: u8,
+    kind: usize,
     tree: &[u8],
     limit: u32,
     workspace: &mut [u8],
@@ -177,12 +187,10 @@ fn search_in(
     ensures { λ r. ⌜ ((f : Translation) → Checked (now (source .entry)) (now (target .entry)) (now (body .entry)) f
         → Leaves (readyIn f kind (now (tree .entry)) limit) kind (now (tree .entry)) limit (now (output .entry)) (now (output .exit)) (now (workspace .entry)) (now (workspace .exit)) (r .outcome)) ⌝ }
 {
-    let mut clauses = [0u16; INDEX];
-    build_items(body, &mut clauses);
     let mut kinds = [0u8; 32];
-    map_kinds(body, &clauses, &mut kinds);
+    kinds_of(body, &mut kinds);
     let mut places = [0u16; INDEX];
-    let root = byte_at(&kinds, to_usize(kind)) as u32;
+    let root = byte_at(&kinds, kind) as u32;
     let answer = check_indexed(target, root, tree, &mut places);
     let outcome = answer.outcome;
     if let Outcome::Refused(reason) = outcome {
@@ -200,7 +208,7 @@ fn search_in(
         body,
         &places,
         &kinds,
-        to_usize(kind),
+        kind,
         tree,
         limit as usize,
         workspace,
@@ -229,14 +237,15 @@ pub fn search(
     if 31 < root {
         return refuse(Reason::UnknownRoot);
     }
-    if !is_in(source_of(translation), root as u8) {
+    let source = source_of(translation);
+    if !is_in(source, root as u8) {
         return refuse(Reason::UnknownRoot);
     }
     search_in(
-        source_of(translation),
+        source,
         target_of(translation),
         body_of(translation),
-        root as u8,
+        root as usize,
         tree,
         limit,
         workspace,

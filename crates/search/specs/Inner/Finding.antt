@@ -10,7 +10,7 @@ use Rattle.fields.specs.declared.outcome.Reason.the-variants.{LimitOutOfRange}
 use Rattle.reader.specs.Code.{Code}
 use Rattle.reader.specs.Syntax.{write, tree}
 use Rattle.reader.specs.Operations.{treeOf}
-use Rattle.translation.specs.Translation.{Translation, mapped}
+use Rattle.translation.specs.Translation.{Translation, Body, mapped}
 use Rattle.emitter.specs.Inner.Table.{Checked}
 use Rattle.index.specs.Inner.Lying.{Index, Lies}
 use Rattle.backward.specs.Operations.{isLimit, foundIn, workspaceAfter}
@@ -27,14 +27,13 @@ pub record Answers (result : Result (List ℕ)) (before after : List ℕ) (outco
   pub left : after ≡ outputAfter before result
 
 -- The kinds that are mapped to, by a table.
-pub record Mapped (kinds : List ℕ) (f : Translation) : Type 0 where
-  pub long : length kinds ≡ 32
-  pub maps : (k : ℕ) → k < 32 → getD kinds k 0 ≡ mapped (f .body) k
+pub record Mapped (kinds : List ℕ) (b : Body) : Type 0 where
+  pub maps : (k : ℕ) → k < 32 → getD kinds k 0 ≡ mapped b k
 
 -- The target tree of the kind that k maps to is the whole tree, and the index is that of the target.
 pub record Placed (target places kinds bytes : List ℕ) (k : ℕ) (f : Translation) (u : Code) : Type 0 where
   pub target-index : Index places target (f .target)
-  pub kinds-are : Mapped kinds f
+  pub kinds-are : Mapped kinds (f .body)
   pub lies : Lies (f .target) bytes 0 (mapped (f .body) k) u
   pub whole : bytes ≡ write tree u
 

@@ -1,3 +1,10 @@
+use borrow.Author.Tests.{not-true, not-false}
+use mathlib.Core.Path.{sym, _∙_}
+use mathlib.Core.List.{[]}
+use native.Mathlib.Omega.{arith}
+use Rattle.fields.specs.declared.outcome.Outcome.the-variants.{Accepted}
+use Rattle.translation.proofs.Accepted.{accepts}
+use Rattle.search.proofs.Wrapping.{search-refused, parts-checked, source-in, root-past, search-unknown, search-known}
 use borrow.Author.Needs.{needs}
 use Rattle.search.proofs.search.search.Statement.{statement}
 use Rattle.search.proofs.search.search.Tie as tie
@@ -11,84 +18,76 @@ use Rattle.translation.proofs.parts.body_of.Reads as body-of-reads
 use Rattle.translation.proofs.parts.source_of.Reads as source-of-reads
 use Rattle.translation.proofs.parts.target_of.Reads as target-of-reads
 
--- src/search.rt:224:9
+-- src/search.rt:232:9
 check-translation-requires : tie.Need-check-translation-requires
 check-translation-requires c κs = search needs
 
--- src/search.rt:226:29
+-- src/search.rt:234:29
 enum-known-outcome : tie.Need-enum-known-outcome
 enum-known-outcome c = search needs
 
--- src/search.rt:227:9
+-- src/search.rt:235:9
 refuse-requires : tie.Need-refuse-requires
 refuse-requires c κs = search needs
 
--- src/search.rt:227:9
+-- src/search.rt:235:9
 returns : tie.Need-returns
-returns c = ?
+returns c = search-refused _ _ _ _ _ _ _ _ _ (c .before .before .before .before .check-translation .ensures) (c .before .before .outcome .given .1) (c .refuse .ensures)
 
 enum-told : tie.Need-enum-told
 enum-told c = search needs
 
--- src/search.rt:230:9
+-- src/search.rt:238:9
 refuse-requires-2 : tie.Need-refuse-requires-2
 refuse-requires-2 c κs = search needs
 
--- src/search.rt:230:9
+-- src/search.rt:238:9
 returns-2 : tie.Need-returns-2
-returns-2 c = ?
+returns-2 c = let a = accepts _ (c .before .before .before .before .check-translation .ensures) (c .before .before .enum-told .given .1) in search-unknown _ _ _ _ _ _ _ (a .translation) (a .is) (root-past _ _ [] 0 [] [] (Accepted 0) (a .translation) (a .is) (c .before .if1 .taken)) (c .refuse2 .ensures)
 
--- src/search.rt:232:15
+-- src/search.rt:240:9
 source-of-requires : tie.Need-source-of-requires
-source-of-requires c κs = ?
+source-of-requires c κs = let a = accepts _ (c .before .before .before .check-translation .ensures) (c .before .enum-told .given .1) in (a .translation, a .is)
 
--- src/search.rt:232:39
+-- src/search.rt:241:23
 cast-is-in : tie.Need-cast-is-in
 cast-is-in c = search needs
 
--- src/search.rt:232:9
+-- src/search.rt:241:9
 is-in-requires : tie.Need-is-in-requires
-is-in-requires c κs = ?
+is-in-requires c κs = let a = accepts _ (c .before .before .before .before .check-translation .ensures) (c .before .before .enum-told .given .1) in (a .translation .source, (source-in _ 0 [] 0 [] [] (Accepted 0) (a .translation) (a .is) (c .source-of .ensures)))
 
--- src/search.rt:233:9
+-- src/search.rt:242:9
 refuse-requires-3 : tie.Need-refuse-requires-3
 refuse-requires-3 c κs = search needs
 
--- src/search.rt:233:9
+-- src/search.rt:242:9
 returns-3 : tie.Need-returns-3
-returns-3 c = ?
+returns-3 c = let a = accepts _ (c .before .before .before .before .before .before .before .check-translation .ensures) (c .before .before .before .before .before .enum-told .given .1) in search-unknown _ _ _ _ _ _ _ (a .translation) (a .is) (sym (c .before .before .is-in .ensures (a .translation .source) (source-in _ 0 [] 0 [] [] (Accepted 0) (a .translation) (a .is) (c .before .before .before .source-of .ensures))) ∙ not-true _ (c .before .if2 .taken)) (c .refuse3 .ensures)
 
--- src/search.rt:236:9
-source-of-requires-2 : tie.Need-source-of-requires-2
-source-of-requires-2 c κs = ?
-
--- src/search.rt:237:9
+-- src/search.rt:246:9
 target-of-requires : tie.Need-target-of-requires
-target-of-requires c κs = ?
+target-of-requires c κs = let a = accepts _ (c .before .before .before .before .before .before .check-translation .ensures) (c .before .before .before .before .enum-told .given .1) in (a .translation, a .is)
 
--- src/search.rt:238:9
+-- src/search.rt:247:9
 body-of-requires : tie.Need-body-of-requires
-body-of-requires c κs = ?
+body-of-requires c κs = let a = accepts _ (c .before .before .before .before .before .before .before .check-translation .ensures) (c .before .before .before .before .before .enum-told .given .1) in (a .translation, a .is)
 
--- src/search.rt:239:9
-cast-search-in : tie.Need-cast-search-in
-cast-search-in c = search needs
-
--- src/search.rt:235:5
+-- src/search.rt:244:5
 search-in-requires : tie.Need-search-in-requires
-search-in-requires c κs = ?
+search-in-requires c κs = let a = accepts _ (c .before .before .before .before .before .before .before .before .before .before .check-translation .ensures) (c .before .before .before .before .before .before .before .before .enum-told .given .1) in (omega (arith, c .before .before .before .before .before .before .before .if1 .left), (a .translation, (parts-checked _ 0 [] 0 [] [] (Accepted 0) (a .translation) (a .is) (c .before .before .before .before .before .before .source-of .ensures) (c .before .before .before .target-of .ensures) (c .before .before .body-of .ensures))))
 
--- src/search.rt:212:1
+-- src/search.rt:220:1
 same-length : tie.Need-same-length
 same-length c = search needs
 
--- src/search.rt:212:1
+-- src/search.rt:220:1
 same-length-2 : tie.Need-same-length-2
 same-length-2 c = search needs
 
--- src/search.rt:212:1
+-- src/search.rt:220:1
 returns-4 : tie.Need-returns-4
-returns-4 c = ?
+returns-4 c = let a = accepts _ (c .before .before .before .before .before .before .before .before .before .before .before .before .before .before .before .check-translation .ensures) (c .before .before .before .before .before .before .before .before .before .before .before .before .before .enum-told .given .1) in search-known _ _ _ _ _ _ _ (a .translation) (a .is) _ _ (sym (c .before .before .before .before .before .before .before .before .before .before .is-in .ensures (a .translation .source) (source-in _ 0 [] 0 [] [] (Accepted 0) (a .translation) (a .is) (c .before .before .before .before .before .before .before .before .before .before .before .source-of .ensures))) ∙ not-false _ (c .before .before .before .before .before .before .before .before .before .if2 .left)) (c .before .before .before .before .search-in .ensures (a .translation) (parts-checked _ 0 [] 0 [] [] (Accepted 0) (a .translation) (a .is) (c .before .before .before .before .before .before .before .before .before .before .before .source-of .ensures) (c .before .before .before .before .before .before .before .before .target-of .ensures) (c .before .before .before .before .before .before .before .body-of .ensures)))
 
 pub search-spec : {M : Type 1} → statement M
 search-spec =
@@ -106,10 +105,8 @@ search-spec =
     is-in-requires
     refuse-requires-3
     returns-3
-    source-of-requires-2
     target-of-requires
     body-of-requires
-    cast-search-in
     search-in-requires
     same-length
     same-length-2
