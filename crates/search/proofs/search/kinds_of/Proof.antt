@@ -9,27 +9,12 @@ use Rattle.search.proofs.search.kinds_of.Lts as lts
 use Rattle.translation.proofs.index.build_items.Reads as build-items-reads
 use Rattle.translation.proofs.index.map_kinds.Reads as map-kinds-reads
 
--- src/search.rt:171:23
-slice-aggregate-build-items : tie.Need-slice-aggregate-build-items
-slice-aggregate-build-items c = search needs
-
--- src/search.rt:171:5
 build-items-requires : tie.Need-build-items-requires
 build-items-requires c κs = (c .before .before .before .pre .0, refl, zeros 8224)
 
--- src/search.rt:172:21
-slice-aggregate-map-kinds : tie.Need-slice-aggregate-map-kinds
-slice-aggregate-map-kinds c = search needs
-
--- src/search.rt:172:5
 map-kinds-requires : tie.Need-map-kinds-requires
 map-kinds-requires c κs = (c .before .before .before .build-items .ensures _ (c .before .before .before .before .before .before .before .pre .2 .1) .sound, c .before .before .before .before .before .before .before .pre .1)
 
--- src/search.rt:166:1
-same-length : tie.Need-same-length
-same-length c = search needs
-
--- src/search.rt:166:1
 returns : tie.Need-returns
 returns c = λ b e. kinds-mapped _ _ _ b (c .before .before .before .before .before .before .build-items .ensures b e) (c .before .before .map-kinds .ensures .0)
 
@@ -37,9 +22,9 @@ pub kinds-of-spec : {M : Type 1} → statement M
 kinds-of-spec =
     tie.close
     (tie.spec
-    slice-aggregate-build-items
+    (λ c. search needs)
     build-items-requires
-    slice-aggregate-map-kinds
+    (λ c. search needs)
     map-kinds-requires
-    same-length
+    (λ c. search needs)
     returns)

@@ -18,74 +18,30 @@ use Rattle.translation.proofs.parts.body_of.Reads as body-of-reads
 use Rattle.translation.proofs.parts.source_of.Reads as source-of-reads
 use Rattle.translation.proofs.parts.target_of.Reads as target-of-reads
 
--- src/search.rt:232:9
-check-translation-requires : tie.Need-check-translation-requires
-check-translation-requires c κs = search needs
-
--- src/search.rt:234:29
-enum-known-outcome : tie.Need-enum-known-outcome
-enum-known-outcome c = search needs
-
--- src/search.rt:235:9
-refuse-requires : tie.Need-refuse-requires
-refuse-requires c κs = search needs
-
--- src/search.rt:235:9
 returns : tie.Need-returns
 returns c = search-refused _ _ _ _ _ _ _ _ _ (c .before .before .before .before .check-translation .ensures) (c .before .before .outcome .given .1) (c .refuse .ensures)
 
-enum-told : tie.Need-enum-told
-enum-told c = search needs
-
--- src/search.rt:238:9
-refuse-requires-2 : tie.Need-refuse-requires-2
-refuse-requires-2 c κs = search needs
-
--- src/search.rt:238:9
 returns-2 : tie.Need-returns-2
 returns-2 c = let a = accepts _ (c .before .before .before .before .check-translation .ensures) (c .before .before .enum-told .given .1) in search-unknown _ _ _ _ _ _ _ (a .translation) (a .is) (root-past _ _ [] 0 [] [] (Accepted 0) (a .translation) (a .is) (c .before .if1 .taken)) (c .refuse2 .ensures)
 
--- src/search.rt:240:9
 source-of-requires : tie.Need-source-of-requires
 source-of-requires c κs = let a = accepts _ (c .before .before .before .check-translation .ensures) (c .before .enum-told .given .1) in (a .translation, a .is)
 
--- src/search.rt:241:23
-cast-is-in : tie.Need-cast-is-in
-cast-is-in c = search needs
-
--- src/search.rt:241:9
 is-in-requires : tie.Need-is-in-requires
 is-in-requires c κs = let a = accepts _ (c .before .before .before .before .check-translation .ensures) (c .before .before .enum-told .given .1) in (a .translation .source, (source-in _ 0 [] 0 [] [] (Accepted 0) (a .translation) (a .is) (c .source-of .ensures)))
 
--- src/search.rt:242:9
-refuse-requires-3 : tie.Need-refuse-requires-3
-refuse-requires-3 c κs = search needs
-
--- src/search.rt:242:9
 returns-3 : tie.Need-returns-3
 returns-3 c = let a = accepts _ (c .before .before .before .before .before .before .before .check-translation .ensures) (c .before .before .before .before .before .enum-told .given .1) in search-unknown _ _ _ _ _ _ _ (a .translation) (a .is) (sym (c .before .before .is-in .ensures (a .translation .source) (source-in _ 0 [] 0 [] [] (Accepted 0) (a .translation) (a .is) (c .before .before .before .source-of .ensures))) ∙ not-true _ (c .before .if2 .taken)) (c .refuse3 .ensures)
 
--- src/search.rt:246:9
 target-of-requires : tie.Need-target-of-requires
 target-of-requires c κs = let a = accepts _ (c .before .before .before .before .before .before .check-translation .ensures) (c .before .before .before .before .enum-told .given .1) in (a .translation, a .is)
 
--- src/search.rt:247:9
 body-of-requires : tie.Need-body-of-requires
 body-of-requires c κs = let a = accepts _ (c .before .before .before .before .before .before .before .check-translation .ensures) (c .before .before .before .before .before .enum-told .given .1) in (a .translation, a .is)
 
--- src/search.rt:244:5
 search-in-requires : tie.Need-search-in-requires
 search-in-requires c κs = let a = accepts _ (c .before .before .before .before .before .before .before .before .before .before .check-translation .ensures) (c .before .before .before .before .before .before .before .before .enum-told .given .1) in (omega (arith, c .before .before .before .before .before .before .before .if1 .left), (a .translation, (parts-checked _ 0 [] 0 [] [] (Accepted 0) (a .translation) (a .is) (c .before .before .before .before .before .before .source-of .ensures) (c .before .before .before .target-of .ensures) (c .before .before .body-of .ensures))))
 
--- src/search.rt:220:1
-same-length : tie.Need-same-length
-same-length c = search needs
-
--- src/search.rt:220:1
-same-length-2 : tie.Need-same-length-2
-same-length-2 c = search needs
-
--- src/search.rt:220:1
 returns-4 : tie.Need-returns-4
 returns-4 c = let a = accepts _ (c .before .before .before .before .before .before .before .before .before .before .before .before .before .before .before .check-translation .ensures) (c .before .before .before .before .before .before .before .before .before .before .before .before .before .enum-told .given .1) in search-known _ _ _ _ _ _ _ (a .translation) (a .is) _ _ (sym (c .before .before .before .before .before .before .before .before .before .before .is-in .ensures (a .translation .source) (source-in _ 0 [] 0 [] [] (Accepted 0) (a .translation) (a .is) (c .before .before .before .before .before .before .before .before .before .before .before .source-of .ensures))) ∙ not-false _ (c .before .before .before .before .before .before .before .before .before .if2 .left)) (c .before .before .before .before .search-in .ensures (a .translation) (parts-checked _ 0 [] 0 [] [] (Accepted 0) (a .translation) (a .is) (c .before .before .before .before .before .before .before .before .before .before .before .source-of .ensures) (c .before .before .before .before .before .before .before .before .target-of .ensures) (c .before .before .before .before .before .before .before .body-of .ensures)))
 
@@ -93,21 +49,21 @@ pub search-spec : {M : Type 1} → statement M
 search-spec =
     tie.close
     (tie.spec
-    check-translation-requires
-    enum-known-outcome
-    refuse-requires
+    (λ c κs. search needs)
+    (λ c. search needs)
+    (λ c κs. search needs)
     returns
-    enum-told
-    refuse-requires-2
+    (λ c. search needs)
+    (λ c κs. search needs)
     returns-2
     source-of-requires
-    cast-is-in
+    (λ c. search needs)
     is-in-requires
-    refuse-requires-3
+    (λ c κs. search needs)
     returns-3
     target-of-requires
     body-of-requires
     search-in-requires
-    same-length
-    same-length-2
+    (λ c. search needs)
+    (λ c. search needs)
     returns-4)

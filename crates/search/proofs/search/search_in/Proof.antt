@@ -13,86 +13,21 @@ use Rattle.fields.proofs.outcome.refuse.Reads as refuse-reads
 use Rattle.search.proofs.search.kinds_of.Reads as kinds-of-reads
 use Rattle.search.proofs.search.search_placed.Reads as search-placed-reads
 
--- src/search.rt:191:20
-slice-aggregate-kinds-of : tie.Need-slice-aggregate-kinds-of
-slice-aggregate-kinds-of c = search needs
-
--- src/search.rt:191:5
-kinds-of-requires : tie.Need-kinds-of-requires
-kinds-of-requires c κs = search needs
-
--- src/search.rt:193:24
-slice-aggregate-byte-at : tie.Need-slice-aggregate-byte-at
-slice-aggregate-byte-at c = search needs
-
--- src/search.rt:193:16
-byte-at-requires : tie.Need-byte-at-requires
-byte-at-requires c κs = search needs
-
--- src/search.rt:193:16
-cast-root : tie.Need-cast-root
-cast-root c = search needs
-
--- src/search.rt:194:52
-slice-aggregate-check-indexed : tie.Need-slice-aggregate-check-indexed
-slice-aggregate-check-indexed c = search needs
-
--- src/search.rt:194:9
 check-indexed-requires : tie.Need-check-indexed-requires
 check-indexed-requires c κs = (refl, zeros 8224)
 
--- src/search.rt:196:29
-enum-known-outcome : tie.Need-enum-known-outcome
-enum-known-outcome c = search needs
-
--- src/search.rt:197:9
-refuse-requires : tie.Need-refuse-requires
-refuse-requires c κs = search needs
-
--- src/search.rt:197:9
 returns : tie.Need-returns
 returns c = λ f z. leaves-refused _ _ _ _ _ _ _ _ (stage-refused _ _ _ _ _ _ _ f z (c .before .before .before .before .before .before .before .before .before .before .kinds-of .ensures _ (z .pieces .body)) (c .before .before .before .before .before .before .before .before .before .before .before .before .before .before .before .before .before .before .pre .0) _ (c .before .before .before .before .before .before .before .byte-at .ensures) _ (c .before .before .before .before .before .check-indexed .ensures .0) _ (c .before .before .outcome .given .1)) (c .refuse .ensures)
 
-enum-told : tie.Need-enum-told
-enum-told c = search needs
-
--- src/search.rt:200:9
-refuse-requires-2 : tie.Need-refuse-requires-2
-refuse-requires-2 c κs = search needs
-
--- src/search.rt:200:9
 returns-2 : tie.Need-returns-2
 returns-2 c = λ f z. leaves-refused _ _ _ _ _ _ _ _ (limit-refused _ _ _ _ _ _ _ f z (c .before .before .before .before .before .before .before .before .before .before .kinds-of .ensures _ (z .pieces .body)) (c .before .before .before .before .before .before .before .before .before .before .before .before .before .before .before .before .before .before .pre .0) _ (c .before .before .before .before .before .before .before .byte-at .ensures) _ (c .before .before .before .before .before .check-indexed .ensures .0) _ (c .before .before .enum-told .given .1) (limit-low _ (c .before .if1 .taken))) (c .refuse2 .ensures)
 
--- src/search.rt:203:9
-refuse-requires-3 : tie.Need-refuse-requires-3
-refuse-requires-3 c κs = search needs
-
--- src/search.rt:203:9
 returns-3 : tie.Need-returns-3
 returns-3 c = λ f z. leaves-refused _ _ _ _ _ _ _ _ (limit-refused _ _ _ _ _ _ _ f z (c .before .before .before .before .before .before .before .before .before .before .before .kinds-of .ensures _ (z .pieces .body)) (c .before .before .before .before .before .before .before .before .before .before .before .before .before .before .before .before .before .before .before .pre .0) _ (c .before .before .before .before .before .before .before .before .byte-at .ensures) _ (c .before .before .before .before .before .before .check-indexed .ensures .0) _ (c .before .before .before .enum-told .given .1) (limit-high _ (c .before .if2 .taken))) (c .refuse3 .ensures)
 
--- src/search.rt:209:9
-slice-aggregate-search-placed : tie.Need-slice-aggregate-search-placed
-slice-aggregate-search-placed c = search needs
-
--- src/search.rt:210:9
-slice-aggregate-search-placed-2 : tie.Need-slice-aggregate-search-placed-2
-slice-aggregate-search-placed-2 c = search needs
-
--- src/search.rt:205:5
 search-placed-requires : tie.Need-search-placed-requires
 search-placed-requires c κs = let f = c .before .before .before .before .before .before .before .before .before .before .before .before .before .before .before .before .before .before .before .before .before .before .pre .1 .0 in let z = c .before .before .before .before .before .before .before .before .before .before .before .before .before .before .before .before .before .before .before .before .before .before .pre .1 .1 in (c .before .before .before .before .before .before .before .before .before .before .before .before .before .before .before .before .before .before .before .before .before .before .pre .0, c .before .before .before .before .if2 .left, (f, _, z, stage-placed _ _ _ _ _ _ 0 f z (c .before .before .before .before .before .before .before .before .before .before .before .before .before .before .kinds-of .ensures _ (z .pieces .body)) (c .before .before .before .before .before .before .before .before .before .before .before .before .before .before .before .before .before .before .before .before .before .before .pre .0) _ (c .before .before .before .before .before .before .before .before .before .before .before .byte-at .ensures) _ (c .before .before .before .before .before .before .before .before .before .check-indexed .ensures .0) _ (c .before .before .before .before .before .before .enum-told .given .1) _ (λ i. omega (arith, c .before .before .before .before .before .before .before .before .before .before .before .before .before .before .before .before .before .before .shared-slice-known4 .given i)) (c .before .before .before .before .before .before .before .before .before .check-indexed .ensures .1)))
 
--- src/search.rt:176:1
-same-length : tie.Need-same-length
-same-length c = search needs
-
--- src/search.rt:176:1
-same-length-2 : tie.Need-same-length-2
-same-length-2 c = search needs
-
--- src/search.rt:176:1
 returns-4 : tie.Need-returns-4
 returns-4 c = λ f z. leaves-found _ _ _ _ _ _ _ f _ _ (stage-passed _ _ _ _ _ _ _ f z (c .before .before .before .before .before .before .before .before .before .before .before .before .before .before .before .before .before .before .before .kinds-of .ensures _ (z .pieces .body)) (c .before .before .before .before .before .before .before .before .before .before .before .before .before .before .before .before .before .before .before .before .before .before .before .before .before .before .before .pre .0) _ (c .before .before .before .before .before .before .before .before .before .before .before .before .before .before .before .before .byte-at .ensures) _ (c .before .before .before .before .before .before .before .before .before .before .before .before .before .before .check-indexed .ensures .0) _ (c .before .before .before .before .before .before .before .before .before .before .before .enum-told .given .1) (limit-good _ (c .before .before .before .before .before .before .before .before .before .before .if1 .left) (c .before .before .before .before .before .before .before .before .before .if2 .left))) (c .before .before .before .before .search-placed .ensures .1 f _ z (stage-placed _ _ _ _ _ _ 0 f z (c .before .before .before .before .before .before .before .before .before .before .before .before .before .before .before .before .before .before .before .kinds-of .ensures _ (z .pieces .body)) (c .before .before .before .before .before .before .before .before .before .before .before .before .before .before .before .before .before .before .before .before .before .before .before .before .before .before .before .pre .0) _ (c .before .before .before .before .before .before .before .before .before .before .before .before .before .before .before .before .byte-at .ensures) _ (c .before .before .before .before .before .before .before .before .before .before .before .before .before .before .check-indexed .ensures .0) _ (c .before .before .before .before .before .before .before .before .before .before .before .enum-told .given .1) _ (λ i. omega (arith, c .before .before .before .before .before .before .before .before .before .before .before .before .before .before .before .before .before .before .before .before .before .before .before .shared-slice-known4 .given i)) (c .before .before .before .before .before .before .before .before .before .before .before .before .before .before .check-indexed .ensures .1))) (c .before .before .before .before .search-placed .ensures .0)
 
@@ -100,24 +35,24 @@ pub search-in-spec : {M : Type 1} → statement M
 search-in-spec =
     tie.close
     (tie.spec
-    slice-aggregate-kinds-of
-    kinds-of-requires
-    slice-aggregate-byte-at
-    byte-at-requires
-    cast-root
-    slice-aggregate-check-indexed
+    (λ c. search needs)
+    (λ c κs. search needs)
+    (λ c. search needs)
+    (λ c κs. search needs)
+    (λ c. search needs)
+    (λ c. search needs)
     check-indexed-requires
-    enum-known-outcome
-    refuse-requires
+    (λ c. search needs)
+    (λ c κs. search needs)
     returns
-    enum-told
-    refuse-requires-2
+    (λ c. search needs)
+    (λ c κs. search needs)
     returns-2
-    refuse-requires-3
+    (λ c κs. search needs)
     returns-3
-    slice-aggregate-search-placed
-    slice-aggregate-search-placed-2
+    (λ c. search needs)
+    (λ c. search needs)
     search-placed-requires
-    same-length
-    same-length-2
+    (λ c. search needs)
+    (λ c. search needs)
     returns-4)
