@@ -23,47 +23,24 @@ abbrev μ-loop : tie.MeasureT-loop
 μ-loop table source index target places kinds tree memory₀ free₀ kind at n name₀ memory free name =
     255 - name
 
--- src/choice.rt:40:5
 loop-holds : tie.Need-loop-holds Inv-loop μ-loop
 loop-holds c = (omega arith, refl, refl, λ f g h. (h .truthful, none-start _ _ _ _ g))
 
--- src/choice.rt:41:13
 name-need-requires : tie.Need-name-need-requires Inv-loop μ-loop
 name-need-requires c κs = let q = c .before .before .before .before .before .before .before .before .before .before .before .before .pre .1 in let x = c .before .before .loop-test .taken in (c .before .before .before .before .before .before .before .before .before .before .before .before .pre .0, omega arith, (q .0, q .1, seeks-still _ _ _ _ _ _ _ _ _ _ _ (q .0) (q .1) (q .2) _ _ (c .before .before .before .loop .inv .3 (q .0) (q .1) (q .2) .0)))
 
--- src/choice.rt:57:13
-same-length : tie.Need-same-length Inv-loop μ-loop
-same-length c = search needs
-
--- src/choice.rt:57:13
-same-length-2 : tie.Need-same-length-2 Inv-loop μ-loop
-same-length-2 c = search needs
-
--- src/choice.rt:57:13
 returns : tie.Need-returns Inv-loop μ-loop
 returns c = (omega (arith, c .before .before .before .before .before .before .before .before .loop-test .taken), c .before .before .before .before .before .name-need .ensures .1 ∙ c .before .before .before .before .before .before .before .before .before .loop .inv .1, c .before .before .before .before .before .name-need .ensures .2 ∙ c .before .before .before .before .before .before .before .before .before .loop .inv .2, λ f g h. let w = c .before .before .before .before .before .before .before .before .before .loop .inv .3 f g h in let r = c .before .before .before .before .before .name-need .ensures .3 f g (seeks-still _ _ _ _ _ _ _ _ _ _ _ f g h _ _ (w .0)) in (r .1, λ t e z. choose-here _ _ _ _ g (h .setting .named) t e z _ _ (w .1) (r .0) (c .if1 .taken)))
 
--- src/choice.rt:59:9
 add-name : tie.Need-add-name Inv-loop μ-loop
 add-name c = let x = c .before .before .before .before .before .before .before .before .loop-test .taken in omega arith
 
--- src/choice.rt:40:5
 loop-less : tie.Need-loop-less Inv-loop μ-loop
 loop-less c = let x = c .before .before .before .before .before .before .before .before .loop-test .taken in omega arith
 
--- src/choice.rt:40:5
 loop-again : tie.Need-loop-again Inv-loop μ-loop
 loop-again c = (omega (arith, c .before .before .before .before .before .before .before .before .loop-test .taken), c .before .before .before .before .before .name-need .ensures .1 ∙ c .before .before .before .before .before .before .before .before .before .loop .inv .1, c .before .before .before .before .before .name-need .ensures .2 ∙ c .before .before .before .before .before .before .before .before .before .loop .inv .2, λ f g h. let w = c .before .before .before .before .before .before .before .before .before .loop .inv .3 f g h in let r = c .before .before .before .before .before .name-need .ensures .3 f g (seeks-still _ _ _ _ _ _ _ _ _ _ _ f g h _ _ (w .0)) in (r .1, none-next _ _ _ _ g _ _ (w .1) (r .0) (c .if1 .left)))
 
--- src/choice.rt:19:1
-same-length-3 : tie.Need-same-length-3 Inv-loop μ-loop
-same-length-3 c = search needs
-
--- src/choice.rt:19:1
-same-length-4 : tie.Need-same-length-4 Inv-loop μ-loop
-same-length-4 c = search needs
-
--- src/choice.rt:19:1
 returns-2 : tie.Need-returns-2 Inv-loop μ-loop
 returns-2 c = (omega arith, c .before .loop .inv .1, c .before .loop .inv .2, λ f g h. let w = c .before .loop .inv .3 f g h in (w .0, λ t e z. choose-last _ _ _ _ g (h .setting .named) t e z _ (c .loop-test .left) (c .before .loop .inv .0) (w .1)))
 
@@ -75,12 +52,12 @@ choose-spec =
     μ-loop
     loop-holds
     name-need-requires
-    same-length
-    same-length-2
+    (λ c. search needs)
+    (λ c. search needs)
     returns
     add-name
     loop-less
     loop-again
-    same-length-3
-    same-length-4
+    (λ c. search needs)
+    (λ c. search needs)
     returns-2)

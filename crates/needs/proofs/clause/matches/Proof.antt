@@ -21,51 +21,36 @@ Inv-loop table target places kinds tree place clause at bound₀ stop c₀ to₀
 abbrev μ-loop : tie.MeasureT-loop
 μ-loop table target places kinds tree place clause at bound₀ stop c₀ to₀ bound c to = stop - c
 
--- src/clause.rt:124:9
 returns : tie.Need-returns Inv-loop μ-loop
 returns c = λ f k p ks g h. match-free _ _ _ _ _ _ _ _ _ f k p ks g h (c .if1 .taken)
 
--- src/clause.rt:126:9
 clause-end-requires : tie.Need-clause-end-requires Inv-loop μ-loop
 clause-end-requires c κs = let q = c .before .before .before .before .before .pre in (_, the-clause _ _ _ _ _ _ _ _ _ (q .0) (q .1) (q .2) (q .3) (q .4) (q .5))
 
--- src/clause.rt:127:17
 add-c : tie.Need-add-c Inv-loop μ-loop
 add-c c = let q = c .before .before .before .before .before .before .pre in let z = the-clause _ _ _ _ _ _ _ _ _ (q .0) (q .1) (q .2) (q .3) (q .4) (q .5) .inside in omega arith
 
--- src/clause.rt:129:5
 loop-holds : tie.Need-loop-holds Inv-loop μ-loop
 loop-holds c = let q = c .before .before .before .before .before .before .pre in (going-inside _ _ _ _ _ _ _ _ _ (q .0) (q .1) (q .2) (q .3) (q .4) (q .5) _ _ _ _ (match-start _ _ _ _ _ _ _ _ _ (q .0) (q .1) (q .2) (q .3) (q .4) (q .5) (c .before .if1 .left) _ (c .clause-end .ensures)), λ f k p ks g h. match-start _ _ _ _ _ _ _ _ _ f k p ks g h (c .before .if1 .left) _ (c .clause-end .ensures))
 
--- src/clause.rt:130:13
 step-requires : tie.Need-step-requires Inv-loop μ-loop
 step-requires c κs = let q = c .before .before .before .before .before .before .before .before .before .pre in (_, q .0, q .3, _, _, _, _, match-step _ _ _ _ _ _ _ _ _ (q .0) (q .1) (q .2) (q .3) (q .4) (q .5) _ _ _ _ (c .before .before .loop .inv .1 (q .0) (q .1) (q .2) (q .3) (q .4) (q .5)) (c .before .loop-test .taken))
 
--- src/clause.rt:132:13
 returns-2 : tie.Need-returns-2 Inv-loop μ-loop
 returns-2 c = λ f k p ks g h. let w = c .before .before .before .before .loop .inv .1 f k p ks g h in match-stops _ _ _ _ _ _ _ _ _ f k p ks g h _ _ _ _ w _ _ (c .before .step .ensures _ f ks _ _ _ _ (match-step _ _ _ _ _ _ _ _ _ f k p ks g h _ _ _ _ w (c .before .before .before .loop-test .taken))) (c .if2 .taken)
 
--- src/clause.rt:135:23
 body-at-requires : tie.Need-body-at-requires Inv-loop μ-loop
 body-at-requires c κs = let z = c .before .before .before .before .loop .inv .0 in let y = c .before .before .before .loop-test .taken in omega arith
 
--- src/clause.rt:135:14
-width-of-requires : tie.Need-width-of-requires Inv-loop μ-loop
-width-of-requires c κs = search needs
-
--- src/clause.rt:135:9
 add-c-2 : tie.Need-add-c-2 Inv-loop μ-loop
 add-c-2 c = let z = c .before .before .before .before .before .before .loop .inv .0 in let y = c .before .before .before .before .before .loop-test .taken in let x = c .width-of .ensures .2 in omega arith
 
--- src/clause.rt:129:5
 loop-less : tie.Need-loop-less Inv-loop μ-loop
 loop-less c = let y = c .before .before .before .before .before .loop-test .taken in let x = c .width-of .ensures .1 in omega arith
 
--- src/clause.rt:129:5
 loop-again : tie.Need-loop-again Inv-loop μ-loop
 loop-again c = (c .before .before .before .before .before .before .loop .inv .0, λ f k p ks g h. let w = c .before .before .before .before .before .before .loop .inv .1 f k p ks g h in match-next _ _ _ _ _ _ _ _ _ f k p ks g h _ _ _ _ w _ _ (c .before .before .before .step .ensures _ f ks _ _ _ _ (match-step _ _ _ _ _ _ _ _ _ f k p ks g h _ _ _ _ w (c .before .before .before .before .before .loop-test .taken))) (c .before .before .if2 .left) (step-width (c .before .body-at .ensures .0) (c .width-of .ensures .0)))
 
--- src/clause.rt:108:1
 returns-3 : tie.Need-returns-3 Inv-loop μ-loop
 returns-3 c = λ f k p ks g h. match-done _ _ _ _ _ _ _ _ _ f k p ks g h _ _ _ _ (c .before .loop .inv .1 f k p ks g h) (c .loop-test .left)
 
@@ -82,7 +67,7 @@ matches-spec =
     step-requires
     returns-2
     body-at-requires
-    width-of-requires
+    (λ c κs. search needs)
     add-c-2
     loop-less
     loop-again

@@ -15,43 +15,15 @@ Inv-loop tree a b n i₀ i = (i ≤ n) × SameTo tree a b i
 abbrev μ-loop : tie.MeasureT-loop
 μ-loop tree a b n i₀ i = n - i
 
--- src/clause.rt:28:5
 loop-holds : tie.Need-loop-holds Inv-loop μ-loop
 loop-holds c = (omega arith, same-start _ _ _)
 
--- src/clause.rt:29:17
-add-if1 : tie.Need-add-if1 Inv-loop μ-loop
-add-if1 c = search needs
-
--- src/clause.rt:29:12
-shared-slice-read-if1 : tie.Need-shared-slice-read-if1 Inv-loop μ-loop
-shared-slice-read-if1 c = search needs
-
--- src/clause.rt:29:32
-add-if1-2 : tie.Need-add-if1-2 Inv-loop μ-loop
-add-if1-2 c = search needs
-
--- src/clause.rt:29:27
-shared-slice-read-if1-2 : tie.Need-shared-slice-read-if1-2 Inv-loop μ-loop
-shared-slice-read-if1-2 c = search needs
-
--- src/clause.rt:30:13
 returns : tie.Need-returns Inv-loop μ-loop
 returns c = ((λ e. false-true e), λ e. differ-at _ _ _ _ _ (c .before .before .before .before .before .pre .0) (c .before .before .before .before .before .pre .1) (c .before .before .before .loop-test .taken) (c .if1 .taken))
 
--- src/clause.rt:32:9
-add-i : tie.Need-add-i Inv-loop μ-loop
-add-i c = search needs
-
--- src/clause.rt:28:5
-loop-less : tie.Need-loop-less Inv-loop μ-loop
-loop-less c = search needs
-
--- src/clause.rt:28:5
 loop-again : tie.Need-loop-again Inv-loop μ-loop
 loop-again c = (search needs, same-on _ _ _ _ (c .before .before .before .before .loop .inv .1) (c .if1 .left))
 
--- src/clause.rt:22:1
 returns-2 : tie.Need-returns-2 Inv-loop μ-loop
 returns-2 c = let e = same-to-end _ _ _ _ _ (c .before .loop .inv .1) (c .loop-test .left) in ((λ x. same-end _ _ _ _ (c .before .before .pre .0) (c .before .before .pre .1) e), λ x. false-true (sym x))
 
@@ -62,12 +34,12 @@ same-part-spec =
     Inv-loop
     μ-loop
     loop-holds
-    add-if1
-    shared-slice-read-if1
-    add-if1-2
-    shared-slice-read-if1-2
+    (λ c. search needs)
+    (λ c. search needs)
+    (λ c. search needs)
+    (λ c. search needs)
     returns
-    add-i
-    loop-less
+    (λ c. search needs)
+    (λ c. search needs)
     loop-again
     returns-2)

@@ -12,103 +12,39 @@ use Rattle.fields.proofs.bytes.byte_at.Reads as byte-at-reads
 use Rattle.fields.proofs.bytes.to_usize.Reads as to-usize-reads
 use Rattle.needs.proofs.clause.argument.Reads as argument-reads
 
--- src/clause.rt:89:9
 body-at-requires : tie.Need-body-at-requires
 body-at-requires c κs = let p = c .before .before .before .before .pre in code-inside _ _ _ _ _ _ _ _ _ _ _ _ _ _ _ _ (p .7)
 
--- src/clause.rt:91:32
-add-body-at : tie.Need-add-body-at
-add-body-at c = search needs
-
--- src/clause.rt:91:17
 body-at-requires-2 : tie.Need-body-at-requires-2
 body-at-requires-2 c κs = let p = c .before .before .before .before .before .before .pre in next-inside _ _ _ _ _ _ _ _ _ _ _ _ _ _ _ _ (p .7)
 
--- src/clause.rt:91:17
 sub-i : tie.Need-sub-i
 sub-i c = let p = c .before .before .before .before .before .before .before .pre in number-some _ _ _ _ _ _ _ _ _ _ _ _ _ _ _ _ (p .7) (sym (c .before .before .body-at .ensures .0) ∙ c .before .if1 .taken) (c .body-at2 .ensures .0)
 
--- src/clause.rt:92:52
-add-source-at : tie.Need-add-source-at
-add-source-at c = search needs
-
--- src/clause.rt:92:52
-add-source-at-2 : tie.Need-add-source-at-2
-add-source-at-2 c = search needs
-
--- src/clause.rt:92:35
 source-at-requires : tie.Need-source-at-requires
 source-at-requires c κs = let p = c .before .before .before .before .before .before .before .pre in place-inside _ _ _ _ _ _ _ _ _ _ _ _ _ _ _ _ (p .7) (sym (c .before .before .body-at .ensures .0) ∙ c .before .if1 .taken) (c .body-at2 .ensures .0)
 
--- src/clause.rt:92:13
-byte-at-requires : tie.Need-byte-at-requires
-byte-at-requires c κs = search needs
-
--- src/clause.rt:93:9
 argument-requires : tie.Need-argument-requires
 argument-requires c κs = let p = c .before .before .before .before .before .before .before .before .before .before .pre in (p .1, p .2, p .6, _, argument-asks _ _ _ _ _ _ _ _ _ _ _ _ _ _ _ _ (p .7) (sym (c .before .before .before .before .before .body-at .ensures .0) ∙ c .before .before .before .before .if1 .taken) (c .before .before .before .body-at2 .ensures .0) (c .before .before .source-at .ensures .0) (c .before .byte-at .ensures))
 
--- src/clause.rt:93:9
 returns : tie.Need-returns
 returns c = λ stop f ks js cs us b h. argument-step _ _ _ _ _ _ _ _ _ _ _ _ _ _ _ _ h (sym (c .before .before .before .before .before .before .body-at .ensures .0) ∙ c .before .before .before .before .before .if1 .taken) (c .before .before .before .before .body-at2 .ensures .0) (c .argument .ensures f ks b _ (argument-asks _ _ _ _ _ _ _ _ _ _ _ _ _ _ _ _ h (sym (c .before .before .before .before .before .before .body-at .ensures .0) ∙ c .before .before .before .before .before .if1 .taken) (c .before .before .before .before .body-at2 .ensures .0) (c .before .before .before .source-at .ensures .0) (c .before .before .byte-at .ensures)))
 
--- src/clause.rt:95:17
-byte-at-requires-2 : tie.Need-byte-at-requires-2
-byte-at-requires-2 c κs = search needs
-
--- src/clause.rt:95:8
-to-usize-requires : tie.Need-to-usize-requires
-to-usize-requires c κs = search needs
-
--- src/clause.rt:95:54
-add-body-at-2 : tie.Need-add-body-at-2
-add-body-at-2 c = search needs
-
--- src/clause.rt:95:39
 body-at-requires-3 : tie.Need-body-at-requires-3
 body-at-requires-3 c κs = let p = c .before .before .before .before .before .before .before .before .pre in next-inside _ _ _ _ _ _ _ _ _ _ _ _ _ _ _ _ (p .7)
 
--- src/clause.rt:96:9
 returns-2 : tie.Need-returns-2
 returns-2 c = λ stop f ks js cs us b h. first-differs _ _ _ _ _ _ _ _ _ _ _ _ _ _ _ _ h (λ e. c .before .before .before .before .if1 .left (c .before .before .before .before .before .body-at .ensures .0 ∙ e)) (λ e. c .if2 .taken (c .before .before .to-usize .ensures .0 ∙ (c .before .before .before .byte-at2 .ensures ∙ (sym e ∙ sym (c .before .body-at3 .ensures .0)))))
 
--- src/clause.rt:99:16
-add-result : tie.Need-add-result
-add-result c = search needs
-
--- src/clause.rt:99:9
 returns-3 : tie.Need-returns-3
 returns-3 c = λ stop f ks js cs us b h. name-step _ _ _ _ _ _ _ _ _ _ _ _ _ _ _ _ h (λ e. c .before .before .before .before .before .if1 .left (c .before .before .before .before .before .before .body-at .ensures .0 ∙ e)) (sym (c .before .before .body-at3 .ensures .0) ∙ (sym (c .before .if2 .left) ∙ (c .before .before .before .to-usize .ensures .0 ∙ c .before .before .before .before .byte-at2 .ensures))) (λ e. c .if3 .taken (c .before .before .before .before .before .before .body-at .ensures .0 ∙ e))
 
--- src/clause.rt:101:31
-add-byte-at : tie.Need-add-byte-at
-add-byte-at c = search needs
-
--- src/clause.rt:101:17
-byte-at-requires-3 : tie.Need-byte-at-requires-3
-byte-at-requires-3 c κs = search needs
-
--- src/clause.rt:101:8
-to-usize-requires-2 : tie.Need-to-usize-requires-2
-to-usize-requires-2 c κs = search needs
-
--- src/clause.rt:101:58
-add-body-at-3 : tie.Need-add-body-at-3
-add-body-at-3 c = search needs
-
--- src/clause.rt:101:43
 body-at-requires-4 : tie.Need-body-at-requires-4
 body-at-requires-4 c κs = let p = c .before .before .before .before .before .before .before .before .before .before .before .before .before .pre in token-inside _ _ _ _ _ _ _ _ _ _ _ _ _ _ _ _ (p .7) (λ e. c .before .before .before .before .before .before .before .if1 .left (c .before .before .before .before .before .before .before .before .body-at .ensures .0 ∙ e)) (sym (c .before .before .before .before .body-at3 .ensures .0) ∙ (sym (c .before .before .before .if2 .left) ∙ (c .before .before .before .before .before .to-usize .ensures .0 ∙ c .before .before .before .before .before .before .byte-at2 .ensures))) (sym (c .before .before .before .before .before .before .before .before .body-at .ensures .0) ∙ c .before .before .if3 .left)
 
--- src/clause.rt:102:9
 returns-4 : tie.Need-returns-4
 returns-4 c = λ stop f ks js cs us b h. second-differs _ _ _ _ _ _ _ _ _ _ _ _ _ _ _ _ h (λ e. c .before .before .before .before .before .before .before .before .before .if1 .left (c .before .before .before .before .before .before .before .before .before .before .body-at .ensures .0 ∙ e)) (sym (c .before .before .before .before .before .before .body-at3 .ensures .0) ∙ (sym (c .before .before .before .before .before .if2 .left) ∙ (c .before .before .before .before .before .before .before .to-usize .ensures .0 ∙ c .before .before .before .before .before .before .before .before .byte-at2 .ensures))) (sym (c .before .before .before .before .before .before .before .before .before .before .body-at .ensures .0) ∙ c .before .before .before .before .if3 .left) (λ e. c .if4 .taken (c .before .before .to-usize2 .ensures .0 ∙ (c .before .before .before .byte-at3 .ensures ∙ (sym e ∙ sym (c .before .body-at4 .ensures .0)))))
 
--- src/clause.rt:104:5
-add-result-2 : tie.Need-add-result-2
-add-result-2 c = search needs
-
--- src/clause.rt:74:1
 returns-5 : tie.Need-returns-5
 returns-5 c = λ stop f ks js cs us b h. token-step _ _ _ _ _ _ _ _ _ _ _ _ _ _ _ _ h (λ e. c .before .before .before .before .before .before .before .before .before .if1 .left (c .before .before .before .before .before .before .before .before .before .before .body-at .ensures .0 ∙ e)) (sym (c .before .before .before .before .before .before .body-at3 .ensures .0) ∙ (sym (c .before .before .before .before .before .if2 .left) ∙ (c .before .before .before .before .before .before .before .to-usize .ensures .0 ∙ c .before .before .before .before .before .before .before .before .byte-at2 .ensures))) (sym (c .before .before .before .before .before .before .before .before .before .before .body-at .ensures .0) ∙ c .before .before .before .before .if3 .left) (sym (c .before .body-at4 .ensures .0) ∙ (sym (c .if4 .left) ∙ (c .before .before .to-usize2 .ensures .0 ∙ c .before .before .before .byte-at3 .ensures)))
 
@@ -117,27 +53,27 @@ step-spec =
     tie.close
     (tie.spec
     body-at-requires
-    add-body-at
+    (λ c. search needs)
     body-at-requires-2
     sub-i
-    add-source-at
-    add-source-at-2
+    (λ c. search needs)
+    (λ c. search needs)
     source-at-requires
-    byte-at-requires
+    (λ c κs. search needs)
     argument-requires
     returns
-    byte-at-requires-2
-    to-usize-requires
-    add-body-at-2
+    (λ c κs. search needs)
+    (λ c κs. search needs)
+    (λ c. search needs)
     body-at-requires-3
     returns-2
-    add-result
+    (λ c. search needs)
     returns-3
-    add-byte-at
-    byte-at-requires-3
-    to-usize-requires-2
-    add-body-at-3
+    (λ c. search needs)
+    (λ c κs. search needs)
+    (λ c κs. search needs)
+    (λ c. search needs)
     body-at-requires-4
     returns-4
-    add-result-2
+    (λ c. search needs)
     returns-5)

@@ -5,11 +5,9 @@ use Rattle.needs.proofs.clause.width_of.Tie as tie
 use Rattle.needs.proofs.clause.width_of.Reads as reads
 use Rattle.needs.proofs.clause.width_of.Lts as lts
 
--- src/clause.rt:68:9
 returns : tie.Need-returns
 returns c = (width-token _ (c .if1 .taken), omega arith, omega arith)
 
--- src/clause.rt:64:1
 returns-2 : tie.Need-returns-2
 returns-2 c = (width-other _ (c .if1 .left), omega arith, omega arith)
 

@@ -75,229 +75,52 @@ operands-need-below t =
     (falls 10 operands-need-kinds.ps _<_ μ-operands-need t)
     operands-need.Pre
 
--- src/levels.rt:132:21
-name-need-mul-key : (t : ℕ) → name-need-lts.Need-mul-key (
-  place-at-reads.Asked,
-  place-at-reads.Learnt,
-  index-at-reads.Asked,
-  index-at-reads.Learnt,
-  clause-at-reads.Asked,
-  clause-at-reads.Learnt,
-  matches-reads.Asked,
-  matches-reads.Learnt,
-  operands-need-below t,
-  operands-need.Post,
-) (name-need-at t) name-need.Post
+abbrev name-need-calls : ℕ → name-need-lts.Claims
+name-need-calls t = (place-at-reads.Asked, place-at-reads.Learnt, index-at-reads.Asked, index-at-reads.Learnt, clause-at-reads.Asked, clause-at-reads.Learnt, matches-reads.Asked, matches-reads.Learnt, operands-need-below t, operands-need.Post)
+
+abbrev need-calls : ℕ → need-lts.Claims
+need-calls t = (recall-reads.Asked, recall-reads.Learnt, place-at-reads.Asked, place-at-reads.Learnt, class-need-reads.Asked, class-need-reads.Learnt, name-need-below t, name-need.Post, smaller-reads.Asked, smaller-reads.Learnt, keep-reads.Asked, keep-reads.Learnt)
+
+abbrev operands-need-calls : ℕ → operands-need-lts.Claims
+operands-need-calls t = (source-at-reads.Asked, source-at-reads.Learnt, need-below t, need.Post, larger-reads.Asked, larger-reads.Learnt)
+
+name-need-mul-key : (t : ℕ) → name-need-lts.Need-mul-key (name-need-calls t) (name-need-at t) name-need.Post
 name-need-mul-key t c = let x = c .before .before .before .before .before .before .before .before .pre .1 .2 .2 .kind in omega arith
 
--- src/levels.rt:132:21
-name-need-add-key : (t : ℕ) → name-need-lts.Need-add-key (
-  place-at-reads.Asked,
-  place-at-reads.Learnt,
-  index-at-reads.Asked,
-  index-at-reads.Learnt,
-  clause-at-reads.Asked,
-  clause-at-reads.Learnt,
-  matches-reads.Asked,
-  matches-reads.Learnt,
-  operands-need-below t,
-  operands-need.Post,
-) (name-need-at t) name-need.Post
+name-need-add-key : (t : ℕ) → name-need-lts.Need-add-key (name-need-calls t) (name-need-at t) name-need.Post
 name-need-add-key t c = let x = c .before .before .before .before .before .before .before .before .pre .1 .2 .2 .kind in let y = c .before .before .before .before .before .before .before .before .pre .1 .1 in omega arith
 
--- src/levels.rt:132:15
-name-need-add-key-2 : (t : ℕ) → name-need-lts.Need-add-key-2 (
-  place-at-reads.Asked,
-  place-at-reads.Learnt,
-  index-at-reads.Asked,
-  index-at-reads.Learnt,
-  clause-at-reads.Asked,
-  clause-at-reads.Learnt,
-  matches-reads.Asked,
-  matches-reads.Learnt,
-  operands-need-below t,
-  operands-need.Post,
-) (name-need-at t) name-need.Post
+name-need-add-key-2 : (t : ℕ) → name-need-lts.Need-add-key-2 (name-need-calls t) (name-need-at t) name-need.Post
 name-need-add-key-2 t c = let x = c .before .before .before .before .before .before .before .before .pre .1 .2 .2 .kind in let y = c .before .before .before .before .before .before .before .before .pre .1 .1 in omega arith
 
--- src/levels.rt:133:8
-name-need-place-at-requires : (t : ℕ) → name-need-lts.Need-place-at-requires (
-  place-at-reads.Asked,
-  place-at-reads.Learnt,
-  index-at-reads.Asked,
-  index-at-reads.Learnt,
-  clause-at-reads.Asked,
-  clause-at-reads.Learnt,
-  matches-reads.Asked,
-  matches-reads.Learnt,
-  operands-need-below t,
-  operands-need.Post,
-) (name-need-at t) name-need.Post
+name-need-place-at-requires : (t : ℕ) → name-need-lts.Need-place-at-requires (name-need-calls t) (name-need-at t) name-need.Post
 name-need-place-at-requires t c κs = let q = c .before .before .before .before .before .before .before .before .pre .1 in key-inside _ _ _ _ _ _ _ _ _ _ _ (q .2 .0) (q .2 .1) (q .2 .2) _ (q .1)
 
--- src/levels.rt:134:16
-name-need-add-result : (t : ℕ) → name-need-lts.Need-add-result (
-  place-at-reads.Asked,
-  place-at-reads.Learnt,
-  index-at-reads.Asked,
-  index-at-reads.Learnt,
-  clause-at-reads.Asked,
-  clause-at-reads.Learnt,
-  matches-reads.Asked,
-  matches-reads.Learnt,
-  operands-need-below t,
-  operands-need.Post,
-) (name-need-at t) name-need.Post
+name-need-add-result : (t : ℕ) → name-need-lts.Need-add-result (name-need-calls t) (name-need-at t) name-need.Post
 name-need-add-result t c = let x = c .before .before .before .before .before .before .before .before .before .before .pre .1 .0 in omega arith
 
--- src/levels.rt:134:9
-name-need-returns : (t : ℕ) → name-need-lts.Need-returns (
-  place-at-reads.Asked,
-  place-at-reads.Learnt,
-  index-at-reads.Asked,
-  index-at-reads.Learnt,
-  clause-at-reads.Asked,
-  clause-at-reads.Learnt,
-  matches-reads.Asked,
-  matches-reads.Learnt,
-  operands-need-below t,
-  operands-need.Post,
-) (name-need-at t) name-need.Post
+name-need-returns : (t : ℕ) → name-need-lts.Need-returns (name-need-calls t) (name-need-at t) name-need.Post
 name-need-returns t c = (omega arith, refl, refl, λ f g h. (name-unknown _ _ _ _ _ _ _ _ _ _ _ f g h _ (c .before .before .before .before .before .before .before .before .before .before .pre .1 .1) _ (c .before .place-at .ensures) (c .if1 .taken), h .truthful))
 
--- src/levels.rt:136:9
-name-need-index-at-requires : (t : ℕ) → name-need-lts.Need-index-at-requires (
-  place-at-reads.Asked,
-  place-at-reads.Learnt,
-  index-at-reads.Asked,
-  index-at-reads.Learnt,
-  clause-at-reads.Asked,
-  clause-at-reads.Learnt,
-  matches-reads.Asked,
-  matches-reads.Learnt,
-  operands-need-below t,
-  operands-need.Post,
-) (name-need-at t) name-need.Post
+name-need-index-at-requires : (t : ℕ) → name-need-lts.Need-index-at-requires (name-need-calls t) (name-need-at t) name-need.Post
 name-need-index-at-requires t c κs = let q = c .before .before .before .before .before .before .before .before .before .before .pre .1 in key-small _ _ _ _ _ _ _ _ _ _ _ (q .2 .0) (q .2 .1) (q .2 .2) _ (q .1)
 
--- src/levels.rt:146:9
-name-need-clause-at-requires : (t : ℕ) → name-need-lts.Need-clause-at-requires (
-  place-at-reads.Asked,
-  place-at-reads.Learnt,
-  index-at-reads.Asked,
-  index-at-reads.Learnt,
-  clause-at-reads.Asked,
-  clause-at-reads.Learnt,
-  matches-reads.Asked,
-  matches-reads.Learnt,
-  operands-need-below t,
-  operands-need.Post,
-) (name-need-at t) name-need.Post
+name-need-clause-at-requires : (t : ℕ) → name-need-lts.Need-clause-at-requires (name-need-calls t) (name-need-at t) name-need.Post
 name-need-clause-at-requires t c κs = let q = c .before .before .before .before .before .before .before .before .before .before .before .pre .1 in key-small _ _ _ _ _ _ _ _ _ _ _ (q .2 .0) (q .2 .1) (q .2 .2) _ (q .1)
 
--- src/levels.rt:139:9
-name-need-matches-requires : (t : ℕ) → name-need-lts.Need-matches-requires (
-  place-at-reads.Asked,
-  place-at-reads.Learnt,
-  index-at-reads.Asked,
-  index-at-reads.Learnt,
-  clause-at-reads.Asked,
-  clause-at-reads.Learnt,
-  matches-reads.Asked,
-  matches-reads.Learnt,
-  operands-need-below t,
-  operands-need.Post,
-) (name-need-at t) name-need.Post
+name-need-matches-requires : (t : ℕ) → name-need-lts.Need-matches-requires (name-need-calls t) (name-need-at t) name-need.Post
 name-need-matches-requires t c κs = let q = c .before .before .before .before .before .before .before .before .before .before .before .before .before .pre .1 in let n = name-known _ _ _ _ _ _ _ _ _ _ _ (q .2 .0) (q .2 .1) (q .2 .2) _ (q .1) (c .before .before .before .before .place-at .ensures) (c .before .before .before .if1 .left) in (q .2 .0, _, _, n .0, q .2 .1, asks-match _ _ _ _ _ _ _ _ _ _ _ (q .2 .0) (q .2 .1) (q .2 .2) _ (q .1) (n .0) (n .1) _ _ (c .before .before .index-at .ensures .0) (c .before .clause-at .ensures .0) _ refl)
 
--- src/levels.rt:150:16
-name-need-add-result-2 : (t : ℕ) → name-need-lts.Need-add-result-2 (
-  place-at-reads.Asked,
-  place-at-reads.Learnt,
-  index-at-reads.Asked,
-  index-at-reads.Learnt,
-  clause-at-reads.Asked,
-  clause-at-reads.Learnt,
-  matches-reads.Asked,
-  matches-reads.Learnt,
-  operands-need-below t,
-  operands-need.Post,
-) (name-need-at t) name-need.Post
+name-need-add-result-2 : (t : ℕ) → name-need-lts.Need-add-result-2 (name-need-calls t) (name-need-at t) name-need.Post
 name-need-add-result-2 t c = let x = c .before .before .before .before .before .before .before .before .before .before .before .before .before .before .before .pre .1 .0 in omega arith
 
--- src/levels.rt:150:9
-name-need-returns-2 : (t : ℕ) → name-need-lts.Need-returns-2 (
-  place-at-reads.Asked,
-  place-at-reads.Learnt,
-  index-at-reads.Asked,
-  index-at-reads.Learnt,
-  clause-at-reads.Asked,
-  clause-at-reads.Learnt,
-  matches-reads.Asked,
-  matches-reads.Learnt,
-  operands-need-below t,
-  operands-need.Post,
-) (name-need-at t) name-need.Post
+name-need-returns-2 : (t : ℕ) → name-need-lts.Need-returns-2 (name-need-calls t) (name-need-at t) name-need.Post
 name-need-returns-2 t c = (omega arith, refl, refl, λ f g h. let n = name-known _ _ _ _ _ _ _ _ _ _ _ f g h _ (c .before .before .before .before .before .before .before .before .before .before .before .before .before .before .before .pre .1 .1) (c .before .before .before .before .before .before .place-at .ensures) (c .before .before .before .before .before .if1 .left) in let w = c .before .matches .ensures f _ _ (n .0) g (asks-match _ _ _ _ _ _ _ _ _ _ _ f g h _ (c .before .before .before .before .before .before .before .before .before .before .before .before .before .before .before .pre .1 .1) (n .0) (n .1) _ _ (c .before .before .before .before .index-at .ensures .0) (c .before .before .before .clause-at .ensures .0) _ refl) in (name-unmatched _ _ _ _ _ _ _ _ _ _ _ f g h _ (c .before .before .before .before .before .before .before .before .before .before .before .before .before .before .before .pre .1 .1) (n .0) (n .1) _ _ (c .before .before .before .before .index-at .ensures .0) (c .before .before .before .clause-at .ensures .0) _ _ w _ (not-true _ (c .if2 .taken)), h .truthful))
 
--- src/levels.rt:152:5
-name-need-operands-need-requires : (t : ℕ) → name-need-lts.Need-operands-need-requires (
-  place-at-reads.Asked,
-  place-at-reads.Learnt,
-  index-at-reads.Asked,
-  index-at-reads.Learnt,
-  clause-at-reads.Asked,
-  clause-at-reads.Learnt,
-  matches-reads.Asked,
-  matches-reads.Learnt,
-  operands-need-below t,
-  operands-need.Post,
-) (name-need-at t) name-need.Post
+name-need-operands-need-requires : (t : ℕ) → name-need-lts.Need-operands-need-requires (name-need-calls t) (name-need-at t) name-need.Post
 name-need-operands-need-requires t c κs = let q = c .before .before .before .before .before .before .before .before .before .before .before .before .before .before .before .before .before .before .pre .1 in let n = name-known _ _ _ _ _ _ _ _ _ _ _ (q .2 .0) (q .2 .1) (q .2 .2) _ (q .1) (c .before .before .before .before .before .before .before .before .before .place-at .ensures) (c .before .before .before .before .before .before .before .before .if1 .left) in let w = c .before .before .before .before .matches .ensures (q .2 .0) _ _ (n .0) (q .2 .1) (asks-match _ _ _ _ _ _ _ _ _ _ _ (q .2 .0) (q .2 .1) (q .2 .2) _ (q .1) (n .0) (n .1) _ _ (c .before .before .before .before .before .before .before .index-at .ensures .0) (c .before .before .before .before .before .before .clause-at .ensures .0) _ refl) in (omega (arith, c .before .before .before .before .before .before .before .before .before .before .before .before .before .before .before .before .before .before .pre .0), (q .0, (q .2 .0, n .0, _, name-seeks _ _ _ _ _ _ _ _ _ _ _ (q .2 .0) (q .2 .1) (q .2 .2) _ (q .1) (n .0) (n .1) _ _ (c .before .before .before .before .before .before .before .index-at .ensures .0) (c .before .before .before .before .before .before .clause-at .ensures .0) _ _ w (not-false _ (c .before .before .before .if2 .left)))))
 
--- src/levels.rt:112:1
-name-need-same-length : (t : ℕ) → name-need-lts.Need-same-length (
-  place-at-reads.Asked,
-  place-at-reads.Learnt,
-  index-at-reads.Asked,
-  index-at-reads.Learnt,
-  clause-at-reads.Asked,
-  clause-at-reads.Learnt,
-  matches-reads.Asked,
-  matches-reads.Learnt,
-  operands-need-below t,
-  operands-need.Post,
-) (name-need-at t) name-need.Post
-name-need-same-length t c = search needs
-
--- src/levels.rt:112:1
-name-need-same-length-2 : (t : ℕ) → name-need-lts.Need-same-length-2 (
-  place-at-reads.Asked,
-  place-at-reads.Learnt,
-  index-at-reads.Asked,
-  index-at-reads.Learnt,
-  clause-at-reads.Asked,
-  clause-at-reads.Learnt,
-  matches-reads.Asked,
-  matches-reads.Learnt,
-  operands-need-below t,
-  operands-need.Post,
-) (name-need-at t) name-need.Post
-name-need-same-length-2 t c = search needs
-
--- src/levels.rt:112:1
-name-need-returns-3 : (t : ℕ) → name-need-lts.Need-returns-3 (
-  place-at-reads.Asked,
-  place-at-reads.Learnt,
-  index-at-reads.Asked,
-  index-at-reads.Learnt,
-  clause-at-reads.Asked,
-  clause-at-reads.Learnt,
-  matches-reads.Asked,
-  matches-reads.Learnt,
-  operands-need-below t,
-  operands-need.Post,
-) (name-need-at t) name-need.Post
+name-need-returns-3 : (t : ℕ) → name-need-lts.Need-returns-3 (name-need-calls t) (name-need-at t) name-need.Post
 name-need-returns-3 t c = (c .before .before .before .before .operands-need .ensures .0, c .before .before .before .before .operands-need .ensures .1, c .before .before .before .before .operands-need .ensures .2, λ f g h. let n = name-known _ _ _ _ _ _ _ _ _ _ _ f g h _ (c .before .before .before .before .before .before .before .before .before .before .before .before .before .before .before .before .before .before .before .before .before .before .before .pre .1 .1) (c .before .before .before .before .before .before .before .before .before .before .before .before .before .before .place-at .ensures) (c .before .before .before .before .before .before .before .before .before .before .before .before .before .if1 .left) in let w = c .before .before .before .before .before .before .before .before .before .matches .ensures f _ _ (n .0) g (asks-match _ _ _ _ _ _ _ _ _ _ _ f g h _ (c .before .before .before .before .before .before .before .before .before .before .before .before .before .before .before .before .before .before .before .before .before .before .before .pre .1 .1) (n .0) (n .1) _ _ (c .before .before .before .before .before .before .before .before .before .before .before .before .index-at .ensures .0) (c .before .before .before .before .before .before .before .before .before .before .before .clause-at .ensures .0) _ refl) in let r = c .before .before .before .before .operands-need .ensures .3 f (n .0) _ (name-seeks _ _ _ _ _ _ _ _ _ _ _ f g h _ (c .before .before .before .before .before .before .before .before .before .before .before .before .before .before .before .before .before .before .before .before .before .before .before .pre .1 .1) (n .0) (n .1) _ _ (c .before .before .before .before .before .before .before .before .before .before .before .before .index-at .ensures .0) (c .before .before .before .before .before .before .before .before .before .before .before .clause-at .ensures .0) _ _ w (not-false _ (c .before .before .before .before .before .before .before .before .if2 .left))) in (name-needs _ _ _ _ _ _ _ _ _ _ _ f g h _ (c .before .before .before .before .before .before .before .before .before .before .before .before .before .before .before .before .before .before .before .before .before .before .before .pre .1 .1) (n .0) (n .1) _ _ (c .before .before .before .before .before .before .before .before .before .before .before .before .index-at .ensures .0) (c .before .before .before .before .before .before .before .before .before .before .before .clause-at .ensures .0) _ _ w (not-false _ (c .before .before .before .before .before .before .before .before .if2 .left)) _ _ (r .0), r .1))
 
 abbrev need-Inv-loop : need-lts.InvT-loop
@@ -308,429 +131,52 @@ abbrev need-μ-loop : need-lts.MeasureT-loop
 need-μ-loop table source index target places kinds tree memory₀ free₀ kind at m known class best₀ name₀ memory free best name =
     256 - name
 
--- src/levels.rt:188:9
-need-recall-requires : (t : ℕ) → need-lts.Need-recall-requires (
-  recall-reads.Asked,
-  recall-reads.Learnt,
-  place-at-reads.Asked,
-  place-at-reads.Learnt,
-  class-need-reads.Asked,
-  class-need-reads.Learnt,
-  name-need-below t,
-  name-need.Post,
-  smaller-reads.Asked,
-  smaller-reads.Learnt,
-  keep-reads.Asked,
-  keep-reads.Learnt,
-) (need-at t) need.Post need-Inv-loop need-μ-loop
+need-recall-requires : (t : ℕ) → need-lts.Need-recall-requires (need-calls t) (need-at t) need.Post need-Inv-loop need-μ-loop
 need-recall-requires t c κs = (c .before .before .before .before .before .before .before .before .before .before .pre .1 .1 .2 .kind, c .before .before .before .before .before .before .before .before .before .before .pre .1 .0)
 
--- src/levels.rt:190:9
-need-same-length : (t : ℕ) → need-lts.Need-same-length (
-  recall-reads.Asked,
-  recall-reads.Learnt,
-  place-at-reads.Asked,
-  place-at-reads.Learnt,
-  class-need-reads.Asked,
-  class-need-reads.Learnt,
-  name-need-below t,
-  name-need.Post,
-  smaller-reads.Asked,
-  smaller-reads.Learnt,
-  keep-reads.Asked,
-  keep-reads.Learnt,
-) (need-at t) need.Post need-Inv-loop need-μ-loop
-need-same-length t c = search needs
-
--- src/levels.rt:190:9
-need-same-length-2 : (t : ℕ) → need-lts.Need-same-length-2 (
-  recall-reads.Asked,
-  recall-reads.Learnt,
-  place-at-reads.Asked,
-  place-at-reads.Learnt,
-  class-need-reads.Asked,
-  class-need-reads.Learnt,
-  name-need-below t,
-  name-need.Post,
-  smaller-reads.Asked,
-  smaller-reads.Learnt,
-  keep-reads.Asked,
-  keep-reads.Learnt,
-) (need-at t) need.Post need-Inv-loop need-μ-loop
-need-same-length-2 t c = search needs
-
--- src/levels.rt:190:9
-need-returns : (t : ℕ) → need-lts.Need-returns (
-  recall-reads.Asked,
-  recall-reads.Learnt,
-  place-at-reads.Asked,
-  place-at-reads.Learnt,
-  class-need-reads.Asked,
-  class-need-reads.Learnt,
-  name-need-below t,
-  name-need.Post,
-  smaller-reads.Asked,
-  smaller-reads.Learnt,
-  keep-reads.Asked,
-  keep-reads.Learnt,
-) (need-at t) need.Post need-Inv-loop need-μ-loop
+need-returns : (t : ℕ) → need-lts.Need-returns (need-calls t) (need-at t) need.Post need-Inv-loop need-μ-loop
 need-returns t c = (recall-true _ _ _ _ _ _ _ _ _ _ _ (c .before .before .before .before .before .before .before .before .before .before .before .before .pre .1 .1 .0) (c .before .before .before .before .before .before .before .before .before .before .before .before .pre .1 .1 .1) (c .before .before .before .before .before .before .before .before .before .before .before .before .pre .1 .1 .2) _ (c .before .before .before .before .before .before .before .before .before .before .before .before .pre .1 .0) (c .before .recall .ensures) (c .if1 .taken) .bound, refl, refl, λ f g h. (recall-true _ _ _ _ _ _ _ _ _ _ _ f g h _ (c .before .before .before .before .before .before .before .before .before .before .before .before .pre .1 .0) (c .before .recall .ensures) (c .if1 .taken), h .truthful))
 
--- src/levels.rt:192:9
-need-place-at-requires : (t : ℕ) → need-lts.Need-place-at-requires (
-  recall-reads.Asked,
-  recall-reads.Learnt,
-  place-at-reads.Asked,
-  place-at-reads.Learnt,
-  class-need-reads.Asked,
-  class-need-reads.Learnt,
-  name-need-below t,
-  name-need.Post,
-  smaller-reads.Asked,
-  smaller-reads.Learnt,
-  keep-reads.Asked,
-  keep-reads.Learnt,
-) (need-at t) need.Post need-Inv-loop need-μ-loop
+need-place-at-requires : (t : ℕ) → need-lts.Need-place-at-requires (need-calls t) (need-at t) need.Post need-Inv-loop need-μ-loop
 need-place-at-requires t c κs = let x = c .before .before .before .before .before .before .before .before .before .before .before .before .pre .1 .1 .2 .kind in let y = c .before .before .before .before .before .before .before .before .before .before .before .before .pre .1 .1 .2 .setting .source-index .sound .long in omega arith
 
--- src/levels.rt:194:9
-need-class-need-requires : (t : ℕ) → need-lts.Need-class-need-requires (
-  recall-reads.Asked,
-  recall-reads.Learnt,
-  place-at-reads.Asked,
-  place-at-reads.Learnt,
-  class-need-reads.Asked,
-  class-need-reads.Learnt,
-  name-need-below t,
-  name-need.Post,
-  smaller-reads.Asked,
-  smaller-reads.Learnt,
-  keep-reads.Asked,
-  keep-reads.Learnt,
-) (need-at t) need.Post need-Inv-loop need-μ-loop
+need-class-need-requires : (t : ℕ) → need-lts.Need-class-need-requires (need-calls t) (need-at t) need.Post need-Inv-loop need-μ-loop
 need-class-need-requires t c κs = let q = c .before .before .before .before .before .before .before .before .before .before .before .before .before .before .pre .1 .1 in (class-positive _ _ _ _ _ _ _ _ _ _ _ (q .0) (q .1) (q .2) _ (c .before .place-at .ensures) (c .if2 .taken), class-whole _ _ _ _ _ _ _ _ _ _ _ (q .0) (q .1) (q .2) _ (c .before .place-at .ensures) (c .if2 .taken), c .before .before .before .before .before .before .before .before .before .before .before .before .before .before .pre .1 .0)
 
--- src/levels.rt:194:9
-need-same-length-3 : (t : ℕ) → need-lts.Need-same-length-3 (
-  recall-reads.Asked,
-  recall-reads.Learnt,
-  place-at-reads.Asked,
-  place-at-reads.Learnt,
-  class-need-reads.Asked,
-  class-need-reads.Learnt,
-  name-need-below t,
-  name-need.Post,
-  smaller-reads.Asked,
-  smaller-reads.Learnt,
-  keep-reads.Asked,
-  keep-reads.Learnt,
-) (need-at t) need.Post need-Inv-loop need-μ-loop
-need-same-length-3 t c = search needs
-
--- src/levels.rt:194:9
-need-same-length-4 : (t : ℕ) → need-lts.Need-same-length-4 (
-  recall-reads.Asked,
-  recall-reads.Learnt,
-  place-at-reads.Asked,
-  place-at-reads.Learnt,
-  class-need-reads.Asked,
-  class-need-reads.Learnt,
-  name-need-below t,
-  name-need.Post,
-  smaller-reads.Asked,
-  smaller-reads.Learnt,
-  keep-reads.Asked,
-  keep-reads.Learnt,
-) (need-at t) need.Post need-Inv-loop need-μ-loop
-need-same-length-4 t c = search needs
-
--- src/levels.rt:194:9
-need-returns-2 : (t : ℕ) → need-lts.Need-returns-2 (
-  recall-reads.Asked,
-  recall-reads.Learnt,
-  place-at-reads.Asked,
-  place-at-reads.Learnt,
-  class-need-reads.Asked,
-  class-need-reads.Learnt,
-  name-need-below t,
-  name-need.Post,
-  smaller-reads.Asked,
-  smaller-reads.Learnt,
-  keep-reads.Asked,
-  keep-reads.Learnt,
-) (need-at t) need.Post need-Inv-loop need-μ-loop
+need-returns-2 : (t : ℕ) → need-lts.Need-returns-2 (need-calls t) (need-at t) need.Post need-Inv-loop need-μ-loop
 need-returns-2 t c = let q = c .before .before .before .before .before .before .before .before .before .before .before .before .before .before .before .pre .1 .1 in (class-needs _ _ _ _ _ _ _ _ _ _ _ (q .0) (q .1) (q .2) _ (c .before .before .place-at .ensures) (c .before .if2 .taken) _ (c .class-need .ensures) .bound, refl, refl, λ f g h. (class-needs _ _ _ _ _ _ _ _ _ _ _ f g h _ (c .before .before .place-at .ensures) (c .before .if2 .taken) _ (c .class-need .ensures), h .truthful))
 
--- src/levels.rt:197:9
-need-same-length-5 : (t : ℕ) → need-lts.Need-same-length-5 (
-  recall-reads.Asked,
-  recall-reads.Learnt,
-  place-at-reads.Asked,
-  place-at-reads.Learnt,
-  class-need-reads.Asked,
-  class-need-reads.Learnt,
-  name-need-below t,
-  name-need.Post,
-  smaller-reads.Asked,
-  smaller-reads.Learnt,
-  keep-reads.Asked,
-  keep-reads.Learnt,
-) (need-at t) need.Post need-Inv-loop need-μ-loop
-need-same-length-5 t c = search needs
-
--- src/levels.rt:197:9
-need-same-length-6 : (t : ℕ) → need-lts.Need-same-length-6 (
-  recall-reads.Asked,
-  recall-reads.Learnt,
-  place-at-reads.Asked,
-  place-at-reads.Learnt,
-  class-need-reads.Asked,
-  class-need-reads.Learnt,
-  name-need-below t,
-  name-need.Post,
-  smaller-reads.Asked,
-  smaller-reads.Learnt,
-  keep-reads.Asked,
-  keep-reads.Learnt,
-) (need-at t) need.Post need-Inv-loop need-μ-loop
-need-same-length-6 t c = search needs
-
--- src/levels.rt:197:9
-need-returns-3 : (t : ℕ) → need-lts.Need-returns-3 (
-  recall-reads.Asked,
-  recall-reads.Learnt,
-  place-at-reads.Asked,
-  place-at-reads.Learnt,
-  class-need-reads.Asked,
-  class-need-reads.Learnt,
-  name-need-below t,
-  name-need.Post,
-  smaller-reads.Asked,
-  smaller-reads.Learnt,
-  keep-reads.Asked,
-  keep-reads.Learnt,
-) (need-at t) need.Post need-Inv-loop need-μ-loop
+need-returns-3 : (t : ℕ) → need-lts.Need-returns-3 (need-calls t) (need-at t) need.Post need-Inv-loop need-μ-loop
 need-returns-3 t c = (omega arith, refl, refl, λ f g h. (zero-levels _ _ _ _ _ _ _ _ _ _ _ f g h (plain _ _ _ _ _ _ _ _ _ _ _ f g h _ (c .before .before .place-at .ensures) (c .before .if2 .left)) _ (c .if3 .taken), h .truthful))
 
--- src/levels.rt:201:5
-need-loop-holds : (t : ℕ) → need-lts.Need-loop-holds (
-  recall-reads.Asked,
-  recall-reads.Learnt,
-  place-at-reads.Asked,
-  place-at-reads.Learnt,
-  class-need-reads.Asked,
-  class-need-reads.Learnt,
-  name-need-below t,
-  name-need.Post,
-  smaller-reads.Asked,
-  smaller-reads.Learnt,
-  keep-reads.Asked,
-  keep-reads.Learnt,
-) (need-at t) need.Post need-Inv-loop need-μ-loop
+need-loop-holds : (t : ℕ) → need-lts.Need-loop-holds (need-calls t) (need-at t) need.Post need-Inv-loop need-μ-loop
 need-loop-holds t c = (omega arith, omega arith, refl, refl, λ f g h. (names-start _ _ _ _ g (c .if3 .left), h .truthful))
 
--- src/levels.rt:215:13
-need-sub-name-need : (t : ℕ) → need-lts.Need-sub-name-need (
-  recall-reads.Asked,
-  recall-reads.Learnt,
-  place-at-reads.Asked,
-  place-at-reads.Learnt,
-  class-need-reads.Asked,
-  class-need-reads.Learnt,
-  name-need-below t,
-  name-need.Post,
-  smaller-reads.Asked,
-  smaller-reads.Learnt,
-  keep-reads.Asked,
-  keep-reads.Learnt,
-) (need-at t) need.Post need-Inv-loop need-μ-loop
+need-sub-name-need : (t : ℕ) → need-lts.Need-sub-name-need (need-calls t) (need-at t) need.Post need-Inv-loop need-μ-loop
 need-sub-name-need t c = let x = c .before .before .before .before .if3 .left in omega arith
 
--- src/levels.rt:202:13
-need-name-need-requires : (t : ℕ) → need-lts.Need-name-need-requires (
-  recall-reads.Asked,
-  recall-reads.Learnt,
-  place-at-reads.Asked,
-  place-at-reads.Learnt,
-  class-need-reads.Asked,
-  class-need-reads.Learnt,
-  name-need-below t,
-  name-need.Post,
-  smaller-reads.Asked,
-  smaller-reads.Learnt,
-  keep-reads.Asked,
-  keep-reads.Learnt,
-) (need-at t) need.Post need-Inv-loop need-μ-loop
+need-name-need-requires : (t : ℕ) → need-lts.Need-name-need-requires (need-calls t) (need-at t) need.Post need-Inv-loop need-μ-loop
 need-name-need-requires t c κs = let q = c .before .before .before .before .before .before .before .before .before .before .before .before .before .before .before .before .before .before .before .pre .1 .1 in let x = c .before .before .before .before .if3 .left in (omega (arith, c .before .before .before .before .before .before .before .before .before .before .before .before .before .before .before .before .before .before .before .pre .0), (omega (arith, c .before .before .before .before .before .before .before .before .before .before .before .before .before .before .before .before .before .before .before .pre .1 .0), c .before .before .loop-test .taken, (q .0, q .1, seeks-still _ _ _ _ _ _ _ _ _ _ _ (q .0) (q .1) (q .2) _ _ (c .before .before .before .loop .inv .4 (q .0) (q .1) (q .2) .1))))
 
--- src/levels.rt:217:9
-need-smaller-requires : (t : ℕ) → need-lts.Need-smaller-requires (
-  recall-reads.Asked,
-  recall-reads.Learnt,
-  place-at-reads.Asked,
-  place-at-reads.Learnt,
-  class-need-reads.Asked,
-  class-need-reads.Learnt,
-  name-need-below t,
-  name-need.Post,
-  smaller-reads.Asked,
-  smaller-reads.Learnt,
-  keep-reads.Asked,
-  keep-reads.Learnt,
-) (need-at t) need.Post need-Inv-loop need-μ-loop
-need-smaller-requires t c κs = search needs
-
--- src/levels.rt:218:9
-need-add-name : (t : ℕ) → need-lts.Need-add-name (
-  recall-reads.Asked,
-  recall-reads.Learnt,
-  place-at-reads.Asked,
-  place-at-reads.Learnt,
-  class-need-reads.Asked,
-  class-need-reads.Learnt,
-  name-need-below t,
-  name-need.Post,
-  smaller-reads.Asked,
-  smaller-reads.Learnt,
-  keep-reads.Asked,
-  keep-reads.Learnt,
-) (need-at t) need.Post need-Inv-loop need-μ-loop
+need-add-name : (t : ℕ) → need-lts.Need-add-name (need-calls t) (need-at t) need.Post need-Inv-loop need-μ-loop
 need-add-name t c = let x = c .before .before .before .before .before .before .before .before .loop-test .taken in omega arith
 
--- src/levels.rt:201:5
-need-loop-less : (t : ℕ) → need-lts.Need-loop-less (
-  recall-reads.Asked,
-  recall-reads.Learnt,
-  place-at-reads.Asked,
-  place-at-reads.Learnt,
-  class-need-reads.Asked,
-  class-need-reads.Learnt,
-  name-need-below t,
-  name-need.Post,
-  smaller-reads.Asked,
-  smaller-reads.Learnt,
-  keep-reads.Asked,
-  keep-reads.Learnt,
-) (need-at t) need.Post need-Inv-loop need-μ-loop
+need-loop-less : (t : ℕ) → need-lts.Need-loop-less (need-calls t) (need-at t) need.Post need-Inv-loop need-μ-loop
 need-loop-less t c = let x = c .before .before .before .before .before .before .before .before .loop-test .taken in omega arith
 
--- src/levels.rt:201:5
-need-loop-again : (t : ℕ) → need-lts.Need-loop-again (
-  recall-reads.Asked,
-  recall-reads.Learnt,
-  place-at-reads.Asked,
-  place-at-reads.Learnt,
-  class-need-reads.Asked,
-  class-need-reads.Learnt,
-  name-need-below t,
-  name-need.Post,
-  smaller-reads.Asked,
-  smaller-reads.Learnt,
-  keep-reads.Asked,
-  keep-reads.Learnt,
-) (need-at t) need.Post need-Inv-loop need-μ-loop
+need-loop-again : (t : ℕ) → need-lts.Need-loop-again (need-calls t) (need-at t) need.Post need-Inv-loop need-μ-loop
 need-loop-again t c = (omega (arith, c .before .before .before .before .before .before .before .before .loop-test .taken), omega (arith, c .smaller .ensures, c .before .before .before .before .before .before .before .before .before .loop .inv .1), c .before .before .before .before .before .name-need .ensures .1 ∙ c .before .before .before .before .before .before .before .before .before .loop .inv .2, c .before .before .before .before .before .name-need .ensures .2 ∙ c .before .before .before .before .before .before .before .before .before .loop .inv .3, λ f g h. let w = c .before .before .before .before .before .before .before .before .before .loop .inv .4 f g h in let r = c .before .before .before .before .before .name-need .ensures .3 f g (seeks-still _ _ _ _ _ _ _ _ _ _ _ f g h _ _ (w .1)) in (names-next _ _ _ _ g _ _ _ _ (w .0) (r .0) (c .smaller .ensures), r .1))
 
--- src/levels.rt:220:49
-need-add-keep : (t : ℕ) → need-lts.Need-add-keep (
-  recall-reads.Asked,
-  recall-reads.Learnt,
-  place-at-reads.Asked,
-  place-at-reads.Learnt,
-  class-need-reads.Asked,
-  class-need-reads.Learnt,
-  name-need-below t,
-  name-need.Post,
-  smaller-reads.Asked,
-  smaller-reads.Learnt,
-  keep-reads.Asked,
-  keep-reads.Learnt,
-) (need-at t) need.Post need-Inv-loop need-μ-loop
+need-add-keep : (t : ℕ) → need-lts.Need-add-keep (need-calls t) (need-at t) need.Post need-Inv-loop need-μ-loop
 need-add-keep t c = let x = c .before .before .before .loop .inv .1 in let y = c .before .before .before .before .before .before .before .before .before .before .before .before .before .before .before .before .before .before .before .pre .1 .0 in omega arith
 
--- src/levels.rt:220:5
-need-keep-requires : (t : ℕ) → need-lts.Need-keep-requires (
-  recall-reads.Asked,
-  recall-reads.Learnt,
-  place-at-reads.Asked,
-  place-at-reads.Learnt,
-  class-need-reads.Asked,
-  class-need-reads.Learnt,
-  name-need-below t,
-  name-need.Post,
-  smaller-reads.Asked,
-  smaller-reads.Learnt,
-  keep-reads.Asked,
-  keep-reads.Learnt,
-) (need-at t) need.Post need-Inv-loop need-μ-loop
+need-keep-requires : (t : ℕ) → need-lts.Need-keep-requires (need-calls t) (need-at t) need.Post need-Inv-loop need-μ-loop
 need-keep-requires t c κs = let q = c .before .before .before .before .before .before .before .before .before .before .before .before .before .before .before .before .before .before .before .pre .1 .1 in (c .before .before .before .loop .inv .4 (q .0) (q .1) (q .2) .1 .long, q .2 .kind, c .before .before .before .before .before .before .before .before .before .before .before .before .before .before .before .before .before .before .before .pre .1 .0, omega (arith, c .before .before .before .loop .inv .1))
 
--- src/levels.rt:221:5
-need-add-result : (t : ℕ) → need-lts.Need-add-result (
-  recall-reads.Asked,
-  recall-reads.Learnt,
-  place-at-reads.Asked,
-  place-at-reads.Learnt,
-  class-need-reads.Asked,
-  class-need-reads.Learnt,
-  name-need-below t,
-  name-need.Post,
-  smaller-reads.Asked,
-  smaller-reads.Learnt,
-  keep-reads.Asked,
-  keep-reads.Learnt,
-) (need-at t) need.Post need-Inv-loop need-μ-loop
+need-add-result : (t : ℕ) → need-lts.Need-add-result (need-calls t) (need-at t) need.Post need-Inv-loop need-μ-loop
 need-add-result t c = let x = c .before .before .before .before .before .before .before .before .loop .inv .1 in let y = c .before .before .before .before .before .before .before .before .before .before .before .before .before .before .before .before .before .before .before .before .before .before .before .before .pre .1 .0 in omega arith
 
--- src/levels.rt:169:1
-need-same-length-7 : (t : ℕ) → need-lts.Need-same-length-7 (
-  recall-reads.Asked,
-  recall-reads.Learnt,
-  place-at-reads.Asked,
-  place-at-reads.Learnt,
-  class-need-reads.Asked,
-  class-need-reads.Learnt,
-  name-need-below t,
-  name-need.Post,
-  smaller-reads.Asked,
-  smaller-reads.Learnt,
-  keep-reads.Asked,
-  keep-reads.Learnt,
-) (need-at t) need.Post need-Inv-loop need-μ-loop
-need-same-length-7 t c = search needs
-
--- src/levels.rt:169:1
-need-same-length-8 : (t : ℕ) → need-lts.Need-same-length-8 (
-  recall-reads.Asked,
-  recall-reads.Learnt,
-  place-at-reads.Asked,
-  place-at-reads.Learnt,
-  class-need-reads.Asked,
-  class-need-reads.Learnt,
-  name-need-below t,
-  name-need.Post,
-  smaller-reads.Asked,
-  smaller-reads.Learnt,
-  keep-reads.Asked,
-  keep-reads.Learnt,
-) (need-at t) need.Post need-Inv-loop need-μ-loop
-need-same-length-8 t c = search needs
-
--- src/levels.rt:169:1
-need-returns-4 : (t : ℕ) → need-lts.Need-returns-4 (
-  recall-reads.Asked,
-  recall-reads.Learnt,
-  place-at-reads.Asked,
-  place-at-reads.Learnt,
-  class-need-reads.Asked,
-  class-need-reads.Learnt,
-  name-need-below t,
-  name-need.Post,
-  smaller-reads.Asked,
-  smaller-reads.Learnt,
-  keep-reads.Asked,
-  keep-reads.Learnt,
-) (need-at t) need.Post need-Inv-loop need-μ-loop
+need-returns-4 : (t : ℕ) → need-lts.Need-returns-4 (need-calls t) (need-at t) need.Post need-Inv-loop need-μ-loop
 need-returns-4 t c = let q = c .before .before .before .before .before .before .before .before .before .before .before .before .before .before .before .before .before .before .before .before .before .before .before .before .pre .1 .1 in let k = kept-long _ _ _ _ _ _ in (omega (arith, c .before .before .before .before .before .before .before .before .loop .inv .1), ap-long (c .before .before .before .before .keep .ensures .0) (k .0) ∙ c .before .before .before .before .before .before .before .before .loop .inv .2, ap-long (c .before .before .before .before .keep .ensures .1) (k .1) ∙ c .before .before .before .before .before .before .before .before .loop .inv .3, λ f g h. let w = c .before .before .before .before .before .before .before .before .loop .inv .4 f g h in let n = all-names _ _ _ _ _ _ _ _ _ _ _ f g h (plain _ _ _ _ _ _ _ _ _ _ _ f g h _ (c .before .before .before .before .before .before .before .before .before .before .before .place-at .ensures) (c .before .before .before .before .before .before .before .before .before .before .if2 .left)) _ (c .before .before .before .before .before .before .before .before .before .if3 .left) _ _ (c .before .before .before .before .before .before .before .loop-test .left) (c .before .before .before .before .before .before .before .before .loop .inv .0) (w .0) in (n, same-truth (c .before .before .before .before .keep .ensures .0) (c .before .before .before .before .keep .ensures .1) (keeps-true _ _ _ _ _ _ _ _ _ _ _ f g h _ _ (w .1) _ _ (c .before .before .before .before .before .before .before .before .before .before .before .before .before .before .before .before .before .before .before .before .before .before .before .before .pre .1 .0) n)))
 
 abbrev operands-need-Inv-loop : operands-need-lts.InvT-loop
@@ -741,207 +187,51 @@ abbrev operands-need-μ-loop : operands-need-lts.MeasureT-loop
 operands-need-μ-loop table source index target places kinds tree memory₀ free₀ place bound m j₀ most₀ memory free j most =
     j
 
--- src/levels.rt:86:34
-operands-need-add-source-at : (t : ℕ) → operands-need-lts.Need-add-source-at (
-  source-at-reads.Asked,
-  source-at-reads.Learnt,
-  need-below t,
-  need.Post,
-  larger-reads.Asked,
-  larger-reads.Learnt,
-) (operands-need-at t) operands-need.Post operands-need-Inv-loop operands-need-μ-loop
+operands-need-add-source-at : (t : ℕ) → operands-need-lts.Need-add-source-at (operands-need-calls t) (operands-need-at t) operands-need.Post operands-need-Inv-loop operands-need-μ-loop
 operands-need-add-source-at t c = let q = c .before .before .before .before .before .before .before .before .pre .1 .1 in let x = count-inside _ _ _ _ _ _ _ _ _ _ _ (q .0) (q .1) (q .2) (q .3) in omega arith
 
--- src/levels.rt:86:17
-operands-need-source-at-requires : (t : ℕ) → operands-need-lts.Need-source-at-requires (
-  source-at-reads.Asked,
-  source-at-reads.Learnt,
-  need-below t,
-  need.Post,
-  larger-reads.Asked,
-  larger-reads.Learnt,
-) (operands-need-at t) operands-need.Post operands-need-Inv-loop operands-need-μ-loop
+operands-need-source-at-requires : (t : ℕ) → operands-need-lts.Need-source-at-requires (operands-need-calls t) (operands-need-at t) operands-need.Post operands-need-Inv-loop operands-need-μ-loop
 operands-need-source-at-requires t c κs = let q = c .before .before .before .before .before .before .before .before .pre .1 .1 in count-inside _ _ _ _ _ _ _ _ _ _ _ (q .0) (q .1) (q .2) (q .3)
 
--- src/levels.rt:86:17
-operands-need-sub-j : (t : ℕ) → operands-need-lts.Need-sub-j (
-  source-at-reads.Asked,
-  source-at-reads.Learnt,
-  need-below t,
-  need.Post,
-  larger-reads.Asked,
-  larger-reads.Learnt,
-) (operands-need-at t) operands-need.Post operands-need-Inv-loop operands-need-μ-loop
+operands-need-sub-j : (t : ℕ) → operands-need-lts.Need-sub-j (operands-need-calls t) (operands-need-at t) operands-need.Post operands-need-Inv-loop operands-need-μ-loop
 operands-need-sub-j t c = let q = c .before .before .before .before .before .before .before .before .before .pre .1 .1 in let x = count-is _ _ _ _ _ _ _ _ _ _ _ (q .0) (q .1) (q .2) (q .3) (c .source-at .ensures .0) .0 in omega arith
 
--- src/levels.rt:88:5
-operands-need-loop-holds : (t : ℕ) → operands-need-lts.Need-loop-holds (
-  source-at-reads.Asked,
-  source-at-reads.Learnt,
-  need-below t,
-  need.Post,
-  larger-reads.Asked,
-  larger-reads.Learnt,
-) (operands-need-at t) operands-need.Post operands-need-Inv-loop operands-need-μ-loop
+operands-need-loop-holds : (t : ℕ) → operands-need-lts.Need-loop-holds (operands-need-calls t) (operands-need-at t) operands-need.Post operands-need-Inv-loop operands-need-μ-loop
 operands-need-loop-holds t c = let q = c .before .before .before .before .before .before .before .before .before .pre .1 .1 in let x = count-is _ _ _ _ _ _ _ _ _ _ _ (q .0) (q .1) (q .2) (q .3) (c .source-at .ensures .0) in (omega (arith, x .0, x .1), omega arith, refl, refl, λ f ks b h. let y = count-is _ _ _ _ _ _ _ _ _ _ _ f ks b h (c .source-at .ensures .0) .0 in (omega arith, operands-start _ _ _ ks b _ (omega arith), h .truthful))
 
--- src/levels.rt:89:9
-operands-need-sub-j-2 : (t : ℕ) → operands-need-lts.Need-sub-j-2 (
-  source-at-reads.Asked,
-  source-at-reads.Learnt,
-  need-below t,
-  need.Post,
-  larger-reads.Asked,
-  larger-reads.Learnt,
-) (operands-need-at t) operands-need.Post operands-need-Inv-loop operands-need-μ-loop
+operands-need-sub-j-2 : (t : ℕ) → operands-need-lts.Need-sub-j-2 (operands-need-calls t) (operands-need-at t) operands-need.Post operands-need-Inv-loop operands-need-μ-loop
 operands-need-sub-j-2 t c = let x = c .loop-test .taken in omega arith
 
--- src/levels.rt:90:37
-operands-need-add-source-at-2 : (t : ℕ) → operands-need-lts.Need-add-source-at-2 (
-  source-at-reads.Asked,
-  source-at-reads.Learnt,
-  need-below t,
-  need.Post,
-  larger-reads.Asked,
-  larger-reads.Learnt,
-) (operands-need-at t) operands-need.Post operands-need-Inv-loop operands-need-μ-loop
+operands-need-add-source-at-2 : (t : ℕ) → operands-need-lts.Need-add-source-at-2 (operands-need-calls t) (operands-need-at t) operands-need.Post operands-need-Inv-loop operands-need-μ-loop
 operands-need-add-source-at-2 t c = let q = c .before .before .before .before .before .before .before .before .before .before .before .pre .1 .1 in let x = count-inside _ _ _ _ _ _ _ _ _ _ _ (q .0) (q .1) (q .2) (q .3) in omega arith
 
--- src/levels.rt:90:37
-operands-need-add-source-at-3 : (t : ℕ) → operands-need-lts.Need-add-source-at-3 (
-  source-at-reads.Asked,
-  source-at-reads.Learnt,
-  need-below t,
-  need.Post,
-  larger-reads.Asked,
-  larger-reads.Learnt,
-) (operands-need-at t) operands-need.Post operands-need-Inv-loop operands-need-μ-loop
+operands-need-add-source-at-3 : (t : ℕ) → operands-need-lts.Need-add-source-at-3 (operands-need-calls t) (operands-need-at t) operands-need.Post operands-need-Inv-loop operands-need-μ-loop
 operands-need-add-source-at-3 t c = let q = c .before .before .before .before .before .before .before .before .before .before .before .pre .1 .1 in let x = count-inside _ _ _ _ _ _ _ _ _ _ _ (q .0) (q .1) (q .2) (q .3) in let y = c .before .loop .inv .0 in omega arith
 
--- src/levels.rt:90:13
-operands-need-source-at-requires-2 : (t : ℕ) → operands-need-lts.Need-source-at-requires-2 (
-  source-at-reads.Asked,
-  source-at-reads.Learnt,
-  need-below t,
-  need.Post,
-  larger-reads.Asked,
-  larger-reads.Learnt,
-) (operands-need-at t) operands-need.Post operands-need-Inv-loop operands-need-μ-loop
+operands-need-source-at-requires-2 : (t : ℕ) → operands-need-lts.Need-source-at-requires-2 (operands-need-calls t) (operands-need-at t) operands-need.Post operands-need-Inv-loop operands-need-μ-loop
 operands-need-source-at-requires-2 t c κs = let q = c .before .before .before .before .before .before .before .before .before .before .before .pre .1 .1 in let w = c .before .loop .inv .4 (q .0) (q .1) (q .2) (q .3) .0 in let y = c .loop-test .taken in kind-inside _ _ _ _ _ _ _ _ _ _ _ (q .0) (q .1) (q .2) (q .3) _ (omega (arith, w, y))
 
--- src/levels.rt:91:18
-operands-need-mul-at : (t : ℕ) → operands-need-lts.Need-mul-at (
-  source-at-reads.Asked,
-  source-at-reads.Learnt,
-  need-below t,
-  need.Post,
-  larger-reads.Asked,
-  larger-reads.Learnt,
-) (operands-need-at t) operands-need.Post operands-need-Inv-loop operands-need-μ-loop
+operands-need-mul-at : (t : ℕ) → operands-need-lts.Need-mul-at (operands-need-calls t) (operands-need-at t) operands-need.Post operands-need-Inv-loop operands-need-μ-loop
 operands-need-mul-at t c = let x = c .before .before .loop .inv .0 in let y = c .before .loop-test .taken in omega arith
 
--- src/levels.rt:91:18
-operands-need-element-copy-out-at : (t : ℕ) → operands-need-lts.Need-element-copy-out-at (
-  source-at-reads.Asked,
-  source-at-reads.Learnt,
-  need-below t,
-  need.Post,
-  larger-reads.Asked,
-  larger-reads.Learnt,
-) (operands-need-at t) operands-need.Post operands-need-Inv-loop operands-need-μ-loop
+operands-need-element-copy-out-at : (t : ℕ) → operands-need-lts.Need-element-copy-out-at (operands-need-calls t) (operands-need-at t) operands-need.Post operands-need-Inv-loop operands-need-μ-loop
 operands-need-element-copy-out-at t c = let x = c .before .before .loop .inv .0 in let y = c .before .loop-test .taken in omega arith
 
--- src/levels.rt:92:13
-operands-need-need-requires : (t : ℕ) → operands-need-lts.Need-need-requires (
-  source-at-reads.Asked,
-  source-at-reads.Learnt,
-  need-below t,
-  need.Post,
-  larger-reads.Asked,
-  larger-reads.Learnt,
-) (operands-need-at t) operands-need.Post operands-need-Inv-loop operands-need-μ-loop
+operands-need-need-requires : (t : ℕ) → operands-need-lts.Need-need-requires (operands-need-calls t) (operands-need-at t) operands-need.Post operands-need-Inv-loop operands-need-μ-loop
 operands-need-need-requires t c κs = let q = c .before .before .before .before .before .before .before .before .before .before .before .before .before .before .before .pre .1 .1 in let w = c .before .before .before .before .before .loop .inv .4 (q .0) (q .1) (q .2) (q .3) in let y = c .before .before .before .before .loop-test .taken in (omega (arith, c .before .before .before .before .before .before .before .before .before .before .before .before .before .before .before .pre .0), (c .before .before .before .before .before .before .before .before .before .before .before .before .before .before .before .pre .1 .0, (q .0, _, operand-seeks _ _ _ _ _ _ _ _ _ _ _ (q .0) (q .1) (q .2) (q .3) _ (omega (arith, w .0, y)) _ _ (w .2) (c .before .before .before .source-at2 .ensures .0))))
 
--- src/levels.rt:106:9
-operands-need-larger-requires : (t : ℕ) → operands-need-lts.Need-larger-requires (
-  source-at-reads.Asked,
-  source-at-reads.Learnt,
-  need-below t,
-  need.Post,
-  larger-reads.Asked,
-  larger-reads.Learnt,
-) (operands-need-at t) operands-need.Post operands-need-Inv-loop operands-need-μ-loop
-operands-need-larger-requires t c κs = search needs
-
--- src/levels.rt:88:5
-operands-need-loop-less : (t : ℕ) → operands-need-lts.Need-loop-less (
-  source-at-reads.Asked,
-  source-at-reads.Learnt,
-  need-below t,
-  need.Post,
-  larger-reads.Asked,
-  larger-reads.Learnt,
-) (operands-need-at t) operands-need.Post operands-need-Inv-loop operands-need-μ-loop
+operands-need-loop-less : (t : ℕ) → operands-need-lts.Need-loop-less (operands-need-calls t) (operands-need-at t) operands-need.Post operands-need-Inv-loop operands-need-μ-loop
 operands-need-loop-less t c = let y = c .before .before .before .before .before .before .before .before .before .before .loop-test .taken in omega arith
 
--- src/levels.rt:88:5
-operands-need-loop-again : (t : ℕ) → operands-need-lts.Need-loop-again (
-  source-at-reads.Asked,
-  source-at-reads.Learnt,
-  need-below t,
-  need.Post,
-  larger-reads.Asked,
-  larger-reads.Learnt,
-) (operands-need-at t) operands-need.Post operands-need-Inv-loop operands-need-μ-loop
+operands-need-loop-again : (t : ℕ) → operands-need-lts.Need-loop-again (operands-need-calls t) (operands-need-at t) operands-need.Post operands-need-Inv-loop operands-need-μ-loop
 operands-need-loop-again t c = (omega (arith, c .before .before .before .before .before .before .before .before .before .before .before .loop .inv .0), omega (arith, c .larger .ensures, c .before .before .before .before .before .need .ensures .0, c .before .before .before .before .before .before .before .before .before .before .before .loop .inv .1), c .before .before .before .before .before .need .ensures .1 ∙ c .before .before .before .before .before .before .before .before .before .before .before .loop .inv .2, c .before .before .before .before .before .need .ensures .2 ∙ c .before .before .before .before .before .before .before .before .before .before .before .loop .inv .3, λ f ks b h. let w = c .before .before .before .before .before .before .before .before .before .before .before .loop .inv .4 f ks b h in let y = c .before .before .before .before .before .before .before .before .before .before .loop-test .taken in let r = c .before .before .before .before .before .need .ensures .3 f _ (operand-seeks _ _ _ _ _ _ _ _ _ _ _ f ks b h _ (omega (arith, w .0, y)) _ _ (w .2) (c .before .before .before .before .before .before .before .before .before .source-at2 .ensures .0)) in (omega (arith, w .0), operands-next _ _ _ ks b _ _ _ _ _ y (w .0) (operand-kind _ _ _ _ _ _ _ _ _ _ _ f ks b h _ (omega (arith, w .0, y)) (c .before .before .before .before .before .before .before .before .before .source-at2 .ensures .0)) (r .0) (w .1) (c .larger .ensures), r .1))
 
--- src/levels.rt:67:1
-operands-need-same-length : (t : ℕ) → operands-need-lts.Need-same-length (
-  source-at-reads.Asked,
-  source-at-reads.Learnt,
-  need-below t,
-  need.Post,
-  larger-reads.Asked,
-  larger-reads.Learnt,
-) (operands-need-at t) operands-need.Post operands-need-Inv-loop operands-need-μ-loop
-operands-need-same-length t c = search needs
-
--- src/levels.rt:67:1
-operands-need-same-length-2 : (t : ℕ) → operands-need-lts.Need-same-length-2 (
-  source-at-reads.Asked,
-  source-at-reads.Learnt,
-  need-below t,
-  need.Post,
-  larger-reads.Asked,
-  larger-reads.Learnt,
-) (operands-need-at t) operands-need.Post operands-need-Inv-loop operands-need-μ-loop
-operands-need-same-length-2 t c = search needs
-
--- src/levels.rt:67:1
-operands-need-returns : (t : ℕ) → operands-need-lts.Need-returns (
-  source-at-reads.Asked,
-  source-at-reads.Learnt,
-  need-below t,
-  need.Post,
-  larger-reads.Asked,
-  larger-reads.Learnt,
-) (operands-need-at t) operands-need.Post operands-need-Inv-loop operands-need-μ-loop
+operands-need-returns : (t : ℕ) → operands-need-lts.Need-returns (operands-need-calls t) (operands-need-at t) operands-need.Post operands-need-Inv-loop operands-need-μ-loop
 operands-need-returns t c = (c .before .loop .inv .1, c .before .loop .inv .2, c .before .loop .inv .3, λ f ks b h. let w = c .before .loop .inv .4 f ks b h in (operands-end _ _ _ ks b _ _ (omega (arith, c .loop-test .left)) (w .1), w .2))
 
 pub +name-need+need+operands-need-spec : {M : Type 1} → statement M
 +name-need+need+operands-need-spec =
-    close μ-name-need μ-need μ-operands-need (λ t. name-need-lts.spec (
-      place-at-reads.Asked,
-      place-at-reads.Learnt,
-      index-at-reads.Asked,
-      index-at-reads.Learnt,
-      clause-at-reads.Asked,
-      clause-at-reads.Learnt,
-      matches-reads.Asked,
-      matches-reads.Learnt,
-      operands-need-below t,
-      operands-need.Post,
-    )
+    close μ-name-need μ-need μ-operands-need (λ t. name-need-lts.spec (name-need-calls t)
     (name-need-at t)
     name-need.Post
     (name-need-mul-key t)
@@ -956,60 +246,40 @@ pub +name-need+need+operands-need-spec : {M : Type 1} → statement M
     (name-need-add-result-2 t)
     (name-need-returns-2 t)
     (name-need-operands-need-requires t)
-    (name-need-same-length t)
-    (name-need-same-length-2 t)
+    (λ c. search needs)
+    (λ c. search needs)
     (name-need-returns-3 t))
-    (λ t. need-lts.spec (
-      recall-reads.Asked,
-      recall-reads.Learnt,
-      place-at-reads.Asked,
-      place-at-reads.Learnt,
-      class-need-reads.Asked,
-      class-need-reads.Learnt,
-      name-need-below t,
-      name-need.Post,
-      smaller-reads.Asked,
-      smaller-reads.Learnt,
-      keep-reads.Asked,
-      keep-reads.Learnt,
-    )
+    (λ t. need-lts.spec (need-calls t)
     (need-at t)
     need.Post
     need-Inv-loop
     need-μ-loop
     (need-recall-requires t)
-    (need-same-length t)
-    (need-same-length-2 t)
+    (λ c. search needs)
+    (λ c. search needs)
     (need-returns t)
     (need-place-at-requires t)
     (need-class-need-requires t)
-    (need-same-length-3 t)
-    (need-same-length-4 t)
+    (λ c. search needs)
+    (λ c. search needs)
     (need-returns-2 t)
-    (need-same-length-5 t)
-    (need-same-length-6 t)
+    (λ c. search needs)
+    (λ c. search needs)
     (need-returns-3 t)
     (need-loop-holds t)
     (need-sub-name-need t)
     (need-name-need-requires t)
-    (need-smaller-requires t)
+    (λ c κs. search needs)
     (need-add-name t)
     (need-loop-less t)
     (need-loop-again t)
     (need-add-keep t)
     (need-keep-requires t)
     (need-add-result t)
-    (need-same-length-7 t)
-    (need-same-length-8 t)
+    (λ c. search needs)
+    (λ c. search needs)
     (need-returns-4 t))
-    λ t. operands-need-lts.spec (
-      source-at-reads.Asked,
-      source-at-reads.Learnt,
-      need-below t,
-      need.Post,
-      larger-reads.Asked,
-      larger-reads.Learnt,
-    )
+    λ t. operands-need-lts.spec (operands-need-calls t)
     (operands-need-at t)
     operands-need.Post
     operands-need-Inv-loop
@@ -1025,9 +295,9 @@ pub +name-need+need+operands-need-spec : {M : Type 1} → statement M
     (operands-need-mul-at t)
     (operands-need-element-copy-out-at t)
     (operands-need-need-requires t)
-    (operands-need-larger-requires t)
+    (λ c κs. search needs)
     (operands-need-loop-less t)
     (operands-need-loop-again t)
-    (operands-need-same-length t)
-    (operands-need-same-length-2 t)
+    (λ c. search needs)
+    (λ c. search needs)
     (operands-need-returns t)

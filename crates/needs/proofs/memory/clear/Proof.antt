@@ -14,31 +14,12 @@ Inv-loop memory₀ i₀ memory i = (length memory ≡ length memory₀) × Blank
 abbrev μ-loop : tie.MeasureT-loop
 μ-loop memory₀ i₀ memory i = length memory₀ - i
 
--- src/memory.rt:96:5
 loop-holds : tie.Need-loop-holds Inv-loop μ-loop
 loop-holds c = (refl, blank-start _)
 
--- src/memory.rt:97:9
-slice-write-memory : tie.Need-slice-write-memory Inv-loop μ-loop
-slice-write-memory c = search needs
-
--- src/memory.rt:98:9
-add-i : tie.Need-add-i Inv-loop μ-loop
-add-i c = search needs
-
--- src/memory.rt:96:5
-loop-less : tie.Need-loop-less Inv-loop μ-loop
-loop-less c = search needs
-
--- src/memory.rt:96:5
 loop-again : tie.Need-loop-again Inv-loop μ-loop
 loop-again c = (search needs, blank-on _ _ (c .loop-test .taken) (c .before .loop .inv .1))
 
--- src/memory.rt:92:1
-same-length : tie.Need-same-length Inv-loop μ-loop
-same-length c = search needs
-
--- src/memory.rt:92:1
 returns : tie.Need-returns Inv-loop μ-loop
 returns c = (c .before .loop .inv .0, blank-end _ _ (c .loop-test .left) (c .before .loop .inv .1))
 
@@ -49,9 +30,9 @@ clear-spec =
     Inv-loop
     μ-loop
     loop-holds
-    slice-write-memory
-    add-i
-    loop-less
+    (λ c. search needs)
+    (λ c. search needs)
+    (λ c. search needs)
     loop-again
-    same-length
+    (λ c. search needs)
     returns)
