@@ -6,6 +6,7 @@ use mathlib.Core.Bool.{Bool, true, false, cond}
 use mathlib.Core.List.{List, [], _∷_}
 use mathlib.Core.Option.{Option, none, some}
 use native.Mathlib.Omega.{arith}
+use native.Mathlib.Decide.{decLe}
 use lib.Dec.{leb}
 use lib.ListN.{length, getD, drop, drop-of-length-le, replicate, getD-replicate}
 use borrow.Author.Tests.{le-leb, lt-leb}
@@ -26,10 +27,10 @@ use Rattle.translation.specs.Running.{Clauses, clausesOf, run}
 use Rattle.emitter.specs.Inner.Table.{indexEntry, clauseEntry, sourceByte, Production}
 use Rattle.index.specs.Inner.Lying.{Lies}
 use Rattle.index.proofs.Lying.{first-byte}
-use Rattle.sources.specs.Inner.Goals.{Goal, Meets, Matches}
+use Rattle.sources.specs.Inner.Goals.{Goal, Meets, Matches, Fits}
 use Rattle.sources.specs.Inner.Levels.{Needs, NeedsAll, NeedsNamed, recalled, noted}
 use Rattle.sources.proofs.Memory.{recall-needs}
-use Rattle.sources.proofs.Answers.{needs-nil, needs-cons, needs-node, needs-unknown, needs-unmatched, names-none, names-both, Named, needs-zero, needs-kind}
+use Rattle.sources.proofs.Answers.{needs-nil, needs-cons, needs-node, needs-unknown, needs-unmatched, names-none, fits-more, Named, needs-zero, needs-kind}
 use Rattle.sources.proofs.Tokens.{class-token, ValueFor, needs-token, needs-no-token}
 use Rattle.needs.specs.Inner.Setting.{Asked, Truthful, Setting, valueAt, Seeks, SeeksAll}
 use Rattle.needs.specs.Inner.Clauses.{Bound, MatchAsks, MatchGives}
@@ -160,11 +161,30 @@ names-start l f m k g e = let a : suc (m - 1) ≡ m = omega arith in ap-needs a 
     ap-needs : {x y : ℕ} → x ≡ y → NeedsNamed l f (m - 1) k 0 0 g x → NeedsNamed l f (m - 1) k 0 0 g y
     ap-needs e q = rw e at q
 
-pub names-next : (l : Language) (f : Clauses) (m k : ℕ) (g : Goal) (name best n r : ℕ)
-    → NeedsNamed l f m k 0 name g best → NeedsNamed l f m k name (suc name) g n → r ≡ min n best → NeedsNamed l f m k 0 (name + 1) g r
-names-next l f m k g name best n r a b e =
-    let z : name + 1 ≡ suc name = omega arith in
-    rw (z, e) (names-both l f m k g 0 name (suc name) best n (omega arith) (omega arith) a b)
+-- Behind names that need `best` levels, one of which it is asked whether it needs less.
+module _ (l : Language) (f : Clauses) (m k : ℕ) (g : Goal) (name best n r : ℕ) (some-best : 0 < best) (a : NeedsNamed l f m k 0 name g best)
+    (b : NeedsNamed l f (best - 1) k name (suc name) g n) (past : name < r) (one : 0 < n → r ≡ name + 1) where
+  found-less : n ≤ m → Dec (best ≤ n) → (q : ℕ) × (0 ≤ q) × (q < r) × (s : Codes) × Fits l f (suc n) k g (node k q s)
+  found-less i (yes e) =
+      let z : n ≡ best = let y = b .bound in omega arith in
+      let t = a .finds (omega arith) in
+      (t .0, omega arith, omega (arith, t .2), t .3, fits-more (omega arith) (t .4))
+  found-less i (no e) = let t = b .finds (omega arith) in (t .0, omega arith, omega (arith, t .2), t .3, t .4)
+
+  none-less : (x q : ℕ) (s : Codes) → x ≤ m → q < r → Fits l f (suc x) k g (node k q s) → Dec (suc q ≤ name) → Dec (n ≤ x) → n ≤ x
+  none-less x q s i j w d (yes e) = e
+  none-less x q s i j w (yes d) (no e) = let z = a .least x q s i (omega arith) d w in let y = b .bound in omega arith
+  none-less x q s i j w (no d) (no e) =
+      let o = one (omega arith) in
+      let y = b .bound in
+      b .least x q s (omega arith) (omega arith) (omega arith) w
+
+  pub names-next : NeedsNamed l f m k 0 r g n
+  names-next = record {
+    bound = let x = a .bound in let y = b .bound in omega arith;
+    finds = λ i. found-less i (decLe best n);
+    least = λ x q s i u j w. none-less x q s i j w (decLe (suc q) name) (decLe n x);
+  }
 
 -- name_need
 module _ (table source index target places kinds bytes memory free : List ℕ) (k at : ℕ) (f : Translation) (g : Goal)

@@ -14,7 +14,7 @@ use reader::node::place_at;
 ghost use mathlib.Core.Path.{_≡_};
 ghost use mathlib.Core.Bool.{cond};
 ghost use mathlib.Core.List.{List};
-ghost use Prim.Native.Nat.{ℕ, suc, min, max, _+_, _-_, _*_, _<_, _≤_};
+ghost use Prim.Native.Nat.{ℕ, suc, max, _+_, _-_, _*_, _<_, _≤_};
 ghost use lib.ListN.{length};
 ghost use Rattle.language.specs.Language.{inRange};
 ghost use Rattle.language.specs.Inner.Entries.{IsClass, classRange};
@@ -49,11 +49,15 @@ fn class_need(source: &[u8], class: usize, tree: &[u8], at: usize, m: usize) -> 
     m + 1
 }
 
-// The smaller of two numbers.
-fn smaller(a: usize, b: usize) -> usize
-    ensures { λ r. ⌜ r ≡ min a b ⌝ }
+// The name to go on with behind a name: none is left where no tree can need less.
+fn next_name(name: usize, best: usize) -> usize
+    requires { ⌜ name < 256 ⌝ }
+    ensures { λ r. ⌜ (name < r) × (r ≤ 256) × (r < 256 → 0 < best) × (0 < best → r ≡ name + 1) ⌝ }
 {
-    if a < b { a } else { b }
+    if best == 0 {
+        return NAMES;
+    }
+    name + 1
 }
 
 // The larger of two numbers.
@@ -165,7 +169,8 @@ pub fn name_need(
     )
 }
 
-// The least levels at which a source tree of the kind gives what is asked at a position, where m count; m + 1 for none.
+// The least levels at which a source tree of the kind gives what is asked at a position, where m count; m + 1 for none. Of
+// each name it is asked only whether it needs less than those before it.
 pub fn need(
     table: &[u16; TABLE],
     source: &[u8],
@@ -199,7 +204,7 @@ pub fn need(
     let mut best = m;
     let mut name = 0;
     while name < NAMES {
-        let n = name_need(
+        best = name_need(
             table,
             source,
             index,
@@ -212,10 +217,9 @@ pub fn need(
             kind,
             name,
             at,
-            m - 1,
+            best - 1,
         );
-        best = smaller(n, best);
-        name += 1;
+        name = next_name(name, best);
     }
     keep(memory, free, tree.len(), kind, at, m, best + 1);
     best + 1

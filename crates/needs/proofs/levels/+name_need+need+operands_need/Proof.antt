@@ -31,7 +31,7 @@ use Rattle.reader.proofs.node.place_at.Reads as place-at-reads
 use Rattle.needs.proofs.clause.matches.Reads as matches-reads
 use Rattle.needs.proofs.levels.class_need.Reads as class-need-reads
 use Rattle.needs.proofs.levels.larger.Reads as larger-reads
-use Rattle.needs.proofs.levels.smaller.Reads as smaller-reads
+use Rattle.needs.proofs.levels.next_name.Reads as next-name-reads
 use Rattle.needs.proofs.memory.keep.Reads as keep-reads
 use Rattle.needs.proofs.memory.recall.Reads as recall-reads
 use Rattle.needs.proofs.levels.+name_need+need+operands_need.{statement}
@@ -79,7 +79,7 @@ abbrev name-need-calls : ℕ → name-need-lts.Claims
 name-need-calls t = (place-at-reads.Asked, place-at-reads.Learnt, index-at-reads.Asked, index-at-reads.Learnt, clause-at-reads.Asked, clause-at-reads.Learnt, matches-reads.Asked, matches-reads.Learnt, operands-need-below t, operands-need.Post)
 
 abbrev need-calls : ℕ → need-lts.Claims
-need-calls t = (recall-reads.Asked, recall-reads.Learnt, place-at-reads.Asked, place-at-reads.Learnt, class-need-reads.Asked, class-need-reads.Learnt, name-need-below t, name-need.Post, smaller-reads.Asked, smaller-reads.Learnt, keep-reads.Asked, keep-reads.Learnt)
+need-calls t = (recall-reads.Asked, recall-reads.Learnt, place-at-reads.Asked, place-at-reads.Learnt, class-need-reads.Asked, class-need-reads.Learnt, name-need-below t, name-need.Post, next-name-reads.Asked, next-name-reads.Learnt, keep-reads.Asked, keep-reads.Learnt)
 
 abbrev operands-need-calls : ℕ → operands-need-lts.Claims
 operands-need-calls t = (source-at-reads.Asked, source-at-reads.Learnt, need-below t, need.Post, larger-reads.Asked, larger-reads.Learnt)
@@ -125,7 +125,7 @@ name-need-returns-3 t c = (c .before .before .before .before .operands-need .ens
 
 abbrev need-Inv-loop : need-lts.InvT-loop
 need-Inv-loop table source index target places kinds tree memory₀ free₀ kind at m known class best₀ name₀ memory free best name =
-    (name ≤ 256) × (best ≤ m) × (length memory ≡ length memory₀) × (length free ≡ length free₀) × ((f : Translation) (g : Goal) → Seeks table source index target places kinds tree memory₀ free₀ kind at f g → NeedsNamed (f .source) (clausesOf f) (m - 1) kind 0 name g best × Truthful f tree memory free)
+    (name ≤ 256) × ((best ≤ m) × (name < 256 → 0 < best)) × (length memory ≡ length memory₀) × (length free ≡ length free₀) × ((f : Translation) (g : Goal) → Seeks table source index target places kinds tree memory₀ free₀ kind at f g → NeedsNamed (f .source) (clausesOf f) (m - 1) kind 0 name g best × Truthful f tree memory free)
 
 abbrev need-μ-loop : need-lts.MeasureT-loop
 need-μ-loop table source index target places kinds tree memory₀ free₀ kind at m known class best₀ name₀ memory free best name =
@@ -150,34 +150,34 @@ need-returns-3 : (t : ℕ) → need-lts.Need-returns-3 (need-calls t) (need-at t
 need-returns-3 t c = (omega arith, refl, refl, λ f g h. (zero-levels _ _ _ _ _ _ _ _ _ _ _ f g h (plain _ _ _ _ _ _ _ _ _ _ _ f g h _ (c .before .before .place-at .ensures) (c .before .if2 .left)) _ (c .if3 .taken), h .truthful))
 
 need-loop-holds : (t : ℕ) → need-lts.Need-loop-holds (need-calls t) (need-at t) need.Post need-Inv-loop need-μ-loop
-need-loop-holds t c = (omega arith, omega arith, refl, refl, λ f g h. (names-start _ _ _ _ g (c .if3 .left), h .truthful))
+need-loop-holds t c = (omega arith, (omega arith, λ q. omega (arith, c .if3 .left)), refl, refl, λ f g h. (names-start _ _ _ _ g (c .if3 .left), h .truthful))
 
 need-sub-name-need : (t : ℕ) → need-lts.Need-sub-name-need (need-calls t) (need-at t) need.Post need-Inv-loop need-μ-loop
-need-sub-name-need t c = let x = c .before .before .before .before .if3 .left in omega arith
+need-sub-name-need t c = let x = c .before .before .before .loop .inv .1 .1 (c .before .before .loop-test .taken) in omega arith
 
 need-name-need-requires : (t : ℕ) → need-lts.Need-name-need-requires (need-calls t) (need-at t) need.Post need-Inv-loop need-μ-loop
-need-name-need-requires t c κs = let q = c .before .before .before .before .before .before .before .before .before .before .before .before .before .before .before .before .before .before .before .pre .1 .1 in let x = c .before .before .before .before .if3 .left in (omega (arith, c .before .before .before .before .before .before .before .before .before .before .before .before .before .before .before .before .before .before .before .pre .0), (omega (arith, c .before .before .before .before .before .before .before .before .before .before .before .before .before .before .before .before .before .before .before .pre .1 .0), c .before .before .loop-test .taken, (q .0, q .1, seeks-still _ _ _ _ _ _ _ _ _ _ _ (q .0) (q .1) (q .2) _ _ (c .before .before .before .loop .inv .4 (q .0) (q .1) (q .2) .1))))
+need-name-need-requires t c κs = let q = c .before .before .before .before .before .before .before .before .before .before .before .before .before .before .before .before .before .before .before .pre .1 .1 in let x = c .before .before .before .loop .inv .1 .1 (c .before .before .loop-test .taken) in let y = c .before .before .before .loop .inv .1 .0 in (omega (arith, c .before .before .before .before .before .before .before .before .before .before .before .before .before .before .before .before .before .before .before .pre .0), (omega (arith, c .before .before .before .before .before .before .before .before .before .before .before .before .before .before .before .before .before .before .before .pre .1 .0), c .before .before .loop-test .taken, (q .0, q .1, seeks-still _ _ _ _ _ _ _ _ _ _ _ (q .0) (q .1) (q .2) _ _ (c .before .before .before .loop .inv .4 (q .0) (q .1) (q .2) .1))))
 
-need-add-name : (t : ℕ) → need-lts.Need-add-name (need-calls t) (need-at t) need.Post need-Inv-loop need-μ-loop
-need-add-name t c = let x = c .before .before .before .before .before .before .before .before .loop-test .taken in omega arith
+need-next-name-requires : (t : ℕ) → need-lts.Need-next-name-requires (need-calls t) (need-at t) need.Post need-Inv-loop need-μ-loop
+need-next-name-requires t c κs = c .before .before .before .before .before .before .before .loop-test .taken
 
 need-loop-less : (t : ℕ) → need-lts.Need-loop-less (need-calls t) (need-at t) need.Post need-Inv-loop need-μ-loop
-need-loop-less t c = let x = c .before .before .before .before .before .before .before .before .loop-test .taken in omega arith
+need-loop-less t c = let x = c .before .before .before .before .before .before .before .before .loop-test .taken in omega (arith, c .next-name .ensures .0)
 
 need-loop-again : (t : ℕ) → need-lts.Need-loop-again (need-calls t) (need-at t) need.Post need-Inv-loop need-μ-loop
-need-loop-again t c = (omega (arith, c .before .before .before .before .before .before .before .before .loop-test .taken), omega (arith, c .smaller .ensures, c .before .before .before .before .before .before .before .before .before .loop .inv .1), c .before .before .before .before .before .name-need .ensures .1 ∙ c .before .before .before .before .before .before .before .before .before .loop .inv .2, c .before .before .before .before .before .name-need .ensures .2 ∙ c .before .before .before .before .before .before .before .before .before .loop .inv .3, λ f g h. let w = c .before .before .before .before .before .before .before .before .before .loop .inv .4 f g h in let r = c .before .before .before .before .before .name-need .ensures .3 f g (seeks-still _ _ _ _ _ _ _ _ _ _ _ f g h _ _ (w .1)) in (names-next _ _ _ _ g _ _ _ _ (w .0) (r .0) (c .smaller .ensures), r .1))
+need-loop-again t c = (c .next-name .ensures .1, (omega (arith, c .before .before .before .before .before .name-need .ensures .0, c .before .before .before .before .before .before .before .before .before .loop .inv .1 .0, c .before .before .before .before .before .before .before .before .before .loop .inv .1 .1 (c .before .before .before .before .before .before .before .before .loop-test .taken)), c .next-name .ensures .2), c .before .before .before .before .before .name-need .ensures .1 ∙ c .before .before .before .before .before .before .before .before .before .loop .inv .2, c .before .before .before .before .before .name-need .ensures .2 ∙ c .before .before .before .before .before .before .before .before .before .loop .inv .3, λ f g h. let w = c .before .before .before .before .before .before .before .before .before .loop .inv .4 f g h in let r = c .before .before .before .before .before .name-need .ensures .3 f g (seeks-still _ _ _ _ _ _ _ _ _ _ _ f g h _ _ (w .1)) in (names-next _ _ _ _ g _ _ _ _ (c .before .before .before .before .before .before .before .before .before .loop .inv .1 .1 (c .before .before .before .before .before .before .before .before .loop-test .taken)) (w .0) (r .0) (c .next-name .ensures .0) (c .next-name .ensures .3), r .1))
 
 need-add-keep : (t : ℕ) → need-lts.Need-add-keep (need-calls t) (need-at t) need.Post need-Inv-loop need-μ-loop
-need-add-keep t c = let x = c .before .before .before .loop .inv .1 in let y = c .before .before .before .before .before .before .before .before .before .before .before .before .before .before .before .before .before .before .before .pre .1 .0 in omega arith
+need-add-keep t c = let x = c .before .before .before .loop .inv .1 .0 in let y = c .before .before .before .before .before .before .before .before .before .before .before .before .before .before .before .before .before .before .before .pre .1 .0 in omega arith
 
 need-keep-requires : (t : ℕ) → need-lts.Need-keep-requires (need-calls t) (need-at t) need.Post need-Inv-loop need-μ-loop
-need-keep-requires t c κs = let q = c .before .before .before .before .before .before .before .before .before .before .before .before .before .before .before .before .before .before .before .pre .1 .1 in (c .before .before .before .loop .inv .4 (q .0) (q .1) (q .2) .1 .long, q .2 .kind, c .before .before .before .before .before .before .before .before .before .before .before .before .before .before .before .before .before .before .before .pre .1 .0, omega (arith, c .before .before .before .loop .inv .1))
+need-keep-requires t c κs = let q = c .before .before .before .before .before .before .before .before .before .before .before .before .before .before .before .before .before .before .before .pre .1 .1 in (c .before .before .before .loop .inv .4 (q .0) (q .1) (q .2) .1 .long, q .2 .kind, c .before .before .before .before .before .before .before .before .before .before .before .before .before .before .before .before .before .before .before .pre .1 .0, omega (arith, c .before .before .before .loop .inv .1 .0))
 
 need-add-result : (t : ℕ) → need-lts.Need-add-result (need-calls t) (need-at t) need.Post need-Inv-loop need-μ-loop
-need-add-result t c = let x = c .before .before .before .before .before .before .before .before .loop .inv .1 in let y = c .before .before .before .before .before .before .before .before .before .before .before .before .before .before .before .before .before .before .before .before .before .before .before .before .pre .1 .0 in omega arith
+need-add-result t c = let x = c .before .before .before .before .before .before .before .before .loop .inv .1 .0 in let y = c .before .before .before .before .before .before .before .before .before .before .before .before .before .before .before .before .before .before .before .before .before .before .before .before .pre .1 .0 in omega arith
 
 need-returns-4 : (t : ℕ) → need-lts.Need-returns-4 (need-calls t) (need-at t) need.Post need-Inv-loop need-μ-loop
-need-returns-4 t c = let q = c .before .before .before .before .before .before .before .before .before .before .before .before .before .before .before .before .before .before .before .before .before .before .before .before .pre .1 .1 in let k = kept-long _ _ _ _ _ _ in (omega (arith, c .before .before .before .before .before .before .before .before .loop .inv .1), ap-long (c .before .before .before .before .keep .ensures .0) (k .0) ∙ c .before .before .before .before .before .before .before .before .loop .inv .2, ap-long (c .before .before .before .before .keep .ensures .1) (k .1) ∙ c .before .before .before .before .before .before .before .before .loop .inv .3, λ f g h. let w = c .before .before .before .before .before .before .before .before .loop .inv .4 f g h in let n = all-names _ _ _ _ _ _ _ _ _ _ _ f g h (plain _ _ _ _ _ _ _ _ _ _ _ f g h _ (c .before .before .before .before .before .before .before .before .before .before .before .place-at .ensures) (c .before .before .before .before .before .before .before .before .before .before .if2 .left)) _ (c .before .before .before .before .before .before .before .before .before .if3 .left) _ _ (c .before .before .before .before .before .before .before .loop-test .left) (c .before .before .before .before .before .before .before .before .loop .inv .0) (w .0) in (n, same-truth (c .before .before .before .before .keep .ensures .0) (c .before .before .before .before .keep .ensures .1) (keeps-true _ _ _ _ _ _ _ _ _ _ _ f g h _ _ (w .1) _ _ (c .before .before .before .before .before .before .before .before .before .before .before .before .before .before .before .before .before .before .before .before .before .before .before .before .pre .1 .0) n)))
+need-returns-4 t c = let q = c .before .before .before .before .before .before .before .before .before .before .before .before .before .before .before .before .before .before .before .before .before .before .before .before .pre .1 .1 in let k = kept-long _ _ _ _ _ _ in (omega (arith, c .before .before .before .before .before .before .before .before .loop .inv .1 .0), ap-long (c .before .before .before .before .keep .ensures .0) (k .0) ∙ c .before .before .before .before .before .before .before .before .loop .inv .2, ap-long (c .before .before .before .before .keep .ensures .1) (k .1) ∙ c .before .before .before .before .before .before .before .before .loop .inv .3, λ f g h. let w = c .before .before .before .before .before .before .before .before .loop .inv .4 f g h in let n = all-names _ _ _ _ _ _ _ _ _ _ _ f g h (plain _ _ _ _ _ _ _ _ _ _ _ f g h _ (c .before .before .before .before .before .before .before .before .before .before .before .place-at .ensures) (c .before .before .before .before .before .before .before .before .before .before .if2 .left)) _ (c .before .before .before .before .before .before .before .before .before .if3 .left) _ _ (c .before .before .before .before .before .before .before .loop-test .left) (c .before .before .before .before .before .before .before .before .loop .inv .0) (w .0) in (n, same-truth (c .before .before .before .before .keep .ensures .0) (c .before .before .before .before .keep .ensures .1) (keeps-true _ _ _ _ _ _ _ _ _ _ _ f g h _ _ (w .1) _ _ (c .before .before .before .before .before .before .before .before .before .before .before .before .before .before .before .before .before .before .before .before .before .before .before .before .pre .1 .0) n)))
 
 abbrev operands-need-Inv-loop : operands-need-lts.InvT-loop
 operands-need-Inv-loop table source index target places kinds tree memory₀ free₀ place bound m j₀ most₀ memory free j most =
@@ -269,8 +269,7 @@ pub +name-need+need+operands-need-spec : {M : Type 1} → statement M
     (need-loop-holds t)
     (need-sub-name-need t)
     (need-name-need-requires t)
-    (λ c κs. search needs)
-    (need-add-name t)
+    (need-next-name-requires t)
     (need-loop-less t)
     (need-loop-again t)
     (need-add-keep t)
