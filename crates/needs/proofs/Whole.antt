@@ -52,7 +52,7 @@ pub record Going (table bytes bound : List ℕ) (c stop to : ℕ) (f : Translati
 
 module _ (table target places kinds bytes bound : List ℕ) (place clause at : ℕ) (f : Translation) (k p : ℕ) (ks : List ℕ) (g : Goal)
     (h : MatchAsks table target places kinds bytes bound place clause at f k p ks g) where
-  production : Production table place ks
+  pub production : Production table place ks
   production = rw (h .place-is) (h .targeted .ready .production k p ks (h .kind) (h .name) (h .known))
 
   pub the-clause : Clause table clause (clausesOf f k p)
@@ -82,7 +82,7 @@ module _ (table target places kinds bytes bound : List ℕ) (place clause at : �
 
   -- The whole code and the whole tree.
   module _ (there : at < length bytes) (stop : ℕ) (ends : stop ≡ clauseEnd table clause) where
-    whole-ends : stop ≡ clause + 4 + length (write code (clausesOf f k p))
+    pub whole-ends : stop ≡ clause + 4 + length (write code (clausesOf f k p))
     whole-ends = let x = the-clause .size in omega arith
 
     whole-row : (u : Code) → Lies (f .target) bytes at (mapped (f .body) k) u

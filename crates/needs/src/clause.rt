@@ -104,7 +104,8 @@ fn step(
     to + 2
 }
 
-// Whether the clause of a production matches what is asked at a position; its arguments are bound to what they come at.
+// Whether the clause of a production matches what is asked at a position; its arguments are bound to what they come at. A code
+// that is an argument alone is bound to the whole tree there.
 pub fn matches(
     table: &[u16; TABLE],
     target: &[u8],
@@ -121,6 +122,10 @@ pub fn matches(
         → MatchGives (now (tree .entry)) (now (bound .exit)) r f k p ks g) ⌝ }
 {
     if tree.len() <= at {
+        return true;
+    }
+    if body_at(table, clause + 4) == 3 {
+        bound[body_at(table, clause + 5) - 1] = at;
         return true;
     }
     let stop = clause_end(table, clause);

@@ -15,51 +15,39 @@ Inv-loop index kind name best next₀ next = (name < next) × (next ≤ 256) × 
 abbrev μ-loop : tie.MeasureT-loop
 μ-loop index kind name best next₀ next = 256 - next
 
--- src/levels.rt:59:9
 returns : tie.Need-returns Inv-loop μ-loop
 returns c = (omega arith, omega arith, λ q. omega arith, λ q. omega arith)
 
--- src/levels.rt:61:20
 add-next : tie.Need-add-next Inv-loop μ-loop
 add-next c = omega arith
 
--- src/levels.rt:62:5
 loop-holds : tie.Need-loop-holds Inv-loop μ-loop
 loop-holds c = (omega arith, omega arith, unnamed-start _ _ _ _ refl)
 
--- src/levels.rt:63:34
 mul-place-at : tie.Need-mul-place-at Inv-loop μ-loop
 mul-place-at c = let k = c .before .before .before .before .pre .1 in omega arith
 
--- src/levels.rt:63:34
 add-place-at : tie.Need-add-place-at Inv-loop μ-loop
 add-place-at c = let k = c .before .before .before .before .pre .1 in let t = c .loop-test .taken in omega arith
 
--- src/levels.rt:63:28
 add-place-at-2 : tie.Need-add-place-at-2 Inv-loop μ-loop
 add-place-at-2 c = let k = c .before .before .before .before .pre .1 in let t = c .loop-test .taken in omega arith
 
--- src/levels.rt:63:12
 place-at-requires : tie.Need-place-at-requires Inv-loop μ-loop
 place-at-requires c κs = let l = c .before .before .before .before .pre .0 in let k = c .before .before .before .before .pre .1 in let t = c .loop-test .taken in omega arith
 
--- src/levels.rt:64:13
 returns-2 : tie.Need-returns-2 Inv-loop μ-loop
 returns-2 c = (omega (arith, c .before .before .before .loop .inv .0), omega (arith, c .before .before .before .loop .inv .1), λ q. omega (arith, c .before .before .before .before .if1 .left), λ q. c .before .before .before .loop .inv .2)
 
--- src/levels.rt:66:9
 add-next-2 : tie.Need-add-next-2 Inv-loop μ-loop
 add-next-2 c = let t = c .before .before .loop-test .taken in omega arith
 
--- src/levels.rt:62:5
 loop-less : tie.Need-loop-less Inv-loop μ-loop
 loop-less c = let t = c .before .before .loop-test .taken in omega arith
 
--- src/levels.rt:62:5
 loop-again : tie.Need-loop-again Inv-loop μ-loop
 loop-again c = (omega (arith, c .before .before .before .loop .inv .0), omega (arith, c .before .before .loop-test .taken), unnamed-next _ _ _ _ (c .before .place-at .ensures) (c .if2 .left) (c .before .before .before .loop .inv .2))
 
--- src/levels.rt:54:1
 returns-3 : tie.Need-returns-3 Inv-loop μ-loop
 returns-3 c = (omega (arith, c .before .loop .inv .0, c .before .before .before .before .pre .2), omega arith, λ q. omega arith, λ q. unnamed-end _ _ _ _ _ (c .loop-test .left) (c .before .loop .inv .1) refl (c .before .loop .inv .2))
 
