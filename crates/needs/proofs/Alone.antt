@@ -1,10 +1,10 @@
 -- A code that is an argument alone: it matches any tree, to which the argument is bound.
-use Prim.Native.Nat.{ℕ, suc, _+_, _-_, _≤_, _<_}
-use mathlib.Core.Path.{_≡_, refl, ap, sym, _∙_}
+use Prim.Native.Nat.{ℕ, _+_, _-_, _≤_, _<_}
+use mathlib.Core.Path.{_≡_, refl, ap, _∙_}
 use mathlib.Core.Bool.{true}
-use mathlib.Core.List.{List, []}
+use mathlib.Core.List.{List}
 use native.Mathlib.Omega.{arith}
-use lib.ListN.{length, getD, set}
+use lib.ListN.{length, set}
 use Rattle.reader.specs.Code.{Code, node, token, argument}
 use Rattle.reader.specs.Syntax.{write, tree, code}
 use Rattle.translation.specs.Translation.{Translation}
@@ -13,7 +13,7 @@ use Rattle.emitter.specs.Inner.Stands.{Stands}
 use Rattle.emitter.specs.Inner.Table.{bodyStart, bodyByte, clauseEnd}
 use Rattle.emitter.proofs.Standing.{stands-head}
 use Rattle.sources.specs.Inner.Goals.{Goal}
-use Rattle.needs.specs.Inner.Clauses.{ArgumentAsks, ArgumentGives, StepAsks, StepGives, MatchAsks, MatchGives}
+use Rattle.needs.specs.Inner.Clauses.{StepAsks, StepGives, MatchAsks, MatchGives}
 use Rattle.needs.proofs.Lying.{some-byte}
 use Rattle.needs.proofs.Steps.{argument-new, width-other}
 use Rattle.needs.proofs.Turns.{argument-next, number-there, number-is, argument-asks, argument-step}

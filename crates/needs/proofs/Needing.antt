@@ -1,39 +1,36 @@
 -- The least levels: a law for each return and turn of the functions of `levels`.
-use Prim.Native.Nat.{ℕ, zero, suc, max, _+_, _-_, _*_, _/_, _%_, _≤_, _<_}
+use Prim.Native.Nat.{ℕ, zero, suc, max, _+_, _-_, _/_, _%_, _≤_, _<_}
 use mathlib.Core.Path.{_≡_, refl, ap, sym, subst, _∙_}
 use mathlib.Core.Logic.{_⊎_, inl, inr}
 use mathlib.Core.Bool.{Bool, true, false, cond}
-use mathlib.Core.List.{List, [], _∷_}
-use mathlib.Core.Option.{Option, none, some}
+use mathlib.Core.List.{List, _∷_}
+use mathlib.Core.Option.{none, some}
 use native.Mathlib.Omega.{arith}
 use native.Mathlib.Decide.{decLe}
-use lib.Dec.{leb}
 use lib.ListN.{length, getD, drop, drop-of-length-le, replicate, getD-replicate}
 use borrow.Author.Tests.{le-leb, lt-leb}
 use Rattle.fields.specs.Fields.{pairAt}
 use Rattle.fields.specs.Inner.Places.{fieldEnd}
 use Rattle.fields.proofs.Split.{front}
-use Rattle.fields.proofs.Truth.{none-some, some-inj}
-use Rattle.language.specs.Language.{Language, Range, rangeOf, argumentsOf, inRange, kindKey, productionKey}
+use Rattle.language.specs.Language.{Language, rangeOf, argumentsOf, inRange, productionKey}
 use Rattle.language.specs.Inner.Entries.{IsClass, classRange}
-use Rattle.reader.specs.Code.{Code, node, token, Codes}
-use Rattle.reader.specs.Typing.{TypedAll}
-use Rattle.reader.specs.Inner.Index.{Indexed, rangeBefore, argumentsBefore}
-use Rattle.reader.specs.Syntax.{write, tree}
+use Rattle.reader.specs.Code.{node, token, Codes}
+use Rattle.reader.specs.Inner.Index.{rangeBefore, argumentsBefore}
+use Rattle.reader.specs.Syntax.{write}
 use Rattle.reader.proofs.RoundTrip.{Apart}
 use Rattle.reader.proofs.Larger.{apart}
 use Rattle.translation.specs.Translation.{Translation, mapped}
-use Rattle.translation.specs.Running.{Clauses, clausesOf, run}
-use Rattle.emitter.specs.Inner.Table.{indexEntry, clauseEntry, sourceByte, Production}
+use Rattle.translation.specs.Running.{Clauses, clausesOf}
+use Rattle.emitter.specs.Inner.Table.{indexEntry, clauseEntry, sourceByte}
 use Rattle.index.specs.Inner.Lying.{Lies}
 use Rattle.index.proofs.Lying.{first-byte}
-use Rattle.sources.specs.Inner.Goals.{Goal, Meets, Matches, Fits}
+use Rattle.sources.specs.Inner.Goals.{Goal, Fits}
 use Rattle.sources.specs.Inner.Levels.{Needs, NeedsAll, NeedsNamed, recalled, noted}
 use Rattle.sources.proofs.Memory.{recall-needs}
-use Rattle.sources.proofs.Answers.{needs-nil, needs-cons, needs-node, needs-unknown, needs-unmatched, names-none, fits-more, Named, needs-zero, needs-kind}
+use Rattle.sources.proofs.Answers.{needs-nil, needs-cons, needs-node, needs-unknown, needs-unmatched, names-none, fits-more, needs-zero, needs-kind}
 use Rattle.sources.proofs.Tokens.{class-token, ValueFor, needs-token, needs-no-token}
-use Rattle.needs.specs.Inner.Setting.{Asked, Truthful, Setting, Unnamed, valueAt, Seeks, SeeksAll}
-use Rattle.needs.specs.Inner.Clauses.{Bound, MatchAsks, MatchGives}
+use Rattle.needs.specs.Inner.Setting.{Asked, Truthful, Unnamed, valueAt, Seeks, SeeksAll}
+use Rattle.needs.specs.Inner.Clauses.{MatchAsks, MatchGives}
 use Rattle.needs.specs.Inner.Memory.{byteFor, memoryWith, freeWith}
 use Rattle.needs.proofs.Truths.{byte-says, kept-true}
 use Rattle.needs.proofs.Turns.{kind-byte}

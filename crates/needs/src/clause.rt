@@ -15,7 +15,6 @@ ghost use lib.ListN.{length, take, drop};
 ghost use Rattle.reader.specs.Code.{Code, Codes};
 ghost use Rattle.translation.specs.Translation.{Translation};
 ghost use Rattle.sources.specs.Inner.Goals.{Goal};
-ghost use Rattle.emitter.specs.Inner.Table.{bodyByte};
 ghost use Rattle.needs.specs.Inner.Clauses.{ArgumentAsks, ArgumentGives, width, StepAsks, StepGives, MatchAsks, MatchGives};
 
 // Whether the n bytes from a on are those from b on.

@@ -1,15 +1,15 @@
 -- The least levels and the first trees, step by step: of operands, of a name, of the names of a kind, of a class.
-use Prim.Native.Nat.{ℕ, zero, suc, max, _+_, _≤_, _<_}
+use Prim.Native.Nat.{ℕ, zero, suc, max, _≤_, _<_}
 use mathlib.Core.Path.{_≡_, refl, ap, sym, _∙_}
 use mathlib.Core.Logic.{inl}
 use mathlib.Core.List.{List, [], _∷_}
-use mathlib.Core.Option.{Option, none, some}
+use mathlib.Core.Option.{none, some}
 use native.Mathlib.Omega.{arith}
 use Rattle.fields.proofs.Truth.{none-some, some-inj}
-use Rattle.language.specs.Language.{Language, Range, rangeOf, argumentsOf, inRange}
-use Rattle.reader.specs.Code.{Code, node, token, argument, Codes, nil, cons, levels, levelsAll}
+use Rattle.language.specs.Language.{Language, rangeOf, argumentsOf}
+use Rattle.reader.specs.Code.{Code, node, Codes, nil, cons, levels, levelsAll}
 use Rattle.reader.specs.Typing.{kindAt, Typed, TypedAll, typed-node, typed-token, typed-argument, typed-nil, typed-cons}
-use Rattle.translation.specs.Running.{Clauses, run}
+use Rattle.translation.specs.Running.{Clauses}
 use Rattle.sources.specs.Inner.Order.{UptoAll}
 use Rattle.sources.specs.Inner.Goals.{Goal, Meets, MeetsAll, Fits, FitsAll, First, FirstAll, Matches}
 use Rattle.sources.specs.Inner.Levels.{Needs, NeedsAll, NeedsNamed}
