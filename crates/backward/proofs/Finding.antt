@@ -1,24 +1,23 @@
 -- The first source tree by the definitions is the first by its levels, names and operands.
 use Prim.Native.Nat.{ℕ, max}
-use mathlib.Core.Path.{_≡_, refl, ap, sym, _∙_}
-use mathlib.Core.Bool.{Bool, true, false}
-use mathlib.Core.List.{List, [], _∷_, _++_, map}
-use mathlib.Core.Option.{Option, none, some}
+use mathlib.Core.Path.{_≡_, ap, sym, _∙_}
+use mathlib.Core.List.{List, [], _++_}
+use mathlib.Core.Option.{none, some}
 use native.Mathlib.Omega.{arith}
 use Rattle.fields.specs.Lists.{keep, sameNumbers}
-use Rattle.fields.proofs.Truth.{Mem, none-some, some-inj, keep-cases, mem-keep, mem-map, map-cases, numbers-equal, equal-numbers}
+use Rattle.fields.proofs.Truth.{Mem, keep-cases, mem-keep, mem-map, map-cases, numbers-equal, equal-numbers}
 use Rattle.language.specs.Language.{Language}
 use Rattle.reader.specs.Code.{Code, levels}
 use Rattle.reader.specs.Typing.{Typed}
 use Rattle.reader.specs.Syntax.{write, tree, done, read}
 use Rattle.reader.proofs.RoundTrip.{Apart, round, as-tree}
 use Rattle.translation.specs.Translation.{Translation, mapped}
-use Rattle.translation.specs.Running.{clausesOf, run, transform}
+use Rattle.translation.specs.Running.{clausesOf, transform}
 use Rattle.translation.proofs.Preserved.{Carries, typed-run}
-use Rattle.sources.specs.Inner.Goals.{Goal, Fits, First}
+use Rattle.sources.specs.Inner.Goals.{Fits, First}
 use Rattle.sources.proofs.Answers.{Named}
 use Rattle.backward.specs.Trees.{treesWithin}
-use Rattle.backward.specs.Sources.{runsTo, sourcesOf, searchOf, firstOf, before}
+use Rattle.backward.specs.Sources.{runsTo, sourcesOf, searchOf, before}
 use Rattle.backward.proofs.Ordering.{FirstIn, first-in, least-upto}
 use Rattle.backward.proofs.Within.{within-legal, legal-within}
 
@@ -62,8 +61,7 @@ module _ (f : Translation) (source-apart : Apart (f .source)) (target-apart : Ap
   search-first bytes e =
       let w : FirstIn (sourcesOf f n k target) (some bytes) = rw e at (first-in (sourcesOf f n k target)) in
       let z = map-cases (write tree) bytes (keep (runsTo f target) (treesWithin (f .source) n k)) (w .0) in
-      let h = runs-fits (z .0) (z .1) in
-      (
+      let h = runs-fits (z .0) (z .1) in (
         z .0,
         record {
           fits = h;

@@ -1,20 +1,20 @@
 -- Byte order of trees of one kind, and the first of lists of bytes.
-use Prim.Native.Nat.{ℕ, zero, suc, _≤_, _<_}
+use Prim.Native.Nat.{ℕ, _<_}
 use mathlib.Core.Path.{_≡_, refl, ap, sym, _∙_}
 use mathlib.Core.Logic.{_⊎_, inl, inr}
-use mathlib.Core.Bool.{Bool, true, false, cond, _&&_, _||_}
+use mathlib.Core.Bool.{Bool, true, false, cond, _&&_}
 use mathlib.Core.List.{List, [], _∷_}
 use mathlib.Core.Option.{Option, none, some}
 use native.Mathlib.Omega.{arith}
 use lib.Dec.{ltb, eqb}
-use borrow.Author.Tests.{ltb-true, ltb-false, lt-ltb, eqb-true, eqb-false, eq-eqb}
-use Rattle.fields.proofs.Truth.{Mem, false-true, none-some, some-inj, or-cases, or-left, or-right, or-false, and-both, both-and, refuted, not-both}
+use borrow.Author.Tests.{ltb-true, lt-ltb, eqb-true, eq-eqb}
+use Rattle.fields.proofs.Truth.{Mem, false-true, none-some, some-inj, or-cases, or-left, or-right, and-both, both-and, refuted, not-both}
 use Rattle.language.specs.Language.{Language, argumentsOf}
-use Rattle.reader.specs.Code.{Code, node, token, Codes, nil, cons}
+use Rattle.reader.specs.Code.{Code, node, token, Codes, cons}
 use Rattle.reader.specs.Typing.{Typed, TypedAll, typed-node, typed-token, typed-argument, typed-nil, typed-cons}
 use Rattle.reader.specs.Syntax.{write, tree}
 use Rattle.reader.proofs.RoundTrip.{Apart}
-use Rattle.sources.specs.Inner.Order.{Earlier, EarlierAll, by-name, by-operands, by-value, at-first, after, Upto, UptoAll, Parts, here, on}
+use Rattle.sources.specs.Inner.Order.{Earlier, EarlierAll, by-name, by-operands, by-value, at-first, after, Upto, Parts, here, on}
 use Rattle.sources.proofs.Order.{Tri, below, level, above, tri, earlier-parts}
 use Rattle.sources.proofs.Answers.{no-kind}
 use Rattle.backward.specs.Sources.{before, earlier, firstOf}

@@ -1,17 +1,17 @@
 -- The trees within the levels are exactly the legal ones.
-use Prim.Native.Nat.{ℕ, zero, suc, max, _+_, _-_, _%_, _≤_, _<_}
-use mathlib.Core.Path.{_≡_, refl, ap, sym, _∙_}
+use Prim.Native.Nat.{ℕ, zero, suc, _+_, _-_, _≤_}
+use mathlib.Core.Path.{_≡_, refl}
 use mathlib.Core.Logic.{inl}
-use mathlib.Core.Bool.{Bool, true, false, _&&_}
+use mathlib.Core.Bool.{true}
 use mathlib.Core.List.{List, [], _∷_, map}
 use mathlib.Core.Option.{Option, none, some}
 use native.Mathlib.Omega.{arith}
-use lib.Dec.{leb, eqb}
+use lib.Dec.{leb}
 use borrow.Author.Tests.{leb-true}
-use Rattle.fields.specs.Lists.{keep, concatMap, countUp}
-use Rattle.fields.proofs.Truth.{Mem, none-some, some-inj, and-both, keep-cases, mem-keep, mem-map, map-cases, concat-cases, mem-concat, mem-count, count-mem}
+use Rattle.fields.specs.Lists.{keep, countUp}
+use Rattle.fields.proofs.Truth.{Mem, and-both, keep-cases, mem-keep, mem-map, map-cases, concat-cases, mem-concat, mem-count}
 use Rattle.language.specs.Language.{Language, Range, rangeOf, argumentsOf, inRange}
-use Rattle.reader.specs.Code.{Code, node, token, Codes, nil, cons, levels, levelsAll}
+use Rattle.reader.specs.Code.{Code, node, token, Codes, cons, levels, levelsAll}
 use Rattle.reader.specs.Typing.{Typed, TypedAll, typed-node, typed-token, typed-argument, typed-nil, typed-cons}
 use Rattle.reader.proofs.RoundTrip.{Apart}
 use Rattle.sources.proofs.Answers.{Named, no-kind}

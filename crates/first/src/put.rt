@@ -1,12 +1,12 @@
 // The first tree, put into an output. A limit stops it: with a limit of one more than the output holds, and nothing to write
 // into, it measures.
 use crate::choice::choose;
-use needs::clause::matches;
-use needs::levels::NAMES;
-use needs::levels::token_value;
 use emitter::table::clause_at;
 use emitter::table::index_at;
 use emitter::table::source_at;
+use needs::clause::matches;
+use needs::levels::NAMES;
+use needs::levels::token_value;
 use reader::index::TABLE;
 use reader::node::place_at;
 ghost use mathlib.Core.Path.{_≡_};
@@ -131,7 +131,17 @@ fn put_node(
     let clause = clause_at(table, key);
     let past = tree.len();
     let mut bound = [past; 8];
-    if !matches(table, target, places, kinds, tree, place, clause, at, &mut bound) {
+    if !matches(
+        table,
+        target,
+        places,
+        kinds,
+        tree,
+        place,
+        clause,
+        at,
+        &mut bound,
+    ) {
         return pos;
     }
     put_operands(

@@ -1,27 +1,25 @@
 -- The next code and the tree that it is compared with, by the form of the code.
-use Prim.Native.Nat.{ℕ, zero, suc, max, _+_, _-_, _*_, _/_, _%_, _≤_, _<_}
+use Prim.Native.Nat.{ℕ, zero, suc, max, _+_, _-_, _/_, _%_, _≤_, _<_}
 use mathlib.Core.Path.{_≡_, refl, ap, sym, _∙_}
 use mathlib.Core.Logic.{_⊎_, inl, inr}
-use mathlib.Core.Bool.{Bool, true, false, cond, _&&_}
-use mathlib.Core.List.{List, [], _∷_, _++_, append-assoc, map}
-use mathlib.Core.Option.{Option, none, some}
+use mathlib.Core.Bool.{Bool, true}
+use mathlib.Core.List.{List, [], _∷_, _++_}
+use mathlib.Core.Option.{some}
 use native.Mathlib.Omega.{arith}
-use lib.ListN.{length, getD, getElem?, drop, length-append}
-use Rattle.fields.specs.Fields.{twoBytes}
+use lib.ListN.{length, getD, getElem?, drop}
 use Rattle.fields.specs.Lists.{all}
 use Rattle.fields.proofs.Truth.{none-some, some-inj, and-both, both-and}
-use Rattle.language.specs.Language.{Language, Range, rangeOf, argumentsOf, isIn}
+use Rattle.language.specs.Language.{Language, argumentsOf, isIn}
 use Rattle.reader.specs.Code.{Code, node, token, argument, Codes, nil, cons, levels, levelsAll}
-use Rattle.reader.specs.Typing.{kindAt, Typed, TypedAll, typed-node, typed-token, typed-argument, typed-nil, typed-cons}
+use Rattle.reader.specs.Typing.{Typed, TypedAll, typed-node, typed-token, typed-argument, typed-nil, typed-cons}
 use Rattle.reader.specs.Syntax.{write, writeAll, tree, code}
 use Rattle.reader.proofs.RoundTrip.{Apart}
-use Rattle.reader.proofs.Larger.{apart}
-use Rattle.translation.specs.Translation.{Translation, mapped}
+use Rattle.translation.specs.Translation.{Translation}
 use Rattle.emitter.specs.Inner.Stands.{Stands}
 use Rattle.emitter.specs.Inner.Table.{bodyStart, bodyByte}
-use Rattle.emitter.proofs.Standing.{stands-head, stands-both}
-use Rattle.index.specs.Inner.Lying.{Index, Lies, LieAll}
-use Rattle.index.proofs.Lying.{node-byte, first-byte, node-lies, head-lies, tail-lie}
+use Rattle.emitter.proofs.Standing.{stands-head}
+use Rattle.index.specs.Inner.Lying.{Lies, LieAll}
+use Rattle.index.proofs.Lying.{first-byte, node-lies, head-lies, tail-lie}
 use Rattle.sources.specs.Inner.Goals.{Goal}
 use Rattle.sources.specs.Inner.Matching.{followed, Solves, Alike}
 use Rattle.sources.proofs.Answers.{no-kind}
@@ -188,8 +186,7 @@ module _ (table bytes : List ℕ) (c stop to : ℕ) (f : Translation) (separate 
           same = λ i j.
               let high : v / 256 ≡ w / 256 = sym (x .1) ∙ (i ∙ t .0) in
               let low : v % 256 ≡ w % 256 = sym (x .2) ∙ (j ∙ t .1) in
-              let d : v ≡ w = omega arith in
-              (
+              let d : v ≡ w = omega arith in (
                 js,
                 es,
                 vs,

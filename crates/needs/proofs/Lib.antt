@@ -5,5 +5,6 @@ pub mod Steps
 pub mod Heads
 pub mod Turns
 pub mod Whole
+pub mod Alone
 pub mod Truths
 pub mod Needing

@@ -2,20 +2,18 @@
 use Prim.Native.Nat.{ℕ, zero, suc, _+_, _-_, _≤_, _<_}
 use mathlib.Core.Path.{_≡_, refl, ap, sym, _∙_}
 use mathlib.Core.List.{List, [], _∷_, _++_}
-use mathlib.Core.Option.{none, some}
 use native.Mathlib.Omega.{arith}
 use native.Mathlib.Decide.{ℕ-discrete}
 use lib.ListN.{length, getD, take, drop, take-append-drop}
 use lib.Seq.{getD-take, getD-drop}
 use Rattle.fields.proofs.Split.{front}
-use Rattle.fields.proofs.Truth.{none-some}
 use Rattle.language.specs.Language.{Language}
 use Rattle.reader.specs.Code.{Code, levels}
 use Rattle.reader.specs.Typing.{Typed, typed-node, typed-token, typed-argument}
-use Rattle.reader.specs.Syntax.{Read, done, write, tree, read}
+use Rattle.reader.specs.Syntax.{done, write, tree, read}
 use Rattle.reader.proofs.RoundTrip.{Apart, round, as-tree}
 use Rattle.index.specs.Inner.Lying.{Lies}
-use Rattle.index.proofs.Lying.{past-inside, past-is, part-is}
+use Rattle.index.proofs.Lying.{part-is}
 
 done-both : {a b : Code} {r s : List ℕ} → done a r ≡ done b s → (a ≡ b) × (r ≡ s)
 done-both e = (cc, cc)

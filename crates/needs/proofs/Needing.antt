@@ -1,39 +1,36 @@
 -- The least levels: a law for each return and turn of the functions of `levels`.
-use Prim.Native.Nat.{ℕ, zero, suc, min, max, _+_, _-_, _*_, _/_, _%_, _≤_, _<_}
+use Prim.Native.Nat.{ℕ, zero, suc, max, _+_, _-_, _/_, _%_, _≤_, _<_}
 use mathlib.Core.Path.{_≡_, refl, ap, sym, subst, _∙_}
 use mathlib.Core.Logic.{_⊎_, inl, inr}
 use mathlib.Core.Bool.{Bool, true, false, cond}
-use mathlib.Core.List.{List, [], _∷_}
-use mathlib.Core.Option.{Option, none, some}
+use mathlib.Core.List.{List, _∷_}
+use mathlib.Core.Option.{none, some}
 use native.Mathlib.Omega.{arith}
 use native.Mathlib.Decide.{decLe}
-use lib.Dec.{leb}
 use lib.ListN.{length, getD, drop, drop-of-length-le, replicate, getD-replicate}
 use borrow.Author.Tests.{le-leb, lt-leb}
 use Rattle.fields.specs.Fields.{pairAt}
 use Rattle.fields.specs.Inner.Places.{fieldEnd}
 use Rattle.fields.proofs.Split.{front}
-use Rattle.fields.proofs.Truth.{none-some, some-inj}
-use Rattle.language.specs.Language.{Language, Range, rangeOf, argumentsOf, inRange, kindKey, productionKey}
+use Rattle.language.specs.Language.{Language, rangeOf, argumentsOf, inRange, productionKey}
 use Rattle.language.specs.Inner.Entries.{IsClass, classRange}
-use Rattle.reader.specs.Code.{Code, node, token, Codes}
-use Rattle.reader.specs.Typing.{TypedAll}
-use Rattle.reader.specs.Inner.Index.{Indexed, rangeBefore, argumentsBefore}
-use Rattle.reader.specs.Syntax.{write, tree}
+use Rattle.reader.specs.Code.{node, token, Codes}
+use Rattle.reader.specs.Inner.Index.{rangeBefore, argumentsBefore}
+use Rattle.reader.specs.Syntax.{write}
 use Rattle.reader.proofs.RoundTrip.{Apart}
 use Rattle.reader.proofs.Larger.{apart}
 use Rattle.translation.specs.Translation.{Translation, mapped}
-use Rattle.translation.specs.Running.{Clauses, clausesOf, run}
-use Rattle.emitter.specs.Inner.Table.{indexEntry, clauseEntry, sourceByte, Production}
+use Rattle.translation.specs.Running.{Clauses, clausesOf}
+use Rattle.emitter.specs.Inner.Table.{indexEntry, clauseEntry, sourceByte}
 use Rattle.index.specs.Inner.Lying.{Lies}
 use Rattle.index.proofs.Lying.{first-byte}
-use Rattle.sources.specs.Inner.Goals.{Goal, Meets, Matches, Fits}
+use Rattle.sources.specs.Inner.Goals.{Goal, Fits}
 use Rattle.sources.specs.Inner.Levels.{Needs, NeedsAll, NeedsNamed, recalled, noted}
 use Rattle.sources.proofs.Memory.{recall-needs}
-use Rattle.sources.proofs.Answers.{needs-nil, needs-cons, needs-node, needs-unknown, needs-unmatched, names-none, fits-more, Named, needs-zero, needs-kind}
+use Rattle.sources.proofs.Answers.{needs-nil, needs-cons, needs-node, needs-unknown, needs-unmatched, names-none, fits-more, needs-zero, needs-kind}
 use Rattle.sources.proofs.Tokens.{class-token, ValueFor, needs-token, needs-no-token}
-use Rattle.needs.specs.Inner.Setting.{Asked, Truthful, Setting, valueAt, Seeks, SeeksAll}
-use Rattle.needs.specs.Inner.Clauses.{Bound, MatchAsks, MatchGives}
+use Rattle.needs.specs.Inner.Setting.{Asked, Truthful, Unnamed, valueAt, Seeks, SeeksAll}
+use Rattle.needs.specs.Inner.Clauses.{MatchAsks, MatchGives}
 use Rattle.needs.specs.Inner.Memory.{byteFor, memoryWith, freeWith}
 use Rattle.needs.proofs.Truths.{byte-says, kept-true}
 use Rattle.needs.proofs.Turns.{kind-byte}
@@ -146,6 +143,12 @@ module _ (table source index target places kinds bytes memory free : List ℕ) (
         let c : n ≡ 256 = omega arith in
         rw (← a, b) (needs-kind l clauses (h .setting .named) k g none-class (m - 1) best (rw c at q))
 
+  pub without : (low high : ℕ) → high ≤ 256 → Unnamed index k low high → (q x : ℕ) (s : Codes) → low ≤ q → q < high → Fits l clauses (suc x) k g (node k q s) → ⊥
+  without low high narrow a q x s i j w =
+      let e : argumentsOf l k q ≡ none = h .setting .source-index .arguments k q (h .kind) (omega arith) ∙ ap (argumentsBefore source) (a .none q i j) in
+      let z = needs-unknown l clauses x k q g e .least x q s (omega arith) (omega arith) (omega arith) w in
+      omega arith
+
   -- A memory that was changed meanwhile.
   pub seeks-still : (memory′ free′ : List ℕ) → Truthful f bytes memory′ free′ → Seeks table source index target places kinds bytes memory′ free′ k at f g
   seeks-still memory′ free′ t = record { setting = h .setting; truthful = t; kind = h .kind; asked = h .asked }
@@ -161,9 +164,13 @@ names-start l f m k g e = let a : suc (m - 1) ≡ m = omega arith in ap-needs a 
     ap-needs : {x y : ℕ} → x ≡ y → NeedsNamed l f (m - 1) k 0 0 g x → NeedsNamed l f (m - 1) k 0 0 g y
     ap-needs e q = rw e at q
 
+-- No tree for the goal has a name from `low` up to `high`.
+abbrev Without : Language → Clauses → ℕ → Goal → ℕ → ℕ → Type 0
+Without l f k g low high = (q x : ℕ) (s : Codes) → low ≤ q → q < high → Fits l f (suc x) k g (node k q s) → ⊥
+
 -- Behind names that need `best` levels, one of which it is asked whether it needs less.
 module _ (l : Language) (f : Clauses) (m k : ℕ) (g : Goal) (name best n r : ℕ) (some-best : 0 < best) (a : NeedsNamed l f m k 0 name g best)
-    (b : NeedsNamed l f (best - 1) k name (suc name) g n) (past : name < r) (one : 0 < n → r ≡ name + 1) where
+    (b : NeedsNamed l f (best - 1) k name (suc name) g n) (past : name < r) (gap : 0 < n → Without l f k g (name + 1) r) where
   found-less : n ≤ m → Dec (best ≤ n) → (q : ℕ) × (0 ≤ q) × (q < r) × (s : Codes) × Fits l f (suc n) k g (node k q s)
   found-less i (yes e) =
       let z : n ≡ best = let y = b .bound in omega arith in
@@ -171,20 +178,33 @@ module _ (l : Language) (f : Clauses) (m k : ℕ) (g : Goal) (name best n r : �
       (t .0, omega arith, omega (arith, t .2), t .3, fits-more (omega arith) (t .4))
   found-less i (no e) = let t = b .finds (omega arith) in (t .0, omega arith, omega (arith, t .2), t .3, t .4)
 
-  none-less : (x q : ℕ) (s : Codes) → x ≤ m → q < r → Fits l f (suc x) k g (node k q s) → Dec (suc q ≤ name) → Dec (n ≤ x) → n ≤ x
-  none-less x q s i j w d (yes e) = e
-  none-less x q s i j w (yes d) (no e) = let z = a .least x q s i (omega arith) d w in let y = b .bound in omega arith
-  none-less x q s i j w (no d) (no e) =
-      let o = one (omega arith) in
-      let y = b .bound in
-      b .least x q s (omega arith) (omega arith) (omega arith) w
+  none-less : (x q : ℕ) (s : Codes) → x ≤ m → q < r → Fits l f (suc x) k g (node k q s) → Dec (suc q ≤ name) → Dec (q ≤ name) → Dec (n ≤ x) → n ≤ x
+  none-less x q s i j w d o (yes e) = e
+  none-less x q s i j w (yes d) o (no e) = let z = a .least x q s i (omega arith) d w in let y = b .bound in omega arith
+  none-less x q s i j w (no d) (yes o) (no e) = let y = b .bound in b .least x q s (omega arith) (omega arith) (omega arith) w
+  none-less x q s i j w (no d) (no o) (no e) = absurd (gap (omega arith) q x s (omega arith) j w)
 
   pub names-next : NeedsNamed l f m k 0 r g n
   names-next = record {
     bound = let x = a .bound in let y = b .bound in omega arith;
     finds = λ i. found-less i (decLe best n);
-    least = λ x q s i u j w. none-less x q s i j w (decLe (suc q) name) (decLe n x);
+    least = λ x q s i u j w. none-less x q s i j w (decLe (suc q) name) (decLe q name) (decLe n x);
   }
+
+-- next_name
+module _ (index : List ℕ) (k name : ℕ) where
+  pub unnamed-start : (next : ℕ) → next ≡ name + 1 → Unnamed index k (name + 1) next
+  unnamed-start next e = record { none = λ p i j. absurd (omega arith) }
+
+  pub unnamed-next : (next : ℕ) {r : ℕ} → r ≡ getD index (productionKey k next) 0 → r ≡ 0 → Unnamed index k (name + 1) next → Unnamed index k (name + 1) (next + 1)
+  unnamed-next next e z a = record { none = λ p i j. go p i j (decLe (suc p) next) }
+    where
+      go : (p : ℕ) → name + 1 ≤ p → p < next + 1 → Dec (suc p ≤ next) → getD index (productionKey k p) 0 ≡ 0
+      go p i j (yes d) = a .none p i d
+      go p i j (no d) = let q : p ≡ next = omega arith in ap (λ (x : ℕ). getD index (productionKey k x) 0) q ∙ (sym e ∙ z)
+
+  pub unnamed-end : (next r : ℕ) → 256 ≤ next → next ≤ 256 → r ≡ 256 → Unnamed index k (name + 1) next → Unnamed index k (name + 1) r
+  unnamed-end next r i j e a = let z : r ≡ next = omega arith in rw z a
 
 -- name_need
 module _ (table source index target places kinds bytes memory free : List ℕ) (k at : ℕ) (f : Translation) (g : Goal)

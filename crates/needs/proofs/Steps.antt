@@ -1,24 +1,21 @@
 -- The steps of the match: a law for each return of the functions of `clause`.
-use Prim.Native.Nat.{ℕ, zero, suc, _+_, _-_, _≤_, _<_}
+use Prim.Native.Nat.{ℕ, _+_, _-_, _≤_, _<_}
 use mathlib.Core.Path.{_≡_, refl, ap, sym, _∙_}
-use mathlib.Core.Bool.{Bool, true, false, cond}
-use mathlib.Core.List.{List, [], _∷_, _++_}
-use mathlib.Core.Option.{Option, none, some}
+use mathlib.Core.List.{List}
+use mathlib.Core.Option.{none, some}
 use native.Mathlib.Omega.{arith}
 use native.Mathlib.Decide.{ℕ-discrete}
-use lib.Dec.{eqb}
 use lib.ListN.{length, getD, set, take, drop, length-set}
 use lib.Seq.{getD-set-same, getD-set-other}
 use borrow.Author.Tests.{eq-eqb, ne-eqb}
-use Rattle.fields.proofs.Truth.{none-some, some-inj}
-use Rattle.reader.specs.Code.{Code, argument, Codes, nil, cons}
+use Rattle.reader.specs.Code.{Code, nil}
 use Rattle.reader.specs.Syntax.{write, tree}
 use Rattle.reader.proofs.Larger.{apart}
 use Rattle.translation.specs.Translation.{Translation, mapped}
-use Rattle.index.specs.Inner.Lying.{Index, Lies, There}
+use Rattle.index.specs.Inner.Lying.{Lies, There}
 use Rattle.index.proofs.Lying.{past-inside}
 use Rattle.sources.specs.Inner.Goals.{Goal}
-use Rattle.sources.specs.Inner.Matching.{bind, Solves, Alike}
+use Rattle.sources.specs.Inner.Matching.{bind}
 use Rattle.sources.proofs.Matching.{step-known, no-known, step-new, bind-here, bind-other}
 use Rattle.needs.specs.Inner.Setting.{Asked}
 use Rattle.needs.specs.Inner.Clauses.{Bound, ArgumentAsks, ArgumentGives, width}

@@ -2,19 +2,16 @@
 use Prim.Native.Nat.{ℕ, zero, suc, _+_, _-_, _≤_, _<_}
 use mathlib.Core.Path.{_≡_, refl, ap, sym, _∙_}
 use mathlib.Core.Logic.{_⊎_, inl, inr}
-use mathlib.Core.Bool.{Bool, true, false}
 use mathlib.Core.List.{List, [], _∷_, map}
-use mathlib.Core.Option.{Option, none, some}
+use mathlib.Core.Option.{some}
 use native.Mathlib.Omega.{arith}
-use lib.ListN.{length, getD, getElem?, drop}
+use lib.ListN.{length, getD, getElem?}
 use Rattle.fields.proofs.Truth.{none-some, some-inj}
-use Rattle.reader.specs.Code.{Code, argument, Codes, nil, cons}
-use Rattle.reader.specs.Syntax.{write, tree}
-use Rattle.reader.proofs.RoundTrip.{Apart}
+use Rattle.reader.specs.Code.{Codes}
 use Rattle.reader.proofs.Larger.{apart}
 use Rattle.translation.specs.Translation.{Translation, mapped}
 use Rattle.emitter.proofs.Rows.{stands-nth}
-use Rattle.emitter.specs.Inner.Table.{sourceStart, sourceByte, bodyByte, KindsAt, Production}
+use Rattle.emitter.specs.Inner.Table.{sourceStart, sourceByte, bodyByte, KindsAt}
 use Rattle.sources.specs.Inner.Goals.{Goal}
 use Rattle.sources.specs.Inner.Matching.{Solves, Alike}
 use Rattle.needs.specs.Inner.Clauses.{Bound, Pending, ArgumentAsks, ArgumentGives, width, StepAsks, StepGives}

@@ -1,25 +1,24 @@
 -- The match of a whole clause: a law for each return and turn of `matches`.
-use Prim.Native.Nat.{ℕ, zero, suc, _+_, _-_, _≤_, _<_}
+use Prim.Native.Nat.{ℕ, _+_, _-_, _≤_, _<_}
 use mathlib.Core.Path.{_≡_, refl, ap, sym, _∙_}
-use mathlib.Core.Bool.{Bool, true, false}
+use mathlib.Core.Bool.{true, false}
 use mathlib.Core.List.{List, [], _∷_, _++_, map, append-nil}
-use mathlib.Core.Option.{Option, none, some}
+use mathlib.Core.Option.{none, some}
 use native.Mathlib.Omega.{arith}
-use lib.ListN.{length, getD, drop}
+use lib.ListN.{length}
 use Rattle.fields.specs.Lists.{all}
-use Rattle.fields.proofs.Truth.{none-some, some-inj, false-true, both-and}
-use Rattle.language.specs.Language.{productionKey, isIn}
+use Rattle.fields.proofs.Truth.{none-some, false-true, both-and}
+use Rattle.language.specs.Language.{isIn}
 use Rattle.reader.specs.Code.{Code, node, token, argument, Codes, nil, cons, levels}
 use Rattle.reader.specs.Typing.{Typed, TypedAll, typed-nil, typed-cons}
 use Rattle.reader.specs.Syntax.{write, writeAll, tree, code}
 use Rattle.translation.specs.Translation.{Translation, mapped}
-use Rattle.translation.specs.Running.{clausesOf, mappedArguments}
+use Rattle.translation.specs.Running.{clausesOf}
 use Rattle.translation.proofs.Fitting.{mapped-arguments}
-use Rattle.emitter.specs.Inner.Stands.{Stands}
-use Rattle.emitter.specs.Inner.Table.{bodyStart, bodyByte, indexEntry, clauseEntry, clauseEnd, Production, Clause}
+use Rattle.emitter.specs.Inner.Table.{bodyByte, clauseEnd, Production, Clause}
 use Rattle.index.specs.Inner.Lying.{Lies, LieAll}
 use Rattle.sources.specs.Inner.Goals.{Goal, Meets, Matches}
-use Rattle.sources.specs.Inner.Matching.{nothing-bound, Solves, Alike}
+use Rattle.sources.specs.Inner.Matching.{nothing-bound, Alike}
 use Rattle.sources.proofs.Matching.{alike-same, alike-then, matched, unmatched, matches-none}
 use Rattle.needs.specs.Inner.Setting.{Asked}
 use Rattle.needs.specs.Inner.Clauses.{Bound, Pending, width, StepAsks, StepGives, MatchAsks, MatchGives}
@@ -52,7 +51,7 @@ pub record Going (table bytes bound : List ℕ) (c stop to : ℕ) (f : Translati
 
 module _ (table target places kinds bytes bound : List ℕ) (place clause at : ℕ) (f : Translation) (k p : ℕ) (ks : List ℕ) (g : Goal)
     (h : MatchAsks table target places kinds bytes bound place clause at f k p ks g) where
-  production : Production table place ks
+  pub production : Production table place ks
   production = rw (h .place-is) (h .targeted .ready .production k p ks (h .kind) (h .name) (h .known))
 
   pub the-clause : Clause table clause (clausesOf f k p)
@@ -82,7 +81,7 @@ module _ (table target places kinds bytes bound : List ℕ) (place clause at : �
 
   -- The whole code and the whole tree.
   module _ (there : at < length bytes) (stop : ℕ) (ends : stop ≡ clauseEnd table clause) where
-    whole-ends : stop ≡ clause + 4 + length (write code (clausesOf f k p))
+    pub whole-ends : stop ≡ clause + 4 + length (write code (clausesOf f k p))
     whole-ends = let x = the-clause .size in omega arith
 
     whole-row : (u : Code) → Lies (f .target) bytes at (mapped (f .body) k) u

@@ -15,7 +15,6 @@ ghost use lib.ListN.{length, take, drop};
 ghost use Rattle.reader.specs.Code.{Code, Codes};
 ghost use Rattle.translation.specs.Translation.{Translation};
 ghost use Rattle.sources.specs.Inner.Goals.{Goal};
-ghost use Rattle.emitter.specs.Inner.Table.{bodyByte};
 ghost use Rattle.needs.specs.Inner.Clauses.{ArgumentAsks, ArgumentGives, width, StepAsks, StepGives, MatchAsks, MatchGives};
 
 // Whether the n bytes from a on are those from b on.
@@ -104,7 +103,8 @@ fn step(
     to + 2
 }
 
-// Whether the clause of a production matches what is asked at a position; its arguments are bound to what they come at.
+// Whether the clause of a production matches what is asked at a position; its arguments are bound to what they come at. A code
+// that is an argument alone is bound to the whole tree there.
 pub fn matches(
     table: &[u16; TABLE],
     target: &[u8],
@@ -121,6 +121,10 @@ pub fn matches(
         → MatchGives (now (tree .entry)) (now (bound .exit)) r f k p ks g) ⌝ }
 {
     if tree.len() <= at {
+        return true;
+    }
+    if body_at(table, clause + 4) == 3 {
+        bound[body_at(table, clause + 5) - 1] = at;
         return true;
     }
     let stop = clause_end(table, clause);

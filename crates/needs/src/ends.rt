@@ -19,7 +19,16 @@ pub fn end_of(language: &[u8], places: &[u16], kind: u8, tree: &[u8], at: usize)
     ensures { λ r. ⌜ ((l : Language) (t : Code) → There (now (places .entry)) (now (language .entry)) (now (tree .entry)) at kind l t
         → r ≡ at + length (write inTrees t)) ⌝ }
 {
-    match read(Syntax::Tree, language, places, &[], kind, tree, at, TREE_LEVELS) {
+    match read(
+        Syntax::Tree,
+        language,
+        places,
+        &[],
+        kind,
+        tree,
+        at,
+        TREE_LEVELS,
+    ) {
         Read::End(e) => e,
         Read::Deep => at,
         Read::Broken => at,

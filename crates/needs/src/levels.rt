@@ -22,7 +22,8 @@ ghost use Rattle.translation.specs.Translation.{Translation};
 ghost use Rattle.translation.specs.Running.{clausesOf};
 ghost use Rattle.sources.specs.Inner.Goals.{Goal};
 ghost use Rattle.sources.specs.Inner.Levels.{Needs as NeedsLevels, NeedsAll, NeedsNamed};
-ghost use Rattle.needs.specs.Inner.Setting.{Truthful, valueAt, Seeks, SeeksAll};
+ghost use Rattle.needs.specs.Inner.Setting.{Truthful, Unnamed, valueAt, Seeks, SeeksAll};
+ghost use Rattle.reader.specs.Inner.Index.{indexLength};
 
 // How many production names there are.
 pub const NAMES: usize = 256;
@@ -49,15 +50,22 @@ fn class_need(source: &[u8], class: usize, tree: &[u8], at: usize, m: usize) -> 
     m + 1
 }
 
-// The name to go on with behind a name: none is left where no tree can need less.
-fn next_name(name: usize, best: usize) -> usize
-    requires { ⌜ name < 256 ⌝ }
-    ensures { λ r. ⌜ (name < r) × (r ≤ 256) × (r < 256 → 0 < best) × (0 < best → r ≡ name + 1) ⌝ }
+// The name to go on with: the next one that a production of the kind has. None is left where no tree can need less.
+fn next_name(index: &[u16], kind: usize, name: usize, best: usize) -> usize
+    requires { ⌜ (indexLength ≤ length (now index)) × (kind < 32) × (name < 256) ⌝ }
+    ensures { λ r. ⌜ (name < r) × (r ≤ 256) × (r < 256 → 0 < best) × (0 < best → Unnamed (now (index .entry)) kind (name + 1) r) ⌝ }
 {
     if best == 0 {
         return NAMES;
     }
-    name + 1
+    let mut next = name + 1;
+    while next < NAMES {
+        if place_at(index, 32 + (kind * NAMES + next)) != 0 {
+            return next;
+        }
+        next += 1;
+    }
+    NAMES
 }
 
 // The larger of two numbers.
@@ -219,7 +227,7 @@ pub fn need(
             at,
             best - 1,
         );
-        name = next_name(name, best);
+        name = next_name(index, kind, name, best);
     }
     keep(memory, free, tree.len(), kind, at, m, best + 1);
     best + 1

@@ -28,14 +28,7 @@ fn byte_for(memory: &[u8], free: &[u8], n: usize, kind: usize, at: usize) -> u8
 }
 
 // The levels that are needed, where m count, by the memory.
-pub fn recall(
-    memory: &[u8],
-    free: &[u8],
-    n: usize,
-    kind: usize,
-    at: usize,
-    m: usize,
-) -> usize
+pub fn recall(memory: &[u8], free: &[u8], n: usize, kind: usize, at: usize, m: usize) -> usize
     requires { ⌜ (kind < 32) × (m ≤ 16) ⌝ }
     ensures { λ r. ⌜ r ≡ recalled m (byteFor (now (memory .entry)) (now (free .entry)) n kind at) ⌝ }
 {
@@ -60,7 +53,11 @@ fn note(m: usize, r: usize) -> u8
     requires { ⌜ (m ≤ 16) × (r ≤ suc m) ⌝ }
     ensures { λ b. ⌜ b ≡ noted m r ⌝ }
 {
-    if r <= m { (r + 1) as u8 } else { (m + 18) as u8 }
+    if r <= m {
+        (r + 1) as u8
+    } else {
+        (m + 18) as u8
+    }
 }
 
 // Keeps the levels that are needed, where there is room.

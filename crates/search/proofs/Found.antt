@@ -1,17 +1,13 @@
 -- The first source tree found, or none: a law for each return of `find`.
-use Prim.Native.Nat.{ℕ, zero, suc, min, _+_, _≤_, _<_}
-use mathlib.Core.Path.{_≡_, refl, ap, sym, _∙_}
-use mathlib.Core.Bool.{Bool, true, false}
-use mathlib.Core.List.{List, [], _∷_, _++_}
+use Prim.Native.Nat.{ℕ, min, _+_, _≤_, _<_}
+use mathlib.Core.Path.{_≡_, refl, ap, _∙_}
+use mathlib.Core.List.{List, _++_}
 use mathlib.Core.Option.{Option, none, some}
 use native.Mathlib.Omega.{arith}
-use lib.ListN.{length, getD, drop}
-use lib.Dec.{ltb}
+use lib.ListN.{length, drop}
 use borrow.Author.Tests.{le-ltb, lt-ltb}
-use Rattle.fields.specs.Outcome.{Result, value, refused, _>>=_, written, outputAfter}
 use Rattle.fields.specs.declared.outcome.Outcome.{Outcome}
 use Rattle.fields.specs.declared.outcome.Outcome.the-variants.{Accepted, Refused}
-use Rattle.fields.specs.declared.outcome.Reason.{Reason}
 use Rattle.fields.specs.declared.outcome.Reason.the-variants.{NoSource, OutputTooShort}
 use Rattle.fields.specs.Inner.Writing.{spliced}
 use Rattle.reader.specs.Code.{Code}
@@ -19,16 +15,15 @@ use Rattle.reader.specs.Syntax.{write, tree}
 use Rattle.reader.proofs.Larger.{apart}
 use Rattle.translation.specs.Translation.{Translation, mapped}
 use Rattle.translation.specs.Running.{clausesOf}
-use Rattle.translation.specs.Operations.{fitted}
 use Rattle.translation.proofs.Preserved.{Carries}
 use Rattle.translation.proofs.Fitting.{fit-carries}
 use Rattle.emitter.proofs.Clauses as Clauses
-use Rattle.sources.specs.Inner.Goals.{Goal, Fits, First}
+use Rattle.sources.specs.Inner.Goals.{Fits, First}
 use Rattle.sources.specs.Inner.Levels.{Needs}
 use Rattle.sources.proofs.Answers.{fits-more}
 use Rattle.needs.specs.Inner.Setting.{Seeks}
 use Rattle.backward.specs.Sources.{searchOf}
-use Rattle.backward.specs.Operations.{found, foundIn}
+use Rattle.backward.specs.Operations.{foundIn}
 use Rattle.backward.proofs.Finding.{search-first, search-none}
 use Rattle.first.specs.Inner.Puts.{Puts}
 use Rattle.search.specs.Inner.Finding.{Rooted, Answers}

@@ -1,9 +1,9 @@
 -- The search over the parts of a translation: what it hands to `find`.
-use Prim.Native.Nat.{ℕ, zero, suc, _+_, _≤_, _<_}
+use Prim.Native.Nat.{ℕ, suc, _+_, _≤_, _<_}
 use mathlib.Core.Path.{_≡_, refl, ap, sym, _∙_}
 use mathlib.Core.Bool.{Bool, true, false, cond, not, _&&_}
 use mathlib.Core.List.{List, [], _∷_, map, append-nil}
-use mathlib.Core.Option.{Option, none, some}
+use mathlib.Core.Option.{some}
 use native.Mathlib.Omega.{arith}
 use lib.ListN.{length, getD, replicate}
 use lib.Seq.{slice}
@@ -11,14 +11,14 @@ use lib.Dec.{eqb, leb}
 use borrow.Author.Tests.{le-ltb, le-leb, lt-leb}
 use Rattle.fields.specs.Fields.{byteAt}
 use Rattle.fields.specs.Inner.Places.{places, fieldEnd}
-use Rattle.fields.specs.Outcome.{Result, value, refused, refuseIf, _>>=_, written, outputAfter}
+use Rattle.fields.specs.Outcome.{Result, value, refused, refuseIf}
 use Rattle.fields.specs.declared.outcome.Outcome.{Outcome}
 use Rattle.fields.specs.declared.outcome.Outcome.the-variants.{Accepted, Refused}
 use Rattle.fields.specs.declared.outcome.Reason.{Reason}
 use Rattle.fields.specs.declared.outcome.Reason.the-variants.{UnknownRoot, LimitOutOfRange}
 use Rattle.fields.proofs.Codec.{bytes-from, value-inj}
 use Rattle.fields.proofs.Truth.{Mem, map-cases}
-use Rattle.language.specs.Language.{Language, Entry, class, production, Range, argumentsOf, isIn}
+use Rattle.language.specs.Language.{Language, class, production, Range, isIn}
 use Rattle.language.specs.LanguageFile.{entriesOf, languageLimit, languageOf}
 use Rattle.language.specs.Inner.Entries.{entryAt, classRange}
 use Rattle.language.proofs.Lookup.{arguments-mem}
@@ -45,7 +45,7 @@ use Rattle.translation.proofs.Fitting.{fit-carries}
 use Rattle.emitter.specs.Inner.Table.{Ready, Checked}
 use Rattle.emitter.proofs.Clauses as Clauses
 use Rattle.sources.proofs.Answers.{Named}
-use Rattle.needs.specs.Inner.Setting.{Targeted, Setting, Seeks}
+use Rattle.needs.specs.Inner.Setting.{Seeks}
 use Rattle.needs.proofs.Lying.{some-byte}
 use Rattle.needs.proofs.Truths.{blank-true}
 use Rattle.backward.specs.Operations.{isLimit, ready, foundIn, searchBytes, searchTree}

@@ -1,16 +1,15 @@
 -- The least levels and the first trees, step by step: of operands, of a name, of the names of a kind, of a class.
-use Prim.Native.Nat.{ℕ, zero, suc, max, min, _+_, _≤_, _<_}
+use Prim.Native.Nat.{ℕ, zero, suc, max, _≤_, _<_}
 use mathlib.Core.Path.{_≡_, refl, ap, sym, _∙_}
 use mathlib.Core.Logic.{inl}
 use mathlib.Core.List.{List, [], _∷_}
-use mathlib.Core.Option.{Option, none, some}
+use mathlib.Core.Option.{none, some}
 use native.Mathlib.Omega.{arith}
-use native.Mathlib.Decide.{decLe}
 use Rattle.fields.proofs.Truth.{none-some, some-inj}
-use Rattle.language.specs.Language.{Language, Range, rangeOf, argumentsOf, inRange}
-use Rattle.reader.specs.Code.{Code, node, token, argument, Codes, nil, cons, levels, levelsAll}
+use Rattle.language.specs.Language.{Language, rangeOf, argumentsOf}
+use Rattle.reader.specs.Code.{Code, node, Codes, nil, cons, levels, levelsAll}
 use Rattle.reader.specs.Typing.{kindAt, Typed, TypedAll, typed-node, typed-token, typed-argument, typed-nil, typed-cons}
-use Rattle.translation.specs.Running.{Clauses, run}
+use Rattle.translation.specs.Running.{Clauses}
 use Rattle.sources.specs.Inner.Order.{UptoAll}
 use Rattle.sources.specs.Inner.Goals.{Goal, Meets, MeetsAll, Fits, FitsAll, First, FirstAll, Matches}
 use Rattle.sources.specs.Inner.Levels.{Needs, NeedsAll, NeedsNamed}
@@ -145,26 +144,9 @@ needs-unmatched l f m k p ks g e h = needs-nothing l f m k p g (λ n t q. go n t
     go : (n : ℕ) (t : Codes) → Fits l f (suc n) k g (node k p t) → {j : ℕ} → Typed l [] (node k p t) j → ⊥
     go n t q (typed-node d y) = h t (rw (some-inj (sym d ∙ e)) at y) (q .meets)
 
--- Names in rising order: those up to `mid`, then those from there on.
-module _ (l : Language) (f : Clauses) (m k : ℕ) (g : Goal) where
-  pub names-none : (p : ℕ) → NeedsNamed l f m k p p g (suc m)
-  names-none p = record { bound = omega arith; finds = λ q. absurd (omega arith); least = λ n r s i y z w. absurd (omega arith) }
-
-  pub names-both : (low mid high x y : ℕ) → low ≤ mid → mid ≤ high → NeedsNamed l f m k low mid g x → NeedsNamed l f m k mid high g y
-      → NeedsNamed l f m k low high g (min y x)
-  names-both low mid high x y i j a b = record {
-    bound = omega (arith, a .bound);
-    finds = λ q. pick q (decLe x y);
-    least = λ n r s d u v w. split n r s d u v w (decLe mid r);
-  }
-    where
-      pick : min y x ≤ m → Dec (x ≤ y) → (q : ℕ) × (low ≤ q) × (q < high) × (s : Codes) × Fits l f (suc (min y x)) k g (node k q s)
-      pick q (yes e) = let t = a .finds (omega arith) in (t .0, t .1, omega (arith, t .2), t .3, fits-more (omega arith) (t .4))
-      pick q (no e) = let t = b .finds (omega arith) in (t .0, omega (arith, t .1), t .2, t .3, fits-more (omega arith) (t .4))
-
-      split : (n r : ℕ) (s : Codes) → n ≤ m → low ≤ r → r < high → Fits l f (suc n) k g (node k r s) → Dec (mid ≤ r) → min y x ≤ n
-      split n r s d u v w (yes e) = let z = b .least n r s d e v w in omega arith
-      split n r s d u v w (no e) = let z = a .least n r s d u (omega arith) w in omega arith
+-- No names.
+pub names-none : (l : Language) (f : Clauses) (m k : ℕ) (g : Goal) (p : ℕ) → NeedsNamed l f m k p p g (suc m)
+names-none l f m k g p = record { bound = omega arith; finds = λ q. absurd (omega arith); least = λ n r s i y z w. absurd (omega arith) }
 
 -- A kind that is no class has nodes only, with names under 256.
 abbrev pub Named : Language → Type 0

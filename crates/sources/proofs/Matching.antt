@@ -1,17 +1,16 @@
 -- The match of a clause's code with a tree, one step for each form of code, and what a whole match says of a production's trees.
-use Prim.Native.Nat.{ℕ, zero, suc, _<_}
+use Prim.Native.Nat.{ℕ, zero, suc}
 use mathlib.Core.Path.{_≡_, refl, ap, sym, _∙_}
 use mathlib.Core.Bool.{Bool, true, false, cond}
-use mathlib.Core.List.{List, [], _∷_, _++_, append-assoc}
-use mathlib.Core.Option.{Option, none, some}
+use mathlib.Core.List.{List, [], _++_, append-assoc}
+use mathlib.Core.Option.{none, some}
 use native.Mathlib.Omega.{arith}
 use lib.Dec.{eqb}
-use lib.ListN.{length}
 use borrow.Author.Tests.{eqb-true, eqb-false, eq-eqb}
 use Rattle.fields.proofs.Truth.{none-some, some-inj, by-test}
 use Rattle.language.specs.Language.{Language}
 use Rattle.reader.specs.Code.{Code, node, token, argument, Codes, nil, cons}
-use Rattle.reader.specs.Typing.{Typed, TypedAll, typed-nil, typed-cons}
+use Rattle.reader.specs.Typing.{TypedAll, typed-nil, typed-cons}
 use Rattle.reader.specs.Syntax.{Syntax, write, writeAll}
 use Rattle.translation.specs.Running.{nth, operand, substitute, substituteAll, Clauses, run, runAll}
 use Rattle.sources.specs.Inner.Goals.{Goal, Meets, MeetsAll, Matches}

@@ -1,21 +1,20 @@
 -- The least levels and the first trees of a class: a token is no level.
-use Prim.Native.Nat.{ℕ, zero, suc, _-_, _%_, _≤_, _<_}
+use Prim.Native.Nat.{ℕ, suc, _-_, _%_, _≤_}
 use mathlib.Core.Path.{_≡_, refl, ap, sym, _∙_}
 use mathlib.Core.Logic.{inl}
 use mathlib.Core.Bool.{Bool, true, false, _&&_}
-use mathlib.Core.List.{List, []}
-use mathlib.Core.Option.{Option, none, some}
+use mathlib.Core.List.{[]}
+use mathlib.Core.Option.{none, some}
 use native.Mathlib.Omega.{arith}
 use native.Mathlib.Nat.{zero-mod}
 use lib.Dec.{leb, eqb}
 use borrow.Author.Tests.{leb-true, le-leb, eq-eqb}
 use Rattle.fields.proofs.Truth.{none-some, some-inj, false-true, and-both, both-and}
 use Rattle.language.specs.Language.{Language, Range, rangeOf, inRange}
-use Rattle.reader.specs.Code.{Code, node, token, argument, Codes, levels}
-use Rattle.reader.specs.Typing.{kindAt, Typed, typed-node, typed-token, typed-argument}
+use Rattle.reader.specs.Code.{Code, token, levels}
+use Rattle.reader.specs.Typing.{Typed, typed-node, typed-token, typed-argument}
 use Rattle.reader.proofs.RoundTrip.{Apart}
 use Rattle.translation.specs.Running.{Clauses, run}
-use Rattle.sources.specs.Inner.Order.{Upto}
 use Rattle.sources.specs.Inner.Goals.{Goal, Meets, Fits, First}
 use Rattle.sources.specs.Inner.Levels.{Needs}
 use Rattle.sources.proofs.Order.{upto-token}

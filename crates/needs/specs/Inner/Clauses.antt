@@ -7,11 +7,11 @@ use mathlib.Core.Option.{some}
 use lib.ListN.{length, getD}
 use lib.Dec.{eqb}
 use Rattle.language.specs.Language.{argumentsOf, productionKey}
-use Rattle.reader.specs.Code.{Code, node, argument, Codes, nil, cons}
+use Rattle.reader.specs.Code.{Code, node, argument, Codes, cons}
 use Rattle.reader.specs.Typing.{TypedAll}
 use Rattle.reader.specs.Syntax.{write, writeAll, tree, code}
 use Rattle.translation.specs.Translation.{Translation, mapped}
-use Rattle.translation.specs.Running.{mappedArguments, clausesOf}
+use Rattle.translation.specs.Running.{clausesOf}
 use Rattle.emitter.specs.Inner.Stands.{Stands}
 use Rattle.emitter.specs.Inner.Table.{bodyStart, bodyByte, indexEntry, clauseEntry, Production}
 use Rattle.index.specs.Inner.Lying.{Index, Lies, LieAll}

@@ -3,13 +3,13 @@ use Prim.Native.Nat.{ℕ, _+_, _*_, _<_, _≤_}
 use mathlib.Core.Path.{_≡_}
 use mathlib.Core.Bool.{false, cond}
 use mathlib.Core.List.{List}
-use mathlib.Core.Option.{Option, none, some}
+use mathlib.Core.Option.{none, some}
 use lib.ListN.{length, getD}
 use lib.Dec.{leb}
 use Rattle.fields.specs.Fields.{pairAt}
 use Rattle.reader.specs.Code.{Code}
 use Rattle.reader.specs.Inner.Index.{Indexed}
-use Rattle.language.specs.Language.{Range, rangeOf, argumentsOf, clashes}
+use Rattle.language.specs.Language.{Range, rangeOf, argumentsOf, productionKey, clashes}
 use Rattle.translation.specs.Translation.{Translation, mapped}
 use Rattle.translation.specs.Running.{clausesOf}
 use Rattle.emitter.specs.Inner.Table.{Ready, Production}
@@ -43,6 +43,10 @@ pub record Truthful (f : Translation) (tree memory free : List ℕ) : Type 0 whe
   pub kept : (at k : ℕ) (u : Code) → k < 32 → Asked f tree at k (some u)
       → Says (f .source) (clausesOf f) k (some u) (getD memory (at * 32 + k) 0)
   pub spare : (k : ℕ) → k < 32 → Says (f .source) (clausesOf f) k none (getD free k 0)
+
+-- No production of kind k has a name from `low` up to `high`, by the index of its language.
+pub record Unnamed (index : List ℕ) (k low high : ℕ) : Type 0 where
+  pub none : (p : ℕ) → low ≤ p → p < high → getD index (productionKey k p) 0 ≡ 0
 
 -- The value of the token that a class, whose field in the source stands before `class`, has at a position: its lowest where
 -- nothing is asked.

@@ -1,6 +1,6 @@
 use borrow.Author.Needs.{needs}
-use Prim.Native.Nat.{suc, _+_, _-_, _*_, _≤_}
-use mathlib.Core.Path.{_≡_, refl, sym, _∙_}
+use Prim.Native.Nat.{_+_, _-_, _*_, _≤_}
+use mathlib.Core.Path.{_≡_, refl, _∙_}
 use mathlib.Core.List.{List}
 use native.Mathlib.Omega.{arith}
 use lib.ListN.{length}
@@ -9,7 +9,7 @@ use Rattle.reader.specs.Code.{Codes}
 use Rattle.translation.specs.Translation.{Translation}
 use Rattle.translation.specs.Running.{clausesOf}
 use Rattle.sources.specs.Inner.Goals.{Goal, FirstAll}
-use Rattle.needs.specs.Inner.Setting.{Truthful, Seeks, SeeksAll}
+use Rattle.needs.specs.Inner.Setting.{Truthful, SeeksAll}
 use Rattle.needs.proofs.Needing.{plain, class-positive, class-whole, seeks-still, key-inside, key-small, name-unknown, name-known, asks-match, name-unmatched, name-seeks, count-inside, count-is, kind-inside, operand-seeks, operand-kind}
 use Rattle.first.proofs.Putting.{puts-past, puts-same, token-written, no-levels, one-level, node-put, first-of, unknown-none, go-on, Going, going-start, going-end, going-first, going-next}
 use Prim.Native.Nat.{ℕ, _<_}

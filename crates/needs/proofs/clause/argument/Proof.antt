@@ -1,5 +1,4 @@
 use native.Mathlib.Omega.{arith}
-
 use Rattle.needs.proofs.Steps.{argument-there, argument-inside, argument-new, argument-starts, argument-same, argument-other}
 use borrow.Author.Needs.{needs}
 use Rattle.needs.proofs.clause.argument.Statement.{statement}

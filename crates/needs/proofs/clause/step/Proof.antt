@@ -1,6 +1,5 @@
 use mathlib.Core.Path.{sym, _∙_}
-use native.Mathlib.Omega.{arith}
-use Rattle.needs.proofs.Turns.{code-inside, next-inside, tree-inside, argument-next, number-some, place-inside, argument-asks, argument-step, first-differs, name-step, token-inside, second-differs, token-step}
+use Rattle.needs.proofs.Turns.{code-inside, next-inside, number-some, place-inside, argument-asks, argument-step, first-differs, name-step, token-inside, second-differs, token-step}
 use borrow.Author.Needs.{needs}
 use Rattle.needs.proofs.clause.step.Statement.{statement}
 use Rattle.needs.proofs.clause.step.Tie as tie

@@ -1,9 +1,9 @@
 use borrow.Author.Needs.{needs}
 use Prim.Native.Nat.{suc, _+_, _-_, _*_, _≤_}
-use mathlib.Core.Path.{_≡_, refl, sym, _∙_}
+use mathlib.Core.Path.{_≡_, refl, _∙_}
 use mathlib.Core.List.{List}
 use native.Mathlib.Omega.{arith}
-use lib.ListN.{length, drop, getD}
+use lib.ListN.{length, drop}
 use borrow.Author.Tests.{not-true, not-false}
 use Rattle.translation.specs.Translation.{Translation}
 use Rattle.translation.specs.Running.{clausesOf}
@@ -11,7 +11,7 @@ use Rattle.sources.specs.Inner.Goals.{Goal}
 use Rattle.sources.specs.Inner.Levels.{NeedsAll, NeedsNamed}
 use Rattle.needs.specs.Inner.Setting.{Truthful, Seeks, SeeksAll}
 use Rattle.needs.proofs.Truths.{kept-long, ap-long, same-truth}
-use Rattle.needs.proofs.Needing.{recall-true, plain, class-positive, class-whole, class-needs, zero-levels, all-names, seeks-still, keeps-true, names-start, names-next, key-inside, key-small, name-unknown, name-known, asks-match, name-unmatched, name-seeks, name-needs, count-inside, count-is, kind-inside, operand-seeks, operand-kind, operands-start, operands-next, operands-end}
+use Rattle.needs.proofs.Needing.{recall-true, plain, class-positive, class-whole, class-needs, zero-levels, all-names, without, seeks-still, keeps-true, names-start, names-next, key-inside, key-small, name-unknown, name-known, asks-match, name-unmatched, name-seeks, name-needs, count-inside, count-is, kind-inside, operand-seeks, operand-kind, operands-start, operands-next, operands-end}
 use Prim.Native.Nat.{ℕ, _<_}
 use borrow.Fn.Kinds.{In}
 use borrow.Fn.PlainCycle.{Measures, is, falls, and}
@@ -159,13 +159,13 @@ need-name-need-requires : (t : ℕ) → need-lts.Need-name-need-requires (need-c
 need-name-need-requires t c κs = let q = c .before .before .before .before .before .before .before .before .before .before .before .before .before .before .before .before .before .before .before .pre .1 .1 in let x = c .before .before .before .loop .inv .1 .1 (c .before .before .loop-test .taken) in let y = c .before .before .before .loop .inv .1 .0 in (omega (arith, c .before .before .before .before .before .before .before .before .before .before .before .before .before .before .before .before .before .before .before .pre .0), (omega (arith, c .before .before .before .before .before .before .before .before .before .before .before .before .before .before .before .before .before .before .before .pre .1 .0), c .before .before .loop-test .taken, (q .0, q .1, seeks-still _ _ _ _ _ _ _ _ _ _ _ (q .0) (q .1) (q .2) _ _ (c .before .before .before .loop .inv .4 (q .0) (q .1) (q .2) .1))))
 
 need-next-name-requires : (t : ℕ) → need-lts.Need-next-name-requires (need-calls t) (need-at t) need.Post need-Inv-loop need-μ-loop
-need-next-name-requires t c κs = c .before .before .before .before .before .before .before .loop-test .taken
+need-next-name-requires t c κs = let q = c .before .before .before .before .before .before .before .before .before .before .before .before .before .before .before .before .before .before .before .before .before .before .before .before .pre .1 .1 in (q .2 .setting .source-index .sound .long, q .2 .kind, c .before .before .before .before .before .before .before .loop-test .taken)
 
 need-loop-less : (t : ℕ) → need-lts.Need-loop-less (need-calls t) (need-at t) need.Post need-Inv-loop need-μ-loop
 need-loop-less t c = let x = c .before .before .before .before .before .before .before .before .loop-test .taken in omega (arith, c .next-name .ensures .0)
 
 need-loop-again : (t : ℕ) → need-lts.Need-loop-again (need-calls t) (need-at t) need.Post need-Inv-loop need-μ-loop
-need-loop-again t c = (c .next-name .ensures .1, (omega (arith, c .before .before .before .before .before .name-need .ensures .0, c .before .before .before .before .before .before .before .before .before .loop .inv .1 .0, c .before .before .before .before .before .before .before .before .before .loop .inv .1 .1 (c .before .before .before .before .before .before .before .before .loop-test .taken)), c .next-name .ensures .2), c .before .before .before .before .before .name-need .ensures .1 ∙ c .before .before .before .before .before .before .before .before .before .loop .inv .2, c .before .before .before .before .before .name-need .ensures .2 ∙ c .before .before .before .before .before .before .before .before .before .loop .inv .3, λ f g h. let w = c .before .before .before .before .before .before .before .before .before .loop .inv .4 f g h in let r = c .before .before .before .before .before .name-need .ensures .3 f g (seeks-still _ _ _ _ _ _ _ _ _ _ _ f g h _ _ (w .1)) in (names-next _ _ _ _ g _ _ _ _ (c .before .before .before .before .before .before .before .before .before .loop .inv .1 .1 (c .before .before .before .before .before .before .before .before .loop-test .taken)) (w .0) (r .0) (c .next-name .ensures .0) (c .next-name .ensures .3), r .1))
+need-loop-again t c = (c .next-name .ensures .1, (omega (arith, c .before .before .before .before .before .name-need .ensures .0, c .before .before .before .before .before .before .before .before .before .loop .inv .1 .0, c .before .before .before .before .before .before .before .before .before .loop .inv .1 .1 (c .before .before .before .before .before .before .before .before .loop-test .taken)), c .next-name .ensures .2), c .before .before .before .before .before .name-need .ensures .1 ∙ c .before .before .before .before .before .before .before .before .before .loop .inv .2, c .before .before .before .before .before .name-need .ensures .2 ∙ c .before .before .before .before .before .before .before .before .before .loop .inv .3, λ f g h. let w = c .before .before .before .before .before .before .before .before .before .loop .inv .4 f g h in let r = c .before .before .before .before .before .name-need .ensures .3 f g (seeks-still _ _ _ _ _ _ _ _ _ _ _ f g h _ _ (w .1)) in (names-next _ _ _ _ g _ _ _ _ (c .before .before .before .before .before .before .before .before .before .loop .inv .1 .1 (c .before .before .before .before .before .before .before .before .loop-test .taken)) (w .0) (r .0) (c .next-name .ensures .0) (λ z. without _ _ _ _ _ _ _ _ _ _ _ f g h _ _ (c .next-name .ensures .1) (c .next-name .ensures .3 z)), r .1))
 
 need-add-keep : (t : ℕ) → need-lts.Need-add-keep (need-calls t) (need-at t) need.Post need-Inv-loop need-μ-loop
 need-add-keep t c = let x = c .before .before .before .loop .inv .1 .0 in let y = c .before .before .before .before .before .before .before .before .before .before .before .before .before .before .before .before .before .before .before .pre .1 .0 in omega arith
