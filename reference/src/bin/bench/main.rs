@@ -223,8 +223,19 @@ const SECTIONS: [(&str, fn()); 10] = [
     ("search", search::bench),
 ];
 
+/// Says which sections there are, and ends.
+fn refuse(unknown: &str) -> ! {
+    let names = SECTIONS.map(|(name, _)| name).join(", ");
+    eprintln!("no section {unknown}; there are {names}");
+    std::process::exit(2);
+}
+
 fn main() {
     let wanted: Vec<String> = std::env::args().skip(1).collect();
+    let is_section = |wanted: &&String| SECTIONS.iter().any(|(name, _)| name == wanted);
+    if let Some(unknown) = wanted.iter().find(|wanted| !is_section(wanted)) {
+        refuse(unknown);
+    }
     print_heading();
     for (name, bench) in SECTIONS {
         if wanted.is_empty() || wanted.iter().any(|wanted| wanted == name) {

@@ -5,6 +5,7 @@ use crate::shapes::{shapes, Detour, Shape, Size, ROOT, TOKEN_KIND, TREE_LEVELS};
 use crate::{random_cases, translation_cases, tree_cases, Case, LONG_CASES, RANDOM_CASES};
 use reference::call::Call;
 use reference::check_translation;
+use reference::files::{clause, mapping, production, translation};
 use reference::generate::{
     block_case, card_of, doubled, edit_case, export_case, import_case, index_bytes, index_case,
     join_table_case, lenient_text, long_tree_case, loose_case, mask_case, score_case, search_case,
@@ -18,6 +19,14 @@ const LONGEST_TABLE: usize = 5000;
 const LONGEST: usize = 20;
 /// No run that is searched for is longer.
 const LONGEST_RUN: usize = 1 << 16;
+/// The most levels of what a search finds.
+const SEARCH_LEVELS: usize = 16;
+/// Names in the searches for links: a leaf, a link, a leaf that has no source, and a link that is
+/// its argument alone.
+const LEAF: u8 = 0;
+const LINK: u8 = 1;
+const NO_SOURCE: u8 = 2;
+const ALONE: u8 = 3;
 
 /// The score of a tree by a table in which every figure is 1.
 fn scored(case: TreeCase) -> Call {
@@ -143,19 +152,47 @@ fn searched(shape: &Shape, case: TreeCase) -> Call {
     Call::Search(SearchCase { translation, root: case.root, tree, limit: 16, workspace, output })
 }
 
-/// Searches for the runs of chains of 1 to 16 levels, and random ones.
+/// A translation whose links are put so many deep around their argument, and which has a link that
+/// is its argument alone; the second leaf of the target has no source.
+fn deep_links(depth: usize) -> Vec<u8> {
+    let leaves = [LEAF, NO_SOURCE].map(|name| production(1, name, &[]));
+    let links = [LINK, ALONE].map(|name| production(1, name, &[1]));
+    let code = [[1, LINK].repeat(depth), vec![3, 1]].concat();
+    let clauses =
+        [clause(1, LEAF, &[1, LEAF]), clause(1, LINK, &code), clause(1, ALONE, &[3, 1])].concat();
+    let source = [leaves[0].clone(), links.concat()].concat();
+    let target = [leaves[0].clone(), links[0].clone(), leaves[1].clone()].concat();
+    translation(&source, &target, &[mapping(1, 1), clauses].concat())
+}
+
+/// A search for links as deep as a tree of 16 levels can run to, with or without workspace.
+fn deep_search(depth: usize, last: u8, workspace: usize) -> Case {
+    let tree = [vec![LINK; depth * (SEARCH_LEVELS - 1)], vec![last]].concat();
+    let name = format!("links put {depth} deep, to leaf {last}, {workspace} bytes of workspace");
+    let (translation, output) = (deep_links(depth), tree.len());
+    let limit = SEARCH_LEVELS as u32;
+    let case = SearchCase { translation, root: 1, tree, limit, workspace, output };
+    Case { name, call: Call::Search(case) }
+}
+
+/// Searches for the runs of chains of 1 to 16 levels, for links of 16 to 61 levels, and random
+/// ones.
 fn search_cases(seed: u64) -> Vec<Case> {
     let sizes = [Size::Lean, Size::Small].into_iter().flat_map(shapes);
     let built = sizes.flat_map(|shape| {
-        [1, 2, 4, 16].map(|levels| {
+        [1, 2, 4, SEARCH_LEVELS].map(|levels| {
             let (language, root, tree) = (vec![], ROOT, shape.tree(levels, Detour::None));
             let call = searched(&shape, TreeCase { language, root, tree });
             Case { name: format!("{levels} levels, {shape:?}"), call }
         })
     });
+    let deep = (1..=4).flat_map(|depth| {
+        [(LEAF, 0), (LEAF, 4096), (NO_SOURCE, 0), (NO_SOURCE, 4096)]
+            .map(|(last, workspace)| deep_search(depth, last, workspace))
+    });
     let random = |random: &mut Random| Call::Search(search_case(random));
     let random = random_cases(seed, RANDOM_CASES, "random", random);
-    built.chain(random).collect()
+    built.chain(deep).chain(random).collect()
 }
 
 /// Cases of scores of fixed and loose plans, and of joined tables.
