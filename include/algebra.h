@@ -1,5 +1,5 @@
 /* The C interface of the library algebra: three checks, reduce, run, score, score_loose,
- * join_table, export, import, index, block, edit and mask.
+ * join_table, export, import, index, block, edit, mask and search.
  *
  * Each function returns the number of the answer: ALGEBRA_ACCEPTED, or the number of a
  * refusal (enum algebra_answer). Figures of the answer, such as a length, are stored through
@@ -52,6 +52,11 @@
  * ALGEBRA_TRANSLATION_BYTES long. */
 #define ALGEBRA_WORKSPACE_BYTES 65536
 #define ALGEBRA_OUTPUT_BYTES 4096
+
+/* A search has a limit of 1 to so many levels, and is fast with so many bytes of workspace for each
+ * byte of the tree. */
+#define ALGEBRA_SEARCH_LEVELS 16
+#define ALGEBRA_SEARCH_WORKSPACE 32
 
 /* The most levels of a tree handed in, of a code and of a term. A token is no level. */
 #define ALGEBRA_TREE_LEVELS 64
@@ -233,6 +238,21 @@ uint32_t algebra_mask(const uint8_t *language, size_t language_length,
                       const uint8_t *tree, size_t tree_length,
                       uint8_t *output, size_t output_length,
                       uint64_t *length);
+
+/* Finds the source tree of a root kind, of at most limit levels, whose run gives a tree of the
+ * target, the first in byte order: 0 to 7, 14 to 17, 23, 24. The tree is of the kind to which the
+ * root is mapped. Where a clause drops an argument, its place takes the first legal tree within the
+ * levels that are left. The workspace may have any length, also 0, and the answer does not depend on
+ * it: the search remembers there what it has found. With ALGEBRA_SEARCH_WORKSPACE bytes for each
+ * byte of the tree the time is bounded by the tree times the translation; with less it may take much
+ * longer. The workspace is all zero at the end if the answer is 0, 17 or 23, and unchanged otherwise. */
+uint32_t algebra_search(const uint8_t *translation, size_t translation_length,
+                        uint32_t root,
+                        const uint8_t *tree, size_t tree_length,
+                        uint32_t limit,
+                        uint8_t *workspace, size_t workspace_length,
+                        uint8_t *output, size_t output_length,
+                        uint64_t *length);
 
 #ifdef __cplusplus
 }

@@ -9,7 +9,7 @@
  *   ask export LANGUAGE ROOT TREE              ask import LANGUAGE ROOT TEXT
  *   ask index LANGUAGE ROOT TREE               ask block LANGUAGE ROOT TREE PATH [INDEX]
  *   ask edit LANGUAGE ROOT TREE PATH BLOCK CARD [INDEX]
- *   ask mask LANGUAGE ROOT CARD TREE
+ *   ask mask LANGUAGE ROOT CARD TREE           ask search TRANSLATION ROOT TREE LEVELS [OUTPUT-BYTES]
  *   ask bytes FILE                             writes the bytes themselves
  *
  * Prints `accepted LENGTH` (or a score, or `LEAST to GREATEST` of a loose plan), the bytes of a result on a second line, and kind and start of a block or the index of an edited plan on
@@ -284,6 +284,19 @@ static void mask(char **words)
     answer(number, length, masked);
 }
 
+/* Searches for a source tree. */
+static void search(char **words)
+{
+    struct bytes translation = load(words[0]), tree = load(words[2]);
+    size_t output = number_or(words[4], LONGEST), workspace = ALGEBRA_SEARCH_WORKSPACE * tree.length;
+    uint8_t *source = room_for(output);
+    uint64_t length;
+    uint32_t number = algebra_search(translation.at, translation.length, (uint32_t)number_or(words[1], 0), tree.at,
+                                     tree.length, (uint32_t)number_or(words[3], 0), room_for(workspace), workspace,
+                                     source, output, &length);
+    answer(number, length, source);
+}
+
 /* Checks a language. */
 static void language(char **words)
 {
@@ -333,6 +346,7 @@ static const struct {
     { "block", block, 4, 5 },
     { "edit", edit, 6, 7 },
     { "mask", mask, 4, 4 },
+    { "search", search, 4, 5 },
     { "bytes", write_bytes, 1, 1 },
 };
 

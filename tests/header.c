@@ -356,6 +356,55 @@ static void masks(void)
     count("a hidden block", output[0] == ALGEBRA_HIDDEN_BYTE);
 }
 
+/* Searches within some levels, for a tree of the tree's root kind; a refusal must store length 0. */
+static uint32_t search(const uint8_t *t, size_t t_length, const uint8_t *n, size_t n_length, uint32_t limit,
+                       uint8_t *w, size_t w_length, uint8_t *o, size_t o_length)
+{
+    uint64_t length = UINT64_MAX;
+    uint32_t number = algebra_search(t, t_length, 1, n, n_length, limit, w, w_length, o, o_length, &length);
+    count("the length of a source tree", length == (number == 0 ? sizeof tree : 0));
+    return number;
+}
+
+/* Searches. */
+static void searches(void)
+{
+    const uint8_t *t = translation;
+    size_t n = sizeof translation;
+    same("search, translation", 2, search(NULL, 0, tree, sizeof tree, 1, workspace, WORKSPACE, output, OUTPUT),
+         search(elsewhere, 0, tree, sizeof tree, 1, workspace, WORKSPACE, output, OUTPUT));
+    same("search, tree", 15, search(t, n, NULL, 0, 1, workspace, WORKSPACE, output, OUTPUT),
+         search(t, n, elsewhere, 0, 1, workspace, WORKSPACE, output, OUTPUT));
+    same("search, workspace", 0, search(t, n, tree, sizeof tree, 1, NULL, 0, output, OUTPUT),
+         search(t, n, tree, sizeof tree, 1, no_bytes, 0, output, OUTPUT));
+    same("search, output", 17, search(t, n, tree, sizeof tree, 1, workspace, WORKSPACE, NULL, 0),
+         search(t, n, tree, sizeof tree, 1, workspace, WORKSPACE, no_bytes, 0));
+    same("search, all", 2, search(NULL, 0, NULL, 0, 1, NULL, 0, NULL, 0),
+         search(elsewhere, 0, elsewhere, 0, 1, no_bytes, 0, no_bytes, 0));
+    gives("levels of a search", ALGEBRA_ACCEPTED,
+          search(t, n, tree, sizeof tree, ALGEBRA_SEARCH_LEVELS, workspace, WORKSPACE, output, OUTPUT));
+    gives("one more than that", ALGEBRA_LIMIT_OUT_OF_RANGE,
+          search(t, n, tree, sizeof tree, ALGEBRA_SEARCH_LEVELS + 1, workspace, WORKSPACE, output, OUTPUT));
+    gives("no level", ALGEBRA_LIMIT_OUT_OF_RANGE, search(t, n, tree, sizeof tree, 0, workspace, WORKSPACE, output, OUTPUT));
+    count("source tree", memcmp(output, tree, sizeof tree) == 0);
+}
+
+/* The workspace of a search is zero after a search that was made, and as it was after any other. */
+static void search_workspaces(void)
+{
+    uint8_t some[ALGEBRA_SEARCH_WORKSPACE * sizeof tree], zero[sizeof some], old[sizeof some];
+    memset(zero, 0, sizeof zero);
+    memset(old, MARK, sizeof old);
+    memset(some, MARK, sizeof some);
+    search(translation, sizeof translation, tree, sizeof tree, 0, some, sizeof some, output, OUTPUT);
+    count("the workspace of no search", memcmp(some, old, sizeof some) == 0);
+    search(translation, sizeof translation, tree, sizeof tree, 1, some, sizeof some, output, OUTPUT);
+    count("the workspace of a search", memcmp(some, zero, sizeof some) == 0);
+    memset(some, MARK, sizeof some);
+    search(translation, sizeof translation, tree, sizeof tree, 1, some, sizeof some, NULL, 0);
+    count("the workspace of one whose output is too short", memcmp(some, zero, sizeof some) == 0);
+}
+
 /* A file that is put together, and how long it is. */
 static uint8_t built[ALGEBRA_PACK_BYTES + 1];
 static size_t built_length;
@@ -515,6 +564,8 @@ int main(void)
     blocks();
     edits();
     masks();
+    searches();
+    search_workspaces();
     lengths();
     indexed_lengths();
     rooms();

@@ -5,9 +5,10 @@
 //! [scores](score()) a tree by a load table and one that scores a [loose plan](score_loose), one
 //! that [joins](join_table) such a table onto a translation, two that [export](export()) a tree as
 //! XML and [import](import()) it back, one that builds the [index](index()) of a tree, two that
-//! look up a [block](block()) of a tree by its index and [edit](edit()) it there, and one that
-//! [masks](mask()) a tree by a viewer's card. Each is accepted or gives a [`Refusal`]. What a call
-//! answers depends on its arguments alone; any number of threads may call at the same time.
+//! look up a [block](block()) of a tree by its index and [edit](edit()) it there, one that
+//! [masks](mask()) a tree by a viewer's card, and one that [searches](search()) for a source tree
+//! whose run gives a target tree. Each is accepted or gives a [`Refusal`]. What a call answers
+//! depends on its arguments alone; any number of threads may call at the same time.
 //!
 //! # The strap
 //!
@@ -67,21 +68,24 @@ mod mask;
 pub mod raw;
 mod refusal;
 mod score;
+mod search;
 mod xml;
 
 pub use block::{block, Block};
 pub use edit::{edit, edit_to_vec, index, index_to_vec, Edited};
 pub use limits::{
-    CODE_LEVELS, ENTRY_BYTES, INDEXED_BYTES, LANGUAGE_BYTES, PACK_BYTES, STACK_BYTES, TABLE_BYTES,
-    TERM_LEVELS, TRANSLATION_BYTES, TREE_LEVELS, WORKSPACE_BYTES,
+    CODE_LEVELS, ENTRY_BYTES, INDEXED_BYTES, LANGUAGE_BYTES, PACK_BYTES, SEARCH_LEVELS,
+    SEARCH_WORKSPACE, STACK_BYTES, TABLE_BYTES, TERM_LEVELS, TRANSLATION_BYTES, TREE_LEVELS,
+    WORKSPACE_BYTES,
 };
 pub use loose::{score_loose, LooseScore};
 pub use mask::{card, mask, mask_to_vec};
 pub use refusal::{Refusal, UnknownNumber};
 pub use score::{join_table, join_table_to_vec, score};
+pub use search::{search, search_to_vec};
 pub use xml::{export, export_to_vec, import, import_to_vec};
 
-/// The first output that [`run_to_vec`] tries has at least this many bytes.
+/// The first output that [`run_to_vec`] and [`search_to_vec`] try has at least this many bytes.
 const FIRST_OUTPUT: usize = 4096;
 /// Each further output is so many times as long.
 const OUTPUT_GROWTH: usize = 4;
@@ -242,10 +246,20 @@ pub fn run_to_vec(
     tree: &[u8],
     limit: usize,
 ) -> Result<Vec<u8>, Refusal> {
-    let mut room = tree.len().max(FIRST_OUTPUT).min(limit);
+    in_growing_output(tree.len(), limit, |output| run(translation, root, tree, output))
+}
+
+/// What a call puts into an output that is allocated, for a tree of so many bytes, and is made longer
+/// up to the limit as long as it is too short.
+fn in_growing_output(
+    tree: usize,
+    limit: usize,
+    call: impl Fn(&mut [u8]) -> Result<usize, Refusal>,
+) -> Result<Vec<u8>, Refusal> {
+    let mut room = tree.max(FIRST_OUTPUT).min(limit);
     loop {
         let mut output = output_of(room).ok_or(Refusal::OutputTooShort)?;
-        match run(translation, root, tree, &mut output) {
+        match call(&mut output) {
             Err(Refusal::OutputTooShort) if room < limit => {
                 room = room.saturating_mul(OUTPUT_GROWTH).min(limit);
             }

@@ -19,6 +19,10 @@ pub const TERM_LEVELS: usize = 12;
 pub const INDEXED_BYTES: usize = 65_535;
 /// An index has so many bytes for each node.
 pub const ENTRY_BYTES: usize = 4;
+/// A search is for trees of at most so many levels.
+pub const SEARCH_LEVELS: u32 = 16;
+/// The workspace of a search has so many bytes for each byte of the tree, where it is to be fast.
+pub const SEARCH_WORKSPACE: usize = 32;
 /// The workspace of [`raw::reduce`](crate::raw::reduce) has at least this many bytes.
 pub const WORKSPACE_BYTES: usize = 65_536;
 /// A call uses at most this many bytes of stack.

@@ -11,6 +11,7 @@ mod edit;
 mod loose;
 mod mask;
 mod score;
+mod search;
 mod xml;
 
 pub use block::{block, BlockAnswer};
@@ -18,6 +19,7 @@ pub use edit::{edit, index, EditAnswer};
 pub use loose::{score_loose, LooseScoreAnswer};
 pub use mask::mask;
 pub use score::{join_table, score, ScoreAnswer};
+pub use search::search;
 pub use xml::{export, import};
 
 extern "C" {

@@ -1,4 +1,4 @@
-//! Loose plans, indexes, edits and masks on the strap: what a call stores when it refuses, and which bytes
+//! Loose plans, indexes, edits, masks and searches on the strap: what a call stores when it refuses, and which bytes
 //! it leaves alone.
 
 use algebra::{raw, Refusal};
@@ -73,4 +73,38 @@ fn a_mask_leaves_the_output_alone_behind_it() {
     let mut short = [MARK; 4];
     let refused = algebra::mask(&LANGUAGE, 1, &blocks, &TREE, &mut short);
     assert_eq!((refused, short), (Err(Refusal::OutputTooShort), [MARK; 4]));
+}
+
+/// 1.1 (2), a row, stays itself, and 1.4 (1), twice, becomes a sequence with its argument twice.
+fn club() -> Vec<u8> {
+    let source = [&LANGUAGE[..14], &[0x12, 0, 3, 1, 4, 1]].concat();
+    let clauses = [0x23, 0, 6, 1, 1, 1, 1, 3, 1, 0x23, 0, 8, 1, 4, 1, 2, 3, 1, 3, 1];
+    let mappings = [0x22, 0, 2, 1, 1, 0x22, 0, 2, 2, 2];
+    [&[0x20, 0, 20][..], &source, &[0x21, 0, 21], &LANGUAGE, &mappings, &clauses].concat()
+}
+
+#[test]
+fn a_search_clears_the_workspace_that_it_used() {
+    let (club, twice) = (club(), [2, 1, 0, 5, 1, 0, 5]);
+    for length in [0, 1, 31, 32, 224, 1000] {
+        let (mut workspace, mut output) = (vec![MARK; length], [MARK; 5]);
+        let mut search = |limit| raw::search(&club, 1, &twice, limit, &mut workspace, &mut output);
+        assert_eq!(search(17), raw::Answer { number: 24, length: 0 });
+        assert_eq!(search(1), raw::Answer { number: 23, length: 0 });
+        assert_eq!(search(2), raw::Answer { number: 0, length: 4 });
+        assert!(workspace.iter().all(|&byte| byte == 0));
+        assert_eq!(output, [4, 1, 0, 5, MARK]);
+    }
+}
+
+#[test]
+fn a_refused_search_leaves_workspace_and_output_alone() {
+    let (mut workspace, mut output) = ([MARK; 100], [MARK; 5]);
+    for (limit, number) in [(0, 24), (17, 24)] {
+        let answer = raw::search(&club(), 1, &[1, 0, 5], limit, &mut workspace, &mut output);
+        assert_eq!(answer, raw::Answer { number, length: 0 });
+    }
+    let answer = raw::search(&club(), 1, &[1, 0, 0], 1, &mut workspace, &mut output);
+    assert_eq!(answer, raw::Answer { number: 15, length: 0 });
+    assert_eq!((workspace, output), ([MARK; 100], [MARK; 5]));
 }

@@ -1,10 +1,12 @@
 //! A call of one of the operations, by the reference or by the library.
 
 use crate::generate::{BlockCase, EditCase, ExportCase, ImportCase, IndexCase, JoinTableCase};
-use crate::generate::{MaskCase, ReduceCase, RunCase, ScoreCase, TreeCase};
+use crate::generate::{MaskCase, ReduceCase, RunCase, ScoreCase, SearchCase, TreeCase};
 use crate::outcome::Outcome;
 use crate::{block, check_language, check_translation, check_tree, edit, export, import, index};
-use crate::{join_table, mask, reduce, run, score, score_loose, Block, Edit, LooseScore, Score};
+use crate::{
+    join_table, mask, reduce, run, score, score_loose, search, Block, Edit, LooseScore, Score,
+};
 #[cfg(feature = "library")]
 use algebra::raw as library;
 
@@ -26,6 +28,7 @@ pub enum Call {
     Block(BlockCase),
     Edit(EditCase),
     Mask(MaskCase),
+    Search(SearchCase),
 }
 
 /// The buffers that are lent to a call; a check has none, nor has a lookup. The index is the second
@@ -105,6 +108,7 @@ impl Call {
             Call::Block(_) => "block",
             Call::Edit(_) => "edit",
             Call::Mask(_) => "mask",
+            Call::Search(_) => "search",
         }
     }
 
@@ -112,6 +116,7 @@ impl Call {
     pub fn buffers(&self) -> Buffers {
         let (workspace, output, index) = match self {
             Call::Reduce(case) => (case.workspace, case.output, 0),
+            Call::Search(case) => (case.workspace, case.output, 0),
             Call::Run(case) => (0, case.output, 0),
             Call::JoinTable(case) => (0, case.output, 0),
             Call::Export(case) => (0, case.output, 0),
@@ -149,6 +154,10 @@ impl Call {
                 block(&case.language, case.root, &case.tree, &case.index, &case.path).into()
             }
             Call::Edit(case) => edit(&case.input(), output, plan_index).into(),
+            Call::Search(case) => {
+                let SearchCase { translation, root, tree, limit, .. } = case;
+                search(translation, *root, tree, *limit, workspace, output).into()
+            }
             Call::Mask(case) => {
                 mask(&case.language, case.root, &case.card, &case.tree, output).into()
             }
@@ -193,6 +202,10 @@ impl Call {
                     .into()
             }
             Call::Edit(case) => library_edit(case, output, plan_index).into(),
+            Call::Search(case) => {
+                let SearchCase { translation, root, tree, limit, .. } = case;
+                library::search(translation, *root, tree, *limit, workspace, output).into()
+            }
             Call::Mask(case) => {
                 library::mask(&case.language, case.root, &case.card, &case.tree, output).into()
             }

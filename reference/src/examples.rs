@@ -6,7 +6,7 @@ use crate::files::{
     card, class, clause, load, mapping, pack, production, stepped_class, translation,
 };
 use crate::generate::{BlockCase, EditCase, ExportCase, ImportCase, IndexCase, JoinTableCase};
-use crate::generate::{MaskCase, ReduceCase, RunCase, ScoreCase, TreeCase};
+use crate::generate::{MaskCase, ReduceCase, RunCase, ScoreCase, SearchCase, TreeCase};
 use crate::reduce::{OUTPUT_LEAST, WORKSPACE_LEAST};
 
 /// A call with the answer and the bytes that it must give.
@@ -26,6 +26,9 @@ const LONG_OUTPUT: usize = 1 << 20;
 
 /// Reductions that leave the workspace as it was.
 const EARLY_REFUSALS: [u32; 6] = [1, 2, 3, 4, 8, 9];
+
+/// Searches that leave the workspace all zero.
+const SEARCHED: [u32; 3] = [0, 17, 23];
 
 /// Class 2 of 1 to some value; productions 1.1 (2), 1.2 (1 1), 1.3 (2).
 fn minutes_up_to(high: u16) -> Vec<u8> {
@@ -400,6 +403,26 @@ fn masks() -> Vec<Example> {
     ]
 }
 
+/// Searches in the sum for sessions of C: a sequence comes before "twice" in byte order.
+fn searches() -> Vec<Example> {
+    let by = |root, tree: &[u8], limit, output| {
+        let (translation, tree, workspace) = (sum(), tree.to_vec(), 100);
+        Call::Search(SearchCase { translation, root, tree, limit, workspace, output })
+    };
+    let (rows, mixed) = ([2, 1, 0, 5, 1, 0, 5], [2, 1, 0, 5, 3, 0, 5]);
+    vec![
+        accepted("two equal rows", by(1, &rows, 16, 7), &rows),
+        accepted("a row and a rest", by(1, &mixed, 2, 9), &mixed),
+        accepted("minutes", by(2, &[0, 5], 1, 2), &[0, 5]),
+        refused("two equal rows, one byte short", by(1, &rows, 16, 6), 17),
+        refused("two equal rows within one level", by(1, &rows, 1, 7), 23),
+        refused("limit 0", by(1, &rows, 0, 7), 24),
+        refused("limit 17", by(1, &rows, 17, 7), 24),
+        refused("a byte left over, limit 0", by(1, &[1, 0, 5, 0], 0, 7), 15),
+        refused("root 9", by(9, &rows, 0, 7), 14),
+    ]
+}
+
 /// A load table of C: rowing counts twice, a rest takes away.
 pub fn loads() -> Vec<u8> {
     [load(1, 1, 0, &[2]), load(1, 2, 0, &[1, 1]), load(1, 3, 0, &[-1])].concat()
@@ -485,7 +508,7 @@ fn texts() -> Vec<Example> {
 pub fn examples() -> Vec<Example> {
     let first = [reductions(), accepted_runs(), refused_runs(), wider_strap(), rates(), checks()];
     let sessions = [scores(), loose_scores(), texts(), blocks(), indexes(), edits(), masks()];
-    [first.concat(), sessions.concat()].concat()
+    [first.concat(), sessions.concat(), searches()].concat()
 }
 
 impl Example {
@@ -505,7 +528,10 @@ impl Example {
 
     /// The workspace at the end: all zero, or as it was after an early refusal.
     fn workspace(&self) -> Vec<u8> {
-        let kept = EARLY_REFUSALS.contains(&self.answer.number);
+        let kept = match self.call {
+            Call::Search(_) => !SEARCHED.contains(&self.answer.number),
+            _ => EARLY_REFUSALS.contains(&self.answer.number),
+        };
         let byte = if kept { WORKSPACE_MARK } else { 0 };
         vec![byte; self.call.buffers().workspace.len()]
     }

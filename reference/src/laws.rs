@@ -3,6 +3,7 @@
 pub mod edits;
 pub mod loose;
 pub mod masks;
+pub mod search;
 
 use crate::generate::{legal_tree, pack_with_term, LawPack, Random};
 use crate::translation::{read_translation, Translation};

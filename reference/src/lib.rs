@@ -1,8 +1,8 @@
 //! Languages, translations and a reducer over bytes: a reference on decoded structures.
 //!
 //! The operations are `check_language`, `check_translation`, `check_tree`, `reduce`, `run`,
-//! `score`, `score_loose`, `join_table`, `export`, `import`, `index`, `block`, `edit` and `mask`.
-//! Each answers with an `Outcome`: accepted with a length, or refused.
+//! `score`, `score_loose`, `join_table`, `export`, `import`, `index`, `block`, `edit`, `mask` and
+//! `search`. Each answers with an `Outcome`: accepted with a length, or refused.
 #![deny(unsafe_code)]
 
 mod block;
@@ -23,12 +23,14 @@ mod pack;
 mod reduce;
 mod run;
 mod score;
+mod search;
 mod term;
 mod translation;
 mod tree;
 mod xml;
 
 pub mod call;
+pub mod enumeration;
 pub mod examples;
 pub mod explain;
 pub mod files;
@@ -50,6 +52,7 @@ pub use outcome::{Outcome, Refusal};
 pub use reduce::reduce;
 pub use run::run;
 pub use score::{join_table, score, Score};
+pub use search::search;
 pub use translation::check_translation;
 pub use tree::check_tree;
 pub use xml::{export, import};

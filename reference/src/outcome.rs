@@ -48,6 +48,10 @@ pub enum Refusal {
     Path = 21,
     /// The tree is too long for an index, or the index is not the tree's own.
     Index = 22,
+    /// No source tree within the limit runs to the target tree.
+    NoSource = 23,
+    /// A limit of levels outside 1 to 16.
+    Limits = 24,
     /// The path has reached a hidden block.
     Hidden = 25,
 }

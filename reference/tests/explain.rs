@@ -7,12 +7,12 @@ use build::{class, clause, field, load, mapping, pack, production, translation};
 use reference::explain::{self, Fault};
 use reference::generate::{
     block_case, export_case, import_case, index_bytes, join_table_case, language_file,
-    long_run_case, reduce_case, run_case, score_case, translation_file, tree_case, Random,
-    TreeCase,
+    long_run_case, reduce_case, run_case, score_case, search_case, translation_file, tree_case,
+    Random, SearchCase, TreeCase,
 };
 use reference::{
     block, check_language, check_translation, check_tree, export, import, join_table, reduce, run,
-    score, Outcome,
+    score, search, Outcome,
 };
 
 /// So many cases of each operation are generated.
@@ -21,7 +21,7 @@ const CASES: u64 = 4000;
 const LONG_CASES: u64 = 20;
 
 /// Answers are counted by number.
-const NUMBERS: usize = 23;
+const NUMBERS: usize = 25;
 
 /// What stands where no reason was found: it must not be reached.
 const VAGUE: [&str; 4] = [
@@ -157,6 +157,15 @@ fn blocks() {
     });
 }
 
+#[test]
+fn searches() {
+    compare_all(2 * CASES, &[0, 1, 2, 3, 4, 5, 6, 7, 14, 15, 16, 17, 23, 24], |random, case| {
+        let SearchCase { translation, root, tree, limit, output, .. } = search_case(random);
+        let outcome = search(&translation, root, &tree, limit, &mut [], &mut vec![0; output]);
+        compare(case, outcome, explain::search(&translation, root, &tree, limit, output))
+    });
+}
+
 /// The text of a fault that is there.
 fn text(fault: Option<Fault>) -> String {
     fault.expect("the input is refused").to_string()
@@ -182,6 +191,20 @@ fn the_place_in_a_text_is_a_byte_and_a_path() {
     assert_eq!(found(b"<x1.1><t2>5</t2></x1.2>"), expected);
     let expected = "where: byte 6 of the text, path 1\nfault: <x1. is needed, and the text ends";
     assert_eq!(found(b"<x1.2>"), expected);
+}
+
+#[test]
+fn a_search_tells_how_many_levels_there_should_be() {
+    let language = [production(1, 0, &[]), production(1, 2, &[1, 1])].concat();
+    let source = [production(1, 0, &[]), production(1, 4, &[1])].concat();
+    let clauses = [clause(1, 0, &[1, 0]), clause(1, 4, &[1, 2, 3, 1, 3, 1])].concat();
+    let file = translation(&source, &language, &[mapping(1, 1), clauses].concat());
+    let found = |tree: &[u8], limit, output| text(explain::search(&file, 1, tree, limit, output));
+    let expected = "where: the tree\nfault: no source tree within the limit of 1 runs to it";
+    assert_eq!(found(&[2, 0, 0], 1, 9), format!("{expected}; within 2 one does"));
+    assert_eq!(found(&[2, 0, 2, 0, 0], 1, 9), format!("{expected}; within 16 none does either"));
+    let expected = "where: the output\nfault: its length is 1, and that of the source tree 2";
+    assert_eq!(found(&[2, 0, 0], 2, 1), expected);
 }
 
 #[test]

@@ -1,8 +1,8 @@
 //! The folders of examples, on the reference: packs, what they reduce to, their listings, the runs of
-//! trees, exports and imports, joined load tables and scores, and blocks.
+//! trees, exports and imports, joined load tables and scores, blocks, and searches for sessions.
 
 use reference::listing::listing;
-use reference::{block, export, import, index, join_table, reduce, run, score};
+use reference::{block, export, import, index, join_table, reduce, run, score, search};
 use std::fs;
 use std::path::{Path, PathBuf};
 
@@ -198,5 +198,34 @@ fn trees_score_as_the_files_beside_them() {
     assert!(!found.is_empty());
     for path in found {
         assert_eq!(scores(&path.with_extension("tree.hex")), text(&path), "{}", path.display());
+    }
+}
+
+/// What is found for a session, as its file has it: by the pack, the root and the limit of levels that
+/// the first line of its source names.
+fn found(source: &Path) -> String {
+    let text = text(source);
+    let line = text.lines().next().and_then(|line| line.strip_prefix("# Searched by "));
+    let words = line.and_then(|line| line.strip_suffix('.')?.split_once(", root "));
+    let (pack, words) = words.expect("the first line names a pack");
+    let (root, limit) = words.split_once(", level limit ").expect("a root and a limit");
+    let (root, limit) = (root.parse().expect("a root"), limit.parse().expect("a limit"));
+    let (translation, session) =
+        (reduced(&source.with_file_name(pack)), bytes(&source.with_extension("")));
+    let mut output = vec![0; OUTPUT];
+    let outcome = search(&translation, root, &session, limit, &mut [], &mut output);
+    match outcome.number() {
+        0 => accepted(&output[..outcome.length() as usize]),
+        number => format!("refused {number}\n"),
+    }
+}
+
+#[test]
+fn sessions_have_the_plans_beside_them() {
+    let sources = files(".session.hex");
+    assert!(!sources.is_empty());
+    for source in sources {
+        let beside = source.with_extension("").with_extension("found");
+        assert_eq!(found(&source), text(&beside), "{}", source.display());
     }
 }

@@ -21,6 +21,7 @@ pub enum Verb {
     Block,
     Edit,
     Mask,
+    Search,
     List,
     Show,
     Explain,
@@ -28,7 +29,7 @@ pub enum Verb {
 }
 
 /// The verbs with their names.
-pub const VERBS: [(&str, Verb); 18] = [
+pub const VERBS: [(&str, Verb); 19] = [
     ("check-language", Verb::CheckLanguage),
     ("check-translation", Verb::CheckTranslation),
     ("check-tree", Verb::CheckTree),
@@ -43,14 +44,16 @@ pub const VERBS: [(&str, Verb); 18] = [
     ("block", Verb::Block),
     ("edit", Verb::Edit),
     ("mask", Verb::Mask),
+    ("search", Verb::Search),
     ("list", Verb::List),
     ("show", Verb::Show),
     ("explain", Verb::Explain),
     ("steps", Verb::Steps),
 ];
 
-/// The place of a path among the operands.
+/// The place of a path among the operands, and of the levels of a search.
 pub const PATH_PLACE: usize = 3;
+pub const LEVELS_PLACE: usize = 3;
 
 /// What a file is.
 #[derive(Clone, Copy, Debug, PartialEq, Eq)]
@@ -117,7 +120,7 @@ impl Verb {
     fn operand_counts(self) -> &'static [usize] {
         match self {
             Verb::Edit => &[5],
-            Verb::Score | Verb::ScoreLoose | Verb::Block | Verb::Mask => &[4],
+            Verb::Score | Verb::ScoreLoose | Verb::Block | Verb::Mask | Verb::Search => &[4],
             Verb::JoinTable => &[2],
             Verb::Show => &[1, 3],
             Verb::CheckLanguage | Verb::CheckTranslation | Verb::Reduce => &[1],
@@ -128,7 +131,9 @@ impl Verb {
 
     /// Whether the operand at a place is a file.
     fn takes_file(self, place: usize) -> bool {
-        !(self.takes_path() && place == PATH_PLACE)
+        let path = self.takes_path() && place == PATH_PLACE;
+        let levels = self == Verb::Search && place == LEVELS_PLACE;
+        !(path || levels)
     }
 
     /// Whether the verb takes a path, and an index of the tree.
@@ -144,7 +149,11 @@ impl Verb {
     /// Whether the verb is an operation that is lent an output.
     fn has_output(self) -> bool {
         let on_tree = matches!(self, Verb::Export | Verb::Import | Verb::Index | Verb::Edit);
-        on_tree || matches!(self, Verb::Mask | Verb::Reduce | Verb::Run | Verb::JoinTable)
+        on_tree
+            || matches!(
+                self,
+                Verb::Mask | Verb::Search | Verb::Reduce | Verb::Run | Verb::JoinTable
+            )
     }
 
     /// Whether the verb takes an option.
@@ -156,7 +165,7 @@ impl Verb {
             "--index" => self.takes_path() || self == Verb::Explain,
             "--new-index" => self == Verb::Edit,
             "--card" => matches!(self, Verb::Edit | Verb::Explain),
-            "--as" => matches!(self, Verb::Run | Verb::Show | Verb::Explain),
+            "--as" => matches!(self, Verb::Run | Verb::Search | Verb::Show | Verb::Explain),
             _ => true,
         }
     }

@@ -43,6 +43,9 @@ fn synopsis(verb: Verb) -> &'static str {
              [--limit BYTES]"
         }
         Verb::Mask => "LANGUAGE ROOT TREE CARD [-o FILE] [--limit BYTES]",
+        Verb::Search => {
+            "TRANSLATION-OR-PACK ROOT TREE LEVELS [-o FILE] [--limit BYTES] [--as SORT]"
+        }
         Verb::List => "PACK",
         Verb::Show => "FILE [--as SORT] | LANGUAGE ROOT TREE",
         Verb::Explain => "VERB OPERANDS [--limit BYTES] [--as SORT] [--index FILE] [--card FILE]",
@@ -67,6 +70,7 @@ fn summary(verb: Verb) -> &'static str {
         Verb::Block => "Look up one block of a tree",
         Verb::Edit => "Replace one block of a tree",
         Verb::Mask => "Hide the blocks of a tree that a card does not show",
+        Verb::Search => "Find the source tree whose run gives a tree",
         Verb::List => "List the clauses of what a pack reduces to",
         Verb::Show => {
             "Show a language, a translation, a pack, a load table, a card or a tree in words"
@@ -210,6 +214,21 @@ hexadecimal digits below the first line.
 Refusals: 1 to 4, 14 to 17.
 "
         }
+        Verb::Search => {
+            "\
+A pack is reduced first; it is told from a translation by its first byte. ROOT is the number of a
+kind of the source, and TREE a tree of the target, of the kind to which ROOT is mapped. Of the source
+trees of at most LEVELS levels, 1 to 16, that run to it, the first in byte order is printed in
+hexadecimal digits below the first line. Where a clause drops an argument, its place takes the first
+legal tree within the levels that are left.
+  -o FILE        write it to the file instead, as bytes, or as text with --hex. The file is
+                 written whole or not at all. With - the tree alone goes to the standard
+                 output, and the first line to the standard error.
+  --limit BYTES  lend an output of that many bytes; without it, 268435456
+  --as SORT      take the first file as a 'translation' or a 'pack', whatever its first byte
+Refusals: 1 to 7, 14 to 17, 23, 24; of a pack also 8 to 13.
+"
+        }
         Verb::List => {
             "\
 Prints what the listing program prints: 'accepted' and the length of the translation, and for
@@ -227,12 +246,12 @@ fields 24 only, and a tree if it is legal.
         Verb::Explain => {
             "\
 VERB is one of check-language, check-translation, check-tree, reduce, run, score, score-loose,
-join-table, export, import, index, block, edit and mask, with its operands. Below the first line
-stands where the fault is (the byte, counted from 0, the field, the clause, the path of argument
+join-table, export, import, index, block, edit, mask and search, with its operands. Below the first
+line stands where the fault is (the byte, counted from 0, the field, the clause, the path of argument
 numbers in a tree, the operand in a term) and what it is. These lines come from a second
 implementation; if it does not come to the same number, that is said.
   --limit BYTES  explain the call with an output of that many bytes
-  --as SORT      for run: take the first file as a 'translation' or a 'pack'
+  --as SORT      for run and search: take the first file as a 'translation' or a 'pack'
   --index FILE   for block and edit: take the index of the tree from the file
   --card FILE    for edit: take the card from the file
 "

@@ -6,14 +6,16 @@ use crate::explanation::Finding;
 use crate::given::Given;
 use crate::index_job::IndexJob;
 use crate::input::read_file;
+use crate::search_job::Search;
 use crate::tree_job::TreeJob;
 use crate::{Failure, Streams};
 use algebra::{
     Refusal, LANGUAGE_BYTES, PACK_BYTES, TABLE_BYTES, TRANSLATION_BYTES, WORKSPACE_BYTES,
 };
-use reference::explain::{self, Fault};
+use reference::explain;
+use std::borrow::Cow;
 
-/// The length of the output of a run, unless the arguments give one.
+/// The length of the output of a run or a search, unless the arguments give one.
 const RUN_BYTES: usize = 1 << 28;
 /// Trees may have any length.
 pub const TREE_BYTES: usize = usize::MAX - 1;
@@ -24,6 +26,7 @@ pub enum Job {
     CheckTranslation(Vec<u8>),
     Reduce { pack: Vec<u8>, limit: usize },
     Run(Run),
+    Search(Search),
     JoinTable { translation: Vec<u8>, table: Vec<u8>, limit: usize },
     OnTree(TreeJob),
     OnIndex(IndexJob),
@@ -95,6 +98,7 @@ impl Job {
                 Ok(Job::Reduce { pack, limit: call.options.limit.unwrap_or(TRANSLATION_BYTES) })
             }
             Verb::Run => Run::load(call, streams).map(Job::Run),
+            Verb::Search => Search::load(call, streams).map(Job::Search),
             Verb::JoinTable => Job::load_join(call, streams),
             Verb::Show | Verb::Explain | Verb::Steps => {
                 Err(misuse(Some(verb), "this is no operation"))
@@ -118,6 +122,7 @@ impl Job {
     pub fn tree_length(&self) -> usize {
         match self {
             Job::Run(run) => run.tree.len(),
+            Job::Search(search) => search.length(),
             Job::OnTree(job) => job.length(),
             Job::OnIndex(job) => job.length(),
             _ => 0,
@@ -132,6 +137,7 @@ impl Job {
             Job::CheckTranslation(file) => algebra::check_translation(file).map(nothing),
             Job::Reduce { pack, limit } => reduced(pack, *limit).map(Given::Bytes),
             Job::Run(run) => run.answer().map(Given::Bytes),
+            Job::Search(search) => search.answer().map(Given::Bytes),
             Job::JoinTable { translation, table, limit } => {
                 joined(translation, table, *limit).map(Given::Bytes)
             }
@@ -146,7 +152,8 @@ impl Job {
             Job::CheckLanguage(file) => explain::language(file),
             Job::CheckTranslation(file) => explain::translation(file),
             Job::Reduce { pack, limit } => explain::reduce(pack, WORKSPACE_BYTES, *limit),
-            Job::Run(run) => run.fault(),
+            Job::Run(run) => return run.fault(),
+            Job::Search(search) => return search.fault(),
             Job::JoinTable { translation, table, limit } => {
                 explain::join_table(translation, table, *limit)
             }
@@ -173,39 +180,59 @@ fn joined(translation: &[u8], table: &[u8], limit: usize) -> Result<Vec<u8>, Ref
     Ok(output)
 }
 
+impl Translator {
+    /// Reads the first operand, which is told by its first byte unless the options say what it is.
+    pub fn load(call: &Call, streams: &mut Streams) -> Result<Translator, Failure> {
+        let file = operand(call, 0, PACK_BYTES, streams)?;
+        Ok(match call.options.sort.or(sort_of(&file)) {
+            Some(Sort::Pack) => Translator::Pack(file),
+            _ => Translator::Translation(file),
+        })
+    }
+
+    /// The translation, for which the library reduces a pack.
+    pub fn translation(&self) -> Result<Cow<'_, [u8]>, Refusal> {
+        match self {
+            Translator::Translation(translation) => Ok(Cow::Borrowed(translation)),
+            Translator::Pack(pack) => algebra::reduce_to_vec(pack).map(Cow::Owned),
+        }
+    }
+
+    /// The translation, for which the second implementation reduces a pack, or the pack's fault.
+    pub fn explained(&self) -> Result<Cow<'_, [u8]>, Finding> {
+        let pack = match self {
+            Translator::Translation(translation) => return Ok(Cow::Borrowed(translation)),
+            Translator::Pack(pack) => pack,
+        };
+        if let Some(fault) = explain::reduce(pack, WORKSPACE_BYTES, TRANSLATION_BYTES) {
+            return Err(fault.into());
+        }
+        let mut output = vec![0; TRANSLATION_BYTES];
+        let outcome = reference::reduce(pack, &mut vec![0; WORKSPACE_BYTES], &mut output);
+        output.truncate(outcome.length() as usize);
+        Ok(Cow::Owned(output))
+    }
+}
+
 impl Run {
     /// Reads the inputs.
     fn load(call: &Call, streams: &mut Streams) -> Result<Run, Failure> {
-        let (root, file) = (root(call)?, operand(call, 0, PACK_BYTES, streams)?);
-        let translator = match call.options.sort.or(sort_of(&file)) {
-            Some(Sort::Pack) => Translator::Pack(file),
-            _ => Translator::Translation(file),
-        };
+        let (root, translator) = (root(call)?, Translator::load(call, streams)?);
         Ok(Run { translator, root, tree: tree(call, streams)?, limit: run_limit(call) })
     }
 
     /// What the library answers.
     fn answer(&self) -> Result<Vec<u8>, Refusal> {
-        let run = |translation: &[u8]| {
-            algebra::run_to_vec(translation, self.root, &self.tree, self.limit)
-        };
-        match &self.translator {
-            Translator::Translation(translation) => run(translation),
-            Translator::Pack(pack) => run(&algebra::reduce_to_vec(pack)?),
-        }
+        let translation = self.translator.translation()?;
+        algebra::run_to_vec(&translation, self.root, &self.tree, self.limit)
     }
 
     /// Where the second implementation finds a fault, if it does.
-    fn fault(&self) -> Option<Fault> {
+    fn fault(&self) -> Option<Finding> {
         let run = |translation: &[u8]| explain::run(translation, self.root, &self.tree, self.limit);
-        match &self.translator {
-            Translator::Translation(translation) => run(translation),
-            Translator::Pack(pack) => {
-                let mut output = vec![0; TRANSLATION_BYTES];
-                let outcome = reference::reduce(pack, &mut vec![0; WORKSPACE_BYTES], &mut output);
-                explain::reduce(pack, WORKSPACE_BYTES, TRANSLATION_BYTES)
-                    .or_else(|| run(&output[..outcome.length() as usize]))
-            }
+        match self.translator.explained() {
+            Ok(translation) => run(&translation).map(Finding::from),
+            Err(finding) => Some(finding),
         }
     }
 }

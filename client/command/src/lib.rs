@@ -14,6 +14,7 @@ mod job;
 mod loose;
 mod output;
 mod reading;
+mod search_job;
 mod steps;
 mod tree_job;
 mod verbs;

@@ -15,6 +15,7 @@ ghost use Rattle.loads.specs.Joined.{joinTable};
 ghost use Rattle.loose.specs.Operations.{scoreLoose};
 ghost use Rattle.xml.specs.Operations.{exportTree, importTree};
 ghost use Rattle.mask.specs.Operations.{maskTree};
+ghost use Rattle.backward.specs.Operations.{searchTree};
 use block::show::place;
 use checks::translations::check_translation;
 use checks::trees::check_tree;
@@ -30,6 +31,7 @@ use mask::mask::mask;
 use reducer::reduce::reduce;
 use runner::run::run;
 use score::score::score;
+use search::search::search;
 use xml::operations::export;
 use xml::operations::import;
 
@@ -291,4 +293,25 @@ pub extern "C" fn algebra_edit(
     let outcome = edited.outcome;
     *index_length = edited.indexed as u64;
     hand_over(Answer { outcome: outcome }, plan_length)
+}
+
+// Search back: the first source tree of the root kind, within a limit of levels, whose run is the tree. Its length is put into
+// `length`.
+#[no_mangle]
+pub extern "C" fn algebra_search(
+    translation: &[u8],
+    root: u32,
+    tree: &[u8],
+    limit: u32,
+    workspace: &mut [u8],
+    output: &mut [u8],
+    length: &mut u64,
+) -> u32
+    ensures { λ r. ⌜ (r ≡ numberOf (searchTree (now (translation .entry)) root (now (tree .entry)) limit (now (workspace .entry)) (now (output .entry)) .outcome))
+        × (now (length .exit) ≡ lengthOf (searchTree (now (translation .entry)) root (now (tree .entry)) limit (now (workspace .entry)) (now (output .entry)) .outcome))
+        × (now (output .exit) ≡ searchTree (now (translation .entry)) root (now (tree .entry)) limit (now (workspace .entry)) (now (output .entry)) .output)
+        × (now (workspace .exit) ≡ searchTree (now (translation .entry)) root (now (tree .entry)) limit (now (workspace .entry)) (now (output .entry)) .workspace) ⌝ }
+{
+    let answer = search(translation, root, tree, limit, workspace, output);
+    hand_over(answer, length)
 }

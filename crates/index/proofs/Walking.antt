@@ -4,7 +4,7 @@ use mathlib.Core.Path.{_≡_, refl, sym, ap, _∙_}
 use mathlib.Core.Bool.{Bool, true, false}
 use mathlib.Core.List.{List, [], _∷_, _++_, append-assoc, append-nil}
 use native.Mathlib.Omega.{arith}
-use lib.ListN.{length, drop, take, length-append}
+use lib.ListN.{length, getD, drop, take, length-append}
 use lib.Seq.{drop-drop, drop-append-seam, take-append-le, drop-at, length-take-le, take-take}
 use Rattle.fields.specs.Inner.Writing.{spliced}
 use Rattle.fields.specs.Lists.{concatMap}
@@ -21,6 +21,7 @@ use Rattle.index.specs.declared.walk.Marked.{Marked}
 use Rattle.index.specs.declared.walk.Marked.the-variants.{To, Differs}
 use Rattle.index.proofs.Rows.{kinds-end, Turn, turn, none-left}
 use Rattle.index.proofs.Pairs.{entry-length}
+use Rattle.index.proofs.Shapes.{is-token}
 
 -- A tree by its shape.
 pub shape-size : {l : Language} {k : ℕ} {t : Code} {ts : Codes} {ks : List ℕ} {f : ℕ} → Shape l k t ts ks f → size t ≡ f + length (writeAll tree ts)
@@ -71,6 +72,11 @@ mutual
   entries-few-all (cons t ts) a =
       let e = ap length (entries-append (spans a t) (spansAll (a + size t) ts)) ∙ length-append (entries (spans a t)) (entries (spansAll (a + size t) ts)) in
       omega (arith, e, length-append (write tree t) (writeAll tree ts), entries-few t a, entries-few-all ts (a + size t))
+
+-- The entry of a token.
+token-entries : (t : Code) (v a : ℕ) → t ≡ token v → (entries (spans a t) ≡ entry (span a 2)) × (size t ≡ 2)
+unfolding spans write entries concatMap
+token-entries t v a e = rw e (append-nil (entry (span a 2)), refl)
 
 -- What stands in an index, one part behind another.
 module _ (i : List ℕ) (n : ℕ) (v u : List ℕ) where
@@ -186,6 +192,26 @@ module _ (x s b : List ℕ) (at base : ℕ) (compare : Bool) (i o o′ : List �
 
     pub walk-kind : q < length s
     walk-kind = w .kinds q (w .from) here .0
+
+    -- An operand of a class, whose place in the language's index is c, is a token.
+    module _ (k j c : ℕ) (ek : k ≡ getD s q 0) (ej : j ≡ k) (ec : c ≡ getD x j 0) (some : c ≡ 0 → ⊥) where
+      head-token : (v : ℕ) × (walk-turn .head ≡ token v)
+      head-token = is-token x s b to (getD s q 0) l (walk-turn .head) (walk-turn .there) j c (ej ∙ ek) ec some
+
+      head-entries : (entries (spans (base + to) (walk-turn .head)) ≡ entry (span (base + to) 2)) × (size (walk-turn .head) ≡ 2)
+      head-entries = token-entries (walk-turn .head) (head-token .0) (base + to) (head-token .1)
+
+      pub value-inside : to + 2 ≤ length b
+      value-inside = let p = walk-turn .row .lie .inside in omega (arith, head-entries .1)
+
+      module _ (o″ : List ℕ) (r : Bool) (er : Marks compare i (entry (span (base + to) 2)) o′ o″ m r) where
+        pub value-differs : r ≡ false → Walks compare i (entries (spans (base + to) (walk-turn .head))) o′ o″ m (to + size (walk-turn .head)) Differs
+        value-differs e = rw (head-entries .0) (walks-differs (er .differs e))
+
+        pub value-walks : r ≡ true → Walks compare i (entries (spans (base + to) (walk-turn .head))) o′ o″ m (to + size (walk-turn .head)) (To (to + 2) (m + 4))
+        value-walks e =
+            let four : m + length (entry (span (base + to) 2)) ≡ m + 4 = ap (λ (n : ℕ). m + n) (entry-length (base + to) 2) in
+            rw (head-entries .0) (walks-to (ap (λ (n : ℕ). to + n) (sym (head-entries .1))) (rw four at (er .done e)))
 
     others-are : entries (spansAll (base + to) (w .others)) ≡ entries (spans (base + to) (walk-turn .head)) ++ entries (spansAll (base + (to + size (walk-turn .head))) (walk-turn .tail))
     unfolding spans

@@ -2,6 +2,8 @@
 use crate::entries::ENTRY;
 use crate::entries::mark;
 use crate::operands::operands_at;
+use fields::bytes::to_usize;
+use reader::node::place_at;
 ghost use Prim.Native.Nat.{_+_};
 ghost use Rattle.language.specs.Language.{Language};
 ghost use Rattle.reader.specs.Code.{Code};
@@ -15,7 +17,11 @@ pub enum Marked {
     Differs,
 }
 
-// Deals with the entries of the tree of a kind that starts at a position. Starts are counted from `base`.
+// How many bytes a token has.
+const TOKEN: usize = 2;
+
+// Deals with the entries of the tree of a kind that starts at a position. Starts are counted from `base`. Tokens among the
+// operands are dealt with here, productions one call deeper.
 pub fn mark_at(
     language: &[u8],
     places: &[u16],
@@ -38,18 +44,18 @@ pub fn mark_at(
     let mut to = operands.to;
     let mut m = n + ENTRY;
     while q < last {
-        let Marked::To(e, k) = mark_at(
-            language,
-            places,
-            language[q],
-            tree,
-            to,
-            base,
-            compare,
-            index,
-            out,
-            m,
-        ) else {
+        let of = language[q];
+        if place_at(places, to_usize(of)) != 0 {
+            if !mark(base + to, TOKEN, compare, index, out, m) {
+                return Marked::Differs;
+            }
+            to += TOKEN;
+            m += ENTRY;
+            q += 1;
+            continue;
+        }
+        let Marked::To(e, k) = mark_at(language, places, of, tree, to, base, compare, index, out, m)
+        else {
             return Marked::Differs;
         };
         to = e;

@@ -1,7 +1,7 @@
 -- Joined loads put one behind the other: a law for each turn and each return of `join_figures`, `join_load` and `join_loads`.
 use Prim.Native.Nat.{ℕ, zero, suc, _+_, _*_, _-_, _<_, _≤_}
 use mathlib.Core.Path.{_≡_, refl, sym, ap, _∙_}
-use mathlib.Core.Bool.{Bool, true, false, cond, _&&_}
+use mathlib.Core.Bool.{Bool, true, false, _&&_}
 use mathlib.Core.Logic.{_⊎_, inl, inr, ⊎-elim}
 use mathlib.Core.List.{List, [], _∷_, _++_, map, append-assoc, append-nil}
 use native.Mathlib.Omega.{arith}
@@ -25,7 +25,6 @@ use Rattle.language.proofs.Holds.{holds-entries}
 use Rattle.language.proofs.Lookup.{arguments-mem, mem-arguments}
 use Rattle.reader.specs.Code.{Code}
 use Rattle.reader.specs.Syntax.{write, code}
-use Rattle.reader.specs.declared.node.Syntax.the-variants as Syntaxes
 use Rattle.reader.proofs.Sound.{read-done}
 use Rattle.translation.specs.Translation.{Translation, mapped}
 use Rattle.translation.specs.Running.{readClause, clausesOf, mappedArguments, codeLevels}
@@ -37,19 +36,17 @@ use Rattle.translation.proofs.IndexedItems.{mapped-is}
 use Rattle.emitter.specs.Inner.Stands.{Stands}
 use Rattle.emitter.specs.Inner.Table.{Checked}
 use Rattle.emitter.proofs.Clauses as Clauses
-use mir.Syntax.{w64}
-use mir.Val.{toZ, ofZ}
-use Rattle.score.proofs.Integers.{between-near, back}
 use Rattle.score.specs.Figures.{figureBytes, isFigure}
 use Rattle.score.specs.LoadTable.{load, loadField, encodeTable}
 use Rattle.score.specs.Linear.{Loads, form}
 use Rattle.score.specs.Inner.Terms.{TermAsks}
+use Rattle.score.specs.declared.form.Formed.{Formed}
+use Rattle.score.specs.declared.form.Formed.the-variants as Ends
 use Rattle.loads.specs.Joined.{placeFits, loadFits, joinedLoad, joinedTable}
-use Rattle.loads.specs.Inner.Loading.{figuredOf, FigureIn, Parts, clauseAt, figuresBytes, loadBytes, LoadAsks, Puts}
-use Rattle.loads.specs.declared.join.Figured.{Figured}
-use Rattle.loads.specs.declared.join.Figured.the-variants as Figured
+use Rattle.loads.specs.Inner.Loading.{Parts, clauseAt, figuresBytes, loadBytes, LoadAsks, Puts}
 use Rattle.loads.specs.declared.join.Joined.{Joined}
 use Rattle.loads.specs.declared.join.Joined.the-variants.{To, Outside}
+use Rattle.loads.proofs.Places.{RowOf, placeOf, row-is, row-fits}
 use Rattle.loads.proofs.Puts.{written-long}
 
 -- What an answer says.
@@ -70,24 +67,6 @@ puts-done {fits} {v} {o} {after} {n} h w = record {
 
 pub puts-outside : {fits : Bool} {v o after : List ℕ} {n : ℕ} → fits ≡ false → Puts fits v o after n Outside
 puts-outside h = record { done = λ k e. out-not e; outside = λ e. h }
-
-figured-at : (t : Bool) (v z : ℤ) → cond t (Figured.Fits v) Figured.Outside ≡ Figured.Fits z → (t ≡ true) × (v ≡ z)
-figured-at true v z e = (refl, cc)
-figured-at false v z e = let y : _≡_ {A = ℕ} 0 1 = cc in absurd (omega arith)
-
-figured-out : (t : Bool) (v : ℤ) → cond t (Figured.Fits v) Figured.Outside ≡ Figured.Outside → t ≡ false
-figured-out true v e = let y : _≡_ {A = ℕ} 0 1 = cc in absurd (omega arith)
-figured-out false v e = refl
-
--- A figure that was given, as the machine reads it.
-pub figure-back : (r : Figured) (z : ℤ) → FigureIn r → r ≡ Figured.Fits z → toZ w64 (ofZ w64 z) ≡ z
-figure-back r z h e =
-    let g : isFigure z ≡ true = rw e at h in
-    let n = between-near 32767 32767 z g (omega arith) in
-    back w64 z (omega arith)
-
-pub figure-good : (r : Figured) (z : ℤ) → FigureIn r → r ≡ Figured.Fits z → isFigure (toZ w64 (ofZ w64 z)) ≡ true
-figure-good r z h e = rw (figure-back r z h e) (rw e at h)
 
 -- The next of the numbers.
 count-next : (count j : ℕ) → j < count → countUp (count - j) j ≡ j ∷ countUp (count - (j + 1)) (j + 1)
@@ -130,29 +109,26 @@ module _ {w : Loads} {u : Code} {count : ℕ} {o after : List ℕ} {pos to j : �
       let e = v .place in
       (omega arith, l)
 
-  module _ (h : j < count) (r : Figured) (er : r ≡ figuredOf w u j) where
-    pub figure-outside : r ≡ Figured.Outside → all (placeFits w u) (countUp count 0) ≡ false
-    unfolding figuredOf
-    figure-outside e =
-        let f = figured-out (placeFits w u j) (form w u j) (sym er ∙ e) in
-        v .fits ∙ (fits-next w u count j h ∙ ap (λ (t : Bool). t && all (placeFits w u) (countUp (count - (j + 1)) (j + 1))) f)
+  module _ {row : List ℤ} {end : ℕ} {r : Formed} (d : RowOf w u count row end r) (x : ℕ) (y : r ≡ Ends.To x) (h : j < count) (z : ℤ)
+      (ez : z ≡ placeOf row j) where
+    pub figure-outside : isFigure z ≡ false → all (placeFits w u) (countUp count 0) ≡ false
+    figure-outside o = v .fits ∙ (fits-next w u count j h ∙ ap (λ (t : Bool). t && all (placeFits w u) (countUp (count - (j + 1)) (j + 1))) (row-fits d x y j h z ez false o))
 
-    pub figure-next : (z y : ℤ) → r ≡ Figured.Fits z → y ≡ z → (more : List ℕ) (m : ℕ) → Written (figureBytes y) after more to m → Figuring w u count o more pos m (j + 1)
-    unfolding figuredOf figureBytes
-    figure-next z y ez ey more m p =
-        let f = figured-at (placeFits w u j) (form w u j) z (sym er ∙ ez) in
+    pub figure-next : isFigure z ≡ true → (more : List ℕ) (m : ℕ) → Written (figureBytes z) after more to m → Figuring w u count o more pos m (j + 1)
+    unfolding figureBytes
+    figure-next g more m p =
         let l = written-long (v .done) o after pos to (v .put) in
-        let s : y ≡ form w u j = ey ∙ sym (f .1) in
+        let s : z ≡ form w u j = ez ∙ row-is d x y j h in
         let e = p .end in
-        let d = v .place in
+        let k = v .place in
         record {
-          done = v .done ++ figureBytes y;
-          put = written-then (v .done) (figureBytes y) o after more pos to m (v .put) p l;
+          done = v .done ++ figureBytes z;
+          put = written-then (v .done) (figureBytes z) o after more pos to m (v .put) p l;
           rest =
-              append-assoc (v .done) (figureBytes y) (figuresBytes w u (count - (j + 1)) (j + 1))
-              ∙ (ap (λ (k : ℤ). v .done ++ (figureBytes k ++ figuresBytes w u (count - (j + 1)) (j + 1))) s
-              ∙ (ap (λ (k : List ℕ). v .done ++ k) (sym (figures-next w u count j h)) ∙ v .rest));
-          fits = v .fits ∙ (fits-next w u count j h ∙ ap (λ (t : Bool). t && all (placeFits w u) (countUp (count - (j + 1)) (j + 1))) (f .0));
+              append-assoc (v .done) (figureBytes z) (figuresBytes w u (count - (j + 1)) (j + 1))
+              ∙ (ap (λ (n : ℤ). v .done ++ (figureBytes n ++ figuresBytes w u (count - (j + 1)) (j + 1))) s
+              ∙ (ap (λ (n : List ℕ). v .done ++ n) (sym (figures-next w u count j h)) ∙ v .rest));
+          fits = v .fits ∙ (fits-next w u count j h ∙ ap (λ (t : Bool). t && all (placeFits w u) (countUp (count - (j + 1)) (j + 1))) (row-fits d x y j h z ez true g));
           place = omega arith;
         }
 
@@ -243,7 +219,7 @@ module _ {s t index b items : List ℕ} {fig : List ℤ} {p count : ℕ} {f : Tr
       (omega arith, omega arith)
 
   pub clause-term : (kind place at pair : ℕ) → kind ≡ mappedAt b items k → kind < 32 → pair ≡ pairAt s (p + 3) → place ≡ getD items (32 + pair) 0 → at ≡ place + 4
-      → TermAsks Syntaxes.Code t index fig b kind at 16 (f .target) (mappedArguments f k n) w (clauseAt f s p)
+      → TermAsks t index fig b kind at 16 (f .target) (mappedArguments f k n) w (clauseAt f s p)
   unfolding readClause fieldEnd
   clause-term kind place at pair ek hk er ep ea =
       let x = a .parts .indexed in
@@ -270,16 +246,12 @@ module _ {s t index b items : List ℕ} {fig : List ℤ} {p count : ℕ} {f : Tr
       let spot : q + 5 ≡ at = omega (arith, found, ea) in
       record {
         world = a .parts .world;
-        plain = λ e. absurd (tree-code e);
         typed = rw (ek ∙ mapped-is b items (f .body) x k kind-in, same) (d .0);
         kind = hk;
         stands = rw (same, ← spot) stands;
         levels = rw same (d .1);
       }
     where
-      tree-code : Syntaxes.Code ≡ Syntaxes.Tree → ⊥
-      tree-code e = let y : _≡_ {A = ℕ} 0 1 = cc in omega arith
-
       part-small : (i e : ℕ) → Bytes (slice i e b)
       part-small i e =
           let whole : Bytes b = bytes-from b (λ j l. body-bytes j) in
@@ -407,6 +379,11 @@ module _ {s t index b items : List ℕ} {fig : List ℤ} {f : Translation} {w : 
           kinds = kinds-are;
           known = mem-arguments (f .source) source-rises _ _ kinds-are (rw (← entry-is) (rw (← held .entries) (mem-map (entryAt s) p (places s) in-places)));
         }
+
+        -- A load has a constant and at most eight factors.
+        pub join-few : (e : ℕ) → e ≡ fieldEnd s p → (0 < e - p - 4) × (e - p - 4 ≤ 9)
+        unfolding fieldEnd
+        join-few e ee = let i = is-production tag .two in let m = is-production tag .ten in (omega arith, omega arith)
 
         pub join-room : (e : ℕ) → e ≡ fieldEnd s p → n + 5 + 2 * (e - p - 4) ≤ 2048
         join-room e ee = let i = entry-in in let r = v .room in omega (arith, i .0, i .1, i .2)

@@ -1,4 +1,5 @@
 pub mod Puts
+pub mod Places
 pub mod Joins
 pub mod Answering
 pub mod Linear

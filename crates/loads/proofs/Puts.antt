@@ -1,7 +1,6 @@
--- Bytes that fit, and figures of a code: a law for each return of `put_figure`, `put_head` and `figure_at`.
+-- Bytes that fit: a law for each return of `put_figure` and `put_head`.
 use Prim.Native.Nat.{ℕ, _+_, _/_, _%_, _≤_}
-use mathlib.Core.Path.{_≡_, refl, sym, ap, _∙_}
-use mathlib.Core.Bool.{true, false}
+use mathlib.Core.Path.{_≡_, ap, _∙_}
 use mathlib.Core.List.{List, [], _∷_, _++_}
 use native.Mathlib.Omega.{arith}
 use lib.ListN.{length}
@@ -12,18 +11,8 @@ use Rattle.fields.specs.Fields.{twoBytes}
 use Rattle.fields.specs.Inner.Writing.{Written}
 use Rattle.fields.proofs.Truth.{by-test}
 use Rattle.fields.proofs.Splices.{length-spliced, written-then}
-use Rattle.reader.specs.Code.{Code}
-use Rattle.reader.specs.declared.node.Syntax.the-variants as Syntaxes
 use Rattle.emitter.specs.Inner.Stands.{Wrote}
-use Rattle.score.specs.Figures.{unsigned, figureBytes, isFigure}
-use Rattle.score.specs.Linear.{Loads, form, passes}
-use Rattle.score.specs.Inner.Terms.{limit, formedOf}
-use Rattle.score.specs.declared.form.Formed.{Formed}
-use Rattle.score.specs.declared.form.Formed.the-variants as Formed
-use Rattle.score.proofs.Walking.{formed-at, formed-out}
-use Rattle.loads.specs.Joined.{placeFits}
-use Rattle.loads.specs.Inner.Loading.{figuredOf}
-use Rattle.loads.specs.declared.join.Figured.the-variants.{Fits, Outside}
+use Rattle.score.specs.Figures.{unsigned, figureBytes}
 
 -- What fits was put in.
 pub wrote-in : (v o after : List ℕ) (pos r : ℕ) → Wrote v o after pos r → pos + length v ≤ length o → Written v o after pos r
@@ -66,25 +55,3 @@ module _ (size x y : ℕ) (o p q after : List ℕ) (pos a b r : ℕ) (room : pos
         let c = wrote-in _ q after b r w (k .0) in
         let first = written-then _ _ o p q pos a b one two (h .1) in
         written-then _ _ o q after pos b r first c (k .1)
-
--- figure_at: y is what the machine reads of the form z
-module _ (w : Loads) (c : Code) (j n : ℕ) (r : Formed) (er : r ≡ formedOf Syntaxes.Code w c j n) where
-  pub figure-out : r ≡ Formed.Outside → Outside ≡ figuredOf w c j
-  unfolding formedOf limit figuredOf placeFits
-  figure-out e = let f : passes isFigure w c j ≡ false = formed-out _ _ _ (sym er ∙ e) in rw f refl
-
-  module _ (z y : ℤ) (e : ℕ) (ez : r ≡ Formed.At z e) (ey : y ≡ z) where
-    said : (passes isFigure w c j ≡ true) × (form w c j ≡ z) × (n ≡ e)
-    unfolding formedOf limit
-    said = formed-at _ _ _ _ _ (sym er ∙ ez)
-
-    is-form : y ≡ form w c j
-    is-form = ey ∙ sym (said .1)
-
-    pub figure-wide : isFigure y ≡ false → Outside ≡ figuredOf w c j
-    unfolding figuredOf placeFits
-    figure-wide h = let f : isFigure (form w c j) ≡ false = rw (← is-form) h in rw (said .0, f) refl
-
-    pub figure-fits : isFigure y ≡ true → Fits y ≡ figuredOf w c j
-    unfolding figuredOf placeFits
-    figure-fits h = let f : isFigure (form w c j) ≡ true = rw (← is-form) h in rw (said .0, f) (ap Fits is-form)

@@ -20,6 +20,7 @@ use reader::node::place_at;
 use score::figures::encode;
 use score::figures::is_figure;
 use score::form::Formed;
+use score::form::PLACES;
 use score::form::form_at;
 use score::table::FIGURES;
 use score::table::LOAD;
@@ -39,7 +40,6 @@ ghost use Rattle.fields.specs.Fields.{twoBytes};
 ghost use Rattle.fields.specs.Inner.Writing.{Written};
 ghost use Rattle.reader.specs.Code.{Code};
 ghost use Rattle.language.specs.Language.{Language};
-ghost use Rattle.reader.specs.declared.node.Syntax.the-variants as Syntaxes;
 ghost use Rattle.translation.specs.Translation.{Translation};
 ghost use Rattle.emitter.specs.Inner.Table.{Checked};
 ghost use Rattle.score.specs.Figures.{isFigure, figureBytes};
@@ -48,19 +48,13 @@ ghost use Rattle.score.specs.LoadTable.{Table, encodeTable};
 ghost use Rattle.score.specs.Inner.Kept.{Kept};
 ghost use Rattle.score.specs.Inner.Terms.{TermAsks};
 ghost use Rattle.loads.specs.Joined.{placeFits, loadFits, joinedTable, joinTable};
-ghost use Rattle.loads.specs.Inner.Loading.{figuredOf, FigureIn, Parts, LoadAsks, clauseAt, figuresBytes, loadBytes, Puts, Answers, joinOn, joinWith};
+ghost use Rattle.loads.specs.Inner.Loading.{Parts, LoadAsks, clauseAt, figuresBytes, loadBytes, Puts, Answers, joinOn, joinWith};
 
 // A joined table has at most so many bytes: a load has less than two for each byte of its production's field.
 const JOINED: usize = 2048;
 
 // The levels that the code of a clause may have.
 const CODE_LEVELS: usize = 16;
-
-// A figure that fits two bytes, or that one does not.
-pub enum Figured {
-    Fits(i64),
-    Outside,
-}
 
 // Where what was put ends, or that a figure does not fit two bytes.
 pub enum Joined {
@@ -93,42 +87,6 @@ fn put_head(result: u8, name: u8, size: usize, output: &mut [u8], pos: usize) ->
     put_token(Syntax::Tree, result, name, output, b)
 }
 
-// A place of the form of the code at a position of the body.
-fn figure_at(
-    target: &[u8],
-    index: &[u16],
-    figures: &[i32],
-    kind: u8,
-    body: &[u8],
-    at: usize,
-    place: usize,
-) -> Figured
-    requires { ⌜ ((l : Language) × (given : List ℕ) × (w : Loads) × (u : Code) × TermAsks Syntaxes.Code (now target) (now index) (now figures) (now body) kind at 16 l given w u) ⌝ }
-    ensures is { λ r. ⌜ ((l : Language) (given : List ℕ) (w : Loads) (u : Code) → TermAsks Syntaxes.Code (now (target .entry)) (now (index .entry)) (now (figures .entry)) (now (body .entry)) kind at 16 l given w u
-        → r ≡ figuredOf w u place) ⌝ }
-    ensures within { λ r. ⌜ FigureIn r ⌝ }
-{
-    match form_at(
-        Syntax::Code,
-        target,
-        index,
-        figures,
-        kind,
-        body,
-        at,
-        place,
-        CODE_LEVELS,
-    ) {
-        Formed::At(z, e) => {
-            if !is_figure(z) {
-                return Figured::Outside;
-            }
-            Figured::Fits(z)
-        }
-        Formed::Outside => Figured::Outside,
-    }
-}
-
 // Puts so many places of the form of the code at a position of the body, each as a figure.
 fn join_figures(
     target: &[u8],
@@ -141,16 +99,32 @@ fn join_figures(
     joined: &mut [u8],
     pos: usize,
 ) -> Joined
-    requires { ⌜ (pos + 2 * count ≤ length (now joined)) × ((l : Language) × (given : List ℕ) × (w : Loads) × (u : Code) × TermAsks Syntaxes.Code (now target) (now index) (now figures) (now body) kind at 16 l given w u) ⌝ }
-    ensures { λ r. ⌜ ((l : Language) (given : List ℕ) (w : Loads) (u : Code) → TermAsks Syntaxes.Code (now (target .entry)) (now (index .entry)) (now (figures .entry)) (now (body .entry)) kind at 16 l given w u
+    requires { ⌜ (pos + 2 * count ≤ length (now joined)) × (0 < count) × (count ≤ 9) × ((l : Language) × (given : List ℕ) × (w : Loads) × (u : Code) × TermAsks (now target) (now index) (now figures) (now body) kind at 16 l given w u) ⌝ }
+    ensures { λ r. ⌜ ((l : Language) (given : List ℕ) (w : Loads) (u : Code) → TermAsks (now (target .entry)) (now (index .entry)) (now (figures .entry)) (now (body .entry)) kind at 16 l given w u
         → Puts (all (placeFits w u) (countUp count 0)) (figuresBytes w u count 0) (now (joined .entry)) (now (joined .exit)) pos r) ⌝ }
 {
+    let mut row = [0i64; PLACES];
+    let Formed::To(end) = form_at(
+        target,
+        index,
+        figures,
+        kind,
+        body,
+        at,
+        CODE_LEVELS,
+        1,
+        count,
+        &mut row,
+    ) else {
+        return Joined::Outside;
+    };
     let mut to = pos;
     let mut j = 0;
     while j < count {
-        let Figured::Fits(z) = figure_at(target, index, figures, kind, body, at, j) else {
+        let z = row[j];
+        if !is_figure(z) {
             return Joined::Outside;
-        };
+        }
         to = put_figure(z, joined, to);
         j += 1;
     }
@@ -170,7 +144,7 @@ fn join_load(
     joined: &mut [u8],
     pos: usize,
 ) -> Joined
-    requires { ⌜ (pos + 5 + 2 * count ≤ length (now joined)) × (length (now joined) ≡ 2048) × ((f : Translation) × (w : Loads) × LoadAsks (now source) (now target) (now index) (now body) (now items) (now figures) p count f w) ⌝ }
+    requires { ⌜ (pos + 5 + 2 * count ≤ length (now joined)) × (length (now joined) ≡ 2048) × (0 < count) × (count ≤ 9) × ((f : Translation) × (w : Loads) × LoadAsks (now source) (now target) (now index) (now body) (now items) (now figures) p count f w) ⌝ }
     ensures { λ r. ⌜ ((f : Translation) (w : Loads) → LoadAsks (now (source .entry)) (now (target .entry)) (now (index .entry)) (now (body .entry)) (now (items .entry)) (now (figures .entry)) p count f w
         → Puts (all (placeFits w (clauseAt f (now (source .entry)) p)) (countUp count 0)) (loadBytes f w (now (source .entry)) p count) (now (joined .entry)) (now (joined .exit)) pos r) ⌝ }
 {

@@ -1,31 +1,33 @@
 -- The loop of `form_node`: the operands that are still to be added, a law for each turn and each return.
-use Prim.Native.Nat.{ℕ, suc, max, _+_, _-_, _<_, _≤_}
+use Prim.Native.Nat.{ℕ, zero, suc, max, _+_, _*_, _-_, _<_, _≤_}
 use mathlib.Core.Path.{_≡_, refl, sym, ap, _∙_}
-use mathlib.Core.Bool.{Bool, true, false, cond, _&&_}
+use mathlib.Core.Bool.{Bool, true, false, _&&_}
 use mathlib.Core.List.{List, _∷_, _++_}
 use native.Mathlib.Omega.{arith}
-use lib.ListN.{length, getD, take, set, length-set, replicate, length-replicate}
-use lib.Seq.{length-take-le}
-use lib.IntN.{ℤ, pos, natAbs, _+ℤ_, _*ℤ_, +ℤ-assoc, +ℤ-idl, +ℤ-idr}
-use mir.Syntax.{w32, w64}
+use lib.ListN.{length, getD, set, length-set, replicate, getD-replicate, List·getD-eq-default, length-replicate, length-append}
+use lib.Seq.{getD-set-same, getD-set-other}
+use lib.Dec.{ltb}
+use lib.IntN.{ℤ, pos, natAbs, _+ℤ_, _*ℤ_, +ℤ-assoc, +ℤ-idr}
+use mir.Syntax.{w32}
 use mir.Val.{toZ, ofZ}
+use borrow.Author.Tests.{ltb-true, ltb-false}
 use Rattle.fields.specs.Fields.{pairAt}
+use Rattle.fields.proofs.Truth.{by-test}
 use Rattle.language.specs.Language.{Language}
-use Rattle.reader.specs.Code as Terms
-use Rattle.reader.specs.Code.{node, Codes, nil, cons, levels, levelsAll}
+use Rattle.reader.specs.Code.{Code, node, Codes, nil, cons, levels, levelsAll}
 use Rattle.reader.specs.Typing.{Typed, TypedAll, typed-nil, typed-cons}
 use Rattle.reader.specs.Syntax.{writeAll}
-use Rattle.reader.specs.declared.node.Syntax.{Syntax}
 use Rattle.emitter.specs.Inner.Stands.{Stands}
 use Rattle.emitter.proofs.Standing.{stands-both}
-use lib.ListN.{length-append}
+use Rattle.score.specs.Figures.{isFigure}
 use Rattle.score.specs.Linear.{Loads, constant, form, formAll, passes, passesAll}
-use Rattle.score.specs.Inner.Sums.{weighed, AllNear}
-use Rattle.score.specs.Inner.Terms.{limit, bytesOf, allBytes, TermAsks, KindsAt, NodeAsks, formedOf, finishedAt, Near}
+use Rattle.score.specs.Inner.Terms.{bytesOf, allBytes, TermAsks, KindsAt, NodeAsks, Asked, Added, AddsRow, Adds}
 use Rattle.score.specs.declared.form.Formed.{Formed}
-use Rattle.score.specs.declared.form.Formed.the-variants.{At, Outside}
-use Rattle.score.proofs.Integers.{back}
-use Rattle.score.proofs.Weighing.{weighed-nil, weighed-kept, zeros-near, store-near, part-near, factor-back, factor-near}
+use Rattle.score.specs.declared.form.Formed.the-variants.{To, Outside}
+use Rattle.score.proofs.Integers.{mul-within, add-within}
+use Rattle.score.proofs.Weighing.{factor-back, factor-near}
+use Rattle.score.proofs.Leaves.{added-as}
+use Rattle.score.proofs.Terms.{to-inj, to-not, out-not, adds-as}
 
 -- Each operand's form times the figure kept for it, the first figure at q.
 unfoldable pub weigh : Loads → List ℤ → ℕ → Codes → ℕ → ℤ
@@ -43,25 +45,41 @@ weigh-is (typed-cons {a = a} {t = t} {ks = ks} y ys) w fig g q j h =
     weigh-is ys w fig (λ i. g (suc i)) (q + 1) j (λ i k. let d : q + 1 + i ≡ q + suc i = omega arith in ap (λ (n : ℕ). getD fig n (pos 0)) d ∙ h (suc i) (omega arith)) in
     ap (λ (v : ℤ). v *ℤ form w a j +ℤ weigh w fig (q + 1) t j) e ∙ ap (λ (v : ℤ). g 0 *ℤ form w a j +ℤ v) more
 
--- Where the loop stands: i forms are kept, and the operands from there on are still to be read; those before them passed.
-pub record Walking (x : Syntax) (s : List ℕ) (fig : List ℤ) (b : List ℕ) (l : Language) (given : List ℕ) (w : Loads) (k p : ℕ) (ts : Codes) (place count end j left : ℕ) (forms : List ℤ) (i to : ℕ) : Type 0 where
+-- A row of zeros, and one with a constant.
+pub zero-at : (n j : ℕ) → getD (replicate n (pos 0)) j (pos 0) ≡ pos 0
+zero-at n j = by-test (ltb j n)
+    (λ h. getD-replicate n j (pos 0) (pos 0) (ltb-true j n h))
+    (λ h. List·getD-eq-default (replicate n (pos 0)) (pos 0) {n = j} (rw length-replicate (ltb-false j n h)))
+
+row-begin : (z : ℤ) (j : ℕ) → getD (set (replicate 9 (pos 0)) 0 z) j (pos 0) ≡ constant z j
+unfolding constant
+row-begin z zero = getD-set-same (replicate 9 (pos 0)) 0 z (pos 0) (rw length-replicate (omega arith))
+row-begin z (suc j) = getD-set-other (replicate 9 (pos 0)) 0 (suc j) z (pos 0) (λ e. absurd (omega arith)) ∙ zero-at 9 (suc j)
+
+constant-near : (z : ℤ) (j : ℕ) → natAbs z ≤ 32768 → natAbs (constant z j) ≤ 32768
+unfolding constant
+constant-near z zero h = h
+constant-near z (suc j) h = omega arith
+
+-- Where the loop stands: the operands from q on are still to be added to the row; those before them passed.
+pub record Walking (s : List ℕ) (fig : List ℤ) (b : List ℕ) (l : Language) (given : List ℕ) (w : Loads) (u : Code) (ts : Codes) (stop end left count : ℕ) (row : List ℤ) (q to : ℕ) : Type 0 where
   pub codes : Codes
   pub kinds : List ℕ
   pub typed : TypedAll l given codes kinds
-  pub stands : Stands b to (allBytes x codes)
+  pub stands : Stands b to (allBytes codes)
   pub levels : levelsAll codes ≤ left
-  pub known : KindsAt s (place + 4 + i) kinds
-  pub rest : i + length kinds ≡ count
-  pub few : count ≤ 8
-  pub ends : to + length (allBytes x codes) ≡ end
-  pub long : length forms ≡ 8
-  pub near : AllNear forms
-  pub sum : weighed fig (place + 4) (take i forms) +ℤ weigh w fig (place + 4 + i) codes j ≡ formAll w (λ i. w k p (suc i)) ts j
-  pub pass : passesAll (limit x) w ts j ≡ passesAll (limit x) w codes j
+  pub known : KindsAt s q kinds
+  pub rest : q + length kinds ≡ stop
+  pub few : length kinds ≤ 8
+  pub ends : to + length (allBytes codes) ≡ end
+  pub long : length row ≡ 9
+  pub near : (j : ℕ) → natAbs (getD row j (pos 0)) ≤ 32768 + (8 - length kinds) * 2147450880
+  pub sum : (j : ℕ) → j < count → getD row j (pos 0) +ℤ weigh w fig q codes j ≡ form w u j
+  pub pass : (j : ℕ) → j < count → passesAll isFigure w ts j ≡ passesAll isFigure w codes j
 
 -- The first operand that is still to be added, and the others.
 record First (l : Language) (given : List ℕ) (cs : Codes) (ks : List ℕ) : Type 0 where
-  code : Terms.Code
+  code : Code
   kind : ℕ
   codes : Codes
   kinds : List ℕ
@@ -79,36 +97,22 @@ none-left : {l : Language} {given : List ℕ} {cs : Codes} {ks : List ℕ} → T
 none-left typed-nil h = refl
 none-left (typed-cons y ys) h = absurd (omega arith)
 
--- What an answer says.
-pub formed-at : (t : Bool) (v z : ℤ) (n e : ℕ) → cond t (At v n) Outside ≡ At z e → (t ≡ true) × (v ≡ z) × (n ≡ e)
-formed-at true v z n e q = (refl, cc, cc)
-formed-at false v z n e q = let y : _≡_ {A = ℕ} 0 1 = cc in absurd (omega arith)
+-- A place that does not fit.
+pub adds-outside : {w : Loads} {u : Code} {factor : ℤ} {count : ℕ} {before after : List ℤ} {end : ℕ} → ((j : ℕ) × (j < count) × (passes isFigure w u j ≡ false))
+    → Adds w u factor count before after end Outside
+adds-outside h = record { done = λ e q. out-not q; outside = λ q. h }
 
-pub formed-out : (t : Bool) (v : ℤ) (n : ℕ) → cond t (At v n) Outside ≡ Outside → t ≡ false
-formed-out true v n q = let y : _≡_ {A = ℕ} 0 1 = cc in absurd (omega arith)
-formed-out false v n q = refl
-
--- A form that was given, as the machine reads it.
-pub form-back : (r : Formed) (z : ℤ) (e : ℕ) → Near r → r ≡ At z e → toZ w64 (ofZ w64 z) ≡ z
-form-back r z e h q = let n : natAbs z ≤ 1000000000 = rw q at h in back w64 z (omega arith)
-
-pub form-near : (r : Formed) (z : ℤ) (e : ℕ) → Near r → r ≡ At z e → natAbs (toZ w64 (ofZ w64 z)) ≤ 1000000000
-form-near r z e h q = rw (form-back r z e h q) (rw q at h)
-
-pub near-of : (r : Formed) (z : ℤ) (e : ℕ) → Near r → r ≡ At z e → natAbs z ≤ 1000000000
-near-of r z e h q = rw q at h
-
-module _ {x : Syntax} {s index : List ℕ} {fig : List ℤ} {place : ℕ} {b : List ℕ} {at left : ℕ} {l : Language} {given : List ℕ} {w : Loads} {k p : ℕ} {ts : Codes} {ks : List ℕ}
-    (a : NodeAsks x s index fig place b at left l given w k p ts ks) where
+module _ {s index : List ℕ} {fig : List ℤ} {place : ℕ} {b : List ℕ} {at left : ℕ} {l : Language} {given : List ℕ} {w : Loads} {k p : ℕ} {ts : Codes} {ks : List ℕ}
+    (a : NodeAsks s index fig place b at left l given w k p ts ks) where
   -- What the code may ask of the production.
   pub node-in : (place + 4 ≤ length s) × (length s ≤ 1024) × (length fig ≡ 1024)
   node-in = (a .production .there, a .world .indexed .sound .short, a .world .long)
 
-  pub count-is : (n : ℕ) → n ≡ pairAt s place → (2 ≤ n) × (n - 2 ≡ length ks) × (n - 2 ≤ 8)
-  count-is n e = let c = a .production .size in let f = a .production .few in (omega arith, omega arith, omega arith)
-
-  pub factors-in : place + 4 + length ks ≤ 1024
-  factors-in = let i = a .production .kinds .inside in let m = node-in in omega (arith, m .1)
+  pub stop-is : (n : ℕ) → n ≡ pairAt s place → (place + 2 + n ≡ place + 4 + length ks) × (place + 2 + n ≤ length s)
+  stop-is n e =
+      let c = a .production .size in
+      let i = a .production .kinds .inside in
+      (omega arith, omega arith)
 
   pub figure-back : (i : ℕ) → toZ w32 (ofZ w32 (getD fig i (pos 0))) ≡ getD fig i (pos 0)
   figure-back i = factor-back fig i (a .world .small)
@@ -116,57 +120,65 @@ module _ {x : Syntax} {s index : List ℕ} {fig : List ℤ} {place : ℕ} {b : L
   pub figure-near : (i : ℕ) → natAbs (toZ w32 (ofZ w32 (getD fig i (pos 0)))) ≤ 32768
   figure-near i = factor-near fig i (a .world .small)
 
-  pub walk-begin : (j n : ℕ) → n ≡ pairAt s place
-      → Walking x s fig b l given w k p ts place (n - 2) (at + length (allBytes x ts)) j left (replicate 8 (pos 0)) 0 at
-  walk-begin j n en =
-      let more = weigh-is (a .typed) w fig (λ i. w k p (suc i)) (place + 4) j
+  -- z is what the code puts for the constant f
+  pub walk-begin : (count n : ℕ) → n ≡ pairAt s place → (z f : ℤ) → z ≡ f → f ≡ toZ w32 (ofZ w32 (getD fig (place + 3) (pos 0)))
+      → Walking s fig b l given w (node k p ts) ts (place + 2 + n) (at + length (allBytes ts)) left count (set (replicate 9 (pos 0)) 0 z) (place + 4) at
+  unfolding form
+  walk-begin count n en z f ez ef =
+      let more : (j : ℕ) → weigh w fig (place + 4) ts j ≡ formAll w (λ i. w k p (suc i)) ts j = λ j. weigh-is (a .typed) w fig (λ i. w k p (suc i)) (place + 4) j
       (λ i h. let d : place + 4 + i ≡ place + 3 + suc i = omega arith in ap (λ (m : ℕ). getD fig m (pos 0)) d ∙ a .production .figures-are (suc i) (omega arith)) in
-      let z : place + 4 + 0 ≡ place + 4 = omega arith in
-      let c = count-is n en in
+      let here : place + 3 ≡ place + 3 + 0 = omega arith in
+      let kept : z ≡ getD fig (place + 3) (pos 0) = ez ∙ (ef ∙ figure-back (place + 3)) in
+      let is : z ≡ w k p 0 = kept ∙ (ap (λ (m : ℕ). getD fig m (pos 0)) here ∙ a .production .figures-are 0 (omega arith)) in
+      let small : natAbs z ≤ 32768 = rw (ez ∙ ef) (figure-near (place + 3)) in
+      let c = stop-is n en in
+      let g = a .production .few in
       record {
         codes = ts;
         kinds = ks;
         typed = a .typed;
         stands = a .stands;
         levels = a .levels;
-        known = rw z (a .production .kinds);
-        rest = omega (arith, c .1);
-        few = c .2;
+        known = a .production .kinds;
+        rest = omega (arith, c .0);
+        few = g;
         ends = refl;
-        long = length-replicate 8 (pos 0);
-        near = zeros-near 8;
-        sum =
-            ap (λ (v : ℤ). v +ℤ weigh w fig (place + 4 + 0) ts j) (weighed-nil fig (place + 4))
-            ∙ (+ℤ-idl (weigh w fig (place + 4 + 0) ts j) ∙ (ap (λ (m : ℕ). weigh w fig m ts j) z ∙ more));
-        pass = refl;
+        long = length-set (replicate 9 (pos 0)) 0 z ∙ length-replicate 9 (pos 0);
+        near = λ j. let h = constant-near z j small in rw (row-begin z j) (omega arith);
+        sum = λ j h.
+            ap (λ (v : ℤ). v +ℤ weigh w fig (place + 4) ts j) (row-begin z j ∙ ap (λ (v : ℤ). constant v j) is)
+            ∙ ap (λ (v : ℤ). constant (w k p 0) j +ℤ v) (more j);
+        pass = λ j h. refl;
       }
 
-  module _ {count end j : ℕ} {forms : List ℤ} {i to : ℕ} (v : Walking x s fig b l given w k p ts place count end j left forms i to) where
-    module _ (h : i < count) where
+  module _ {stop end count : ℕ} {row : List ℤ} {q to : ℕ} (v : Walking s fig b l given w (node k p ts) ts stop end left count row q to) where
+    pub row-asked : {factor : ℤ} {sum : List ℤ} → Asked factor count sum → (f : ℤ) → natAbs f ≤ 32768 → Asked f count row
+    row-asked c f h = record { long = v .long; some = c .some; few = c .few; small = h; room = λ j. let n = v .near j in omega arith }
+
+    module _ (h : q < stop) where
       ahead : First l given (v .codes) (v .kinds)
       ahead = first-of (v .typed) (let c = v .rest in omega arith)
 
-      pub row-in : (place + 4 + i < length s) × (place + 4 + i < 1024) × (i < 8)
+      pub row-in : (q < length s) × (q < 1024)
       row-in =
           let d = v .known .inside in
           let c = v .rest in
           let m = node-in in
-          let f = v .few in
-          (omega arith, omega (arith, m .1), omega arith)
+          (omega arith, omega (arith, m .1))
 
-      here : (getD s (place + 4 + i) 0 ≡ ahead .kind) × (ahead .kind < 32)
+      here : (getD s q 0 ≡ ahead .kind) × (ahead .kind < 32)
       here =
           let c = v .rest in
           let g = v .known .is 0 (omega arith) in
-          let z : place + 4 + i + 0 ≡ place + 4 + i = omega arith in
+          let z : q + 0 ≡ q = omega arith in
           let e : getD (v .kinds) 0 0 ≡ ahead .kind = ap (λ (r : List ℕ). getD r 0 0) (ahead .is-kinds) in
           (ap (λ (n : ℕ). getD s n 0) (sym z) ∙ (g .0 ∙ e), rw (← e) (g .1))
 
-      bytes-are : allBytes x (v .codes) ≡ bytesOf x (ahead .code) ++ allBytes x (ahead .codes)
+      bytes-are : allBytes (v .codes) ≡ bytesOf (ahead .code) ++ allBytes (ahead .codes)
       unfolding writeAll
-      bytes-are = ap (allBytes x) (ahead .is-codes)
+      bytes-are = ap allBytes (ahead .is-codes)
 
-      both : Stands b to (bytesOf x (ahead .code)) × Stands b (to + length (bytesOf x (ahead .code))) (allBytes x (ahead .codes))
+      both : Stands b to (bytesOf (ahead .code)) × Stands b (to + length (bytesOf (ahead .code))) (allBytes (ahead .codes))
       both = stands-both b to _ _ (rw bytes-are at (v .stands))
 
       deep : (levels (ahead .code) ≤ left) × (levelsAll (ahead .codes) ≤ left)
@@ -174,103 +186,114 @@ module _ {x : Syntax} {s index : List ℕ} {fig : List ℤ} {place : ℕ} {b : L
       deep = let n = v .levels in let m : levelsAll (v .codes) ≡ max (levels (ahead .code)) (levelsAll (ahead .codes)) = ap levelsAll (ahead .is-codes) in (omega arith, omega arith)
 
       -- The operand that the code goes on to.
-      pub operand : Terms.Code
+      pub operand : Code
       operand = ahead .code
 
-      pub operand-asks : TermAsks x s index fig b (getD s (place + 4 + i) 0) to left l given w operand
+      pub operand-asks : TermAsks s index fig b (getD s q 0) to left l given w operand
       unfolding operand
       operand-asks =
           let g = here in
-          rw (g .0) (record { world = a .world; plain = a .plain; typed = ahead .typed; kind = g .1; stands = both .0; levels = deep .0 })
+          rw (g .0) (record { world = a .world; typed = ahead .typed; kind = g .1; stands = both .0; levels = deep .0 })
 
-      module _ (r : Formed) (er : r ≡ formedOf x w operand j (to + length (bytesOf x operand))) where
-        pub walk-outside : r ≡ Outside → Outside ≡ formedOf x w (node k p ts) j end
-        unfolding formedOf passes passesAll operand
+      module _ {f : ℤ} {after : List ℤ} {r : Formed} (d : Adds w operand f count row after (to + length (bytesOf operand)) r) where
+        pub walk-outside : r ≡ Outside → (j : ℕ) × (j < count) × (passes isFigure w (node k p ts) j ≡ false)
+        unfolding passes passesAll operand
         walk-outside y =
-            let f : passes (limit x) w (ahead .code) j ≡ false = formed-out _ _ _ (sym er ∙ y) in
-            let g : passesAll (limit x) w (v .codes) j ≡ false = ap (λ (c : Codes). passesAll (limit x) w c j) (ahead .is-codes) ∙ rw f refl in
-            rw (v .pass ∙ g) refl
+            let (j, i, o) = d .outside y in
+            let g : passesAll isFigure w (v .codes) j ≡ false = ap (λ (c : Codes). passesAll isFigure w c j) (ahead .is-codes) ∙ rw o refl in
+            (j, i, rw (v .pass j i ∙ g) refl)
 
-        -- y is what the machine reads of the form z
-        module _ (z y : ℤ) (e : ℕ) (ez : r ≡ At z e) (ey : y ≡ z) (hz : natAbs z ≤ 1000000000) where
-          said : (passes (limit x) w (ahead .code) j ≡ true) × (form w (ahead .code) j ≡ z) × (to + length (bytesOf x (ahead .code)) ≡ e)
-          unfolding formedOf operand
-          said = formed-at _ _ _ _ _ (sym er ∙ ez)
+        -- f is what the machine reads of the factor
+        module _ (e : ℕ) (ee : r ≡ To e) (ef : f ≡ toZ w32 (ofZ w32 (getD fig q (pos 0)))) where
+          told : (e ≡ to + length (bytesOf (ahead .code))) × ((j : ℕ) → j < count → passes isFigure w (ahead .code) j ≡ true) × Added (form w (ahead .code)) f count row after
+          unfolding operand
+          told = d .done e ee
 
-          abbrev from : ℕ
-          from = place + 4
-
-          added : weighed fig from (take (i + 1) (set forms i z)) +ℤ weigh w fig (from + (i + 1)) (ahead .codes) j ≡ formAll w (λ n. w k p (suc n)) ts j
+          more : (j : ℕ) → j < count → getD after j (pos 0) +ℤ weigh w fig (q + 1) (ahead .codes) j ≡ form w (node k p ts) j
           unfolding weigh
-          added =
-              let u : i < length forms = omega (arith, v .long, row-in .2) in
-              let f = getD fig (from + i) (pos 0) in
-              let rest = weigh w fig (from + i + 1) (ahead .codes) j in
-              let o : from + (i + 1) ≡ from + i + 1 = omega arith in
-              ap (λ (n : ℤ). n +ℤ weigh w fig (from + (i + 1)) (ahead .codes) j) (weighed-kept fig from forms i z u)
-              ∙ (ap (λ (n : ℕ). weighed fig from (take i forms) +ℤ f *ℤ z +ℤ weigh w fig n (ahead .codes) j) o
-              ∙ (+ℤ-assoc (weighed fig from (take i forms)) (f *ℤ z) rest
-              ∙ (ap (λ (n : ℤ). weighed fig from (take i forms) +ℤ (f *ℤ n +ℤ rest)) (sym (said .1))
-              ∙ (ap (λ (c : Codes). weighed fig from (take i forms) +ℤ weigh w fig (from + i) c j) (sym (ahead .is-codes)) ∙ v .sum))))
+          more j i =
+              let g = getD row j (pos 0) in
+              let x = getD fig q (pos 0) *ℤ form w (ahead .code) j in
+              let y = weigh w fig (q + 1) (ahead .codes) j in
+              let product : f *ℤ form w (ahead .code) j ≡ x = ap (λ (n : ℤ). n *ℤ form w (ahead .code) j) (ef ∙ figure-back q) in
+              ap (λ (n : ℤ). n +ℤ y) (told .2 .sums j i ∙ ap (λ (n : ℤ). g +ℤ n) product)
+              ∙ (+ℤ-assoc g x y ∙ (ap (λ (c : Codes). g +ℤ weigh w fig q c j) (sym (ahead .is-codes)) ∙ v .sum j i))
 
-          pub walk-next : Walking x s fig b l given w k p ts place count end j left (set forms i y) (i + 1) e
+          bound : (j : ℕ) → natAbs (getD after j (pos 0)) ≤ natAbs (getD row j (pos 0)) + 2147450880
+          bound j = by-test (ltb j count)
+              (λ y.
+              let i = ltb-true j count y in
+              let m = mul-within f (form w (ahead .code) j) 32768 65535 (rw ef (figure-near q)) (told .2 .near j i) in
+              let o = add-within (getD row j (pos 0)) (f *ℤ form w (ahead .code) j) (natAbs (getD row j (pos 0))) 2147450880 (omega arith) (omega arith) in
+              rw (told .2 .sums j i) o)
+              (λ y. rw (told .2 .others j (ltb-false j count y)) (omega arith))
+
+          pub walk-next : Walking s fig b l given w (node k p ts) ts stop end left count after (q + 1) e
           unfolding passesAll
           walk-next =
               let c = v .rest in
-              let d = v .known .inside in
+              let i = v .known .inside in
               let o = v .ends in
               let m : length (v .kinds) ≡ suc (length (ahead .kinds)) = ap length (ahead .is-kinds) in
-              let t = said in
-              let n : length (allBytes x (v .codes)) ≡ length (bytesOf x (ahead .code)) + length (allBytes x (ahead .codes)) = ap length bytes-are ∙ length-append (bytesOf x (ahead .code)) (allBytes x (ahead .codes)) in
-              let u : i < length forms = omega (arith, v .long, row-in .2) in
-              rw ey (record {
+              let g = v .few in
+              let n : length (allBytes (v .codes)) ≡ length (bytesOf (ahead .code)) + length (allBytes (ahead .codes)) = ap length bytes-are ∙ length-append (bytesOf (ahead .code)) (allBytes (ahead .codes)) in
+              record {
                 codes = ahead .codes;
                 kinds = ahead .kinds;
                 typed = ahead .others;
-                stands = rw (← t .2) (both .1);
+                stands = rw (told .0) (both .1);
                 levels = deep .1;
                 known = record {
                   inside = omega arith;
                   is = λ h' g'.
-                      let q = v .known .is (suc h') (omega arith) in
-                      let at' : place + 4 + i + suc h' ≡ place + 4 + (i + 1) + h' = omega arith in
+                      let x = v .known .is (suc h') (omega arith) in
+                      let at' : q + suc h' ≡ q + 1 + h' = omega arith in
                       let same : getD (v .kinds) (suc h') 0 ≡ getD (ahead .kinds) h' 0 = ap (λ (r' : List ℕ). getD r' (suc h') 0) (ahead .is-kinds) in
-                      (ap (λ (n' : ℕ). getD s n' 0) (sym at') ∙ (q .0 ∙ same), rw (← same) (q .1));
+                      (ap (λ (n' : ℕ). getD s n' 0) (sym at') ∙ (x .0 ∙ same), rw (← same) (x .1));
                 };
                 rest = omega arith;
-                few = v .few;
-                ends = omega (arith, t .2);
-                long = length-set forms i z ∙ v .long;
-                near = store-near forms i z u (v .near) hz;
-                sum = added;
-                pass = v .pass ∙ (ap (λ (c' : Codes). passesAll (limit x) w c' j) (ahead .is-codes) ∙ ap (λ (y' : Bool). y' && passesAll (limit x) w (ahead .codes) j) (t .0));
-              })
+                few = omega arith;
+                ends = omega (arith, told .0);
+                long = told .2 .long ∙ v .long;
+                near = λ j. let x = bound j in let y = v .near j in omega arith;
+                sum = more;
+                pass = λ j y. v .pass j y ∙ (ap (λ (c' : Codes). passesAll isFigure w c' j) (ahead .is-codes) ∙ ap (λ (y' : Bool). y' && passesAll isFigure w (ahead .codes) j) (told .1 j y));
+              }
 
-    -- What `weigh` asks of the forms that are kept.
-    pub walk-part : (n : ℕ) → n ≡ length ks → (place + 4 + length (take n forms) ≤ length fig) × (length (take n forms) ≤ 8) × AllNear (take n forms)
-    walk-part n e =
-        let f = a .production .few in
-        let m = factors-in in
-        let g = node-in in
-        let o : length (take n forms) ≡ n = length-take-le n forms (omega (arith, v .long)) in
-        (omega (arith, o, g .2), omega arith, part-near forms n (v .near))
+    module _ (h : stop ≤ q) where
+      none : v .codes ≡ nil
+      none = none-left (v .typed) (let c = v .rest in omega arith)
 
-    -- The sum that `weigh` gives: f is what the machine reads of the constant g.
-    pub walk-end : count ≤ i → (f g y : ℤ) (n : ℕ) → n ≡ count → g ≡ constant f j → f ≡ getD fig (place + 3) (pos 0) → y ≡ g +ℤ weighed fig (place + 4) (take n forms)
-        → (r : Formed) → r ≡ finishedAt x y to → r ≡ formedOf x w (node k p ts) j end
-    unfolding formedOf finishedAt passes passesAll weigh writeAll form
-    walk-end h f g y n en eg ef ey r er =
-        let c = v .rest in
-        let z : v .codes ≡ nil = none-left (v .typed) (omega arith) in
-        let same : n ≡ i = omega arith in
-        let here : place + 3 ≡ place + 3 + 0 = omega arith in
-        let figure : f ≡ w k p 0 = ef ∙ (ap (λ (m : ℕ). getD fig m (pos 0)) here ∙ a .production .figures-are 0 (omega arith)) in
-        let total : weighed fig (place + 4) (take n forms) ≡ formAll w (λ m. w k p (suc m)) ts j =
-        ap (λ (m : ℕ). weighed fig (place + 4) (take m forms)) same
-        ∙ (sym (+ℤ-idr (weighed fig (place + 4) (take i forms))) ∙ (ap (λ (c' : Codes). weighed fig (place + 4) (take i forms) +ℤ weigh w fig (place + 4 + i) c' j) (sym z) ∙ v .sum)) in
-        let all : y ≡ form w (node k p ts) j =
-        ey ∙ (ap (λ (m : ℤ). m +ℤ weighed fig (place + 4) (take n forms)) (eg ∙ ap (λ (m : ℤ). constant m j) figure) ∙ ap (λ (m : ℤ). constant (w k p 0) j +ℤ m) total) in
-        let t : passesAll (limit x) w ts j ≡ true = v .pass ∙ ap (λ (c' : Codes). passesAll (limit x) w c' j) z in
-        let o : length (allBytes x (v .codes)) ≡ 0 = ap (λ (c' : Codes). length (allBytes x c')) z in
-        let e : to ≡ end = omega (arith, v .ends, o) in
-        rw t (er ∙ (ap (λ (m : ℤ). finishedAt x m to) all ∙ ap (finishedAt x (form w (node k p ts) j)) e))
+      finished : (j : ℕ) → j < count → getD row j (pos 0) ≡ form w (node k p ts) j
+      unfolding weigh
+      finished j i = sym (+ℤ-idr (getD row j (pos 0))) ∙ (ap (λ (c : Codes). getD row j (pos 0) +ℤ weigh w fig q c j) (sym none) ∙ v .sum j i)
+
+      passed : (j : ℕ) → j < count → passesAll isFigure w ts j ≡ true
+      unfolding passesAll
+      passed j i = v .pass j i ∙ ap (λ (c : Codes). passesAll isFigure w c j) none
+
+      pub walk-ends : to ≡ end
+      unfolding writeAll
+      walk-ends = let o : length (allBytes (v .codes)) ≡ 0 = ap (λ (c : Codes). length (allBytes c)) none in omega (arith, v .ends)
+
+      -- f is what the machine reads of the factor
+      module _ {f : ℤ} {before after : List ℤ} {r : Bool} (d : AddsRow row f count before after r) where
+        pub walk-wide : r ≡ false → (j : ℕ) × (j < count) × (passes isFigure w (node k p ts) j ≡ false)
+        unfolding passes
+        walk-wide y =
+            let (j, i, o) = d .outside y in
+            let e : isFigure (form w (node k p ts) j) ≡ false = rw (← finished j i) o in
+            (j, i, rw (passed j i, e) refl)
+
+        pub walk-end : {factor : ℤ} → f ≡ factor → r ≡ true → Adds w (node k p ts) factor count before after end (To to)
+        unfolding passes
+        walk-end ef y =
+            let (x, g) = d .done y in
+            adds-as refl ef refl (record {
+              done = λ e q. (
+                sym (to-inj q) ∙ walk-ends,
+                (λ j i. let o : isFigure (form w (node k p ts) j) ≡ true = rw (← finished j i) (x j i) in rw (passed j i, o) refl),
+                added-as finished g,
+              );
+              outside = λ q. to-not q;
+            })

@@ -17,6 +17,8 @@ mod loose;
 mod mask;
 #[path = "differential/score.rs"]
 mod score;
+#[path = "differential/search.rs"]
+mod search;
 #[path = "differential/xml.rs"]
 mod xml;
 
@@ -159,6 +161,12 @@ const OPERATIONS: &[Operation] = &[
         find: |random| mask::compare(random).finding(),
     },
     Operation {
+        name: "search",
+        possible: &[0, 1, 2, 3, 4, 5, 6, 7, 14, 15, 16, 17, 23, 24],
+        label: answer_label,
+        find: search::find,
+    },
+    Operation {
         name: "laws",
         possible: &[0, 1, 2, 3, 4],
         label: |number| reference::laws::SAID[number].to_string(),
@@ -169,6 +177,12 @@ const OPERATIONS: &[Operation] = &[
         possible: &[0, 1, 2, 3, 4, 5],
         label: |number| reference::laws::edits::SAID[number].to_string(),
         find: edit::find_laws,
+    },
+    Operation {
+        name: "search_laws",
+        possible: &[0, 1, 2, 3, 4, 5],
+        label: |number| reference::laws::search::SAID[number].to_string(),
+        find: search::find_laws,
     },
     Operation {
         name: "mask_laws",

@@ -9,6 +9,7 @@ mod language;
 mod pack;
 mod piece;
 mod score;
+mod search;
 mod table;
 mod term;
 mod translation;
@@ -99,4 +100,16 @@ pub fn import(language: &[u8], root: u32, text: &[u8], output: usize) -> Option<
 /// Looks for a fault of a language, a root, a tree, its index and a path.
 pub fn block(language: &[u8], root: u32, tree: &[u8], index: &[u8], path: &[u8]) -> Option<Fault> {
     block::check(language, root, tree, index, path).err()
+}
+
+/// Looks for a fault of a translation, a root of its source, a tree of its target and a limit of
+/// levels, for a source tree that is missing, and for one that does not fit the output.
+pub fn search(
+    translation: &[u8],
+    root: u32,
+    tree: &[u8],
+    limit: u32,
+    output: usize,
+) -> Option<Fault> {
+    search::check(translation, root, tree, limit, output).err()
 }

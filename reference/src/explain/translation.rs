@@ -4,7 +4,9 @@ use super::body::{self, Between};
 use super::{language, Fault, Piece};
 use crate::language::{Language, LANGUAGE_LIMIT};
 use crate::outcome::Refusal;
-use crate::translation::{SOURCE_TAG, TARGET_TAG, TRANSLATION_LIMIT};
+use crate::translation::{
+    read_translation, Translation, SOURCE_TAG, TARGET_TAG, TRANSLATION_LIMIT,
+};
 
 /// The parts of a translation.
 pub(crate) struct Pieces<'a> {
@@ -21,6 +23,15 @@ pub fn check(bytes: &[u8]) -> Result<(), Fault> {
     [source, target].into_iter().try_for_each(language::check_clash)?;
     let (source, target) = (decoded(source)?, decoded(target)?);
     Between::new(&source, &target, body).check()
+}
+
+/// A translation without a fault, decoded.
+pub fn well_formed(bytes: &[u8]) -> Result<Translation, Fault> {
+    check(bytes)?;
+    read_translation(bytes).map_err(|reason| {
+        let what = "the translation is not well formed".to_string();
+        Piece::whole("translation", bytes).fault_somewhere(reason, what)
+    })
 }
 
 /// A language whose fields are whole.

@@ -5,7 +5,6 @@ use crate::grammar::Grammar;
 use crate::language::{Class, Language};
 use crate::outcome::Refusal;
 use crate::run::result_length;
-use crate::translation::read_translation;
 use crate::tree::{root_kind, TREE_LEVELS};
 
 /// Reads a tree from left to right and knows the path to the node that it reads.
@@ -25,12 +24,7 @@ pub fn check(language: &[u8], root: u32, tree: &[u8]) -> Result<(), Fault> {
 
 /// Looks for any fault of a run, with an output of so many bytes.
 pub fn check_run(bytes: &[u8], root: u32, tree: &[u8], output: usize) -> Result<(), Fault> {
-    translation::check(bytes)?;
-    let broken = |reason| {
-        let what = "the translation is not well formed".to_string();
-        Piece::whole("translation", bytes).fault_somewhere(reason, what)
-    };
-    let translation = read_translation(bytes).map_err(broken)?;
+    let translation = translation::well_formed(bytes)?;
     let root = check_rooted(&translation.source, "source", root, tree)?;
     match result_length(&translation, root, tree) {
         Some(length) if length > output as u64 || length == u64::MAX => {

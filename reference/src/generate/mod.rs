@@ -16,6 +16,7 @@ mod loose;
 mod packs;
 mod random;
 mod ranges;
+mod searches;
 mod sheets;
 mod tables;
 mod terms;
@@ -34,6 +35,7 @@ pub use long_trees::long_tree_case;
 pub use loose::{doubled, loose_case, settled, Settling};
 pub use packs::{law_pack, pack_with_term, reduce_case, LawPack, ReduceCase};
 pub use random::Random;
+pub use searches::{search_case, small_search_case, SearchCase};
 pub use sheets::{sheet_case, SheetCase};
 pub use tables::{
     join_table_case, score_case, scored_run_case, unit_table, unit_target_table, JoinTableCase,

@@ -65,10 +65,10 @@ pub fn full_with_steps(random: &mut Random, bytes: usize, steps: usize) -> (Lang
 mod tests {
     use super::*;
     use crate::call::Call;
-    use crate::generate::mask_case;
     use crate::generate::{
         block_case, edit_case, export_case, import_case, index_case, join_table_case, loose_case,
     };
+    use crate::generate::{mask_case, search_case};
     use crate::generate::{reduce_case, run_case, score_case, translation_file, tree_case};
     use crate::pack::PACK_LIMIT;
     use crate::translation::TRANSLATION_LIMIT;
@@ -80,6 +80,7 @@ mod tests {
             Call::CheckTree(case) => write_steps(random, 80, &mut case.language),
             Call::CheckTranslation(file) => write_steps_within(random, file),
             Call::Run(case) => write_steps_within(random, &mut case.translation),
+            Call::Search(case) => write_steps_within(random, &mut case.translation),
             Call::Reduce(case) => write_steps_within(random, &mut case.pack),
             Call::Score(case) => write_steps(random, 80, &mut case.language),
             Call::ScoreLoose(case) => write_steps(random, 80, &mut case.language),
@@ -98,6 +99,7 @@ mod tests {
         match call {
             Call::CheckTranslation(file) => file.len() <= TRANSLATION_LIMIT,
             Call::Run(case) => case.translation.len() <= TRANSLATION_LIMIT,
+            Call::Search(case) => case.translation.len() <= TRANSLATION_LIMIT,
             Call::Reduce(case) => case.pack.len() <= PACK_LIMIT,
             Call::JoinTable(case) => case.translation.len() <= TRANSLATION_LIMIT,
             _ => true,
@@ -125,10 +127,11 @@ mod tests {
 
     #[test]
     fn written_steps_of_1_change_no_answer() {
-        let makers: [fn(&mut Random) -> Call; 13] = [
+        let makers: [fn(&mut Random) -> Call; 14] = [
             |random| Call::CheckTree(tree_case(random)),
             |random| Call::CheckTranslation(translation_file(random)),
             |random| Call::Run(run_case(random)),
+            |random| Call::Search(search_case(random)),
             |random| Call::Reduce(reduce_case(random)),
             |random| Call::Score(score_case(random)),
             |random| Call::ScoreLoose(loose_case(random)),

@@ -1,7 +1,7 @@
 -- What the functions that put a joined table together ask for and give.
 use Prim.Native.Nat.{ℕ, _+_}
 use mathlib.Core.Path.{_≡_}
-use mathlib.Core.Bool.{Bool, true, false, cond}
+use mathlib.Core.Bool.{Bool, true, false}
 use mathlib.Core.List.{List, map}
 use mathlib.Core.Option.{some}
 use lib.ListN.{getD}
@@ -19,25 +19,14 @@ use Rattle.translation.specs.Running.{clausesOf}
 use Rattle.translation.specs.Operations.{fitted}
 use Rattle.translation.specs.Inner.ItemIndex.{IndexedItems}
 use Rattle.emitter.specs.Inner.Table.{Checked}
-use Rattle.score.specs.Figures.{isFigure, figureBytes}
+use Rattle.score.specs.Figures.{figureBytes}
 use Rattle.score.specs.LoadTable.{load, Table, loadField, encodeTable, tableOf}
 use Rattle.score.specs.Linear.{Loads, form}
 use Rattle.score.specs.Inner.Terms.{World}
-use Rattle.loads.specs.Joined.{placeFits, joinedOf}
-use Rattle.loads.specs.declared.join.Figured.{Figured}
-use Rattle.loads.specs.declared.join.Figured.the-variants.{Fits, Outside}
+use Rattle.loads.specs.Joined.{joinedOf}
 use Rattle.loads.specs.declared.join.Joined.{Joined}
 use Rattle.loads.specs.declared.join.Joined.the-variants.{To}
 use Rattle.loads.specs.declared.join.Joined.the-variants as Ends
-
--- Place j of the form of a code, where it fits.
-unfoldable pub figuredOf : Loads → Code → ℕ → Figured
-figuredOf w c j = cond (placeFits w c j) (Fits (form w c j)) Outside
-
--- A figure that is given fits two bytes.
-abbrev pub FigureIn : Figured → Type 0
-FigureIn (Fits z) = isFigure z ≡ true
-FigureIn Outside = Unit {0}
 
 -- The three parts of f, the indexes of its target and its body, and the figures of a table of the target.
 pub record Parts (s t index b items : List ℕ) (figures : List ℤ) (f : Translation) (w : Loads) : Type 0 where

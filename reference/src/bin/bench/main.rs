@@ -2,6 +2,8 @@
 //!
 //! The ratio is the reference's time over the library's: 1.0 or more if the library is
 //! at least as fast.
+//!
+//! Usage: bench [SECTION...]
 
 #![deny(unsafe_code)]
 
@@ -11,6 +13,7 @@ mod inputs;
 mod mask;
 mod measure;
 mod score;
+mod search;
 mod xml;
 
 use algebra::raw as library;
@@ -206,15 +209,37 @@ mod reduce {
     }
 }
 
+/// What can be timed, by name.
+const SECTIONS: [(&str, fn()); 10] = [
+    ("check_language", bench_check_language),
+    ("check_tree", bench_check_tree),
+    ("check_translation", bench_check_translation),
+    ("run", run::bench),
+    ("reduce", reduce::bench),
+    ("score", score::bench),
+    ("xml", xml::bench),
+    ("block", block::bench),
+    ("mask", mask::bench),
+    ("search", search::bench),
+];
+
+/// Says which sections there are, and ends.
+fn refuse(unknown: &str) -> ! {
+    let names = SECTIONS.map(|(name, _)| name).join(", ");
+    eprintln!("no section {unknown}; there are {names}");
+    std::process::exit(2);
+}
+
 fn main() {
+    let wanted: Vec<String> = std::env::args().skip(1).collect();
+    let is_section = |wanted: &&String| SECTIONS.iter().any(|(name, _)| name == wanted);
+    if let Some(unknown) = wanted.iter().find(|wanted| !is_section(wanted)) {
+        refuse(unknown);
+    }
     print_heading();
-    bench_check_language();
-    bench_check_tree();
-    bench_check_translation();
-    run::bench();
-    reduce::bench();
-    score::bench();
-    xml::bench();
-    block::bench();
-    mask::bench();
+    for (name, bench) in SECTIONS {
+        if wanted.is_empty() || wanted.iter().any(|wanted| wanted == name) {
+            bench();
+        }
+    }
 }

@@ -1,21 +1,32 @@
 //! Cases of operations on one tree: scores of fixed and loose plans, exports, imports of texts,
-//! indexes, lookups of blocks, edits and masks; and joins of load tables.
+//! indexes, lookups of blocks, edits, masks and searches; and joins of load tables.
 
-use crate::shapes::{Shape, TOKEN_KIND, TREE_LEVELS};
+use crate::shapes::{shapes, Detour, Shape, Size, ROOT, TOKEN_KIND, TREE_LEVELS};
 use crate::{random_cases, translation_cases, tree_cases, Case, LONG_CASES, RANDOM_CASES};
 use reference::call::Call;
 use reference::check_translation;
+use reference::files::{clause, mapping, production, translation};
 use reference::generate::{
     block_case, card_of, doubled, edit_case, export_case, import_case, index_bytes, index_case,
-    join_table_case, lenient_text, long_tree_case, loose_case, mask_case, score_case, unit_table,
-    unit_target_table, BlockCase, EditCase, ExportCase, ImportCase, IndexCase, JoinTableCase,
-    MaskCase, Random, ScoreCase, TreeCase,
+    join_table_case, lenient_text, long_tree_case, loose_case, mask_case, score_case, search_case,
+    unit_table, unit_target_table, BlockCase, EditCase, ExportCase, ImportCase, IndexCase,
+    JoinTableCase, MaskCase, Random, ScoreCase, SearchCase, TreeCase,
 };
 
 /// No joined table is longer.
 const LONGEST_TABLE: usize = 5000;
 /// The text of a tree is shorter than so many times the tree.
 const LONGEST: usize = 20;
+/// No run that is searched for is longer.
+const LONGEST_RUN: usize = 1 << 16;
+/// The most levels of what a search finds.
+const SEARCH_LEVELS: usize = 16;
+/// Names in the searches for links: a leaf, a link, a leaf that has no source, and a link that is
+/// its argument alone.
+const LEAF: u8 = 0;
+const LINK: u8 = 1;
+const NO_SOURCE: u8 = 2;
+const ALONE: u8 = 3;
 
 /// The score of a tree by a table in which every figure is 1.
 fn scored(case: TreeCase) -> Call {
@@ -132,8 +143,60 @@ fn edit_cases(seed: u64) -> Vec<Case> {
     deep.into_iter().chain(whole).collect()
 }
 
-/// All cases of each operation.
-pub fn cases(seed: u64) -> Vec<Vec<Case>> {
+/// A search in a translation with codes of 16 levels for the run of a tree, with some workspace.
+fn searched(shape: &Shape, case: TreeCase) -> Call {
+    let (translation, mut tree) = (shape.translation(), vec![0; LONGEST_RUN]);
+    let outcome = reference::run(&translation, case.root, &case.tree, &mut tree);
+    tree.truncate(outcome.length() as usize);
+    let (workspace, output) = (32 * tree.len(), case.tree.len());
+    Call::Search(SearchCase { translation, root: case.root, tree, limit: 16, workspace, output })
+}
+
+/// A translation whose links are put so many deep around their argument, and which has a link that
+/// is its argument alone; the second leaf of the target has no source.
+fn deep_links(depth: usize) -> Vec<u8> {
+    let leaves = [LEAF, NO_SOURCE].map(|name| production(1, name, &[]));
+    let links = [LINK, ALONE].map(|name| production(1, name, &[1]));
+    let code = [[1, LINK].repeat(depth), vec![3, 1]].concat();
+    let clauses =
+        [clause(1, LEAF, &[1, LEAF]), clause(1, LINK, &code), clause(1, ALONE, &[3, 1])].concat();
+    let source = [leaves[0].clone(), links.concat()].concat();
+    let target = [leaves[0].clone(), links[0].clone(), leaves[1].clone()].concat();
+    translation(&source, &target, &[mapping(1, 1), clauses].concat())
+}
+
+/// A search for links as deep as a tree of 16 levels can run to, with or without workspace.
+fn deep_search(depth: usize, last: u8, workspace: usize) -> Case {
+    let tree = [vec![LINK; depth * (SEARCH_LEVELS - 1)], vec![last]].concat();
+    let name = format!("links put {depth} deep, to leaf {last}, {workspace} bytes of workspace");
+    let (translation, output) = (deep_links(depth), tree.len());
+    let limit = SEARCH_LEVELS as u32;
+    let case = SearchCase { translation, root: 1, tree, limit, workspace, output };
+    Case { name, call: Call::Search(case) }
+}
+
+/// Searches for the runs of chains of 1 to 16 levels, for links of 16 to 61 levels, and random
+/// ones.
+fn search_cases(seed: u64) -> Vec<Case> {
+    let sizes = [Size::Lean, Size::Small].into_iter().flat_map(shapes);
+    let built = sizes.flat_map(|shape| {
+        [1, 2, 4, SEARCH_LEVELS].map(|levels| {
+            let (language, root, tree) = (vec![], ROOT, shape.tree(levels, Detour::None));
+            let call = searched(&shape, TreeCase { language, root, tree });
+            Case { name: format!("{levels} levels, {shape:?}"), call }
+        })
+    });
+    let deep = (1..=4).flat_map(|depth| {
+        [(LEAF, 0), (LEAF, 4096), (NO_SOURCE, 0), (NO_SOURCE, 4096)]
+            .map(|(last, workspace)| deep_search(depth, last, workspace))
+    });
+    let random = |random: &mut Random| Call::Search(search_case(random));
+    let random = random_cases(seed, RANDOM_CASES, "random", random);
+    built.chain(deep).chain(random).collect()
+}
+
+/// Cases of scores of fixed and loose plans, and of joined tables.
+fn score_cases(seed: u64) -> Vec<Vec<Case>> {
     let score = cases_of(
         seed,
         |_, case| scored(case),
@@ -146,6 +209,11 @@ pub fn cases(seed: u64) -> Vec<Vec<Case>> {
         |random| Call::ScoreLoose(loose_case(random)),
         |random| scored_loose(long_tree_case(random)),
     );
+    vec![score, loose, join_cases(seed)]
+}
+
+/// Cases of exports and imports.
+fn text_cases(seed: u64) -> Vec<Vec<Case>> {
     let export = cases_of(
         seed,
         |_, case| exported(case),
@@ -158,6 +226,11 @@ pub fn cases(seed: u64) -> Vec<Vec<Case>> {
         |random| Call::Import(import_case(random)),
         |random| imported(long_tree_case(random)),
     );
+    vec![export, import]
+}
+
+/// Cases of indexes and lookups.
+fn block_cases(seed: u64) -> Vec<Vec<Case>> {
     let index = cases_of(
         seed,
         |_, case| indexed(case),
@@ -170,7 +243,11 @@ pub fn cases(seed: u64) -> Vec<Vec<Case>> {
         |random| Call::Block(block_case(random)),
         |random| block_at(long_tree_case(random), vec![]),
     );
-    let last = [edit_cases(seed), mask_cases(seed)];
-    let first = [score, loose, join_cases(seed), export, import, index, block];
-    first.into_iter().chain(last).collect()
+    vec![index, block]
+}
+
+/// All cases of each operation.
+pub fn cases(seed: u64) -> Vec<Vec<Case>> {
+    let last = vec![edit_cases(seed), mask_cases(seed), search_cases(seed)];
+    [score_cases(seed), text_cases(seed), block_cases(seed), last].into_iter().flatten().collect()
 }

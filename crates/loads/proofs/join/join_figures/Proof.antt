@@ -1,55 +1,71 @@
-use Prim.Native.Nat.{_-_}
-use mathlib.Core.Path.{_≡_, refl, _∙_}
+use Prim.Native.Nat.{ℕ, _-_}
+use mathlib.Core.Path.{_≡_, refl, sym, _∙_}
 use mathlib.Core.List.{List}
 use native.Mathlib.Omega.{arith}
-use Prim.Native.Nat.{ℕ}
 use lib.ListN.{length}
+use borrow.Author.Needs.{needs}
+use borrow.Author.Tests.{not-true, not-false}
 use Rattle.language.specs.Language.{Language}
 use Rattle.reader.specs.Code.{Code}
-use Rattle.reader.specs.declared.node.Syntax.the-variants as Syntaxes
 use Rattle.score.specs.Linear.{Loads}
 use Rattle.score.specs.Inner.Terms.{TermAsks}
+use Rattle.loads.proofs.Places.{zeros-asked, row-out, row-back}
 use Rattle.loads.proofs.Puts.{written-long}
-use Rattle.loads.proofs.Joins.{Figuring, figure-back, figure-good, figure-begin, figure-room, figure-outside, figure-next, figure-end, puts-outside}
-use borrow.Author.Needs.{needs}
+use Rattle.loads.proofs.Joins.{Figuring, figure-begin, figure-room, figure-outside, figure-next, figure-end, puts-outside}
 use Rattle.loads.proofs.join.join_figures.Statement.{statement}
 use Rattle.loads.proofs.join.join_figures.Tie as tie
 use Rattle.loads.proofs.join.join_figures.Reads as reads
 use Rattle.loads.proofs.join.join_figures.Lts as lts
-use Rattle.loads.proofs.join.figure_at.Reads as figure-at-reads
 use Rattle.loads.proofs.join.put_figure.Reads as put-figure-reads
+use Rattle.score.proofs.figures.is_figure.Reads as is-figure-reads
+use Rattle.score.proofs.form.form_at.Reads as form-at-reads
 
 abbrev Inv-loop : tie.InvT-loop
-Inv-loop target index figures kind body at count joined₀ pos to₀ j₀ joined to j =
+Inv-loop target index figures kind body at count joined₀ pos row end to₀ j₀ joined to j =
     (length joined ≡ length joined₀)
-    × ((l : Language) (given : List ℕ) (w : Loads) (u : Code) → TermAsks Syntaxes.Code target index figures body kind at 16 l given w u → Figuring w u count joined₀ joined pos to j)
+    × ((l : Language) (given : List ℕ) (w : Loads) (u : Code) → TermAsks target index figures body kind at 16 l given w u → Figuring w u count joined₀ joined pos to j)
 
 abbrev μ-loop : tie.MeasureT-loop
-μ-loop target index figures kind body at count joined₀ pos to₀ j₀ joined to j = count - j
+μ-loop target index figures kind body at count joined₀ pos row end to₀ j₀ joined to j = count - j
+
+form-at-requires : tie.Need-form-at-requires Inv-loop μ-loop
+form-at-requires c κs = (zeros-asked (c .before .before .before .before .before .pre .1) (c .before .before .before .before .before .pre .2), c .before .before .before .before .before .pre .3)
+
+returns : tie.Need-returns Inv-loop μ-loop
+returns c = λ l given w u a. puts-outside (row-out (c .before .before .form-at .ensures l given w u a) (c .enum-told .given .1))
 
 loop-holds : tie.Need-loop-holds Inv-loop μ-loop
-loop-holds c = (refl, λ l given w u a. figure-begin w u _ _ _ (omega (arith, c .before .before .before .before .pre .0)))
+loop-holds c = (refl, λ l given w u a. figure-begin w u _ _ _ (omega (arith, c .before .before .before .before .before .before .before .before .before .pre .0)))
 
-figure-at-requires : tie.Need-figure-at-requires Inv-loop μ-loop
-figure-at-requires c κs = c .before .before .before .before .before .before .pre .1
+mul-z : tie.Need-mul-z Inv-loop μ-loop
+mul-z c = omega (arith, (c .loop-test .taken), c .before .before .before .before .before .before .before .before .before .before .before .pre .2)
+
+array-copy-out-z : tie.Need-array-copy-out-z Inv-loop μ-loop
+array-copy-out-z c = omega (arith, (c .loop-test .taken), c .before .before .before .before .before .before .before .before .before .before .before .pre .2)
 
 same-length : tie.Need-same-length Inv-loop μ-loop
 same-length c = c .before .before .before .before .loop .inv .0
 
-returns : tie.Need-returns Inv-loop μ-loop
-returns c = λ l given w u a. puts-outside (figure-outside (c .before .before .before .before .loop .inv .1 l given w u a) (c .before .before .before .loop-test .taken) _ (c .before .before .figure-at .ensures .0 l given w u a) (c .enum-told .given .1))
+returns-2 : tie.Need-returns-2 Inv-loop μ-loop
+returns-2 c = λ l given w u a. puts-outside (figure-outside (c .before .before .before .before .loop .inv .1 l given w u a) (c .before .before .before .before .before .before .before .before .form-at .ensures l given w u a) _ (c .before .before .before .before .before .before .end .given .1) (c .before .before .before .loop-test .taken) _ (row-back (c .before .before .before .before .before .before .before .before .form-at .ensures l given w u a) _ (c .before .before .before .before .before .before .end .given .1) _ (c .before .before .before .loop-test .taken)) (sym (c .before .is-figure .ensures) ∙ not-true _ (c .if1 .taken)))
 
 put-figure-requires : tie.Need-put-figure-requires Inv-loop μ-loop
-put-figure-requires c κs = let r = figure-room (c .before .before .before .before .before .before .loop .inv .1 _ _ _ _ (c .before .before .before .before .before .before .before .before .before .before .before .pre .1 .4)) (c .before .before .before .before .before .before .before .before .before .before .before .pre .0) (c .before .before .before .before .before .loop-test .taken) in (figure-good _ _ (c .before .before .before .before .figure-at .ensures .1) (c .before .before .z .given .1), r .0)
+put-figure-requires c κs = let r = figure-room (c .before .before .before .before .before .loop .inv .1 _ _ _ _ (c .before .before .before .before .before .before .before .before .before .before .before .before .before .before .before .pre .3 .4)) (c .before .before .before .before .before .before .before .before .before .before .before .before .before .before .before .pre .0) (c .before .before .before .before .loop-test .taken) in (sym (c .before .before .is-figure .ensures) ∙ not-false _ (c .before .if1 .left), r .0)
+
+add-j : tie.Need-add-j Inv-loop μ-loop
+add-j c = omega (arith, (c .before .before .before .before .before .before .before .loop-test .taken), c .before .before .before .before .before .before .before .before .before .before .before .before .before .before .before .before .before .before .pre .2)
+
+loop-less : tie.Need-loop-less Inv-loop μ-loop
+loop-less c = omega (arith, (c .before .before .before .before .before .before .before .loop-test .taken), c .before .before .before .before .before .before .before .before .before .before .before .before .before .before .before .before .before .before .pre .2)
 
 loop-again : tie.Need-loop-again Inv-loop μ-loop
-loop-again c = (written-long _ _ _ _ _ (c .before .before .put-figure .ensures) ∙ c .before .before .before .before .before .before .before .before .before .loop .inv .0, λ l given w u a. figure-next (c .before .before .before .before .before .before .before .before .before .loop .inv .1 l given w u a) (c .before .before .before .before .before .before .before .before .loop-test .taken) _ (c .before .before .before .before .before .before .before .figure-at .ensures .0 l given w u a) _ _ (c .before .before .before .before .before .z .given .1) (figure-back _ _ (c .before .before .before .before .before .before .before .figure-at .ensures .1) (c .before .before .before .before .before .z .given .1)) _ _ (c .before .before .put-figure .ensures))
+loop-again c = (written-long _ _ _ _ _ (c .before .before .put-figure .ensures) ∙ c .before .before .before .before .before .before .before .before .loop .inv .0, λ l given w u a. figure-next (c .before .before .before .before .before .before .before .before .loop .inv .1 l given w u a) (c .before .before .before .before .before .before .before .before .before .before .before .before .form-at .ensures l given w u a) _ (c .before .before .before .before .before .before .before .before .before .before .end .given .1) (c .before .before .before .before .before .before .before .loop-test .taken) _ (row-back (c .before .before .before .before .before .before .before .before .before .before .before .before .form-at .ensures l given w u a) _ (c .before .before .before .before .before .before .before .before .before .before .end .given .1) _ (c .before .before .before .before .before .before .before .loop-test .taken)) (sym (c .before .before .before .before .before .is-figure .ensures) ∙ not-false _ (c .before .before .before .before .if1 .left)) _ _ (c .before .before .put-figure .ensures))
 
 same-length-2 : tie.Need-same-length-2 Inv-loop μ-loop
 same-length-2 c = c .before .loop .inv .0
 
-returns-2 : tie.Need-returns-2 Inv-loop μ-loop
-returns-2 c = λ l given w u a. figure-end (c .before .loop .inv .1 l given w u a) (c .loop-test .left)
+returns-3 : tie.Need-returns-3 Inv-loop μ-loop
+returns-3 c = λ l given w u a. figure-end (c .before .loop .inv .1 l given w u a) (c .loop-test .left)
 
 pub join-figures-spec : {M : Type 1} → statement M
 join-figures-spec =
@@ -57,15 +73,19 @@ join-figures-spec =
     (tie.spec
     Inv-loop
     μ-loop
-    loop-holds
-    figure-at-requires
+    form-at-requires
     (λ c. search needs)
     (λ c. search needs)
-    same-length
     returns
+    loop-holds
+    mul-z
+    array-copy-out-z
+    (λ c κs. search needs)
+    same-length
+    returns-2
     put-figure-requires
-    (λ c. search needs)
-    (λ c. search needs)
+    add-j
+    loop-less
     loop-again
     same-length-2
-    returns-2)
+    returns-3)

@@ -15,40 +15,40 @@ use Rattle.reader.proofs.node.place_at.Reads as place-at-reads
 use Rattle.translation.proofs.index.map_kind.Reads as map-kind-reads
 
 add-map-kind : tie.Need-add-map-kind
-add-map-kind c = let i = production-in (c .before .before .before .before .before .before .pre .2 .2) in omega (arith, i .0, i .1)
+add-map-kind c = let i = production-in (c .before .before .before .before .before .before .pre .4 .2) in omega (arith, i .0, i .1)
 
 shared-slice-read-map-kind : tie.Need-shared-slice-read-map-kind
-shared-slice-read-map-kind c = let i = production-in (c .before .before .before .before .before .before .before .pre .2 .2) in omega (arith, i .0, i .1)
+shared-slice-read-map-kind c = let i = production-in (c .before .before .before .before .before .before .before .pre .4 .2) in omega (arith, i .0, i .1)
 
 map-kind-requires : tie.Need-map-kind-requires
-map-kind-requires c κs = ((c .before .before .before .before .before .before .before .pre .2 .2) .parts .indexed .sound, kind-in (c .before .before .before .before .before .before .before .pre .2 .2) (λ i. omega (arith, c .before .before .before .before .before .before .shared-slice-known .given i)) (λ i. omega (arith, c .before .before .before .shared-slice-known4 .given i)))
+map-kind-requires c κs = ((c .before .before .before .before .before .before .before .pre .4 .2) .parts .indexed .sound, kind-in (c .before .before .before .before .before .before .before .pre .4 .2) (λ i. omega (arith, c .before .before .before .before .before .before .shared-slice-known .given i)) (λ i. omega (arith, c .before .before .before .shared-slice-known4 .given i)))
 
 add-pair-in : tie.Need-add-pair-in
-add-pair-in c = let i = production-in (c .before .before .before .before .before .before .before .before .pre .2 .2) in omega (arith, i .0, i .1)
+add-pair-in c = let i = production-in (c .before .before .before .before .before .before .before .before .pre .4 .2) in omega (arith, i .0, i .1)
 
 pair-in-requires : tie.Need-pair-in-requires
-pair-in-requires c κs = let i = production-in (c .before .before .before .before .before .before .before .before .pre .2 .2) in omega (arith, i .0, i .1)
+pair-in-requires c κs = let i = production-in (c .before .before .before .before .before .before .before .before .pre .4 .2) in omega (arith, i .0, i .1)
 
 place-at-requires : tie.Need-place-at-requires
-place-at-requires c κs = let i = key-is (c .before .before .before .before .before .before .before .before .before .pre .2 .2) (λ i. omega (arith, c .before .before .before .before .before .before .before .before .shared-slice-known .given i)) (λ i. omega (arith, c .before .before .before .before .before .shared-slice-known4 .given i)) in let l = (c .before .before .before .before .before .before .before .before .before .pre .2 .2) .parts .indexed .sound .long in omega (arith, i .1, l, c .pair-in .ensures .0)
+place-at-requires c κs = let i = key-is (c .before .before .before .before .before .before .before .before .before .pre .4 .2) (λ i. omega (arith, c .before .before .before .before .before .before .before .before .shared-slice-known .given i)) (λ i. omega (arith, c .before .before .before .before .before .shared-slice-known4 .given i)) in let l = (c .before .before .before .before .before .before .before .before .before .pre .4 .2) .parts .indexed .sound .long in omega (arith, i .1, l, c .pair-in .ensures .0)
 
 add-put-head : tie.Need-add-put-head
-add-put-head c = let i = production-in (c .before .before .before .before .before .before .before .before .before .before .pre .2 .2) in omega (arith, i .0, i .1)
+add-put-head c = let i = production-in (c .before .before .before .before .before .before .before .before .before .before .pre .4 .2) in omega (arith, i .0, i .1)
 
 shared-slice-read-put-head : tie.Need-shared-slice-read-put-head
-shared-slice-read-put-head c = let i = production-in (c .before .before .before .before .before .before .before .before .before .before .before .pre .2 .2) in omega (arith, i .0, i .1)
+shared-slice-read-put-head c = let i = production-in (c .before .before .before .before .before .before .before .before .before .before .before .pre .4 .2) in omega (arith, i .0, i .1)
 
 add-put-head-2 : tie.Need-add-put-head-2
-add-put-head-2 c = let i = production-in (c .before .before .before .before .before .before .before .before .before .before .before .pre .2 .2) in omega (arith, i .0, i .1)
+add-put-head-2 c = let i = production-in (c .before .before .before .before .before .before .before .before .before .before .before .pre .4 .2) in omega (arith, i .0, i .1)
 
 shared-slice-read-put-head-2 : tie.Need-shared-slice-read-put-head-2
-shared-slice-read-put-head-2 c = let i = production-in (c .before .before .before .before .before .before .before .before .before .before .before .before .pre .2 .2) in omega (arith, i .0, i .1)
+shared-slice-read-put-head-2 c = let i = production-in (c .before .before .before .before .before .before .before .before .before .before .before .before .pre .4 .2) in omega (arith, i .0, i .1)
 
 add-join-figures : tie.Need-add-join-figures
 add-join-figures c = omega (arith, c .before .before .before .before .before .before .place-at .ensures, c .before .before .before .before .before .before .before .before .before .before .before .shared-slice-known5 .given (32 + c .before .before .before .before .before .before .before .pair-in .result))
 
 join-figures-requires : tie.Need-join-figures-requires
-join-figures-requires c κs = (let l = written-long _ _ _ _ _ (c .before .before .before .put-head .ensures) in let e = c .before .before .before .put-head .ensures .end in omega (arith, c .before .before .before .before .before .before .before .before .before .before .before .before .before .before .before .before .before .pre .0), (_, _, c .before .before .before .before .before .before .before .before .before .before .before .before .before .before .before .before .before .pre .2 .1, _, clause-term (c .before .before .before .before .before .before .before .before .before .before .before .before .before .before .before .before .before .pre .2 .2) (λ i. omega (arith, c .before .before .before .before .before .before .before .before .before .before .before .before .before .before .before .before .shared-slice-known .given i)) (λ i. omega (arith, c .before .before .before .before .before .before .before .before .before .before .before .before .before .shared-slice-known4 .given i)) _ _ _ _ (c .before .before .before .before .before .before .before .before .before .map-kind .ensures .0) (c .before .before .before .before .before .before .before .before .before .map-kind .ensures .1) (c .before .before .before .before .before .before .before .before .pair-in .ensures .0) (c .before .before .before .before .before .before .before .place-at .ensures) refl))
+join-figures-requires c κs = (let l = written-long _ _ _ _ _ (c .before .before .before .put-head .ensures) in let e = c .before .before .before .put-head .ensures .end in omega (arith, c .before .before .before .before .before .before .before .before .before .before .before .before .before .before .before .before .before .pre .0), c .before .before .before .before .before .before .before .before .before .before .before .before .before .before .before .before .before .pre .2, c .before .before .before .before .before .before .before .before .before .before .before .before .before .before .before .before .before .pre .3, (_, _, c .before .before .before .before .before .before .before .before .before .before .before .before .before .before .before .before .before .pre .4 .1, _, clause-term (c .before .before .before .before .before .before .before .before .before .before .before .before .before .before .before .before .before .pre .4 .2) (λ i. omega (arith, c .before .before .before .before .before .before .before .before .before .before .before .before .before .before .before .before .shared-slice-known .given i)) (λ i. omega (arith, c .before .before .before .before .before .before .before .before .before .before .before .before .before .shared-slice-known4 .given i)) _ _ _ _ (c .before .before .before .before .before .before .before .before .before .map-kind .ensures .0) (c .before .before .before .before .before .before .before .before .before .map-kind .ensures .1) (c .before .before .before .before .before .before .before .before .pair-in .ensures .0) (c .before .before .before .before .before .before .before .place-at .ensures) refl))
 
 returns : tie.Need-returns
 returns c = λ f w a. load-puts f w _ _ _ _ _ _ _ _ _ _ _ refl refl refl (c .before .before .before .before .before .before .put-head .ensures) _ _ (c .before .before .join-figures .ensures _ _ w _ (clause-term a (λ i. omega (arith, c .before .before .before .before .before .before .before .before .before .before .before .before .before .before .before .before .before .before .before .shared-slice-known .given i)) (λ i. omega (arith, c .before .before .before .before .before .before .before .before .before .before .before .before .before .before .before .before .shared-slice-known4 .given i)) _ _ _ _ (c .before .before .before .before .before .before .before .before .before .before .before .before .map-kind .ensures .0) (c .before .before .before .before .before .before .before .before .before .before .before .before .map-kind .ensures .1) (c .before .before .before .before .before .before .before .before .before .before .before .pair-in .ensures .0) (c .before .before .before .before .before .before .before .before .before .before .place-at .ensures) refl))

@@ -6,7 +6,7 @@ use lib.ListN.{length}
 use Rattle.translation.specs.Translation.{Translation}
 use Rattle.score.specs.Linear.{Loads}
 use Rattle.loads.specs.Inner.Loading.{Parts}
-use Rattle.loads.proofs.Joins.{Joins, joins-begin, joins-end, entry-in, joins-class, load-asks, join-room, joins-outside, joins-next, puts-outside}
+use Rattle.loads.proofs.Joins.{Joins, joins-begin, joins-end, entry-in, joins-class, load-asks, join-few, join-room, joins-outside, joins-next, puts-outside}
 use Rattle.loads.proofs.Puts.{written-long}
 use Rattle.loads.proofs.join.join_loads.Statement.{statement}
 use Rattle.loads.proofs.join.join_loads.Tie as tie
@@ -38,7 +38,7 @@ sub-join-load-2 : tie.Need-sub-join-load-2 Inv-loop μ-loop
 sub-join-load-2 c = let i = entry-in (c .before .before .before .before .before .before .before .before .before .before .before .pre .1 .2) (c .before .before .before .before .loop .inv .1 _ _ (c .before .before .before .before .before .before .before .before .before .before .before .pre .1 .2)) (c .before .before .before .loop-test .taken) in omega (arith, i .0, (c .before .before .whole-end .ensures .is))
 
 join-load-requires : tie.Need-join-load-requires Inv-loop μ-loop
-join-load-requires c κs = (let r = join-room (c .before .before .before .before .before .before .before .before .before .before .before .before .pre .1 .2) (c .before .before .before .before .before .loop .inv .1 _ _ (c .before .before .before .before .before .before .before .before .before .before .before .before .pre .1 .2)) (c .before .before .before .before .loop-test .taken) (c .before .if1 .taken) _ (c .before .before .before .whole-end .ensures .is) in omega (arith, r, c .before .before .before .before .before .loop .inv .0, c .before .before .before .before .before .before .before .before .before .before .before .before .pre .0), c .before .before .before .before .before .loop .inv .0 ∙ c .before .before .before .before .before .before .before .before .before .before .before .before .pre .0, (c .before .before .before .before .before .before .before .before .before .before .before .before .pre .1 .0, c .before .before .before .before .before .before .before .before .before .before .before .before .pre .1 .1, load-asks (c .before .before .before .before .before .before .before .before .before .before .before .before .pre .1 .2) (c .before .before .before .before .before .loop .inv .1 _ _ (c .before .before .before .before .before .before .before .before .before .before .before .before .pre .1 .2)) (c .before .before .before .before .loop-test .taken) (c .before .if1 .taken) _))
+join-load-requires c κs = (let r = join-room (c .before .before .before .before .before .before .before .before .before .before .before .before .pre .1 .2) (c .before .before .before .before .before .loop .inv .1 _ _ (c .before .before .before .before .before .before .before .before .before .before .before .before .pre .1 .2)) (c .before .before .before .before .loop-test .taken) (c .before .if1 .taken) _ (c .before .before .before .whole-end .ensures .is) in omega (arith, r, c .before .before .before .before .before .loop .inv .0, c .before .before .before .before .before .before .before .before .before .before .before .before .pre .0), c .before .before .before .before .before .loop .inv .0 ∙ c .before .before .before .before .before .before .before .before .before .before .before .before .pre .0, join-few (c .before .before .before .before .before .before .before .before .before .before .before .before .pre .1 .2) (c .before .before .before .before .before .loop .inv .1 _ _ (c .before .before .before .before .before .before .before .before .before .before .before .before .pre .1 .2)) (c .before .before .before .before .loop-test .taken) (c .before .if1 .taken) _ (c .before .before .before .whole-end .ensures .is) .0, join-few (c .before .before .before .before .before .before .before .before .before .before .before .before .pre .1 .2) (c .before .before .before .before .before .loop .inv .1 _ _ (c .before .before .before .before .before .before .before .before .before .before .before .before .pre .1 .2)) (c .before .before .before .before .loop-test .taken) (c .before .if1 .taken) _ (c .before .before .before .whole-end .ensures .is) .1, (c .before .before .before .before .before .before .before .before .before .before .before .before .pre .1 .0, c .before .before .before .before .before .before .before .before .before .before .before .before .pre .1 .1, load-asks (c .before .before .before .before .before .before .before .before .before .before .before .before .pre .1 .2) (c .before .before .before .before .before .loop .inv .1 _ _ (c .before .before .before .before .before .before .before .before .before .before .before .before .pre .1 .2)) (c .before .before .before .before .loop-test .taken) (c .before .if1 .taken) _))
 
 same-length : tie.Need-same-length Inv-loop μ-loop
 same-length c = c .before .before .before .joined .given ∙ c .before .before .before .before .before .before .before .before .before .before .loop .inv .0

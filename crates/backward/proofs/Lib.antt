@@ -1,0 +1,4 @@
+pub mod Ordering
+pub mod Within
+pub mod Finding
+pub mod Theorems

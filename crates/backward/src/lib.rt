@@ -1,0 +1,1 @@
+// The search back: its definitions, and the theorems on them.

@@ -1,0 +1,10 @@
+pub mod Kept
+pub mod Lying
+pub mod Ending
+pub mod Steps
+pub mod Heads
+pub mod Turns
+pub mod Whole
+pub mod Alone
+pub mod Truths
+pub mod Needing

@@ -1,0 +1,2 @@
+// The search back: which source tree gives a target tree.
+pub mod search;

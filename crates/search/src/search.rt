@@ -1,0 +1,251 @@
+// The operation that searches back. It measures the first source tree and writes it only where it fits.
+use checks::translations::check_translation;
+use checks::trees::check_indexed;
+use emitter::prepare::prepare;
+use fields::bytes::byte_at;
+use fields::outcome::Answer;
+use fields::outcome::Outcome;
+use fields::outcome::Reason;
+use fields::outcome::accept;
+use fields::outcome::refuse;
+use first::put::put_first;
+use needs::levels::need;
+use needs::memory::clear;
+use reader::index::INDEX;
+use reader::index::TABLE;
+use reader::index::build;
+use reader::index::put_all;
+use reader::kinds::is_in;
+use translation::index::build_items;
+use translation::index::map_kinds;
+use translation::parts::body_of;
+use translation::parts::source_of;
+use translation::parts::target_of;
+ghost use mathlib.Core.Path.{_≡_};
+ghost use mathlib.Core.Option.{some};
+ghost use Prim.Native.Nat.{_<_, _≤_};
+ghost use lib.ListN.{length, replicate};
+ghost use Rattle.reader.specs.Code.{Code};
+ghost use Rattle.translation.specs.Translation.{Translation, Body};
+ghost use Rattle.translation.specs.TranslationFile.{bodyOf};
+ghost use Rattle.emitter.specs.Inner.Table.{Checked};
+ghost use Rattle.needs.specs.Inner.Setting.{Seeks};
+ghost use Rattle.backward.specs.Operations.{foundIn, searchTree};
+ghost use Rattle.search.specs.Inner.Finding.{Rooted, Mapped, Placed, Answers, readyIn, Leaves};
+
+// The most levels that a search may have.
+const MOST_LEVELS: u32 = 16;
+
+// The first source tree of a kind for the whole tree, within a limit of levels: 23, 17.
+fn find(
+    table: &[u16; TABLE],
+    source: &[u8],
+    index: &[u16],
+    target: &[u8],
+    places: &[u16],
+    kinds: &[u8],
+    tree: &[u8],
+    memory: &mut [u8],
+    free: &mut [u8],
+    kind: usize,
+    limit: usize,
+    output: &mut [u8],
+) -> Answer
+    requires { ⌜ (limit ≤ 16) × ((f : Translation) × (u : Code) × Seeks (now table) (now source) (now index) (now target) (now places) (now kinds) (now tree) (now memory) (now free) kind 0 f (some u) × Rooted (now source) (now target) (now tree) f u) ⌝ }
+    ensures { λ r. ⌜ (length (now (memory .exit)) ≡ length (now (memory .entry)))
+        × ((f : Translation) (u : Code) → Seeks (now (table .entry)) (now (source .entry)) (now (index .entry)) (now (target .entry)) (now (places .entry)) (now (kinds .entry)) (now (tree .entry)) (now (memory .entry)) (now (free .entry)) kind 0 f (some u) → Rooted (now (source .entry)) (now (target .entry)) (now (tree .entry)) f u
+        → Answers (foundIn f kind (now (tree .entry)) limit (length (now (output .entry)))) (now (output .entry)) (now (output .exit)) (r .outcome)) ⌝ }
+{
+    let room = output.len();
+    let past = room + 1;
+    let needed = need(
+        table,
+        source,
+        index,
+        target,
+        places,
+        kinds,
+        tree,
+        memory,
+        free,
+        kind,
+        0,
+        limit,
+    );
+    if limit < needed {
+        return refuse(Reason::NoSource);
+    }
+    let mut spare = [0u8; 1];
+    let n = put_first(
+        table,
+        source,
+        index,
+        target,
+        places,
+        kinds,
+        tree,
+        memory,
+        free,
+        kind,
+        0,
+        limit,
+        past,
+        &mut spare,
+        0,
+    );
+    if room < n {
+        return refuse(Reason::OutputTooShort);
+    }
+    put_first(
+        table,
+        source,
+        index,
+        target,
+        places,
+        kinds,
+        tree,
+        memory,
+        free,
+        kind,
+        0,
+        limit,
+        past,
+        output,
+        0,
+    );
+    accept(n)
+}
+
+// The search for a tree that was accepted: its workspace is all zero at exit.
+fn search_placed(
+    source: &[u8],
+    target: &[u8],
+    body: &[u8],
+    places: &[u16],
+    kinds: &[u8],
+    kind: usize,
+    tree: &[u8],
+    limit: usize,
+    workspace: &mut [u8],
+    output: &mut [u8],
+) -> Answer
+    requires { ⌜ (kind < 32) × (limit ≤ 16) × ((f : Translation) × (u : Code) × Checked (now source) (now target) (now body) f × Placed (now target) (now places) (now kinds) (now tree) kind f u) ⌝ }
+    ensures { λ r. ⌜ (now (workspace .exit) ≡ replicate (length (now (workspace .entry))) 0)
+        × ((f : Translation) (u : Code) → Checked (now (source .entry)) (now (target .entry)) (now (body .entry)) f → Placed (now (target .entry)) (now (places .entry)) (now (kinds .entry)) (now (tree .entry)) kind f u
+        → Answers (foundIn f kind (now (tree .entry)) limit (length (now (output .entry)))) (now (output .entry)) (now (output .exit)) (r .outcome)) ⌝ }
+{
+    let mut table = [0u16; TABLE];
+    put_all(source, 0x11, &mut table[..INDEX]);
+    prepare(source, target, body, &mut table);
+    let mut index = [0u16; INDEX];
+    build(source, &mut index);
+    let mut free = [0u8; 32];
+    clear(workspace);
+    let answer = find(
+        &table,
+        source,
+        &index,
+        target,
+        places,
+        kinds,
+        tree,
+        workspace,
+        &mut free,
+        kind,
+        limit,
+        output,
+    );
+    clear(workspace);
+    answer
+}
+
+// Puts the kind that each kind maps to, by a body, into a table of 32.
+fn kinds_of(body: &[u8], kinds: &mut [u8])
+    requires { ⌜ (length (now body) ≤ 32768) × (length (now kinds) ≡ 32) × ((b : Body) × (bodyOf (now body) ≡ some b)) ⌝ }
+    ensures { λ _. ⌜ ((b : Body) → bodyOf (now (body .entry)) ≡ some b → Mapped (now (kinds .exit)) b) ⌝ }
+{
+    let mut items = [0u16; INDEX];
+    build_items(body, &mut items);
+    map_kinds(body, &items, kinds);
+}
+
+// The search in a translation that was accepted, for a source kind that is in it: 15, 16, 24, 23, 17.
+fn search_in(
+    source: &[u8],
+    target: &[u8],
+    body: &[u8],
+    kind: usize,
+    tree: &[u8],
+    limit: u32,
+    workspace: &mut [u8],
+    output: &mut [u8],
+) -> Answer
+    requires { ⌜ (kind < 32) × ((f : Translation) × Checked (now source) (now target) (now body) f) ⌝ }
+    ensures { λ r. ⌜ ((f : Translation) → Checked (now (source .entry)) (now (target .entry)) (now (body .entry)) f
+        → Leaves (readyIn f kind (now (tree .entry)) limit) kind (now (tree .entry)) limit (now (output .entry)) (now (output .exit)) (now (workspace .entry)) (now (workspace .exit)) (r .outcome)) ⌝ }
+{
+    let mut kinds = [0u8; 32];
+    kinds_of(body, &mut kinds);
+    let mut places = [0u16; INDEX];
+    let root = byte_at(&kinds, kind) as u32;
+    let answer = check_indexed(target, root, tree, &mut places);
+    let outcome = answer.outcome;
+    if let Outcome::Refused(reason) = outcome {
+        return refuse(reason);
+    }
+    if limit < 1 {
+        return refuse(Reason::LimitOutOfRange);
+    }
+    if MOST_LEVELS < limit {
+        return refuse(Reason::LimitOutOfRange);
+    }
+    search_placed(
+        source,
+        target,
+        body,
+        &places,
+        &kinds,
+        kind,
+        tree,
+        limit as usize,
+        workspace,
+        output,
+    )
+}
+
+// Search back: 1 to 7 for the translation, 14 for the source kind, 15 and 16 for the target tree, 24, 23, 17.
+pub fn search(
+    translation: &[u8],
+    root: u32,
+    tree: &[u8],
+    limit: u32,
+    workspace: &mut [u8],
+    output: &mut [u8],
+) -> Answer
+    ensures { λ r. ⌜ (r .outcome ≡ searchTree (now (translation .entry)) root (now (tree .entry)) limit (now (workspace .entry)) (now (output .entry)) .outcome)
+        × (now (output .exit) ≡ searchTree (now (translation .entry)) root (now (tree .entry)) limit (now (workspace .entry)) (now (output .entry)) .output)
+        × (now (workspace .exit) ≡ searchTree (now (translation .entry)) root (now (tree .entry)) limit (now (workspace .entry)) (now (output .entry)) .workspace) ⌝ }
+{
+    let answer = check_translation(translation);
+    let outcome = answer.outcome;
+    if let Outcome::Refused(reason) = outcome {
+        return refuse(reason);
+    }
+    if 31 < root {
+        return refuse(Reason::UnknownRoot);
+    }
+    let source = source_of(translation);
+    if !is_in(source, root as u8) {
+        return refuse(Reason::UnknownRoot);
+    }
+    search_in(
+        source,
+        target_of(translation),
+        body_of(translation),
+        root as usize,
+        tree,
+        limit,
+        workspace,
+        output,
+    )
+}

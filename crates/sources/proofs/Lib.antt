@@ -1,0 +1,5 @@
+pub mod Order
+pub mod Answers
+pub mod Tokens
+pub mod Memory
+pub mod Matching

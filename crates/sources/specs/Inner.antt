@@ -1,0 +1,4 @@
+pub mod Order
+pub mod Goals
+pub mod Levels
+pub mod Matching

@@ -1,0 +1,1 @@
+// Which source trees run to a target tree: definitions and theorems only.
