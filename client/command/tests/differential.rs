@@ -669,35 +669,6 @@ fn search() {
 }
 
 #[test]
-fn search() {
-    let folder = Folder::new("search");
-    let (mut found, mut none) = (0, 0);
-    for case in 0..CASES {
-        let random = &mut Random::new(case);
-        let input = run_case(random);
-        let (translation, root) = (&input.translation, input.root);
-        let run = algebra::run_to_vec(translation, root, &input.tree, LIMIT);
-        let tree = run.unwrap_or(input.tree);
-        let (levels, room) = (random.below(18) as u32, random.below(2 * tree.len() + 8));
-        let (mut output, limit) = (vec![0; room], limit_options(room));
-        let answer = algebra::search(translation, root, &tree, levels, &mut output);
-        let options = [limit, vec!["--as".to_string(), "translation".to_string()]].concat();
-        let operands = [File(translation), Root(root), File(&tree), Root(levels)];
-        let result = answer.map(|length| &output[..length]);
-        compare_result(&folder, case, "search", &operands, &options, result);
-        let number = answer.err().map_or(0, Refusal::number);
-        compare_explanation(&folder, case, "search", &operands, &options, answer, number);
-        if let Ok(length) = answer {
-            let again = algebra::run_to_vec(translation, root, &output[..length], tree.len());
-            assert_eq!(again.as_ref(), Ok(&tree), "case {case}");
-        }
-        found += usize::from(answer.is_ok());
-        none += usize::from(answer == Err(Refusal::NoSource));
-    }
-    assert!(found > 100 && none > 10, "{found} found, {none} without a source");
-}
-
-#[test]
 fn run_of_packs_and_steps() {
     let folder = Folder::new("steps");
     let (mut equal, mut refused, mut numbered) = (0, 0, 0);
