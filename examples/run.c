@@ -1,5 +1,6 @@
-/* Runs a translation on a tree and keeps the result: run TRANSLATION ROOT TREE OUTPUT
+/* Runs a translation on a tree and keeps the result: run TRANSLATION ROOT TREE OUTPUT [NUMBER]
  *
+ * NUMBER is that of the root's mapping by which the tree is run, 0 unless it is given.
  * Prints `accepted LENGTH` or `refused NUMBER`. The status is 0 if accepted, and OUTPUT then holds
  * the whole result; 1 if refused; 2 for bad usage, a file that cannot be read or written, or too
  * little memory. OUTPUT is as it was unless the result is accepted and stands there whole. */
@@ -66,29 +67,29 @@ static int load(const char *name, struct buffer *buffer)
     return status;
 }
 
-/* Reads a root: digits alone, and no more than fits. */
-static int read_root(const char *word, uint32_t *root)
+/* Reads a root or a number: digits alone, and no more than fits. */
+static int read_number(const char *word, uint32_t *number)
 {
     size_t digits = strspn(word, "0123456789");
     errno = 0;
     unsigned long long value = strtoull(word, NULL, 10);
     if (digits == 0 || word[digits] != '\0')
-        return trouble(word, "the root is not a number");
+        return trouble(word, "it is not a number");
     if (errno != 0 || value > UINT32_MAX)
-        return trouble(word, "the root is too large");
-    *root = (uint32_t)value;
+        return trouble(word, "it is too large");
+    *number = (uint32_t)value;
     return ACCEPTED;
 }
 
 /* Runs with a larger output each time, until the result fits or the answer is another one. */
-static int run(const struct buffer *translation, uint32_t root, const struct buffer *tree,
+static int run(const struct buffer *translation, uint32_t root, uint32_t by, const struct buffer *tree,
                struct buffer *result, uint32_t *number)
 {
     uint64_t length;
     do {
         if (!grow(result))
             return trouble("the result", "no memory for it");
-        *number = algebra_run(translation->bytes, translation->length, root, tree->bytes,
+        *number = algebra_run(translation->bytes, translation->length, root, by, tree->bytes,
                               tree->length, result->bytes, result->room, &length);
     } while (*number == ALGEBRA_OUTPUT_TOO_SHORT && result->room < LONGEST_RESULT);
     result->length = (size_t)length;
@@ -141,14 +142,16 @@ static int answer(uint32_t number, size_t length)
 /* Reads the inputs, runs, and keeps the result. */
 static int work(char **words, struct buffer *inputs, struct buffer *result, uint32_t *number)
 {
-    uint32_t root;
-    int status = read_root(words[2], &root);
+    uint32_t root, by = 0;
+    int status = read_number(words[2], &root);
+    if (status == ACCEPTED && words[5] != NULL)
+        status = read_number(words[5], &by);
     if (status == ACCEPTED)
         status = load(words[1], &inputs[0]);
     if (status == ACCEPTED)
         status = load(words[3], &inputs[1]);
     if (status == ACCEPTED)
-        status = run(&inputs[0], root, &inputs[1], result, number);
+        status = run(&inputs[0], root, by, &inputs[1], result, number);
     return status == ACCEPTED ? keep(words[4], result) : status;
 }
 
@@ -156,8 +159,8 @@ int main(int count, char **words)
 {
     struct buffer inputs[2] = { { NULL, 0, 0 }, { NULL, 0, 0 } }, result = { NULL, 0, 0 };
     uint32_t number = ALGEBRA_ACCEPTED;
-    if (count != 5) {
-        fprintf(stderr, "usage: run TRANSLATION ROOT TREE OUTPUT\n");
+    if (count != 5 && count != 6) {
+        fprintf(stderr, "usage: run TRANSLATION ROOT TREE OUTPUT [NUMBER]\n");
         return TROUBLE;
     }
     int status = work(words, inputs, &result, &number);

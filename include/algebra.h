@@ -63,9 +63,12 @@
 #define ALGEBRA_CODE_LEVELS 16
 #define ALGEBRA_TERM_LEVELS 12
 
-/* Kinds are 0 to 31, a production has at most 8 arguments, variables are 0 to 15, and a pack
- * has at most 32 languages and 32 bodies. */
+/* Kinds are 0 to 31, their mappings have numbers 0 to 255, in operands of a join 0 to 15, a
+ * production has at most 8 arguments, variables are 0 to 15, and a pack has at most 32 languages
+ * and 32 bodies. */
 #define ALGEBRA_KINDS 32
+#define ALGEBRA_MAPPING_NUMBERS 256
+#define ALGEBRA_JOINED_NUMBERS 16
 #define ALGEBRA_ARGUMENTS 8
 #define ALGEBRA_VARIABLES 16
 #define ALGEBRA_PACK_LANGUAGES 32
@@ -143,17 +146,18 @@ uint32_t algebra_check_tree(const uint8_t *language, size_t language_length,
                             uint32_t root,
                             const uint8_t *tree, size_t tree_length);
 
-/* Reduces a pack to one translation: 0 to 13. The workspace is all zero at the end unless the
+/* Reduces a pack to one translation: 0 to 13, 26. The workspace is all zero at the end unless the
  * answer is 1 to 4, 8 or 9, which leave it unchanged. */
 uint32_t algebra_reduce(const uint8_t *pack, size_t pack_length,
                         uint8_t *workspace, size_t workspace_length,
                         uint8_t *output, size_t output_length,
                         uint64_t *length);
 
-/* Runs a translation on a tree of a root kind: 0 to 7, 14 to 17. A result may be longer than
- * any memory: ALGEBRA_OUTPUT_TOO_SHORT does not say how much longer. */
+/* Runs a translation on a tree of a root kind, by a number of that kind: 0 to 7, 14 to 17. A
+ * number that the kind lacks is ALGEBRA_UNKNOWN_ROOT; every kind has number 0. A result may be
+ * longer than any memory: ALGEBRA_OUTPUT_TOO_SHORT does not say how much longer. */
 uint32_t algebra_run(const uint8_t *translation, size_t translation_length,
-                     uint32_t root,
+                     uint32_t root, uint32_t number,
                      const uint8_t *tree, size_t tree_length,
                      uint8_t *output, size_t output_length,
                      uint64_t *length);
@@ -176,7 +180,7 @@ uint32_t algebra_score_loose(const uint8_t *language, size_t language_length,
                              int64_t *least, int64_t *greatest);
 
 /* Joins a load table of the target onto a translation, which gives a load table of the source:
- * 0 to 7, 11, 17, 18. It has fewer than 2 * ALGEBRA_LANGUAGE_BYTES bytes. */
+ * 0 to 7, 11, 17, 18, 26. The translation has no number but 0. The table has fewer than 2 * ALGEBRA_LANGUAGE_BYTES bytes. */
 uint32_t algebra_join_table(const uint8_t *translation, size_t translation_length,
                             const uint8_t *table, size_t table_length,
                             uint8_t *output, size_t output_length,
@@ -240,8 +244,8 @@ uint32_t algebra_mask(const uint8_t *language, size_t language_length,
                       uint64_t *length);
 
 /* Finds the source tree of a root kind, of at most limit levels, whose run gives a tree of the
- * target, the first in byte order: 0 to 7, 14 to 17, 23, 24. The tree is of the kind to which the
- * root is mapped. Where a clause drops an argument, its place takes the first legal tree within the
+ * target, the first in byte order: 0 to 7, 14 to 17, 23, 24, 26. The translation has no number but 0,
+ * and the tree is of the kind to which the root is mapped. Where a clause drops an argument, its place takes the first legal tree within the
  * levels that are left. The workspace may have any length, also 0, and the answer does not depend on
  * it: the search remembers there what it has found. With ALGEBRA_SEARCH_WORKSPACE bytes for each
  * byte of the tree the time is bounded by the tree times the translation; with less it may take much

@@ -3,7 +3,7 @@
  *
  *   ask language FILE                          ask translation FILE
  *   ask tree LANGUAGE ROOT TREE                ask reduce PACK [WORKSPACE-BYTES [OUTPUT-BYTES]]
- *   ask run TRANSLATION ROOT TREE [OUTPUT-BYTES]
+ *   ask run TRANSLATION ROOT NUMBER TREE [OUTPUT-BYTES]
  *   ask score LANGUAGE ROOT TREE TABLE         ask loose LANGUAGE ROOT PLAN TABLE
  *   ask join TRANSLATION TABLE
  *   ask export LANGUAGE ROOT TREE              ask import LANGUAGE ROOT TEXT
@@ -140,12 +140,12 @@ static void reduce(char **words)
 /* Runs a translation. */
 static void run(char **words)
 {
-    struct bytes translation = load(words[0]), tree = load(words[2]);
-    size_t output = number_or(words[3], LONGEST);
+    struct bytes translation = load(words[0]), tree = load(words[3]);
+    size_t output = number_or(words[4], LONGEST);
     uint8_t *result = room_for(output);
     uint64_t length;
-    uint32_t number = algebra_run(translation.at, translation.length, (uint32_t)number_or(words[1], 0), tree.at,
-                                  tree.length, result, output, &length);
+    uint32_t number = algebra_run(translation.at, translation.length, (uint32_t)number_or(words[1], 0),
+                                  (uint32_t)number_or(words[2], 0), tree.at, tree.length, result, output, &length);
     answer(number, length, result);
 }
 
@@ -336,7 +336,7 @@ static const struct {
     { "translation", translation, 1, 1 },
     { "tree", tree, 3, 3 },
     { "reduce", reduce, 1, 3 },
-    { "run", run, 3, 4 },
+    { "run", run, 4, 5 },
     { "score", score, 4, 4 },
     { "loose", loose, 4, 4 },
     { "join", join, 2, 2 },

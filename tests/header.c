@@ -55,14 +55,21 @@ static uint32_t reduce(const uint8_t *p, size_t p_length, uint8_t *w, size_t w_l
     return number;
 }
 
-/* Calls run on the tree's root kind; a refusal must store length 0. */
+/* Calls run on the tree's root kind by a number; a refusal must store length 0. */
+static uint32_t run_by(uint32_t by, const uint8_t *t, size_t t_length, const uint8_t *n, size_t n_length,
+                       uint8_t *o, size_t o_length)
+{
+    uint64_t length = UINT64_MAX;
+    uint32_t number = algebra_run(t, t_length, 1, by, n, n_length, o, o_length, &length);
+    count("the length of a run", length == (number == 0 ? sizeof tree : 0));
+    return number;
+}
+
+/* Calls run by number 0. */
 static uint32_t run(const uint8_t *t, size_t t_length, const uint8_t *n, size_t n_length,
                     uint8_t *o, size_t o_length)
 {
-    uint64_t length = UINT64_MAX;
-    uint32_t number = algebra_run(t, t_length, 1, n, n_length, o, o_length, &length);
-    count("the length of a run", length == (number == 0 ? sizeof tree : 0));
-    return number;
+    return run_by(0, t, t_length, n, n_length, o, o_length);
 }
 
 /* Scores a tree of the tree's root kind; a refusal must store 0. */
@@ -196,6 +203,8 @@ static void runs(void)
     same("run, all", 2, run(NULL, 0, NULL, 0, NULL, 0),
          run(elsewhere, 0, elsewhere, 0, no_bytes, 0));
     count("run", run(translation, sizeof translation, tree, sizeof tree, output, OUTPUT) == 0);
+    gives("a run by another number", ALGEBRA_UNKNOWN_ROOT,
+          run_by(1, translation, sizeof translation, tree, sizeof tree, output, OUTPUT));
 }
 
 /* Scores. */
@@ -551,6 +560,51 @@ static void numbers(void)
     gives("one more than that", ALGEBRA_BROKEN_FIELD, pack_of(0, ALGEBRA_PACK_BODIES + 1, 0));
 }
 
+/* Adds the mappings and the clauses of the language's identity, by number 0 and once more by another. */
+static void add_body(uint8_t number)
+{
+    add("\x22\0\2\1\1\x28\0\3\1", 9, 1);
+    built[built_length++] = number;
+    add("\1\x23\0\4\1\0\1\0\x29\0\5\1\0", 13, 1);
+    built[built_length++] = number;
+    add("\1\0", 2, 1);
+}
+
+/* Runs a translation that has the number beside 0, by a number. */
+static uint32_t run_with(uint8_t number, uint32_t by)
+{
+    built_length = 0;
+    add("\x20\0\5\x12\0\2\1\0\x21\0\5\x12\0\2\1\0", 16, 1);
+    add_body(number);
+    return run_by(by, built, built_length, tree, sizeof tree, output, OUTPUT);
+}
+
+/* Joins a translation that has the number beside 0 with an identity. */
+static uint32_t join_with(uint8_t number)
+{
+    built_length = 0;
+    add("\x30\0\5\x12\0\2\1\0\x31\0\x1A", 11, 1);
+    add_body(number);
+    add("\x32\0\xA\x54\x55\x40\0\x50\x40\0\x40\0\0", 13, 1);
+    return reduce_built();
+}
+
+/* Mapping numbers. */
+static void mapping_numbers(void)
+{
+    gives("the highest number", ALGEBRA_ACCEPTED, run_with(ALGEBRA_MAPPING_NUMBERS - 1, ALGEBRA_MAPPING_NUMBERS - 1));
+    gives("number 0 beside it", ALGEBRA_ACCEPTED, run_with(ALGEBRA_MAPPING_NUMBERS - 1, 0));
+    gives("one below it", ALGEBRA_UNKNOWN_ROOT, run_with(ALGEBRA_MAPPING_NUMBERS - 1, ALGEBRA_MAPPING_NUMBERS - 2));
+    gives("one above it", ALGEBRA_UNKNOWN_ROOT, run_with(ALGEBRA_MAPPING_NUMBERS - 1, ALGEBRA_MAPPING_NUMBERS));
+    gives("one that would wrap", ALGEBRA_UNKNOWN_ROOT, run_with(1, ALGEBRA_MAPPING_NUMBERS + 1));
+    gives("a table joined onto numbers", ALGEBRA_NUMBER_UNFIT,
+          join(built, built_length, table, sizeof table, output, OUTPUT));
+    gives("a search in numbers", ALGEBRA_NUMBER_UNFIT,
+          search(built, built_length, tree, sizeof tree, 0, workspace, WORKSPACE, output, OUTPUT));
+    gives("the highest number of a join", ALGEBRA_ACCEPTED, join_with(ALGEBRA_JOINED_NUMBERS - 1));
+    gives("one more than that", ALGEBRA_NUMBER_UNFIT, join_with(ALGEBRA_JOINED_NUMBERS));
+}
+
 int main(void)
 {
     checks();
@@ -571,6 +625,7 @@ int main(void)
     rooms();
     levels();
     numbers();
+    mapping_numbers();
     count("nothing is written elsewhere", no_bytes[0] == MARK && elsewhere[0] == MARK);
     printf("%d passed, %d failed\n", passed, failed);
     return failed != 0;

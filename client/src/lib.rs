@@ -41,10 +41,13 @@
 //!
 //! // Twice a row of 5 minutes is a sequence of two rows.
 //! let mut session = [0; 16];
-//! let length = algebra::run(&translation, 1, &[4, 1, 0, 5], &mut session)?;
+//! let length = algebra::run(&translation, 1, 0, &[4, 1, 0, 5], &mut session)?;
 //! assert_eq!(session[..length], [2, 1, 0, 5, 1, 0, 5]);
 //! # Ok::<(), algebra::Refusal>(())
 //! ```
+//!
+//! The 0 is the number of a mapping. A kind may have several, and always has number 0: so a list can
+//! become a warm-up by one and a cool-down by another.
 //!
 //! # Stack
 //!
@@ -159,7 +162,7 @@ pub fn check_tree(language: &[u8], root: u32, tree: &[u8]) -> Result<(), Refusal
 /// The output has at least [`TRANSLATION_BYTES`] bytes, else the pack is refused with 9. Behind
 /// the result, and after a refusal, it is as it was. The workspace is allocated by the call.
 ///
-/// Refusals: 1 to 13.
+/// Refusals: 1 to 13, 26.
 ///
 /// ```
 /// use algebra::{reduce, Refusal, TRANSLATION_BYTES};
@@ -177,7 +180,7 @@ pub fn reduce(pack: &[u8], output: &mut [u8]) -> Result<usize, Refusal> {
 
 /// Reduces a pack to one translation, with an output that is allocated.
 ///
-/// Refusals: 1 to 8, 10 to 13.
+/// Refusals: 1 to 8, 10 to 13, 26.
 ///
 /// ```
 /// // The identity of the empty language, and a variable that has no value.
@@ -193,10 +196,11 @@ pub fn reduce_to_vec(pack: &[u8]) -> Result<Vec<u8>, Refusal> {
     Ok(output)
 }
 
-/// Runs a translation on a tree of the root kind. The result is put at the start of the output;
-/// gives its length.
+/// Runs a translation on a tree of the root kind, by a number of that kind. The result is put at the
+/// start of the output; gives its length.
 ///
-/// Behind the result, and after a refusal, the output is as it was.
+/// Behind the result, and after a refusal, the output is as it was. A number that the root kind
+/// lacks is refused as a root that the language lacks is.
 ///
 /// Refusals: 1 to 7, 14 to 17.
 ///
@@ -210,21 +214,36 @@ pub fn reduce_to_vec(pack: &[u8]) -> Result<Vec<u8>, Refusal> {
 ///     0x22, 0, 2, 1, 1, 0x23, 0, 8, 1, 4, 1, 2, 3, 1, 3, 1, 0x23, 0, 4, 1, 5, 1, 5,
 /// ];
 /// let mut output = [0xEE; 4];
-/// assert_eq!(run(&translation, 1, &[4, 5], &mut output), Ok(3));
+/// assert_eq!(run(&translation, 1, 0, &[4, 5], &mut output), Ok(3));
 /// assert_eq!(output, [2, 5, 5, 0xEE]);
-/// assert_eq!(run(&translation, 1, &[4, 4, 5], &mut output), Err(Refusal::OutputTooShort));
+/// assert_eq!(run(&translation, 1, 0, &[4, 4, 5], &mut output), Err(Refusal::OutputTooShort));
+/// // Kind 1 has no mapping of number 1.
+/// assert_eq!(run(&translation, 1, 1, &[4, 5], &mut output), Err(Refusal::UnknownRoot));
+/// ```
+///
+/// By number 0 the leaf 1.5 becomes 1.6, and by number 1 it becomes 1.7:
+///
+/// ```
+/// let translation = [
+///     0x20, 0, 5, 0x12, 0, 2, 1, 5, 0x21, 0, 10, 0x12, 0, 2, 1, 6, 0x12, 0, 2, 1, 7,
+///     0x22, 0, 2, 1, 1, 0x28, 0, 3, 1, 1, 1,
+///     0x23, 0, 4, 1, 5, 1, 6, 0x29, 0, 5, 1, 5, 1, 1, 7,
+/// ];
+/// assert_eq!(algebra::run_to_vec(&translation, 1, 0, &[5], 1000), Ok(vec![6]));
+/// assert_eq!(algebra::run_to_vec(&translation, 1, 1, &[5], 1000), Ok(vec![7]));
 /// ```
 pub fn run(
     translation: &[u8],
     root: u32,
+    number: u32,
     tree: &[u8],
     output: &mut [u8],
 ) -> Result<usize, Refusal> {
-    accepted_length(raw::run(translation, root, tree, output))
+    accepted_length(raw::run(translation, root, number, tree, output))
 }
 
-/// Runs a translation on a tree of the root kind, with an output that is allocated and has at
-/// most `limit` bytes. A small tree can have a result that fits no memory.
+/// Runs a translation on a tree of the root kind, by a number of that kind, with an output that is
+/// allocated and has at most `limit` bytes. A small tree can have a result that fits no memory.
 ///
 /// A result that does not fit the first output, of about the length of the tree, costs a pass
 /// over the tree for each time that the output is made longer. Where memory has no room for a
@@ -238,15 +257,16 @@ pub fn run(
 ///     0x20, 0, 5, 0x12, 0, 2, 1, 4, 0x21, 0, 5, 0x12, 0, 2, 1, 4,
 ///     0x22, 0, 2, 1, 1, 0x23, 0, 4, 1, 4, 1, 4,
 /// ];
-/// assert_eq!(algebra::run_to_vec(&translation, 1, &[4], 1000), Ok(vec![4]));
+/// assert_eq!(algebra::run_to_vec(&translation, 1, 0, &[4], 1000), Ok(vec![4]));
 /// ```
 pub fn run_to_vec(
     translation: &[u8],
     root: u32,
+    number: u32,
     tree: &[u8],
     limit: usize,
 ) -> Result<Vec<u8>, Refusal> {
-    in_growing_output(tree.len(), limit, |output| run(translation, root, tree, output))
+    in_growing_output(tree.len(), limit, |output| run(translation, root, number, tree, output))
 }
 
 /// What a call puts into an output that is allocated, for a tree of so many bytes, and is made longer

@@ -45,6 +45,7 @@ extern "C" {
         translation: *const u8,
         translation_length: usize,
         root: u32,
+        number: u32,
         tree: *const u8,
         tree_length: usize,
         output: *mut u8,
@@ -107,8 +108,8 @@ pub fn reduce(pack: &[u8], workspace: &mut [u8], output: &mut [u8]) -> Answer {
     Answer { number, length }
 }
 
-/// Runs a translation on a tree; the result is at the start of the output.
-pub fn run(translation: &[u8], root: u32, tree: &[u8], output: &mut [u8]) -> Answer {
+/// Runs a translation on a tree by a number of the root; the result is at the start of the output.
+pub fn run(translation: &[u8], root: u32, number: u32, tree: &[u8], output: &mut [u8]) -> Answer {
     let mut length = NOT_STORED;
     // SAFETY: pointers and lengths are those of slices that are lent for the call; the
     // output is lent for writing and overlaps nothing.
@@ -117,6 +118,7 @@ pub fn run(translation: &[u8], root: u32, tree: &[u8], output: &mut [u8]) -> Ans
             translation.as_ptr(),
             translation.len(),
             root,
+            number,
             tree.as_ptr(),
             tree.len(),
             output.as_mut_ptr(),

@@ -37,7 +37,9 @@ pub fn score(language: &[u8], root: u32, tree: &[u8], table: &[u8]) -> Result<i6
 /// Where a tree's score by the joined table and its run's score by the table are both accepted,
 /// they are equal. Behind the table, and after a refusal, the output is as it was.
 ///
-/// Refusals: 1 to 7, 11, 17, 18.
+/// A translation with any number but 0 is refused with 26.
+///
+/// Refusals: 1 to 7, 11, 17, 18, 26.
 ///
 /// ```
 /// use algebra::{join_table, Refusal};
@@ -61,7 +63,7 @@ pub fn join_table(translation: &[u8], table: &[u8], output: &mut [u8]) -> Result
 
 /// Joins a load table of the target onto a translation, with an output that is allocated.
 ///
-/// Refusals: 1 to 7, 11, 18.
+/// Refusals: 1 to 7, 11, 18, 26.
 ///
 /// ```
 /// // The empty translation, and the empty table.

@@ -10,7 +10,7 @@ use crate::{accepted_length, in_growing_output, output_of, raw, Refusal, SEARCH_
 /// workspace of [`SEARCH_WORKSPACE`] bytes for each byte of the tree, in which the search remembers
 /// what it has found; where memory has no room for it, it takes longer and answers the same.
 ///
-/// Refusals: 1 to 7, 14 to 17, 23, 24.
+/// Refusals: 1 to 7, 14 to 17, 23, 24, 26.
 ///
 /// ```
 /// use algebra::{search, Refusal};
@@ -46,7 +46,7 @@ pub fn search(
 /// of about the length of the tree, costs a search for each time that the output is made longer.
 /// Where memory has no room for a longer output, the answer is 17 too.
 ///
-/// Refusals: 1 to 7, 14 to 17, 23, 24.
+/// Refusals: 1 to 7, 14 to 17, 23, 24, 26.
 ///
 /// ```
 /// // The production 1.4 stays itself.

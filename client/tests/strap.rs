@@ -21,14 +21,14 @@ fn nested(levels: usize) -> Vec<u8> {
 #[test]
 fn an_output_is_left_alone_behind_the_result() {
     let mut output = [MARK; 9];
-    assert_eq!(algebra::run(&twice(), 1, &nested(1), &mut output), Ok(7));
+    assert_eq!(algebra::run(&twice(), 1, 0, &nested(1), &mut output), Ok(7));
     assert_eq!(output, [2, 1, 0, 5, 1, 0, 5, MARK, MARK]);
 }
 
 #[test]
 fn a_refusal_leaves_the_output_alone() {
     let mut output = [MARK; 6];
-    let refused = algebra::run(&twice(), 1, &nested(1), &mut output);
+    let refused = algebra::run(&twice(), 1, 0, &nested(1), &mut output);
     assert_eq!(refused, Err(Refusal::OutputTooShort));
     assert_eq!(output, [MARK; 6]);
 }
@@ -36,18 +36,18 @@ fn a_refusal_leaves_the_output_alone() {
 #[test]
 fn a_long_result_is_allocated_up_to_the_limit() {
     let (tree, length) = (nested(12), 4 * (1 << 12) - 1);
-    let run = |limit| algebra::run_to_vec(&twice(), 1, &tree, limit);
+    let run = |limit| algebra::run_to_vec(&twice(), 1, 0, &tree, limit);
     assert_eq!(run(length).map(|result| result.len()), Ok(length));
     assert_eq!(run(1 << 20), run(length));
     assert_eq!(run(length - 1), Err(Refusal::OutputTooShort));
     assert_eq!(run(0), Err(Refusal::OutputTooShort));
-    let endless = algebra::run_to_vec(&twice(), 1, &nested(63), usize::MAX);
+    let endless = algebra::run_to_vec(&twice(), 1, 0, &nested(63), usize::MAX);
     assert_eq!(endless, Err(Refusal::OutputTooShort));
 }
 
 #[test]
 fn levels_are_refused_before_the_length() {
-    let run = |levels| algebra::run_to_vec(&twice(), 1, &nested(levels), 1000);
+    let run = |levels| algebra::run_to_vec(&twice(), 1, 0, &nested(levels), 1000);
     assert_eq!(run(63), Err(Refusal::OutputTooShort));
     assert_eq!(run(64), Err(Refusal::TooDeep));
 }
@@ -71,7 +71,7 @@ fn threads_call_at_the_same_time() {
         for levels in 1..8 {
             let translation = &translation;
             scope.spawn(move || {
-                let result = algebra::run_to_vec(translation, 1, &nested(levels), 10_000);
+                let result = algebra::run_to_vec(translation, 1, 0, &nested(levels), 10_000);
                 assert_eq!(result.map(|result| result.len()), Ok(4 * (1 << levels) - 1));
             });
         }

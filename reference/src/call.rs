@@ -141,7 +141,9 @@ impl Call {
             Call::CheckTranslation(translation) => check_translation(translation).into(),
             Call::CheckTree(case) => check_tree(&case.language, case.root, &case.tree).into(),
             Call::Reduce(case) => reduce(&case.pack, workspace, output).into(),
-            Call::Run(case) => run(&case.translation, case.root, &case.tree, output).into(),
+            Call::Run(case) => {
+                run(&case.translation, case.root, case.number, &case.tree, output).into()
+            }
             Call::Score(case) => score(&case.language, case.root, &case.tree, &case.table).into(),
             Call::ScoreLoose(case) => {
                 score_loose(&case.language, case.root, &case.tree, &case.table).into()
@@ -177,7 +179,7 @@ impl Call {
             }
             Call::Reduce(case) => library::reduce(&case.pack, workspace, output).into(),
             Call::Run(case) => {
-                library::run(&case.translation, case.root, &case.tree, output).into()
+                library::run(&case.translation, case.root, case.number, &case.tree, output).into()
             }
             Call::Score(case) => {
                 library::score(&case.language, case.root, &case.tree, &case.table).into()

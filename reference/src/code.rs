@@ -1,22 +1,25 @@
-//! Code: 01 name arguments, 02 token, 03 argument number, in prefix form.
+//! Code: 01 name arguments, 02 token, 03 argument, 04 argument and the number of its mapping, in
+//! prefix form.
 
+use crate::body::Body;
 use crate::field::two_bytes;
 use crate::grammar::Grammar;
-use crate::language::ARGUMENTS;
 
-/// Code has at most this many levels: each 01 and 03 is one, 02 is none.
+/// Code has at most this many levels: each 01, 03 and 04 is one, 02 is none.
 pub const CODE_LEVELS: u32 = 16;
 
 pub const PRODUCTION_SIGN: u8 = 1;
 pub const TOKEN_SIGN: u8 = 2;
 pub const ARGUMENT_SIGN: u8 = 3;
+pub const NUMBERED_ARGUMENT_SIGN: u8 = 4;
 
-/// One sign of a code with what follows it; arguments are numbered from 0 here.
+/// One sign of a code with what follows it; arguments are numbered from 0 here, and have the number
+/// of their mapping beside them.
 #[derive(Clone, Copy, Debug, PartialEq, Eq)]
 pub enum Symbol {
     Production(u8),
     Token(u16),
-    Argument(u8),
+    Argument(u8, u8),
 }
 
 impl Symbol {
@@ -29,7 +32,10 @@ impl Symbol {
                 Some((Symbol::Token(two_bytes(*high, *low)), rest))
             }
             [ARGUMENT_SIGN, number, rest @ ..] => {
-                Some((Symbol::Argument(number.checked_sub(1)?), rest))
+                Some((Symbol::Argument(number.checked_sub(1)?, 0), rest))
+            }
+            [NUMBERED_ARGUMENT_SIGN, argument, number @ 1..=255, rest @ ..] => {
+                Some((Symbol::Argument(argument.checked_sub(1)?, *number), rest))
             }
             _ => None,
         }
@@ -43,15 +49,20 @@ impl Symbol {
                 output.push(TOKEN_SIGN);
                 output.extend_from_slice(&value.to_be_bytes());
             }
-            Symbol::Argument(number) => output.extend_from_slice(&[ARGUMENT_SIGN, number + 1]),
+            Symbol::Argument(argument, 0) => {
+                output.extend_from_slice(&[ARGUMENT_SIGN, argument + 1]);
+            }
+            Symbol::Argument(argument, number) => {
+                output.extend_from_slice(&[NUMBERED_ARGUMENT_SIGN, argument + 1, number]);
+            }
         }
     }
 
     /// The number of bytes that `put` appends.
     pub fn length(self) -> u64 {
         match self {
-            Symbol::Token(_) => 3,
-            _ => 2,
+            Symbol::Production(_) | Symbol::Argument(_, 0) => 2,
+            _ => 3,
         }
     }
 
@@ -74,26 +85,16 @@ pub fn symbols(code: &[u8]) -> impl Iterator<Item = Symbol> + '_ {
     })
 }
 
-/// The kinds that a clause's arguments are mapped to.
-pub struct ArgumentKinds {
-    kinds: [u8; ARGUMENTS],
-    count: usize,
+/// The kinds of a clause's arguments, and what they are mapped to.
+pub struct ArgumentKinds<'a> {
+    pub body: &'a Body,
+    pub arguments: &'a [u8],
 }
 
-impl ArgumentKinds {
-    /// Collects at most eight kinds.
-    pub fn collect(list: impl Iterator<Item = u8>) -> ArgumentKinds {
-        let mut collected = ArgumentKinds { kinds: [0; ARGUMENTS], count: 0 };
-        for kind in list {
-            collected.kinds[collected.count] = kind;
-            collected.count += 1;
-        }
-        collected
-    }
-
-    /// The kind of the argument with that number, counted from 0.
-    pub fn get(&self, number: u8) -> Option<u8> {
-        self.kinds[..self.count].get(number as usize).copied()
+impl ArgumentKinds<'_> {
+    /// The kind that an argument, counted from 0, is mapped to by a number.
+    pub fn get(&self, argument: u8, number: u8) -> Option<u8> {
+        self.body.mapped(*self.arguments.get(argument as usize)?, number)
     }
 }
 
@@ -125,7 +126,9 @@ fn read_code<'a>(
             }
             Some(rest)
         }
-        Symbol::Argument(number) => (arguments.get(number)? == kind).then_some(rest),
+        Symbol::Argument(argument, number) => {
+            (arguments.get(argument, number)? == kind).then_some(rest)
+        }
     }
 }
 

@@ -2,8 +2,8 @@
 //! accepted gives the same bytes now. Trees are run and codes joined here by their definitions, so
 //! that the rule of today is tested against them too.
 
-use crate::body::{Body, Clause};
-use crate::code::{symbols, Symbol};
+use crate::body::{Body, Clause, Numbered};
+use crate::code::{symbols, ArgumentKinds, Symbol};
 use crate::generate::{
     reduce_case, run_case, translation_file, tree_case, Random, RunCase, TreeCase,
 };
@@ -42,8 +42,11 @@ fn in_class(language: &Language, kind: u8, value: u16) -> Option<bool> {
 }
 
 /// The kinds that the arguments of a production are mapped to.
-fn mapped_arguments(translation: &Translation, production: &Production) -> Vec<u8> {
-    production.arguments().iter().map(|&kind| translation.mapped(kind)).collect()
+fn mapped_arguments<'a>(
+    translation: &'a Translation,
+    production: &'a Production,
+) -> ArgumentKinds<'a> {
+    ArgumentKinds { body: &translation.body, arguments: production.arguments() }
 }
 
 impl Rule {
@@ -75,15 +78,15 @@ impl Rule {
     fn code<'a>(
         self,
         target: &Language,
-        arguments: &[u8],
+        arguments: &ArgumentKinds,
         kind: u8,
         code: &'a [u8],
     ) -> Option<(usize, &'a [u8])> {
         let (symbol, mut rest) = Symbol::split(code)?;
         match symbol {
             Symbol::Token(value) => (in_class(target, kind, value)?).then_some((self.token, rest)),
-            Symbol::Argument(number) => {
-                (*arguments.get(number as usize)? == kind).then_some((1, rest))
+            Symbol::Argument(argument, number) => {
+                (arguments.get(argument, number)? == kind).then_some((1, rest))
             }
             Symbol::Production(name) => {
                 let mut most = 0;
@@ -98,11 +101,9 @@ impl Rule {
 
     /// Whether each code is of its kind and has at most 16 levels.
     fn accepts_codes(self, translation: &Translation) -> bool {
-        let productions = translation.source.productions.iter();
-        let mut clauses = productions.zip(translation.body.clauses.iter());
-        clauses.all(|(production, clause)| {
+        let mut clauses = translation.due_clauses().zip(translation.body.clauses.iter());
+        clauses.all(|((production, _, kind), clause)| {
             let arguments = mapped_arguments(translation, production);
-            let kind = translation.mapped(production.result);
             let levels = self.code(&translation.target, &arguments, kind, clause.code);
             levels.is_some_and(|(levels, rest)| levels <= CODE_LEVELS && rest.is_empty())
         })
@@ -120,14 +121,18 @@ impl Rule {
         if !fits(outer, inner) {
             return None;
         }
-        let mut body = Body::default();
+        let mut body = Body { others: joined_numbers(outer, inner), ..Body::default() };
         body.mapping = inner.body.mapping.map(|kind| kind.map(|kind| outer.mapped(kind)));
         for production in &inner.source.productions {
             let join = Join { outer, inner, arguments: mapped_arguments(inner, production) };
-            let mut code = Vec::new();
-            let kind = inner.mapped(production.result);
-            join.put(kind, clause_of(inner, production).code, &mut code)?;
-            body.clauses.push(Clause { key: production.key(), code: &code });
+            for (one, other) in pairs_of_numbers() {
+                let Some(kind) = inner.body.mapped(production.result, one) else { continue };
+                if outer.body.mapped(kind, other).is_some() {
+                    let (mut code, number) = (Vec::new(), one << 4 | other);
+                    join.put(kind, other, clause_of(inner, production, one).code, &mut code)?;
+                    body.clauses.push(Clause { key: production.key(), number, code: &code });
+                }
+            }
         }
         let (source, target) = (inner.source.clone(), outer.target.clone());
         let value = Translation { source, target, body };
@@ -154,10 +159,31 @@ impl Rule {
     }
 }
 
-/// The clause for a production.
-fn clause_of<'a>(translation: &'a Translation, production: &Production) -> Clause<'a> {
+/// The numbers that an operand of a join may have.
+fn all_numbers() -> std::ops::RangeInclusive<u8> {
+    0..=15
+}
+
+/// Each number of one operand with each of the other, by rising order of the join's number.
+fn pairs_of_numbers() -> impl Iterator<Item = (u8, u8)> {
+    all_numbers().flat_map(|one| all_numbers().map(move |other| (one, other)))
+}
+
+/// The mappings of a join by other numbers than 0.
+fn joined_numbers(outer: &Translation, inner: &Translation) -> Vec<Numbered> {
+    let kinds = (0..32).flat_map(|kind| pairs_of_numbers().map(move |pair| (kind, pair)));
+    let numbered = |(kind, (one, other))| {
+        let target = outer.body.mapped(inner.body.mapped(kind, one)?, other)?;
+        Some(Numbered { kind, number: one << 4 | other, target })
+    };
+    kinds.filter_map(numbered).filter(|numbered| numbered.number > 0).collect()
+}
+
+/// The clause for a production by a number.
+fn clause_of<'a>(translation: &'a Translation, production: &Production, number: u8) -> Clause<'a> {
     let mut clauses = translation.body.clauses.iter();
-    clauses.find(|clause| clause.key == production.key()).expect("each production has a clause")
+    let place = (production.key(), number);
+    clauses.find(|clause| clause.place() == place).expect("each production has a clause")
 }
 
 /// Where each of the arguments starts, and the bytes behind them, by a function that skips one.
@@ -174,10 +200,12 @@ fn split_arguments<'a>(
     (starts, rest)
 }
 
-/// Appends the run of the first legal tree of a kind in the bytes; gives up beyond a length.
+/// Appends the run, by a number, of the first legal tree of a kind in the bytes; gives up beyond a
+/// length.
 fn put_run(
     translation: &Translation,
     kind: u8,
+    number: u8,
     tree: &[u8],
     most: usize,
     output: &mut Vec<u8>,
@@ -190,17 +218,17 @@ fn put_run(
     let production = production(source, kind, tree[0]).expect("a legal tree");
     let skip = |kind, rest| TODAY.tree(source, kind, rest).expect("a legal tree").1;
     let (starts, _) = split_arguments(production.arguments(), &tree[1..], skip);
-    for symbol in symbols(clause_of(translation, &production).code) {
+    for symbol in symbols(clause_of(translation, &production, number).code) {
         if output.len() > most {
             return None;
         }
         match symbol {
             Symbol::Production(name) => output.push(name),
             Symbol::Token(value) => output.extend_from_slice(&value.to_be_bytes()),
-            Symbol::Argument(number) => {
-                let number = number as usize;
-                let (kind, start) = (production.arguments()[number], starts[number]);
-                put_run(translation, kind, start, most, output)?;
+            Symbol::Argument(argument, number) => {
+                let argument = argument as usize;
+                let (kind, start) = (production.arguments()[argument], starts[argument]);
+                put_run(translation, kind, number, start, most, output)?;
             }
         }
     }
@@ -211,14 +239,18 @@ fn put_run(
 struct Join<'a> {
     outer: &'a Translation,
     inner: &'a Translation,
-    arguments: Vec<u8>,
+    arguments: ArgumentKinds<'a>,
 }
 
 impl Join<'_> {
-    /// Appends the first code of a kind in the bytes run through the first translation; gives up
-    /// beyond the limit of bytes.
-    fn put(&self, kind: u8, code: &[u8], output: &mut Vec<u8>) -> Option<()> {
+    /// Appends the first code of a kind in the bytes run through the first translation by a number;
+    /// gives up beyond the limit of bytes.
+    fn put(&self, kind: u8, number: u8, code: &[u8], output: &mut Vec<u8>) -> Option<()> {
         let (symbol, rest) = Symbol::split(code)?;
+        if let Symbol::Argument(argument, inner) = symbol {
+            Symbol::Argument(argument, inner << 4 | number).put(output);
+            return Some(());
+        }
         let Symbol::Production(name) = symbol else {
             symbol.put(output);
             return Some(());
@@ -229,14 +261,14 @@ impl Join<'_> {
             TODAY.code(target, &self.arguments, kind, rest).expect("a well-formed code").1
         };
         let (starts, _) = split_arguments(production.arguments(), rest, skip);
-        for symbol in symbols(clause_of(self.outer, &production).code) {
+        for symbol in symbols(clause_of(self.outer, &production, number).code) {
             if output.len() > TRANSLATION_LIMIT {
                 return None;
             }
             match symbol {
-                Symbol::Argument(number) => {
-                    let number = number as usize;
-                    self.put(production.arguments()[number], starts[number], output)?;
+                Symbol::Argument(argument, number) => {
+                    let argument = argument as usize;
+                    self.put(production.arguments()[argument], number, starts[argument], output)?;
                 }
                 symbol => symbol.put(output),
             }
@@ -245,13 +277,19 @@ impl Join<'_> {
     }
 }
 
-/// Whether the target of the second lies within the source of the first.
+/// Whether no number is above 15, and the target of the second lies within the source of the first.
 fn fits(outer: &Translation, inner: &Translation) -> bool {
     let (source, target) = (&outer.source, &inner.target);
-    target.classes.iter().all(|class| {
-        let mut classes = source.classes.iter();
-        classes.any(|wider| wider.kind == class.kind && wider.contains(class))
-    }) && target.productions.iter().all(|production| source.productions.contains(production))
+    let low = |operand: &Translation| {
+        operand.body.others.iter().all(|other| all_numbers().contains(&other.number))
+    };
+    low(outer)
+        && low(inner)
+        && target.classes.iter().all(|class| {
+            let mut classes = source.classes.iter();
+            classes.any(|wider| wider.kind == class.kind && wider.contains(class))
+        })
+        && target.productions.iter().all(|production| source.productions.contains(production))
 }
 
 /// Whether a term is made of joins and of bodies between constants.
@@ -317,7 +355,9 @@ fn ran(rule: Rule, case: &RunCase) -> Option<Vec<u8>> {
     }
     let mut result = Vec::new();
     let kind = case.root as u8;
-    put_run(&value, kind, &case.tree, case.output, &mut result)?;
+    let number = u8::try_from(case.number).ok()?;
+    value.body.mapped(kind, number)?;
+    put_run(&value, kind, number, &case.tree, case.output, &mut result)?;
     (result.len() <= case.output).then_some(result)
 }
 
@@ -326,7 +366,7 @@ fn runs_accepted_earlier_give_the_same_bytes() {
     compare(20_000, 200, |random| {
         let case = run_case(random);
         let mut output = vec![0xEE; case.output];
-        let outcome = run(&case.translation, case.root, &case.tree, &mut output);
+        let outcome = run(&case.translation, case.root, case.number, &case.tree, &mut output);
         let [earlier, today] = [EARLIER, TODAY].map(|rule| ran(rule, &case));
         for result in [&earlier, &today].into_iter().flatten() {
             assert_eq!(outcome.length(), result.len() as u64);

@@ -91,7 +91,7 @@ impl Lister<'_> {
             match symbol {
                 Symbol::Production(name) => run.push(name),
                 Symbol::Token(value) => run.extend(value.to_be_bytes()),
-                Symbol::Argument(number) => {
+                Symbol::Argument(number, _) => {
                     run.extend_from_slice(arguments[usize::from(number)].run.as_ref()?);
                 }
             }

@@ -3,7 +3,8 @@
 
 use crate::call::{Answer, Buffers, Call, WORKSPACE_MARK};
 use crate::files::{
-    card, class, clause, load, mapping, pack, production, stepped_class, translation,
+    card, class, clause, load, mapping, numbered_clause, numbered_mapping, pack, production,
+    stepped_class, translation,
 };
 use crate::generate::{BlockCase, EditCase, ExportCase, ImportCase, IndexCase, JoinTableCase};
 use crate::generate::{MaskCase, ReduceCase, RunCase, ScoreCase, SearchCase, TreeCase};
@@ -116,7 +117,18 @@ pub fn sum() -> Vec<u8> {
 
 /// A run by a translation, with an output of so many bytes.
 fn run_by(translation: &[u8], root: u32, tree: &[u8], output: usize) -> Call {
-    Call::Run(RunCase { translation: translation.to_vec(), root, tree: tree.to_vec(), output })
+    run_by_number(translation, (root, 0), tree, output)
+}
+
+/// A run by a translation from a root by one of its numbers, with an output of so many bytes.
+fn run_by_number(
+    translation: &[u8],
+    (root, number): (u32, u32),
+    tree: &[u8],
+    output: usize,
+) -> Call {
+    let (translation, tree) = (translation.to_vec(), tree.to_vec());
+    Call::Run(RunCase { translation, root, number, tree, output })
 }
 
 /// A reduction with the least room.
@@ -272,6 +284,107 @@ fn rates() -> Vec<Example> {
 fn language_clauses() -> Vec<u8> {
     [clause(1, 1, &[1, 1, 3, 1]), clause(1, 2, &[1, 2, 3, 1, 3, 2]), clause(1, 3, &[1, 3, 3, 1])]
         .concat()
+}
+
+/// Kind 3 is a list of minutes: the last of them, or one more before the others; production 1.5 (3 1)
+/// has a list before a block.
+fn language_of_lists() -> Vec<u8> {
+    [production(1, 5, &[3, 1]), production(3, 1, &[2]), production(3, 2, &[2, 3])].concat()
+}
+
+/// A list becomes rows in its order by number 0, and in reverse by number 1; before a block it is
+/// written by 0, and behind it by 1.
+fn body_of_lists() -> Vec<u8> {
+    [
+        [mapping(1, 1), mapping(2, 2), mapping(3, 1), numbered_mapping(3, 1, 1)].concat(),
+        clause(1, 5, &[1, 2, 3, 1, 1, 2, 3, 2, 4, 1, 1]),
+        clause(3, 1, &[1, 1, 3, 1]),
+        numbered_clause(3, 1, 1, &[1, 1, 3, 1]),
+        clause(3, 2, &[1, 2, 1, 1, 3, 1, 3, 2]),
+        numbered_clause(3, 2, 1, &[1, 2, 4, 2, 1, 1, 1, 3, 1]),
+    ]
+    .concat()
+}
+
+/// C to C: as it is by number 0, and by number 1 with each sequence in the other order.
+fn body_backwards() -> Vec<u8> {
+    [
+        [mapping(1, 1), numbered_mapping(1, 1, 1), mapping(2, 2)].concat(),
+        clause(1, 1, &[1, 1, 3, 1]),
+        numbered_clause(1, 1, 1, &[1, 1, 3, 1]),
+        clause(1, 2, &[1, 2, 3, 1, 3, 2]),
+        numbered_clause(1, 2, 1, &[1, 2, 4, 2, 1, 4, 1, 1]),
+        clause(1, 3, &[1, 3, 3, 1]),
+        numbered_clause(1, 3, 1, &[1, 3, 3, 1]),
+    ]
+    .concat()
+}
+
+/// Lists that are translated twice: by one translation, and by one joined onto it.
+fn numbers() -> Vec<Example> {
+    let source = [class(2, 1, 240), language_of_lists()].concat();
+    let lists = translation(&source, &language_c(), &body_of_lists());
+    let list = [2, 0, 5, 2, 0, 10, 1, 0, 15];
+    let (forwards, backwards) =
+        ([2, 1, 0, 5, 2, 1, 0, 10, 1, 0, 15], [2, 2, 1, 0, 15, 1, 0, 10, 1, 0, 5]);
+    let both = |outer: &[u8], inner: &[u8]| {
+        let (languages, bodies) =
+            ([source.clone(), language_c()], [outer.to_vec(), inner.to_vec()]);
+        let term = [0x54, 0x50, 0x40, 1, 0x40, 1, 0, 0x50, 0x40, 0, 0x40, 1, 1];
+        reduction(pack(&languages, &bodies, &term))
+    };
+    let high =
+        [&body_backwards()[..5], &numbered_mapping(1, 16, 1), &body_backwards()[11..]].concat();
+    let by = |number| run_by_number(&lists, (3, number), &list, 11);
+    let join =
+        Call::JoinTable(JoinTableCase { translation: lists.clone(), table: vec![], output: 0 });
+    vec![
+        accepted("lists by number", Call::CheckTranslation(lists.clone()), &[]),
+        accepted("a list by number 0", by(0), &forwards),
+        accepted("a list by number 1", by(1), &backwards),
+        refused("a list by number 2", by(2), 14),
+        refused("a list by number 257", by(257), 14),
+        refused("a block by number 1", run_by_number(&lists, (1, 1), &[], 9), 14),
+        refused("clauses of number 16 are missing", both(&high, &body_of_lists()), 6),
+        refused("a table joined onto lists", join, 26),
+        accepted(
+            "backwards joined onto lists",
+            both(&body_backwards(), &body_of_lists()),
+            &joined_lists(&source),
+        ),
+        accepted(
+            "a list by number 17 of the join",
+            run_by_number(&joined_lists(&source), (3, 17), &list, 11),
+            &forwards,
+        ),
+    ]
+}
+
+/// What the join of both reduces to.
+fn joined_lists(source: &[u8]) -> Vec<u8> {
+    let row = [1, 1, 3, 1];
+    let more = |name: u8, codes: [&[u8]; 4]| {
+        let numbered = [1, 16, 17].into_iter().zip(&codes[1..]);
+        let numbered = numbered.flat_map(|(number, code)| numbered_clause(3, name, number, code));
+        [clause(3, name, codes[0]), numbered.collect()].concat()
+    };
+    let body = [
+        [mapping(1, 1), numbered_mapping(1, 1, 1), mapping(2, 2), mapping(3, 1)].concat(),
+        [1, 16, 17].into_iter().flat_map(|number| numbered_mapping(3, number, 1)).collect(),
+        clause(1, 5, &[1, 2, 3, 1, 1, 2, 3, 2, 4, 1, 16]),
+        numbered_clause(1, 5, 1, &[1, 2, 1, 2, 4, 1, 17, 4, 2, 1, 4, 1, 1]),
+        more(1, [&row; 4]),
+        more(
+            2,
+            [
+                &[1, 2, 1, 1, 3, 1, 3, 2],
+                &[1, 2, 4, 2, 1, 1, 1, 3, 1],
+                &[1, 2, 4, 2, 16, 1, 1, 3, 1],
+                &[1, 2, 1, 1, 3, 1, 4, 2, 17],
+            ],
+        ),
+    ];
+    translation(source, &language_c(), &body.concat())
 }
 
 /// Checks of the languages and the translation of the examples.
@@ -508,7 +621,7 @@ fn texts() -> Vec<Example> {
 pub fn examples() -> Vec<Example> {
     let first = [reductions(), accepted_runs(), refused_runs(), wider_strap(), rates(), checks()];
     let sessions = [scores(), loose_scores(), texts(), blocks(), indexes(), edits(), masks()];
-    [first.concat(), sessions.concat(), searches()].concat()
+    [first.concat(), sessions.concat(), searches(), numbers()].concat()
 }
 
 impl Example {

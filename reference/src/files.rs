@@ -32,6 +32,16 @@ pub fn clause(result: u8, name: u8, code: &[u8]) -> Vec<u8> {
     field(0x23, &[&[result, name], code].concat())
 }
 
+/// A field 28.
+pub fn numbered_mapping(kind: u8, number: u8, target: u8) -> Vec<u8> {
+    field(0x28, &[kind, number, target])
+}
+
+/// A field 29.
+pub fn numbered_clause(result: u8, name: u8, number: u8, code: &[u8]) -> Vec<u8> {
+    field(0x29, &[&[result, name, number], code].concat())
+}
+
 /// A field 24.
 pub fn load(result: u8, name: u8, constant: i16, factors: &[i16]) -> Vec<u8> {
     let figures = [&[constant], factors].concat();

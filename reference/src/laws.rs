@@ -20,8 +20,8 @@ pub struct Answer {
 /// Reduces a pack; workspace and output are equally long each time.
 pub type Reduce = dyn Fn(&[u8]) -> Answer;
 
-/// Runs a translation from a root on a tree, with an output of so many bytes.
-pub type Run = dyn Fn(&[u8], u32, &[u8], usize) -> Answer;
+/// Runs a translation from a root, by a number, on a tree, with an output of so many bytes.
+pub type Run = dyn Fn(&[u8], u32, u32, &[u8], usize) -> Answer;
 
 /// The operations that the laws speak of.
 pub struct Operations<'a> {
@@ -42,11 +42,22 @@ pub enum Said {
     Runs,
     /// The second run and the run of the join were both too long for the output.
     LongRuns,
+    /// Two runs and the run of their join, by numbers that are not both 0, were accepted and equal.
+    NumberedRuns,
+    /// Two sums with other numbers than 0 were accepted and equal.
+    NumberedSums,
 }
 
 /// What stands for each thing said, in the order of `Said`.
-pub const SAID: [&str; 5] =
-    ["sums accepted", "sums refused", "joins accepted", "runs accepted", "runs too long"];
+pub const SAID: [&str; 7] = [
+    "sums accepted",
+    "sums refused",
+    "joins accepted",
+    "runs accepted",
+    "runs too long",
+    "runs by other numbers than 0 accepted",
+    "sums with other numbers than 0 accepted",
+];
 
 /// How a law was broken, and the inputs with which it was.
 #[derive(Debug)]
@@ -99,7 +110,12 @@ pub fn law_of_sums(
     let (one, other) = ((operations.reduce)(&left), (operations.reduce)(&right));
     let alike = (one.number == 0) == (other.number == 0);
     if alike && (one.length, &one.bytes) == (other.length, &other.bytes) {
-        return Ok(if one.number == 0 { Said::SumsAccepted } else { Said::SumsRefused });
+        let numbered = read_translation(&one.bytes).is_ok_and(|value| !value.body.is_plain());
+        return Ok(match one.number {
+            0 if numbered => Said::NumberedSums,
+            0 => Said::SumsAccepted,
+            _ => Said::SumsRefused,
+        });
     }
     let what = format!("law of sums: one sum {}, other sum {}", one.text(), other.text());
     let inputs =
@@ -169,36 +185,64 @@ pub fn law_of_runs(
     let mut said = vec![Said::Join];
     for _ in 0..TREES {
         if let Some((root, tree)) = legal_tree(random, &join.first.decoded.source) {
-            join.compare_runs(operations, root, &tree, &mut said)?;
+            let numbers = join.numbers(random, root);
+            join.compare_runs(operations, Start { root, numbers, tree: &tree }, &mut said)?;
         }
     }
     Ok(said)
 }
 
+/// A tree of a root kind, and the numbers by which the first run and the second are made.
+#[derive(Clone, Copy)]
+struct Start<'a> {
+    root: u8,
+    numbers: [u8; 2],
+    tree: &'a [u8],
+}
+
+impl Start<'_> {
+    /// The number of the join's run.
+    fn joined_number(&self) -> u8 {
+        let [first, second] = self.numbers;
+        16 * first + second
+    }
+}
+
 impl Join {
+    /// A number of the root for the first run, and one for the second of the kind that it maps to.
+    fn numbers(&self, random: &mut Random, root: u8) -> [u8; 2] {
+        let firsts: Vec<(u8, u8)> = self.first.decoded.body.numbers(root).collect();
+        let (first, kind) = random.pick(&firsts);
+        let seconds: Vec<(u8, u8)> = self.second.decoded.body.numbers(kind).collect();
+        [first, random.pick(&seconds).0]
+    }
+
     /// Runs the operands one after the other, and the join, with outputs of a few lengths.
     fn compare_runs(
         &self,
         operations: &Operations,
-        root: u8,
-        tree: &[u8],
+        start: Start,
         said: &mut Vec<Said>,
     ) -> Result<(), Broken> {
-        let middle = (operations.run)(&self.first.bytes, u32::from(root), tree, ROOM);
+        let (root, [first, second], tree) = (u32::from(start.root), start.numbers, start.tree);
+        let middle = (operations.run)(&self.first.bytes, root, first.into(), tree, ROOM);
         if middle.number != 0 {
             return Ok(());
         }
+        let (kind, joined) =
+            (self.first.decoded.body.mapped(start.root, first), start.joined_number());
+        let kind = u32::from(kind.expect("a number of the root"));
         let run = |output: usize| {
-            let kind = u32::from(self.first.decoded.mapped(root));
-            let second = (operations.run)(&self.second.bytes, kind, &middle.bytes, output);
-            let join = (operations.run)(&self.join.bytes, u32::from(root), tree, output);
-            self.compare(root, &second, &join)
-                .map_err(|fault| self.broken(fault, root, tree, output, [&second, &join]))
+            let bytes = &middle.bytes;
+            let second = (operations.run)(&self.second.bytes, kind, second.into(), bytes, output);
+            let join = (operations.run)(&self.join.bytes, root, joined.into(), tree, output);
+            self.compare(start, &second, &join)
+                .map_err(|fault| self.broken(fault, start, output, [&second, &join]))
                 .map(|what| (what, second.length as usize))
         };
         let (what, length) = run(ROOM)?;
         said.extend(what);
-        if what == Some(Said::Runs) {
+        if matches!(what, Some(Said::Runs | Said::NumberedRuns)) {
             said.extend(run(length)?.0);
             said.extend(run(length.saturating_sub(1))?.0);
         }
@@ -208,7 +252,7 @@ impl Join {
     /// What the law says of the second run and the join's, or how it is broken.
     fn compare(
         &self,
-        root: u8,
+        start: Start,
         second: &Answer,
         join: &Answer,
     ) -> Result<Option<Said>, &'static str> {
@@ -228,10 +272,11 @@ impl Join {
         if whole.source != self.first.decoded.source {
             return Err("the join has another source");
         }
-        if is_legal_tree(&whole.target, whole.mapped(root), &join.bytes) {
-            Ok(Some(Said::Runs))
-        } else {
-            Err("the result is no legal tree")
+        let kind = whole.body.mapped(start.root, start.joined_number());
+        match kind.is_some_and(|kind| is_legal_tree(&whole.target, kind, &join.bytes)) {
+            true if start.numbers == [0, 0] => Ok(Some(Said::Runs)),
+            true => Ok(Some(Said::NumberedRuns)),
+            false => Err("the result is no legal tree"),
         }
     }
 
@@ -239,13 +284,14 @@ impl Join {
     fn broken(
         &self,
         fault: &str,
-        root: u8,
-        tree: &[u8],
+        Start { root, numbers, tree }: Start,
         output: usize,
         [second, join]: [&Answer; 2],
     ) -> Broken {
         let answers = format!("second run {}, join's run {}", second.text(), join.text());
-        let what = format!("law of runs: {fault}: {answers}, root {root}, output length {output}");
+        let what = format!(
+            "law of runs: {fault}: {answers}, root {root}, numbers {numbers:?}, output length {output}"
+        );
         let inputs = vec![
             ("pack of the join", self.join.pack.clone()),
             ("pack of the first run", self.first.pack.clone()),

@@ -1,7 +1,7 @@
 //! What the listing program prints for a pack.
 
-use crate::body::CLAUSE_TAG;
-use crate::field::Fields;
+use crate::body::{CLAUSE_TAG, NUMBERED_CLAUSE_TAG};
+use crate::field::{Field, Fields};
 use crate::reduce::{reduce, OUTPUT_LEAST, WORKSPACE_LEAST};
 
 /// The first line, and one for each clause of the translation that the pack reduces to.
@@ -15,18 +15,22 @@ pub fn listing(pack: &[u8]) -> String {
     }
 }
 
-/// Result, point, name, a space and the code in capitals, for each clause of a translation.
+/// Result, point, name, a point and the number if it is not 0, a space and the code in capitals, for
+/// each clause of a translation.
 pub fn clause_lines(translation: &[u8]) -> String {
     let fields = Fields::new(translation).map_while(Result::ok);
-    let clauses = fields.filter(|field| field.tag == CLAUSE_TAG);
-    clauses.map(|field| clause_line(field.contents)).collect()
+    fields.map(clause_line).collect()
 }
 
-/// The line of a clause.
-fn clause_line(contents: &[u8]) -> String {
-    let [result, name, code @ ..] = contents else {
-        return String::new();
+/// The line of a field that is a clause, and nothing for others.
+fn clause_line(field: Field) -> String {
+    let (title, code) = match (field.tag, field.contents) {
+        (CLAUSE_TAG, [result, name, code @ ..]) => (format!("{result}.{name}"), code),
+        (NUMBERED_CLAUSE_TAG, [result, name, number, code @ ..]) => {
+            (format!("{result}.{name}.{number}"), code)
+        }
+        _ => return String::new(),
     };
     let code: String = code.iter().map(|byte| format!("{byte:02X}")).collect();
-    format!("{result}.{name} {code}\n")
+    format!("{title} {code}\n")
 }

@@ -54,6 +54,8 @@ pub enum Refusal {
     Limits = 24,
     /// The path has reached a hidden block.
     Hidden = 25,
+    /// An operand of a join has a number above 15, or there is a number where only 0 may be.
+    Number = 26,
 }
 
 /// The answer of an operation.

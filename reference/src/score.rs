@@ -170,7 +170,7 @@ impl Joiner<'_> {
         let mut form = Form::default();
         match symbol {
             Symbol::Token(value) => form.constant = i64::from(value),
-            Symbol::Argument(number) => form.factors[number as usize] = 1,
+            Symbol::Argument(number, _) => form.factors[number as usize] = 1,
             Symbol::Production(name) => {
                 let place = self.target.place(kind, name).expect("a well-formed code");
                 return self.production_form(place, rest);
@@ -205,6 +205,7 @@ pub fn join_table(translation: &[u8], table: &[u8], output: &mut [u8]) -> Outcom
 /// The tests of `join_table` in order, and then its result.
 fn write_table(translation: &[u8], table: &[u8], output: &mut [u8]) -> Result<u64, Refusal> {
     let translation = read_translation(translation)?;
+    require(translation.body.is_plain(), Refusal::Number)?;
     let table = Table::read(&translation.target, table)?;
     let joined = joined_table(&translation, &table)?;
     let place = output.get_mut(..joined.len()).ok_or(Refusal::Output)?;
@@ -212,7 +213,8 @@ fn write_table(translation: &[u8], table: &[u8], output: &mut [u8]) -> Result<u6
     Ok(joined.len() as u64)
 }
 
-/// The bytes of the joined table: for each source production what its code scores.
+/// The bytes of the joined table: for each source production what its code scores. The translation has
+/// no number but 0.
 pub fn joined_table(translation: &Translation, table: &Table) -> Result<Vec<u8>, Refusal> {
     let target = Grammar::new(&translation.target);
     let joiner = Joiner { target: &target, table };

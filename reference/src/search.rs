@@ -161,7 +161,7 @@ impl<'a> Search<'a> {
         let node = &self.nodes[number as usize];
         match *symbol {
             Symbol::Token(value) => (node.value == value).then_some(rest),
-            Symbol::Argument(argument) => {
+            Symbol::Argument(argument, _) => {
                 let used = uses[argument as usize].get_or_insert(number);
                 (*used == number).then_some(rest)
             }
@@ -307,7 +307,7 @@ pub fn search(
     found.into()
 }
 
-/// The tests of `search` in order up to the limit.
+/// The tests of `search` in order up to the limit; the translation has no number but 0.
 fn accepted(
     translation: &[u8],
     root: u32,
@@ -315,6 +315,7 @@ fn accepted(
     limit: u32,
 ) -> Result<(Translation, u8), Refusal> {
     let translation = read_translation(translation)?;
+    require(translation.body.is_plain(), Refusal::Number)?;
     let root = root_kind(&translation.source, root)?;
     let target = Grammar::new(&translation.target);
     read_tree(&target, translation.mapped(root), tree, Nothing, ())?;

@@ -1,7 +1,7 @@
 //! Files and trees in words, a line for each entry. What has broken fields is refused, and so is
 //! a tree that is not legal; anything else is shown, whether or not an operation accepts it.
 
-use crate::body::MAPPING_TAG;
+use crate::body::{MAPPING_TAG, NUMBERED_CLAUSE_TAG, NUMBERED_MAPPING_TAG};
 use crate::code::Symbol;
 use crate::explain::{
     self, language_entry, pack_parts, read_term, table_spots, translation_pieces, Fault, Piece,
@@ -55,6 +55,12 @@ fn entry(spot: &Spot) -> String {
             format!("{} ({})", spot.name(), kinds.join(" "))
         }
         (MAPPING_TAG, [source, target]) => format!("mapping {source} to {target}"),
+        (NUMBERED_MAPPING_TAG, [kind, number, target]) => {
+            format!("mapping {kind} by number {number} to {target}")
+        }
+        (NUMBERED_CLAUSE_TAG, [_, _, _, code @ ..]) => {
+            format!("{}: {}", spot.name(), code_in_words(code))
+        }
         (_, [_, _, code @ ..]) => format!("{}: {}", spot.name(), code_in_words(code)),
         _ => spot.name(),
     }
@@ -77,7 +83,10 @@ fn code_in_words(code: &[u8]) -> String {
         words.push(match symbol {
             Symbol::Production(name) => format!("production {name}"),
             Symbol::Token(value) => format!("token {value}"),
-            Symbol::Argument(number) => format!("argument {}", u32::from(number) + 1),
+            Symbol::Argument(argument, 0) => format!("argument {}", u32::from(argument) + 1),
+            Symbol::Argument(argument, number) => {
+                format!("argument {} by number {number}", u32::from(argument) + 1)
+            }
         });
         rest = behind;
     }

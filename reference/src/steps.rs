@@ -1,7 +1,7 @@
 //! A join taken apart into the steps that run one after the other.
 
-use crate::body::MAPPING_TAG;
-use crate::explain::{pack_parts, read_term, translation_pieces, Sign};
+use crate::body::{MAPPING_TAG, NUMBERED_MAPPING_TAG};
+use crate::explain::{pack_parts, read_term, translation_pieces, Sign, Spot};
 use crate::field::HEADER;
 use crate::files::field;
 use crate::pack::TERM_TAG;
@@ -13,40 +13,57 @@ pub struct Step {
     pub term: Vec<u8>,
     /// The pack with that term as its field 32.
     pub pack: Vec<u8>,
+    /// The number by which the step runs.
+    pub number: u32,
 }
+
+/// How many numbers of a join go with each of its second operand.
+const PAIRED_NUMBERS: u32 = 16;
 
 /// The steps of a pack's term in the order in which they run: those of a join's second operand,
 /// then those of its first, with the lets around the join taken into each. A term that is no join
-/// is one step. `None` if the pack has no term that can be read.
-pub fn steps(pack: &[u8]) -> Option<Vec<Step>> {
+/// is one step. A number of a join is 16 times that of its second operand plus that of its first.
+/// `None` if the pack has no term that can be read.
+pub fn steps(pack: &[u8], number: u32) -> Option<Vec<Step>> {
     let parts = pack_parts(pack).ok()?;
     let sign = read_term(&parts.term, parts.languages.len(), parts.bodies.len()).ok()?;
     let before = &pack[..parts.term.start() - HEADER];
-    let terms = terms_in_turn(pack, &sign, &[]).into_iter();
-    let step = |term: Vec<u8>| Step { pack: [before, &field(TERM_TAG, &term)].concat(), term };
+    let terms = terms_in_turn(pack, &sign, number, &[]).into_iter();
+    let step = |(term, number): (Vec<u8>, u32)| {
+        let pack = [before, &field(TERM_TAG, &term)].concat();
+        Step { term, pack, number }
+    };
     Some(terms.map(step).collect())
 }
 
-/// The terms of the steps, each behind the bytes of the lets around it.
-fn terms_in_turn(pack: &[u8], sign: &Sign, lets: &[u8]) -> Vec<Vec<u8>> {
+/// The terms of the steps with their numbers, each term behind the bytes of the lets around it.
+fn terms_in_turn(pack: &[u8], sign: &Sign, number: u32, lets: &[u8]) -> Vec<(Vec<u8>, u32)> {
     match (sign.sign, &sign.operands[..]) {
-        (0x54, [second, first]) => {
-            [terms_in_turn(pack, first, lets), terms_in_turn(pack, second, lets)].concat()
+        (0x54, [first, second]) => {
+            let before = terms_in_turn(pack, second, number / PAIRED_NUMBERS, lets);
+            let behind = terms_in_turn(pack, first, number % PAIRED_NUMBERS, lets);
+            [before, behind].concat()
         }
         (0x56 | 0x57, [value, within]) => {
-            terms_in_turn(pack, within, &[lets, &pack[sign.at..value.end]].concat())
+            terms_in_turn(pack, within, number, &[lets, &pack[sign.at..value.end]].concat())
         }
-        _ => vec![[lets, &pack[sign.at..sign.end]].concat()],
+        _ => vec![([lets, &pack[sign.at..sign.end]].concat(), number)],
     }
 }
 
-/// The kind that a translation maps a kind to.
-pub fn mapped_kind(translation: &[u8], kind: u32) -> Option<u32> {
+/// The kind that a translation maps a kind to by a number.
+pub fn mapped_kind(translation: &[u8], kind: u32, number: u32) -> Option<u32> {
     let pieces = translation_pieces(translation).ok()?;
+    let mapped = |spot: &Spot| match (spot.tag, spot.contents) {
+        (MAPPING_TAG, &[kind, target]) => Some(([kind, 0].map(u32::from), target)),
+        (NUMBERED_MAPPING_TAG, &[kind, number, target]) => {
+            Some(([kind, number].map(u32::from), target))
+        }
+        _ => None,
+    };
     let spots = pieces.body.spots();
-    let mapping =
-        spots.iter().find(|spot| spot.tag == MAPPING_TAG && u32::from(spot.contents[0]) == kind);
-    mapping.map(|spot| u32::from(spot.contents[1]))
+    let found = spots.iter().filter_map(mapped).find(|(key, _)| *key == [kind, number]);
+    found.map(|(_, target)| u32::from(target))
 }
 
 /// The source and the target of a translation.
@@ -63,7 +80,7 @@ mod tests {
 
     /// The terms of the steps of a pack with the language C and this term.
     fn terms(term: &[u8]) -> Vec<Vec<u8>> {
-        let steps = steps(&pack(&[language_c()], &[], term)).expect("the term can be read");
+        let steps = steps(&pack(&[language_c()], &[], term), 0).expect("the term can be read");
         steps.into_iter().map(|step| step.term).collect()
     }
 
@@ -73,7 +90,7 @@ mod tests {
     #[test]
     fn a_term_that_is_no_join_is_one_step() {
         assert_eq!(terms(&IDENTITY), [IDENTITY]);
-        assert_eq!(steps(&[]), None);
+        assert_eq!(steps(&[], 0), None);
     }
 
     #[test]
@@ -93,15 +110,28 @@ mod tests {
     }
 
     #[test]
+    fn a_number_of_a_join_is_shared_out() {
+        let numbers = |term: &[u8], number| -> Vec<u32> {
+            let steps = steps(&pack(&[language_c()], &[], term), number).unwrap_or_default();
+            steps.into_iter().map(|step| step.number).collect()
+        };
+        let join = [&[0x54][..], &VARIABLE, &IDENTITY].concat();
+        assert_eq!(numbers(&IDENTITY, 35), [35]);
+        assert_eq!(numbers(&join, 35), [2, 3]);
+        assert_eq!(numbers(&[&[0x54][..], &join, &IDENTITY].concat(), 35), [2, 0, 3]);
+    }
+
+    #[test]
     fn a_step_is_the_pack_with_its_term() {
         let join = [&[0x54][..], &VARIABLE, &IDENTITY].concat();
-        let steps = steps(&pack(&[language_c()], &[], &join)).expect("the term can be read");
+        let steps = steps(&pack(&[language_c()], &[], &join), 0).expect("the term can be read");
         assert_eq!(steps[0].pack, pack(&[language_c()], &[], &IDENTITY));
     }
 
     #[test]
     fn kinds_are_mapped_by_the_body() {
-        assert_eq!(mapped_kind(&sum(), 2), Some(2));
-        assert_eq!(mapped_kind(&sum(), 9), None);
+        assert_eq!(mapped_kind(&sum(), 2, 0), Some(2));
+        assert_eq!(mapped_kind(&sum(), 2, 1), None);
+        assert_eq!(mapped_kind(&sum(), 9, 0), None);
     }
 }

@@ -48,22 +48,27 @@ impl Translation {
         require(self.has_typed_codes(), Refusal::Code)
     }
 
-    /// The kind that a kind of the source is mapped to.
+    /// The kind that a kind of the source is mapped to by number 0.
     pub fn mapped(&self, kind: u8) -> u8 {
         self.body.mapping[kind as usize].expect("every kind of the source is mapped")
     }
 
-    /// Whether exactly the kinds of the source are mapped, each as it must be.
+    /// Whether exactly the kinds of the source are mapped, by number 0 and perhaps others, each as it
+    /// must be.
     pub fn maps_as_required(&self) -> bool {
-        let target_kinds = self.target.kinds();
+        let (source_kinds, target_kinds) = (self.source.kinds(), self.target.kinds());
         let lands_in_target =
             |kind: &Option<u8>| kind.is_none_or(|kind| target_kinds & bit(kind) != 0);
-        self.body.mapped_kinds() == self.source.kinds()
+        let mut others = self.body.others.iter();
+        self.body.mapped_kinds() == source_kinds
             && self.body.mapping.iter().all(lands_in_target)
+            && others.all(|other| {
+                source_kinds & bit(other.kind) != 0 && target_kinds & bit(other.target) != 0
+            })
             && self.maps_classes_into_classes()
     }
 
-    /// Whether each source class is mapped to a target class that contains its range.
+    /// Whether each source class is mapped, by each number, to a target class that contains its range.
     fn maps_classes_into_classes(&self) -> bool {
         let mut targets = [None; KINDS];
         for class in &self.target.classes {
@@ -71,25 +76,35 @@ impl Translation {
         }
         let mut classes = self.source.classes.iter();
         classes.all(|class| {
-            let target = targets[self.mapped(class.kind) as usize];
-            target.is_some_and(|target| target.contains(class))
+            self.body.numbers(class.kind).all(|(_, kind)| {
+                targets[kind as usize].is_some_and(|target| target.contains(class))
+            })
         })
     }
 
-    /// Whether each source production has exactly one clause, and no clause is left over.
-    pub fn has_all_clauses(&self) -> bool {
-        let keys = self.body.clauses.iter().map(|clause| clause.key);
-        keys.eq(self.source.productions.iter().map(Production::key))
+    /// What clauses there must be, in order: each production with each number of its result, and the
+    /// kind that the result is mapped to by it.
+    pub fn due_clauses(&self) -> impl Iterator<Item = (&Production, u8, u8)> {
+        self.source.productions.iter().flat_map(|production| {
+            let numbers = self.body.numbers(production.result);
+            numbers.map(move |(number, kind)| (production, number, kind))
+        })
     }
 
-    /// Whether each code is of the kind that its production's result is mapped to.
+    /// Whether each source production has exactly one clause for each number of its result, and no
+    /// clause is left over.
+    pub fn has_all_clauses(&self) -> bool {
+        let places = self.body.clauses.iter().map(|clause| clause.place());
+        places.eq(self.due_clauses().map(|(production, number, _)| (production.key(), number)))
+    }
+
+    /// Whether each code is of the kind that its production's result is mapped to by its number.
     fn has_typed_codes(&self) -> bool {
         let target = Grammar::new(&self.target);
-        let mut clauses = self.source.productions.iter().zip(self.body.clauses.iter());
-        clauses.all(|(production, clause)| {
-            let arguments = production.arguments().iter().map(|&kind| self.mapped(kind));
-            let arguments = ArgumentKinds::collect(arguments);
-            is_code_of(&target, &arguments, self.mapped(production.result), clause.code)
+        let mut clauses = self.due_clauses().zip(self.body.clauses.iter());
+        clauses.all(|((production, _, kind), clause)| {
+            let arguments = ArgumentKinds { body: &self.body, arguments: production.arguments() };
+            is_code_of(&target, &arguments, kind, clause.code)
         })
     }
 }

@@ -19,7 +19,7 @@ pub trait Tally {
     fn production(&mut self, place: usize, weight: Self::Weight);
 
     /// The weight of an argument (numbered from 0) of a production with that weight.
-    fn argument(&self, place: usize, number: usize, weight: Self::Weight) -> Self::Weight;
+    fn argument(&mut self, place: usize, number: usize, weight: Self::Weight) -> Self::Weight;
 }
 
 /// Counts nothing.
@@ -32,7 +32,7 @@ impl Tally for Nothing {
     #[inline]
     fn production(&mut self, _: usize, _: ()) {}
     #[inline]
-    fn argument(&self, _: usize, _: usize, _: ()) {}
+    fn argument(&mut self, _: usize, _: usize, _: ()) {}
 }
 
 /// Reads a tree from left to right.

@@ -151,7 +151,7 @@ impl Tally for TextLength<'_> {
     }
 
     #[inline]
-    fn argument(&self, _: usize, _: usize, (): ()) {}
+    fn argument(&mut self, _: usize, _: usize, (): ()) {}
 }
 
 /// Writes the text of a legal tree into an output that is long enough.

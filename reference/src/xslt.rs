@@ -1,9 +1,9 @@
 //! A translation as an XSLT 1.0 sheet: applied to the export of a tree, it gives the export of the
-//! tree's run.
+//! tree's run by number 0. Each other number is a mode of the templates.
 
 use crate::code::{nodes, Node, Symbol};
 use crate::grammar::Grammar;
-use crate::language::Production;
+use crate::language::{Class, Production};
 use crate::translation::{read_translation, Translation};
 use crate::Refusal;
 
@@ -22,9 +22,17 @@ fn element(name: &str, contents: &str) -> String {
     format!("<{name}>{contents}</{name}>")
 }
 
-/// A template for the elements of a name.
-fn template(name: &str, contents: &str) -> String {
-    format!("<xsl:template match=\"{name}\">{contents}</xsl:template>\n")
+/// The attribute for a number: none for 0, a mode for others.
+fn mode(number: u8) -> String {
+    if number == 0 {
+        return String::new();
+    }
+    format!(" mode=\"n{number}\"")
+}
+
+/// A template for the elements of a name, by a number.
+fn template(name: &str, number: u8, contents: &str) -> String {
+    format!("<xsl:template match=\"{name}\"{}>{contents}</xsl:template>\n", mode(number))
 }
 
 /// The name of the element of a token.
@@ -43,8 +51,8 @@ fn code_elements(nodes: &[Node], place: usize) -> String {
     let node = &nodes[place];
     match node.symbol {
         Symbol::Token(value) => element(&token_name(node.kind), &value.to_string()),
-        Symbol::Argument(number) => {
-            format!("<xsl:apply-templates select=\"*[{}]\"/>", number + 1)
+        Symbol::Argument(argument, number) => {
+            format!("<xsl:apply-templates select=\"*[{}]\"{}/>", argument + 1, mode(number))
         }
         Symbol::Production(name) => {
             let (mut operands, mut next) = (String::new(), place + 1);
@@ -57,30 +65,33 @@ fn code_elements(nodes: &[Node], place: usize) -> String {
     }
 }
 
-/// The template of a production: its code, of the kind that its result is mapped to.
+/// The template of a production by a number: its code, of the kind that its result is mapped to.
 fn production_template(
-    translation: &Translation,
     target: &Grammar,
-    production: &Production,
+    (production, number, kind): (&Production, u8, u8),
     code: &[u8],
 ) -> String {
-    let kind = translation.mapped(production.result);
     let name = production_name(production.result, production.name);
-    template(&name, &code_elements(&nodes(target, kind, code), 0))
+    template(&name, number, &code_elements(&nodes(target, kind, code), 0))
 }
 
-/// The sheet of a translation: a template for each class and each production of the source.
+/// The templates of a class, one for each of its numbers.
+fn class_templates(translation: &Translation, class: &Class) -> String {
+    let by = |(number, kind)| {
+        template(&token_name(class.kind), number, &element(&token_name(kind), VALUE))
+    };
+    translation.body.numbers(class.kind).map(by).collect()
+}
+
+/// The sheet of a translation: a template for each class and each production of the source, by each
+/// number.
 pub fn sheet(translation: &[u8]) -> Result<String, Refusal> {
     let translation = read_translation(translation)?;
     let target = Grammar::new(&translation.target);
-    let classes = translation.source.classes.iter().map(|class| {
-        let name = token_name(translation.mapped(class.kind));
-        template(&token_name(class.kind), &element(&name, VALUE))
-    });
-    let clauses = translation.source.productions.iter().zip(translation.body.clauses.iter());
-    let clauses = clauses.map(|(production, clause)| {
-        production_template(&translation, &target, production, clause.code)
-    });
+    let classes = translation.source.classes.iter();
+    let classes = classes.map(|class| class_templates(&translation, class));
+    let clauses = translation.due_clauses().zip(translation.body.clauses.iter());
+    let clauses = clauses.map(|(due, clause)| production_template(&target, due, clause.code));
     let templates: String = classes.chain(clauses).collect();
     Ok([HEAD, &templates, TAIL].concat())
 }

@@ -8,7 +8,7 @@ use reference::explain::{self, Fault};
 use reference::generate::{
     block_case, export_case, import_case, index_bytes, join_table_case, language_file,
     long_run_case, reduce_case, run_case, score_case, search_case, translation_file, tree_case,
-    Random, SearchCase, TreeCase,
+    Random, RunCase, SearchCase, TreeCase,
 };
 use reference::{
     block, check_language, check_translation, check_tree, export, import, join_table, reduce, run,
@@ -21,7 +21,7 @@ const CASES: u64 = 4000;
 const LONG_CASES: u64 = 20;
 
 /// Answers are counted by number.
-const NUMBERS: usize = 25;
+const NUMBERS: usize = 27;
 
 /// What stands where no reason was found: it must not be reached.
 const VAGUE: [&str; 4] = [
@@ -78,7 +78,7 @@ fn trees() {
 
 #[test]
 fn reductions() {
-    compare_all(2 * CASES, &[0, 1, 2, 3, 4, 5, 6, 7, 8, 9, 10, 11, 12, 13], |random, case| {
+    compare_all(2 * CASES, &[0, 1, 2, 3, 4, 5, 6, 7, 8, 9, 10, 11, 12, 13, 26], |random, case| {
         let input = reduce_case(random);
         let (mut workspace, mut output) = (vec![0; input.workspace], vec![0; input.output]);
         let outcome = reduce(&input.pack, &mut workspace, &mut output);
@@ -86,12 +86,24 @@ fn reductions() {
     });
 }
 
+/// What the operation answers to the input of a run.
+fn run_input(input: &RunCase) -> Outcome {
+    let RunCase { translation, root, number, tree, output } = input;
+    run(translation, *root, *number, tree, &mut vec![0; *output])
+}
+
+/// The fault of the input of a run.
+fn explain_input(input: &RunCase) -> Option<Fault> {
+    let RunCase { translation, root, number, tree, output } = input;
+    explain::run(translation, *root, *number, tree, *output)
+}
+
 #[test]
 fn runs() {
     compare_all(CASES, &[0, 1, 2, 3, 4, 5, 6, 7, 14, 15, 16, 17], |random, case| {
         let input = run_case(random);
-        let outcome = run(&input.translation, input.root, &input.tree, &mut vec![0; input.output]);
-        let fault = explain::run(&input.translation, input.root, &input.tree, input.output);
+        let outcome = run_input(&input);
+        let fault = explain_input(&input);
         compare(case, outcome, fault)
     });
 }
@@ -100,8 +112,8 @@ fn runs() {
 fn long_runs() {
     compare_all(LONG_CASES, &[0], |random, case| {
         let input = long_run_case(random).case;
-        let outcome = run(&input.translation, input.root, &input.tree, &mut vec![0; input.output]);
-        let fault = explain::run(&input.translation, input.root, &input.tree, input.output);
+        let outcome = run_input(&input);
+        let fault = explain_input(&input);
         compare(case, outcome, fault)
     });
 }
@@ -119,7 +131,7 @@ fn scores() {
 
 #[test]
 fn joined_tables() {
-    compare_all(2 * CASES, &[0, 1, 2, 3, 4, 5, 6, 7, 11, 17, 18], |random, case| {
+    compare_all(2 * CASES, &[0, 1, 2, 3, 4, 5, 6, 7, 11, 17, 18, 26], |random, case| {
         let input = join_table_case(random);
         let outcome = join_table(&input.translation, &input.table, &mut vec![0; input.output]);
         compare(case, outcome, explain::join_table(&input.translation, &input.table, input.output))
@@ -159,11 +171,15 @@ fn blocks() {
 
 #[test]
 fn searches() {
-    compare_all(2 * CASES, &[0, 1, 2, 3, 4, 5, 6, 7, 14, 15, 16, 17, 23, 24], |random, case| {
-        let SearchCase { translation, root, tree, limit, output, .. } = search_case(random);
-        let outcome = search(&translation, root, &tree, limit, &mut [], &mut vec![0; output]);
-        compare(case, outcome, explain::search(&translation, root, &tree, limit, output))
-    });
+    compare_all(
+        2 * CASES,
+        &[0, 1, 2, 3, 4, 5, 6, 7, 14, 15, 16, 17, 23, 24, 26],
+        |random, case| {
+            let SearchCase { translation, root, tree, limit, output, .. } = search_case(random);
+            let outcome = search(&translation, root, &tree, limit, &mut [], &mut vec![0; output]);
+            compare(case, outcome, explain::search(&translation, root, &tree, limit, output))
+        },
+    );
 }
 
 /// The text of a fault that is there.

@@ -40,22 +40,31 @@ fn reduced(pack: &Path) -> Vec<u8> {
     output[..outcome.length() as usize].to_vec()
 }
 
-/// The pack and the root that the first line of a tree's source names.
-fn run_by(source: &Path) -> (PathBuf, u32) {
+/// The pack, the root and the number that the first line of a tree's source names; the number is 0 if
+/// there is none.
+fn run_by_number(source: &Path) -> (PathBuf, u32, u32) {
     let text = text(source);
     let line = text.lines().next().and_then(|line| line.strip_prefix("# Run by "));
     let words =
         line.and_then(|line| line.strip_suffix('.')).and_then(|line| line.split_once(", root "));
-    let (pack, root) = words.expect("the first line names a pack and a root");
-    (source.with_file_name(pack), root.parse().expect("a root"))
+    let (pack, words) = words.expect("the first line names a pack and a root");
+    let (root, number) = words.split_once(", number ").unwrap_or((words, "0"));
+    let number = number.parse().expect("a number");
+    (source.with_file_name(pack), root.parse().expect("a root"), number)
+}
+
+/// The pack and the root that the first line of a tree's source names.
+fn run_by(source: &Path) -> (PathBuf, u32) {
+    let (pack, root, _) = run_by_number(source);
+    (pack, root)
 }
 
 /// What the run of a tree gives, as its file of the result has it.
 fn result(source: &Path) -> String {
-    let (pack, root) = run_by(source);
+    let (pack, root, number) = run_by_number(source);
     let tree = bytes(&source.with_extension(""));
     let mut output = vec![0; OUTPUT];
-    let outcome = run(&reduced(&pack), root, &tree, &mut output);
+    let outcome = run(&reduced(&pack), root, number, &tree, &mut output);
     if outcome.number() != 0 {
         return format!("refused {}\n", outcome.number());
     }
@@ -185,7 +194,7 @@ fn scores(source: &Path) -> String {
     let (tree, (pack, root)) = (bytes(&source.with_extension("")), run_by(source));
     let first = score(&bytes(&source.with_file_name(language)), root, &tree, &joined(&table));
     let mut output = vec![0; OUTPUT];
-    let length = run(&reduced(&pack), root, &tree, &mut output).length() as usize;
+    let length = run(&reduced(&pack), root, 0, &tree, &mut output).length() as usize;
     let (target, by) = (bytes(&table_of(&table).0), bytes(&table.with_extension("")));
     let second = score(&target, root, &output[..length], &by);
     assert_eq!((first.outcome.number(), second.outcome.number()), (0, 0));

@@ -5,17 +5,17 @@ mod build;
 use build::reduce_answer;
 use reference::generate::{
     language_file, long_run_case, reduce_case, run_case, translation_file, tree_case, Random,
-    LONG_TREE,
+    RunCase, LONG_TREE,
 };
 use reference::{check_language, check_translation, check_tree, reduce, run};
 
 /// How often each number was answered.
-type Counts = [usize; 18];
+type Counts = [usize; 27];
 
 /// Answers so many cases and counts the numbers.
 fn count(cases: usize, seed: u64, mut answer: impl FnMut(&mut Random) -> u32) -> Counts {
     let mut random = Random::new(seed);
-    let mut counts = [0; 18];
+    let mut counts = [0; 27];
     for _ in 0..cases {
         counts[answer(&mut random) as usize] += 1;
     }
@@ -59,7 +59,7 @@ fn runs_reach_every_answer() {
     let counts = count(20_000, 4, |random| {
         let case = run_case(random);
         let mut output = vec![0xD5; case.output];
-        let outcome = run(&case.translation, case.root, &case.tree, &mut output);
+        let outcome = run(&case.translation, case.root, case.number, &case.tree, &mut output);
         let rest = &output[outcome.length() as usize..];
         assert!(rest.iter().all(|&byte| byte == 0xD5));
         outcome.number()
@@ -73,7 +73,8 @@ fn long_runs_reach_every_answer_of_a_tree() {
         let case = long_run_case(random).case;
         assert!((LONG_TREE..=201_000).contains(&case.tree.len()), "{} bytes", case.tree.len());
         assert_eq!(check_translation(&case.translation).number(), 0);
-        run(&case.translation, case.root, &case.tree, &mut vec![0; case.output]).number()
+        let RunCase { translation, root, number, tree, output } = case;
+        run(&translation, root, number, &tree, &mut vec![0; output]).number()
     });
     assert_reached(counts, &[0, 15, 16, 17]);
 }
@@ -92,7 +93,7 @@ fn long_trees_have_subtrees_about_4096_bytes_and_all_numbers_of_levels() {
         0
     });
     assert!(lengths.iter().all(|&count| count >= 100), "{lengths:?}");
-    assert!(levels[10..].iter().all(|&count| count > 0) && levels[64] >= 100, "{levels:?}");
+    assert!(levels[12..].iter().all(|&count| count > 0) && levels[64] >= 100, "{levels:?}");
 }
 
 #[test]
@@ -102,7 +103,7 @@ fn reductions_reach_every_answer() {
         let (mut workspace, mut output) = (vec![3; case.workspace], vec![4; case.output]);
         reduce(&case.pack, &mut workspace, &mut output).number()
     });
-    assert_reached(counts, &[0, 1, 2, 3, 4, 5, 6, 7, 8, 9, 10, 11, 12, 13]);
+    assert_reached(counts, &[0, 1, 2, 3, 4, 5, 6, 7, 8, 9, 10, 11, 12, 13, 26]);
 }
 
 #[test]

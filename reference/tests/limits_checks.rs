@@ -403,9 +403,9 @@ fn a_translation_handed_in_may_write_steps_of_1() {
         let value = translation(source, target, &body);
         assert_eq!(translation_number(&value), 0);
         let mut output = [0; 3];
-        assert_eq!(run(&value, 1, &[0, 0, 9], &mut output).number(), 0);
+        assert_eq!(run(&value, 1, 0, &[0, 0, 9], &mut output).number(), 0);
         assert_eq!(output, [0, 0, 9]);
-        assert_eq!(run(&value, 1, &[0, 0, 10], &mut output).number(), 15);
+        assert_eq!(run(&value, 1, 0, &[0, 0, 10], &mut output).number(), 15);
     }
 }
 

@@ -513,10 +513,10 @@ fn translations_that_widen_are_joined_onto_others_that_widen() {
     let body = [mapping(1, 1), mapping(2, 2), clauses].concat();
     assert_eq!(joined, translation(&languages[0], &languages[3], &body));
     let mut output = vec![0; 15];
-    let outcome = run(&joined, 1, &[0, 0, 7], &mut output);
+    let outcome = run(&joined, 1, 0, &[0, 0, 7], &mut output);
     assert_eq!((outcome.number(), outcome.length()), (0, 15));
     assert_eq!(output, [1, 1, 0, 0, 8, 0, 0, 9, 1, 0, 0, 7, 0, 0, 9]);
-    assert_eq!(run(&joined, 1, &[0, 0, 8], &mut output).number(), 15);
+    assert_eq!(run(&joined, 1, 0, &[0, 0, 8], &mut output).number(), 15);
 }
 
 #[test]
@@ -680,7 +680,7 @@ fn the_first_refusal_ends_it() {
 /// Runs a body over the counting language and gives number and result.
 fn ran(body: &[u8], tree: &[u8], output: usize) -> (u32, Vec<u8>) {
     let mut output = vec![0xCC; output];
-    let outcome = run(&translation(&counting(), &counting(), body), 1, tree, &mut output);
+    let outcome = run(&translation(&counting(), &counting(), body), 1, 0, tree, &mut output);
     (outcome.number(), output[..outcome.length() as usize].to_vec())
 }
 
@@ -704,7 +704,7 @@ fn levels_of_a_run_are_those_of_productions() {
     let body = [mapping(1, 1), mapping(2, 2), clause(1, 1, &[3, 1]), clause(1, 3, &[1, 3, 3, 1])];
     let value = translation(&language, &language, &body.concat());
     let number = |links: usize, end: &[u8], output: usize| {
-        run(&value, 1, &[&vec![1; links], end].concat(), &mut vec![0; output]).number()
+        run(&value, 1, 0, &[&vec![1; links], end].concat(), &mut vec![0; output]).number()
     };
     assert_eq!(number(63, &[3, 0, 5], 3), 0);
     assert_eq!(number(63, &[3, 0, 5], 2), 17);
@@ -733,6 +733,6 @@ fn a_result_may_be_deeper_than_a_tree_handed_in() {
     let term = [vec![0x54], endo(0), endo(0)].concat();
     let joined = reduced(&pack(&[counting()], &[deeper], &term));
     let mut output = vec![0; 1000];
-    let outcome = run(&joined, 1, &tree, &mut output);
+    let outcome = run(&joined, 1, 0, &tree, &mut output);
     assert_eq!((outcome.number(), outcome.length()), (0, 253));
 }

@@ -61,6 +61,8 @@ const LEAF: &[u8] = &[1, 0];
 const LINK: &[u8] = &[1, 1, 3, 1];
 const PAIR: &[u8] = &[1, 2, 3, 1, 3, 2];
 const TWICE: &[u8] = &[1, 2, 3, 1, 3, 1];
+/// The answer where a translation has other numbers than 0.
+const OTHER_NUMBERS: u32 = 26;
 /// A code that is its first argument.
 const BARE: &[u8] = &[3, 1];
 
@@ -285,17 +287,20 @@ fn any_workspace_gives_the_same_answer() {
 fn enumerations_are_in_byte_order_and_run_as_they_say() {
     let mut random = Random::new(90);
     let mut trees = 0;
-    for case in 0..1500 {
+    for case in 0..2000 {
         let input = small_search_case(&mut random);
         let SearchCase { translation, root, .. } = &input;
         if *root > 31 || check_translation(translation).number() != 0 {
+            continue;
+        }
+        if answer(translation, *root, &[], 1, [0, 0]).0 == OTHER_NUMBERS {
             continue;
         }
         let Some(list) = source_trees(translation, *root, 3, 60, 200) else { continue };
         assert!(list.windows(2).all(|pair| pair[0].tree < pair[1].tree), "case {case}");
         for listed in &list {
             let mut output = vec![0; 60];
-            let outcome = run(translation, *root, &listed.tree, &mut output);
+            let outcome = run(translation, *root, 0, &listed.tree, &mut output);
             let result = (outcome.number() == 0).then(|| &output[..outcome.length() as usize]);
             assert_eq!(result, listed.run.as_deref(), "case {case}: {listed:?}");
         }
@@ -331,8 +336,23 @@ fn searches_find_what_an_enumeration_finds_first() {
 }
 
 #[test]
+fn a_translation_with_other_numbers_is_refused_before_the_root() {
+    let language = production(1, 0, &[]);
+    let body = [
+        mapping(1, 1),
+        numbered_mapping(1, 1, 1),
+        clause(1, 0, &[1, 0]),
+        numbered_clause(1, 0, 1, &[1, 0]),
+    ];
+    let numbered = translation(&language, &language, &body.concat());
+    for (root, tree, limit) in [(1, &[0][..], 1), (9, &[0], 1), (1, &[7], 1), (1, &[0], 0)] {
+        assert_eq!(answer(&numbered, root, tree, limit, [0, 9]).0, 26);
+    }
+}
+
+#[test]
 fn searches_reach_every_answer() {
-    let (mut random, mut counts) = (Random::new(92), [0; 26]);
+    let (mut random, mut counts) = (Random::new(92), [0; 27]);
     for _ in 0..20_000 {
         let SearchCase { translation, root, tree, limit, workspace, output } =
             search_case(&mut random);
@@ -340,7 +360,7 @@ fn searches_reach_every_answer() {
         counts[number as usize] += 1;
     }
     for (number, &count) in counts.iter().enumerate() {
-        let possible = [0, 1, 2, 3, 4, 5, 6, 7, 14, 15, 16, 17, 23, 24].contains(&number);
+        let possible = [0, 1, 2, 3, 4, 5, 6, 7, 14, 15, 16, 17, 23, 24, 26].contains(&number);
         assert_eq!(count >= 10, possible, "{number}: {counts:?}");
     }
 }
@@ -357,7 +377,7 @@ fn searched(case: &SearchCase, mut workspace: Vec<u8>, room: usize) -> (u32, Vec
 /// Number and result of a run.
 fn ran(translation: &[u8], root: u32, tree: &[u8], room: usize) -> (u32, Vec<u8>) {
     let mut output = vec![0; room];
-    let outcome = run(translation, root, tree, &mut output);
+    let outcome = run(translation, root, 0, tree, &mut output);
     output.truncate(outcome.length() as usize);
     (outcome.number(), output)
 }

@@ -9,9 +9,9 @@ use reference::examples::sum;
 use reference::generate::{sheet_case, Random};
 use reference::xslt::sheet;
 
-/// The templates of a sheet, by what they match.
+/// The templates of a sheet, by what they match and their mode, if they have one.
 struct Sheet {
-    templates: Vec<(String, Element)>,
+    templates: Vec<((String, Option<String>), Element)>,
 }
 
 impl Sheet {
@@ -26,15 +26,19 @@ impl Sheet {
         let children = root.children().into_iter();
         let templates = children.filter(|child| child.name != "xsl:output").map(|child| {
             assert_eq!(child.name, "xsl:template");
-            (child.attribute("match").expect("a pattern").to_string(), child.clone())
+            let mode = child.attribute("mode").map(str::to_string);
+            ((child.attribute("match").expect("a pattern").to_string(), mode), child.clone())
         });
         Sheet { templates: templates.collect() }
     }
 
-    /// What the templates put out for an element.
-    fn apply(&self, element: &Element) -> String {
-        let fits: Vec<_> =
-            self.templates.iter().filter(|(name, _)| *name == element.name).collect();
+    /// What the templates put out for an element in a mode.
+    fn apply(&self, element: &Element, mode: Option<&str>) -> String {
+        let wanted = (element.name.as_str(), mode);
+        let fits = |((name, mode), _): &&((String, Option<String>), _)| {
+            (name.as_str(), mode.as_deref()) == wanted
+        };
+        let fits: Vec<_> = self.templates.iter().filter(fits).collect();
         assert_eq!(fits.len(), 1, "one template for {}", element.name);
         self.contents(&fits[0].1, element)
     }
@@ -59,7 +63,9 @@ impl Sheet {
             "xsl:apply-templates" => {
                 let number = select.strip_prefix("*[").and_then(|rest| rest.strip_suffix("]"));
                 let number: usize = number.expect("a child by number").parse().expect("a number");
-                current.children().get(number - 1).map_or(String::new(), |child| self.apply(child))
+                let mode = element.attribute("mode");
+                let child = current.children().into_iter().nth(number - 1);
+                child.map_or(String::new(), |child| self.apply(child, mode))
             }
             name => format!("<{name}>{}</{name}>", self.contents(element, current)),
         }
@@ -74,7 +80,7 @@ fn sheets_run_as_translations_do() {
         let made = sheet_case(&mut random);
         let text = std::str::from_utf8(&made.source).expect("an export is a text");
         let source = parse(text).expect("an export is well formed");
-        let put_out = Sheet::new(&made.sheet).apply(&source);
+        let put_out = Sheet::new(&made.sheet).apply(&source, None);
         assert_eq!(put_out.as_bytes(), made.expected, "case {case}: {}", made.sheet);
         changed += usize::from(made.source != made.expected);
         deep += usize::from(made.source.len() > 1000);
@@ -102,7 +108,7 @@ fn tokens_take_the_name_of_the_target_and_codes_their_kinds() {
     let sheet = sheet(&translation(&source, &target, &body)).expect("it is accepted");
     let sheet = Sheet::new(&sheet);
     let tree = parse("<x1.0><t4>6</t4></x1.0>").expect("well formed");
-    assert_eq!(sheet.apply(&tree), "<x3.7><t2>6</t2><t2>8</t2></x3.7>");
+    assert_eq!(sheet.apply(&tree, None), "<x3.7><t2>6</t2><t2>8</t2></x3.7>");
 }
 
 #[test]

@@ -76,6 +76,8 @@ pub struct Options {
     pub limit: Option<usize>,
     /// What the first file is, whatever its first byte.
     pub sort: Option<Sort>,
+    /// The number of the root's mapping.
+    pub number: Option<u32>,
     /// Trees are shown as XML.
     pub xml: bool,
     /// The file that has the index of the tree.
@@ -161,6 +163,7 @@ impl Verb {
         match option {
             "-o" => self.has_output() || self == Verb::Block,
             "--limit" => self.has_output() || matches!(self, Verb::Explain | Verb::Steps),
+            "--number" => matches!(self, Verb::Run | Verb::Explain | Verb::Steps),
             "--xml" => self == Verb::Steps,
             "--index" => self.takes_path() || self == Verb::Explain,
             "--new-index" => self == Verb::Edit,
@@ -228,6 +231,7 @@ fn parse_option<'a>(
         "--new-index" => options.new_index = Some(value()?.clone()),
         "--card" => options.card = Some(value()?.clone()),
         "--limit" => options.limit = Some(number(verb, "limit", value()?)?),
+        "--number" => options.number = Some(number(verb, "number", value()?)?),
         "--as" => options.sort = Some(sort(verb, value()?)?),
         _ => return Err(misused(format!("{option} is no option"))),
     }
@@ -294,10 +298,11 @@ impl Call {
         if !operation.operand_counts().contains(&count) {
             return Err(format!("{count} operands are not what {} takes", operation.name()));
         }
-        let Options { limit, sort, index, card, .. } = &self.options;
+        let Options { limit, sort, number, index, card, .. } = &self.options;
         let given = [
             ("--limit", limit.is_some()),
             ("--as", sort.is_some()),
+            ("--number", number.is_some()),
             ("--index", index.is_some()),
             ("--card", card.is_some()),
         ];
@@ -349,11 +354,12 @@ mod tests {
 
     #[test]
     fn options_stand_anywhere() {
-        let call = right("run --hex a 1 -o out b --limit 7 --as pack");
+        let call = right("run --hex a 1 -o out --number 3 b --limit 7 --as pack");
         assert_eq!(call.operands, ["a", "1", "b"]);
         let output = Some(OsString::from("out"));
-        let (limit, sort) = (Some(7), Some(Sort::Pack));
-        let given = Options { hexadecimal: true, output, limit, sort, ..Options::default() };
+        let (limit, sort, number) = (Some(7), Some(Sort::Pack), Some(3));
+        let given =
+            Options { hexadecimal: true, output, limit, sort, number, ..Options::default() };
         assert_eq!(call.options, given);
     }
 
@@ -370,6 +376,7 @@ mod tests {
         assert_eq!(wrong("explain show a"), "a verb that can be explained is needed");
         assert_eq!(wrong("explain run a 1"), "2 operands are not what run takes");
         assert_eq!(wrong("explain reduce a --as pack"), "reduce does not take --as");
+        assert_eq!(wrong("explain reduce a --number 1"), "reduce does not take --number");
     }
 
     #[test]
@@ -383,6 +390,11 @@ mod tests {
         assert_eq!(wrong("run a 1 b -o"), "a value must follow -o");
         assert_eq!(wrong("run a 1 b --as language"), "a file cannot be taken as language");
         assert_eq!(wrong("run a 1 b --as table"), "a file cannot be taken as table");
+        assert_eq!(wrong("score a 1 b c --number 1"), "score does not take --number");
+        assert_eq!(
+            wrong("run a 1 b --number one"),
+            "the number one is no number from 0 to 4294967295"
+        );
         assert_eq!(wrong("check-tree - 1 -"), "the standard input can be only one of the files");
         assert_eq!(
             wrong("run a 1 b --limit -1"),

@@ -30,7 +30,9 @@ fn synopsis(verb: Verb) -> &'static str {
         Verb::CheckTranslation => "FILE",
         Verb::CheckTree => "LANGUAGE ROOT TREE",
         Verb::Reduce => "PACK [-o FILE] [--limit BYTES]",
-        Verb::Run => "TRANSLATION-OR-PACK ROOT TREE [-o FILE] [--limit BYTES] [--as SORT]",
+        Verb::Run => {
+            "TRANSLATION-OR-PACK ROOT TREE [--number N] [-o FILE] [--limit BYTES] [--as SORT]"
+        }
         Verb::Score => "LANGUAGE ROOT TREE TABLE",
         Verb::ScoreLoose => "LANGUAGE ROOT PLAN TABLE",
         Verb::JoinTable => "TRANSLATION TABLE [-o FILE] [--limit BYTES]",
@@ -48,8 +50,10 @@ fn synopsis(verb: Verb) -> &'static str {
         }
         Verb::List => "PACK",
         Verb::Show => "FILE [--as SORT] | LANGUAGE ROOT TREE",
-        Verb::Explain => "VERB OPERANDS [--limit BYTES] [--as SORT] [--index FILE] [--card FILE]",
-        Verb::Steps => "PACK ROOT TREE [--limit BYTES] [--xml]",
+        Verb::Explain => {
+            "VERB OPERANDS [--number N] [--limit BYTES] [--as SORT] [--index FILE] [--card FILE]"
+        }
+        Verb::Steps => "PACK ROOT TREE [--number N] [--limit BYTES] [--xml]",
     }
 }
 
@@ -93,19 +97,20 @@ The translation is printed in hexadecimal digits below the first line.
                  written whole or not at all. With - the translation alone goes to the
                  standard output, and the first line to the standard error.
   --limit BYTES  lend an output of that many bytes; without it, 4096, which always suffices
-Refusals: 1 to 13.
+Refusals: 1 to 13, 26.
 "
         }
         Verb::Run => {
             "\
 A pack is reduced first; it is told from a translation by its first byte. ROOT is the number of
 a kind. The result is printed in hexadecimal digits below the first line.
+  --number N     run by the mapping of that number, which ROOT must have; without it, 0
   -o FILE        write it to the file instead, as bytes, or as text with --hex. The file is
                  written whole or not at all. With - the result alone goes to the standard
                  output, and the first line to the standard error.
   --limit BYTES  lend an output of that many bytes; without it, 268435456
   --as SORT      take the first file as a 'translation' or a 'pack', whatever its first byte
-Refusals: 1 to 7, 14 to 17; of a pack also 8 to 13.
+Refusals: 1 to 7, 14 to 17; of a pack also 8 to 13, 26.
 "
         }
         Verb::Score => {
@@ -134,7 +139,7 @@ digits below the first line.
                  written whole or not at all. With - the table alone goes to the standard
                  output, and the first line to the standard error.
   --limit BYTES  lend an output of that many bytes; without it, 2048, which always suffices
-Refusals: 1 to 7, 11, 17, 18.
+Refusals: 1 to 7, 11, 17, 18, 26.
 "
         }
         Verb::Export => {
@@ -226,7 +231,7 @@ legal tree within the levels that are left.
                  output, and the first line to the standard error.
   --limit BYTES  lend an output of that many bytes; without it, 268435456
   --as SORT      take the first file as a 'translation' or a 'pack', whatever its first byte
-Refusals: 1 to 7, 14 to 17, 23, 24; of a pack also 8 to 13.
+Refusals: 1 to 7, 14 to 17, 23, 24, 26; of a pack also 8 to 13.
 "
         }
         Verb::List => {
@@ -252,6 +257,7 @@ numbers in a tree, the operand in a term) and what it is. These lines come from 
 implementation; if it does not come to the same number, that is said.
   --limit BYTES  explain the call with an output of that many bytes
   --as SORT      for run and search: take the first file as a 'translation' or a 'pack'
+  --number N     for run: run by the mapping of that number
   --index FILE   for block and edit: take the index of the tree from the file
   --card FILE    for edit: take the card from the file
 "
@@ -262,6 +268,8 @@ Where the pack's term is a join, runs its operands in turn, the second first, an
 tree between them; then the result of the last run and that of the join, and that they are
 equal. Operands that are joins are taken apart too, and lets around a join go into each step. A
 tree between can be too deep or too long to be run: then that is said.
+  --number N     run the join by that number, 16 times that of the second operand's run plus that
+                 of the first's; without it, 0
   --limit BYTES  lend outputs of that many bytes; without it, 268435456
   --xml          print trees as export writes them; one that export refuses stays in digits
 "

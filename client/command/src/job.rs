@@ -36,6 +36,8 @@ pub enum Job {
 pub struct Run {
     pub translator: Translator,
     pub root: u32,
+    /// The number of the root's mapping.
+    pub number: u32,
     pub tree: Vec<u8>,
     pub limit: usize,
 }
@@ -50,7 +52,7 @@ pub enum Translator {
 pub fn sort_of(file: &[u8]) -> Option<Sort> {
     match file.first() {
         None | Some(0x11 | 0x12) => Some(Sort::Language),
-        Some(0x20..=0x23) => Some(Sort::Translation),
+        Some(0x20..=0x23 | 0x28 | 0x29) => Some(Sort::Translation),
         Some(0x24) => Some(Sort::Table),
         Some(0x27) => Some(Sort::Card),
         Some(0x30..=0x32) => Some(Sort::Pack),
@@ -76,6 +78,11 @@ pub fn root(call: &Call) -> Result<u32, Failure> {
 /// The tree, which is the third operand.
 pub fn tree(call: &Call, streams: &mut Streams) -> Result<Vec<u8>, Failure> {
     operand(call, 2, TREE_BYTES, streams)
+}
+
+/// The number of the root's mapping, 0 unless the options give one.
+pub fn mapping_number(call: &Call) -> u32 {
+    call.options.number.unwrap_or(0)
 }
 
 /// The length of the output of a run.
@@ -218,20 +225,21 @@ impl Run {
     /// Reads the inputs.
     fn load(call: &Call, streams: &mut Streams) -> Result<Run, Failure> {
         let (root, translator) = (root(call)?, Translator::load(call, streams)?);
-        Ok(Run { translator, root, tree: tree(call, streams)?, limit: run_limit(call) })
+        let (number, tree) = (mapping_number(call), tree(call, streams)?);
+        Ok(Run { translator, root, number, tree, limit: run_limit(call) })
     }
 
     /// What the library answers.
     fn answer(&self) -> Result<Vec<u8>, Refusal> {
         let translation = self.translator.translation()?;
-        algebra::run_to_vec(&translation, self.root, &self.tree, self.limit)
+        algebra::run_to_vec(&translation, self.root, self.number, &self.tree, self.limit)
     }
 
     /// Where the second implementation finds a fault, if it does.
     fn fault(&self) -> Option<Finding> {
-        let run = |translation: &[u8]| explain::run(translation, self.root, &self.tree, self.limit);
+        let Run { root, number, tree, limit, .. } = self;
         match self.translator.explained() {
-            Ok(translation) => run(&translation).map(Finding::from),
+            Ok(found) => explain::run(&found, *root, *number, tree, *limit).map(Finding::from),
             Err(finding) => Some(finding),
         }
     }

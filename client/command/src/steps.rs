@@ -1,7 +1,7 @@
 //! A join's runs in turn, beside the run of the join.
 
 use crate::arguments::Call;
-use crate::job::{operand, root, run_limit, tree};
+use crate::job::{mapping_number, operand, root, run_limit, tree};
 use crate::output::digits;
 use crate::verbs::{answer_line, printed};
 use crate::work::work;
@@ -26,6 +26,7 @@ enum Verdict {
     RefusedAlike,
     TooDeep,
     TooLong,
+    NoNumber,
     Different,
 }
 
@@ -37,6 +38,7 @@ impl Verdict {
             (Err((step, Refusal::TooDeep)), _) if *step > 0 => Verdict::TooDeep,
             (Err((step, Refusal::OutputTooShort)), _) if *step + 1 < count => Verdict::TooLong,
             (Err((_, one)), Err(other)) if one == other => Verdict::RefusedAlike,
+            (Err(_), Err(Refusal::UnknownRoot)) => Verdict::NoNumber,
             _ => Verdict::Different,
         }
     }
@@ -48,14 +50,16 @@ impl Verdict {
             Verdict::RefusedAlike => "equal: the steps in turn and the join are refused alike",
             Verdict::TooDeep => "not compared: a tree between is too deep to be run",
             Verdict::TooLong => "not compared: a tree between is too long for the output",
+            Verdict::NoNumber => "not compared: the join has no such number",
             Verdict::Different => "DIFFERENT: the steps in turn and the join do not agree",
         }
     }
 }
 
-/// The length of each output, and whether trees are shown as XML.
+/// The number of the join, the length of each output, and whether trees are shown as XML.
 #[derive(Clone, Copy)]
 struct Format {
+    number: u32,
     limit: usize,
     xml: bool,
 }
@@ -64,9 +68,10 @@ struct Format {
 pub fn steps(call: &Call, streams: &mut Streams) -> Result<Printed, Failure> {
     let (root, pack) = (root(call)?, operand(call, 0, PACK_BYTES, streams)?);
     let (tree, limit, xml) = (tree(call, streams)?, run_limit(call), call.options.xml);
+    let number = mapping_number(call);
     let bytes = tree.len();
     let start = Rooted { kind: root, tree };
-    work(bytes, streams, || both_routes(&pack, start, Format { limit, xml }))
+    work(bytes, streams, || both_routes(&pack, start, Format { number, limit, xml }))
 }
 
 /// What is printed for both routes.
@@ -75,8 +80,8 @@ fn both_routes(pack: &[u8], start: Rooted, format: Format) -> Printed {
         Ok(translation) => translation,
         Err(refusal) => return printed(Err::<usize, _>(refusal), "the pack is refused\n"),
     };
-    let steps = reference::steps::steps(pack).unwrap_or_default();
-    let joined = run(&translation, &start, format.limit);
+    let steps = reference::steps::steps(pack, format.number).unwrap_or_default();
+    let joined = run(&translation, &start, format.number, format.limit);
     let (source, target) = languages(&translation).unwrap_or_default();
     let mut lines = format.tree_line("tree", &start, source);
     let in_turn = run_in_turn(&steps, start, format, &mut lines);
@@ -107,12 +112,14 @@ fn run_in_turn(steps: &[Step], start: Rooted, format: Format, lines: &mut String
     for (place, step) in steps.iter().enumerate() {
         let translation = algebra::reduce_to_vec(&step.pack).map_err(|refusal| (place, refusal));
         let answer = translation.as_ref().map_err(|refused| *refused).and_then(|translation| {
-            run(translation, &current, format.limit).map_err(|refusal| (place, refusal))
+            let answer = run(translation, &current, step.number, format.limit);
+            answer.map_err(|refusal| (place, refusal))
         });
         let length = answer.as_ref().map(|result| result.tree.len()).map_err(|refused| refused.1);
         let (number, count, term) = (place + 1, steps.len(), digits(&step.term));
         let answered = answer_line(length);
-        lines.push_str(&format!("step {number} of {count}, term {term}: {answered}\n"));
+        let by = if step.number == 0 { String::new() } else { format!(", number {}", step.number) };
+        lines.push_str(&format!("step {number} of {count}, term {term}{by}: {answered}\n"));
         current = answer?;
         let name = if number < count { "between" } else { "in turn" };
         let languages = translation.as_deref().ok().and_then(languages).unwrap_or_default();
@@ -121,10 +128,10 @@ fn run_in_turn(steps: &[Step], start: Rooted, format: Format, lines: &mut String
     Ok(current)
 }
 
-/// Runs a translation on a tree.
-fn run(translation: &[u8], start: &Rooted, limit: usize) -> Result<Rooted, Refusal> {
-    let tree = algebra::run_to_vec(translation, start.kind, &start.tree, limit)?;
-    let kind = mapped_kind(translation, start.kind).ok_or(Refusal::UnknownRoot)?;
+/// Runs a translation on a tree by a number.
+fn run(translation: &[u8], start: &Rooted, number: u32, limit: usize) -> Result<Rooted, Refusal> {
+    let tree = algebra::run_to_vec(translation, start.kind, number, &start.tree, limit)?;
+    let kind = mapped_kind(translation, start.kind, number).ok_or(Refusal::UnknownRoot)?;
     Ok(Rooted { kind, tree })
 }
 
@@ -169,5 +176,6 @@ mod tests {
         let illegal = Refusal::IllegalTree;
         assert_eq!(verdict(&Err((0, illegal)), Err(illegal)), Verdict::RefusedAlike);
         assert_eq!(verdict(&Err((1, illegal)), Ok(rooted(1))), Verdict::Different);
+        assert_eq!(verdict(&Err((0, illegal)), Err(Refusal::UnknownRoot)), Verdict::NoNumber);
     }
 }

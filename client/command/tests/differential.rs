@@ -6,8 +6,9 @@ use algebra_command::{command, Streams, ACCEPTED, REFUSED};
 use reference::generate::{
     block_case, export_case, import_case, join_table_case, language_file, law_pack, long_run_case,
     pack_with_term, reduce_case, run_case, score_case, source_tree, translation_file, tree_case,
-    Random,
+    Random, RunCase,
 };
+use reference::steps::mapped_kind;
 use std::ffi::OsString;
 use std::fmt::Display;
 use std::fs;
@@ -324,23 +325,19 @@ fn compare_list(folder: &Folder, case: u64, pack: &[u8]) {
 }
 
 /// Runs a translation by the command and compares all that it leaves with the library's answer.
-fn compare_run(
-    folder: &Folder,
-    case: u64,
-    translation: &[u8],
-    root: u32,
-    tree: &[u8],
-    room: usize,
-) {
+fn compare_run(folder: &Folder, case: u64, input: &RunCase) {
+    let RunCase { translation, root, number, tree, output: room } = input;
+    let (root, number, room) = (*root, *number, *room);
     let mut output = vec![0; room];
-    let answer = algebra::run(translation, root, tree, &mut output);
+    let answer = algebra::run(translation, root, number, tree, &mut output);
     let limit = vec!["--limit".to_string(), room.to_string()];
     let kind = vec!["--as".to_string(), "translation".to_string()];
-    let options = [limit, kind].concat();
+    let by = vec!["--number".to_string(), number.to_string()];
+    let options = [limit, kind, if number == 0 { vec![] } else { by }].concat();
     let operands = [File(translation), Root(root), File(tree)];
     let result = answer.map(|length| &output[..length]);
     compare_result(folder, case, "run", &operands, &options, result);
-    let second = reference::run(translation, root, tree, &mut vec![0; room]).number();
+    let second = reference::run(translation, root, number, tree, &mut vec![0; room]).number();
     compare_explanation(folder, case, "run", &operands, &options, answer, second);
 }
 
@@ -348,14 +345,10 @@ fn compare_run(
 fn run() {
     let folder = Folder::new("run");
     for case in 0..CASES {
-        let input = run_case(&mut Random::new(case));
-        let (root, room) = (input.root, input.output);
-        compare_run(&folder, case, &input.translation, root, &input.tree, room);
+        compare_run(&folder, case, &run_case(&mut Random::new(case)));
     }
     for case in 0..LONG_CASES {
-        let input = long_run_case(&mut Random::new(case)).case;
-        let (root, room) = (input.root, input.output);
-        compare_run(&folder, case, &input.translation, root, &input.tree, room);
+        compare_run(&folder, case, &long_run_case(&mut Random::new(case)).case);
     }
 }
 
@@ -636,6 +629,16 @@ fn edit_by_a_card() {
     }
 }
 
+/// A number by which a translation maps a kind, and seldom one by which it does not.
+fn some_number(random: &mut Random, translation: &[u8], kind: u8) -> u32 {
+    let has = |number: &u32| mapped_kind(translation, kind.into(), *number).is_some();
+    let numbers: Vec<u32> = (0..256).filter(has).collect();
+    match numbers.is_empty() || random.percent(5) {
+        true => random.below(300) as u32,
+        false => random.pick(&numbers),
+    }
+}
+
 #[test]
 fn search() {
     let folder = Folder::new("search");
@@ -644,7 +647,7 @@ fn search() {
         let random = &mut Random::new(case);
         let input = run_case(random);
         let (translation, root) = (&input.translation, input.root);
-        let run = algebra::run_to_vec(translation, root, &input.tree, LIMIT);
+        let run = algebra::run_to_vec(translation, root, 0, &input.tree, LIMIT);
         let tree = run.unwrap_or(input.tree);
         let (levels, room) = (random.below(18) as u32, random.below(2 * tree.len() + 8));
         let (mut output, limit) = (vec![0; room], limit_options(room));
@@ -656,7 +659,7 @@ fn search() {
         let number = answer.err().map_or(0, Refusal::number);
         compare_explanation(&folder, case, "search", &operands, &options, answer, number);
         if let Ok(length) = answer {
-            let again = algebra::run_to_vec(translation, root, &output[..length], tree.len());
+            let again = algebra::run_to_vec(translation, root, 0, &output[..length], tree.len());
             assert_eq!(again.as_ref(), Ok(&tree), "case {case}");
         }
         found += usize::from(answer.is_ok());
@@ -668,7 +671,7 @@ fn search() {
 #[test]
 fn run_of_packs_and_steps() {
     let folder = Folder::new("steps");
-    let (mut equal, mut refused) = (0, 0);
+    let (mut equal, mut refused, mut numbered) = (0, 0, 0);
     for case in 0..CASES {
         let random = &mut Random::new(case);
         let pack = law_pack(random);
@@ -678,18 +681,23 @@ fn run_of_packs_and_steps() {
         let source = reduced.as_ref().map_or(&[][..], |translation| translation);
         let (kind, tree) = source_tree(random, source).unwrap_or_default();
         let (root, operands) = (u32::from(kind), [File(&pack), Root(kind.into()), File(&tree)]);
-        let limit = ["--limit".to_string(), LIMIT.to_string()];
-        let answer = reduced.and_then(|of| algebra::run_to_vec(&of, root, &tree, LIMIT));
-        folder.call(random, &["run"], &operands, &limit).compare(case, &answer, Vec::len);
+        let number = some_number(random, source, kind);
+        let options = [["--limit", &LIMIT.to_string()], ["--number", &number.to_string()]];
+        let options = options.concat().into_iter().map(str::to_string);
+        let options: Vec<String> = options.take(if number == 0 { 2 } else { 4 }).collect();
+        let answer = reduced.and_then(|of| algebra::run_to_vec(&of, root, number, &tree, LIMIT));
+        folder.call(random, &["run"], &operands, &options).compare(case, &answer, Vec::len);
         let xml = random.percent(50).then(|| "--xml".to_string());
-        let options: Vec<String> = limit.into_iter().chain(xml).collect();
+        let options: Vec<String> = options.into_iter().chain(xml).collect();
         let printed = folder.call(random, &["steps"], &operands, &options);
         printed.compare(case, &answer, Vec::len);
         assert!(!printed.text().contains("DIFFERENT"), "case {case}: {}", printed.text());
         equal += usize::from(printed.text().contains("\nequal: "));
         refused += usize::from(answer.is_err());
+        numbered += usize::from(answer.is_ok() && number != 0);
     }
     assert!(equal > 100 && refused > 100, "{equal} equal, {refused} refused");
+    assert!(numbered > 20, "{numbered} by other numbers than 0");
 }
 
 #[test]

@@ -76,20 +76,21 @@ pub extern "C" fn algebra_check_tree(language: &[u8], root: u32, tree: &[u8]) ->
     number_of(check_tree(language, root, tree))
 }
 
-// Run a translation on a tree of the root kind; the length of the result is put into `length`.
+// Run a translation by a number on a tree of the root kind; the length of the result is put into `length`.
 #[no_mangle]
 pub extern "C" fn algebra_run(
     translation: &[u8],
     root: u32,
+    number: u32,
     tree: &[u8],
     output: &mut [u8],
     length: &mut u64,
 ) -> u32
-    ensures { λ r. ⌜ (r ≡ numberOf (runTree (now (translation .entry)) root (now (tree .entry)) (now (output .entry)) .outcome))
-        × (now (length .exit) ≡ lengthOf (runTree (now (translation .entry)) root (now (tree .entry)) (now (output .entry)) .outcome))
-        × (now (output .exit) ≡ runTree (now (translation .entry)) root (now (tree .entry)) (now (output .entry)) .output) ⌝ }
+    ensures { λ r. ⌜ (r ≡ numberOf (runTree (now (translation .entry)) root number (now (tree .entry)) (now (output .entry)) .outcome))
+        × (now (length .exit) ≡ lengthOf (runTree (now (translation .entry)) root number (now (tree .entry)) (now (output .entry)) .outcome))
+        × (now (output .exit) ≡ runTree (now (translation .entry)) root number (now (tree .entry)) (now (output .entry)) .output) ⌝ }
 {
-    let answer = run(translation, root, tree, output);
+    let answer = run(translation, root, number, tree, output);
     hand_over(answer, length)
 }
 

@@ -1,23 +1,25 @@
 -- The first source tree by the definitions is the first by its levels, names and operands.
 use Prim.Native.Nat.{ℕ, max}
-use mathlib.Core.Path.{_≡_, ap, sym, _∙_}
-use mathlib.Core.List.{List, [], _++_}
-use mathlib.Core.Option.{none, some}
+use mathlib.Core.Path.{_≡_, refl, ap, sym, _∙_}
+use mathlib.Core.Bool.{Bool, true, false}
+use mathlib.Core.List.{List, [], _∷_, _++_, map}
+use mathlib.Core.Option.{Option, none, some}
 use native.Mathlib.Omega.{arith}
 use Rattle.fields.specs.Lists.{keep, sameNumbers}
-use Rattle.fields.proofs.Truth.{Mem, keep-cases, mem-keep, mem-map, map-cases, numbers-equal, equal-numbers}
-use Rattle.language.specs.Language.{Language}
+use Rattle.fields.proofs.Truth.{Mem, none-some, some-inj, keep-cases, mem-keep, mem-map, map-cases, numbers-equal, equal-numbers}
+use Rattle.language.specs.Language.{Language, isIn}
+use Rattle.language.proofs.Lookup.{range-mem, arguments-mem, class-in, result-in}
 use Rattle.reader.specs.Code.{Code, levels}
-use Rattle.reader.specs.Typing.{Typed}
+use Rattle.reader.specs.Typing.{Typed, typed-node, typed-token, typed-argument}
 use Rattle.reader.specs.Syntax.{write, tree, done, read}
 use Rattle.reader.proofs.RoundTrip.{Apart, round, as-tree}
-use Rattle.translation.specs.Translation.{Translation, mapped}
-use Rattle.translation.specs.Running.{clausesOf, transform}
-use Rattle.translation.proofs.Preserved.{Carries, typed-run}
-use Rattle.sources.specs.Inner.Goals.{Fits, First}
-use Rattle.sources.proofs.Answers.{Named}
+use Rattle.translation.specs.Translation.{Translation, mappingOf, mapped}
+use Rattle.translation.specs.Running.{clausesOf, run, transform}
+use Rattle.translation.proofs.Preserved.{Carries, kept-tree, typed-run}
+use Rattle.sources.specs.Inner.Goals.{Goal, Fits, First}
+use Rattle.sources.proofs.Answers.{Named, no-kind}
 use Rattle.backward.specs.Trees.{treesWithin}
-use Rattle.backward.specs.Sources.{runsTo, sourcesOf, searchOf, before}
+use Rattle.backward.specs.Sources.{runsTo, sourcesOf, searchOf, firstOf, before}
 use Rattle.backward.proofs.Ordering.{FirstIn, first-in, least-upto}
 use Rattle.backward.proofs.Within.{within-legal, legal-within}
 
@@ -32,10 +34,22 @@ write-same l apart {a} {b} {k} h g e =
     (sym (round l apart h as-tree n [] (omega arith))
     ∙ (ap (λ (s : List ℕ). read tree l [] n k (s ++ [])) e ∙ round l apart g as-tree n [] (omega arith)))
 
+-- The kind of a tree is in the language.
+typed-in : {l : Language} {t : Code} {k : ℕ} → Typed l [] t k → isIn l k ≡ true
+typed-in {l = l} (typed-node {k = k} {p = p} {ks = ks} e h) = result-in l k p ks (arguments-mem l k p ks e)
+typed-in {l = l} (typed-token {k = k} {c = c} e h) = class-in l k c (range-mem l k c e)
+typed-in (typed-argument {i = i} {j = j} e) = no-kind i j e
+
 module _ (f : Translation) (source-apart : Apart (f .source)) (target-apart : Apart (f .target)) (named : Named (f .source))
-    (carries : Carries (f .source) (f .target) (mapped (f .body)) (clausesOf f)) (n k : ℕ) (u : Code) (typed : Typed (f .target) [] u (mapped (f .body) k)) where
+    (carries : Carries (f .source) (f .target) (mappingOf (f .body)) (clausesOf f))
+    (has-zero : (k : ℕ) → isIn (f .source) k ≡ true → mappingOf (f .body) k 0 ≡ some (mapped (f .body) k 0)) (n k : ℕ) (u : Code)
+    (typed : Typed (f .target) [] u (mapped (f .body) k 0)) where
   abbrev target : List ℕ
   target = write tree u
+
+  -- The run of a tree is of the kind that its own maps to.
+  run-legal : (t : Code) → Typed (f .source) [] t k → Typed (f .target) [] (run (clausesOf f) 0 t) (mapped (f .body) k 0)
+  run-legal t h = typed-run carries (kept-tree (mappingOf (f .body))) 0 (mapped (f .body) k 0) h (has-zero k (typed-in h))
 
   -- Candidates are the trees that fit.
   runs-fits : (t : Code) → Mem t (keep (runsTo f target) (treesWithin (f .source) n k)) → Fits (f .source) (clausesOf f) n k (some u) t
@@ -43,7 +57,7 @@ module _ (f : Translation) (source-apart : Apart (f .source)) (target-apart : Ap
   runs-fits t m =
       let z = keep-cases (runsTo f target) t (treesWithin (f .source) n k) m in
       let y = within-legal (f .source) n k t (z .0) in
-      record { legal = y .0; within = y .1; meets = write-same (f .target) target-apart (typed-run carries (y .0)) typed (numbers-equal _ _ (z .1)) }
+      record { legal = y .0; within = y .1; meets = write-same (f .target) target-apart (run-legal t (y .0)) typed (numbers-equal _ _ (z .1)) }
 
   fits-runs : (t : Code) → Fits (f .source) (clausesOf f) n k (some u) t → Mem t (keep (runsTo f target) (treesWithin (f .source) n k))
   unfolding runsTo transform

@@ -1,20 +1,20 @@
 -- Byte order of trees of one kind, and the first of lists of bytes.
-use Prim.Native.Nat.{ℕ, _<_}
+use Prim.Native.Nat.{ℕ, zero, suc, _≤_, _<_}
 use mathlib.Core.Path.{_≡_, refl, ap, sym, _∙_}
 use mathlib.Core.Logic.{_⊎_, inl, inr}
-use mathlib.Core.Bool.{Bool, true, false, cond, _&&_}
+use mathlib.Core.Bool.{Bool, true, false, cond, _&&_, _||_}
 use mathlib.Core.List.{List, [], _∷_}
 use mathlib.Core.Option.{Option, none, some}
 use native.Mathlib.Omega.{arith}
 use lib.Dec.{ltb, eqb}
-use borrow.Author.Tests.{ltb-true, lt-ltb, eqb-true, eq-eqb}
-use Rattle.fields.proofs.Truth.{Mem, false-true, none-some, some-inj, or-cases, or-left, or-right, and-both, both-and, refuted, not-both}
+use borrow.Author.Tests.{ltb-true, ltb-false, lt-ltb, eqb-true, eqb-false, eq-eqb}
+use Rattle.fields.proofs.Truth.{Mem, false-true, none-some, some-inj, or-cases, or-left, or-right, or-false, and-both, both-and, refuted, not-both}
 use Rattle.language.specs.Language.{Language, argumentsOf}
-use Rattle.reader.specs.Code.{Code, node, token, Codes, cons}
+use Rattle.reader.specs.Code.{Code, node, token, Codes, nil, cons}
 use Rattle.reader.specs.Typing.{Typed, TypedAll, typed-node, typed-token, typed-argument, typed-nil, typed-cons}
 use Rattle.reader.specs.Syntax.{write, tree}
 use Rattle.reader.proofs.RoundTrip.{Apart}
-use Rattle.sources.specs.Inner.Order.{Earlier, EarlierAll, by-name, by-operands, by-value, at-first, after, Upto, Parts, here, on}
+use Rattle.sources.specs.Inner.Order.{Earlier, EarlierAll, by-name, by-operands, by-value, at-first, after, Upto, UptoAll, Parts, here, on}
 use Rattle.sources.proofs.Order.{Tri, below, level, above, tri, earlier-parts}
 use Rattle.sources.proofs.Answers.{no-kind}
 use Rattle.backward.specs.Sources.{before, earlier, firstOf}
@@ -61,9 +61,9 @@ module _ (l : Language) (apart : Apart l) where
     order (typed-node {k = k} {p = p} {ks = ks} e h) (typed-token d g) = none-some (sym (apart k p ks e) ∙ d)
     order (typed-token {k = k} e h) (typed-node {p = q} {ks = ks} d g) = none-some (sym (apart k q ks d) ∙ e)
     order (typed-token {v = v} e h) (typed-token {v = w} d g) = order-token v w (tri v w)
-    order (typed-argument {i = i} e) g = no-kind i e
-    order (typed-node e h) (typed-argument {i = i} d) = no-kind i d
-    order (typed-token e h) (typed-argument {i = i} d) = no-kind i d
+    order (typed-argument {i = i} {j = j} e) g = no-kind i j e
+    order (typed-node e h) (typed-argument {i = i} {j = j} d) = no-kind i j d
+    order (typed-token e h) (typed-argument {i = i} {j = j} d) = no-kind i j d
 
     orderAll : {t r : Codes} {ks : List ℕ} → TypedAll l [] t ks → TypedAll l [] r ks → OrderedAll t r
     orderAll typed-nil typed-nil = OrderedAll.equal refl

@@ -1,7 +1,7 @@
 -- The theorems on the search back.
 use Prim.Native.Nat.{ℕ}
-use mathlib.Core.Path.{_≡_, ap, _∙_}
-use mathlib.Core.List.{List}
+use mathlib.Core.Path.{_≡_, ap, sym, _∙_}
+use mathlib.Core.List.{List, map}
 use mathlib.Core.Option.{Option, none, some}
 use Rattle.fields.specs.Outcome.{value}
 use Rattle.fields.specs.Lists.{keep, sameNumbers}
@@ -12,6 +12,7 @@ use Rattle.reader.proofs.RoundTrip.{Apart}
 use Rattle.reader.proofs.Larger.{apart}
 use Rattle.translation.specs.Translation.{Translation}
 use Rattle.translation.specs.TranslationFile.{translationOf}
+use Rattle.translation.specs.Running.{transform}
 use Rattle.translation.proofs.Codec.{translation-whole}
 use Rattle.backward.specs.Trees.{treesWithin}
 use Rattle.backward.specs.Sources.{runsTo, sourcesOf, searchOf}

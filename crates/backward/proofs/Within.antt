@@ -1,17 +1,17 @@
 -- The trees within the levels are exactly the legal ones.
-use Prim.Native.Nat.{ℕ, zero, suc, _+_, _-_, _≤_}
-use mathlib.Core.Path.{_≡_, refl}
+use Prim.Native.Nat.{ℕ, zero, suc, max, _+_, _-_, _%_, _≤_, _<_}
+use mathlib.Core.Path.{_≡_, refl, ap, sym, _∙_}
 use mathlib.Core.Logic.{inl}
-use mathlib.Core.Bool.{true}
+use mathlib.Core.Bool.{Bool, true, false, _&&_}
 use mathlib.Core.List.{List, [], _∷_, map}
 use mathlib.Core.Option.{Option, none, some}
 use native.Mathlib.Omega.{arith}
-use lib.Dec.{leb}
+use lib.Dec.{leb, eqb}
 use borrow.Author.Tests.{leb-true}
-use Rattle.fields.specs.Lists.{keep, countUp}
-use Rattle.fields.proofs.Truth.{Mem, and-both, keep-cases, mem-keep, mem-map, map-cases, concat-cases, mem-concat, mem-count}
+use Rattle.fields.specs.Lists.{keep, concatMap, countUp}
+use Rattle.fields.proofs.Truth.{Mem, none-some, some-inj, and-both, keep-cases, mem-keep, mem-map, map-cases, concat-cases, mem-concat, mem-count, count-mem}
 use Rattle.language.specs.Language.{Language, Range, rangeOf, argumentsOf, inRange}
-use Rattle.reader.specs.Code.{Code, node, token, Codes, cons, levels, levelsAll}
+use Rattle.reader.specs.Code.{Code, node, token, Codes, nil, cons, levels, levelsAll}
 use Rattle.reader.specs.Typing.{Typed, TypedAll, typed-node, typed-token, typed-argument, typed-nil, typed-cons}
 use Rattle.reader.proofs.RoundTrip.{Apart}
 use Rattle.sources.proofs.Answers.{Named, no-kind}
@@ -107,9 +107,9 @@ module _ (l : Language) where
     unfolding treesWithin levels
     legal-within zero (typed-node e h) w = absurd (omega arith)
     legal-within zero (typed-token {v = v} {k = k} {c = c} e h) w = token-in k v c [] e h
-    legal-within zero (typed-argument {i = i} e) w = no-kind i e
+    legal-within zero (typed-argument {i = i} {j = j} e) w = no-kind i j e
     legal-within (suc n) (typed-node {k = k} {p = p} {t = s} {ks = ks} e h) w =
         node-in k p s ks (treesOver (treesWithin l n) l k) e
         (legal-over l n (treesWithin l n) (λ u j a b. legal-within n a b) named k p s ks e h (omega arith))
     legal-within (suc n) (typed-token {v = v} {k = k} {c = c} e h) w = token-in k v c (treesOver (treesWithin l n) l k) e h
-    legal-within (suc n) (typed-argument {i = i} e) w = no-kind i e
+    legal-within (suc n) (typed-argument {i = i} {j = j} e) w = no-kind i j e

@@ -15,11 +15,12 @@ use Rattle.translation.specs.TranslationFile.{translationOf}
 use Rattle.translation.specs.Running.{transform}
 use Rattle.backward.specs.Sources.{before, searchOf}
 
--- A legal source tree of kind k within n levels whose run, in bytes, is the target tree.
+-- A legal source tree of kind k within n levels whose run by number 0, the only one where a search is made, is in bytes the
+-- target tree.
 pub record Gives (f : Translation) (n k : ℕ) (target : List ℕ) (t : Code) : Type 0 where
   pub legal : Typed (f .source) [] t k
   pub within : levels t ≤ n
-  pub runs : write tree (transform f t) ≡ target
+  pub runs : write tree (transform f 0 t) ≡ target
 
 -- What is found is such a tree.
 abbrev pub FoundGives : Type 0

@@ -7,27 +7,29 @@ use lib.ListN.{length, replicate}
 use lib.Dec.{leb}
 use Rattle.fields.specs.Outcome.{Result, value, refused, refuseIf, _>>=_, written, outputAfter}
 use Rattle.fields.specs.declared.outcome.Outcome.{Outcome}
-use Rattle.fields.specs.declared.outcome.Reason.the-variants.{UnknownRoot, NoSource, LimitOutOfRange}
+use Rattle.fields.specs.declared.outcome.Reason.the-variants.{UnknownRoot, NoSource, LimitOutOfRange, NumberUnfit}
 use Rattle.language.specs.Language.{isIn}
 use Rattle.reader.specs.Operations.{treeOf}
 use Rattle.translation.specs.Translation.{Translation, mapped}
 use Rattle.translation.specs.TranslationFile.{translationOf}
 use Rattle.translation.specs.Operations.{fitted}
+use Rattle.plain.specs.Plain.{plain}
 use Rattle.backward.specs.Sources.{searchOf}
 
 -- A limit is 1 to 16.
 abbrev pub isLimit : ℕ → Bool
 isLimit n = leb 1 n && leb n 16
 
--- What is asked before a search is made: 1 to 7 for the translation, 14 for the source kind, 15 and 16 for the target tree
--- against the kind that it maps to, 24 for the limit.
+-- What is asked before a search is made: 1 to 7 for the translation, 26 where it has any number but 0 (paper 02, 2026-13), 14
+-- for the source kind, 15 and 16 for the target tree against the kind that it maps to, 24 for the limit.
 unfoldable pub ready : (translation : List ℕ) (root : ℕ) (target : List ℕ) (limit : ℕ) → Result Translation
 ready translation root target limit =
     translationOf translation >>= λ f.
-    refuseIf (not (isIn (f .source) root)) UnknownRoot
-    (treeOf (f .target) (mapped (f .body) root) target >>= λ u.
+    refuseIf (not (plain (f .body))) NumberUnfit
+    (refuseIf (not (isIn (f .source) root)) UnknownRoot
+    (treeOf (f .target) (mapped (f .body) root 0) target >>= λ u.
     refuseIf (not (isLimit limit)) LimitOutOfRange
-    (value f))
+    (value f)))
 
 -- 23 where there is no source tree.
 abbrev pub found : Option (List ℕ) → Result (List ℕ)

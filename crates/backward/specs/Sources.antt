@@ -28,9 +28,9 @@ unfoldable pub firstOf : List (List ℕ) → Option (List ℕ)
 firstOf [] = none
 firstOf (s ∷ l) = earlier s (firstOf l)
 
--- The run of a source tree, in bytes, is the target tree.
+-- The run of a source tree by number 0, in bytes, is the target tree.
 unfoldable pub runsTo : Translation → List ℕ → Code → Bool
-runsTo f target t = sameNumbers (write tree (transform f t)) target
+runsTo f target t = sameNumbers (write tree (transform f 0 t)) target
 
 -- The source trees of kind k within n levels whose run is the target tree, in bytes.
 unfoldable pub sourcesOf : Translation → (n k : ℕ) → List ℕ → List (List ℕ)

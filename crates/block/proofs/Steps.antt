@@ -164,7 +164,7 @@ no-zeroth : (l : Language) (at : ℕ) (t : Code) → argumentOf l at t 0 ≡ non
 unfolding argumentOf
 no-zeroth l at (node k p ts) = refl
 no-zeroth l at (token v) = refl
-no-zeroth l at (argument j) = refl
+no-zeroth l at (argument j m) = refl
 
 module _ (x s b i : List ℕ) (at k p : ℕ) (l : Language) (t : Code) (w : Along x s b i at k p l t) where
   pub zero-none : (n : ℕ) → n ≡ 0 → Leads x s b i l (argumentOf l at t n) Nowhere

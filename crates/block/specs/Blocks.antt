@@ -35,7 +35,7 @@ unfoldable pub argumentOf : Language → (start : ℕ) → Code → (number : �
 argumentOf l start (node k p ts) zero = none
 argumentOf l start (node k p ts) (suc n) = argumentAfter (Option·getD (argumentsOf l k p) []) ts n (start + 1)
 argumentOf l start (token v) i = none
-argumentOf l start (argument j) i = none
+argumentOf l start (argument j m) i = none
 
 -- What following a path comes to: a block; no such argument; or a block of a kind that may not be seen.
 pub data Reached : Type 0 where

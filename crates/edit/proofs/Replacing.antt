@@ -37,7 +37,8 @@ pub size-some : (a : Code) → 1 ≤ size a
 unfolding write
 size-some (node k p t) = omega arith
 size-some (token v) = omega arith
-size-some (argument i) = omega arith
+size-some (argument i zero) = omega arith
+size-some (argument i (suc m)) = omega arith
 
 size-node : (k p : ℕ) (ts : Codes) → size (node k p ts) ≡ suc (length (writeAll tree ts))
 unfolding write
@@ -80,7 +81,8 @@ module _ (s old top : ℕ) where
     movable-spans (node k p ts) at h q =
         (h, q at (size (node k p ts)) (omega arith) (omega arith), movable-all ts (at + 1) (omega arith) (λ x n i j. q x n (omega arith) (omega arith)))
     movable-spans (token v) at h q = (h, q at 2 (omega arith) (omega arith), tt)
-    movable-spans (argument i) at h q = (h, q at 1 (omega arith) (omega arith), tt)
+    movable-spans (argument i zero) at h q = (h, q at 1 (omega arith) (omega arith), tt)
+    movable-spans (argument i (suc m)) at h q = (h, q at 2 (omega arith) (omega arith), tt)
 
     movable-all : (ts : Codes) (at : ℕ) → at + length (writeAll tree ts) ≤ top → Apart at (at + length (writeAll tree ts)) → Movable s old top (spansAll at ts)
     movable-all nil at h q = tt
@@ -110,7 +112,7 @@ module _ (s old new : ℕ) (some : 1 ≤ old) where
     spans-stay : (c : Code) (at : ℕ) → at + size c ≤ s → map (moved s old new) (spans at c) ≡ spans at c
     spans-stay (node k p ts) at h = λ i. moved-stays at (size (node k p ts)) h i ∷ spans-all-stay ts (at + 1) (omega arith) i
     spans-stay (token v) at h = ap (λ (z : Span). z ∷ []) (moved-stays at 2 h)
-    spans-stay (argument j) at h = ap (λ (z : Span). z ∷ []) (moved-stays at 1 h)
+    spans-stay (argument j m) at h = ap (λ (z : Span). z ∷ []) (moved-stays at (size (argument j m)) h)
 
     spans-all-stay : (ts : Codes) (at : ℕ) → at + length (writeAll tree ts) ≤ s → map (moved s old new) (spansAll at ts) ≡ spansAll at ts
     spans-all-stay nil at h = refl
@@ -130,7 +132,7 @@ module _ (s old new : ℕ) (some : 1 ≤ old) where
         (λ i. moved-shifts at (size (node k p ts)) h i ∷ spans-all-shift ts (at + 1) (omega arith) i)
         ∙ ap (λ (j : ℕ). span (at + new - old) (size (node k p ts)) ∷ spansAll j ts) e
     spans-shift (token v) at h = ap (λ (z : Span). z ∷ []) (moved-shifts at 2 h)
-    spans-shift (argument j) at h = ap (λ (z : Span). z ∷ []) (moved-shifts at 1 h)
+    spans-shift (argument j m) at h = ap (λ (z : Span). z ∷ []) (moved-shifts at (size (argument j m)) h)
 
     spans-all-shift : (ts : Codes) (at : ℕ) → s + old ≤ at → map (moved s old new) (spansAll at ts) ≡ spansAll (at + new - old) ts
     spans-all-shift nil at h = refl
@@ -324,7 +326,7 @@ module _ (sees : ℕ → Bool) (l : Language) (b : Code) (c : Block) where
   argument-edited path zero at (node k p ts) d e w = none-some e
   argument-edited path (suc n) at (node k p ts) d e w = inside (after-edited path (replaceAt path b) (Option·getD (argumentsOf l k p) []) ts n (at + 1) d e w)
   argument-edited path i at (token v) d e w = none-some e
-  argument-edited path i at (argument j) d e w = none-some e
+  argument-edited path i at (argument j m) d e w = none-some e
 
   cond-reached : (t : Bool) (x : Block) → cond t (reached x) hidden ≡ reached c → x ≡ c
   cond-reached true x e = reached-inj e

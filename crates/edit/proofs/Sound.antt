@@ -82,7 +82,7 @@ module _ (l : Language) (path : List ℕ) (u : Code) (d : Block) where
   argument-replaced zero at (node k p ts) e = none-some e
   argument-replaced (suc n) at (node k p ts) e = after-replaced (replaceAt path u) d (Option·getD (argumentsOf l k p) []) ts n (at + 1) e
   argument-replaced i at (token v) e = none-some e
-  argument-replaced i at (argument j) e = none-some e
+  argument-replaced i at (argument j m) e = none-some e
 
   argument-typed : (i at : ℕ) (t : Code) (k : ℕ) → Typed l [] t k → argumentOf l at t i ≡ some d
       → (Typed l [] (d .subtree) (d .kind) → Typed l [] (replaceAt path u (d .subtree)) (d .kind)) → Typed l [] (replaceAt (i ∷ path) u t) k

@@ -16,4 +16,4 @@ replaceAt [] b t = b
 replaceAt (zero ∷ path) b t = t
 replaceAt (suc n ∷ path) b (node k p ts) = node k p (replaceAfter n (replaceAt path b) ts)
 replaceAt (suc n ∷ path) b (token v) = token v
-replaceAt (suc n ∷ path) b (argument i) = argument i
+replaceAt (suc n ∷ path) b (argument i j) = argument i j

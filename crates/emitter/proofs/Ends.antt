@@ -13,22 +13,27 @@ use borrow.Author.Tests.{eqb-true, eqb-false}
 use Rattle.fields.proofs.Split.{byte-in}
 use Rattle.fields.proofs.Truth.{by-test}
 use Rattle.language.specs.Language.{Language}
-use Rattle.reader.specs.Code.{Code, Codes, levels, levelsAll}
-use Rattle.reader.specs.Typing.{Typed, TypedAll, typed-nil, typed-cons}
+use Rattle.reader.specs.Code.{Code, token, Codes, nil, cons, levels, levelsAll}
+use Rattle.reader.specs.Typing.{Uses, Typed, TypedAll, typed-nil, typed-cons}
 use Rattle.reader.specs.Syntax as Meant
 use Rattle.reader.specs.Syntax.{write, writeAll}
 use Rattle.reader.specs.declared.node.Syntax.{Syntax}
 use Rattle.reader.specs.Inner.Positions.{syntaxOf}
 use Rattle.reader.specs.Inner.Ends.{Kept}
 use Rattle.translation.specs.Translation.{Translation}
-use Rattle.translation.specs.Running.{nth}
-use Rattle.emitter.specs.Inner.Stands.{Stands}
-use Rattle.emitter.specs.Inner.Table.{sourceByte, KindsAt}
+use Rattle.tables.specs.Inner.Stands.{Stands}
+use Rattle.tables.specs.Inner.Table.{sourceByte, KindsAt}
 use Rattle.emitter.specs.Inner.Runs.{bytesOf, allBytes, front, Right, Node, Same, SkipAsks, FindAsks}
-use Rattle.emitter.proofs.Standing.{stands-both}
+use Rattle.tables.proofs.Standing.{stands-both}
+
+-- The i-th of codes, counted from 0; past the end a fixed token.
+unfoldable pub nth : Codes → ℕ → Code
+nth nil i = token 0
+nth (cons a ts) zero = a
+nth (cons a ts) (suc i) = nth ts i
 
 -- The i-th of codes of the given kinds: its kind, its levels, and where it stands.
-module _ {l : Language} {given : List ℕ} where
+module _ {l : Language} {given : Uses} where
   pub nth-kind : {ts : Codes} {ks : List ℕ} → TypedAll l given ts ks → (i : ℕ) → i < length ks → Typed l given (nth ts i) (getD ks i 0)
   unfolding nth
   nth-kind typed-nil i h = absurd (omega arith)
@@ -64,7 +69,7 @@ kind-byte {t} {q} {ks} z i h =
     sym (byte-in t (length ks) (16448 + q) i (16448 + (q + i)) h (omega arith)) ∙ ap (λ (v : List ℕ). getD v i 0) (z .stands .bytes)
 
 -- The end of an argument is kept.
-module _ {x : Syntax} {t input state : List ℕ} {l : Language} {given : List ℕ} {ts : Codes} {ks : List ℕ} (n : Node x t input state l given ts ks) (i e : ℕ) (small : i < 8) where
+module _ {x : Syntax} {t input state : List ℕ} {l : Language} {given : Uses} {ts : Codes} {ks : List ℕ} (n : Node x t input state l given ts ks) (i e : ℕ) (small : i < 8) where
   other : (j : ℕ) → j ≢ i + 1 → getD (set state (i + 1) e) j 0 ≡ getD state j 0
   other j h = getD-set-other state (i + 1) j e 0 h
 
@@ -95,7 +100,7 @@ pub same-after : {a b c : List ℕ} → Same a b → Same b c → Same a c
 same-after h k = record { from = k .from ∙ h .from; start = k .start ∙ h .start }
 
 -- end_of: the kind that is asked for, and the end where it is kept.
-module _ {x : Syntax} {t input : List ℕ} {q at : ℕ} {f : Translation} {given : List ℕ} {u : Code} {k : ℕ} (a : SkipAsks x t input q at f given u k) where
+module _ {x : Syntax} {t input : List ℕ} {q at : ℕ} {f : Translation} {given : Uses} {u : Code} {k : ℕ} (a : SkipAsks x t input q at f given u k) where
   pub asked-kind : {kind : ℕ} → kind ≡ sourceByte t q → kind < 32
   asked-kind e = let h = a .kind in let m = a .term .kind in omega arith
 
@@ -104,12 +109,12 @@ module _ {x : Syntax} {t input : List ℕ} {q at : ℕ} {f : Translation} {given
       ⊎-elim (λ z. absurd (some z)) (λ z. right kind at e z u (rw (ek ∙ a .kind) (a .term .typed)) (a .term .stands)) h
 
 -- find: p is where argument i starts, and the node is the one that it was.
-pub record Reached (x : Syntax) (t input before state : List ℕ) (p i : ℕ) (f : Translation) (given : List ℕ) (ts : Codes) (ks : List ℕ) : Type 0 where
+pub record Reached (x : Syntax) (t input before state : List ℕ) (p i : ℕ) (f : Translation) (given : Uses) (ts : Codes) (ks : List ℕ) : Type 0 where
   pub at : p ≡ getD before 0 0 + length (allBytes x (front i ts))
   pub node : Node x t input state (f .source) given ts ks
   pub same : Same before state
 
-module _ {x : Syntax} {t input ends before : List ℕ} {j : ℕ} {f : Translation} {given : List ℕ} {ts : Codes} {ks : List ℕ} (a : FindAsks x t input ends before j f given ts ks) where
+module _ {x : Syntax} {t input ends before : List ℕ} {j : ℕ} {f : Translation} {given : Uses} {ts : Codes} {ks : List ℕ} (a : FindAsks x t input ends before j f given ts ks) where
   pub find-few : j ≤ 8
   find-few = let n = a .number in let m = a .node .few in omega arith
 

@@ -1,18 +1,21 @@
 -- Laws of one, two and three bytes that are put into the output.
-use Prim.Native.Nat.{ℕ, suc, _+_, _≤_, _<_}
+use Prim.Native.Nat.{ℕ, zero, suc, _+_, _*_, _≤_, _<_}
 use mathlib.Core.Path.{_≡_, refl, ap, _∙_}
 use mathlib.Core.List.{List, [], _∷_, _++_, append-assoc}
 use native.Mathlib.Omega.{arith}
 use lib.ListN.{length, getD, take, drop, set, length-set}
-use lib.Seq.{sets, sets-eq, slice, slice-empty, length-slice, drop-cons, getD-take, length-take-le}
-use Rattle.reader.specs.Syntax.{sign}
+use lib.Dec.{eqb}
+use lib.Seq.{sets, sets-eq}
+use borrow.Author.Tests.{eq-eqb, ne-eqb}
+use Rattle.fields.proofs.Truth.{by-test}
+use Rattle.reader.specs.Code.{argument}
+use Rattle.reader.specs.Syntax.{sign, write, code}
 use Rattle.reader.specs.Inner.Positions.{syntaxOf}
 use Rattle.reader.specs.declared.node.Syntax.{Syntax}
 use Rattle.reader.specs.declared.node.Syntax.the-variants.{Tree, Code}
-use Rattle.fields.specs.declared.copy.Stored.{Stored}
-use Rattle.fields.specs.declared.copy.Stored.the-variants.{To, Full}
-use Rattle.fields.specs.Inner.Writing.{spliced, Stores}
-use Rattle.emitter.specs.Inner.Stands.{Wrote}
+use Rattle.fields.specs.Inner.Writing.{spliced}
+use Rattle.tables.specs.Inner.Stands.{Wrote}
+use Rattle.emitter.specs.Inner.Runs.{leafLength, leafNumber, codeLeafRun}
 
 -- Bytes stored one behind the other are put in.
 stored : (o : List ℕ) (pos : ℕ) (v : List ℕ) → pos + length v ≤ length o → sets o pos v ≡ spliced o pos v
@@ -47,79 +50,68 @@ in-set l i a j h = omega (arith, length-set l i a)
 pub in-two : (l : List ℕ) (i a k b j : ℕ) → j < length l → j < length (set (set l i a) k b)
 in-two l i a k b j h = in-set (set l i a) k b j (in-set l i a j h)
 
+-- Two and three bytes.
+module _ (x y : ℕ) (o : List ℕ) (pos : ℕ) where
+  pub two-full : length o < pos + 2 → Wrote (x ∷ y ∷ []) o o pos (pos + 2)
+  two-full h = wrote-nothing (x ∷ y ∷ []) o pos (pos + 2) (omega arith) (omega arith)
+
+  pub two-put : pos + 2 ≤ length o → Wrote (x ∷ y ∷ []) o (set (set o pos x) (pos + 1) y) pos (pos + 2)
+  two-put h = wrote-stored (x ∷ y ∷ []) o _ pos (pos + 2) (omega arith) (two-stored o pos x y) refl
+
+module _ (x y z : ℕ) (o : List ℕ) (pos : ℕ) where
+  pub three-full : length o < pos + 3 → Wrote (x ∷ y ∷ z ∷ []) o o pos (pos + 3)
+  three-full h = wrote-nothing (x ∷ y ∷ z ∷ []) o pos (pos + 3) (omega arith) (omega arith)
+
+  pub three-put : pos + 3 ≤ length o → Wrote (x ∷ y ∷ z ∷ []) o (set (set (set o pos x) (pos + 1) y) (pos + 2) z) pos (pos + 3)
+  three-put h = wrote-stored (x ∷ y ∷ z ∷ []) o _ pos (pos + 3) (omega arith) (three-stored o pos x y z) refl
+
 -- put_name
-module _ (x : Syntax) (name : ℕ) (o : List ℕ) (pos : ℕ) (inside : pos ≤ length o) where
+module _ (x : Syntax) (name : ℕ) (o : List ℕ) (pos : ℕ) where
   pub name-tree-full : length o < pos + 1 → x ≡ Tree → Wrote (sign (syntaxOf x) 1 ++ name ∷ []) o o pos (pos + 1)
   name-tree-full h t = rw t (wrote-nothing (name ∷ []) o pos (pos + 1) (omega arith) (omega arith))
-
-  pub name-code-full : length o < pos + 2 → x ≡ Code → Wrote (sign (syntaxOf x) 1 ++ name ∷ []) o o pos (pos + 2)
-  name-code-full h t = rw t (wrote-nothing (1 ∷ name ∷ []) o pos (pos + 2) (omega arith) (omega arith))
 
   pub name-tree : pos + 1 ≤ length o → x ≡ Tree → Wrote (sign (syntaxOf x) 1 ++ name ∷ []) o (set o pos name) pos (pos + 1)
   name-tree h t = rw t (wrote-stored (name ∷ []) o _ pos (pos + 1) (omega arith) refl refl)
 
-  pub name-code : pos + 2 ≤ length o → x ≡ Code → Wrote (sign (syntaxOf x) 1 ++ name ∷ []) o (set (set o pos 1) (pos + 1) name) pos (pos + 2)
-  name-code h t = rw t (wrote-stored (1 ∷ name ∷ []) o _ pos (pos + 2) (omega arith) (two-stored o pos 1 name) refl)
+  pub name-code : {after : List ℕ} {r : ℕ} → x ≡ Code → Wrote (1 ∷ name ∷ []) o after pos r → Wrote (sign (syntaxOf x) 1 ++ name ∷ []) o after pos r
+  name-code t w = rw t w
 
 -- put_token
-module _ (x : Syntax) (high low : ℕ) (o : List ℕ) (pos : ℕ) (inside : pos ≤ length o) where
-  pub token-tree-full : length o < pos + 2 → x ≡ Tree → Wrote (sign (syntaxOf x) 2 ++ high ∷ low ∷ []) o o pos (pos + 2)
-  token-tree-full h t = rw t (wrote-nothing (high ∷ low ∷ []) o pos (pos + 2) (omega arith) (omega arith))
+module _ (x : Syntax) (high low : ℕ) (o : List ℕ) (pos : ℕ) where
+  pub token-tree : {after : List ℕ} {r : ℕ} → x ≡ Tree → Wrote (high ∷ low ∷ []) o after pos r → Wrote (sign (syntaxOf x) 2 ++ high ∷ low ∷ []) o after pos r
+  token-tree t w = rw t w
 
-  pub token-code-full : length o < pos + 3 → x ≡ Code → Wrote (sign (syntaxOf x) 2 ++ high ∷ low ∷ []) o o pos (pos + 3)
-  token-code-full h t = rw t (wrote-nothing (2 ∷ high ∷ low ∷ []) o pos (pos + 3) (omega arith) (omega arith))
+  pub token-code : {after : List ℕ} {r : ℕ} → x ≡ Code → Wrote (2 ∷ high ∷ low ∷ []) o after pos r
+      → Wrote (sign (syntaxOf x) 2 ++ high ∷ low ∷ []) o after pos r
+  token-code t w = rw t w
 
-  pub token-tree : pos + 2 ≤ length o → x ≡ Tree → Wrote (sign (syntaxOf x) 2 ++ high ∷ low ∷ []) o (set (set o pos high) (pos + 1) low) pos (pos + 2)
-  token-tree h t = rw t (wrote-stored (high ∷ low ∷ []) o _ pos (pos + 2) (omega arith) (two-stored o pos high low) refl)
+-- put_use
+module _ (a : ℕ) (o : List ℕ) (pos : ℕ) where
+  pub use-plain : {n : ℕ} {after : List ℕ} {r : ℕ} → n ≡ 0 → Wrote (3 ∷ a ∷ []) o after pos r → Wrote (write code (argument a n)) o after pos r
+  unfolding write
+  use-plain e w = rw e w
 
-  pub token-code : pos + 3 ≤ length o → x ≡ Code
-      → Wrote (sign (syntaxOf x) 2 ++ high ∷ low ∷ []) o (set (set (set o pos 2) (pos + 1) high) (pos + 2) low) pos (pos + 3)
-  token-code h t = rw t (wrote-stored (2 ∷ high ∷ low ∷ []) o _ pos (pos + 3) (omega arith) (three-stored o pos 2 high low) refl)
+  pub use-numbered : {n : ℕ} {after : List ℕ} {r : ℕ} → (n ≡ 0 → ⊥) → Wrote (4 ∷ a ∷ n ∷ []) o after pos r → Wrote (write code (argument a n)) o after pos r
+  unfolding write
+  use-numbered {n = zero} e w = absurd (e refl)
+  use-numbered {n = suc n} e w = w
 
--- put_leaf
-slice-more : (b : List ℕ) (at next e : ℕ) → next ≡ suc at → at < e → e ≤ length b → slice at e b ≡ getD b at 0 ∷ slice next e b
-slice-more b at next e n h i =
-    let l : at < length (take e b) = omega (arith, length-take-le e b i) in
-    drop-cons (take e b) at 0 l ∙ rw (getD-take e b at 0 h, n)
+-- put_code_leaf
+module _ (b : List ℕ) (at : ℕ) where
+  pub code-leaf-room : at + leafLength Code b at ≤ length b → at + 1 < length b
+  unfolding leafLength
+  code-leaf-room h = by-test (eqb (getD b at 0) 3) (λ e. let z = rw e at h in omega arith) (λ e. let z = rw e at h in omega arith)
 
-slice-two : (b : List ℕ) (at n : ℕ) → at + n ≤ length b → n ≡ 2 → slice at (at + n) b ≡ getD b at 0 ∷ getD b (at + 1) 0 ∷ []
-slice-two b at n h e =
-    slice-more b at (at + 1) (at + n) (omega arith) (omega arith) h
-    ∙ ap (λ (l : List ℕ). getD b at 0 ∷ l)
-    (slice-more b (at + 1) (at + n) (at + n) (omega arith) (omega arith) h ∙ ap (λ (l : List ℕ). getD b (at + 1) 0 ∷ l) (slice-empty (at + n) b))
+  pub code-leaf-three : at + leafLength Code b at ≤ length b → (getD b at 0 ≡ 3 → ⊥) → at + 2 < length b
+  unfolding leafLength
+  code-leaf-three h e = let z = rw (ne-eqb (getD b at 0) 3 e) at h in omega arith
 
-slice-three : (b : List ℕ) (at n : ℕ) → at + n ≤ length b → n ≡ 3 → slice at (at + n) b ≡ getD b at 0 ∷ getD b (at + 1) 0 ∷ getD b (at + 2) 0 ∷ []
-slice-three b at n h e =
-    slice-more b at (at + 1) (at + n) (omega arith) (omega arith) h
-    ∙ ap (λ (l : List ℕ). getD b at 0 ∷ l)
-    (slice-more b (at + 1) (at + 2) (at + n) (omega arith) (omega arith) h
-    ∙ ap (λ (l : List ℕ). getD b (at + 1) 0 ∷ l)
-    (slice-more b (at + 2) (at + n) (at + n) (omega arith) (omega arith) h ∙ ap (λ (l : List ℕ). getD b (at + 2) 0 ∷ l) (slice-empty (at + n) b)))
+  pub leaf-token : (j : ℕ) (o : List ℕ) (pos : ℕ) {after : List ℕ} {r : ℕ} → getD b at 0 ≡ 2 → Wrote (2 ∷ getD b (at + 1) 0 ∷ getD b (at + 2) 0 ∷ []) o after pos r
+      → Wrote (codeLeafRun b at j) o after pos r
+  unfolding codeLeafRun
+  leaf-token j o pos e w = rw (eq-eqb (getD b at 0) 2 e) w
 
-module _ (b : List ℕ) (at n : ℕ) (o : List ℕ) (pos : ℕ) (there : at + n ≤ length b) (inside : pos ≤ length o) where
-  pub leaf-full : length o < pos + n → Wrote (slice at (at + n) b) o o pos (pos + n)
-  leaf-full h = wrote-nothing _ o pos (pos + n) (omega (arith, length-slice at (at + n) b there)) (omega arith)
-
-  pub leaf-two : {after : List ℕ} → pos + n ≤ length o → n ≡ 2
-      → after ≡ set (set o pos (getD b at 0)) (pos + 1) (getD b (at + 1) 0) → Wrote (slice at (at + n) b) o after pos (pos + n)
-  leaf-two {after} h e a =
-      rw (slice-two b at n there e)
-      (wrote-stored (getD b at 0 ∷ getD b (at + 1) 0 ∷ []) o after pos (pos + n) (omega arith) (a ∙ two-stored o pos _ _) (omega arith))
-
-  pub leaf-three : {after : List ℕ} → pos + n ≤ length o → n ≡ 3
-      → after ≡ set (set (set o pos (getD b at 0)) (pos + 1) (getD b (at + 1) 0)) (pos + 2) (getD b (at + 2) 0)
-      → Wrote (slice at (at + n) b) o after pos (pos + n)
-  leaf-three {after} h e a =
-      rw (slice-three b at n there e)
-      (wrote-stored (getD b at 0 ∷ getD b (at + 1) 0 ∷ getD b (at + 2) 0 ∷ []) o after pos (pos + n) (omega arith) (a ∙ three-stored o pos _ _ _) (omega arith))
-
-  -- put_part
-  pub part-put : {after : List ℕ} → pos + n ≤ length o → (r : Stored) → Stores (slice at (at + n) b) o after pos r
-      → Wrote (slice at (at + n) b) o after pos (pos + n)
-  part-put h (To m) s =
-      let w = s .done m refl in
-      let l = length-slice at (at + n) b there in
-      record { fits = λ j. (omega (arith, l), w .bytes); full = λ j. absurd (omega (arith, l)) }
-  part-put h Full s =
-      let f = s .full refl in
-      absurd (omega (arith, f, length-slice at (at + n) b there))
+  pub leaf-use : (j : ℕ) (o : List ℕ) (pos : ℕ) {n by : ℕ} {after : List ℕ} {r : ℕ} → (getD b at 0 ≡ 2 → ⊥) → n ≡ leafNumber b at → by ≡ 16 * n + j
+      → Wrote (write code (argument (getD b (at + 1) 0) by)) o after pos r → Wrote (codeLeafRun b at j) o after pos r
+  unfolding codeLeafRun
+  leaf-use j o pos e en eb w = rw (ne-eqb (getD b at 0) 2 e, ← en, ← eb) w

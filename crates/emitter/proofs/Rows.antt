@@ -1,43 +1,47 @@
--- Laws of codes in a row that are put out, each argument replaced by its run.
+-- Laws of codes in a row that are put out, each use replaced by the run of that argument.
 use Prim.Native.Nat.{ℕ, zero, suc, _+_, _-_, _*_, _/_, _%_, _≤_, _<_}
 use mathlib.Core.Path.{_≡_, refl, sym, ap, _∙_}
-use mathlib.Core.Logic.{_⊎_, inl, inr, ⊎-elim}
+use mathlib.Core.Logic.{inl, ⊎-elim}
 use mathlib.Core.Bool.{true, false, not}
-use mathlib.Core.List.{List, [], _∷_, _++_, append-assoc, append-nil}
+use mathlib.Core.List.{List, [], _∷_, _++_, append-nil}
 use mathlib.Core.Option.{none, some}
 use native.Mathlib.Omega.{arith}
-use lib.ListN.{length, getD, getElem?, set, take, drop, length-append, length-set, length-map, replicate, getD-replicate}
-use lib.Seq.{slice, getD-set-same, getD-set-other}
+use lib.ListN.{length, getD, getElem?, set, drop, length-append, replicate, getD-replicate}
+use lib.Seq.{getD-set-other}
 use lib.Dec.{eqb}
-use borrow.Author.Tests.{eqb-true, eqb-false, eq-eqb, ne-eqb}
-use Rattle.fields.proofs.Truth.{none-some, false-true, by-test}
+use borrow.Author.Tests.{lt-ltb, le-ltb, eq-eqb, ne-eqb}
+use Rattle.fields.proofs.Truth.{none-some, some-inj, false-true, is-some}
 use Rattle.language.specs.Language.{Language, Range, rangeOf, argumentsOf}
 use Rattle.reader.specs.Code as Terms
 use Rattle.reader.specs.Code.{node, token, argument, Codes, nil, cons, levels, levelsAll}
-use Rattle.reader.specs.Typing.{Typed, TypedAll, typed-node, typed-token, typed-argument, typed-nil, typed-cons}
+use Rattle.reader.specs.Typing.{Uses, kindAt, Typed, TypedAll, typed-node, typed-token, typed-argument, typed-nil, typed-cons}
 use Rattle.reader.specs.Syntax.{sign, write, writeAll, code}
 use Rattle.reader.specs.declared.node.Syntax.{Syntax}
 use Rattle.reader.specs.declared.node.Syntax.the-variants.{Tree, Code}
 use Rattle.reader.specs.Inner.Positions.{syntaxOf, nameLength}
-use Rattle.translation.specs.Translation.{Translation, mapped}
-use Rattle.translation.specs.Running.{nth, operand, substitute, run, runAll, mappedArguments, clausesOf, transform}
-use Rattle.translation.proofs.Fitting.{mapped-arguments}
-use Rattle.emitter.specs.Inner.Stands.{Stands, Wrote}
-use Rattle.emitter.specs.Inner.Table.{indexEntry, clauseEntry, sourceByte, bodyByte, spanEntry, clauseEnd, SpansAt, SpansAllAt, Production, Clause, Ready}
-use Rattle.emitter.specs.Inner.Runs.{bytesOf, allBytes, front, Given, Term, Node, Row, Same, FindAsks, LastAsks, treeLevel, RowAsks, ArgumentAsks, PlacedAsks, TermAsks, NodeAt, NodeAsks, Started, leafAt, leafLength, signLength, knownStart, rowBytes}
-use Rattle.emitter.proofs.Standing.{stands-head, stands-both, wrote-none, wrote-past, wrote-then}
+use Rattle.translation.specs.Translation.{Translation, mappingOf, mapped}
+use Rattle.translation.specs.Running.{fromOne, substitute, run, runOperand, clausesOf, transform}
+use Rattle.translation.proofs.Fitting.{uses-are}
+use Rattle.translation.proofs.Preserved.{use-kind}
+use Rattle.tables.specs.Inner.Stands.{Stands, Wrote}
+use Rattle.tables.specs.Inner.Table.{indexEntry, clauseEntry, sourceByte, bodyByte, spanEntry, SpansAt, SpansAllAt, Production, Clause, Ready}
+use Rattle.emitter.specs.Inner.Runs.{bytesOf, allBytes, front, Has, Given, Term, Node, Row, Same, FindAsks, LastAsks, treeLevel, usesFor, RowAsks, usedPlace, usedNumber, UseRoom, ArgumentAsks, PlacedAsks, TermAsks, NodeAt, NodeAsks, runsOf, Started, leafAt, leafLength, leafNumber, codeLeafRun, leafRun, LeafLow, signLength, knownStart, rowBytes}
+use Rattle.tables.proofs.Standing.{stands-head, stands-both, wrote-none, wrote-past, wrote-then}
+use Rattle.emitter.proofs.Ends.{nth, nth-kind, nth-levels, nth-stands, kind-byte, same-learnt, node-learnt, same-after, front-next}
+use Rattle.emitter.proofs.Skips.{no-kind}
 
-get-inside : (r : List ℕ) (i k : ℕ) → getElem? r i ≡ some k → i < length r
-get-inside [] i k e = none-some e
-get-inside (x ∷ r) zero k e = omega arith
-get-inside (x ∷ r) (suc i) k e = let h = get-inside r i k e in omega arith
+-- The kind at a place that has one.
+get-at : (ks : List ℕ) (i k : ℕ) → getElem? ks i ≡ some k → (i < length ks) × (getD ks i 0 ≡ k)
+get-at [] i k e = none-some e
+get-at (x ∷ ks) zero k e = (omega arith, some-inj e)
+get-at (x ∷ ks) (suc i) k e = let h = get-at ks i k e in (omega (arith, h .0), h .1)
 
 -- The same, at a position written in another way.
 moved : (b : List ℕ) {at to : ℕ} (v : List ℕ) → at ≡ to → Stands b at v → Stands b to v
 moved b v e h = rw e at h
 
 -- What follows the first code of a row.
-module _ (t : List ℕ) (c stop : ℕ) (l : Language) (r : List ℕ) where
+module _ (t : List ℕ) (c stop : ℕ) (l : Language) (r : Uses) where
   behind : (a : Terms.Code) (ts : Codes) {ks : List ℕ} (n : ℕ) → length (write code a) ≡ n → TypedAll l r ts ks
       → Stands t (17472 + c) (write code a ++ writeAll code ts) → SpansAllAt t (c + length (write code a)) ts
       → stop ≡ c + length (write code a ++ writeAll code ts) → stop ≤ 4096 → ((i : ℕ) → c ≤ i → i < stop → bodyByte t i < 256)
@@ -65,25 +69,31 @@ module _ (t : List ℕ) (c stop : ℕ) (l : Language) (r : List ℕ) where
   row-empty nil w h = refl
   row-empty (cons (node k p ts) us) w h = let e = w .ends in absurd (omega arith)
   row-empty (cons (token v) us) w h = let e = w .ends in absurd (omega arith)
-  row-empty (cons (argument i) us) w h = let e = w .ends in absurd (omega arith)
+  row-empty (cons (argument i zero) us) w h = let e = w .ends in absurd (omega arith)
+  row-empty (cons (argument i (suc j)) us) w h = let e = w .ends in absurd (omega arith)
 
   row-two : (cs : Codes) {js : List ℕ} → Row t c stop l r cs js → c < stop → c + 2 ≤ stop
   unfolding write
   row-two nil w h = let e = w .ends in absurd (omega arith)
   row-two (cons (node k p ts) us) w h = let e = w .ends in omega arith
   row-two (cons (token v) us) w h = let e = w .ends in omega arith
-  row-two (cons (argument i) us) w h = let e = w .ends in omega arith
+  row-two (cons (argument i zero) us) w h = let e = w .ends in omega arith
+  row-two (cons (argument i (suc j)) us) w h = let e = w .ends in omega arith
 
-  -- The next code is an argument, counted from 0.
-  pub record Numbered (cs : Codes) : Type 0 where
-    pub number : ℕ
+  -- The next code is a use of an argument, counted from 0.
+  pub record Used (cs : Codes) : Type 0 where
+    pub place : ℕ
+    pub by : ℕ
+    pub kind : ℕ
     pub rest : Codes
     pub kinds : List ℕ
-    pub is : cs ≡ cons (argument (suc number)) rest
-    pub byte : bodyByte t (c + 1) ≡ suc number
-    pub inside : number < length r
-    pub room : c + 2 ≤ stop
-    pub row : Row t (c + 2) stop l r rest kinds
+    pub is : cs ≡ cons (argument (suc place) by) rest
+    pub byte : bodyByte t (c + 1) ≡ suc place
+    pub number : usedNumber t c ≡ by
+    pub typed : kindAt r (suc place) by ≡ some kind
+    pub room : c + (bodyByte t c - 1) ≤ stop
+    pub more : (bodyByte t c ≡ 3 → ⊥) → c + 2 < stop
+    pub row : Row t (c + (bodyByte t c - 1)) stop l r rest kinds
 
   -- The next code is a production: its inner codes, and what is behind it.
   pub record Named (cs : Codes) : Type 0 where
@@ -112,7 +122,7 @@ module _ (t : List ℕ) (c stop : ℕ) (l : Language) (r : List ℕ) where
     pub row : Row t (c + 3) stop l r rest kinds
 
   abbrev pub Next : Codes → Type 0
-  Next cs = (bodyByte t c ≡ 1 → Named cs) × (bodyByte t c ≡ 3 → Numbered cs) × ((bodyByte t c ≡ 1 → ⊥) → (bodyByte t c ≡ 3 → ⊥) → Valued cs)
+  Next cs = (bodyByte t c ≡ 1 → Named cs) × (2 < bodyByte t c → Used cs) × ((bodyByte t c ≡ 1 → ⊥) → bodyByte t c ≤ 2 → Valued cs)
 
   next-node : (k p : ℕ) (ts us : Codes) (ks js : List ℕ) → TypedAll l r ts ks → Row t c stop l r (cons (node k p ts) us) js → TypedAll l r us (drop 1 js)
       → Next (cons (node k p ts) us)
@@ -163,31 +173,67 @@ module _ (t : List ℕ) (c stop : ℕ) (l : Language) (r : List ℕ) where
         },
       )
 
-  next-argument : (i : ℕ) (us : Codes) (js : List ℕ) → i < length r → Row t c stop l r (cons (argument (suc i)) us) js → TypedAll l r us (drop 1 js) → Next (cons (argument (suc i)) us)
-  unfolding write SpansAt
-  next-argument i us js h w hs =
+  next-plain : (i k : ℕ) (us : Codes) (js : List ℕ) → kindAt r (suc i) 0 ≡ some k → Row t c stop l r (cons (argument (suc i) 0) us) js → TypedAll l r us (drop 1 js)
+      → Next (cons (argument (suc i) 0) us)
+  unfolding write SpansAt usedNumber
+  next-plain i k us js h w hs =
       let s = signs 3 (suc i) (writeAll code us) (w .stands) in
       let z = w .spans in
-      let d = w .ends in (
-        (λ e. absurd (omega (arith, s .0))),
+      let d = w .ends in
+      let y = s .0 in
+      let low : c < 4096 = let m = w .inside in omega arith in (
+        (λ e. absurd (omega arith)),
         (λ e. record {
-          number = i;
+          place = i;
+          by = 0;
+          kind = k;
           rest = us;
           kinds = drop 1 js;
           is = refl;
           byte = s .1;
-          inside = h;
+          number = rw (lt-ltb c 4096 low, eq-eqb (bodyByte t c) 3 y);
+          typed = h;
           room = omega arith;
-          row = behind (argument (suc i)) us 2 refl hs (w .stands) (z .1) d (w .inside) (w .narrow);
+          more = λ n. absurd (n y);
+          row = rw y (behind (argument (suc i) 0) us 2 refl hs (w .stands) (z .1) d (w .inside) (w .narrow));
         }),
-        λ e g. absurd (g (s .0)),
+        λ e g. absurd (omega arith),
+      )
+
+  next-numbered : (i m k : ℕ) (us : Codes) (js : List ℕ) → kindAt r (suc i) (suc m) ≡ some k → Row t c stop l r (cons (argument (suc i) (suc m)) us) js
+      → TypedAll l r us (drop 1 js) → Next (cons (argument (suc i) (suc m)) us)
+  unfolding write SpansAt usedNumber
+  next-numbered i m k us js h w hs =
+      let s = signs 4 (suc i) (suc m ∷ writeAll code us) (w .stands) in
+      let b = stands-head t (17472 + (c + 2)) (suc m) (writeAll code us) (s .2) in
+      let z = w .spans in
+      let d = w .ends in
+      let y = s .0 in
+      let low : c < 4096 = let n = w .inside in omega arith in (
+        (λ e. absurd (omega arith)),
+        (λ e. record {
+          place = i;
+          by = suc m;
+          kind = k;
+          rest = us;
+          kinds = drop 1 js;
+          is = refl;
+          byte = s .1;
+          number = rw (lt-ltb c 4096 low, ne-eqb (bodyByte t c) 3 (λ q. omega arith)) (b .1);
+          typed = h;
+          room = omega arith;
+          more = λ n. omega arith;
+          row = rw y (behind (argument (suc i) (suc m)) us 3 refl hs (w .stands) (z .1) d (w .inside) (w .narrow));
+        }),
+        λ e g. absurd (omega arith),
       )
 
   next-code : {a : Terms.Code} {k : ℕ} {us : Codes} {js : List ℕ} → Typed l r a k → TypedAll l r us js → Row t c stop l r (cons a us) (k ∷ js) → Next (cons a us)
   next-code {us = us} {js = js} (typed-node {k = k} {p = p} {t = ts} {ks = ks} e h) hs w = next-node k p ts us ks (k ∷ js) h w hs
   next-code {us = us} {js = js} (typed-token {v = v} {k = k} e h) hs w = next-token v us (k ∷ js) w hs
   next-code (typed-argument {i = zero} e) hs w = none-some e
-  next-code {us = us} {js = js} (typed-argument {i = suc i} {k = k} e) hs w = next-argument i us (k ∷ js) (get-inside r i k e) w hs
+  next-code {us = us} {js = js} (typed-argument {i = suc i} {j = zero} {k = k} e) hs w = next-plain i k us (k ∷ js) e w hs
+  next-code {us = us} {js = js} (typed-argument {i = suc i} {j = suc m} {k = k} e) hs w = next-numbered i m k us (k ∷ js) e w hs
 
   next-by : {cs : Codes} {js : List ℕ} → TypedAll l r cs js → Row t c stop l r cs js → c < stop → Next cs
   unfolding write
@@ -199,9 +245,9 @@ module _ (t : List ℕ) (c stop : ℕ) (l : Language) (r : List ℕ) where
 
 -- The bytes of a row, from the first code on.
 module _ (x : Syntax) (f : Translation) (ts : Codes) where
-  pub row-argument : (i : ℕ) (us : Codes) → rowBytes x f ts (cons (argument (suc i)) us) ≡ bytesOf x (nth (runAll (clausesOf f) ts) i) ++ rowBytes x f ts us
-  unfolding write substitute operand
-  row-argument i us = refl
+  pub row-use : (i m : ℕ) (us : Codes) → rowBytes x f ts (cons (argument (suc i) m) us) ≡ bytesOf x (runOperand (clausesOf f) ts i m) ++ rowBytes x f ts us
+  unfolding write substitute fromOne
+  row-use i m us = refl
 
   pub row-token : (v high low : ℕ) (us : Codes) → high ≡ v / 256 → low ≡ v % 256
       → rowBytes x f ts (cons (token v) us) ≡ (sign (syntaxOf x) 2 ++ high ∷ low ∷ []) ++ rowBytes x f ts us
@@ -220,63 +266,60 @@ module _ (x : Syntax) (f : Translation) (ts : Codes) where
   unfolding write substitute
   row-nil = refl
 
-  pub row-one : (a : Terms.Code) → rowBytes x f ts (cons a nil) ≡ bytesOf x (substitute (runAll (clausesOf f) ts) a)
+  pub row-one : (a : Terms.Code) → rowBytes x f ts (cons a nil) ≡ bytesOf x (substitute (runsOf f ts) a)
   unfolding write substitute
-  row-one a = append-nil (bytesOf x (substitute (runAll (clausesOf f) ts) a))
+  row-one a = append-nil (bytesOf x (substitute (runsOf f ts) a))
 
 -- A row that is partly put out: what is left of it, and what was put out so far.
-pub record Going (x : Syntax) (t input ends before state : List ℕ) (c stop left : ℕ) (f : Translation) (given : List ℕ) (ts : Codes) (ks r : List ℕ) (cs : Codes) (o mid : List ℕ) (pos p : ℕ) : Type 0 where
+pub record Going (x : Syntax) (t input ends before state : List ℕ) (c stop left : ℕ) (f : Translation) (given : Uses) (ts : Codes) (ks : List ℕ) (cs : Codes) (o mid : List ℕ) (pos p : ℕ) : Type 0 where
   pub rest : Codes
   pub kinds : List ℕ
-  pub asks : RowAsks x t input ends state c stop left f given ts ks r rest kinds
+  pub asks : RowAsks x t input ends state c stop left f given ts ks rest kinds
   pub same : Same before state
   pub goes : (after : List ℕ) (e : ℕ) → Wrote (rowBytes x f ts rest) mid after p e → Wrote (rowBytes x f ts cs) o after pos e
 
 pub same-self : (s : List ℕ) → Same s s
 same-self s = record { from = refl; start = refl }
 
-pub same-then : {a b c : List ℕ} → Same a b → Same b c → Same a c
-same-then h g = record { from = g .from ∙ h .from; start = g .start ∙ h .start }
-
 -- What an argument that was put out gives.
-abbrev pub ArgumentGives : (x : Syntax) (t input ends before after : List ℕ) (left j : ℕ) (o end : List ℕ) (pos e : ℕ) → Type 0
-ArgumentGives x t input ends before after left j o end pos e =
-    (f : Translation) (given : List ℕ) (ts : Codes) (ks : List ℕ) → ArgumentAsks x t input ends before left j f given ts ks
-    → Wrote (bytesOf x (nth (runAll (clausesOf f) ts) j)) o end pos e × Node x t input after (f .source) given ts ks × Same before after
+abbrev pub ArgumentGives : (x : Syntax) (t input ends before after : List ℕ) (c left : ℕ) (o end : List ℕ) (pos e : ℕ) → Type 0
+ArgumentGives x t input ends before after c left o end pos e =
+    (f : Translation) (given : Uses) (ts : Codes) (ks : List ℕ) → ArgumentAsks x t input ends before c left f given ts ks
+    → Wrote (bytesOf x (runOperand (clausesOf f) ts (usedPlace t c) (usedNumber t c))) o end pos e × Node x t input after (f .source) given ts ks × Same before after
 
 -- What a row that was put out gives.
 abbrev pub RowGives : (x : Syntax) (t input ends before after : List ℕ) (at stop left : ℕ) (o end : List ℕ) (pos e : ℕ) → Type 0
 RowGives x t input ends before after at stop left o end pos e =
-    (f : Translation) (given : List ℕ) (ts : Codes) (ks r : List ℕ) (cs : Codes) (js : List ℕ) → RowAsks x t input ends before at stop left f given ts ks r cs js
+    (f : Translation) (given : Uses) (ts : Codes) (ks : List ℕ) (cs : Codes) (js : List ℕ) → RowAsks x t input ends before at stop left f given ts ks cs js
     → Wrote (rowBytes x f ts cs) o end pos e × Node x t input after (f .source) given ts ks × Same before after
 
 -- What is known of a row in the middle, whatever it is a row of.
 abbrev pub RowHeld : (x : Syntax) (t input ends before state : List ℕ) (at stop left c : ℕ) (o mid : List ℕ) (pos p : ℕ) → Type 0
 RowHeld x t input ends before state at stop left c o mid pos p =
-    (f : Translation) (given : List ℕ) (ts : Codes) (ks r : List ℕ) (cs : Codes) (js : List ℕ) → RowAsks x t input ends before at stop left f given ts ks r cs js
-    → Going x t input ends before state c stop left f given ts ks r cs o mid pos p
+    (f : Translation) (given : Uses) (ts : Codes) (ks : List ℕ) (cs : Codes) (js : List ℕ) → RowAsks x t input ends before at stop left f given ts ks cs js
+    → Going x t input ends before state c stop left f given ts ks cs o mid pos p
 
 -- What is asked for a row, of some translation.
 abbrev pub RowAsked : (x : Syntax) (t input ends before : List ℕ) (at stop left : ℕ) → Type 0
 RowAsked x t input ends before at stop left =
-    (f : Translation) × (given : List ℕ) × (ts : Codes) × (ks r : List ℕ) × (cs : Codes) × (js : List ℕ) × RowAsks x t input ends before at stop left f given ts ks r cs js
+    (f : Translation) × (given : Uses) × (ts : Codes) × (ks : List ℕ) × (cs : Codes) × (js : List ℕ) × RowAsks x t input ends before at stop left f given ts ks cs js
 
 pub asked : {x : Syntax} {t input ends before state : List ℕ} {at stop left c : ℕ} {o mid : List ℕ} {pos p : ℕ}
     → RowHeld x t input ends before state at stop left c o mid pos p → (w : RowAsked x t input ends before at stop left)
-    → Going x t input ends before state c stop left (w .0) (w .1) (w .2) (w .3) (w .4) (w .5) o mid pos p
-asked h w = h (w .0) (w .1) (w .2) (w .3) (w .4) (w .5) (w .6) (w .7)
+    → Going x t input ends before state c stop left (w .0) (w .1) (w .2) (w .3) (w .4) o mid pos p
+asked h w = h (w .0) (w .1) (w .2) (w .3) (w .4) (w .5) (w .6)
 
 pub going-start : (x : Syntax) (t input ends state : List ℕ) (at stop left : ℕ) (o : List ℕ) (pos : ℕ)
     → RowHeld x t input ends state state at stop left at o o pos pos
-going-start x t input ends state at stop left o pos f given ts ks r cs js a =
+going-start x t input ends state at stop left o pos f given ts ks cs js a =
     record { rest = cs; kinds = js; asks = a; same = same-self state; goes = λ after e w. w }
 
-module _ {x : Syntax} {t input ends before state : List ℕ} {c stop left : ℕ} {f : Translation} {given : List ℕ} {ts : Codes} {ks r : List ℕ} {cs : Codes} {o mid : List ℕ} {pos p : ℕ}
-    (g : Going x t input ends before state c stop left f given ts ks r cs o mid pos p) where
+module _ {x : Syntax} {t input ends before state : List ℕ} {c stop left : ℕ} {f : Translation} {given : Uses} {ts : Codes} {ks : List ℕ} {cs : Codes} {o mid : List ℕ} {pos p : ℕ}
+    (g : Going x t input ends before state c stop left f given ts ks cs o mid pos p) where
   -- At the end of the row.
   pub going-end : stop ≤ c → Wrote (rowBytes x f ts cs) o mid pos p × Node x t input state (f .source) given ts ks × Same before state
   going-end h =
-      let e = row-empty t c stop (f .target) r (g .rest) (g .asks .row) h in
+      let e = row-empty t c stop (f .target) (usesFor f ks) (g .rest) (g .asks .row) h in
       let w : Wrote (rowBytes x f ts (g .rest)) mid mid p p = rw (e, row-nil x f ts) (wrote-none mid p) in
       (g .goes mid p w, g .asks .node, g .same)
 
@@ -290,28 +333,27 @@ module _ {x : Syntax} {t input ends before state : List ℕ} {c stop left : ℕ}
   goes-on v w is end e h after d k = g .goes after d (rw is (wrote-then v w mid end after p e d h k))
 
   module _ (more : c < stop) where
-    nexts : Next t c stop (f .target) r (g .rest)
-    nexts = next t c stop (f .target) r (g .asks .row) more
+    nexts : Next t c stop (f .target) (usesFor f ks) (g .rest)
+    nexts = next t c stop (f .target) (usesFor f ks) (g .asks .row) more
 
     pub next-two : c + 1 < stop
-    next-two = let j = row-two t c stop (f .target) r (g .rest) (g .asks .row) more in omega arith
+    next-two = let j = row-two t c stop (f .target) (usesFor f ks) (g .rest) (g .asks .row) more in omega arith
 
     pub next-below : c + 1 < 4096
-    next-below = let i = g .asks .row .inside in let j = row-two t c stop (f .target) r (g .rest) (g .asks .row) more in omega arith
+    next-below = let i = g .asks .row .inside in let j = row-two t c stop (f .target) (usesFor f ks) (g .rest) (g .asks .row) more in omega arith
 
     -- Bytes of the body are bytes.
     pub next-narrow : {b i : ℕ} → b ≡ bodyByte t i → c ≤ i → i < stop → b < 256
     next-narrow {b} {i} e h k = let n = g .asks .row .narrow i h k in omega arith
 
     -- The rest of the row, behind its next code.
-    onward : (state′ : List ℕ) (c′ : ℕ) (us : Codes) (js : List ℕ) → Node x t input state′ (f .source) given ts ks → Row t c′ stop (f .target) r us js
-        → treeLevel * levelsAll ts + levelsAll us ≤ left → RowAsks x t input ends state′ c′ stop left f given ts ks r us js
+    onward : (state′ : List ℕ) (c′ : ℕ) (us : Codes) (js : List ℕ) → Node x t input state′ (f .source) given ts ks → Row t c′ stop (f .target) (usesFor f ks) us js
+        → treeLevel * levelsAll ts + levelsAll us ≤ left → RowAsks x t input ends state′ c′ stop left f given ts ks us js
     onward state′ c′ us js n w h = record {
       table = g .asks .table;
       kept = g .asks .kept;
       node = n;
       row = w;
-      numbers = g .asks .numbers;
       most = g .asks .most;
       levels = h;
     }
@@ -323,46 +365,55 @@ module _ {x : Syntax} {t input ends before state : List ℕ} {c stop left : ℕ}
         let h : treeLevel * levelsAll ts + levelsAll (cons a us) ≤ left = rw e at (g .asks .levels) in
         (omega arith, omega arith)
 
-    -- The next code is an argument.
-    module _ {number : ℕ} (en : number ≡ bodyByte t (c + 1)) (is : bodyByte t c ≡ 3) where
-      numbered : Numbered t c stop (f .target) r (g .rest)
-      numbered = nexts .1 is
+    -- The next code is a use of an argument.
+    module _ {sign : ℕ} (es : sign ≡ bodyByte t c) (is : 2 < sign) where
+      used : Used t c stop (f .target) (usesFor f ks) (g .rest)
+      used = nexts .1 (omega arith)
 
-      from-zero : number - 1 ≡ numbered .number
-      from-zero = let b = numbered .byte in omega arith
-
-      pub argument-some : (0 < number) × (treeLevel * levelsAll ts < left)
+      pub argument-some : treeLevel * levelsAll ts < left
       unfolding levels
-      argument-some = let b = numbered .byte in let h = levels-behind _ (numbered .rest) (numbered .is) .0 in (omega arith, omega arith)
+      argument-some = let h = levels-behind _ (used .rest) (used .is) .0 in omega arith
 
-      pub argument-asks : ArgumentAsks x t input ends state (left - 1) (number - 1) f given ts ks
+      place-is : usedPlace t c ≡ used .place
+      place-is = let b = used .byte in omega arith
+
+      used-has : (used .place < length ks) × Has f (getD ks (used .place) 0) (used .by)
+      used-has =
+          let q = use-kind (mappingOf (f .body)) ks (used .place) (used .by) (used .kind) (used .typed) in
+          let h = get-at ks (used .place) (q .0) (q .1) in
+          (h .0, rw (h .1) (is-some _ (q .2)))
+
+      pub argument-asks : ArgumentAsks x t input ends state c (left - 1) f given ts ks
       argument-asks = record {
         table = g .asks .table;
         kept = g .asks .kept;
         node = g .asks .node;
         most = g .asks .most;
-        levels = let h = argument-some .1 in omega arith;
-        number = let i = numbered .inside in let n = g .asks .numbers in let z = from-zero in omega arith;
+        levels = let h = argument-some in omega arith;
+        room = λ z n. let h = used .more n in let i = g .asks .row .inside in omega arith;
+        some = let b = used .byte in omega arith;
+        place = rw place-is (used-has .0);
+        has = rw (place-is, used .number) (used-has .1);
       }
 
-      bytes-number : rowBytes x f ts (g .rest) ≡ bytesOf x (nth (runAll (clausesOf f) ts) (number - 1)) ++ rowBytes x f ts (numbered .rest)
-      bytes-number = ap (rowBytes x f ts) (numbered .is) ∙ rw from-zero (row-argument x f ts (numbered .number) (numbered .rest))
+      bytes-used : rowBytes x f ts (g .rest) ≡ bytesOf x (runOperand (clausesOf f) ts (usedPlace t c) (usedNumber t c)) ++ rowBytes x f ts (used .rest)
+      bytes-used = ap (rowBytes x f ts) (used .is) ∙ rw (place-is, used .number) (row-use x f ts (used .place) (used .by) (used .rest))
 
-      pub argument-turn : {after end : List ℕ} {e : ℕ} → ArgumentGives x t input ends state after (left - 1) (number - 1) mid end p e
-          → Going x t input ends before after (c + 2) stop left f given ts ks r cs o end pos e
+      pub argument-turn : {after end : List ℕ} {e : ℕ} → ArgumentGives x t input ends state after c (left - 1) mid end p e
+          → Going x t input ends before after (c + (sign - 1)) stop left f given ts ks cs o end pos e
       argument-turn {after} {end} {e} gives =
           let w = gives f given ts ks argument-asks in
-          record {
-            rest = numbered .rest;
-            kinds = numbered .kinds;
-            asks = onward after (c + 2) (numbered .rest) (numbered .kinds) (w .1) (numbered .row) (levels-behind _ (numbered .rest) (numbered .is) .1);
-            same = same-then (g .same) (w .2);
-            goes = goes-on _ (rowBytes x f ts (numbered .rest)) bytes-number end e (w .0);
+          rw es record {
+            rest = used .rest;
+            kinds = used .kinds;
+            asks = onward after (c + (bodyByte t c - 1)) (used .rest) (used .kinds) (w .1) (used .row) (levels-behind _ (used .rest) (used .is) .1);
+            same = same-after (g .same) (w .2);
+            goes = goes-on _ (rowBytes x f ts (used .rest)) bytes-used end e (w .0);
           }
 
     -- The next code is a token.
-    module _ (not-name : bodyByte t c ≡ 1 → ⊥) (not-argument : bodyByte t c ≡ 3 → ⊥) where
-      valued : Valued t c stop (f .target) r (g .rest)
+    module _ (not-name : bodyByte t c ≡ 1 → ⊥) (not-argument : bodyByte t c ≤ 2) where
+      valued : Valued t c stop (f .target) (usesFor f ks) (g .rest)
       valued = nexts .2 not-name not-argument
 
       pub token-three : c + 2 < stop
@@ -376,7 +427,7 @@ module _ {x : Syntax} {t input ends before state : List ℕ} {c stop left : ℕ}
         bytes-token = ap (rowBytes x f ts) (valued .is) ∙ row-token x f ts (valued .value) high low (valued .rest) (eh ∙ valued .high) (el ∙ valued .low)
 
         pub token-turn : {end : List ℕ} {e : ℕ} → Wrote (sign (syntaxOf x) 2 ++ high ∷ low ∷ []) mid end p e
-            → Going x t input ends before state (c + 3) stop left f given ts ks r cs o end pos e
+            → Going x t input ends before state (c + 3) stop left f given ts ks cs o end pos e
         token-turn {end} {e} w = record {
           rest = valued .rest;
           kinds = valued .kinds;
@@ -387,7 +438,7 @@ module _ {x : Syntax} {t input ends before state : List ℕ} {c stop left : ℕ}
 
     -- The next code is a production.
     module _ (is : bodyByte t c ≡ 1) where
-      named : Named t c stop (f .target) r (g .rest)
+      named : Named t c stop (f .target) (usesFor f ks) (g .rest)
       named = nexts .0 is
 
       pub named-room : (c + 2 ≤ spanEntry t c) × (spanEntry t c ≤ stop)
@@ -401,7 +452,7 @@ module _ {x : Syntax} {t input ends before state : List ℕ} {c stop left : ℕ}
       named-some = let h = inner-levels in omega arith
 
       pub named-asks : {fin : ℕ} → fin ≡ spanEntry t c
-          → (us : Codes) × (js : List ℕ) × RowAsks x t input ends state (c + 2) fin (left - 1) f given ts ks r us js
+          → (us : Codes) × (js : List ℕ) × RowAsks x t input ends state (c + 2) fin (left - 1) f given ts ks us js
       named-asks q = rw q (
         named .inner,
         named .innerKinds,
@@ -410,7 +461,6 @@ module _ {x : Syntax} {t input ends before state : List ℕ} {c stop left : ℕ}
           kept = g .asks .kept;
           node = g .asks .node;
           row = named .row;
-          numbers = g .asks .numbers;
           most = g .asks .most;
           levels = let h = inner-levels in omega arith;
         },
@@ -422,9 +472,9 @@ module _ {x : Syntax} {t input ends before state : List ℕ} {c stop left : ℕ}
             ap (rowBytes x f ts) (named .is) ∙ rw (en, named .byte) (row-node x f ts (named .kind) (named .name) (named .inner) (named .rest))
 
         -- Nothing is behind it: its inner codes are what is left.
-        pub named-last : spanEntry t c ≡ stop → Going x t input ends before state (c + 2) stop left f given ts ks r cs o end pos e
+        pub named-last : spanEntry t c ≡ stop → Going x t input ends before state (c + 2) stop left f given ts ks cs o end pos e
         named-last q =
-            let z = row-empty t (spanEntry t c) stop (f .target) r (named .rest) (named .behind) (omega arith) in
+            let z = row-empty t (spanEntry t c) stop (f .target) (usesFor f ks) (named .rest) (named .behind) (omega arith) in
             let y : rowBytes x f ts (named .inner) ++ rowBytes x f ts (named .rest) ≡ rowBytes x f ts (named .inner) =
             ap (λ (us : Codes). rowBytes x f ts (named .inner) ++ rowBytes x f ts us) z ∙ rw (row-nil x f ts) (append-nil (rowBytes x f ts (named .inner))) in
             let h = inner-levels in
@@ -438,15 +488,15 @@ module _ {x : Syntax} {t input ends before state : List ℕ} {c stop left : ℕ}
 
         -- Its inner codes were put out.
         pub inner-turn : {fin : ℕ} → fin ≡ spanEntry t c → {after last : List ℕ} {d : ℕ} → RowGives x t input ends state after (c + 2) fin (left - 1) end last e d
-            → Going x t input ends before after fin stop left f given ts ks r cs o last pos d
+            → Going x t input ends before after fin stop left f given ts ks cs o last pos d
         unfolding named-asks
         inner-turn {fin} ef {after} {last} {d} gives =
-            let v = gives f given ts ks r _ _ (named-asks ef .2) in
+            let v = gives f given ts ks _ _ (named-asks ef .2) in
             rw ef record {
               rest = named .rest;
               kinds = named .kinds;
               asks = onward after (spanEntry t c) (named .rest) (named .kinds) (v .1) (named .behind) (levels-behind _ (named .rest) (named .is) .1);
-              same = same-then (g .same) (v .2);
+              same = same-after (g .same) (v .2);
               goes = λ far m k. goes-on _ _ bytes-name end e w far m (wrote-then _ (rowBytes x f ts (named .rest)) end last far e d m (v .0) k);
             }
 
@@ -454,7 +504,7 @@ module _ {x : Syntax} {t input ends before state : List ℕ} {c stop left : ℕ}
 cons-tail : {a b : Terms.Code} {us vs : Codes} → cons a us ≡ cons b vs → us ≡ vs
 cons-tail e = cc
 
-pub root-span : (t : List ℕ) (c stop : ℕ) (l : Language) (r : List ℕ) (a : Terms.Code) (js : List ℕ) → Row t c stop l r (cons a nil) js → c < stop → bodyByte t c ≡ 1
+pub root-span : (t : List ℕ) (c stop : ℕ) (l : Language) (r : Uses) (a : Terms.Code) (js : List ℕ) → Row t c stop l r (cons a nil) js → c < stop → bodyByte t c ≡ 1
     → spanEntry t c ≡ stop
 unfolding write
 root-span t c stop l r a js w more is =
@@ -464,71 +514,25 @@ root-span t c stop l r a js w more is =
     let k : length (writeAll code (n .rest)) ≡ 0 = rw (← z) refl in
     omega arith
 
--- A byte of what stands at a position.
-pub stands-nth : (b : List ℕ) (at : ℕ) (v : List ℕ) (i : ℕ) → Stands b at v → i < length v → getD b (at + i) 0 ≡ getD v i 0
-stands-nth b at [] i h k = absurd (omega arith)
-stands-nth b at (y ∷ v) zero h k = let e : at + 0 ≡ at = omega arith in ap (λ (n : ℕ). getD b n 0) e ∙ stands-head b at y v h .1
-stands-nth b at (y ∷ v) (suc i) h k =
-    let e : at + suc i ≡ at + 1 + i = omega arith in
-    ap (λ (n : ℕ). getD b n 0) e ∙ stands-nth b (at + 1) v i (stands-head b at y v h .2) (omega arith)
-
--- The bytes of a part are what stands there.
-pub stands-slice : (b : List ℕ) (at n : ℕ) (v : List ℕ) → n ≡ length v → Stands b at v → slice at (at + n) b ≡ v
-stands-slice b at n v e h = rw e (drop-take at (length v) b ∙ h .bytes)
-  where
-    drop-take : (i n : ℕ) (b : List ℕ) → drop i (take (i + n) b) ≡ take n (drop i b)
-    drop-take zero n b = let z : 0 + n ≡ n = omega arith in rw z
-    drop-take (suc i) n [] = let z : suc i + n ≡ suc (i + n) = omega arith in rw z (empty n)
-      where
-        empty : (n : ℕ) → _≡_ {A = List ℕ} [] (take n [])
-        empty zero = refl
-        empty (suc n) = refl
-    drop-take (suc i) n (y ∷ b) = let z : suc i + n ≡ suc (i + n) = omega arith in rw z (drop-take i n b)
-
 -- The arguments of a node.
-module _ (x : Syntax) (l : Language) (given : List ℕ) where
-  pub front-next : (j : ℕ) {ts : Codes} {ks : List ℕ} → TypedAll l given ts ks → j < length ks
-      → allBytes x (front (suc j) ts) ≡ allBytes x (front j ts) ++ bytesOf x (nth ts j)
-  unfolding front nth write
-  front-next j typed-nil h = absurd (omega arith)
-  front-next zero (typed-cons {a = a} h hs) k = append-nil (bytesOf x a)
-  front-next (suc j) (typed-cons {a = a} {t = t} h hs) k =
-      ap (λ (v : List ℕ). bytesOf x a ++ v) (front-next j hs (omega arith)) ∙ sym (append-assoc (bytesOf x a) (allBytes x (front j t)) (bytesOf x (nth t j)))
-
-  pub front-all : {ts : Codes} {ks : List ℕ} → TypedAll l given ts ks → front (length ks) ts ≡ ts
+module _ (l : Language) (given : Uses) where
+  front-all : {ts : Codes} {ks : List ℕ} → TypedAll l given ts ks → front (length ks) ts ≡ ts
   unfolding front
   front-all typed-nil = refl
   front-all (typed-cons {a = a} h hs) = ap (cons a) (front-all hs)
 
-  pub one-typed : (j : ℕ) {ts : Codes} {ks : List ℕ} → TypedAll l given ts ks → j < length ks → Typed l given (nth ts j) (getD ks j 0) × (levels (nth ts j) ≤ levelsAll ts)
-  unfolding nth levels
-  one-typed j typed-nil h = absurd (omega arith)
-  one-typed zero (typed-cons h hs) k = (h, omega arith)
-  one-typed (suc j) (typed-cons h hs) k = let w = one-typed j hs (omega arith) in (w .0, omega (arith, w .1))
-
-  pub one-stands : (j : ℕ) (input : List ℕ) (at : ℕ) {ts : Codes} {ks : List ℕ} → TypedAll l given ts ks → j < length ks → Stands input at (allBytes x ts)
-      → Stands input (at + length (allBytes x (front j ts))) (bytesOf x (nth ts j))
-  unfolding nth write front
-  one-stands j input at typed-nil h s = absurd (omega arith)
-  one-stands zero input at (typed-cons {a = a} {t = t} h hs) k s =
-      moved input (bytesOf x a) (omega arith) (stands-both input at (bytesOf x a) (allBytes x t) s .0)
-  one-stands (suc j) input at (typed-cons {a = a} {t = t} h hs) k s =
-      let w = one-stands j input (at + length (bytesOf x a)) hs (omega arith) (stands-both input at (bytesOf x a) (allBytes x t) s .1) in
-      let e = length-append (bytesOf x a) (allBytes x (front j t)) in
-      moved input (bytesOf x (nth t j)) (omega arith) w
-
-  pub nth-run : (f : Translation) (j : ℕ) {ts : Codes} {ks : List ℕ} → TypedAll l given ts ks → j < length ks
-      → nth (runAll (clausesOf f) ts) j ≡ run (clausesOf f) (nth ts j)
+  nth-run : (f : Translation) (j m : ℕ) {ts : Codes} {ks : List ℕ} → TypedAll l given ts ks → j < length ks
+      → runOperand (clausesOf f) ts j m ≡ run (clausesOf f) m (nth ts j)
   unfolding nth run
-  nth-run f j typed-nil h = absurd (omega arith)
-  nth-run f zero (typed-cons h hs) k = refl
-  nth-run f (suc j) (typed-cons h hs) k = nth-run f j hs (omega arith)
+  nth-run f j m typed-nil h = absurd (omega arith)
+  nth-run f zero m (typed-cons h hs) k = refl
+  nth-run f (suc j) m (typed-cons h hs) k = nth-run f j m hs (omega arith)
 
 -- Where argument j of a node starts.
 abbrev pub startOf : Syntax → List ℕ → Codes → ℕ → ℕ
 startOf x state ts j = getD state 0 0 + length (allBytes x (front j ts))
 
-module _ (x : Syntax) (t input state : List ℕ) (l : Language) (given : List ℕ) (ts : Codes) (ks : List ℕ) (h : Node x t input state l given ts ks) where
+module _ (x : Syntax) (t input state : List ℕ) (l : Language) (given : Uses) (ts : Codes) (ks : List ℕ) (h : Node x t input state l given ts ks) where
   pub known-start : (j : ℕ) → j ≤ length ks → (knownStart state j ≡ 0 → ⊥) → knownStart state j ≡ startOf x state ts j
   unfolding front write
   known-start zero i n = omega arith
@@ -538,66 +542,36 @@ module _ (x : Syntax) (t input state : List ℕ) (l : Language) (given : List �
       ⊎-elim (λ z. absurd (n (rw e at z))) (λ z. rw e at z) (h .known j (omega arith))
 
   module _ (j : ℕ) (i : j < length ks) where
-    pub argument-term : Term x input (startOf x state ts j) l given (nth ts j) (getD ks j 0)
+    argument-term : Term x input (startOf x state ts j) l given (nth ts j) (getD ks j 0)
     argument-term = record {
-      typed = one-typed x l given j (h .typed) i .0;
+      typed = nth-kind (h .typed) j i;
       kind = h .kinds .below j i;
-      stands = one-stands x l given j input (getD state 0 0) (h .typed) i (h .stands);
+      stands = nth-stands (syntaxOf x) (h .typed) j i input (getD state 0 0) (h .stands);
     }
 
-    pub argument-levels : levels (nth ts j) ≤ levelsAll ts
-    argument-levels = one-typed x l given j (h .typed) i .1
-
-    pub argument-place : (j < 8) × (getD state 9 0 + j < 1024)
+    argument-place : (j < 8) × (getD state 9 0 + j < 1024)
     argument-place = let f = h .few in let q = h .kinds .inside in (omega arith, omega arith)
 
-    pub argument-kind : sourceByte t (getD state 9 0 + j) ≡ getD ks j 0
-    argument-kind =
-        let e : 16448 + (getD state 9 0 + j) ≡ 16448 + getD state 9 0 + j = omega arith in
-        ap (λ (n : ℕ). getD t n 0) e ∙ stands-nth t (16448 + getD state 9 0) ks j (h .kinds .stands) i
-
     -- Where the argument ends is kept.
-    pub end-kept : (e : ℕ) → e ≡ startOf x state ts j + length (bytesOf x (nth ts j)) → Node x t input (set state (j + 1) e) l given ts ks × Same state (set state (j + 1) e)
+    end-kept : (e : ℕ) → e ≡ startOf x state ts j + length (bytesOf x (nth ts j)) → Node x t input (set state (j + 1) e) l given ts ks × Same state (set state (j + 1) e)
     end-kept e q =
-        let f = h .few in
-        let nine : getD (set state (j + 1) e) 9 0 ≡ getD state 9 0 = getD-set-other state (j + 1) 9 e 0 (λ z. omega arith) in
-        let first : getD (set state (j + 1) e) 0 0 ≡ getD state 0 0 = getD-set-other state (j + 1) 0 e 0 (λ z. omega arith) in (
-          record {
-            long = length-set state (j + 1) e ∙ h .long;
-            kinds = rw nine (h .kinds);
-            few = h .few;
-            typed = h .typed;
-            stands = rw first (h .stands);
-            some = rw first (h .some);
-            known = λ m k. rw first (by m k);
-          },
-          record { from = nine; start = first },
-        )
-      where
-        by : (m : ℕ) → m < 8 → (getD (set state (j + 1) e) (m + 1) 0 ≡ 0) ⊎ (getD (set state (j + 1) e) (m + 1) 0 ≡ startOf x state ts (m + 1))
-        by m k = by-test (eqb m j)
-            (λ z. let d = eqb-true m j z in inr (rw d here))
-            (λ z. let d = getD-set-other state (j + 1) (m + 1) e 0 (λ y. eqb-false m j z (omega arith)) in rw d (h .known m k))
-          where
-            here : getD (set state (j + 1) e) (j + 1) 0 ≡ startOf x state ts (j + 1)
-            here =
-                let f = h .few in
-                let g = h .long in
-                let n : j + 1 ≡ suc j = omega arith in
-                let y = length-append (allBytes x (front j ts)) (bytesOf x (nth ts j)) in
-                let w : length (allBytes x (front (suc j) ts)) ≡ length (allBytes x (front j ts) ++ bytesOf x (nth ts j)) = ap length (front-next x l given j (h .typed) i) in
-                getD-set-same state (j + 1) e 0 (omega arith) ∙ rw n (omega arith)
+        let s = argument-place .0 in
+        let n : j + 1 ≡ suc j = omega arith in
+        let w = front-next (syntaxOf x) (h .typed) j i in
+        (node-learnt h j e s (rw n (omega arith)), same-learnt h j e s)
 
   -- The end of all arguments.
   pub last-end : startOf x state ts (length ks) ≡ getD state 0 0 + length (allBytes x ts)
-  last-end = rw (front-all x l given (h .typed))
+  last-end = rw (front-all l given (h .typed))
 
--- The term at a position is a leaf: so many bytes, and its run is itself.
-abbrev pub IsLeaf : Syntax → Translation → List ℕ → ℕ → Terms.Code → Type 0
-IsLeaf x f input at u = (leafLength x input at ≡ length (bytesOf x u)) × (run (clausesOf f) u ≡ u)
+-- The term at a position is a leaf: so many bytes, and these are its run.
+pub record IsLeaf (x : Syntax) (f : Translation) (input : List ℕ) (at : ℕ) (u : Terms.Code) : Type 0 where
+  pub long : leafLength x input at ≡ length (bytesOf x u)
+  pub runs : (j : ℕ) → leafRun x input at j ≡ bytesOf x (run (clausesOf f) j u)
+  pub low : x ≡ Code → leafNumber input at < 16
 
 -- The term at a position is a production's.
-pub record IsNode (x : Syntax) (f : Translation) (given input : List ℕ) (at : ℕ) (u : Terms.Code) (k : ℕ) : Type 0 where
+pub record IsNode (x : Syntax) (f : Translation) (given : Uses) (input : List ℕ) (at : ℕ) (u : Terms.Code) (k : ℕ) : Type 0 where
   pub name : ℕ
   pub operands : Codes
   pub kinds : List ℕ
@@ -609,21 +583,28 @@ pub record IsNode (x : Syntax) (f : Translation) (given input : List ℕ) (at : 
   pub stands : Stands input (at + nameLength x) (allBytes x operands)
   pub long : length (bytesOf x u) ≡ nameLength x + length (allBytes x operands)
 
-module _ (t : List ℕ) (f : Translation) (given input : List ℕ) (at : ℕ) (ready : Ready t f) where
-  abbrev Tells : Syntax → Terms.Code → ℕ → Type 0
-  Tells x u k =
-      (at < length input) × (leafAt x t k input at ≡ true → IsLeaf x f input at u) × (leafAt x t k input at ≡ false → IsNode x f given input at u k)
+-- What stands at a position where a term of kind k is to be.
+pub record Tells (x : Syntax) (t : List ℕ) (f : Translation) (given : Uses) (input : List ℕ) (at : ℕ) (u : Terms.Code) (k : ℕ) : Type 0 where
+  pub inside : at < length input
+  pub leaf : leafAt x t k input at ≡ true → IsLeaf x f input at u
+  pub inner : leafAt x t k input at ≡ false → IsNode x f given input at u k
 
+-- A tree is no code.
+tree-code : {A : Type 0} → Tree ≡ Code → A
+tree-code e = let z : signLength Tree ≡ signLength Code = ap signLength e in absurd (omega arith)
+
+module _ (t : List ℕ) (f : Translation) (given : Uses) (input : List ℕ) (at : ℕ) (ready : Ready t f) where
   tree-node : (k p : ℕ) (us : Codes) (ks : List ℕ) → argumentsOf (f .source) k p ≡ some ks → TypedAll (f .source) given us ks → k < 32
-      → Stands input at (bytesOf Tree (node k p us)) → Tells Tree (node k p us) k
-  unfolding write leafAt leafLength
+      → Stands input at (bytesOf Tree (node k p us)) → Tells Tree t f given input at (node k p us) k
+  unfolding write leafAt
   tree-node k p us ks e h i s =
       let z : eqb (indexEntry t k) 0 ≡ true = eq-eqb (indexEntry t k) 0 (ready .name k p ks i e) in
       let b = stands-head input at p (allBytes Tree us) s in
-      let n : at + 0 ≡ at = omega arith in (
-        b .0,
-        (λ q. false-true (sym (ap not z) ∙ q)),
-        λ q. record {
+      let n : at + 0 ≡ at = omega arith in
+      record {
+        inside = b .0;
+        leaf = λ q. false-true (sym (ap not z) ∙ q);
+        inner = λ q. record {
           name = p;
           operands = us;
           kinds = ks;
@@ -634,30 +615,33 @@ module _ (t : List ℕ) (f : Translation) (given input : List ℕ) (at : ℕ) (r
           inside = omega (arith, b .0);
           stands = b .2;
           long = omega arith;
-        },
-      )
+        };
+      }
 
-  tree-token : (k v : ℕ) (c : Range) → rangeOf (f .source) k ≡ some c → k < 32 → Stands input at (bytesOf Tree (token v)) → Tells Tree (token v) k
-  unfolding write leafAt leafLength run
+  tree-token : (k v : ℕ) (c : Range) → rangeOf (f .source) k ≡ some c → k < 32 → Stands input at (bytesOf Tree (token v)) → Tells Tree t f given input at (token v) k
+  unfolding write leafAt leafLength leafRun run
   tree-token k v c e i s =
       let l = ready .class k c i e in
       let z : eqb (indexEntry t k) 0 ≡ false = ne-eqb (indexEntry t k) 0 (λ q. omega arith) in
       let b = stands-head input at (v / 256) (v % 256 ∷ []) s in
-      (b .0, (λ q. (refl, refl)), λ q. false-true (sym q ∙ ap not z))
-
-  tree-argument : (k i : ℕ) → given ≡ [] → getElem? given i ≡ some k → Tells Tree (argument (suc i)) k
-  tree-argument k i e h = none-some (sym (ap (λ (g : List ℕ). getElem? g i) e) ∙ h)
+      let d = stands-head input (at + 1) (v % 256) [] (b .2) in
+      record {
+        inside = b .0;
+        leaf = λ q. record { long = refl; runs = λ j. rw (b .1, d .1); low = λ y. tree-code y };
+        inner = λ q. false-true (sym q ∙ ap not z);
+      }
 
   code-node : (k p : ℕ) (us : Codes) (ks : List ℕ) → argumentsOf (f .source) k p ≡ some ks → TypedAll (f .source) given us ks
-      → Stands input at (bytesOf Code (node k p us)) → Tells Code (node k p us) k
-  unfolding write leafAt leafLength
+      → Stands input at (bytesOf Code (node k p us)) → Tells Code t f given input at (node k p us) k
+  unfolding write leafAt
   code-node k p us ks e h s =
       let a = stands-head input at 1 (p ∷ allBytes Code us) s in
       let b = stands-head input (at + 1) p (allBytes Code us) (a .2) in
-      let z : eqb (getD input at 0) 1 ≡ true = eq-eqb (getD input at 0) 1 (a .1) in (
-        a .0,
-        (λ q. false-true (sym (ap not z) ∙ q)),
-        λ q. record {
+      let z : eqb (getD input at 0) 1 ≡ true = eq-eqb (getD input at 0) 1 (a .1) in
+      record {
+        inside = a .0;
+        leaf = λ q. false-true (sym (ap not z) ∙ q);
+        inner = λ q. record {
           name = p;
           operands = us;
           kinds = ks;
@@ -668,37 +652,90 @@ module _ (t : List ℕ) (f : Translation) (given input : List ℕ) (at : ℕ) (r
           inside = b .0;
           stands = moved input (allBytes Code us) (omega arith) (b .2);
           long = omega arith;
-        },
-      )
+        };
+      }
 
-  code-token : (k v : ℕ) → Stands input at (bytesOf Code (token v)) → Tells Code (token v) k
-  unfolding write leafAt leafLength run
+  -- A leaf of a code by its sign.
+  module _ (k sign : ℕ) (u : Terms.Code) (inside : at < length input) (is : getD input at 0 ≡ sign) where
+    sign-is : (n : ℕ) → eqb (getD input at 0) n ≡ eqb sign n
+    sign-is n = ap (λ (m : ℕ). eqb m n) is
+
+    code-leaf : (sign ≡ 1 → ⊥) → IsLeaf Code f input at u → Tells Code t f given input at u k
+    unfolding leafAt
+    code-leaf n h =
+        let z : eqb (getD input at 0) 1 ≡ false = sign-is 1 ∙ ne-eqb sign 1 n in
+        record { inside = inside; leaf = λ q. h; inner = λ q. false-true (sym q ∙ ap not z) }
+
+  code-token : (k v : ℕ) → Stands input at (bytesOf Code (token v)) → Tells Code t f given input at (token v) k
+  unfolding write leafLength leafNumber codeLeafRun leafRun run
   code-token k v s =
       let a = stands-head input at 2 (v / 256 ∷ v % 256 ∷ []) s in
-      let y : eqb (getD input at 0) 2 ≡ true = eq-eqb (getD input at 0) 2 (a .1) in
-      let z : eqb (getD input at 0) 1 ≡ false = ne-eqb (getD input at 0) 1 (λ q. omega (arith, a .1)) in
-      (a .0, (λ q. (rw y, refl)), λ q. false-true (sym q ∙ ap not z))
+      let b = stands-head input (at + 1) (v / 256) (v % 256 ∷ []) (a .2) in
+      let d = stands-head input (at + 2) (v % 256) [] (moved input (v % 256 ∷ []) (omega arith) (b .2)) in
+      code-leaf k 2 (token v) (a .0) (a .1) (λ q. omega arith) record {
+        long = rw (a .1);
+        runs = λ j. rw (a .1, b .1, d .1);
+        low = λ y. rw (a .1) (omega arith);
+      }
 
-  code-argument : (k i : ℕ) → Stands input at (bytesOf Code (argument i)) → Tells Code (argument i) k
-  unfolding write leafAt leafLength run
-  code-argument k i s =
+  code-plain : (k i : ℕ) → Stands input at (bytesOf Code (argument i 0)) → Tells Code t f given input at (argument i 0) k
+  unfolding write leafLength leafNumber codeLeafRun leafRun run
+  code-plain k i s =
       let a = stands-head input at 3 (i ∷ []) s in
-      let y : eqb (getD input at 0) 2 ≡ false = ne-eqb (getD input at 0) 2 (λ q. omega (arith, a .1)) in
-      let z : eqb (getD input at 0) 1 ≡ false = ne-eqb (getD input at 0) 1 (λ q. omega (arith, a .1)) in
-      (a .0, (λ q. (rw y, refl)), λ q. false-true (sym q ∙ ap not z))
+      let b = stands-head input (at + 1) i [] (a .2) in
+      code-leaf k 3 (argument i 0) (a .0) (a .1) (λ q. omega arith) record {
+        long = rw (a .1);
+        runs = λ j. rw (a .1, b .1);
+        low = λ y. rw (a .1) (omega arith);
+      }
 
-  tells-by : (x : Syntax) {u : Terms.Code} {k : ℕ} → (x ≡ Tree → given ≡ []) → Typed (f .source) given u k → k < 32 → Stands input at (bytesOf x u) → Tells x u k
-  tells-by Tree plain (typed-node {k = k} {p = p} {t = us} {ks = ks} e h) i s = tree-node k p us ks e h i s
-  tells-by Tree plain (typed-token {v = v} {k = k} {c = c} e h) i s = tree-token k v c e i s
-  tells-by Tree plain (typed-argument {i = zero} e) i s = none-some e
-  tells-by Tree plain (typed-argument {i = suc j} {k = k} e) i s = tree-argument k j (plain refl) e
-  tells-by Code plain (typed-node {k = k} {p = p} {t = us} {ks = ks} e h) i s = code-node k p us ks e h s
-  tells-by Code plain (typed-token {v = v} {k = k} {c = c} e h) i s = code-token k v s
-  tells-by Code plain (typed-argument {i = j} {k = k} e) i s = code-argument k j s
+  code-numbered : (k i m : ℕ) → suc m < 16 → Stands input at (bytesOf Code (argument i (suc m))) → Tells Code t f given input at (argument i (suc m)) k
+  unfolding write leafLength leafNumber codeLeafRun leafRun run
+  code-numbered k i m h s =
+      let a = stands-head input at 4 (i ∷ suc m ∷ []) s in
+      let b = stands-head input (at + 1) i (suc m ∷ []) (a .2) in
+      let d = stands-head input (at + 2) (suc m) [] (moved input (suc m ∷ []) (omega arith) (b .2)) in
+      code-leaf k 4 (argument i (suc m)) (a .0) (a .1) (λ q. omega arith) record {
+        long = rw (a .1);
+        runs = λ j. rw (a .1, b .1, d .1);
+        low = λ y. rw (a .1, d .1) h;
+      }
 
-pub tells : (x : Syntax) (t : List ℕ) (f : Translation) (given input : List ℕ) (at : ℕ) (u : Terms.Code) (k : ℕ) → Given x t f given → Term x input at (f .source) given u k
-    → (at < length input) × (leafAt x t k input at ≡ true → IsLeaf x f input at u) × (leafAt x t k input at ≡ false → IsNode x f given input at u k)
-tells x t f given input at u k g h = tells-by t f given input at (g .ready) x (g .plain) (h .typed) (h .kind) (h .stands)
+  tells-by : (x : Syntax) {u : Terms.Code} {k : ℕ} → Given x t f given → Typed (f .source) given u k → k < 32 → Stands input at (bytesOf x u)
+      → Tells x t f given input at u k
+  tells-by Tree g (typed-node {k = k} {p = p} {t = us} {ks = ks} e h) i s = tree-node k p us ks e h i s
+  tells-by Tree g (typed-token {v = v} {k = k} {c = c} e h) i s = tree-token k v c e i s
+  tells-by Tree g (typed-argument {i = a} {j = m} e) i s = no-kind a m (ap (λ (l : Uses). kindAt l a m) (sym (g .plain refl)) ∙ e)
+  tells-by Code g (typed-node {k = k} {p = p} {t = us} {ks = ks} e h) i s = code-node k p us ks e h s
+  tells-by Code g (typed-token {v = v} {k = k} {c = c} e h) i s = code-token k v s
+  tells-by Code g (typed-argument {i = a} {j = zero} {k = k} e) i s = code-plain k a s
+  tells-by Code g (typed-argument {i = a} {j = suc m} {k = k} e) i s = code-numbered k a m (g .uses a (suc m) k e) s
+
+pub tells : (x : Syntax) (t : List ℕ) (f : Translation) (given : Uses) (input : List ℕ) (at : ℕ) (u : Terms.Code) (k : ℕ) → Given x t f given → Term x input at (f .source) given u k
+    → Tells x t f given input at u k
+tells x t f given input at u k g h = tells-by t f given input at (g .ready) x g (h .typed) (h .kind) (h .stands)
+
+-- number_at, a return at a time.
+module _ (t : List ℕ) (c : ℕ) where
+  pub used-root : 4096 ≤ c → c - 4096 ≡ usedNumber t c
+  unfolding usedNumber
+  used-root h = rw (le-ltb c 4096 h)
+
+  pub used-zero : {sign : ℕ} → c < 4096 → sign ≡ bodyByte t c → sign ≡ 3 → 0 ≡ usedNumber t c
+  unfolding usedNumber
+  used-zero h e is = rw (lt-ltb c 4096 h, eq-eqb (bodyByte t c) 3 (sym e ∙ is))
+
+  pub used-behind : {sign n : ℕ} → c < 4096 → sign ≡ bodyByte t c → (sign ≡ 3 → ⊥) → n ≡ bodyByte t (c + 2) → n ≡ usedNumber t c
+  unfolding usedNumber
+  used-behind h e is q = rw (lt-ltb c 4096 h, ne-eqb (bodyByte t c) 3 (λ z. is (e ∙ z))) q
+
+-- The number of the root.
+root-number : (t : List ℕ) (n : ℕ) → usedNumber t (4096 + n) ≡ n
+root-number t n = let e : 4096 + n - 4096 ≡ n = omega arith in sym (used-root t (4096 + n) (omega arith)) ∙ e
+
+-- Nothing is asked of where the root is used.
+pub root-use : (t : List ℕ) (n : ℕ) → UseRoom t (4096 + n)
+root-use t n h = absurd (omega arith)
 
 -- A node of which nothing is known but where its argument kinds and its arguments start.
 pub record Fresh (state : List ℕ) (from start : ℕ) : Type 0 where
@@ -717,9 +754,9 @@ fresh from start = record { long = refl; kinds = refl; starts = refl; none = by 
         ∙ (getD-set-other (replicate 10 0) 9 (j + 1) from 0 (λ z. omega arith) ∙ getD-replicate 10 (j + 1) 0 0 (omega arith))
 
 -- start_node: the production whose name stands at a position.
-module _ {x : Syntax} {t input : List ℕ} {at k : ℕ} {f : Translation} {given : List ℕ} {u : Terms.Code} (a : NodeAt x t input at k f given u) where
+module _ {x : Syntax} {t input : List ℕ} {at k number : ℕ} {f : Translation} {given : Uses} {u : Terms.Code} (a : NodeAt x t input at k number f given u) where
   is-node : IsNode x f given input at u k
-  is-node = tells x t f given input at u k (a .table) (a .term) .2 (a .inner)
+  is-node = tells x t f given input at u k (a .table) (a .term) .inner (a .inner)
 
   pub name-inside : at + signLength x < length input
   name-inside = is-node .inside
@@ -738,13 +775,21 @@ module _ {x : Syntax} {t input : List ℕ} {at k : ℕ} {f : Translation} {given
     there : argumentsOf (f .source) k name ≡ some (is-node .kinds)
     there = rw is-name (is-node .there)
 
-    pub started : {place from : ℕ} {before : List ℕ} → place ≡ indexEntry t (32 + (k * 256 + name)) → from ≡ clauseEntry t (32 + (k * 256 + name))
-        → before ≡ replicate 10 0 → Started x t input (set (set before 9 (place + 4)) 0 (at + n + 1)) at from f given u
+    -- The production has a clause of the number.
+    pub numbered-asks : {by : ℕ} → by ≡ number → (by ≡ 0 → ⊥)
+        → (g : Translation) × (ks : List ℕ) × Ready t g × (argumentsOf (g .source) k name ≡ some ks) × Has g k by × (0 < by)
+    numbered-asks {by} e h = (f, is-node .kinds, a .table .ready, there, rw e (a .has), nonzero by h)
+      where
+        nonzero : (m : ℕ) → (m ≡ 0 → ⊥) → 0 < m
+        nonzero zero e = absurd (e refl)
+        nonzero (suc m) e = omega arith
+
+    started : {place c : ℕ} {before : List ℕ} → place ≡ indexEntry t (32 + (k * 256 + name)) → before ≡ replicate 10 0
+        → Clause t c (clausesOf f k name number) → Started x t input (set (set before 9 (place + 4)) 0 (at + n + 1)) at c number f given u
     unfolding levels run
-    started {place} {from} {before} ep ec eb =
+    started {place} {c} {before} ep eb clause =
         let i = is-node in
         let production : Production t place (i .kinds) = rw ep (a .table .ready .production k name (i .kinds) (a .term .kind) small there) in
-        let clause : Clause t from (clausesOf f k name) = rw ec (a .table .ready .clause k name (i .kinds) (a .term .kind) small there) in
         let e : at + n + 1 ≡ at + nameLength x = let l = name-long in omega arith in
         let new : Fresh (set (set before 9 (place + 4)) 0 (at + n + 1)) (place + 4) (at + nameLength x) = rw (eb, ← e) (fresh (place + 4) (at + n + 1)) in
         let count = production .count in
@@ -754,9 +799,8 @@ module _ {x : Syntax} {t input : List ℕ} {at k : ℕ} {f : Translation} {given
         record {
           operands = i .operands;
           kinds = i .kinds;
-          arguments = mappedArguments f k name;
-          body = clausesOf f k name;
-          result = mapped (f .body) k;
+          body = clausesOf f k name number;
+          result = mapped (f .body) k number;
           node = record {
             long = new .long;
             kinds = rw (new .kinds) (production .kinds);
@@ -767,106 +811,98 @@ module _ {x : Syntax} {t input : List ℕ} {at k : ℕ} {f : Translation} {given
             known = λ j h. inl (new .none j h);
           };
           clause = clause;
-          typed = a .table .ready .typed k name (i .kinds) (a .term .kind) small there;
-          numbers = ap length (mapped-arguments f k name (i .kinds) there) ∙ length-map (i .kinds) (mapped (f .body));
-          runs = ap (run (clausesOf f)) (i .is) ∙ ap (λ (n : ℕ). substitute (runAll (clausesOf f) (i .operands)) (clausesOf f k n)) (sym is-name);
+          typed = rw (← uses-are f k name (i .kinds) there) (a .table .ready .typed k name number (i .kinds) (a .term .kind) small there (a .has));
+          runs = ap (run (clausesOf f) number) (i .is) ∙ ap (λ (m : ℕ). substitute (runsOf f (i .operands)) (clausesOf f k m number)) (sym is-name);
           deep = ap levels (i .is);
           ends = omega arith;
           from = rw (new .kinds) (omega arith);
           count = rw (new .kinds, back) count;
         }
 
--- clause_end: a clause's code lies in the body, and ends with its production.
-pub clause-room : {t : List ℕ} {place : ℕ} (a : Terms.Code) → Clause t place a → place + 4 < 4096
-unfolding write
-clause-room (node k p ts) h = let i = h .inside in omega arith
-clause-room (token v) h = let i = h .inside in omega arith
-clause-room (argument i) h = let j = h .inside in omega arith
+    pub started-zero : {place c by : ℕ} {before : List ℕ} → place ≡ indexEntry t (32 + (k * 256 + name)) → before ≡ replicate 10 0 → by ≡ number → by ≡ 0
+        → c ≡ clauseEntry t (32 + (k * 256 + name)) → Started x t input (set (set before 9 (place + 4)) 0 (at + n + 1)) at (c + 4) number f given u
+    started-zero ep eb e z ec =
+        started ep eb (rw (sym e ∙ z, ec) (a .table .ready .clause k name (is-node .kinds) (a .term .kind) small there))
 
-pub clause-span : {t : List ℕ} {place : ℕ} (a : Terms.Code) → Clause t place a → bodyByte t (place + 4) ≡ 1 → spanEntry t (place + 4) ≡ clauseEnd t place
-unfolding write SpansAt
-clause-span (node k p ts) h is = let e = h .spans .0 in let z = h .size in omega arith
-clause-span {t} {place} (token v) h is = let e = stands-head t (17472 + (place + 4)) 2 (v / 256 ∷ v % 256 ∷ []) (h .stands) in absurd (omega (arith, e .1))
-clause-span {t} {place} (argument i) h is = let e = stands-head t (17472 + (place + 4)) 3 (i ∷ []) (h .stands) in absurd (omega (arith, e .1))
+    pub started-other : {place c by : ℕ} {before : List ℕ} → place ≡ indexEntry t (32 + (k * 256 + name)) → before ≡ replicate 10 0 → by ≡ number
+        → ((g : Translation) (ks : List ℕ) → Ready t g → argumentsOf (g .source) k name ≡ some ks → Has g k by
+        → Clause t c (clausesOf g k name by)) → Started x t input (set (set before 9 (place + 4)) 0 (at + n + 1)) at c number f given u
+    started-other ep eb e gives = started ep eb (rw (← e) (gives f (is-node .kinds) (a .table .ready) there (rw e (a .has))))
 
 -- run_node: the code of a clause.
-module _ {x : Syntax} {t input ends state : List ℕ} {at k left place stop : ℕ} {f : Translation} {given : List ℕ} {u : Terms.Code}
-    (a : NodeAsks x t input ends at k left f given u) (s : Started x t input state at place f given u) (es : stop ≡ clauseEnd t place) where
+module _ {x : Syntax} {t input ends state : List ℕ} {at k number left c stop : ℕ} {f : Translation} {given : Uses} {u : Terms.Code}
+    (a : NodeAsks x t input ends at k number left f given u) (s : Started x t input state at c number f given u) (es : stop ≡ c + length (write code (s .body))) where
   pub node-some : 0 < left
   node-some = let l = a .levels in let d = s .deep in omega arith
-
-  clause-size : stop ≡ place + 4 + length (write code (s .body))
-  clause-size = let z = s .clause .size in omega arith
 
   code-some : (c : Terms.Code) → 0 < length (write code c)
   unfolding write
   code-some (node k p ts) = omega arith
   code-some (token v) = omega arith
-  code-some (argument i) = omega arith
+  code-some (argument i zero) = omega arith
+  code-some (argument i (suc j)) = omega arith
 
-  pub clause-more : place + 4 < stop
-  clause-more = let z = clause-size in let y = code-some (s .body) in omega arith
+  clause-more : c < stop
+  clause-more = let y = code-some (s .body) in omega arith
 
-  clause-row : Row t (place + 4) stop (f .target) (s .arguments) (cons (s .body) nil) (s .result ∷ [])
+  clause-row : Row t c stop (f .target) (usesFor f (s .kinds)) (cons (s .body) nil) (s .result ∷ [])
   unfolding write SpansAt
   clause-row =
       let z = append-nil (write code (s .body)) in
-      let e = clause-size in
       let i = s .clause .inside in
       record {
         typed = typed-cons (s .typed) typed-nil;
         stands = rw z (s .clause .stands);
         spans = (s .clause .spans, tt);
-        ends = rw z e;
+        ends = rw z es;
         inside = omega arith;
         narrow = λ m h y. s .clause .narrow m h (omega arith);
       }
 
-  clause-asks : RowAsks x t input ends state (place + 4) stop (left - 1) f given (s .operands) (s .kinds) (s .arguments) (cons (s .body) nil) (s .result ∷ [])
+  clause-asks : RowAsks x t input ends state c stop (left - 1) f given (s .operands) (s .kinds) (cons (s .body) nil) (s .result ∷ [])
   unfolding levels
   clause-asks = record {
     table = a .there .table;
     kept = a .kept;
     node = s .node;
     row = clause-row;
-    numbers = s .numbers;
     most = let m = a .most in let d = s .deep in omega arith;
     levels = let l = a .levels in let d = s .deep in let w = s .clause .within in omega arith;
   }
 
   -- The clause's code, of which so much is put out.
   abbrev pub NodeGoing : ℕ → List ℕ → List ℕ → ℕ → ℕ → Type 0
-  NodeGoing c o mid pos p =
-      Going x t input ends state state c stop (left - 1) f given (s .operands) (s .kinds) (s .arguments) (cons (s .body) nil) o mid pos p
+  NodeGoing to o mid pos p =
+      Going x t input ends state state to stop (left - 1) f given (s .operands) (s .kinds) (cons (s .body) nil) o mid pos p
 
-  pub node-going : (o : List ℕ) (pos : ℕ) → NodeGoing (place + 4) o o pos pos
-  node-going o pos = going-start x t input ends state (place + 4) stop (left - 1) o pos f given _ _ _ _ _ clause-asks
+  pub node-going : (o : List ℕ) (pos : ℕ) → NodeGoing c o o pos pos
+  node-going o pos = going-start x t input ends state c stop (left - 1) o pos f given _ _ _ _ clause-asks
 
-  pub root-narrow : {b : ℕ} → b ≡ bodyByte t (place + 4 + 1) → b < 256
+  pub root-narrow : {b : ℕ} → b ≡ bodyByte t (c + 1) → b < 256
   root-narrow e = let g = node-going [] 0 in next-narrow g clause-more e (omega arith) (next-two g clause-more)
 
-  pub root-room : place + 4 + 1 < 4096
+  pub root-room : c + 1 < 4096
   root-room = next-below (node-going [] 0) clause-more
 
-  pub root-going : {o mid : List ℕ} {pos p name : ℕ} → bodyByte t (place + 4) ≡ 1 → name ≡ bodyByte t (place + 4 + 1) → Wrote (sign (syntaxOf x) 1 ++ name ∷ []) o mid pos p
-      → NodeGoing (place + 4 + 2) o mid pos p
+  pub root-going : {o mid : List ℕ} {pos p name : ℕ} → bodyByte t c ≡ 1 → name ≡ bodyByte t (c + 1) → Wrote (sign (syntaxOf x) 1 ++ name ∷ []) o mid pos p
+      → NodeGoing (c + 2) o mid pos p
   root-going {o} {pos = pos} is en w =
       named-last (node-going o pos) clause-more is en w
-      (root-span t (place + 4) stop (f .target) (s .arguments) (s .body) (s .result ∷ []) clause-row clause-more is)
+      (root-span t c stop (f .target) (usesFor f (s .kinds)) (s .body) (s .result ∷ []) clause-row clause-more is)
 
   -- The same, written in another way.
-  pub going-as : {c c′ : ℕ} {o mid mid′ : List ℕ} {pos p p′ : ℕ} → mid ≡ mid′ → c ≡ c′ → p ≡ p′ → NodeGoing c′ o mid′ pos p′ → NodeGoing c o mid pos p
+  pub going-as : {to to′ : ℕ} {o mid mid′ : List ℕ} {pos p p′ : ℕ} → mid ≡ mid′ → to ≡ to′ → p ≡ p′ → NodeGoing to′ o mid′ pos p′ → NodeGoing to o mid pos p
   going-as em ec ep g = rw (em, ec, ep) g
 
-  run-is : rowBytes x f (s .operands) (cons (s .body) nil) ≡ bytesOf x (run (clausesOf f) u)
+  run-is : rowBytes x f (s .operands) (cons (s .body) nil) ≡ bytesOf x (run (clausesOf f) number u)
   run-is = row-one x f (s .operands) (s .body) ∙ ap (bytesOf x) (sym (s .runs))
 
   -- Its codes were put out.
-  module _ {c : ℕ} {o mid : List ℕ} {pos p : ℕ} (g : NodeGoing c o mid pos p) {after end : List ℕ} {e : ℕ} (gives : RowGives x t input ends state after c stop (left - 1) mid end p e) where
+  module _ {to : ℕ} {o mid : List ℕ} {pos p : ℕ} (g : NodeGoing to o mid pos p) {after end : List ℕ} {e : ℕ} (gives : RowGives x t input ends state after to stop (left - 1) mid end p e) where
     given-codes : Wrote (rowBytes x f (s .operands) (g .rest)) mid end p e × Node x t input after (f .source) given (s .operands) (s .kinds) × Same state after
-    given-codes = gives f given _ _ _ _ _ (g .asks)
+    given-codes = gives f given _ _ _ _ (g .asks)
 
-    pub node-wrote : Wrote (bytesOf x (run (clausesOf f) u)) o end pos e
+    pub node-wrote : Wrote (bytesOf x (run (clausesOf f) number u)) o end pos e
     node-wrote = rw (← run-is) (g .goes end e (given-codes .0))
 
     pub last-asks : LastAsks x t input ends after f given (s .operands) (s .kinds)
@@ -886,17 +922,17 @@ module _ {x : Syntax} {t input ends state : List ℕ} {at k left place stop : �
 -- What finding the start of an argument gives.
 abbrev pub FindGives : (x : Syntax) (t input ends before after : List ℕ) (j e : ℕ) → Type 0
 FindGives x t input ends before after j e =
-    (f : Translation) (given : List ℕ) (ts : Codes) (ks : List ℕ) → FindAsks x t input ends before j f given ts ks
+    (f : Translation) (given : Uses) (ts : Codes) (ks : List ℕ) → FindAsks x t input ends before j f given ts ks
     → (e ≡ getD before 0 0 + length (allBytes x (front j ts))) × Node x t input after (f .source) given ts ks × Same before after
 
 -- start_of: what is known of the start of an argument is right.
-pub start-known : {x : Syntax} {t input ends state : List ℕ} {j at : ℕ} {f : Translation} {given : List ℕ} {ts : Codes} {ks : List ℕ} → FindAsks x t input ends state j f given ts ks
+pub start-known : {x : Syntax} {t input ends state : List ℕ} {j at : ℕ} {f : Translation} {given : Uses} {ts : Codes} {ks : List ℕ} → FindAsks x t input ends state j f given ts ks
     → at ≡ knownStart state j → (at ≡ 0 → ⊥) → (at ≡ getD state 0 0 + length (allBytes x (front j ts))) × Node x t input state (f .source) given ts ks × Same state state
 start-known {x} {t} {input} {state = state} {j} {f = f} {given} {ts} {ks} a e h =
     (e ∙ known-start x t input state (f .source) given ts ks (a .node) j (a .number) (λ z. h (e ∙ z)), a .node, same-self state)
 
 -- last_end
-module _ {x : Syntax} {t input ends state : List ℕ} {f : Translation} {given : List ℕ} {ts : Codes} {ks : List ℕ} (a : LastAsks x t input ends state f given ts ks) where
+module _ {x : Syntax} {t input ends state : List ℕ} {f : Translation} {given : Uses} {ts : Codes} {ks : List ℕ} (a : LastAsks x t input ends state f given ts ks) where
   module _ {n : ℕ} (en : n ≡ sourceByte t (getD state 9 0 - 3)) where
     last-number : n - 2 ≡ length ks
     last-number = let c = a .count in omega arith
@@ -914,159 +950,181 @@ module _ {x : Syntax} {t input ends state : List ℕ} {f : Translation} {given :
     last-found gives =
         gives f given ts ks last-find .0 ∙ (ap (startOf x state ts) last-number ∙ last-end x t input state (f .source) given ts ks (a .asks .node))
 
--- The start of argument j is found.
-pub record Found (x : Syntax) (t input before state : List ℕ) (j at : ℕ) (f : Translation) (given : List ℕ) (ts : Codes) (ks : List ℕ) : Type 0 where
-  pub node : Node x t input state (f .source) given ts ks
-  pub same : Same before state
-  pub start : at ≡ startOf x state ts j
+-- What the run of a production's term by a number gives.
+abbrev pub NodeGives : (x : Syntax) (t input ends before after : List ℕ) (at k number left j : ℕ) (o end : List ℕ) (pos e : ℕ) → Type 0
+NodeGives x t input ends before after at k number left j o end pos e =
+    (f : Translation) (given : Uses) (u : Terms.Code) → NodeAsks x t input ends at k number left f given u
+    → Wrote (bytesOf x (run (clausesOf f) number u)) o end pos e × (after ≡ set before (j + 1) (at + length (bytesOf x u)))
 
--- What the run of a production's term gives.
-abbrev pub NodeGives : (x : Syntax) (t input ends before after : List ℕ) (at k left j : ℕ) (o end : List ℕ) (pos e : ℕ) → Type 0
-NodeGives x t input ends before after at k left j o end pos e =
-    (f : Translation) (given : List ℕ) (u : Terms.Code) → NodeAsks x t input ends at k left f given u
-    → Wrote (bytesOf x (run (clausesOf f) u)) o end pos e × (after ≡ set before (j + 1) (at + length (bytesOf x u)))
+-- What an argument that starts at a position and was put out gives.
+abbrev pub PlacedGives : (x : Syntax) (t input ends before after : List ℕ) (left j at c : ℕ) (o end : List ℕ) (pos e : ℕ) → Type 0
+PlacedGives x t input ends before after left j at c o end pos e =
+    (f : Translation) (given : Uses) (ts : Codes) (ks : List ℕ) → PlacedAsks x t input ends before left j at c f given ts ks
+    → Wrote (bytesOf x (runOperand (clausesOf f) ts (usedPlace t c) (usedNumber t c))) o end pos e × Node x t input after (f .source) given ts ks × Same before after
 
-module _ {x : Syntax} {t input ends before : List ℕ} {left j : ℕ} {f : Translation} {given : List ℕ} {ts : Codes} {ks : List ℕ} (a : ArgumentAsks x t input ends before left j f given ts ks) where
-  pub find-asks : FindAsks x t input ends before j f given ts ks
-  find-asks =
-      let n = a .number in
+-- The start of the argument that is used at c was found, and its run is asked for and put out.
+module _ {x : Syntax} {t input ends before : List ℕ} {c left b : ℕ} (eb : b ≡ bodyByte t (c + 1)) where
+  pub find-asks : {f : Translation} {given : Uses} {ts : Codes} {ks : List ℕ} → ArgumentAsks x t input ends before c left f given ts ks
+      → FindAsks x t input ends before (b - 1) f given ts ks
+  find-asks a =
+      let n = a .place in
       record { table = a .table; kept = a .kept; node = a .node; levels = a .most; number = omega arith }
 
-  pub found : {state : List ℕ} {at : ℕ} → FindGives x t input ends before state j at → Found x t input before state j at f given ts ks
-  found gives =
-      let w = gives f given ts ks find-asks in
-      record { node = w .1; same = w .2; start = w .0 ∙ ap (λ (n : ℕ). n + length (allBytes x (front j ts))) (sym (w .2 .start)) }
+  pub placed : {f : Translation} {given : Uses} {ts : Codes} {ks : List ℕ} {state : List ℕ} {at : ℕ} → ArgumentAsks x t input ends before c left f given ts ks
+      → FindGives x t input ends before state (b - 1) at → PlacedAsks x t input ends state left (b - 1) at c f given ts ks
+  placed {f} {given} {ts} {ks} a gives =
+      let w = gives f given ts ks (find-asks a) in
+      record {
+        asks = record {
+          table = a .table;
+          kept = a .kept;
+          node = w .1;
+          most = a .most;
+          levels = a .levels;
+          room = a .room;
+          some = a .some;
+          place = a .place;
+          has = a .has;
+        };
+        used = ap (λ (n : ℕ). n - 1) eb;
+        start = w .0 ∙ ap (λ (n : ℕ). n + length (allBytes x (front (b - 1) ts))) (sym (w .2 .start));
+      }
 
-  -- The term that starts there.
-  module _ {state : List ℕ} {at : ℕ} (d : Found x t input before state j at f given ts ks) {kind : ℕ} (ek : kind ≡ sourceByte t (getD state 9 0 + j)) where
+  pub placed-gives : {state after : List ℕ} {at : ℕ} {o end : List ℕ} {pos e : ℕ} → FindGives x t input ends before state (b - 1) at
+      → PlacedGives x t input ends state after left (b - 1) at c o end pos e → ArgumentGives x t input ends before after c left o end pos e
+  placed-gives finds gives f given ts ks a =
+      let w = gives f given ts ks (placed a finds) in
+      (w .0, w .1, same-after (finds f given ts ks (find-asks a) .2) (w .2))
+
+-- run_argument: the term that starts there.
+module _ {x : Syntax} {t input ends state : List ℕ} {left j at c : ℕ} {f : Translation} {given : Uses} {ts : Codes} {ks : List ℕ}
+    (a : PlacedAsks x t input ends state left j at c f given ts ks) where
+  j-inside : j < length ks
+  j-inside = rw (a .used) (a .asks .place)
+
+  pub found-place : (j < 8) × (getD state 9 0 + j < 1024)
+  found-place = argument-place x t input state (f .source) given ts ks (a .asks .node) j j-inside
+
+  module _ {kind : ℕ} (ek : kind ≡ sourceByte t (getD state 9 0 + j)) where
+    kind-is : kind ≡ getD ks j 0
+    kind-is = ek ∙ kind-byte (a .asks .node .kinds) j j-inside
+
     found-term : Term x input at (f .source) given (nth ts j) kind
-    found-term =
-        let q : kind ≡ getD ks j 0 = ek ∙ argument-kind x t input state (f .source) given ts ks (d .node) j (a .number) in
-        rw (q, d .start) (argument-term x t input state (f .source) given ts ks (d .node) j (a .number))
+    found-term = rw (kind-is, a .start) (argument-term x t input state (f .source) given ts ks (a .asks .node) j j-inside)
 
-    found-tells : (at < length input) × (leafAt x t kind input at ≡ true → IsLeaf x f input at (nth ts j)) × (leafAt x t kind input at ≡ false → IsNode x f given input at (nth ts j) kind)
-    found-tells = tells x t f given input at (nth ts j) kind (a .table) found-term
+    found-tells : Tells x t f given input at (nth ts j) kind
+    found-tells = tells x t f given input at (nth ts j) kind (a .asks .table) found-term
 
     pub found-below : (kind < 32) × (at < length input)
-    found-below = (found-term .kind, found-tells .0)
+    found-below = (found-term .kind, found-tells .inside)
+
+    found-has : Has f kind (usedNumber t c)
+    found-has = rw (kind-is, a .used) (a .asks .has)
 
     found-levels : levels (nth ts j) ≤ levelsAll ts
-    found-levels = argument-levels x t input state (f .source) given ts ks (d .node) j (a .number)
+    found-levels = nth-levels (a .asks .node .typed) j j-inside
 
-    found-run : bytesOf x (nth (runAll (clausesOf f) ts) j) ≡ bytesOf x (run (clausesOf f) (nth ts j))
-    found-run = ap (bytesOf x) (nth-run x (f .source) given f j (d .node .typed) (a .number))
+    found-run : bytesOf x (runOperand (clausesOf f) ts (usedPlace t c) (usedNumber t c)) ≡ bytesOf x (run (clausesOf f) (usedNumber t c) (nth ts j))
+    found-run = rw (← a .used) (ap (bytesOf x) (nth-run (f .source) given f j (usedNumber t c) (a .asks .node .typed) j-inside))
 
-    found-kept : (e : ℕ) → e ≡ at + length (bytesOf x (nth ts j)) → Node x t input (set state (j + 1) e) (f .source) given ts ks × Same before (set state (j + 1) e)
+    found-kept : (e : ℕ) → e ≡ at + length (bytesOf x (nth ts j)) → Node x t input (set state (j + 1) e) (f .source) given ts ks × Same state (set state (j + 1) e)
     found-kept e q =
-        let w = end-kept x t input state (f .source) given ts ks (d .node) j (a .number) e (q ∙ ap (λ (n : ℕ). n + length (bytesOf x (nth ts j))) (d .start)) in
-        (w .0, same-then (d .same) (w .1))
+        end-kept x t input state (f .source) given ts ks (a .asks .node) j j-inside e (q ∙ ap (λ (n : ℕ). n + length (bytesOf x (nth ts j))) (a .start))
 
     -- A leaf.
     module _ (is : leafAt x t kind input at ≡ true) where
-      abbrev n : ℕ
-      n = leafLength x input at
+      leaf : IsLeaf x f input at (nth ts j)
+      leaf = found-tells .leaf is
 
-      leaf-long : n ≡ length (bytesOf x (nth ts j))
-      leaf-long = found-tells .1 is .0
+      pub leaf-room : at + leafLength x input at ≤ length input
+      leaf-room = let i = found-term .stands .inside in let l = leaf .long in omega arith
 
-      pub leaf-room : at + n ≤ length input
-      leaf-room = let i = found-term .stands .inside in let l = leaf-long in omega arith
+      pub leaf-low : x ≡ Code → LeafLow input at (usedNumber t c)
+      leaf-low e = record { number = a .asks .table .numbers e kind (usedNumber t c) found-has; used = leaf .low e }
 
-      pub leaf-gives : {after o end : List ℕ} {pos e : ℕ} → Wrote (slice at (at + n) input) o end pos e → after ≡ set state (j + 1) (at + n)
-          → Wrote (bytesOf x (nth (runAll (clausesOf f) ts) j)) o end pos e × Node x t input after (f .source) given ts ks × Same before after
+      pub leaf-gives : {after o end : List ℕ} {pos e : ℕ} → Wrote (leafRun x input at (usedNumber t c)) o end pos e → after ≡ set state (j + 1) (at + leafLength x input at)
+          → Wrote (bytesOf x (runOperand (clausesOf f) ts (usedPlace t c) (usedNumber t c))) o end pos e × Node x t input after (f .source) given ts ks × Same state after
       leaf-gives w ea =
-          let l = found-kept (at + n) (ap (λ (m : ℕ). at + m) leaf-long) in
-          let b : bytesOf x (nth (runAll (clausesOf f) ts) j) ≡ slice at (at + n) input =
-          found-run ∙ (ap (bytesOf x) (found-tells .1 is .1) ∙ sym (stands-slice input at n (bytesOf x (nth ts j)) leaf-long (found-term .stands))) in
-          (rw b w, rw ea (l .0), rw ea (l .1))
+          let l = found-kept (at + leafLength x input at) (ap (λ (m : ℕ). at + m) (leaf .long)) in
+          (rw (found-run ∙ sym (leaf .runs (usedNumber t c))) w, rw ea (l .0), rw ea (l .1))
 
     -- A production.
     module _ (is : leafAt x t kind input at ≡ false) where
       some-levels : 0 < levels (nth ts j)
       unfolding levels
-      some-levels = let n = found-tells .2 is .is in let z : levels (nth ts j) ≡ suc (levelsAll (found-tells .2 is .operands)) = rw n refl in omega arith
+      some-levels = let n = found-tells .inner is .is in let z : levels (nth ts j) ≡ suc (levelsAll (found-tells .inner is .operands)) = rw n refl in omega arith
 
       pub found-some : 0 < left
-      found-some = let l = a .levels in let m = found-levels in let z = some-levels in omega arith
+      found-some = let l = a .asks .levels in let m = found-levels in let z = some-levels in omega arith
 
-      pub found-asks : NodeAsks x t input ends at kind (left - 1) f given (nth ts j)
+      pub found-asks : NodeAsks x t input ends at kind (usedNumber t c) (left - 1) f given (nth ts j)
       found-asks =
-          let l = a .levels in
+          let l = a .asks .levels in
           let m = found-levels in
-          let h = a .most in
+          let h = a .asks .most in
           let z = found-some in
-          record { there = record { table = a .table; term = found-term; inner = is }; kept = a .kept; most = omega arith; levels = omega arith }
+          record { there = record { table = a .asks .table; term = found-term; inner = is; has = found-has }; kept = a .asks .kept; most = omega arith; levels = omega arith }
 
-      pub found-gives : {after o end : List ℕ} {pos e : ℕ} → NodeGives x t input ends state after at kind (left - 1) j o end pos e
-          → Wrote (bytesOf x (nth (runAll (clausesOf f) ts) j)) o end pos e × Node x t input after (f .source) given ts ks × Same before after
+      pub found-gives : {after o end : List ℕ} {pos e : ℕ} → NodeGives x t input ends state after at kind (usedNumber t c) (left - 1) j o end pos e
+          → Wrote (bytesOf x (runOperand (clausesOf f) ts (usedPlace t c) (usedNumber t c))) o end pos e × Node x t input after (f .source) given ts ks × Same state after
       found-gives gives =
           let w = gives f given (nth ts j) found-asks in
           let l = found-kept (at + length (bytesOf x (nth ts j))) refl in
           (rw found-run (w .0), rw (w .1) (l .0), rw (w .1) (l .1))
 
--- What an argument that starts at a position and was put out gives.
-abbrev pub PlacedGives : (x : Syntax) (t input ends before after : List ℕ) (left j at : ℕ) (o end : List ℕ) (pos e : ℕ) → Type 0
-PlacedGives x t input ends before after left j at o end pos e =
-    (f : Translation) (given : List ℕ) (ts : Codes) (ks : List ℕ) → PlacedAsks x t input ends before left j at f given ts ks
-    → Wrote (bytesOf x (nth (runAll (clausesOf f) ts) j)) o end pos e × Node x t input after (f .source) given ts ks × Same before after
+-- put_argument: a leaf of a tree and of a code.
+module _ {x : Syntax} (input : List ℕ) (at : ℕ) where
+  pub leaf-tree-room : x ≡ Tree → at + leafLength x input at ≤ length input → at + 2 ≤ length input
+  unfolding leafLength
+  leaf-tree-room e h = rw e at h
 
--- The start of an argument was found, and its run is asked for and put out.
-pub placed : {x : Syntax} {t input ends before state : List ℕ} {left j at : ℕ} {f : Translation} {given : List ℕ} {ts : Codes} {ks : List ℕ} → ArgumentAsks x t input ends before left j f given ts ks
-    → FindGives x t input ends before state j at → PlacedAsks x t input ends state left j at f given ts ks
-placed a gives =
-    let d = found a gives in
-    record {
-      asks = record { table = a .table; kept = a .kept; node = d .node; most = a .most; levels = a .levels; number = a .number };
-      start = d .start;
-    }
+  pub leaf-tree-put : (state : List ℕ) (j number : ℕ) {o end : List ℕ} {pos e : ℕ} → x ≡ Tree
+      → Wrote (sign (syntaxOf x) 2 ++ getD input at 0 ∷ getD input (at + 1) 0 ∷ []) o end pos e
+      → Wrote (leafRun x input at number) o end pos e × (set state (j + 1) (at + 2) ≡ set state (j + 1) (at + leafLength x input at))
+  unfolding leafRun leafLength
+  leaf-tree-put state j number q w = rw q (rw q at w, refl)
 
-pub placed-gives : {x : Syntax} {t input ends before state after : List ℕ} {left j at : ℕ} {o end : List ℕ} {pos e : ℕ} → FindGives x t input ends before state j at
-    → PlacedGives x t input ends state after left j at o end pos e → ArgumentGives x t input ends before after left j o end pos e
-placed-gives finds gives f given ts ks a =
-    let w = gives f given ts ks (placed a finds) in
-    (w .0, w .1, same-then (found a finds .same) (w .2))
+  pub leaf-code-room : x ≡ Code → at + leafLength x input at ≤ length input → at + leafLength Code input at ≤ length input
+  leaf-code-room e h = rw e at h
 
--- run_argument: the start is as it is said.
-pub said : {x : Syntax} {t input ends state : List ℕ} {left j at : ℕ} {f : Translation} {given : List ℕ} {ts : Codes} {ks : List ℕ} → PlacedAsks x t input ends state left j at f given ts ks
-    → Found x t input state state j at f given ts ks
-said {state = state} a = record { node = a .asks .node; same = same-self state; start = a .start }
+  pub leaf-code-low : {number by : ℕ} → x ≡ Code → by ≡ number → (x ≡ Code → LeafLow input at number) → LeafLow input at by
+  leaf-code-low e q h = rw q (h e)
 
--- put_argument: a leaf by its length.
-pub leaf-put : (x : Syntax) (input state : List ℕ) (j at n : ℕ) {o end : List ℕ} {pos e : ℕ} → n ≡ leafLength x input at → Wrote (slice at (at + n) input) o end pos e
-    → Wrote (slice at (at + leafLength x input at) input) o end pos e × (set state (j + 1) (at + n) ≡ set state (j + 1) (at + leafLength x input at))
-leaf-put x input state j at n en w = (rw (← en) w, rw en refl)
+  pub leaf-code-put : (state : List ℕ) (j number : ℕ) {by n : ℕ} {o end : List ℕ} {pos e : ℕ} → x ≡ Code → by ≡ number → n ≡ leafLength x input at
+      → Wrote (codeLeafRun input at by) o end pos e
+      → Wrote (leafRun x input at number) o end pos e × (set state (j + 1) (at + n) ≡ set state (j + 1) (at + leafLength x input at))
+  unfolding leafRun
+  leaf-code-put state j number q eb en w = (rw (q, ← eb) w, rw en refl)
 
 -- The run of a whole term.
-module _ {x : Syntax} {t input ends : List ℕ} {deep k : ℕ} {f : Translation} {given : List ℕ} {u : Terms.Code} (a : TermAsks x t input ends deep k f given u) where
-  term-tells : (0 < length input) × (leafAt x t k input 0 ≡ true → IsLeaf x f input 0 u) × (leafAt x t k input 0 ≡ false → IsNode x f given input 0 u k)
+module _ {x : Syntax} {t input ends : List ℕ} {deep k number : ℕ} {f : Translation} {given : Uses} {u : Terms.Code} (a : TermAsks x t input ends deep k number f given u) where
+  term-tells : Tells x t f given input 0 u k
   term-tells = tells x t f given input 0 u k (a .table) (a .term)
 
   pub term-below : (k < 32) × (0 < length input)
-  term-below = (a .term .kind, term-tells .0)
+  term-below = (a .term .kind, term-tells .inside)
 
-  transform-run : bytesOf x (transform f u) ≡ bytesOf x (run (clausesOf f) u)
+  transform-run : bytesOf x (transform f number u) ≡ bytesOf x (run (clausesOf f) number u)
   unfolding transform
   transform-run = refl
 
-  module _ (is : leafAt x t k input 0 ≡ true) {n : ℕ} (en : n ≡ leafLength x input 0) where
-    term-long : n ≡ length (bytesOf x u)
-    term-long = en ∙ term-tells .1 is .0
+  module _ (is : leafAt x t k input 0 ≡ true) where
+    pub term-room : 0 + leafLength x input 0 ≤ length input
+    term-room = let i = a .term .stands .inside in let l = term-tells .leaf is .long in omega arith
 
-    pub term-room : 0 + n ≤ length input
-    term-room = let i = a .term .stands .inside in let l = term-long in omega arith
+    pub term-low : x ≡ Code → LeafLow input 0 (usedNumber t (4096 + number))
+    term-low e = rw (root-number t number) record { number = a .table .numbers e k number (a .has); used = term-tells .leaf is .low e }
 
-    pub term-leaf : {o end : List ℕ} {pos e : ℕ} → Wrote (slice 0 (0 + n) input) o end pos e → Wrote (bytesOf x (transform f u)) o end pos e
-    term-leaf w =
-        let b : bytesOf x (transform f u) ≡ slice 0 (0 + n) input =
-        transform-run ∙ (ap (bytesOf x) (term-tells .1 is .1) ∙ sym (stands-slice input 0 n (bytesOf x u) term-long (a .term .stands))) in
-        rw b w
+    pub term-leaf : {o end : List ℕ} {pos e : ℕ} → Wrote (leafRun x input 0 (usedNumber t (4096 + number))) o end pos e → Wrote (bytesOf x (transform f number u)) o end pos e
+    term-leaf w = rw (transform-run ∙ sym (term-tells .leaf is .runs number)) (rw (root-number t number) at w)
 
   module _ (is : leafAt x t k input 0 ≡ false) where
-    pub term-asks : NodeAsks x t input ends 0 k (treeLevel * deep) f given u
+    pub term-asks : NodeAsks x t input ends 0 k (usedNumber t (4096 + number)) (treeLevel * deep) f given u
     term-asks =
         let l = a .levels in
         let m = a .most in
-        record { there = record { table = a .table; term = a .term; inner = is }; kept = a .kept; most = omega arith; levels = omega arith }
+        rw (root-number t number)
+        record { there = record { table = a .table; term = a .term; inner = is; has = a .has }; kept = a .kept; most = omega arith; levels = omega arith }
 
-  pub term-gives : {o end : List ℕ} {pos e : ℕ} → Wrote (bytesOf x (run (clausesOf f) u)) o end pos e → Wrote (bytesOf x (transform f u)) o end pos e
-  term-gives w = rw transform-run w
+  pub term-gives : {o end : List ℕ} {pos e : ℕ} → Wrote (bytesOf x (run (clausesOf f) (usedNumber t (4096 + number)) u)) o end pos e → Wrote (bytesOf x (transform f number u)) o end pos e
+  term-gives w = rw transform-run (rw (root-number t number) at w)

@@ -15,16 +15,16 @@ use Rattle.fields.proofs.Split.{front}
 use Rattle.language.specs.Language.{Language, productionKey}
 use Rattle.reader.specs.Code as Terms
 use Rattle.reader.specs.Code.{node, token, argument, Codes, nil, cons, levels, levelsAll}
-use Rattle.reader.specs.Typing.{kindAt, Typed, TypedAll, typed-node, typed-token, typed-argument, typed-nil, typed-cons}
+use Rattle.reader.specs.Typing.{Uses, kindAt, Typed, TypedAll, typed-node, typed-token, typed-argument, typed-nil, typed-cons}
 use Rattle.reader.specs.Syntax.{write, writeAll}
 use Rattle.reader.specs.declared.node.Syntax.{Syntax}
 use Rattle.reader.specs.declared.node.Syntax.the-variants.{Tree, Code}
 use Rattle.reader.specs.Inner.Positions.{nameLength}
 use Rattle.translation.specs.Translation.{Translation}
-use Rattle.emitter.specs.Inner.Stands.{Stands}
-use Rattle.emitter.specs.Inner.Table.{indexEntry, sourceByte, KindsAt, Production}
-use Rattle.emitter.specs.Inner.Runs.{bytesOf, allBytes, Given, SkipAsks, leafAt, leafLength, signLength}
-use Rattle.emitter.proofs.Standing.{drop-stands, stands-head, stands-both}
+use Rattle.tables.specs.Inner.Stands.{Stands}
+use Rattle.tables.specs.Inner.Table.{indexEntry, sourceByte, KindsAt, Production}
+use Rattle.emitter.specs.Inner.Runs.{bytesOf, allBytes, Given, SkipAsks, leafAt, leafLength, leafNumber, signLength}
+use Rattle.tables.proofs.Standing.{drop-stands, stands-head, stands-both}
 
 -- is_leaf and leaf_length, a return at a time.
 module _ {x : Syntax} (t : List ℕ) (k : ℕ) (b : List ℕ) (at : ℕ) where
@@ -41,23 +41,35 @@ module _ {x : Syntax} (b : List ℕ) (at : ℕ) where
   unfolding leafLength
   length-tree e = cc
 
-  pub length-token : x ≡ Code → getD b at 0 ≡ 2 → 3 ≡ leafLength x b at
+  pub length-two : x ≡ Code → getD b at 0 ≡ 3 → 2 ≡ leafLength x b at
   unfolding leafLength
-  length-token e h = cc (eq-eqb (getD b at 0) 2 h)
+  length-two e h = cc (eq-eqb (getD b at 0) 3 h)
 
-  pub length-argument : x ≡ Code → (getD b at 0 ≡ 2 → ⊥) → 2 ≡ leafLength x b at
+  pub length-three : x ≡ Code → (getD b at 0 ≡ 3 → ⊥) → 3 ≡ leafLength x b at
   unfolding leafLength
-  length-argument e h = cc (ne-eqb (getD b at 0) 2 h)
+  length-three e h = cc (ne-eqb (getD b at 0) 3 h)
+
+-- leaf_number, a return at a time.
+module _ (b : List ℕ) (at : ℕ) where
+  pub number-there : {n : ℕ} → getD b at 0 ≡ 4 → n ≡ getD b (at + 2) 0 → n ≡ leafNumber b at
+  unfolding leafNumber
+  number-there e h = rw (eq-eqb (getD b at 0) 4 e) h
+
+  pub number-none : (getD b at 0 ≡ 4 → ⊥) → 0 ≡ leafNumber b at
+  unfolding leafNumber
+  number-none e = rw (ne-eqb (getD b at 0) 4 e)
 
 -- A term has at least one byte.
 pub some-bytes : (x : Syntax) (u : Terms.Code) → 0 < length (bytesOf x u)
 unfolding write
 some-bytes Tree (node k p ts) = omega arith
 some-bytes Tree (token v) = omega arith
-some-bytes Tree (argument i) = omega arith
+some-bytes Tree (argument i zero) = omega arith
+some-bytes Tree (argument i (suc j)) = omega arith
 some-bytes Code (node k p ts) = omega arith
 some-bytes Code (token v) = omega arith
-some-bytes Code (argument i) = omega arith
+some-bytes Code (argument i zero) = omega arith
+some-bytes Code (argument i (suc j)) = omega arith
 
 -- A name has at least one byte.
 pub name-some : (x : Syntax) {c : ℕ} → c ≡ nameLength x → 0 < c
@@ -69,14 +81,14 @@ pub set-long : (l : List ℕ) (i a : ℕ) → length l ≡ 64 → length (set l 
 set-long l i a e = length-set l i a ∙ e
 
 -- Terms of no kinds have no bytes.
-all-none : (x : Syntax) {l : Language} {given : List ℕ} (ts : Codes) (ks : List ℕ) → TypedAll l given ts ks → length ks ≡ 0 → length (allBytes x ts) ≡ 0
+all-none : (x : Syntax) {l : Language} {given : Uses} (ts : Codes) (ks : List ℕ) → TypedAll l given ts ks → length ks ≡ 0 → length (allBytes x ts) ≡ 0
 unfolding writeAll
 all-none x nil [] typed-nil z = refl
 all-none x (cons a ts) (k ∷ ks) (typed-cons p ps) z = absurd (omega arith)
 
 -- A row of terms that is still to be read: its kinds stand in the source from q up to e, its terms in the input from `to`
 -- on. It has d rows behind it.
-pub record Wait (x : Syntax) (t b : List ℕ) (l : Language) (given : List ℕ) (d q e to : ℕ) : Type 0 where
+pub record Wait (x : Syntax) (t b : List ℕ) (l : Language) (given : Uses) (d q e to : ℕ) : Type 0 where
   pub codes : Codes
   pub kinds : List ℕ
   pub known : KindsAt t q kinds
@@ -86,18 +98,18 @@ pub record Wait (x : Syntax) (t b : List ℕ) (l : Language) (given : List ℕ) 
   pub deep : levelsAll codes + d ≤ 64
 
 -- The rows on the stack, the last one first: behind them all stands `end`.
-unfoldable pub Rest : (x : Syntax) (t b : List ℕ) (l : Language) (given firsts lasts : List ℕ) (end d to : ℕ) → Type 0
+unfoldable pub Rest : (x : Syntax) (t b : List ℕ) (l : Language) (given : Uses) (firsts lasts : List ℕ) (end d to : ℕ) → Type 0
 Rest x t b l given firsts lasts end zero to = to ≡ end
 Rest x t b l given firsts lasts end (suc d) to =
     (w : Wait x t b l given d (getD firsts d 0) (getD lasts d 0) to) × Rest x t b l given firsts lasts end d (to + length (allBytes x (w .codes)))
 
 -- The row that is being read, and those on the stack.
-pub record Going (x : Syntax) (t b : List ℕ) (l : Language) (given firsts lasts : List ℕ) (end d q e to : ℕ) : Type 0 where
+pub record Going (x : Syntax) (t b : List ℕ) (l : Language) (given : Uses) (firsts lasts : List ℕ) (end d q e to : ℕ) : Type 0 where
   pub row : Wait x t b l given d q e to
   pub rest : Rest x t b l given firsts lasts end d (to + length (allBytes x (row .codes)))
 
 -- The first term of the row that is being read.
-pub record First (x : Syntax) (t b : List ℕ) (l : Language) (given firsts lasts : List ℕ) (end d q e to : ℕ) : Type 0 where
+pub record First (x : Syntax) (t b : List ℕ) (l : Language) (given : Uses) (firsts lasts : List ℕ) (end d q e to : ℕ) : Type 0 where
   pub code : Terms.Code
   pub kind : ℕ
   pub typed : Typed l given code kind
@@ -110,7 +122,7 @@ pub record First (x : Syntax) (t b : List ℕ) (l : Language) (given firsts last
   pub next : Going x t b l given firsts lasts end d (q + 1) e (to + length (bytesOf x code))
 
 -- A production whose name, of kind k, stands at `to`, and its arguments behind the name.
-pub record Named (x : Syntax) (t b : List ℕ) (l : Language) (given firsts lasts : List ℕ) (end d q e to k : ℕ) : Type 0 where
+pub record Named (x : Syntax) (t b : List ℕ) (l : Language) (given : Uses) (firsts lasts : List ℕ) (end d q e to k : ℕ) : Type 0 where
   pub codes : Codes
   pub kinds : List ℕ
   pub there : to + nameLength x ≤ length b
@@ -123,7 +135,7 @@ pub record Named (x : Syntax) (t b : List ℕ) (l : Language) (given firsts last
   pub most : e ≤ 1024
   pub next : Going x t b l given firsts lasts end d (q + 1) e (to + nameLength x + length (allBytes x codes))
 
-module _ (x : Syntax) (t b : List ℕ) (l : Language) (given : List ℕ) where
+module _ (x : Syntax) (t b : List ℕ) (l : Language) (given : Uses) where
   -- A row stays one where its bounds are the same.
   moved : {d q e to p r : ℕ} → q ≡ p → e ≡ r → Wait x t b l given d q e to → Wait x t b l given d p r to
   moved g h w = record {
@@ -216,9 +228,9 @@ byte-stands : (b : List ℕ) (at y : ℕ) → at < length b → getD b at 0 ≡ 
 byte-stands b at y h e = drop-stands b at (y ∷ []) (drop (at + 1) b) (omega arith) (front b at h ∙ ap (λ (n : ℕ). n ∷ drop (at + 1) b) e)
 
 -- A tree has no arguments.
-no-kind : (i : ℕ) {k : ℕ} {A : Type 0} → kindAt [] i ≡ some k → A
-no-kind zero e = none-some e
-no-kind (suc i) e = none-some e
+pub no-kind : (i j : ℕ) {k : ℕ} {A : Type 0} → kindAt [] i j ≡ some k → A
+no-kind zero j e = none-some e
+no-kind (suc i) j e = none-some e
 
 -- A test that passed or failed, against what is known.
 is-not : {A : Type 0} (n m : ℕ) → true ≡ not (eqb n m) → n ≡ m → A
@@ -228,28 +240,30 @@ not-is : {A : Type 0} (n m : ℕ) → false ≡ not (eqb n m) → (n ≡ m → �
 not-is n m e h = let z : false ≡ true = e ∙ ap not (ne-eqb n m h) in false-true z
 
 -- A leaf's length is that of its term.
-module _ (t b : List ℕ) (f : Translation) (given : List ℕ) (at : ℕ) where
+module _ (t b : List ℕ) (f : Translation) (given : Uses) (at : ℕ) where
   pub leaf-bytes : (x : Syntax) → Given x t f given → {u : Terms.Code} {k : ℕ} → Typed (f .source) given u k → k < 32 → Stands b at (bytesOf x u)
       → true ≡ leafAt x t k b at → leafLength x b at ≡ length (bytesOf x u)
   unfolding write leafAt leafLength
   leaf-bytes Tree g (typed-node {k = k} {p = p} {ks = ks} m h) i s e = is-not (indexEntry t k) 0 e (g .ready .name k p ks i m)
   leaf-bytes Tree g (typed-token m h) i s e = refl
-  leaf-bytes Tree g (typed-argument {i = n} {k = k} m) i s e = no-kind n (ap (λ (l : List ℕ). kindAt l n) (sym (g .plain refl)) ∙ m)
+  leaf-bytes Tree g (typed-argument {i = n} {j = j} m) i s e = no-kind n j (ap (λ (l : Uses). kindAt l n j) (sym (g .plain refl)) ∙ m)
   leaf-bytes Code g (typed-node m h) i s e = is-not (getD b at 0) 1 e (stands-head b at _ _ s .1)
-  leaf-bytes Code g (typed-token m h) i s e = rw (eq-eqb (getD b at 0) 2 (stands-head b at _ _ s .1))
-  leaf-bytes Code g (typed-argument m) i s e = let z = stands-head b at _ _ s .1 in rw (ne-eqb (getD b at 0) 2 (λ y. omega (arith, z)))
+  leaf-bytes Code g (typed-token m h) i s e = let z = stands-head b at _ _ s .1 in rw (ne-eqb (getD b at 0) 3 (λ y. omega (arith, z)))
+  leaf-bytes Code g (typed-argument {j = zero} m) i s e = rw (eq-eqb (getD b at 0) 3 (stands-head b at _ _ s .1))
+  leaf-bytes Code g (typed-argument {j = suc j} m) i s e = let z = stands-head b at _ _ s .1 in rw (ne-eqb (getD b at 0) 3 (λ y. omega (arith, z)))
 
 -- What stands at `to` where there is no leaf: a production's name.
-module _ (t b : List ℕ) (f : Translation) (given firsts lasts : List ℕ) (end d q e to : ℕ) (inside : q < e) (most : e ≤ 1024) where
+module _ (t b : List ℕ) (f : Translation) (given : Uses) (firsts lasts : List ℕ) (end d q e to : ℕ) (inside : q < e) (most : e ≤ 1024) where
   name-of : (x : Syntax) → Given x t f given → {u : Terms.Code} {k : ℕ} → Typed (f .source) given u k → k < 32
       → Stands b to (bytesOf x u) → levels u + d ≤ 64 → false ≡ leafAt x t k b to
       → Going x t b (f .source) given firsts lasts end d (q + 1) e (to + length (bytesOf x u))
       → Named x t b (f .source) given firsts lasts end d q e to k
   unfolding write levels leafAt
   name-of Tree g (typed-token {k = k} {c = c} m h) i s j n o = let z = g .ready .class k c i m in not-is (indexEntry t k) 0 n (λ y. omega (arith, z))
-  name-of Tree g (typed-argument {i = a} {k = k} m) i s j n o = no-kind a (ap (λ (l : List ℕ). kindAt l a) (sym (g .plain refl)) ∙ m)
+  name-of Tree g (typed-argument {i = a} {j = y} m) i s j n o = no-kind a y (ap (λ (l : Uses). kindAt l a y) (sym (g .plain refl)) ∙ m)
   name-of Code g (typed-token m h) i s j n o = let z = stands-head b to _ _ s .1 in not-is (getD b to 0) 1 n (λ y. omega (arith, z))
-  name-of Code g (typed-argument m) i s j n o = let z = stands-head b to _ _ s .1 in not-is (getD b to 0) 1 n (λ y. omega (arith, z))
+  name-of Code g (typed-argument {j = zero} m) i s j n o = let z = stands-head b to _ _ s .1 in not-is (getD b to 0) 1 n (λ y. omega (arith, z))
+  name-of Code g (typed-argument {j = suc a} m) i s j n o = let z = stands-head b to _ _ s .1 in not-is (getD b to 0) 1 n (λ y. omega (arith, z))
   name-of Tree g (typed-node {k = k} {p = p} {t = ts} {ks = ks} m h) i s j n o =
       let c = stands-head b to p (allBytes Tree ts) s in
       let y : getD b (to + 0) 0 ≡ p = ap (λ (a : ℕ). getD b a 0) (add-zero to) ∙ c .1 in
@@ -287,7 +301,7 @@ module _ (t b : List ℕ) (f : Translation) (given firsts lasts : List ℕ) (end
       }
 
 -- The turns of the loop, where q is not at the end of the row and a term of the kind is to stand at `to`.
-module _ (x : Syntax) (t b : List ℕ) (f : Translation) (given firsts lasts : List ℕ) (end d q e to : ℕ) (is : Given x t f given) (more : q ≡ e → ⊥)
+module _ (x : Syntax) (t b : List ℕ) (f : Translation) (given : Uses) (firsts lasts : List ℕ) (end d q e to : ℕ) (is : Given x t f given) (more : q ≡ e → ⊥)
     (g : Going x t b (f .source) given firsts lasts end d q e to) {kind : ℕ} (ek : kind ≡ sourceByte t q) where
   one : First x t b (f .source) given firsts lasts end d q e to
   one = first x t b (f .source) given firsts lasts end more g
@@ -311,7 +325,7 @@ module _ (x : Syntax) (t b : List ℕ) (f : Translation) (given firsts lasts : L
       (name-of t b f given firsts lasts end d q e to (one .inside) (one .most) x is (one .typed) (one .small) (one .stands) (one .deep) (h ∙ ap (λ (k : ℕ). leafAt x t k b to) same) (one .next))
 
 -- Behind a production's name.
-module _ (x : Syntax) (t b : List ℕ) (l : Language) (given firsts lasts : List ℕ) (end d q e to kind : ℕ)
+module _ (x : Syntax) (t b : List ℕ) (l : Language) (given : Uses) (firsts lasts : List ℕ) (end d q e to kind : ℕ)
     (m : Named x t b l given firsts lasts end d q e to kind) {s place : ℕ} (es : s ≡ signLength x) (byte : getD b (to + s) 0 < 256)
     (ep : place ≡ indexEntry t (productionKey kind (getD b (to + s) 0))) where
   pub placed : Production t place (m .kinds)
@@ -362,11 +376,11 @@ module _ (x : Syntax) (t b : List ℕ) (l : Language) (given firsts lasts : List
 
 -- What is asked, and what holds at each turn, for all that may be asked.
 abbrev pub Asked : Syntax → List ℕ → List ℕ → ℕ → ℕ → Type 0
-Asked x t b from at = (f : Translation) × (given : List ℕ) × (u : Terms.Code) × (k : ℕ) × SkipAsks x t b from at f given u k
+Asked x t b from at = (f : Translation) × (given : Uses) × (u : Terms.Code) × (k : ℕ) × SkipAsks x t b from at f given u k
 
 abbrev pub Holds : Syntax → List ℕ → List ℕ → ℕ → ℕ → List ℕ → List ℕ → ℕ → ℕ → ℕ → ℕ → Type 0
 Holds x t b from at firsts lasts d q e to =
-    (f : Translation) (given : List ℕ) (u : Terms.Code) (k : ℕ) → SkipAsks x t b from at f given u k
+    (f : Translation) (given : Uses) (u : Terms.Code) (k : ℕ) → SkipAsks x t b from at f given u k
     → Going x t b (f .source) given firsts lasts (at + length (bytesOf x u)) d q e to
 
 module _ (x : Syntax) (t b : List ℕ) (from at : ℕ) where
@@ -382,7 +396,7 @@ module _ (x : Syntax) (t b : List ℕ) (from at : ℕ) where
     below = below;
   }
     where
-      stood : length t ≡ 25664 → from < 1024 → Stands t (16448 + from) (k ∷ [])
+      stood : length t ≡ 29760 → from < 1024 → Stands t (16448 + from) (k ∷ [])
       stood l i = byte-stands t (16448 + from) k (omega arith) e
 
       below : (j : ℕ) → j < 1 → getD (k ∷ []) j 0 < 32
@@ -414,7 +428,7 @@ module _ {x : Syntax} {t b : List ℕ} {from at : ℕ} {firsts lasts : List ℕ}
   now-going = g (p .0) (p .1) (p .2) (p .3) (p .4)
 
   -- The last row is read.
-  pub turn-done : q ≡ e → d ≡ 0 → (f : Translation) (given : List ℕ) (u : Terms.Code) (k : ℕ) → SkipAsks x t b from at f given u k → to ≡ at + length (bytesOf x u)
+  pub turn-done : q ≡ e → d ≡ 0 → (f : Translation) (given : Uses) (u : Terms.Code) (k : ℕ) → SkipAsks x t b from at f given u k → to ≡ at + length (bytesOf x u)
   turn-done h z f given u k a = ended x t b (f .source) given firsts lasts (at + length (bytesOf x u)) h z (g f given u k a)
 
   -- A row comes off the stack.
@@ -460,7 +474,7 @@ module _ {x : Syntax} {t b : List ℕ} {from at : ℕ} {firsts lasts : List ℕ}
 
       -- A name.
       module _ {r : Bool} (er : r ≡ leafAt x t kind b to) (name : r ≡ false) where
-        named-for : (f : Translation) (given : List ℕ) (u : Terms.Code) (k : ℕ) → SkipAsks x t b from at f given u k
+        named-for : (f : Translation) (given : Uses) (u : Terms.Code) (k : ℕ) → SkipAsks x t b from at f given u k
             → Named x t b (f .source) given firsts lasts (at + length (bytesOf x u)) d q e to kind
         named-for f given u k a =
             named x t b f given firsts lasts (at + length (bytesOf x u)) d q e to (a .table) more (g f given u k a) ek (sym name ∙ er)

@@ -1,5 +1,2 @@
--- What a run looks things up in, what stands where, and what is asked and given.
-pub mod Table
-pub mod Stands
+-- What the functions of the run ask for and give.
 pub mod Runs
-pub mod Filling

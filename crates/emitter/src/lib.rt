@@ -1,7 +1,5 @@
 // The emitter: the run of a term through a translation, put into an output.
-pub mod prepare;
 pub mod put;
 pub mod run;
 pub mod skip;
 pub mod starts;
-pub mod table;

@@ -1,13 +1,43 @@
 // Bytes that are put into the output. A position past its end says that they do not fit.
-use fields::copy::put;
+use crate::skip::leaf_number;
 use reader::node::Syntax;
 ghost use mathlib.Core.List.{[], _∷_, _++_};
 ghost use Prim.Native.Nat.{_+_, _≤_};
 ghost use lib.ListN.{length};
-ghost use lib.Seq.{slice};
-ghost use Rattle.reader.specs.Syntax.{sign};
+ghost use Rattle.reader.specs.Code as Terms;
+ghost use Rattle.reader.specs.Syntax as Meant;
+ghost use Rattle.reader.specs.Syntax.{sign, write};
+ghost use Rattle.reader.specs.declared.node.Syntax.the-variants.{Code};
 ghost use Rattle.reader.specs.Inner.Positions.{syntaxOf};
-ghost use Rattle.emitter.specs.Inner.Stands.{Wrote};
+ghost use Rattle.tables.specs.Inner.Stands.{Wrote};
+ghost use Rattle.emitter.specs.Inner.Runs.{leafLength, codeLeafRun, LeafLow};
+
+// Puts two bytes.
+fn put_two(x: u8, y: u8, output: &mut [u8], pos: usize) -> usize
+    requires { ⌜ pos ≤ length (now output) ⌝ }
+    ensures { λ r. ⌜ Wrote (x ∷ y ∷ []) (now (output .entry)) (now (output .exit)) pos r ⌝ }
+{
+    if output.len() < pos + 2 {
+        return pos + 2;
+    }
+    output[pos] = x;
+    output[pos + 1] = y;
+    pos + 2
+}
+
+// Puts three bytes.
+fn put_three(x: u8, y: u8, z: u8, output: &mut [u8], pos: usize) -> usize
+    requires { ⌜ pos ≤ length (now output) ⌝ }
+    ensures { λ r. ⌜ Wrote (x ∷ y ∷ z ∷ []) (now (output .entry)) (now (output .exit)) pos r ⌝ }
+{
+    if output.len() < pos + 3 {
+        return pos + 3;
+    }
+    output[pos] = x;
+    output[pos + 1] = y;
+    output[pos + 2] = z;
+    pos + 3
+}
 
 // Puts a production's name, with its sign in a code.
 pub fn put_name(syntax: Syntax, name: u8, output: &mut [u8], pos: usize) -> usize
@@ -22,14 +52,7 @@ pub fn put_name(syntax: Syntax, name: u8, output: &mut [u8], pos: usize) -> usiz
             output[pos] = name;
             pos + 1
         }
-        Syntax::Code => {
-            if output.len() < pos + 2 {
-                return pos + 2;
-            }
-            output[pos] = 1;
-            output[pos + 1] = name;
-            pos + 2
-        }
+        Syntax::Code => put_two(1, name, output, pos),
     }
 }
 
@@ -39,50 +62,31 @@ pub fn put_token(syntax: Syntax, high: u8, low: u8, output: &mut [u8], pos: usiz
     ensures { λ r. ⌜ Wrote (sign (syntaxOf syntax) 2 ++ high ∷ low ∷ []) (now (output .entry)) (now (output .exit)) pos r ⌝ }
 {
     match syntax {
-        Syntax::Tree => {
-            if output.len() < pos + 2 {
-                return pos + 2;
-            }
-            output[pos] = high;
-            output[pos + 1] = low;
-            pos + 2
-        }
-        Syntax::Code => {
-            if output.len() < pos + 3 {
-                return pos + 3;
-            }
-            output[pos] = 2;
-            output[pos + 1] = high;
-            output[pos + 2] = low;
-            pos + 3
-        }
+        Syntax::Tree => put_two(high, low, output, pos),
+        Syntax::Code => put_three(2, high, low, output, pos),
     }
 }
 
-// Copies a leaf of two or three bytes.
-pub fn put_leaf(input: &[u8], at: usize, n: usize, output: &mut [u8], pos: usize) -> usize
-    requires { ⌜ (2 ≤ n) × (n ≤ 3) × (at + n ≤ length (now input)) × (pos ≤ length (now output)) ⌝ }
-    ensures { λ r. ⌜ Wrote (slice at (at + n) (now (input .entry))) (now (output .entry)) (now (output .exit)) pos r ⌝ }
+// Puts a use of an argument by a number into a code.
+fn put_use(argument: u8, number: u8, output: &mut [u8], pos: usize) -> usize
+    requires { ⌜ pos ≤ length (now output) ⌝ }
+    ensures { λ r. ⌜ Wrote (write Meant.code (Terms.argument «argument» «number»)) (now (output .entry)) (now (output .exit)) pos r ⌝ }
 {
-    if output.len() < pos + n {
-        return pos + n;
+    if number == 0 {
+        return put_two(3, argument, output, pos);
     }
-    output[pos] = input[at];
-    output[pos + 1] = input[at + 1];
-    if n == 3 {
-        output[pos + 2] = input[at + 2];
-    }
-    pos + n
+    put_three(4, argument, number, output, pos)
 }
 
-// Copies n bytes of the input.
-pub fn put_part(input: &[u8], at: usize, n: usize, output: &mut [u8], pos: usize) -> usize
-    requires { ⌜ (at + n ≤ length (now input)) × (pos ≤ length (now output)) ⌝ }
-    ensures { λ r. ⌜ Wrote (slice at (at + n) (now (input .entry))) (now (output .entry)) (now (output .exit)) pos r ⌝ }
+// Puts the run by a number of the leaf of a code at a position: a token stays itself, an argument is used by its number and
+// this one paired.
+pub fn put_code_leaf(input: &[u8], at: usize, number: usize, output: &mut [u8], pos: usize) -> usize
+    requires { ⌜ (at + leafLength Code (now input) at ≤ length (now input)) × LeafLow (now input) at number × (pos ≤ length (now output)) ⌝ }
+    ensures { λ r. ⌜ Wrote (codeLeafRun (now (input .entry)) at number) (now (output .entry)) (now (output .exit)) pos r ⌝ }
 {
-    if output.len() < pos + n {
-        return pos + n;
+    if input[at] == 2 {
+        return put_three(2, input[at + 1], input[at + 2], output, pos);
     }
-    put(input, at, at + n, output, pos);
-    pos + n
+    let by = 16 * leaf_number(input, at) + number;
+    put_use(input[at + 1], by as u8, output, pos)
 }

@@ -1,17 +1,19 @@
 // Stepping over a term of the input, without a call for each node: what is still to be read after the operands of a node is
 // kept on a stack.
-use crate::table::index_at;
-use crate::table::source_at;
+use fields::bytes::to_usize;
 use reader::index::TABLE;
 use reader::node::Syntax;
 use reader::node::name_length;
+use tables::table::index_at;
+use tables::table::source_at;
 ghost use mathlib.Core.Path.{_≡_};
-ghost use mathlib.Core.List.{List};
 ghost use Prim.Native.Nat.{ℕ, _+_, _<_, _≤_};
 ghost use lib.ListN.{length};
-ghost use Rattle.reader.specs.Code.{Code};
+ghost use Rattle.reader.specs.Code as Terms;
+ghost use Rattle.reader.specs.Typing.{Uses};
+ghost use Rattle.reader.specs.declared.node.Syntax.the-variants.{Code};
 ghost use Rattle.translation.specs.Translation.{Translation};
-ghost use Rattle.emitter.specs.Inner.Runs.{bytesOf, SkipAsks, leafAt, leafLength, signLength};
+ghost use Rattle.emitter.specs.Inner.Runs.{bytesOf, SkipAsks, leafAt, leafLength, leafNumber, signLength};
 
 // How many bytes a sign has.
 pub fn sign_length(syntax: Syntax) -> usize
@@ -41,14 +43,25 @@ pub fn leaf_length(syntax: Syntax, input: &[u8], at: usize) -> usize
 {
     match syntax {
         Syntax::Tree => 2,
-        Syntax::Code => { if input[at] == 2 { 3 } else { 2 } }
+        Syntax::Code => { if input[at] == 3 { 2 } else { 3 } }
     }
+}
+
+// By which number the argument at a position of a code is used.
+pub fn leaf_number(input: &[u8], at: usize) -> usize
+    requires { ⌜ at + leafLength Code (now input) at ≤ length (now input) ⌝ }
+    ensures { λ r. ⌜ (r ≡ leafNumber (now (input .entry)) at) × (r < 256) ⌝ }
+{
+    if input[at] == 4 {
+        return to_usize(input[at + 2]);
+    }
+    0
 }
 
 // Where the term ends that starts at a position and whose kind stands in the source at q.
 pub fn skip(syntax: Syntax, table: &[u16; TABLE], input: &[u8], from: usize, at: usize) -> usize
-    requires { ⌜ ((f : Translation) × (given : List ℕ) × (u : Code) × (k : ℕ) × SkipAsks syntax (now table) (now input) from at f given u k) ⌝ }
-    ensures { λ r. ⌜ ((f : Translation) (given : List ℕ) (u : Code) (k : ℕ) → SkipAsks syntax (now (table .entry)) (now (input .entry)) from at f given u k
+    requires { ⌜ ((f : Translation) × (given : Uses) × (u : Terms.Code) × (k : ℕ) × SkipAsks syntax (now table) (now input) from at f given u k) ⌝ }
+    ensures { λ r. ⌜ ((f : Translation) (given : Uses) (u : Terms.Code) (k : ℕ) → SkipAsks syntax (now (table .entry)) (now (input .entry)) from at f given u k
         → r ≡ at + length (bytesOf syntax u)) ⌝ }
 {
     let mut firsts = [0u16; 64];

@@ -1,14 +1,15 @@
 // Where the arguments of a node start and end.
 use crate::skip::skip;
-use crate::table::source_at;
 use reader::ends::known_end;
 use reader::index::TABLE;
 use reader::node::Syntax;
+use tables::table::source_at;
 ghost use mathlib.Core.Path.{_≡_};
 ghost use mathlib.Core.List.{List};
 ghost use Prim.Native.Nat.{ℕ, _+_, _≤_};
 ghost use lib.ListN.{length, getD};
 ghost use Rattle.reader.specs.Code.{Code, Codes};
+ghost use Rattle.reader.specs.Typing.{Uses};
 ghost use Rattle.translation.specs.Translation.{Translation};
 ghost use Rattle.emitter.specs.Inner.Runs.{bytesOf, allBytes, front, Right, Node, Same, SkipAsks, FindAsks, LastAsks, knownStart};
 
@@ -30,8 +31,8 @@ fn end_of(
     q: usize,
     at: usize,
 ) -> usize
-    requires { ⌜ ((f : Translation) × (given : List ℕ) × (u : Code) × (k : ℕ) × SkipAsks syntax (now table) (now input) q at f given u k) ⌝ }
-    ensures { λ r. ⌜ ((f : Translation) (given : List ℕ) (u : Code) (k : ℕ) → SkipAsks syntax (now (table .entry)) (now (input .entry)) q at f given u k
+    requires { ⌜ ((f : Translation) × (given : Uses) × (u : Code) × (k : ℕ) × SkipAsks syntax (now table) (now input) q at f given u k) ⌝ }
+    ensures { λ r. ⌜ ((f : Translation) (given : Uses) (u : Code) (k : ℕ) → SkipAsks syntax (now (table .entry)) (now (input .entry)) q at f given u k
         → Right syntax (now (ends .entry)) (now (input .entry)) (f .source) given → r ≡ at + length (bytesOf syntax u)) ⌝ }
 {
     let end = known_end(ends, source_at(table, q), at);
@@ -50,8 +51,8 @@ fn find(
     node: &mut [usize; 10],
     j: usize,
 ) -> usize
-    requires { ⌜ ((f : Translation) × (given : List ℕ) × (ts : Codes) × (ks : List ℕ) × FindAsks syntax (now table) (now input) (now ends) (now node) j f given ts ks) ⌝ }
-    ensures { λ r. ⌜ ((f : Translation) (given : List ℕ) (ts : Codes) (ks : List ℕ) → FindAsks syntax (now (table .entry)) (now (input .entry)) (now (ends .entry)) (now (node .entry)) j f given ts ks
+    requires { ⌜ ((f : Translation) × (given : Uses) × (ts : Codes) × (ks : List ℕ) × FindAsks syntax (now table) (now input) (now ends) (now node) j f given ts ks) ⌝ }
+    ensures { λ r. ⌜ ((f : Translation) (given : Uses) (ts : Codes) (ks : List ℕ) → FindAsks syntax (now (table .entry)) (now (input .entry)) (now (ends .entry)) (now (node .entry)) j f given ts ks
         → (r ≡ getD (now (node .entry)) 0 0 + length (allBytes syntax (front j ts)))
         × Node syntax (now (table .entry)) (now (input .entry)) (now (node .exit)) (f .source) given ts ks
         × Same (now (node .entry)) (now (node .exit))) ⌝ }
@@ -80,8 +81,8 @@ pub fn start_of(
     node: &mut [usize; 10],
     j: usize,
 ) -> usize
-    requires { ⌜ ((f : Translation) × (given : List ℕ) × (ts : Codes) × (ks : List ℕ) × FindAsks syntax (now table) (now input) (now ends) (now node) j f given ts ks) ⌝ }
-    ensures { λ r. ⌜ ((f : Translation) (given : List ℕ) (ts : Codes) (ks : List ℕ) → FindAsks syntax (now (table .entry)) (now (input .entry)) (now (ends .entry)) (now (node .entry)) j f given ts ks
+    requires { ⌜ ((f : Translation) × (given : Uses) × (ts : Codes) × (ks : List ℕ) × FindAsks syntax (now table) (now input) (now ends) (now node) j f given ts ks) ⌝ }
+    ensures { λ r. ⌜ ((f : Translation) (given : Uses) (ts : Codes) (ks : List ℕ) → FindAsks syntax (now (table .entry)) (now (input .entry)) (now (ends .entry)) (now (node .entry)) j f given ts ks
         → (r ≡ getD (now (node .entry)) 0 0 + length (allBytes syntax (front j ts)))
         × Node syntax (now (table .entry)) (now (input .entry)) (now (node .exit)) (f .source) given ts ks
         × Same (now (node .entry)) (now (node .exit))) ⌝ }
@@ -101,8 +102,8 @@ pub fn last_end(
     ends: &[u32],
     node: &mut [usize; 10],
 ) -> usize
-    requires { ⌜ ((f : Translation) × (given : List ℕ) × (ts : Codes) × (ks : List ℕ) × LastAsks syntax (now table) (now input) (now ends) (now node) f given ts ks) ⌝ }
-    ensures { λ r. ⌜ ((f : Translation) (given : List ℕ) (ts : Codes) (ks : List ℕ) → LastAsks syntax (now (table .entry)) (now (input .entry)) (now (ends .entry)) (now (node .entry)) f given ts ks
+    requires { ⌜ ((f : Translation) × (given : Uses) × (ts : Codes) × (ks : List ℕ) × LastAsks syntax (now table) (now input) (now ends) (now node) f given ts ks) ⌝ }
+    ensures { λ r. ⌜ ((f : Translation) (given : Uses) (ts : Codes) (ks : List ℕ) → LastAsks syntax (now (table .entry)) (now (input .entry)) (now (ends .entry)) (now (node .entry)) f given ts ks
         → r ≡ getD (now (node .entry)) 0 0 + length (allBytes syntax ts)) ⌝ }
 {
     let n = source_at(table, node[9] - 3) - 2;

@@ -1,17 +1,17 @@
 -- Every value that a term comes to is good: a file can hold it, it is well formed, and it is within the limits.
 use Prim.Native.Nat.{ℕ, zero, suc, _≤_}
 use mathlib.Core.Path.{_≡_, refl, subst}
-use mathlib.Core.Bool.{Bool, true, false, cond, not}
+use mathlib.Core.Bool.{Bool, true, false, cond, not, _&&_}
 use mathlib.Core.Option.{Option, none, some}
 use mathlib.Core.List.{List, [], _∷_}
 use lib.ListN.{length, getElem?}
 use lib.Dec.{ltb, eqb}
 use borrow.Author.Tests.{ltb-false}
 use Rattle.fields.specs.Lists.{any}
-use Rattle.fields.specs.Outcome.{Result, value, _>>=_}
+use Rattle.fields.specs.Outcome.{Result, value, refuseIf, _>>=_}
 use Rattle.fields.specs.declared.outcome.Reason.{Reason}
-use Rattle.fields.specs.declared.outcome.Reason.the-variants.{SumUnfit, JoinUnfit, ValueTooLarge, UnboundVariable, IllegalTerm as TermRefused}
-use Rattle.fields.proofs.Truth.{Mem, none-some, some-inj, or-false, true-not, all-mem, any-false}
+use Rattle.fields.specs.declared.outcome.Reason.the-variants.{SumUnfit, JoinUnfit, NumberUnfit, ValueTooLarge, UnboundVariable, IllegalTerm as TermRefused}
+use Rattle.fields.proofs.Truth.{Mem, none-some, some-inj, or-false, true-not, and-both, all-mem, any-false}
 use Rattle.fields.proofs.Codec.{Each, refused-value}
 pub use Rattle.fields.proofs.Codec.{step-value, value-inj}
 use Rattle.fields.proofs.Keyed.{is-rising}
@@ -23,7 +23,7 @@ use Rattle.translation.specs.TranslationFile.{encodeTranslation, translationLim
 use Rattle.translation.specs.WellFormed.{wellFormed}
 use Rattle.translation.proofs.Codec.{itemWhole, GoodBody}
 use Rattle.translation.proofs.Fitting.{refuse-value}
-use Rattle.operators.specs.Operators.{languagesFit, languageUnion, languageSum, translationsFit, translationUnion, translationSum, joinFits, joined, translationJoin}
+use Rattle.operators.specs.Operators.{languagesFit, languageUnion, languageSum, translationsFit, translationUnion, translationSum, numbersLow, joinFits, joined, translationJoin}
 use Rattle.operators.specs.Limits.{codeIsDeep, languageExceeds, translationExceeds}
 use Rattle.pack.specs.Terms.{Sort, languages, translations, Term, constant, sourceOf, targetOf, make, join, identity, variable, without, sum, bind}
 use Rattle.signs.specs.Evaluation.{Constants, Value, Environment, nothingBound, bound, there, exceeds, limited, sumOf, withoutOf, evaluate}
@@ -101,11 +101,14 @@ translation-sum f g h e =
     let r = refuse-value (not (translationsFit f g)) SumUnfit (value (translationUnion f g)) e in
     (true-not (translationsFit f g) (r .0), value-inj (r .1))
 
-pub translation-join : (f g h : Translation) → translationJoin f g ≡ value h → (joinFits f g ≡ true) × (joined f g ≡ h)
+pub translation-join : (f g h : Translation) → translationJoin f g ≡ value h
+    → (joinFits f g ≡ true) × (joined f g ≡ h) × (numbersLow f ≡ true) × (numbersLow g ≡ true)
 unfolding translationJoin
 translation-join f g h e =
-    let r = refuse-value (not (joinFits f g)) JoinUnfit (value (joined f g)) e in
-    (true-not (joinFits f g) (r .0), value-inj (r .1))
+    let q = refuse-value (not (numbersLow f && numbersLow g)) NumberUnfit (refuseIf (not (joinFits f g)) JoinUnfit (value (joined f g))) e in
+    let r = refuse-value (not (joinFits f g)) JoinUnfit (value (joined f g)) (q .1) in
+    let l = and-both (numbersLow f) (numbersLow g) (true-not (numbersLow f && numbersLow g) (q .0)) in
+    (true-not (joinFits f g) (r .0), value-inj (r .1), l .0, l .1)
 
 sum-fair : (s : Sort) (v w u : Value s) → Good s v → Good s w → sumOf s v w ≡ value u → Fair s u
 sum-fair languages l m n a b e =
@@ -123,7 +126,7 @@ join-fair : (f g h : Translation) → GoodTranslation f → GoodTranslation g �
 join-fair f g h a b e x =
     let r = translation-join f g h e in
     let w : Within (joined f g) = within (joined f g) (rw (r .1) x) in
-    subst Sound (r .1) (sound-join f g (a .sound) (b .sound) (r .0) (w .codes))
+    subst Sound (r .1) (sound-join f g (a .sound) (b .sound) (r .0) (r .2) (r .3) (w .codes))
 
 make-fair : (l m : Language) (b : Body) (f : Translation) → GoodLanguage l → GoodLanguage m → GoodBody b
     → wellFormed (record { source = l; target = m; body = b }) ≡ value f → Sound f

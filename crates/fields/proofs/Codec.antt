@@ -67,6 +67,24 @@ two-tags tag m n x y a e f g =
     (λ t. f (eqb-true tag m t) (cc))
     (λ t. by-test (eqb tag n) (λ u. g (eqb-true tag n u) (cc)) (λ u. none-some {b = a} (cc)))
 
+-- The same for four tags.
+pub four-tags : {A B : Type 0} (tag m n o q : ℕ) (x y z w : Option A) (a : A)
+    → cond (eqb tag m) x (cond (eqb tag n) y (cond (eqb tag o) z (cond (eqb tag q) w none))) ≡ some a
+    → (tag ≡ m → x ≡ some a → B) → (tag ≡ n → y ≡ some a → B) → (tag ≡ o → z ≡ some a → B) → (tag ≡ q → w ≡ some a → B) → B
+four-tags tag m n o q x y z w a e f g h i =
+    by-test (eqb tag m)
+    (λ t. f (eqb-true tag m t) (cc))
+    (λ t. by-test (eqb tag n)
+    (λ u. g (eqb-true tag n u) (cc))
+    (λ u. two-tags tag o q z w a (let k : cond (eqb tag o) z (cond (eqb tag q) w none) ≡ some a = cc in k) h i))
+
+-- The three bytes in front, and the others.
+pub front-three : (c : List ℕ) → 3 ≤ length c → byteAt c 0 ∷ byteAt c 1 ∷ byteAt c 2 ∷ drop 3 c ≡ c
+front-three [] h = absurd (omega arith)
+front-three (x ∷ []) h = absurd (omega arith)
+front-three (x ∷ y ∷ []) h = absurd (omega arith)
+front-three (x ∷ y ∷ z ∷ c) h = refl
+
 -- The two bytes in front, and the others.
 pub front-two : (c : List ℕ) → 2 ≤ length c → byteAt c 0 ∷ byteAt c 1 ∷ drop 2 c ≡ c
 front-two [] h = absurd (omega arith)

@@ -146,6 +146,16 @@ module _ (s : List ℕ) (p : ℕ) (w : isWhole s p ≡ true) where
   pub contents-second : 2 ≤ pairAt s (p + 1) → getD (contentsAt s p) 1 0 ≡ getD s (p + 4) 0
   contents-second h = byte-in s (pairAt s (p + 1)) (p + 3) 1 (p + 4) (omega arith) (omega arith)
 
+  pub contents-third : 3 ≤ pairAt s (p + 1) → getD (contentsAt s p) 2 0 ≡ getD s (p + 5) 0
+  contents-third h = byte-in s (pairAt s (p + 1)) (p + 3) 2 (p + 5) (omega arith) (omega arith)
+
+  pub contents-past : drop 3 (contentsAt s p) ≡ slice (p + 6) (fieldEnd s p) s
+  unfolding fieldEnd
+  contents-past =
+      let h : p + 3 ≤ length s = omega (arith, fits) in
+      let d : p + 3 + 3 ≡ p + 6 = omega arith in
+      cc (part-is s (p + 3) (pairAt s (p + 1)) h, part-past s (p + 3) (p + 3 + pairAt s (p + 1)) 3)
+
   pub contents-after : drop 2 (contentsAt s p) ≡ slice (p + 5) (fieldEnd s p) s
   unfolding fieldEnd
   contents-after =
@@ -159,6 +169,17 @@ pub two-tags : {A : Type 0} (x y : Bool) {d e : Option A} (g k : Bool) (u v : A)
 two-tags true y g k u v h j = h
 two-tags false true g k u v h j = j
 two-tags false false g k u v h j = refl
+
+-- The same for four tags.
+pub four-tags : {A : Type 0} (x y z w : Bool) {a b c d : Option A} (g h i j : Bool) (t u v s : A)
+    → a ≡ cond g (some t) none → b ≡ cond h (some u) none → c ≡ cond i (some v) none → d ≡ cond j (some s) none
+    → cond x a (cond y b (cond z c (cond w d none)))
+    ≡ cond (cond x g (cond y h (cond z i (cond w j false)))) (some (cond x t (cond y u (cond z v s)))) none
+four-tags true y z w g h i j t u v s p q r o = p
+four-tags false true z w g h i j t u v s p q r o = q
+four-tags false false true w g h i j t u v s p q r o = r
+four-tags false false false true g h i j t u v s p q r o = o
+four-tags false false false false g h i j t u v s p q r o = refl
 
 -- What is decoded of each field is read at its place: ok and at say so of one field that is whole.
 module _ {E : Type 0} (decode : Field → Option E) (ok : ℕ → Bool) (at : ℕ → E) (s : List ℕ)

@@ -1,18 +1,18 @@
 -- What is put into the output: a law for each return and turn of the functions of `put`.
-use Prim.Native.Nat.{ℕ, suc, _+_, _-_, _≤_, _<_}
+use Prim.Native.Nat.{ℕ, zero, suc, min, _+_, _-_, _*_, _/_, _%_, _≤_, _<_}
 use mathlib.Core.Path.{_≡_, refl, ap, sym, subst, _∙_}
 use mathlib.Core.List.{List, [], _∷_, _++_, append-assoc, append-nil}
 use mathlib.Core.Option.{none, some}
 use native.Mathlib.Omega.{arith}
 use lib.ListN.{length, getD, set, take, drop, drop-of-length-le, length-set, length-append}
-use lib.Seq.{sets-eq}
+use lib.Seq.{sets, sets-eq}
 use Rattle.fields.specs.Fields.{twoBytes}
 use Rattle.fields.specs.Inner.Writing.{spliced}
 use Rattle.fields.proofs.Split.{front}
 use Rattle.fields.proofs.Splices.{splice-splice, nothing-spliced}
 use Rattle.language.specs.Language.{Language, rangeOf, argumentsOf}
 use Rattle.language.specs.Inner.Entries.{classRange}
-use Rattle.reader.specs.Code.{Code, node, Codes, nil, cons}
+use Rattle.reader.specs.Code.{Code, node, token, Codes, nil, cons}
 use Rattle.reader.specs.Syntax.{write, writeAll, tree}
 use Rattle.translation.specs.Translation.{Translation}
 use Rattle.translation.specs.Running.{Clauses, clausesOf}

@@ -3,7 +3,7 @@ use needs::levels::name_need;
 use reader::index::TABLE;
 ghost use mathlib.Core.Path.{_≡_};
 ghost use mathlib.Core.Option.{none};
-ghost use Prim.Native.Nat.{suc, _<_, _≤_};
+ghost use Prim.Native.Nat.{ℕ, suc, _<_, _≤_};
 ghost use lib.ListN.{length};
 ghost use Rattle.language.specs.Language.{rangeOf};
 ghost use Rattle.reader.specs.Code.{Code, Codes, node};

@@ -1,14 +1,14 @@
 // The first tree, put into an output. A limit stops it: with a limit of one more than the output holds, and nothing to write
 // into, it measures.
 use crate::choice::choose;
-use emitter::table::clause_at;
-use emitter::table::index_at;
-use emitter::table::source_at;
 use needs::clause::matches;
 use needs::levels::NAMES;
 use needs::levels::token_value;
 use reader::index::TABLE;
 use reader::node::place_at;
+use tables::table::clause_at;
+use tables::table::index_at;
+use tables::table::source_at;
 ghost use mathlib.Core.Path.{_≡_};
 ghost use mathlib.Core.List.{List, [], _∷_};
 ghost use Prim.Native.Nat.{ℕ, suc, _+_, _*_, _<_, _≤_};

@@ -40,9 +40,9 @@ some-production s (suc q) {ks} e =
     let z : slice (q + 5) (q + 3 + pairAt s (q + 1)) s ≡ ks = cc in
     (omega arith, rw (from, stop) z)
 
-no-argument : {A : Type 0} (i : ℕ) {k : ℕ} → kindAt [] i ≡ some k → A
-no-argument zero z = none-some z
-no-argument (suc i) z = none-some z
+no-argument : {A : Type 0} (i j : ℕ) {k : ℕ} → kindAt [] i j ≡ some k → A
+no-argument zero j z = none-some z
+no-argument (suc i) j z = none-some z
 
 -- What is known of a production by its place in the language.
 pub record Named (s b : List ℕ) (at place : ℕ) : Type 0 where
@@ -73,13 +73,13 @@ module _ (index s b : List ℕ) (at k : ℕ) (l : Language) (x : Index index s l
     };
     kinds = λ y i j. absurd (omega arith);
   }
-  leaf-opens u (typed-argument {i = i} e) h c = no-argument i e
+  leaf-opens u (typed-argument {i = i} {j = j} e) h c = no-argument i j e
 
   leaf-token : (u : Code) → Typed l [] u k → (getD index k 0 ≡ 0 → ⊥) → (v : ℕ) × (u ≡ token v)
   leaf-token u (typed-node {p = p} {ks = ks} e w) c =
       absurd (c (no-class s (getD index k 0) (sym (x .indexed .range k kind) ∙ apart l (x .apart) k p ks e)))
   leaf-token u (typed-token {v = v} e w) c = (v, refl)
-  leaf-token u (typed-argument {i = i} e) c = no-argument i e
+  leaf-token u (typed-argument {i = i} {j = j} e) c = no-argument i j e
 
   module _ (bytes : (i : ℕ) → getD b i 0 < 256) (class : getD index k 0 ≡ 0) where
     abbrev spot : ℕ
@@ -103,7 +103,7 @@ module _ (index s b : List ℕ) (at k : ℕ) (l : Language) (x : Index index s l
           short = x .indexed .sound .short;
         }
     node-named u (typed-token e w) h = absurd (some-class s (getD index k 0) (sym (x .indexed .range k kind) ∙ e) class)
-    node-named u (typed-argument {i = i} e) h = no-argument i e
+    node-named u (typed-argument {i = i} {j = j} e) h = no-argument i j e
 
     node-opens : (u : Code) → Typed l [] u k → Lies l b at k u → Opens index s b at k l u (spot + 4) (spot + 2 + pairAt s spot) (at + 1)
     node-opens u (typed-node {p = p} {t = ts} {ks = ks} e w) h =
@@ -118,7 +118,7 @@ module _ (index s b : List ℕ) (at k : ℕ) (l : Language) (x : Index index s l
           kinds = x .indexed .sound .operands k (getD b at 0) kind (bytes at) (f .1);
         }
     node-opens u (typed-token e w) h = absurd (some-class s (getD index k 0) (sym (x .indexed .range k kind) ∙ e) class)
-    node-opens u (typed-argument {i = i} e) h = no-argument i e
+    node-opens u (typed-argument {i = i} {j = j} e) h = no-argument i j e
 
 -- operands_at
 module _ (index s b : List ℕ) (at k : ℕ) (l : Language) (t : Code) (h : There index s b at k l t) (j c : ℕ) (ej : j ≡ k) (ec : c ≡ getD index j 0) where

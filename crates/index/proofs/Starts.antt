@@ -1,5 +1,5 @@
 -- Spans by their starts: a law for each return and turn of `entry_from`.
-use Prim.Native.Nat.{ℕ, _+_, _-_, _<_, _≤_}
+use Prim.Native.Nat.{ℕ, zero, suc, _+_, _-_, _<_, _≤_}
 use mathlib.Core.Path.{_≡_, refl, sym, ap, _∙_}
 use mathlib.Core.List.{List, [], _∷_, _++_, append-assoc, append-nil}
 use native.Mathlib.Omega.{arith}
@@ -18,7 +18,7 @@ pub own-span : (a : ℕ) (t : Code) → (r : List Span) × (spans a t ≡ span a
 unfolding spans
 own-span a (node k p ts) = (spansAll (a + 1) ts, refl)
 own-span a (token v) = ([], refl)
-own-span a (argument i) = ([], refl)
+own-span a (argument i j) = ([], refl)
 
 pub below-append : (x : ℕ) (l m : List Span) → Below x l → Below x m → Below x (l ++ m)
 below-append x [] m h k = k
@@ -31,7 +31,8 @@ mutual
   pub spans-below : (t : Code) (a x : ℕ) → a + size t ≤ x → Below x (spans a t)
   spans-below (node k p ts) a x h = (omega arith, spans-all-below ts (a + 1) x (omega arith))
   spans-below (token v) a x h = (omega arith, tt)
-  spans-below (argument i) a x h = (omega arith, tt)
+  spans-below (argument i zero) a x h = (omega arith, tt)
+  spans-below (argument i (suc j)) a x h = (omega arith, tt)
 
   pub spans-all-below : (ts : Codes) (a x : ℕ) → a + length (writeAll tree ts) ≤ x → Below x (spansAll a ts)
   spans-all-below nil a x h = tt

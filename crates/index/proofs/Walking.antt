@@ -1,5 +1,5 @@
 -- The walk that deals with the entries of a tree: a law for each return and turn of `mark_at`.
-use Prim.Native.Nat.{ℕ, _+_, _-_, _*_, _<_, _≤_}
+use Prim.Native.Nat.{ℕ, zero, suc, _+_, _-_, _*_, _<_, _≤_}
 use mathlib.Core.Path.{_≡_, refl, sym, ap, _∙_}
 use mathlib.Core.Bool.{Bool, true, false}
 use mathlib.Core.List.{List, [], _∷_, _++_, append-assoc, append-nil}
@@ -63,9 +63,12 @@ mutual
   entries-few (token v) a =
       let e = ap length (entries-cons (span a 2) []) ∙ length-append (entry (span a 2)) (entries []) in
       omega (arith, e, entry-length a 2, entries-none)
-  entries-few (argument i) a =
+  entries-few (argument i zero) a =
       let e = ap length (entries-cons (span a 1) []) ∙ length-append (entry (span a 1)) (entries []) in
       omega (arith, e, entry-length a 1, entries-none)
+  entries-few (argument i (suc j)) a =
+      let e = ap length (entries-cons (span a 2) []) ∙ length-append (entry (span a 2)) (entries []) in
+      omega (arith, e, entry-length a 2, entries-none)
 
   entries-few-all : (ts : Codes) (a : ℕ) → length (entries (spansAll a ts)) ≤ 4 * length (writeAll tree ts)
   entries-few-all nil a = omega (arith, entries-none)

@@ -20,7 +20,7 @@ unfoldable mutual
   pub spans : (start : ℕ) → Code → List Span
   spans start (node k p t) = span start (size (node k p t)) ∷ spansAll (start + 1) t
   spans start (token v) = span start (size (token v)) ∷ []
-  spans start (argument i) = span start (size (argument i)) ∷ []
+  spans start (argument i j) = span start (size (argument i j)) ∷ []
 
   -- Those of trees that stand one behind the other.
   pub spansAll : (start : ℕ) → Codes → List Span

@@ -1,7 +1,7 @@
 -- What the join gives: the check of the joined value refuses it exactly if it exceeds a limit.
 use Prim.Native.Nat.{ℕ, _≤_, _<_}
 use mathlib.Core.Path.{_≡_, refl, sym, ap, subst, _∙_}
-use mathlib.Core.Bool.{Bool, true, false}
+use mathlib.Core.Bool.{Bool, true, false, _&&_}
 use mathlib.Core.Option.{some}
 use mathlib.Core.List.{List}
 use native.Mathlib.Omega.{arith}
@@ -9,27 +9,29 @@ use lib.ListN.{length, getD, take}
 use lib.Seq.{length-take-le}
 use lib.Dec.{ltb}
 use borrow.Author.Tests.{ltb-true, ltb-false}
-use Rattle.fields.specs.Lists.{any}
+use Rattle.fields.specs.Lists.{all, any, isSome}
 use Rattle.fields.specs.Outcome.{value, refused, refuseIf, checked, written}
 use Rattle.fields.specs.declared.outcome.Outcome.{Outcome}
 use Rattle.fields.specs.declared.outcome.Outcome.the-variants.{Accepted, Refused}
 use Rattle.fields.specs.declared.outcome.Reason.{Reason}
-use Rattle.fields.specs.declared.outcome.Reason.the-variants.{ValueTooLarge, JoinUnfit}
-use Rattle.fields.proofs.Truth.{by-test, both-and, or-false, mem-all, any-false}
+use Rattle.fields.specs.declared.outcome.Reason.the-variants.{ValueTooLarge, JoinUnfit, NumberUnfit}
+use Rattle.fields.proofs.Truth.{by-test, and-both, both-and, or-false, all-mem, mem-all, any-false, some-is}
 use Rattle.fields.proofs.Keyed.{rising-is}
 use Rattle.language.specs.Language.{entryKey}
 use Rattle.language.specs.LanguageFile.{entriesOf, encodeLanguage}
 use Rattle.language.proofs.Codec.{entryWhole, language-encode}
 use Rattle.language.proofs.Lookup.{none-clashes}
-use Rattle.translation.specs.Translation.{Translation, itemKey}
+use Rattle.translation.specs.Translation.{Body, mapping, Translation, itemKey, mappingOf}
 use Rattle.translation.specs.TranslationFile.{encodeTranslation, translationLimit, bodyOf, allRising}
 use Rattle.translation.specs.Operations.{checkTranslation}
-use Rattle.translation.specs.Inner.ItemIndex.{IndexedItems, mappedAt}
+use Rattle.translation.specs.Inner.ItemIndex.{Mapped}
 use Rattle.translation.proofs.Codec.{itemWhole, rising-grouped, body-encode, WholeTranslation, translation-back}
 use Rattle.translation.proofs.Accepted.{accepts}
-use Rattle.translation.proofs.IndexedItems.{mapped-is}
-use Rattle.emitter.specs.Inner.Table.{Ready, Checked}
-use Rattle.operators.specs.Operators.{joinFits, joined, translationJoin}
+use Rattle.translation.proofs.Lookup.{mapping-mem}
+use Rattle.tables.specs.Inner.Table.{Ready, Checked}
+use Rattle.operators.specs.Operators.{numbersLow, joinFits, joined, translationJoin}
+use Rattle.operators.specs.Inner.Numbers.{mappingBelow}
+use Rattle.operators.proofs.Numbering.{low-mappings}
 use Rattle.operators.specs.Limits.{codeIsDeep, languageExceeds, translationExceeds}
 use Rattle.fields.specs.declared.copy.Stored.{Stored}
 use Rattle.fields.specs.declared.copy.Stored.the-variants.{Full}
@@ -44,7 +46,7 @@ use Rattle.operators.specs.Inner.Assembled.{assembled}
 use Rattle.operators.proofs.Accepted.{accepted-good, whole-over, body-in, body-over, assembled-given}
 use Rattle.operators.proofs.Given.{assembled-is, gives-refused}
 use Rattle.operators.proofs.TranslationLaws.{spelt-good}
-use Rattle.joining.specs.Inner.Joining.{Held, Joining, Maps, Fitted, joinedBody, measured}
+use Rattle.joining.specs.Inner.Joining.{Held, Joining, Fitted, joinedBody, measured}
 
 -- Bytes that were given whole.
 pub record Whole (v o′ : List ℕ) (n : ℕ) : Type 0 where
@@ -80,7 +82,7 @@ module _ (v : List ℕ) (c o : Outcome) (e : o ≡ c) where
   measure-refused h = ap (measured v) (sym h ∙ e)
 
 -- The value of a join of translations that files hold.
-module _ (f g : Translation) (hf : Held f) (hg : Held g) (fits : joinFits f g ≡ true) where
+module _ (f g : Translation) (hf : Held f) (hg : Held g) (fits : joinFits f g ≡ true) (low-first : numbersLow f ≡ true) (low-second : numbersLow g ≡ true) where
   first-good : GoodTranslation f
   first-good = accepted-good (hf .0) f (hf .1)
 
@@ -92,7 +94,7 @@ module _ (f g : Translation) (hf : Held f) (hg : Held g) (fits : joinFits f g �
   rises =
       both-and _ _ (rising-is entryKey (g .source) (second-good .sound .source .rises))
       (both-and _ _ (rising-is entryKey (f .target) (first-good .sound .target .rises))
-      (rising-is itemKey (joined f g .body) (body-rises f g (first-good .sound) (second-good .sound) fits)))
+      (rising-is itemKey (joined f g .body) (body-rises f g (first-good .sound) (second-good .sound) fits low-first low-second)))
 
   -- Within 4,096 bytes it is whole.
   whole : length (encodeTranslation (joined f g)) ≤ 4096 → WholeTranslation (joined f g)
@@ -100,7 +102,7 @@ module _ (f g : Translation) (hf : Held f) (hg : Held g) (fits : joinFits f g �
   whole h = record {
     source = mem-all entryWhole (g .source) (second-good .sound .source .whole);
     target = mem-all entryWhole (f .target) (first-good .sound .target .whole);
-    body = mem-all itemWhole (joined f g .body) (join-whole f g (first-good .sound) (second-good .sound) fits);
+    body = mem-all itemWhole (joined f g .body) (join-whole f g (first-good .sound) (second-good .sound) fits low-first low-second);
     rises = rises;
     source-apart = none-clashes (g .source) (g .source) (second-good .sound .source .apart);
     target-apart = none-clashes (f .target) (f .target) (first-good .sound .target .apart);
@@ -115,7 +117,7 @@ module _ (f g : Translation) (hf : Held f) (hg : Held g) (fits : joinFits f g �
   checked-sound h e =
       let a = accepts (encodeTranslation (joined f g)) refl e in
       formed-sound (joined f g) (a .translation) (second-good .sound .source) (first-good .sound .target)
-      (join-whole f g (first-good .sound) (second-good .sound) fits) (body-rises f g (first-good .sound) (second-good .sound) fits)
+      (join-whole f g (first-good .sound) (second-good .sound) fits low-first low-second) (body-rises f g (first-good .sound) (second-good .sound) fits low-first low-second)
       (sym (translation-back (joined f g) (whole h)) ∙ a .is) .0
 
   -- What the check refuses exceeds a limit.
@@ -129,7 +131,7 @@ module _ (f g : Translation) (hf : Held f) (hg : Held g) (fits : joinFits f g �
       let a = or-false (languageExceeds (g .source)) _ d in
       let b = or-false (languageExceeds (f .target)) _ (a .1) in
       let c = or-false (ltb translationLimit (length (encodeTranslation (joined f g)))) (any (codeIsDeep (joined f g)) (joined f g .body)) (b .1) in
-      let s = sound-join f g (first-good .sound) (second-good .sound) fits (any-false (codeIsDeep (joined f g)) (joined f g .body) (c .1)) in
+      let s = sound-join f g (first-good .sound) (second-good .sound) fits low-first low-second (any-false (codeIsDeep (joined f g)) (joined f g .body) (c .1)) in
       let v = good-back (joined f g) (record { sound = s; source-short = second-good .source-short; target-short = first-good .target-short; short = h }) in
       let z : Accepted 0 ≡ Refused w = sym (ap checked v) ∙ e in
       let y : _≡_ {A = ℕ} 0 1 = cc in
@@ -221,18 +223,43 @@ spelt-checked s t b f w = record {
   accepted = w .accepted;
 }
 
+-- `numbers_low`, `number_limit`
+pub low-not : {a b : Bool} (c : Bool) → a ≡ b → a ≡ false → false ≡ (b && c)
+low-not c e h = rw (← e, h) refl
+
+pub low-both : {a b c d : Bool} → a ≡ b → a ≡ true → d ≡ c → d ≡ (b && c)
+low-both e h g = rw (← e, h) g
+
+pub limit-one : (s : List ℕ) (b : Bool) → ((c : Body) → bodyOf s ≡ some c → b ≡ all (mappingBelow 1) c) → b ≡ true
+    → (c : Body) → bodyOf s ≡ some c → all (mappingBelow 1) c ≡ true
+limit-one s b h e c q = sym (h c q) ∙ e
+
+-- Numbers of mappings are below a limit that all items have.
+mapped-below : (b : Body) (limit : ℕ) → all (mappingBelow limit) b ≡ true → (k j : ℕ) → isSome (mappingOf b k j) ≡ true → j < limit
+unfolding mappingBelow
+mapped-below b limit e k j h =
+    let t = some-is (mappingOf b k j) h in
+    ltb-true j limit (all-mem (mappingBelow limit) b e (mapping k j (t .0)) (mapping-mem b k j (t .0) (t .1)))
+
 module _ (s t b s′ b′ : List ℕ) (f g : Translation) (w : Fitted s t b s′ b′ f g) where
-  pub fitted-joining : (table ib′ : List ℕ) → (Checked s t b f → Ready table f) → IndexedItems ib′ b′ (g .body) → Joining table b′ ib′ f g
-  fitted-joining table ib′ x v = record {
+  pub first-below : all (mappingBelow 16) (f .body) ≡ true
+  first-below = low-mappings f (spelt-good s t b f (w .first) .sound) ∙ w .first-low
+
+  pub fitted-joining : (table u u′ : List ℕ) (limit : ℕ) → (Checked s t b f → Ready table f) → Mapped u (f .body) → Mapped u′ (g .body)
+      → all (mappingBelow limit) (f .body) ≡ true → limit ≤ 16 → Joining table u b′ u′ limit f g
+  fitted-joining table u u′ limit x m m′ below few = record {
     first = spelt-held s t b f (w .first);
     second = spelt-held s′ (w .second .0) b′ g (w .second .1);
     fits = w .fits;
+    first-low = w .first-low;
+    second-low = w .second-low;
     table = x (spelt-checked s t b f (w .first));
-    body = v;
+    uses = m;
+    items = body-items s′ (w .second .0) b′ g (w .second .1);
+    second-uses = m′;
+    below = mapped-below (f .body) limit below;
+    few = few;
   }
-
-  pub fitted-maps : (ib m : List ℕ) → IndexedItems ib b (f .body) → ((k : ℕ) → k < 32 → getD m k 0 ≡ mappedAt b ib k) → Maps m f
-  fitted-maps ib m y n = record { at = λ k h. n k h ∙ mapped-is b ib (f .body) y k h }
 
   -- `join_fitting`: the body did not fit into 4,096 bytes
   pub fitting-full : (d d′ o : List ℕ) (r : Stored) → length d ≡ 4096 → Stores (joinedBody f g) d d′ 0 r → r ≡ Full
@@ -240,23 +267,49 @@ module _ (s t b s′ b′ : List ℕ) (f g : Translation) (w : Fitted s t b s′
   fitting-full d d′ o r n h e = gives-refused _ o o ValueTooLarge (body-over (joined f g) (omega (arith, h .full e, n))) refl
 
 -- `join_parts`
-module _ (s t x u v y : List ℕ) (f g : Translation) (p : EncodedParts s t x f) (q : EncodedParts u v y g) (b : Bool) (e : b ≡ liesWithin v s) where
-  fits-is : b ≡ joinFits f g
-  unfolding joinFits
-  fits-is =
-      e ∙ (ap (λ (a : List ℕ). liesWithin a s) (q .target)
-      ∙ (ap (liesWithin (encodeLanguage (g .target))) (p .source)
-      ∙ language-within (g .target) (f .source) (spelt-good u v y g q .sound .target .whole) (spelt-good s t x f p .sound .source .whole)))
+module _ (s t x u v y : List ℕ) (f g : Translation) (p : EncodedParts s t x f) (q : EncodedParts u v y g) where
+  -- What the test of both bodies' numbers says.
+  abbrev Tests : Bool → Type 0
+  Tests b = (c d : Body) → bodyOf x ≡ some c → bodyOf y ≡ some d → b ≡ (all (mappingBelow 16) c && all (mappingBelow 16) d)
 
-  pub parts-unfit : b ≡ false → (o : List ℕ) → Gives (translationBytes (translationJoin f g)) o o (Refused JoinUnfit)
+  low-is : (b : Bool) → Tests b → b ≡ (numbersLow f && numbersLow g)
+  low-is b e =
+      e (f .body) (g .body) (body-items s t x f p) (body-items u v y g q)
+      ∙ rw (low-mappings f (spelt-good s t x f p .sound), low-mappings g (spelt-good u v y g q .sound)) refl
+
+  pub parts-high : (b : Bool) → Tests b → b ≡ false → (o : List ℕ) → Gives (translationBytes (translationJoin f g)) o o (Refused NumberUnfit)
   unfolding translationJoin
-  parts-unfit h o =
-      let z : joinFits f g ≡ false = sym fits-is ∙ h in
-      gives-refused (translationBytes (translationJoin f g)) o o JoinUnfit (rw z refl) refl
+  parts-high b e h o =
+      let z : (numbersLow f && numbersLow g) ≡ false = sym (low-is b e) ∙ h in
+      gives-refused (translationBytes (translationJoin f g)) o o NumberUnfit (rw z refl) refl
 
-  pub parts-fitted : b ≡ true → Fitted s t x u y f g
-  parts-fitted h = record { first = p; second = (v, q); fits = sym fits-is ∙ h }
+  module _ (b : Bool) (eb : Tests b) (tb : b ≡ true) where
+    both-low : (numbersLow f ≡ true) × (numbersLow g ≡ true)
+    both-low = and-both (numbersLow f) (numbersLow g) (sym (low-is b eb) ∙ tb)
 
-  pub parts-given : b ≡ true → (o o′ : List ℕ) (r : Outcome) → Gives (translationBytes (value (joined f g))) o o′ r → Gives (translationBytes (translationJoin f g)) o o′ r
-  unfolding translationJoin
-  parts-given h o o′ r w = let z : joinFits f g ≡ true = sym fits-is ∙ h in rw z w
+    first-low : numbersLow f ≡ true
+    first-low = both-low .0
+
+    second-low : numbersLow g ≡ true
+    second-low = both-low .1
+
+    module _ (d : Bool) (e : d ≡ liesWithin v s) where
+      fits-is : d ≡ joinFits f g
+      unfolding joinFits
+      fits-is =
+          e ∙ (ap (λ (a : List ℕ). liesWithin a s) (q .target)
+          ∙ (ap (liesWithin (encodeLanguage (g .target))) (p .source)
+          ∙ language-within (g .target) (f .source) (spelt-good u v y g q .sound .target .whole) (spelt-good s t x f p .sound .source .whole)))
+
+      pub parts-unfit : d ≡ false → (o : List ℕ) → Gives (translationBytes (translationJoin f g)) o o (Refused JoinUnfit)
+      unfolding translationJoin
+      parts-unfit h o =
+          let z : joinFits f g ≡ false = sym fits-is ∙ h in
+          gives-refused (translationBytes (translationJoin f g)) o o JoinUnfit (rw (first-low, second-low, z) refl) refl
+
+      pub parts-fitted : d ≡ true → Fitted s t x u y f g
+      parts-fitted h = record { first = p; second = (v, q); first-low = first-low; second-low = second-low; fits = sym fits-is ∙ h }
+
+      pub parts-given : d ≡ true → (o o′ : List ℕ) (r : Outcome) → Gives (translationBytes (value (joined f g))) o o′ r → Gives (translationBytes (translationJoin f g)) o o′ r
+      unfolding translationJoin
+      parts-given h o o′ r w = let z : joinFits f g ≡ true = sym fits-is ∙ h in rw (first-low, second-low, z) w

@@ -1,149 +1,231 @@
-// The body of a join: each item of the second's body, chained or run through the first.
+// The body of a join: each item of the second's body, once for each number of the first, chained or run through the first.
 ghost use mathlib.Core.Path.{_≡_};
 ghost use mathlib.Core.Bool.{true};
-ghost use Prim.Native.Nat.{_+_, _<_, _≤_};
-ghost use lib.ListN.{length, getD};
-ghost use Rattle.fields.specs.Inner.Places.{EndsAt, fieldEnd};
-ghost use Rattle.translation.specs.Translation.{Translation};
-ghost use Rattle.translation.specs.Inner.Items.{itemWhole, IsMapping, IsClause};
-ghost use Rattle.fields.specs.Inner.Writing.{spliced, Stores};
-ghost use Rattle.joining.specs.Inner.Joining.{Joining, Maps, Reached, head, joinedCode, joinedField, joinedBody};
+ghost use Prim.Native.Nat.{_<_, _≤_};
+ghost use lib.ListN.{length, replicate};
+ghost use Rattle.fields.specs.Fields.{encodeField};
+ghost use Rattle.fields.specs.Inner.Writing.{Stores};
+ghost use Rattle.reader.specs.Code as Terms;
+ghost use Rattle.reader.specs.Syntax.{write, code};
+ghost use Rattle.reader.specs.Typing.{Uses};
+ghost use Rattle.reader.specs.declared.node.Syntax.the-variants.{Code};
+ghost use Rattle.translation.specs.Translation.{mapping, Translation};
+ghost use Rattle.translation.specs.TranslationFile.{itemField};
+ghost use Rattle.translation.specs.Running.{transform};
+ghost use Rattle.translation.specs.Inner.Items.{itemWhole, itemAt};
+ghost use Rattle.emitter.specs.Inner.Runs.{TermAsks};
+ghost use Rattle.operators.specs.Inner.Paired.{reached};
+ghost use Rattle.joining.specs.Inner.Joining.{Joining, Reached, headLength, clauseHead, ClauseAsks, NumberAsks, ReachAsks, pairedField, numberField, joinedField, joinedBody};
 use emitter::run::run;
 use fields::bytes::byte_at;
 use fields::bytes::to_usize;
 use fields::copy::Stored;
+use fields::copy::put;
+use fields::walk::MAPPING;
+use fields::walk::NUMBERED;
 use fields::walk::field_end;
+use fields::walk::order_at;
+use fields::walk::whole_end;
 use reader::index::TABLE;
 use reader::node::Syntax;
-use translation::index::map_kind;
+use translation::body::CLAUSE;
+use translation::body::NUMBERED_CLAUSE;
+use translation::body::is_clause;
 
-// Puts the first five bytes of a field 22 or 23 into the output: its tag, its length, and two bytes.
-fn put_head(tag: u8, size: usize, first: u8, second: u8, out: &mut [u8], n: usize)
-    requires { ⌜ (n + 5 ≤ length (now out)) × (size < 65536) ⌝ }
-    ensures { λ r. ⌜ now (out .exit) ≡ spliced (now (out .entry)) n (head tag size first second) ⌝ }
+// How many bytes stand before the code in the field of a clause of this number.
+fn head_length(number: usize) -> usize
+    ensures { λ r. ⌜ (r ≡ headLength number) × (5 ≤ r) × (r ≤ 6) ⌝ }
 {
-    out[n] = tag;
-    out[n + 1] = (size / 256) as u8;
-    out[n + 2] = (size % 256) as u8;
-    out[n + 3] = first;
-    out[n + 4] = second;
-}
-
-// The mapping at p of the second's body, chained: its target kind is where the first maps it.
-fn join_mapping(mapped: &[u8], second_body: &[u8], p: usize, out: &mut [u8], n: usize) -> Stored
-    requires { ⌜ IsMapping (now «second_body») p × (n ≤ length (now out)) × (length (now out) ≤ 4096) ⌝ }
-    ensures { λ r. ⌜ Stores (head 0x22 2 (getD (now («second_body» .entry)) (p + 3) 0) (getD (now (mapped .entry)) (getD (now («second_body» .entry)) (p + 4) 0) 0)) (now (out .entry)) (now (out .exit)) n r ⌝ }
-{
-    if out.len() - n < 5 {
-        return Stored::Full;
+    if number == 0 {
+        return 5;
     }
-    let middle = byte_at(second_body, p + 4);
-    let kind = byte_at(mapped, to_usize(middle));
-    put_head(0x22, 2, byte_at(second_body, p + 3), kind, out, n);
-    Stored::To(n + 5)
+    6
 }
 
-// The code of the clause at p of the second's body, which ends at e, run through the first with its arguments kept.
-fn join_code(
+// The field of a mapping, into the output from n on.
+fn put_mapping(source: u8, number: usize, target: u8, out: &mut [u8], n: usize) -> Stored
+    requires { ⌜ (number < 256) × (n ≤ length (now out)) ⌝ }
+    ensures { λ r. ⌜ Stores (encodeField (itemField (mapping source number target))) (now (out .entry)) (now (out .exit)) n r ⌝ }
+{
+    if number == 0 {
+        let plain = [MAPPING, 0, 2, source, target];
+        return put(&plain, 0, 5, out, n);
+    }
+    let field = [NUMBERED, 0, 3, source, number as u8, target];
+    put(&field, 0, 6, out, n)
+}
+
+// What stands before the code in the field of a clause with contents of this size, into the output from n on.
+fn put_head(result: u8, name: u8, number: usize, size: usize, out: &mut [u8], n: usize) -> Stored
+    requires { ⌜ (number < 256) × (size < 65536) × (n ≤ length (now out)) ⌝ }
+    ensures { λ r. ⌜ Stores (clauseHead result name number size) (now (out .entry)) (now (out .exit)) n r ⌝ }
+{
+    let high = (size / 256) as u8;
+    let low = (size % 256) as u8;
+    if number == 0 {
+        let plain = [CLAUSE, high, low, result, name];
+        return put(&plain, 0, 5, out, n);
+    }
+    let head = [NUMBERED_CLAUSE, high, low, result, name, number as u8];
+    put(&head, 0, 6, out, n)
+}
+
+// The run of a code through the first by a number, its uses kept, into the output from n on.
+fn put_run(
     table: &[u16; TABLE],
-    second_body: &[u8],
-    second_items: &[u16],
-    p: usize,
-    e: usize,
+    input: &[u8],
+    kind: u8,
+    number: u8,
     out: &mut [u8],
     n: usize,
 ) -> Stored
-    requires { ⌜ IsClause (now «second_body») p × Reached (now «second_body») p × (e ≡ fieldEnd (now «second_body») p) × (n ≤ length (now out)) × ((f g : Translation) × Joining (now table) (now «second_body») (now «second_items») f g) ⌝ }
-    ensures { λ r. ⌜ ((f g : Translation) → Joining (now (table .entry)) (now («second_body» .entry)) (now («second_items» .entry)) f g
-        → Stores (joinedCode f g (now («second_body» .entry)) p) (now (out .entry)) (now (out .exit)) n r) ⌝ }
+    requires { ⌜ (n ≤ length (now out)) × ((f : Translation) × (given : Uses) × (u : Terms.Code) × TermAsks Code (now table) (now input) (replicate 2 0) 16 kind number f given u) ⌝ }
+    ensures { λ r. ⌜ ((f : Translation) (given : Uses) (u : Terms.Code) → TermAsks Code (now (table .entry)) (now (input .entry)) (replicate 2 0) 16 kind number f given u
+        → Stores (write code (transform f number u)) (now (out .entry)) (now (out .exit)) n r) ⌝ }
 {
-    let kind = map_kind(second_body, second_items, byte_at(second_body, p + 3));
     let ends = [0u32; 2];
-    let m = run(
-        Syntax::Code,
-        table,
-        &second_body[p + 5..e],
-        &ends,
-        kind,
-        16,
-        out,
-        n,
-    );
+    let m = run(Syntax::Code, table, input, &ends, kind, number, 16, out, n);
     if out.len() < m {
         return Stored::Full;
     }
     Stored::To(m)
 }
 
-// The clause at p of the second's body, which ends at e, joined: its code is put in first, and then what stands before
-// it.
+// The clause of number i at p of the second's body, which ends at e, joined by number j of the first: its code is put in first,
+// and then what stands before it.
 fn join_clause(
     table: &[u16; TABLE],
     second_body: &[u8],
-    second_items: &[u16],
     p: usize,
     e: usize,
+    kind: u8,
+    i: usize,
+    j: u8,
     out: &mut [u8],
     n: usize,
 ) -> Stored
-    requires { ⌜ IsClause (now «second_body») p × Reached (now «second_body») p × (e ≡ fieldEnd (now «second_body») p) × (n ≤ length (now out)) × (length (now out) ≤ 4096) × ((f g : Translation) × Joining (now table) (now «second_body») (now «second_items») f g) ⌝ }
-    ensures { λ r. ⌜ ((f g : Translation) → Joining (now (table .entry)) (now («second_body» .entry)) (now («second_items» .entry)) f g
-        → Stores (joinedField f g (now («second_body» .entry)) p) (now (out .entry)) (now (out .exit)) n r) ⌝ }
+    requires { ⌜ (n ≤ length (now out)) × (length (now out) ≤ 4096) × ((f g : Translation) × ClauseAsks (now table) (now «second_body») p e kind i j f g) ⌝ }
+    ensures { λ r. ⌜ ((f g : Translation) → ClauseAsks (now (table .entry)) (now («second_body» .entry)) p e kind i j f g
+        → Stores (pairedField f g (now («second_body» .entry)) p j) (now (out .entry)) (now (out .exit)) n r) ⌝ }
 {
-    if out.len() - n < 5 {
+    let number = 16 * i + to_usize(j);
+    let start = n + head_length(number);
+    if out.len() < start {
         return Stored::Full;
     }
-    let Stored::To(m) = join_code(table, second_body, second_items, p, e, out, n + 5) else {
+    let input = &second_body[p + head_length(i)..e];
+    let Stored::To(m) = put_run(table, input, kind, j, out, start) else {
         return Stored::Full;
     };
     let result = byte_at(second_body, p + 3);
     let name = byte_at(second_body, p + 4);
-    put_head(0x23, m - n - 3, result, name, out, n);
+    put_head(result, name, number, m - n - 3, out, n);
     Stored::To(m)
 }
 
-// The item at p of the second's body, which ends at e, joined.
-fn join_item(
+// The item of number i at p of the second's body, which ends at e and reaches a kind, joined by number j of the first, where
+// that kind has the number.
+fn join_number(
     table: &[u16; TABLE],
-    mapped: &[u8],
+    first_uses: &[u8],
     second_body: &[u8],
-    second_items: &[u16],
     p: usize,
     e: usize,
+    kind: u8,
+    i: usize,
+    j: u8,
     out: &mut [u8],
     n: usize,
 ) -> Stored
-    requires { ⌜ (itemWhole (now «second_body») p ≡ true) × Reached (now «second_body») p × EndsAt (now «second_body») p e × (n ≤ length (now out)) × (length (now out) ≤ 4096) × ((f g : Translation) × Joining (now table) (now «second_body») (now «second_items») f g × Maps (now mapped) f) ⌝ }
-    ensures { λ r. ⌜ ((f g : Translation) → Joining (now (table .entry)) (now («second_body» .entry)) (now («second_items» .entry)) f g → Maps (now (mapped .entry)) f
-        → Stores (joinedField f g (now («second_body» .entry)) p) (now (out .entry)) (now (out .exit)) n r) ⌝ }
+    requires { ⌜ (n ≤ length (now out)) × (length (now out) ≤ 4096) × (p < length (now «second_body»)) × ((f g : Translation) × NumberAsks (now table) (now «first_uses») (now «second_body») p e kind i j f g) ⌝ }
+    ensures { λ r. ⌜ ((f g : Translation) → NumberAsks (now (table .entry)) (now («first_uses» .entry)) (now («second_body» .entry)) p e kind i j f g
+        → Stores (numberField f g (now («second_body» .entry)) p j) (now (out .entry)) (now (out .exit)) n r) ⌝ }
 {
-    if byte_at(second_body, p) == 0x22 {
-        return join_mapping(mapped, second_body, p, out, n);
+    let to = byte_at(first_uses, 256 * to_usize(kind) + to_usize(j));
+    if to == 0 {
+        return Stored::To(n);
     }
-    join_clause(table, second_body, second_items, p, e, out, n)
+    if is_clause(byte_at(second_body, p)) {
+        return join_clause(table, second_body, p, e, kind, i, j, out, n);
+    }
+    let source = byte_at(second_body, p + 3);
+    put_mapping(source, 16 * i + to_usize(j), to - 1, out, n)
 }
 
-// The body of the join of the first translation after the second.
+// The kind of the first's source that the item of number i at p of the second's body, which ends at e, reaches: where a mapping
+// goes, or where a clause's result is mapped by the number.
+fn kind_reached(second_body: &[u8], second_uses: &[u8], p: usize, e: usize, i: usize) -> u8
+    requires { ⌜ (p < length (now «second_body»)) × ((g : Translation) × ReachAsks (now «second_body») (now «second_uses») p e i g) ⌝ }
+    ensures { λ r. ⌜ (r < 32) × ((g : Translation) → ReachAsks (now («second_body» .entry)) (now («second_uses» .entry)) p e i g → r ≡ reached g (itemAt (now («second_body» .entry)) p)) ⌝ }
+{
+    if is_clause(byte_at(second_body, p)) {
+        let result = to_usize(byte_at(second_body, p + 3));
+        return byte_at(second_uses, 256 * result + i) - 1;
+    }
+    byte_at(second_body, e - 1)
+}
+
+// The item at p of the second's body, joined by each number below the limit that the kind reached has in the first.
+fn join_item(
+    table: &[u16; TABLE],
+    first_uses: &[u8],
+    limit: u8,
+    second_body: &[u8],
+    second_uses: &[u8],
+    p: usize,
+    out: &mut [u8],
+    n: usize,
+) -> Stored
+    requires { ⌜ (itemWhole (now «second_body») p ≡ true) × Reached (now «second_body») p × (p < length (now «second_body»)) × (n ≤ length (now out)) × (length (now out) ≤ 4096) × ((f g : Translation) × Joining (now table) (now «first_uses») (now «second_body») (now «second_uses») limit f g) ⌝ }
+    ensures { λ r. ⌜ ((f g : Translation) → Joining (now (table .entry)) (now («first_uses» .entry)) (now («second_body» .entry)) (now («second_uses» .entry)) limit f g
+        → Stores (joinedField f g (now («second_body» .entry)) p) (now (out .entry)) (now (out .exit)) n r) ⌝ }
+{
+    let e = whole_end(second_body, p);
+    let i = order_at(second_body, p, MAPPING) % 256;
+    let kind = kind_reached(second_body, second_uses, p, e, i);
+    let mut at = n;
+    let mut j = 0u8;
+    while j < limit {
+        let Stored::To(m) = join_number(table, first_uses, second_body, p, e, kind, i, j, out, at)
+        else {
+            return Stored::Full;
+        };
+        at = m;
+        j += 1;
+    }
+    Stored::To(at)
+}
+
+// The body of the join of the first translation, whose numbers are below the limit, after the second.
 pub fn join_items(
     table: &[u16; TABLE],
-    mapped: &[u8],
+    first_uses: &[u8],
+    limit: u8,
     second_body: &[u8],
-    second_items: &[u16],
+    second_uses: &[u8],
     out: &mut [u8],
 ) -> Stored
-    requires { ⌜ (length (now out) ≤ 4096) × ((f g : Translation) × Joining (now table) (now «second_body») (now «second_items») f g × Maps (now mapped) f) ⌝ }
-    ensures { λ r. ⌜ ((f g : Translation) → Joining (now (table .entry)) (now («second_body» .entry)) (now («second_items» .entry)) f g → Maps (now (mapped .entry)) f
+    requires { ⌜ (length (now out) ≤ 4096) × ((f g : Translation) × Joining (now table) (now «first_uses») (now «second_body») (now «second_uses») limit f g) ⌝ }
+    ensures { λ r. ⌜ ((f g : Translation) → Joining (now (table .entry)) (now («first_uses» .entry)) (now («second_body» .entry)) (now («second_uses» .entry)) limit f g
         → Stores (joinedBody f g) (now (out .entry)) (now (out .exit)) 0 r) ⌝ }
 {
     let mut n = 0;
     let mut p = 0;
     while p < second_body.len() {
-        let e = field_end(second_body, p);
-        let Stored::To(m) = join_item(table, mapped, second_body, second_items, p, e, out, n) else {
+        let Stored::To(m) = join_item(
+            table,
+            first_uses,
+            limit,
+            second_body,
+            second_uses,
+            p,
+            out,
+            n,
+        ) else {
             return Stored::Full;
         };
         n = m;
-        p = e;
+        p = field_end(second_body, p);
     }
     Stored::To(n)
 }

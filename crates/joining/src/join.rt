@@ -1,37 +1,68 @@
 // The join of two translations.
 ghost use mathlib.Core.Path.{_≡_};
-ghost use mathlib.Core.Bool.{true};
+ghost use mathlib.Core.Bool.{true, _&&_};
 ghost use mathlib.Core.List.{List};
+ghost use mathlib.Core.Option.{some};
+ghost use Rattle.fields.specs.Lists.{all};
 ghost use Prim.Native.Nat.{ℕ, _≤_};
 ghost use lib.ListN.{length};
 ghost use Rattle.fields.specs.Outcome.{value};
 ghost use Rattle.language.specs.LanguageFile.{encodeLanguage};
-ghost use Rattle.translation.specs.Translation.{Translation};
+ghost use Rattle.translation.specs.Translation.{Body, Translation};
+ghost use Rattle.translation.specs.TranslationFile.{bodyOf};
 ghost use Rattle.translation.specs.Operations.{checkTranslation};
-ghost use Rattle.operators.specs.Operators.{joinFits, joined, translationJoin};
+ghost use Rattle.operators.specs.Operators.{numbersLow, joinFits, joined, translationJoin};
 ghost use Rattle.fields.specs.Inner.Writing.{Stores};
 ghost use Rattle.operators.specs.Inner.Values.{exactTranslation, Gives, translationBytes};
+ghost use Rattle.operators.specs.Inner.Numbers.{mappingBelow};
 ghost use Rattle.operators.specs.Inner.EncodedParts.{EncodedParts};
 ghost use Rattle.joining.specs.Inner.Joining.{Held, Fitted, joinedBody, measured};
 use super::body::join_items;
 use checks::translations::check_translation;
-use emitter::prepare::prepare;
 use fields::copy::Stored;
 use fields::outcome::Outcome;
 use fields::outcome::Reason;
 use merging::within::lies_within;
 use operators::assemble::assemble;
+use operators::numbers::numbers_below;
 use reader::index::INDEX;
 use reader::index::TABLE;
 use reader::index::put_all;
-use translation::index::build_items;
-use translation::index::map_kinds;
+use reader::node::USES;
+use tables::prepare::prepare;
+use translation::index::put_uses;
 use translation::parts::body_of;
 use translation::parts::source_of;
 use translation::parts::target_of;
 
+// A join pairs numbers below this one, 16 times that of the second plus that of the first.
+const LOW_NUMBERS: usize = 16;
+
+// Whether two bodies have low numbers only.
+fn numbers_low(first_body: &[u8], second_body: &[u8]) -> bool
+    requires { ⌜ ((b : Body) × (bodyOf (now «first_body») ≡ some b)) × ((c : Body) × (bodyOf (now «second_body») ≡ some c)) ⌝ }
+    ensures { λ r. ⌜ ((b c : Body) → bodyOf (now («first_body» .entry)) ≡ some b → bodyOf (now («second_body» .entry)) ≡ some c
+        → r ≡ (all (mappingBelow 16) b && all (mappingBelow 16) c)) ⌝ }
+{
+    if !numbers_below(first_body, LOW_NUMBERS) {
+        return false;
+    }
+    numbers_below(second_body, LOW_NUMBERS)
+}
+
+// A limit that is above all numbers of a body whose numbers are low: 1 where it has number 0 only.
+fn number_limit(body: &[u8]) -> u8
+    requires { ⌜ ((b : Body) × (bodyOf (now body) ≡ some b)) ⌝ }
+    ensures { λ r. ⌜ (r ≤ 16) × ((b : Body) → bodyOf (now (body .entry)) ≡ some b → all (mappingBelow 16) b ≡ true → all (mappingBelow r) b ≡ true) ⌝ }
+{
+    if numbers_below(body, 1) {
+        return 1;
+    }
+    16
+}
+
 // The body of the join of two translations that fit, by the source, target and body of the first and the body of the
-// second: through the table of the first's run, the kinds that it maps to, and an index of the second's items.
+// second: through the table of the first's run, and tables of what the kinds of both map to by number.
 fn join_body(
     first_source: &[u8],
     first_target: &[u8],
@@ -46,13 +77,12 @@ fn join_body(
     let mut table = [0u16; TABLE];
     put_all(first_source, 0x11, &mut table[..INDEX]);
     prepare(first_source, first_target, first_body, &mut table);
-    let mut clauses = [0u16; INDEX];
-    build_items(first_body, &mut clauses);
-    let mut mapped = [0u8; 32];
-    map_kinds(first_body, &clauses, &mut mapped);
-    let mut items = [0u16; INDEX];
-    build_items(second_body, &mut items);
-    join_items(&table, &mapped, second_body, &items, out)
+    let mut first_uses = [0u8; USES];
+    put_uses(first_body, &mut first_uses);
+    let mut second_uses = [0u8; USES];
+    put_uses(second_body, &mut second_uses);
+    let limit = number_limit(first_body);
+    join_items(&table, &first_uses, limit, second_body, &second_uses, out)
 }
 
 // The length of a joined value, or 11 where the check refuses it: a code of it goes too deep.
@@ -70,7 +100,7 @@ fn measure(value: &[u8]) -> Outcome
 // The joined value put together: 11 where it exceeds a limit.
 fn finish(source: &[u8], target: &[u8], body: &[u8], out: &mut [u8]) -> Outcome
     requires { ⌜ (length (now source) ≤ 1024) × (length (now target) ≤ 1024) × (4096 ≤ length (now out)) ⌝ }
-    ensures { λ r. ⌜ ((f g : Translation) → Held f → Held g → joinFits f g ≡ true → now (source .entry) ≡ encodeLanguage (g .source) → now (target .entry) ≡ encodeLanguage (f .target)
+    ensures { λ r. ⌜ ((f g : Translation) → Held f → Held g → joinFits f g ≡ true → numbersLow f ≡ true → numbersLow g ≡ true → now (source .entry) ≡ encodeLanguage (g .source) → now (target .entry) ≡ encodeLanguage (f .target)
         → now (body .entry) ≡ joinedBody f g → Gives (translationBytes (value (joined f g))) (now (out .entry)) (now (out .exit)) r) ⌝ }
 {
     match assemble(source, target, body, out) {
@@ -105,7 +135,8 @@ fn join_fitting(
     finish(second_source, first_target, &body[..n], out)
 }
 
-// The join of the parts of two translations: 13 where the second's target does not lie within the first's source.
+// The join of the parts of two translations: 26 where one has a number above 15, 13 where the second's target does not lie
+// within the first's source.
 fn join_parts(
     first_source: &[u8],
     first_target: &[u8],
@@ -119,6 +150,9 @@ fn join_parts(
     ensures { λ r. ⌜ ((f g : Translation) → EncodedParts (now («first_source» .entry)) (now («first_target» .entry)) (now («first_body» .entry)) f → EncodedParts (now («second_source» .entry)) (now («second_target» .entry)) (now («second_body» .entry)) g
         → Gives (translationBytes (translationJoin f g)) (now (out .entry)) (now (out .exit)) r) ⌝ }
 {
+    if !numbers_low(first_body, second_body) {
+        return Outcome::Refused(Reason::NumberUnfit);
+    }
     if !lies_within(second_target, first_source) {
         return Outcome::Refused(Reason::JoinUnfit);
     }
@@ -132,7 +166,7 @@ fn join_parts(
     )
 }
 
-// The join of a after b: b runs first. 13 where it does not fit, 11 where its value exceeds a limit.
+// The join of a after b: b runs first. 26 where a number is above 15, 13 where it does not fit, 11 where its value exceeds a limit.
 pub fn join(a: &[u8], b: &[u8], out: &mut [u8]) -> Outcome
     requires { ⌜ ((f : Translation) × (exactTranslation (now a) ≡ value f)) × ((g : Translation) × (exactTranslation (now b) ≡ value g)) × (4096 ≤ length (now out)) ⌝ }
     ensures { λ r. ⌜ ((f g : Translation) → exactTranslation (now (a .entry)) ≡ value f → exactTranslation (now (b .entry)) ≡ value g

@@ -10,7 +10,7 @@ use lib.Dec.{ltb}
 use Rattle.fields.specs.Outcome.{value, refuseIf, _>>=_}
 use Rattle.fields.specs.declared.outcome.Reason.the-variants.{TooLong, OutOfOrder, ClassIsResult, WrongMapping, WrongClauses, IllegalCode, UnknownRoot}
 use Rattle.fields.specs.Fields.{hasOver}
-use Rattle.fields.specs.Lists.{all}
+use Rattle.fields.specs.Lists.{all, isSome}
 use Rattle.fields.proofs.Truth.{true-not, all-mem, mem-all, some-is}
 use Rattle.language.specs.Language.{Language, isIn, clashes}
 use Rattle.language.specs.LanguageFile.{languageLimit, whole}
@@ -19,8 +19,8 @@ use Rattle.reader.specs.Syntax.{tree, code, write, Read, done, readLevel, readC
 use Rattle.reader.specs.Operations.{treeLevels, treeOf}
 use Rattle.reader.proofs.Sound.{More, rules-more}
 use Rattle.reader.proofs.Larger.{deep-done}
-use Rattle.translation.specs.Translation.{Translation, Item, mapping, clause, clauseOf, mapped}
-use Rattle.translation.specs.Running.{run, codeLevels, mappedArguments, wholeCode, readClause, clausesOf, transform}
+use Rattle.translation.specs.Translation.{Translation, Item, mapping, clause, mappingOf, clauseOf, mapped}
+use Rattle.translation.specs.Running.{run, codeLevels, usesOf, wholeCode, readClause, clausesOf, transform}
 use Rattle.translation.specs.WellFormed.{mappingFits, clausesFit, codeFits, codesFit, wellFormed}
 use Rattle.translation.specs.TranslationFile.{partsOf, translationLimit, isLanguageTag, allRising, translationOf}
 use Rattle.translation.specs.Operations.{fitted, runBytes}
@@ -35,18 +35,18 @@ more-done o p a r (inl e) d = deep-done (sym e ∙ d)
 more-done o p a r (inr e) d = e ∙ d
 
 pub law-of-rules : LawOfRules
-law-of-rules x l arguments n k s a r e = more-done _ _ a r (rules-more x l arguments n k s) e
+law-of-rules x l uses n k s a r e = more-done _ _ a r (rules-more x l uses n k s) e
 
 module _ (f : Translation) where
-  code-stays : (k p : ℕ) (bytes : List ℕ) (a : Code) → codeBy earlier f k p bytes ≡ some a → readClause f k p bytes ≡ done a []
+  code-stays : (k p j : ℕ) (bytes : List ℕ) (a : Code) → codeBy earlier f k p j bytes ≡ some a → readClause f k p j bytes ≡ done a []
   unfolding codeBy readClause
-  code-stays k p bytes a e =
-      law-of-rules code (f .target) (mappedArguments f k p) codeLevels (mapped (f .body) k) bytes a [] (whole-done _ a e)
+  code-stays k p j bytes a e =
+      law-of-rules code (f .target) (usesOf f k p) codeLevels (mapped (f .body) k j) bytes a [] (whole-done _ a e)
 
   fits-stay : (i : Item) → codeFitsBy earlier f i ≡ true → codeFits f i ≡ true
   unfolding codeFitsBy codeFits
-  fits-stay (mapping s t) e = refl
-  fits-stay (clause r p c) e = let q = some-is (codeBy earlier f r p c) e in rw (code-stays r p c (q .0) (q .1))
+  fits-stay (mapping s j t) e = refl
+  fits-stay (clause r p j c) e = let q = some-is (codeBy earlier f r p j c) e in rw (code-stays r p j c (q .0) (q .1))
 
   module _ (fits : all (codeFitsBy earlier f) (f .body) ≡ true) where
     codes-stay : codesFit f ≡ true
@@ -54,25 +54,25 @@ module _ (f : Translation) where
     codes-stay = mem-all (codeFits f) (f .body) (λ i m. fits-stay i (all-mem (codeFitsBy earlier f) (f .body) fits i m))
 
     -- Where there is no clause there is no code by either rule.
-    no-clause : (k p : ℕ) → codeBy earlier f k p [] ≡ wholeCode (readClause f k p [])
+    no-clause : (k p j : ℕ) → codeBy earlier f k p j [] ≡ wholeCode (readClause f k p j [])
     unfolding codeBy readClause readBy readLevel readCodeLevel
-    no-clause k p = refl
+    no-clause k p j = refl
 
-    clause-stays : (k p : ℕ) (o : Option (List ℕ)) → clauseOf (f .body) k p ≡ o
-        → codeBy earlier f k p (Option·getD o []) ≡ wholeCode (readClause f k p (Option·getD o []))
+    clause-stays : (k p j : ℕ) (o : Option (List ℕ)) → clauseOf (f .body) k p j ≡ o
+        → codeBy earlier f k p j (Option·getD o []) ≡ wholeCode (readClause f k p j (Option·getD o []))
     unfolding codeFitsBy
-    clause-stays k p none e = no-clause k p
-    clause-stays k p (some c) e =
-        let q = some-is (codeBy earlier f k p c) (all-mem (codeFitsBy earlier f) (f .body) fits (clause k p c) (clause-mem (f .body) k p c e)) in
-        rw (q .1, code-stays k p c (q .0) (q .1))
+    clause-stays k p j none e = no-clause k p j
+    clause-stays k p j (some c) e =
+        let q = some-is (codeBy earlier f k p j c) (all-mem (codeFitsBy earlier f) (f .body) fits (clause k p j c) (clause-mem (f .body) k p j c e)) in
+        rw (q .1, code-stays k p j c (q .0) (q .1))
 
-    clauses-stay : (k p : ℕ) → clausesBy earlier f k p ≡ clausesOf f k p
+    clauses-stay : (k p j : ℕ) → clausesBy earlier f k p j ≡ clausesOf f k p j
     unfolding clausesBy clausesOf
-    clauses-stay k p = ap (λ (o : Option Code). Option·getD o (token 0)) (clause-stays k p (clauseOf (f .body) k p) refl)
+    clauses-stay k p j = ap (λ (o : Option Code). Option·getD o (token 0)) (clause-stays k p j (clauseOf (f .body) k p j) refl)
 
-    run-stays : (t : Code) → run (clausesBy earlier f) t ≡ transform f t
+    run-stays : (number : ℕ) (t : Code) → run (clausesBy earlier f) number t ≡ transform f number t
     unfolding transform
-    run-stays t = λ i. run (λ k p. clauses-stay k p i) t
+    run-stays number t = λ i. run (λ k p j. clauses-stay k p j i) number t
 
   formed-stays : (g : Translation) → wellFormedBy earlier f ≡ value g
       → (wellFormed f ≡ value g) × (all (codeFitsBy earlier f) (f .body) ≡ true) × (f ≡ g)
@@ -105,18 +105,19 @@ tree-stays l root bytes t e =
 
 pub sessions-stay : SessionsStay
 unfolding runBy runBytes
-sessions-stay s root bytes room result e =
+sessions-stay s root number bytes room result e =
     let a = step-value (translationBy earlier s) _ e in
     let w = translation-stays s (a .0) (a .1) in
-    let b = step-value (treeBy earlier (a .0 .source) root bytes) _ (a .2) in
-    rw (w .0, tree-stays (a .0 .source) root bytes (b .0) (b .1))
-    (ap (λ (c : Code). fitted room (write tree c)) (sym (run-stays (a .0) (w .1) (b .0))) ∙ b .2)
+    let h = refuse-value (not (isSome (mappingOf (a .0 .body) root number))) UnknownRoot _ (a .2) in
+    let b = step-value (treeBy earlier (a .0 .source) root bytes) _ (h .1) in
+    rw (w .0, h .0, tree-stays (a .0 .source) root bytes (b .0) (b .1))
+    (ap (λ (c : Code). fitted room (write tree c)) (sym (run-stays (a .0) (w .1) number (b .0))) ∙ b .2)
 
 -- By the current rule these are the definitions of the operations.
 fits-same : (f : Translation) (i : Item) → codeFitsBy current f i ≡ codeFits f i
 unfolding codeFitsBy codeFits codeBy readClause
-fits-same f (mapping s t) = refl
-fits-same f (clause r p c) = refl
+fits-same f (mapping s j t) = refl
+fits-same f (clause r p j c) = refl
 
 formed-same : (f : Translation) → wellFormedBy current f ≡ wellFormed f
 unfolding wellFormedBy wellFormed codesFit
@@ -135,9 +136,9 @@ translation-same s = λ i.
     (refuseIf (clashes (f .source) (f .source) || clashes (f .target) (f .target)) ClassIsResult
     (formed-same f i)))
 
-clauses-same : (f : Translation) (k p : ℕ) → clausesBy current f k p ≡ clausesOf f k p
+clauses-same : (f : Translation) (k p j : ℕ) → clausesBy current f k p j ≡ clausesOf f k p j
 unfolding clausesBy clausesOf codeBy readClause
-clauses-same f k p = refl
+clauses-same f k p j = refl
 
 tree-same : (l : Language) (root : ℕ) (bytes : List ℕ) → treeBy current l root bytes ≡ treeOf l root bytes
 unfolding treeBy treeOf
@@ -145,7 +146,8 @@ tree-same l root bytes = refl
 
 pub run-by-current : RunByCurrent
 unfolding runBy runBytes transform
-run-by-current s root bytes room = λ i.
+run-by-current s root number bytes room = λ i.
     translation-same s i >>= λ f.
-    tree-same (f .source) root bytes i >>= λ t.
-    fitted room (write tree (run (λ k p. clauses-same f k p i) t))
+    refuseIf (not (isSome (mappingOf (f .body) root number))) UnknownRoot
+    (tree-same (f .source) root bytes i >>= λ t.
+    fitted room (write tree (run (λ k p j. clauses-same f k p j i) number t)))

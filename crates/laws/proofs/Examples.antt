@@ -6,14 +6,14 @@ use Rattle.fields.specs.Lists.{all, any, keep, first, concatMap, traverse, coun
 use Rattle.fields.specs.Keyed as Keyed
 use Rattle.language.specs.Language.{entryKey, inRange, sameRange, legalToo, rangeWithin, sameEntry, rangeAt, rangeOf, argumentsAt, argumentsOf, resultIs, mentions, isIn, classIsResult, clashes}
 use Rattle.language.specs.LanguageFile.{rangeWhole, rangeIn, stepBytes, classOf, productionOf, entryOf, entryField, entriesOf, encodeLanguage, languageOf}
-use Rattle.reader.specs.Syntax.{write, readAll, readOperands, readNode, readToken, readArgument, readTreeLevel, readCodeLevel, readLevel, pastLevels, readBy}
+use Rattle.reader.specs.Syntax.{write, readAll, readOperands, readNode, readToken, useOf, readArgument, readNumbered, readUse, readTreeLevel, readCodeLevel, readLevel, pastLevels, readBy}
 use Rattle.reader.specs.Operations.{treeOf}
-use Rattle.translation.specs.Translation.{itemKey, sameItem, targetAt, mappingOf, codeAt, clauseOf, mapped}
-use Rattle.translation.specs.Running.{nth, operand, substitute, run, mappedArguments, readClause, clausesOf, transform}
+use Rattle.translation.specs.Translation.{itemKey, sameItem, targetAt, mappingOf, codeAt, clauseOf, mapped, numberAt, numbersOf, plainKey, numberOf}
+use Rattle.translation.specs.Running.{fromOne, substitute, run, usesOf, readClause, clausesOf, transform}
 use Rattle.translation.specs.WellFormed.{kinds, kindsMapped, reachesTarget, classKept, mappingFits, hasClause, hasProduction, clausesFit, codeFits, codesFit, wellFormed}
-use Rattle.translation.specs.TranslationFile.{mappingField, clauseField, itemOf, itemField, grouped, itemsIn, bodyOf, partsIn, partsOf, translationFields, encodeTranslation, allRising, translationOf}
+use Rattle.translation.specs.TranslationFile.{mappingField, numberedMapping, clauseField, numberedClause, itemOf, itemField, grouped, itemsIn, bodyOf, partsIn, partsOf, translationFields, encodeTranslation, allRising, translationOf}
 use Rattle.translation.specs.Operations.{runBytes}
-use Rattle.operators.specs.Operators.{languagesFit, languageUnion, languageSum, languageWithout, translationsFit, translationUnion, translationSum, entryWithin, joinFits, joinItem, joined, translationJoin, argumentsFrom, identityClause, identityOf}
+use Rattle.operators.specs.Operators.{languagesFit, languageUnion, languageSum, languageWithout, numberKept, numbersAgree, translationsFit, translationUnion, translationSum, entryWithin, joinFits, lowNumber, numbersLow, joinItem, joined, translationJoin, argumentsFrom, identityClause, identityOf}
 use Rattle.operators.specs.Limits.{codeIsDeep, languageExceeds, translationExceeds}
 use Rattle.pack.specs.Terms.{languageSign, translationSign, readSign, readTerm, scoped}
 use Rattle.pack.specs.Pack.{partOf, inGroups, packWith, packIn, packParts, packOf, termOf}
@@ -22,5 +22,5 @@ use Rattle.reducer.specs.Operations.{ready, work, reduceBytes}
 use Rattle.laws.specs.Examples.{holds, times, rows}
 
 pub every-row-holds : all holds rows ≡ true
-unfolding holds times rows all any keep first concatMap traverse countUp sameNumbers encodeField encodeFields pairAt splitFields fieldsOf saysOver hasOver Keyed.risingFrom Keyed.rising Keyed.insert Keyed.union Keyed.holds Keyed.within Keyed.without Keyed.agree entryKey inRange sameRange legalToo rangeWithin sameEntry rangeAt rangeOf argumentsAt argumentsOf resultIs mentions isIn classIsResult clashes rangeWhole rangeIn classOf productionOf entryOf stepBytes entryField entriesOf encodeLanguage languageOf write readAll readOperands readNode readToken readArgument readTreeLevel readCodeLevel readLevel pastLevels readBy treeOf itemKey sameItem targetAt mappingOf codeAt clauseOf mapped nth operand substitute run mappedArguments readClause clausesOf transform kinds kindsMapped reachesTarget classKept mappingFits hasClause hasProduction clausesFit codeFits codesFit wellFormed mappingField clauseField itemOf itemField grouped itemsIn bodyOf partsIn partsOf translationFields encodeTranslation allRising translationOf runBytes languagesFit languageUnion languageSum languageWithout translationsFit translationUnion translationSum entryWithin joinFits joinItem joined translationJoin argumentsFrom identityClause identityOf codeIsDeep languageExceeds translationExceeds languageSign translationSign readSign readTerm scoped partOf inGroups packWith packIn packParts packOf termOf evaluate ready work reduceBytes
+unfolding holds times rows all any keep first concatMap traverse countUp sameNumbers encodeField encodeFields pairAt splitFields fieldsOf saysOver hasOver Keyed.risingFrom Keyed.rising Keyed.insert Keyed.union Keyed.holds Keyed.within Keyed.without Keyed.agree entryKey inRange sameRange legalToo rangeWithin sameEntry rangeAt rangeOf argumentsAt argumentsOf resultIs mentions isIn classIsResult clashes rangeWhole rangeIn classOf productionOf entryOf stepBytes entryField entriesOf encodeLanguage languageOf write readAll readOperands readNode readToken useOf readArgument readNumbered readUse readTreeLevel readCodeLevel readLevel pastLevels readBy treeOf itemKey sameItem targetAt mappingOf codeAt clauseOf mapped numberAt numbersOf plainKey numberOf fromOne substitute run usesOf readClause clausesOf transform kinds kindsMapped reachesTarget classKept mappingFits hasClause hasProduction clausesFit codeFits codesFit wellFormed mappingField numberedMapping clauseField numberedClause itemOf itemField grouped itemsIn bodyOf partsIn partsOf translationFields encodeTranslation allRising translationOf runBytes languagesFit languageUnion languageSum languageWithout numberKept numbersAgree translationsFit translationUnion translationSum entryWithin joinFits lowNumber numbersLow joinItem joined translationJoin argumentsFrom identityClause identityOf codeIsDeep languageExceeds translationExceeds languageSign translationSign readSign readTerm scoped partOf inGroups packWith packIn packParts packOf termOf evaluate ready work reduceBytes
 every-row-holds = refl

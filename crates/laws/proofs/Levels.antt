@@ -12,38 +12,38 @@ use Rattle.fields.proofs.Truth.{and-both, not-true, not-both, none-some, mem-an
 use Rattle.language.specs.Language.{Language, production, rangeOf, argumentsOf, resultIs, isIn, isUndefined, clashes}
 use Rattle.language.proofs.Lookup.{arguments-mem}
 use Rattle.reader.specs.Code.{Code, levels}
-use Rattle.reader.specs.Typing.{kindAt, Typed, typed-node, typed-token, typed-argument}
+use Rattle.reader.specs.Typing.{Uses, kindAt, Typed, typed-node, typed-token, typed-argument}
 use Rattle.reader.specs.Syntax.{Syntax, deep, read, write, tree, code}
 use Rattle.reader.proofs.RoundTrip.{Written, as-tree, as-code, round}
 use Rattle.reader.proofs.Sound.{read-done, more-levels}
 use Rattle.reader.proofs.Larger.{apart}
-use Rattle.laws.specs.Levels.{argumentsIn, LawOfLevels, UndefinedHasNoTree}
+use Rattle.laws.specs.Levels.{usesIn, LawOfLevels, UndefinedHasNoTree}
 
 -- Either syntax can write the arguments that it has.
-can-write : (x : Syntax) (kinds : List ℕ) → Written x (argumentsIn x kinds)
-can-write tree kinds = as-tree
-can-write code kinds = as-code
+can-write : (x : Syntax) (uses : Uses) → Written x (usesIn x uses)
+can-write tree uses = as-tree
+can-write code uses = as-code
 
 -- With fewer levels than the code has, reading is too deep: otherwise it would give a code within the levels.
-below-deep : (l : Language) → clashes l l ≡ false → (x : Syntax) (kinds : List ℕ) (c : Code) (k : ℕ) → Typed l (argumentsIn x kinds) c k
-    → (n : ℕ) (rest : List ℕ) → n < levels c → read x l (argumentsIn x kinds) n k (write x c ++ rest) ≡ deep
-below-deep l e x kinds c k h n rest few =
-    let all = round l (apart l e) h (can-write x kinds) (n + levels c) rest (omega arith) in
+below-deep : (l : Language) → clashes l l ≡ false → (x : Syntax) (uses : Uses) (c : Code) (k : ℕ) → Typed l (usesIn x uses) c k
+    → (n : ℕ) (rest : List ℕ) → n < levels c → read x l (usesIn x uses) n k (write x c ++ rest) ≡ deep
+below-deep l e x uses c k h n rest few =
+    let all = round l (apart l e) h (can-write x uses) (n + levels c) rest (omega arith) in
     ⊎-elim
     (λ q. q)
-    (λ q. absurd (omega (arith, few, read-done x l (argumentsIn x kinds) n k (write x c ++ rest) c rest (sym q ∙ all) .1)))
-    (more-levels x l (argumentsIn x kinds) n (n + levels c) k (write x c ++ rest) (omega arith))
+    (λ q. absurd (omega (arith, few, read-done x l (usesIn x uses) n k (write x c ++ rest) c rest (sym q ∙ all) .1)))
+    (more-levels x l (usesIn x uses) n (n + levels c) k (write x c ++ rest) (omega arith))
 
 pub law-of-levels : LawOfLevels
-law-of-levels l e x kinds c k h n rest = record {
-  tooDeep = below-deep l e x kinds c k h n rest;
-  enough = round l (apart l e) h (can-write x kinds) n rest;
+law-of-levels l e x uses c k h n rest = record {
+  tooDeep = below-deep l e x uses c k h n rest;
+  enough = round l (apart l e) h (can-write x uses) n rest;
 }
 
 -- A tree has no arguments.
-no-argument : (i k : ℕ) → kindAt [] i ≡ some k → ⊥
-no-argument zero k e = none-some e
-no-argument (suc i) k e = none-some e
+no-argument : (i j k : ℕ) → kindAt [] i j ≡ some k → ⊥
+no-argument zero j k e = none-some e
+no-argument (suc i) j k e = none-some e
 
 -- An undefined kind has neither class nor production.
 module _ (l : Language) (k : ℕ) (u : isUndefined l k ≡ true) where
@@ -59,7 +59,7 @@ module _ (l : Language) (k : ℕ) (u : isUndefined l k ≡ true) where
   no-typed : (t : Code) → Typed l [] t k → ⊥
   no-typed t (typed-node e h) = no-production _ _ e
   no-typed t (typed-token e h) = not-both (is-some (rangeOf l k) e) (not-true _ (neither .0))
-  no-typed t (typed-argument {i = i} e) = no-argument i k e
+  no-typed t (typed-argument {i = i} {j = j} e) = no-argument i j k e
 
 pub undefined-has-no-tree : UndefinedHasNoTree
 undefined-has-no-tree l k u = record {

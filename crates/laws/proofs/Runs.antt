@@ -1,19 +1,21 @@
 -- The law of runs holds.
-use Prim.Native.Nat.{ℕ}
+use Prim.Native.Nat.{ℕ, _<_}
 use mathlib.Core.Path.{_≡_, refl, ap, sym, subst, _∙_}
 use mathlib.Core.Logic.{_⊎_, inl, inr, ⊎-elim}
 use mathlib.Core.Bool.{Bool, true, false}
 use mathlib.Core.List.{List, [], _++_, append-nil}
+use mathlib.Core.Option.{Option, none, some}
 use native.Mathlib.Omega.{arith}
 use lib.ListN.{length}
 use lib.Dec.{ltb}
 use borrow.Author.Tests.{ltb-true, ltb-false}
 use Rattle.fields.specs.Outcome.{Result, value, refused, _>>=_, refuseIf, reasonNumber, numberOf, written, outputAfter}
 use Rattle.fields.specs.Fields.{Field}
+use Rattle.fields.specs.Lists.{isSome}
 use Rattle.fields.specs.declared.outcome.Reason.{Reason}
 use Rattle.fields.specs.declared.outcome.Reason.the-variants.{UnknownRoot, IllegalTree, TooDeep, OutputTooShort}
 use Rattle.fields.specs.declared.outcome.Outcome.the-variants.{Accepted, Refused}
-use Rattle.fields.proofs.Truth.{by-test}
+use Rattle.fields.proofs.Truth.{by-test, false-true, none-some, some-inj, some-is}
 use Rattle.language.specs.Language.{Language, isIn, clashes}
 use Rattle.language.proofs.Lookup.{none-clashes}
 use Rattle.reader.specs.Code.{Code, levels}
@@ -22,34 +24,51 @@ use Rattle.reader.specs.Syntax.{done, deep, read, write, tree}
 use Rattle.reader.specs.Operations.{treeLevels, treeOf}
 use Rattle.reader.proofs.Larger.{typed-larger}
 use Rattle.checks.proofs.Legal.{tree-right, tree-of}
-use Rattle.translation.specs.Translation.{Translation, mapped}
-use Rattle.translation.specs.Running.{transform}
+use Rattle.translation.specs.Translation.{Body, Translation, mappingOf, mapped}
+use Rattle.translation.specs.Running.{paired, transform}
 use Rattle.translation.specs.TranslationFile.{encodeTranslation, translationOf}
 use Rattle.translation.specs.Operations.{fitted, runBytes, runTree}
-use Rattle.translation.proofs.Preserved.{typed-run}
+use Rattle.translation.proofs.Preserved.{kept-tree, typed-run}
 use Rattle.translation.proofs.Fitting.{refuse-value, fit-carries}
 use Rattle.pack.specs.Terms.{Term, translations, join, writeTerm}
-use Rattle.operators.specs.Operators.{joinFits, joined, translationJoin}
+use Rattle.operators.specs.Operators.{numbersLow, joinFits, joined, translationJoin}
 use Rattle.operators.specs.Limits.{translationExceeds}
 use Rattle.signs.specs.Evaluation.{Constants, constantsOf, nothingBound, limited, evaluate}
 use Rattle.reducer.specs.Operations.{reduceBytes, reduce}
 use Rattle.pack.proofs.PackCodec.{pack-term, pack-short}
 use Rattle.operators.proofs.Proper.{Sound, GoodTranslation, good-back}
-use Rattle.operators.proofs.JoinSound.{target-larger, join-lies, join-runs}
+use Rattle.operators.proofs.JoinSound.{target-larger, join-lies, join-mapped, join-chained, join-runs}
 use Rattle.evaluator.proofs.Evaluated.{step-value, value-inj, limited-value, translation-join, within, nothing-good, evaluate-good}
 use Rattle.laws.specs.Packed.{packed, putOut}
-use Rattle.laws.specs.Runs.{Legal, mapsTo, targetIn, ReducesTo, OfTree, of-root, of-bytes, of-levels, SameRun, RunsOfJoin, LawOfRuns}
+use Rattle.laws.specs.Runs.{Legal, mapsTo, targetIn, ReducesTo, OfTree, of-root, of-bytes, of-levels, SameRun, RunsOfJoin, LawOfRuns, hasNumber}
 use Rattle.laws.proofs.Levels.{law-of-levels}
 use Rattle.laws.proofs.Reductions.{accepted-value, put-out, Reduction, reduction, reduction-good}
 
 -- A transformation of a typed tree is typed.
-transform-typed : (f : Translation) → Sound f → (t : Code) (k : ℕ) → Typed (f .source) [] t k → Typed (f .target) [] (transform f t) (mapped (f .body) k)
+transform-typed : (f : Translation) → Sound f → (t : Code) (k j u : ℕ) → mappingOf (f .body) k j ≡ some u → Typed (f .source) [] t k → Typed (f .target) [] (transform f j t) u
 unfolding transform
-transform-typed f s t k h = typed-run (fit-carries f (s .rises) (s .fits)) h
+transform-typed f s t k j u e h = typed-run (fit-carries f (s .rises) (s .fits)) (kept-tree (mappingOf (f .body))) j u h e
 
 -- What is a tree is typed.
 tree-typed : (l : Language) (k : ℕ) (bytes : List ℕ) (t : Code) → treeOf l k bytes ≡ value t → Typed l [] t k × (isIn l k ≡ true)
 tree-typed l k bytes t e = let r = tree-right l k bytes t e in (r .1 .0, r .0)
+
+-- There is nothing, or something.
+by-option : {A B : Type 0} (o : Option A) → (o ≡ none → B) → ((a : A) → o ≡ some a → B) → B
+by-option none f g = f refl
+by-option (some a) f g = g a refl
+
+is-none : {A : Type 0} (o : Option A) → isSome o ≡ false → o ≡ none
+is-none none e = refl
+is-none (some a) e = false-true (sym e)
+
+refused-value : {r : Reason} {bytes : List ℕ} {A : Type 0} → refused r ≡ value bytes → A
+refused-value e = let z : _≡_ {A = ℕ} 0 1 = cc in absurd (omega arith)
+
+-- The kind that a kind with this number maps to.
+mapped-to : (b : Body) (k j u : ℕ) → mappingOf b k j ≡ some u → mapped b k j ≡ u
+unfolding mapped
+mapped-to b k j u e = rw e
 
 -- A written tree is read back, or is too deep to be handed in.
 written-tree : (l : Language) (k : ℕ) (t : Code) → clashes l l ≡ false → isIn l k ≡ true → Typed l [] t k
@@ -70,10 +89,20 @@ record Operand (f : Translation) (bytes : List ℕ) : Type 0 where
 operand-opens : (f : Translation) (bytes : List ℕ) → Operand f bytes → translationOf bytes ≡ value f
 operand-opens f bytes p = ap translationOf (sym (p .encodes)) ∙ good-back f (p .good)
 
-operand-runs : (f : Translation) (bytes : List ℕ) → Operand f bytes → (root : ℕ) (input : List ℕ) (room : ℕ)
-    → runBytes bytes root input room ≡ (treeOf (f .source) root input >>= λ t. fitted room (write tree (transform f t)))
-unfolding runBytes
-operand-runs f bytes p root input room = rw (operand-opens f bytes p)
+-- What a run comes to where the root has the number, and where it lacks it.
+module _ (f : Translation) (bytes : List ℕ) (p : Operand f bytes) (root number : ℕ) (input : List ℕ) (room : ℕ) where
+  operand-has : (u : ℕ) → mappingOf (f .body) root number ≡ some u
+      → runBytes bytes root number input room ≡ (treeOf (f .source) root input >>= λ t. fitted room (write tree (transform f number t)))
+  unfolding runBytes
+  operand-has u e = rw (operand-opens f bytes p, e)
+
+  operand-lacks : mappingOf (f .body) root number ≡ none → runBytes bytes root number input room ≡ refused UnknownRoot
+  unfolding runBytes
+  operand-lacks e = rw (operand-opens f bytes p, e)
+
+  -- Where it is accepted, the root has the number.
+  operand-number : (result : List ℕ) → runBytes bytes root number input room ≡ value result → (u : ℕ) × (mappingOf (f .body) root number ≡ some u)
+  operand-number result e = by-option (mappingOf (f .body) root number) (λ q. refused-value (sym (operand-lacks q) ∙ e)) (λ u q. (u, q))
 
 -- A result that fits.
 fitted-value : (room : ℕ) (bytes result : List ℕ) → fitted room bytes ≡ value result → bytes ≡ result
@@ -101,56 +130,26 @@ first-refused : (o : Result Code) (next other : Code → Result (List ℕ)) (r :
 first-refused (value t) next other r never e = absurd (never t e)
 first-refused (refused q) next other r never e = e
 
--- An accepted run puts out a legal tree of the kind to which the root is mapped.
-run-legal : (f : Translation) (F : List ℕ) → Operand f F → (root : ℕ) (bytes : List ℕ) (room : ℕ) (result : List ℕ)
-    → runBytes F root bytes room ≡ value result → Legal (f .target) (mapped (f .body) root) result
-run-legal f F p root bytes room result e =
-    let a = step-value (treeOf (f .source) root bytes) (λ t. fitted room (write tree (transform f t))) (sym (operand-runs f F p root bytes room) ∙ e) in
+-- An accepted run puts out a legal tree of the kind to which the root is mapped by the number.
+run-legal : (f : Translation) (F : List ℕ) → Operand f F → (root number : ℕ) (bytes : List ℕ) (room : ℕ) (result : List ℕ)
+    → runBytes F root number bytes room ≡ value result → Legal (f .target) (mapped (f .body) root number) result
+run-legal f F p root number bytes room result e =
+    let n = operand-number f F p root number bytes room result e in
+    let a = step-value (treeOf (f .source) root bytes) (λ t. fitted room (write tree (transform f number t))) (sym (operand-has f F p root number bytes room (n .0) (n .1)) ∙ e) in
     let h = tree-typed (f .source) root bytes (a .0) (a .1) in
-    (transform f (a .0), transform-typed f (p .good .sound) (a .0) root (h .0), fitted-value room (write tree (transform f (a .0))) result (a .2))
+    let u = transform-typed f (p .good .sound) (a .0) root number (n .0) (n .1) (h .0) in (
+      transform f number (a .0),
+      rw (mapped-to (f .body) root number (n .0) (n .1)) u,
+      fitted-value room (write tree (transform f number (a .0))) result (a .2),
+    )
 
--- Translations of the same source refuse the same trees.
-run-refused : (g j : Translation) (G J : List ℕ) → Operand g G → Operand j J → j .source ≡ g .source
-    → (root : ℕ) (bytes : List ℕ) (room space : ℕ) (r : Reason) → OfTree r → runBytes G root bytes room ≡ refused r → runBytes J root bytes space ≡ refused r
-run-refused g j G J pg pj source root bytes room space r k e =
-    operand-runs j J pj root bytes space
-    ∙ (ap (λ (l : Language). treeOf l root bytes >>= λ t. fitted space (write tree (transform j t))) source
-    ∙ first-refused (treeOf (g .source) root bytes) (λ t. fitted room (write tree (transform g t))) (λ t. fitted space (write tree (transform j t))) r
-    (λ t q. fitted-refused (ltb room (length (write tree (transform g t)))) (write tree (transform g t)) r k q)
-    (sym (operand-runs g G pg root bytes room) ∙ e))
-
--- The runs of three translations, of which the last is the join of the others.
-module _ (f g j : Translation) (F G J : List ℕ) (pf : Operand f F) (pg : Operand g G) (pj : Operand j J)
-    (lies : (k : ℕ) → isIn (g .source) k ≡ true → isIn (f .source) (mapped (g .body) k) ≡ true)
-    (source : j .source ≡ g .source)
-    (typed-on : (t : Code) (k : ℕ) → Typed (g .target) [] t k → Typed (f .source) [] t k)
-    (runs : (t : Code) (k : ℕ) → Typed (g .source) [] t k → transform j t ≡ transform f (transform g t)) where
-  -- The join's run and the second run come to the same.
-  same-runs : (root : ℕ) (bytes middle : List ℕ) (room space : ℕ) → runBytes G root bytes room ≡ value middle
-      → (runBytes F (mapped (g .body) root) middle space ≡ refused TooDeep → ⊥)
-      → runBytes J root bytes space ≡ runBytes F (mapped (g .body) root) middle space
-  same-runs root bytes middle room space e shallow =
-      let a = step-value (treeOf (g .source) root bytes) (λ t. fitted room (write tree (transform g t))) (sym (operand-runs g G pg root bytes room) ∙ e) in
-      let t = a .0 in
-      let h = tree-typed (g .source) root bytes t (a .1) in
-      let m : write tree (transform g t) ≡ middle = fitted-value room (write tree (transform g t)) middle (a .2) in
-      let u = transform-typed g (pg .good .sound) t root (h .0) in
-      let join-run : runBytes J root bytes space ≡ fitted space (write tree (transform f (transform g t)))
-      = operand-runs j J pj root bytes space
-      ∙ (ap (λ (l : Language). treeOf l root bytes >>= λ x. fitted space (write tree (transform j x))) source
-      ∙ (ap (λ (o : Result Code). o >>= λ x. fitted space (write tree (transform j x))) (a .1)
-      ∙ ap (λ (x : Code). fitted space (write tree x)) (runs t root (h .0)))) in
-      let second-run : (o : Result Code) → treeOf (f .source) (mapped (g .body) root) (write tree (transform g t)) ≡ o
-      → runBytes F (mapped (g .body) root) middle space ≡ (o >>= λ x. fitted space (write tree (transform f x)))
-      = λ o q.
-      operand-runs f F pf (mapped (g .body) root) middle space
-      ∙ (ap (λ (b : List ℕ). treeOf (f .source) (mapped (g .body) root) b >>= λ x. fitted space (write tree (transform f x))) (sym m)
-      ∙ ap (λ (z : Result Code). z >>= λ x. fitted space (write tree (transform f x))) q) in
-      ⊎-elim
-      (λ q. absurd (shallow (second-run (refused TooDeep) q)))
-      (λ q. join-run ∙ sym (second-run (value (transform g t)) q))
-      (written-tree (f .source) (mapped (g .body) root) (transform g t) (none-clashes (f .source) (f .source) (pf .good .sound .source .apart))
-      (lies root (h .1)) (typed-on (transform g t) (mapped (g .body) root) u))
+-- A run refuses the tree exactly as reading it does.
+run-refused : (g : Translation) (G : List ℕ) → Operand g G → (root number u : ℕ) → mappingOf (g .body) root number ≡ some u → (bytes : List ℕ) (room : ℕ) (r : Reason) → OfTree r
+    → runBytes G root number bytes room ≡ refused r → (other : Code → Result (List ℕ)) → (treeOf (g .source) root bytes >>= other) ≡ refused r
+run-refused g G pg root number u n bytes room r k e other =
+    first-refused (treeOf (g .source) root bytes) (λ t. fitted room (write tree (transform g number t))) other r
+    (λ t q. fitted-refused (ltb room (length (write tree (transform g number t)))) (write tree (transform g number t)) r k q)
+    (sym (operand-has g G pg root number bytes room u n) ∙ e)
 
 -- A refused operation put out nothing, an accepted one its value, whatever the buffer.
 put-same : (r : Result (List ℕ)) (b c : List ℕ) → putOut (written r) (outputAfter b r) ≡ putOut (written r) (outputAfter c r)
@@ -171,15 +170,15 @@ written-refused (refused p) q e = ap refused (same p q e)
     same p q e = cc
 
 -- Two runs that come to the same are the same with equally long outputs.
-same-run : (J F bytes middle : List ℕ) (root kind : ℕ) (b c : List ℕ) → length c ≡ length b
-    → runBytes J root bytes (length b) ≡ runBytes F kind middle (length b)
-    → SameRun (runTree J root bytes c) (runTree F kind middle b)
+same-run : (J F bytes middle : List ℕ) (root n kind number : ℕ) (b c : List ℕ) → length c ≡ length b
+    → runBytes J root n bytes (length b) ≡ runBytes F kind number middle (length b)
+    → SameRun (runTree J root n bytes c) (runTree F kind number middle b)
 unfolding runTree
-same-run J F bytes middle root kind b c n e =
-    let q : runBytes J root bytes (length c) ≡ runBytes F kind middle (length b) = ap (runBytes J root bytes) n ∙ e in
+same-run J F bytes middle root n kind number b c l e =
+    let q : runBytes J root n bytes (length c) ≡ runBytes F kind number middle (length b) = ap (runBytes J root n bytes) l ∙ e in
     record {
       outcome = ap written q;
-      bytes = put-same (runBytes J root bytes (length c)) c b ∙ ap (λ (r : Result (List ℕ)). putOut (written r) (outputAfter b r)) q;
+      bytes = put-same (runBytes J root n bytes (length c)) c b ∙ ap (λ (r : Result (List ℕ)). putOut (written r) (outputAfter b r)) q;
     }
 
 -- What a pack reduces to.
@@ -209,8 +208,10 @@ operand {t = t} r = record {
   encodes = r .encodes;
 }
 
--- The join that was reduced is the join of its operands, which fit, and whose codes are not too deep.
+-- The join that was reduced is the join of its operands, which have low numbers and fit, and whose codes are not too deep.
 record Joins (f g j : Translation) : Type 0 where
+  low-first : numbersLow f ≡ true
+  low-second : numbersLow g ≡ true
   fits : joinFits f g ≡ true
   exceeds : translationExceeds (joined f g) ≡ false
   is : joined f g ≡ j
@@ -229,7 +230,7 @@ join-value {f = f} {g = g} rj rf rg =
     let q : b .0 ≡ rg .result = value-under rj rg (b .0) (b .1) in
     subst (λ (x : Translation). Joins x (rg .result) (rj .result)) p
     (subst (λ (y : Translation). Joins (a .0) y (rj .result)) q
-    (record { fits = j .0; exceeds = ap translationExceeds (j .1) ∙ l .0; is = j .1 ∙ l .1 }))
+    (record { low-first = j .2; low-second = j .3; fits = j .0; exceeds = ap translationExceeds (j .1) ∙ l .0; is = j .1 ∙ l .1 }))
 
 source-is : (f g : Translation) → joined f g .source ≡ g .source
 unfolding joined
@@ -237,54 +238,132 @@ source-is f g = refl
 
 -- The law, of the translations that the three files hold.
 module _ (f g : Translation) (F G J : List ℕ) (pf : Operand f F) (pg : Operand g G) (pj : Operand (joined f g) J)
-    (fits : joinFits f g ≡ true) (exceeds : translationExceeds (joined f g) ≡ false) where
-  join-same : (root : ℕ) (bytes middle : List ℕ) (room space : ℕ) → runBytes G root bytes room ≡ value middle
-      → (runBytes F (mapped (g .body) root) middle space ≡ refused TooDeep → ⊥)
-      → runBytes J root bytes space ≡ runBytes F (mapped (g .body) root) middle space
-  join-same =
-      let sf = pf .good .sound in
-      let sg = pg .good .sound in
-      same-runs f g (joined f g) F G J pf pg pj (join-lies f g sf sg fits) (source-is f g)
-      (λ t k h. typed-larger (target-larger f g sf sg fits) h)
-      (λ t k h. join-runs f g sf sg fits (within (joined f g) exceeds .codes) h)
+    (w : Joins f g (joined f g)) (root i j : ℕ) (low : j < 16) where
+  sf : Sound f
+  sf = pf .good .sound
 
-  runs-of-join : (root : ℕ) (bytes a b c : List ℕ)
-      → RunsOfJoin (runTree G root bytes a)
-      (runTree F (mapped (g .body) root) (putOut (runTree G root bytes a .outcome) (runTree G root bytes a .output)) b)
-      (runTree J root bytes c) b c (joined f g .target) (mapped (joined f g .body) root)
+  sg : Sound g
+  sg = pg .good .sound
+
+  n : ℕ
+  n = paired i j
+
+  -- The root has the paired number in the join where it has i in the second and the kind reached has j in the first.
+  chain : (u t : ℕ) → mappingOf (g .body) root i ≡ some u → mappingOf (f .body) u j ≡ some t → mappingOf (joined f g .body) root n ≡ some t
+  unfolding n
+  chain u t = join-mapped f g sf sg (w .fits) (w .low-first) (w .low-second) root i u j t
+
+  unchain : (t : ℕ) → mappingOf (joined f g .body) root n ≡ some t → (u : ℕ) × (mappingOf (g .body) root i ≡ some u) × (mappingOf (f .body) u j ≡ some t)
+  unfolding n
+  unchain t e = join-chained f g sf sg (w .fits) (w .low-first) (w .low-second) root i j t low e
+
+  unmapped : (u : ℕ) → mappingOf (g .body) root i ≡ some u → mappingOf (f .body) u j ≡ none → mappingOf (joined f g .body) root n ≡ none
+  unmapped u e d =
+      by-option (mappingOf (joined f g .body) root n)
+      (λ q. q)
+      (λ t q.
+      let c = unchain t q in
+      let z : u ≡ c .0 = some-inj (sym e ∙ c .1) in
+      none-some (sym d ∙ (ap (λ (x : ℕ). mappingOf (f .body) x j) z ∙ c .2)))
+
+  -- The tree read and run by the join, where the root has its number.
+  join-reads : (t : ℕ) → mappingOf (joined f g .body) root n ≡ some t → (bytes : List ℕ) (room : ℕ)
+      → runBytes J root n bytes room ≡ (treeOf (g .source) root bytes >>= λ x. fitted room (write tree (transform (joined f g) n x)))
+  join-reads t e bytes room =
+      operand-has (joined f g) J pj root n bytes room t e
+      ∙ ap (λ (l : Language). treeOf l root bytes >>= λ x. fitted room (write tree (transform (joined f g) n x))) (source-is f g)
+
+  -- The join's run and the second run come to the same.
+  module _ (bytes middle : List ℕ) (room space : ℕ) (e : runBytes G root i bytes room ≡ value middle) where
+    -- The kind that the root reaches.
+    u : ℕ
+    u = operand-number g G pg root i bytes room middle e .0
+
+    reaches : mappingOf (g .body) root i ≡ some u
+    unfolding u
+    reaches = operand-number g G pg root i bytes room middle e .1
+
+    -- Where it lacks the number in the first, both refuse it.
+    lacking : mappingOf (f .body) u j ≡ none → runBytes J root n bytes space ≡ runBytes F u j middle space
+    lacking q =
+        operand-lacks (joined f g) J pj root n bytes space (unmapped u reaches q)
+        ∙ sym (operand-lacks f F pf u j middle space q)
+
+    having : (t : ℕ) → mappingOf (f .body) u j ≡ some t → (runBytes F u j middle space ≡ refused TooDeep → ⊥) → runBytes J root n bytes space ≡ runBytes F u j middle space
+    unfolding n
+    having t q shallow =
+        let a = step-value (treeOf (g .source) root bytes) (λ x. fitted room (write tree (transform g i x))) (sym (operand-has g G pg root i bytes room u reaches) ∙ e) in
+        let x = a .0 in
+        let h = tree-typed (g .source) root bytes x (a .1) in
+        let m : write tree (transform g i x) ≡ middle = fitted-value room (write tree (transform g i x)) middle (a .2) in
+        let y = transform-typed g sg x root i u reaches (h .0) in
+        let join-run : runBytes J root n bytes space ≡ fitted space (write tree (transform f j (transform g i x)))
+        = join-reads t (chain u t reaches q) bytes space
+        ∙ (ap (λ (o : Result Code). o >>= λ z. fitted space (write tree (transform (joined f g) n z))) (a .1)
+        ∙ ap (λ (z : Code). fitted space (write tree z))
+        (join-runs f g sf sg (w .fits) (w .low-first) (w .low-second) (within (joined f g) (w .exceeds) .codes) i u j t (h .0) reaches q)) in
+        let second-run : (o : Result Code) → treeOf (f .source) u (write tree (transform g i x)) ≡ o
+        → runBytes F u j middle space ≡ (o >>= λ z. fitted space (write tree (transform f j z)))
+        = λ o d.
+        operand-has f F pf u j middle space t q
+        ∙ (ap (λ (b : List ℕ). treeOf (f .source) u b >>= λ z. fitted space (write tree (transform f j z))) (sym m)
+        ∙ ap (λ (z : Result Code). z >>= λ c. fitted space (write tree (transform f j c))) d) in
+        ⊎-elim
+        (λ d. absurd (shallow (second-run (refused TooDeep) d)))
+        (λ d. join-run ∙ sym (second-run (value (transform g i x)) d))
+        (written-tree (f .source) u (transform g i x) (none-clashes (f .source) (f .source) (sf .source .apart))
+        (join-lies f g sf sg (w .fits) root i u reaches) (typed-larger (target-larger f g sf sg (w .fits)) y))
+
+    join-same : (runBytes F (mapped (g .body) root i) j middle space ≡ refused TooDeep → ⊥)
+        → runBytes J root n bytes space ≡ runBytes F (mapped (g .body) root i) j middle space
+    join-same shallow =
+        let z = mapped-to (g .body) root i u reaches in
+        rw z (by-option (mappingOf (f .body) u j) lacking (λ t q. having t q (λ d. shallow (rw z d))))
+
+  runs-of-join : (bytes a b c : List ℕ)
+      → RunsOfJoin (runTree G root i bytes a)
+      (runTree F (mapped (g .body) root i) j (putOut (runTree G root i bytes a .outcome) (runTree G root i bytes a .output)) b)
+      (runTree J root n bytes c) b c (joined f g .target) (mapped (joined f g .body) root n) (isSome (mappingOf (joined f g .body) root n))
   unfolding runTree
-  runs-of-join root bytes a b c =
-      let one = runBytes G root bytes (length a) in
+  runs-of-join bytes a b c =
+      let one = runBytes G root i bytes (length a) in
       let middle = putOut (written one) (outputAfter a one) in
-      let two = runBytes F (mapped (g .body) root) middle (length b) in
-      let whole = runBytes J root bytes (length c) in
+      let two = runBytes F (mapped (g .body) root i) j middle (length b) in
+      let whole = runBytes J root n bytes (length c) in
       record {
         legal = λ z.
             let v = accepted-value whole z in
-            subst (Legal (joined f g .target) (mapped (joined f g .body) root)) (sym (put-out c whole (v .0) (v .1)))
-            (run-legal (joined f g) J pj root bytes (length c) (v .0) (v .1));
-        refused = λ r k z.
+            subst (Legal (joined f g .target) (mapped (joined f g .body) root n)) (sym (put-out c whole (v .0) (v .1)))
+            (run-legal (joined f g) J pj root n bytes (length c) (v .0) (v .1));
+        lacks = λ z. refused-written whole UnknownRoot (operand-lacks (joined f g) J pj root n bytes (length c) (is-none (mappingOf (joined f g .body) root n) z));
+        refused = λ z r k d.
+            let t = some-is (mappingOf (joined f g .body) root n) z in
+            let u = unchain (t .0) (t .1) in
             refused-written whole r
-            (run-refused g (joined f g) G J pg pj (source-is f g) root bytes (length a) (length c) r k (written-refused one r z));
-        agrees = λ z shallow n.
+            (join-reads (t .0) (t .1) bytes (length c)
+            ∙ run-refused g G pg root i (u .0) (u .1) bytes (length a) r k (written-refused one r d) (λ x. fitted (length c) (write tree (transform (joined f g) n x))));
+        agrees = λ z shallow l.
             let v = accepted-value one z in
             let m : one ≡ value middle = v .1 ∙ ap value (sym (put-out a one (v .0) (v .1))) in
-            same-run J F bytes middle root (mapped (g .body) root) b c n
-            (join-same root bytes middle (length a) (length b) m (λ q. shallow (refused-written two TooDeep q)));
+            same-run J F bytes middle root n (mapped (g .body) root i) j b c l
+            (join-same bytes middle (length a) (length b) m (λ q. shallow (refused-written two TooDeep q)));
       }
 
 -- The law of runs.
 pub law-of-runs : LawOfRuns
-law-of-runs fields f g w w₁ w₂ o o₁ o₂ J G F hj hg hf root bytes a b c =
+unfolding n
+law-of-runs fields f g w w₁ w₂ o o₁ o₂ J G F hj hg hf root i j low bytes a b c =
     let rj = reduces fields (join f g) w o J hj in
     let rg = reduces fields g w₁ o₁ G hg in
     let rf = reduces fields f w₂ o₂ F hf in
-    let j = join-value rj rf rg in
-    let pj : Operand (joined (rf .result) (rg .result)) J = subst (λ (x : Translation). Operand x J) (sym (j .is)) (operand rj) in
-    let one = runTree G root bytes a in
+    let v = join-value rj rf rg in
+    let pj : Operand (joined (rf .result) (rg .result)) J = subst (λ (x : Translation). Operand x J) (sym (v .is)) (operand rj) in
+    let u : Joins (rf .result) (rg .result) (joined (rf .result) (rg .result)) = record { low-first = v .low-first; low-second = v .low-second; fits = v .fits; exceeds = v .exceeds; is = refl } in
+    let n = paired i j in
+    let one = runTree G root i bytes a in
     let middle = putOut (one .outcome) (one .output) in
-    subst (λ (x : Result Translation). RunsOfJoin one (runTree F (mapsTo x root) middle b) (runTree J root bytes c) b c (targetIn (translationOf J)) (mapsTo (translationOf J) root))
+    subst (λ (x : Result Translation). RunsOfJoin one (runTree F (mapsTo x root i) j middle b) (runTree J root n bytes c) b c (targetIn (translationOf J)) (mapsTo (translationOf J) root n) (hasNumber (translationOf J) root n))
     (sym (operand-opens (rg .result) G (operand rg)))
-    (subst (λ (x : Result Translation). RunsOfJoin one (runTree F (mapped (rg .result .body) root) middle b) (runTree J root bytes c) b c (targetIn x) (mapsTo x root))
+    (subst (λ (x : Result Translation). RunsOfJoin one (runTree F (mapped (rg .result .body) root i) j middle b) (runTree J root n bytes c) b c (targetIn x) (mapsTo x root n) (hasNumber x root n))
     (sym (operand-opens (joined (rf .result) (rg .result)) J pj))
-    (runs-of-join (rf .result) (rg .result) F G J (operand rf) (operand rg) pj (j .fits) (j .exceeds) root bytes a b c))
+    (runs-of-join (rf .result) (rg .result) F G J (operand rf) (operand rg) pj u root i j low bytes a b c))

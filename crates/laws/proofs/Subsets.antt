@@ -1,8 +1,8 @@
 -- Translations that lie in another: they fit, and their sum is no larger than it.
 use Prim.Native.Nat.{ℕ, suc, _+_, _≤_, _<_}
-use mathlib.Core.Path.{_≡_, refl, ap, subst}
-use mathlib.Core.Logic.{inl, inr, ⊎-elim}
-use mathlib.Core.Bool.{false}
+use mathlib.Core.Path.{_≡_, refl, ap, sym, subst}
+use mathlib.Core.Logic.{_⊎_, inl, inr, ⊎-elim}
+use mathlib.Core.Bool.{true, false}
 use mathlib.Core.List.{List, [], _∷_, map}
 use native.Mathlib.Omega.{arith}
 use lib.ListN.{length}
@@ -10,36 +10,44 @@ use borrow.Author.Tests.{le-ltb}
 use Rattle.fields.specs.Fields.{Field, field, encodeFields}
 use Rattle.fields.specs.Keyed.{union}
 use Rattle.fields.proofs.Truth.{Mem, false-any}
-use Rattle.fields.proofs.Keyed.{Rising, From, from-mem, from-agree, rising-ext, union-cases}
+use Rattle.fields.proofs.Keyed.{Rising, From, Agree, from-mem, from-agree, rising-ext, union-cases}
 use Rattle.fields.proofs.Codec.{contentsOf, encode-length}
-use Rattle.language.specs.Language.{Language, entryKey}
+use Rattle.language.specs.Language.{Language, entryKey, isIn}
 use Rattle.language.specs.LanguageFile.{entryField, encodeLanguage, languageLimit}
-use Rattle.translation.specs.Translation.{Translation, itemKey}
+use Rattle.language.proofs.Lookup.{in-larger, in-union}
+use Rattle.translation.specs.Translation.{mapping, Translation, itemKey}
 use Rattle.translation.specs.TranslationFile.{itemField, translationFields, encodeTranslation, translationLimit}
+use Rattle.translation.proofs.Lookup.{mem-mapping}
 use Rattle.operators.specs.Operators.{languageUnion, translationUnion}
 use Rattle.operators.specs.Limits.{codeIsDeep, languageExceeds, translationExceeds}
 use Rattle.operators.proofs.Accepted.{code-shallow}
 use Rattle.operators.proofs.Proper.{Proper, Sound, GoodTranslation}
-use Rattle.operators.proofs.SumSound.{LanguagesFit, TranslationsFit, union-covers}
+use Rattle.operators.proofs.SumSound.{LanguagesFit, NumbersKept, TranslationsFit, shared-mapping, union-covers}
 
 -- All members of one list are members of another.
 abbrev pub Subset : {A : Type 0} → List A → List A → Type 0
 Subset {A} l m = (a : A) → Mem a l → Mem a m
 
--- One translation lies in another.
+swap : {A B : Type 0} → A ⊎ B → B ⊎ A
+swap (inl a) = inr a
+swap (inr b) = inl b
+
+-- One translation lies in another, and its kinds have all numbers that they have there.
 pub record Lies (x v : Translation) : Type 0 where
   pub source : Subset (x .source) (v .source)
   pub target : Subset (x .target) (v .target)
   pub body : Subset (x .body) (v .body)
+  pub numbers : (k j t : ℕ) → isIn (x .source) k ≡ true → Mem (mapping k j t) (v .body) → Mem (mapping k j t) (x .body)
 
 pub lies-itself : (v : Translation) → Lies v v
-lies-itself v = record { source = λ a m. m; target = λ a m. m; body = λ a m. m }
+lies-itself v = record { source = λ a m. m; target = λ a m. m; body = λ a m. m; numbers = λ k j t i m. m }
 
 pub lies-further : {x y z : Translation} → Lies x y → Lies y z → Lies x z
-lies-further p q = record {
+lies-further {x} {y} p q = record {
   source = λ a m. q .source a (p .source a m);
   target = λ a m. q .target a (p .target a m);
   body = λ a m. q .body a (p .body a m);
+  numbers = λ k j t i m. p .numbers k j t i (q .numbers k j t (in-larger (x .source) (y .source) (p .source) k i) m);
 }
 
 -- A rising list whose members lie in another is no longer, in bytes.
@@ -125,10 +133,16 @@ languages-fit l m v p f g = record {
   right = λ k c q ks x y. p .apart k c q ks (g _ x) (f _ y);
 }
 
-pub lie-fit : (x y v : Translation) → Sound v → Lies x v → Lies y v → TranslationsFit x y
-lie-fit x y v s p q = record {
+-- A kind of the one has each number that it has in the other, since both have those of v.
+numbers-shared : (x y v : Translation) → Sound y → Lies x v → Lies y v → NumbersKept x y
+numbers-shared x y v s p q k j t m i = (t, mem-mapping (y .body) (s .rises) k j t (q .numbers k j t i (p .body _ m)))
+
+pub lie-fit : (x y v : Translation) → Sound x → Sound y → Sound v → Lies x v → Lies y v → TranslationsFit x y
+lie-fit x y v sx sy s p q = record {
   source = languages-fit (x .source) (y .source) (v .source) (s .source) (p .source) (q .source);
   target = languages-fit (x .target) (y .target) (v .target) (s .target) (p .target) (q .target);
+  left = numbers-shared x y v sy p q;
+  right = numbers-shared y x v sx q p;
   body = λ a b m n e. from-agree itemKey 0 (v .body) (s .rises) a b (p .body a m) (q .body b n) e;
 }
 
@@ -136,21 +150,44 @@ lie-fit x y v s p q = record {
 union-lies : {A : Type 0} (key : A → ℕ) (l m v : List A) → Subset l v → Subset m v → Subset (union key l m) v
 union-lies key l m v f g a q = ⊎-elim (λ p. f a p) (λ p. g a p) (union-cases key a l m q)
 
-pub sum-lies : (x y v : Translation) → Lies x v → Lies y v → Lies (translationUnion x y) v
+pub sum-lies : (x y v : Translation) → Lies x v → Lies y v → TranslationsFit x y → Sound x → Lies (translationUnion x y) v
 unfolding translationUnion languageUnion
-sum-lies x y v p q = record {
+sum-lies x y v p q h s = record {
   source = union-lies entryKey (x .source) (y .source) (v .source) (p .source) (q .source);
   target = union-lies entryKey (x .target) (y .target) (v .target) (p .target) (q .target);
   body = union-lies itemKey (x .body) (y .body) (v .body) (p .body) (q .body);
+  numbers = λ k j t i m.
+      let c = union-covers itemKey (x .body) (y .body) (s .rises) (h .body) in
+      ⊎-elim
+      (λ d. c .left _ (p .numbers k j t d m))
+      (λ d. c .right _ (q .numbers k j t d m))
+      (in-union (x .source) (y .source) k i);
 }
 
-pub lies-sum : (x y : Translation) → Sound x → TranslationsFit x y → Lies x (translationUnion x y) × Lies y (translationUnion x y)
+-- A kind of the one has in the sum no number that it does not have there.
+own-numbers : (x y : Translation) → Sound y → (body : Agree itemKey (x .body) (y .body)) → NumbersKept y x
+    → (k j t : ℕ) → isIn (x .source) k ≡ true → Mem (mapping k j t) (x .body) ⊎ Mem (mapping k j t) (y .body) → Mem (mapping k j t) (x .body)
+own-numbers x y s a h k j t i m = ⊎-elim (λ d. d) (λ d. shared-mapping x y a h k j t i d) m
+
+pub lies-sum : (x y : Translation) → Sound x → Sound y → TranslationsFit x y → Lies x (translationUnion x y) × Lies y (translationUnion x y)
 unfolding translationUnion languageUnion
-lies-sum x y s h =
+lies-sum x y s z h =
     let a = union-covers entryKey (x .source) (y .source) (s .source .rises) (h .source .agrees) in
     let b = union-covers entryKey (x .target) (y .target) (s .target .rises) (h .target .agrees) in
-    let c = union-covers itemKey (x .body) (y .body) (s .rises) (h .body) in
-    (record { source = a .left; target = b .left; body = c .left }, record { source = a .right; target = b .right; body = c .right })
+    let c = union-covers itemKey (x .body) (y .body) (s .rises) (h .body) in (
+      record {
+        source = a .left;
+        target = b .left;
+        body = c .left;
+        numbers = λ k j t i m. own-numbers x y z (h .body) (h .right) k j t i (union-cases itemKey _ (x .body) (y .body) m);
+      },
+      record {
+        source = a .right;
+        target = b .right;
+        body = c .right;
+        numbers = λ k j t i m. own-numbers y x s (λ p q u v e. sym (h .body q p v u (sym e))) (h .left) k j t i (swap (union-cases itemKey _ (x .body) (y .body) m));
+      },
+    )
 
 -- Two sound translations that lie in one another are equal.
 pub lies-equal : (x y : Translation) → Sound x → Sound y → Lies x y → Lies y x → x ≡ y

@@ -55,7 +55,7 @@ module _ (c : Constants) (good : GoodConstants c) where
       let p = sum-value (asTerm a) (asTerm b) v e in
       let x = p .0 in
       let y = p .1 in
-      let both = subst (λ (z : Translation). Lies x z × Lies y z) (p .5) (lies-sum x y (value-good (asTerm a) x (p .2) .sound) (fit-translations x y (p .4))) in
+      let both = subst (λ (z : Translation). Lies x z × Lies y z) (p .5) (lies-sum x y (value-good (asTerm a) x (p .2) .sound) (value-good (asTerm b) y (p .3) .sound) (fit-translations x y (p .4))) in
       ⊎-elim
       (λ n. let r = built-lies a x (p .2) t n in (r .0, r .1, lies-further (r .2) (both .0)))
       (λ n. let r = built-lies b y (p .3) t n in (r .0, r .1, lies-further (r .2) (both .1)))
@@ -68,9 +68,11 @@ module _ (c : Constants) (good : GoodConstants c) where
   lies-built (plus a b) v g h =
       let p = lies-built a v g (λ t m. h t (mem-append t (builtFrom a) (builtFrom b) (inl m))) in
       let q = lies-built b v g (λ t m. h t (mem-append t (builtFrom a) (builtFrom b) (inr m))) in
-      let f = lie-fit (p .0) (q .0) v (g .sound) (p .2) (q .2) in
-      let l = sum-lies (p .0) (q .0) v (p .2) (q .2) in
-      let s = sound-union (p .0) (q .0) (value-good (asTerm a) (p .0) (p .1) .sound) (value-good (asTerm b) (q .0) (q .1) .sound) f in (
+      let x = value-good (asTerm a) (p .0) (p .1) .sound in
+      let y = value-good (asTerm b) (q .0) (q .1) .sound in
+      let f = lie-fit (p .0) (q .0) v x y (g .sound) (p .2) (q .2) in
+      let l = sum-lies (p .0) (q .0) v (p .2) (q .2) f x in
+      let s = sound-union (p .0) (q .0) x y f in (
         translationUnion (p .0) (q .0),
         value-sum (asTerm a) (asTerm b) (p .0) (q .0) (p .1) (q .1) (translations-fit (p .0) (q .0) f) (lies-within (translationUnion (p .0) (q .0)) v s g l),
         l,

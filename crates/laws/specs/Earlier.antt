@@ -13,10 +13,11 @@ use Rattle.fields.specs.Lists.{all, isSome}
 use Rattle.language.specs.Language.{Language, isIn, clashes}
 use Rattle.language.specs.LanguageFile.{languageLimit, whole}
 use Rattle.reader.specs.Code.{Code, token}
+use Rattle.reader.specs.Typing.{Uses}
 use Rattle.reader.specs.Syntax.{Syntax, tree, code, write, done, Rule, earlier, current, readBy, read}
 use Rattle.reader.specs.Operations.{treeLevels, wholeTree}
-use Rattle.translation.specs.Translation.{Translation, Item, mapping, clause, clauseOf, mapped}
-use Rattle.translation.specs.Running.{Clauses, run, codeLevels, mappedArguments, wholeCode}
+use Rattle.translation.specs.Translation.{Translation, Item, mapping, clause, mappingOf, clauseOf, mapped}
+use Rattle.translation.specs.Running.{Clauses, run, codeLevels, usesOf, wholeCode}
 use Rattle.translation.specs.WellFormed.{mappingFits, clausesFit}
 use Rattle.translation.specs.TranslationFile.{partsOf, translationLimit, isLanguageTag, allRising}
 use Rattle.translation.specs.Operations.{fitted, runBytes}
@@ -24,21 +25,21 @@ use Rattle.translation.specs.Operations.{fitted, runBytes}
 -- Whatever the earlier rule reads, as a tree or as a code, the current rule reads to the same term and rest.
 abbrev pub LawOfRules : Type 0
 LawOfRules =
-    (x : Syntax) (l : Language) (arguments : List ℕ) (n k : ℕ) (bytes : List ℕ) (a : Code) (rest : List ℕ)
-    → readBy earlier x l arguments n k bytes ≡ done a rest → read x l arguments n k bytes ≡ done a rest
+    (x : Syntax) (l : Language) (uses : Uses) (n k : ℕ) (bytes : List ℕ) (a : Code) (rest : List ℕ)
+    → readBy earlier x l uses n k bytes ≡ done a rest → read x l uses n k bytes ≡ done a rest
 
--- The code of a clause by a rule of levels, with nothing after it.
-unfoldable pub codeBy : Rule → Translation → ℕ → ℕ → List ℕ → Option Code
-codeBy c f k p bytes = wholeCode (readBy c code (f .target) (mappedArguments f k p) codeLevels (mapped (f .body) k) bytes)
+-- The code of a clause of number j by a rule of levels, with nothing after it.
+unfoldable pub codeBy : Rule → Translation → ℕ → ℕ → ℕ → List ℕ → Option Code
+codeBy c f k p j bytes = wholeCode (readBy c code (f .target) (usesOf f k p) codeLevels (mapped (f .body) k j) bytes)
 
 -- The clauses of a translation by a rule.
 unfoldable pub clausesBy : Rule → Translation → Clauses
-clausesBy c f k p = Option·getD (codeBy c f k p (Option·getD (clauseOf (f .body) k p) [])) (token 0)
+clausesBy c f k p j = Option·getD (codeBy c f k p j (Option·getD (clauseOf (f .body) k p j) [])) (token 0)
 
 -- A clause's code is of the mapped result kind by a rule.
 unfoldable pub codeFitsBy : Rule → Translation → Item → Bool
-codeFitsBy c f (mapping s t) = true
-codeFitsBy c f (clause r p bytes) = isSome (codeBy c f r p bytes)
+codeFitsBy c f (mapping s j t) = true
+codeFitsBy c f (clause r p j bytes) = isSome (codeBy c f r p j bytes)
 
 -- 5, 6 or 7, the lowest, where the translation is not well formed by a rule.
 unfoldable pub wellFormedBy : Rule → Translation → Result Translation
@@ -61,21 +62,22 @@ translationBy c s =
 unfoldable pub treeBy : Rule → Language → ℕ → List ℕ → Result Code
 treeBy c l root bytes = refuseIf (not (isIn l root)) UnknownRoot (wholeTree (readBy c tree l [] treeLevels root bytes))
 
--- Run by a rule.
-unfoldable pub runBy : Rule → List ℕ → ℕ → List ℕ → ℕ → Result (List ℕ)
-runBy c translation root bytes room =
+-- Run by a number, by a rule.
+unfoldable pub runBy : Rule → List ℕ → ℕ → ℕ → List ℕ → ℕ → Result (List ℕ)
+runBy c translation root number bytes room =
     translationBy c translation >>= λ f.
-    treeBy c (f .source) root bytes >>= λ t.
-    fitted room (write tree (run (clausesBy c f) t))
+    refuseIf (not (isSome (mappingOf (f .body) root number))) UnknownRoot
+    (treeBy c (f .source) root bytes >>= λ t.
+    fitted room (write tree (run (clausesBy c f) number t)))
 
 -- By the current rule that is run, as the operation has it.
 abbrev pub RunByCurrent : Type 0
 RunByCurrent =
-    (translation : List ℕ) (root : ℕ) (bytes : List ℕ) (room : ℕ)
-    → runBy current translation root bytes room ≡ runBytes translation root bytes room
+    (translation : List ℕ) (root number : ℕ) (bytes : List ℕ) (room : ℕ)
+    → runBy current translation root number bytes room ≡ runBytes translation root number bytes room
 
 -- Sessions accepted earlier give the same bytes.
 abbrev pub SessionsStay : Type 0
 SessionsStay =
-    (translation : List ℕ) (root : ℕ) (bytes : List ℕ) (room : ℕ) (result : List ℕ)
-    → runBy earlier translation root bytes room ≡ value result → runBytes translation root bytes room ≡ value result
+    (translation : List ℕ) (root number : ℕ) (bytes : List ℕ) (room : ℕ) (result : List ℕ)
+    → runBy earlier translation root number bytes room ≡ value result → runBytes translation root number bytes room ≡ value result

@@ -28,7 +28,7 @@ comesTo result number bytes = eqb (numberOf (written result)) number && sameNumb
 unfoldable pub holds : Row → Bool
 holds (reduced pack number bytes) = comesTo (reduceBytes (encodeFields pack) 65536 4096) number bytes
 holds (ran pack root tree room number bytes) =
-    comesTo (reduceBytes (encodeFields pack) 65536 4096 >>= λ f. runBytes f root tree room) number bytes
+    comesTo (reduceBytes (encodeFields pack) 65536 4096 >>= λ f. runBytes f root 0 tree room) number bytes
 
 -- C: class 2 of 1 to 240; productions 1.1 (2), 1.2 (1 1), 1.3 (2).
 abbrev c : Field

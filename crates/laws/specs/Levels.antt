@@ -6,13 +6,13 @@ use mathlib.Core.Bool.{true, false}
 use mathlib.Core.List.{List, [], _++_}
 use Rattle.language.specs.Language.{Language, isUndefined, clashes}
 use Rattle.reader.specs.Code.{Code, levels}
-use Rattle.reader.specs.Typing.{Typed}
+use Rattle.reader.specs.Typing.{Uses, Typed}
 use Rattle.reader.specs.Syntax.{Syntax, Read, done, deep, read, write, tree, code}
 
--- The kinds of the arguments that a syntax can write: a tree has none.
-abbrev pub argumentsIn : Syntax → List ℕ → List ℕ
-argumentsIn tree kinds = []
-argumentsIn code kinds = kinds
+-- The uses of arguments that a syntax can write: a tree has none.
+abbrev pub usesIn : Syntax → Uses → Uses
+usesIn tree uses = []
+usesIn code uses = uses
 
 -- What reading with n levels gives of bytes that start with the written code c, which is too deep exactly if
 -- n is below its levels.
@@ -24,9 +24,9 @@ pub record ReadsByLevels (n : ℕ) (c : Code) (rest : List ℕ) (result : Read C
 -- behind the code.
 abbrev pub LawOfLevels : Type 0
 LawOfLevels =
-    (l : Language) → clashes l l ≡ false → (x : Syntax) (kinds : List ℕ) (c : Code) (k : ℕ)
-    → Typed l (argumentsIn x kinds) c k → (n : ℕ) (rest : List ℕ)
-    → ReadsByLevels n c rest (read x l (argumentsIn x kinds) n k (write x c ++ rest))
+    (l : Language) → clashes l l ≡ false → (x : Syntax) (uses : Uses) (c : Code) (k : ℕ)
+    → Typed l (usesIn x uses) c k → (n : ℕ) (rest : List ℕ)
+    → ReadsByLevels n c rest (read x l (usesIn x uses) n k (write x c ++ rest))
 
 -- No tree is legal of the kind, and reading never gives one, whatever the levels.
 pub record NoTree (l : Language) (k : ℕ) : Type 0 where

@@ -1,19 +1,18 @@
 -- The lines of clauses: a law for each turn and return of the code.
 use Prim.Native.Nat.{ℕ, _+_, _-_, _<_, _≤_}
 use mathlib.Core.Path.{_≡_, refl, sym, ap, _∙_, subst}
-use mathlib.Core.Bool.{Bool, true, false, _&&_}
+use mathlib.Core.Bool.{true, false}
 use mathlib.Core.List.{List, [], _∷_, _++_, append-assoc, append-nil}
 use native.Mathlib.Omega.{arith}
 use lib.ListN.{length, take, drop, length-drop}
 use lib.Seq.{take-all, length-take-le}
-use lib.Dec.{leb, eqb}
-use borrow.Author.Tests.{le-leb, lt-leb, eq-eqb, ne-eqb}
+use borrow.Author.Tests.{le-leb, lt-leb, ne-eqb}
 use Rattle.fields.specs.Lists.{concatMap}
 use Rattle.fields.specs.Fields.{byteAt, pairAt}
 use Rattle.fields.specs.Inner.Places.{fieldEnd, isWhole, contentsAt, placesFrom}
 use Rattle.fields.proofs.Places.{pass-done, pass-next}
-use Rattle.listing.specs.Text.{marked, pairOf, clauseLine}
-use Rattle.listing.specs.Inner.Walk.{contentsLine, isClause, lineAt, clauseLines}
+use Rattle.listing.specs.Text.{marked, pairOf, clauseLine, numberedLine}
+use Rattle.listing.specs.Inner.Walk.{contentsLine, numberedContents, fieldLine, lineAt, clauseLines}
 use Rattle.listing.specs.Inner.Putting.{Puts}
 use Rattle.listing.proofs.Putting.{puts-then, puts-nothing}
 
@@ -35,6 +34,24 @@ puts-clause clause code a b o o₁ o₂ o₃ o₄ p q r t u ea eb ec x y z w =
     (cc (ea, eb, ec, code-is clause))
     (puts-then _ _ _ _ _ _ _ _ x (puts-then _ _ _ _ _ _ _ _ y (puts-then _ _ _ _ _ _ _ _ z w)))
 
+-- The code of a numbered clause is the rest behind three bytes.
+rest-is : (clause : List ℕ) → take (length clause - 3) (drop 3 clause) ≡ drop 3 clause
+rest-is clause = take-all (length clause - 3) (drop 3 clause) (simp length-drop (omega arith))
+
+pub rest-length : (clause : List ℕ) → length (take (length clause - 3) (drop 3 clause)) ≡ length clause - 3
+rest-length clause = ap length (rest-is clause) ∙ length-drop 3 clause
+
+-- `put_numbered`
+pub puts-numbered : (clause code : List ℕ) (a b c : ℕ) (o o₁ o₂ o₃ o₄ o₅ : List ℕ) (p q r t u v : ℕ)
+    → a ≡ byteAt clause 0 → b ≡ byteAt clause 1 → c ≡ byteAt clause 2 → code ≡ take (length clause - 3) (drop 3 clause)
+    → Puts (marked a 46) o o₁ p q → Puts (marked b 46) o₁ o₂ q r → Puts (marked c 32) o₂ o₃ r t → Puts (concatMap pairOf code) o₃ o₄ t u → Puts (10 ∷ []) o₄ o₅ u v
+    → Puts (numberedContents clause) o o₅ p v
+unfolding numberedContents numberedLine
+puts-numbered clause code a b c o o₁ o₂ o₃ o₄ o₅ p q r t u v ea eb ec ed x y z w k =
+    subst (λ (l : List ℕ). Puts l o o₅ p v)
+    (cc (ea, eb, ec, ed, rest-is clause))
+    (puts-then _ _ _ _ _ _ _ _ x (puts-then _ _ _ _ _ _ _ _ y (puts-then _ _ _ _ _ _ _ _ z (puts-then _ _ _ _ _ _ _ _ w k))))
+
 -- The contents of a whole field, by its end.
 module _ (s : List ℕ) (p end : ℕ) (ee : end ≡ fieldEnd s p) where
   pub contents-is : take (end - (p + 3)) (drop (p + 3) s) ≡ contentsAt s p
@@ -44,51 +61,63 @@ module _ (s : List ℕ) (p end : ℕ) (ee : end ≡ fieldEnd s p) where
   pub contents-length : end ≤ length s → length (take (end - (p + 3)) (drop (p + 3) s)) ≡ end - (p + 3)
   contents-length h = let k : end - (p + 3) ≤ length (drop (p + 3) s) = simp length-drop (omega arith) in length-take-le _ _ k
 
--- `put_field`: a field that is no whole clause, and one that is
+-- `put_contents`: a field that is no clause, and one that is
+module _ (tag : ℕ) (c : List ℕ) where
+  no-clause : (tag ≡ 0x23 → ⊥) → (tag ≡ 0x29 → ⊥) → [] ≡ fieldLine tag c
+  unfolding fieldLine
+  no-clause h k = simp (ne-eqb tag 0x23 h, ne-eqb tag 0x29 k) refl
+
+  short-clause : tag ≡ 0x23 → length c < 2 → [] ≡ fieldLine tag c
+  unfolding fieldLine
+  short-clause h k = rw (h, lt-leb 2 (length c) k) refl
+
+  whole-clause : tag ≡ 0x23 → 2 ≤ length c → contentsLine c ≡ fieldLine tag c
+  unfolding fieldLine
+  whole-clause h k = rw (h, le-leb 2 (length c) k) refl
+
+  short-numbered : tag ≡ 0x29 → length c < 3 → [] ≡ fieldLine tag c
+  unfolding fieldLine
+  short-numbered h k = rw (h, lt-leb 3 (length c) k) refl
+
+  whole-numbered : tag ≡ 0x29 → 3 ≤ length c → numberedContents c ≡ fieldLine tag c
+  unfolding fieldLine
+  whole-numbered h k = rw (h, le-leb 3 (length c) k) refl
+
+  module _ (o : List ℕ) (at : ℕ) (room : at ≤ length o) where
+    nothing : [] ≡ fieldLine tag c → Puts (fieldLine tag c) o o at at
+    nothing e = subst (λ (l : List ℕ). Puts l o o at at) e (puts-nothing o at room)
+
+    pub puts-other : (tag ≡ 0x23 → ⊥) → (tag ≡ 0x29 → ⊥) → Puts (fieldLine tag c) o o at at
+    puts-other h k = nothing (no-clause h k)
+
+    pub puts-short : tag ≡ 0x23 → length c < 2 → Puts (fieldLine tag c) o o at at
+    puts-short h k = nothing (short-clause h k)
+
+    pub puts-short-numbered : tag ≡ 0x29 → length c < 3 → Puts (fieldLine tag c) o o at at
+    puts-short-numbered h k = nothing (short-numbered h k)
+
+  pub puts-whole : tag ≡ 0x23 → 2 ≤ length c → (o o′ : List ℕ) (at r : ℕ) → Puts (contentsLine c) o o′ at r → Puts (fieldLine tag c) o o′ at r
+  puts-whole h k o o′ at r x = subst (λ (l : List ℕ). Puts l o o′ at r) (whole-clause h k) x
+
+  pub puts-numbered-whole : tag ≡ 0x29 → 3 ≤ length c → (o o′ : List ℕ) (at r : ℕ) → Puts (numberedContents c) o o′ at r → Puts (fieldLine tag c) o o′ at r
+  puts-numbered-whole h k o o′ at r x = subst (λ (l : List ℕ). Puts l o o′ at r) (whole-numbered h k) x
+
+-- `put_field`: a field that is not whole, and one that is
 module _ (s : List ℕ) (p end : ℕ) (ee : end ≡ fieldEnd s p) where
-  none-is : isClause s p ≡ false → [] ≡ lineAt s p
-  unfolding lineAt
-  none-is h = cc h
+  pub not-whole : length s < end → (o : List ℕ) (at : ℕ) → at ≤ length o → Puts (lineAt s p) o o at at
+  unfolding lineAt isWhole
+  not-whole k o at room =
+      let e : isWhole s p ≡ false = lt-leb (fieldEnd s p) (length s) (omega arith) in
+      let z : [] ≡ lineAt s p = rw e refl in
+      subst (λ (l : List ℕ). Puts l o o at at) z (puts-nothing o at room)
 
-  not-first : (a b : Bool) → a ≡ false → a && b ≡ false
-  not-first a b h = cc h
-
-  not-second : (a b c : Bool) → b ≡ false → a && (b && c) ≡ false
-  not-second true b c h = cc h
-  not-second false b c h = refl
-
-  not-third : (a b c : Bool) → c ≡ false → a && (b && c) ≡ false
-  not-third true true c h = cc h
-  not-third true false c h = refl
-  not-third false b c h = refl
-
-  module _ (o : List ℕ) (at : ℕ) (h : at ≤ length o) where
-    nothing : isClause s p ≡ false → Puts (lineAt s p) o o at at
-    nothing k = subst (λ (l : List ℕ). Puts l o o at at) (none-is k) (puts-nothing o at h)
-
-    pub other-tag : (tag : ℕ) → tag ≡ byteAt s p → (tag ≡ 35 → ⊥) → Puts (lineAt s p) o o at at
-    unfolding isClause
-    other-tag tag et k = nothing (not-first _ _ (ne-eqb (byteAt s p) 35 (λ q. k (et ∙ q))))
-
-    pub too-short : end < p + 5 → Puts (lineAt s p) o o at at
-    unfolding isClause
-    too-short k = nothing (not-second (eqb (byteAt s p) 35) _ _ (lt-leb (p + 5) (fieldEnd s p) (omega arith)))
-
-    pub not-whole : length s < end → Puts (lineAt s p) o o at at
-    unfolding isClause isWhole
-    not-whole k = nothing (not-third (eqb (byteAt s p) 35) (leb (p + 5) (fieldEnd s p)) _ (lt-leb (fieldEnd s p) (length s) (omega arith)))
-
-  some-is : byteAt s p ≡ 35 → p + 5 ≤ end → end ≤ length s → contentsLine (contentsAt s p) ≡ lineAt s p
-  unfolding lineAt isClause isWhole
-  some-is a b c =
-      let d : p + 5 ≤ fieldEnd s p = omega arith in
-      let e : fieldEnd s p ≤ length s = omega arith in
-      cc (eq-eqb (byteAt s p) 35 a, le-leb (p + 5) (fieldEnd s p) d, le-leb (fieldEnd s p) (length s) e)
-
-  pub whole-clause : (tag : ℕ) → tag ≡ byteAt s p → tag ≡ 35 → p + 5 ≤ end → end ≤ length s
-      → (clause : List ℕ) → clause ≡ contentsAt s p → (o o′ : List ℕ) (at r : ℕ) → Puts (contentsLine clause) o o′ at r → Puts (lineAt s p) o o′ at r
-  whole-clause tag et a b c clause ec o o′ at r x =
-      subst (λ (l : List ℕ). Puts l o o′ at r) (ap contentsLine ec ∙ some-is (sym et ∙ a) b c) x
+  pub whole-field : end ≤ length s → (contents : List ℕ) → contents ≡ contentsAt s p → (o o′ : List ℕ) (at r : ℕ)
+      → Puts (fieldLine (byteAt s p) contents) o o′ at r → Puts (lineAt s p) o o′ at r
+  unfolding lineAt isWhole
+  whole-field k contents ec o o′ at r x =
+      let e : isWhole s p ≡ true = le-leb (fieldEnd s p) (length s) (omega arith) in
+      let z : fieldLine (byteAt s p) contents ≡ lineAt s p = rw (e, ec) refl in
+      subst (λ (l : List ℕ). Puts l o o′ at r) z x
 
 -- `put_clauses`: what is put from `at` on, with the lines of the fields from p on, is all lines
 abbrev pub Lines : List ℕ → List ℕ → List ℕ → ℕ → ℕ → ℕ → Type 0

@@ -1,5 +1,5 @@
 -- What the listing program prints (paper 01, "Strap examples"), as bytes. Each line ends in byte 0A.
-use Prim.Native.Nat.{ℕ, _+_, _/_, _%_}
+use Prim.Native.Nat.{ℕ, zero, suc, _+_, _/_, _%_}
 use mathlib.Core.Bool.{cond}
 use mathlib.Core.List.{List, [], _∷_, _++_}
 use lib.Dec.{ltb}
@@ -39,11 +39,17 @@ marked n mark = decimal n ++ (mark ∷ [])
 unfoldable pub firstLine : List ℕ → ℕ → List ℕ
 firstLine word n = word ++ marked n 10
 
--- The line of a clause: result, point, name, space, and its code in capitals.
+-- The line of a clause of number 0: result, point, name, space, and its code in capitals.
 unfoldable pub clauseLine : ℕ → ℕ → List ℕ → List ℕ
 clauseLine result name code = marked result 46 ++ (marked name 32 ++ (concatMap pairOf code ++ (10 ∷ [])))
 
+-- The line of a clause of another number, which stands after the name, with a point (paper 02, 2026-13).
+unfoldable pub numberedLine : ℕ → ℕ → ℕ → List ℕ → List ℕ
+numberedLine result name number code =
+    marked result 46 ++ (marked name 46 ++ (marked number 32 ++ (concatMap pairOf code ++ (10 ∷ []))))
+
 -- What an item of a translation's body adds: a clause its line, a mapping nothing.
 unfoldable pub itemLine : Item → List ℕ
-itemLine (mapping s t) = []
-itemLine (clause r p code) = clauseLine r p code
+itemLine (mapping s j t) = []
+itemLine (clause r p zero code) = clauseLine r p code
+itemLine (clause r p (suc j) code) = numberedLine r p (suc j) code

@@ -22,23 +22,51 @@ fn put_clause(clause: &[u8], text: &mut [u8], at: usize) -> usize
     put(b'\n', text, end)
 }
 
-// What the field at p adds, which ends at `end`: a clause its line, another field nothing.
+// The line of a clause of another number than 0, from the contents of its field.
+fn put_numbered(clause: &[u8], text: &mut [u8], at: usize) -> usize
+    requires { ⌜ (3 ≤ length (now clause)) × (at + 2 * length (now clause) + 10 ≤ length (now text)) ⌝ }
+    ensures { λ r. ⌜ Puts (Walk.numberedContents (now (clause .entry))) (now (text .entry)) (now (text .exit)) at r
+        × (r ≤ at + 2 * length (now (clause .entry)) + 10) ⌝ }
+{
+    let name = put_number(byte_at(clause, 0) as u64, b'.', text, at);
+    let number = put_number(byte_at(clause, 1) as u64, b'.', text, name);
+    let code = put_number(byte_at(clause, 2) as u64, b' ', text, number);
+    let end = put_hex(&clause[3..], text, code);
+    put(b'\n', text, end)
+}
+
+// What a field of a tag adds: a clause its line, another field nothing.
+fn put_contents(tag: u8, contents: &[u8], text: &mut [u8], at: usize) -> usize
+    requires { ⌜ at + 3 * length (now contents) + 9 ≤ length (now text) ⌝ }
+    ensures { λ r. ⌜ Puts (Walk.fieldLine tag (now (contents .entry))) (now (text .entry)) (now (text .exit)) at r
+        × (r ≤ at + 3 * length (now (contents .entry)) + 9) ⌝ }
+{
+    if tag == 0x23 {
+        if contents.len() < 2 {
+            return at;
+        }
+        return put_clause(contents, text, at);
+    }
+    if tag == 0x29 {
+        if contents.len() < 3 {
+            return at;
+        }
+        return put_numbered(contents, text, at);
+    }
+    at
+}
+
+// What the field at p adds, which ends at `end`, where it is whole.
 fn put_field(s: &[u8], p: usize, end: usize, text: &mut [u8], at: usize) -> usize
     requires { ⌜ (p < length (now s)) × (EndsAt (now s) p end × (at + 3 * (length (now s) - p) ≤ length (now text))) ⌝ }
     ensures { λ r. ⌜ Puts (Walk.lineAt (now (s .entry)) p) (now (text .entry)) (now (text .exit)) at r
         × (r + 3 * (length (now (s .entry)) - end) ≤ at + 3 * (length (now (s .entry)) - p)) ⌝ }
 {
-    if byte_at(s, p) != 0x23 {
-        return at;
-    }
-    if end < p + 5 {
-        return at;
-    }
     if s.len() < end {
         return at;
     }
     let start = p + 3;
-    put_clause(&s[start..end], text, at)
+    put_contents(s[p], &s[start..end], text, at)
 }
 
 // The lines of the clauses of a translation, in order.

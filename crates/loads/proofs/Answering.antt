@@ -34,12 +34,13 @@ use Rattle.translation.specs.Inner.Parts.{sourceIn, targetIn, bodyIn}
 use Rattle.translation.proofs.Codec.{translation-whole, rises-parts}
 use Rattle.translation.proofs.Cuts.{pieces-in, body-in-short}
 use Rattle.translation.proofs.Accepted.{refused-not}
-use Rattle.emitter.specs.Inner.Table.{Checked}
+use Rattle.plain.specs.Plain.{plain}
+use Rattle.tables.specs.Inner.Table.{Checked}
 use Rattle.score.specs.LoadTable.{Table, loadsOf, tableOf, figureOf, encodeTable}
 use Rattle.score.specs.Inner.Kept.{Kept}
 use Rattle.score.proofs.Answering.{world-is}
 use Rattle.loads.specs.Joined.{loadFits, joinedTable, joinedOf, joinBytes, joinTable}
-use Rattle.loads.specs.Inner.Loading.{Parts, Puts, Answers, joinOn, joinWith}
+use Rattle.loads.specs.Inner.Loading.{Parts, Puts, Answers, joinOn, joinWith, joinAny}
 use Rattle.loads.specs.declared.join.Joined.{Joined}
 use Rattle.loads.specs.declared.join.Joined.the-variants.{To, Outside}
 
@@ -51,11 +52,12 @@ pub answers-same : {a b : Result (List ℕ)} {o after : List ℕ} {out : Outcome
 answers-same e h = rw (← e) h
 
 -- The target's index and figures, and the body's index.
-pub parts-held : (s t index zeros b items : List ℕ) (fig : List ℤ) (f : Translation) (w : Table) → ((i : ℕ) → getD t i 0 < 256) → Checked s t b f → Kept fig t w
+pub parts-held : (s t index zeros b items : List ℕ) (fig : List ℤ) (f : Translation) (w : Table) → ((i : ℕ) → getD t i 0 < 256) → Checked s t b f → plain (f .body) ≡ true → Kept fig t w
     → length zeros ≡ 8224 → ((j : ℕ) → getD zeros j 0 ≡ 0) → index ≡ putAll 0x11 t zeros (places t)
     → ((c : Body) → bodyOf b ≡ some c → IndexedItems items b c) → Parts s t index b items fig f (figureOf w)
-parts-held s t index zeros b items fig f w bytes z k long zero built ind = record {
+parts-held s t index zeros b items fig f w bytes z n k long zero built ind = record {
   checked = z;
+  plain-body = n;
   world = world-is t fig (f .target) w bytes
       (record { entries = z .pieces .target; apart = translation-whole (z .file) f (z .accepted) .1 .target-apart; short = z .pieces .target-short; kept = k })
       zeros index long zero built;
@@ -106,7 +108,7 @@ module _ (f : Translation) (w : Table) (o joined buffer : List ℕ) (r : Joined)
             d .bytes ∙ (opened o 0 bytes ∙ ap (λ (k : ℕ). bytes ++ drop k o) z)
         go Stored.Full st = let d = st .full refl in absurd (omega (arith, long))
 
--- join_parts
+-- join_plain
 pub rising-target : (s t b : List ℕ) (f : Translation) → Checked s t b f → RisingEntries t
 rising-target s t b f z =
     let h = holds-entries t (f .target) (z .pieces .target) in
@@ -136,6 +138,16 @@ module _ (f : Translation) (t o : List ℕ) {x : Bool} (ex : x ≡ isSome (loads
     unfolding joinWith tableOf
     table-joined a = answers-same (rw table-is refl) a
 
+-- join_parts
+module _ (f : Translation) (t o : List ℕ) {x : Bool} (ex : x ≡ plain (f .body)) where
+  pub numbers-unfit : {out : Outcome} → x ≡ false → out ≡ Refused Why.NumberUnfit → Answers (joinAny f t (length o)) o o out
+  unfolding joinAny
+  numbers-unfit h i = answer-refused (rw (sym ex ∙ h) refl) i
+
+  pub numbers-plain : x ≡ true → {after : List ℕ} {out : Outcome} → Answers (joinWith f t (length o)) o after out → Answers (joinAny f t (length o)) o after out
+  unfolding joinAny
+  numbers-plain h a = answers-same (rw (sym ex ∙ h) refl) a
+
 -- join_table
 module _ (s t o : List ℕ) where
   join-is : {out : Outcome} {after : List ℕ} → Answers (joinBytes s t (length o)) o after out → (out ≡ joinTable s t o .outcome) × (after ≡ joinTable s t o .output)
@@ -154,6 +166,6 @@ module _ (s t o : List ℕ) where
     pub parts-checked : {x y z : List ℕ} → x ≡ sourceIn s → y ≡ targetIn s → z ≡ bodyIn s → Checked x y z f
     parts-checked ex ey ez = rw (ex, ey, ez) (record { pieces = pieces-in s f e; short = body-in-short s f e; file = s; accepted = e })
 
-    pub join-accepted : {out : Outcome} {after : List ℕ} → Answers (joinWith f t (length o)) o after out → (out ≡ joinTable s t o .outcome) × (after ≡ joinTable s t o .output)
-    unfolding joinBytes joinWith joinOn
+    pub join-accepted : {out : Outcome} {after : List ℕ} → Answers (joinAny f t (length o)) o after out → (out ≡ joinTable s t o .outcome) × (after ≡ joinTable s t o .output)
+    unfolding joinBytes joinAny joinWith joinOn
     join-accepted a = join-is (rw e a)

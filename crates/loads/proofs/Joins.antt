@@ -4,6 +4,7 @@ use mathlib.Core.Path.{_≡_, refl, sym, ap, _∙_}
 use mathlib.Core.Bool.{Bool, true, false, _&&_}
 use mathlib.Core.Logic.{_⊎_, inl, inr, ⊎-elim}
 use mathlib.Core.List.{List, [], _∷_, _++_, map, append-assoc, append-nil}
+use mathlib.Core.Option.{some}
 use native.Mathlib.Omega.{arith}
 use native.Mathlib.Numerals.{add-one}
 use lib.ListN.{length, getD, take, drop, length-append}
@@ -13,7 +14,7 @@ use Rattle.fields.specs.Lists.{all, concatMap, countUp}
 use Rattle.fields.specs.Fields.{field, encodeField, encodeFields, twoBytes, pairAt}
 use Rattle.fields.specs.Inner.Places.{fieldEnd, placesFrom, places}
 use Rattle.fields.specs.Inner.Writing.{Written}
-use Rattle.fields.proofs.Truth.{Mem, mem-map, all-mem}
+use Rattle.fields.proofs.Truth.{Mem, none-some, some-inj, mem-map, all-mem}
 use Rattle.fields.proofs.Keyed.{Rising, is-rising}
 use Rattle.fields.proofs.Places.{places-done, places-next}
 use Rattle.fields.proofs.Splices.{slice-is, nothing-spliced, written-then}
@@ -22,20 +23,21 @@ use Rattle.language.specs.Language.{Language, Range, Entry, class, production, 
 use Rattle.language.specs.Inner.Entries.{entryAt, entryWhole, IsClass, IsProduction, Holds}
 use Rattle.language.proofs.Facts.{entry-facts, class-is, production-is}
 use Rattle.language.proofs.Holds.{holds-entries}
-use Rattle.language.proofs.Lookup.{arguments-mem, mem-arguments}
+use Rattle.language.proofs.Lookup.{arguments-mem, mem-arguments, result-in}
 use Rattle.reader.specs.Code.{Code}
-use Rattle.reader.specs.Syntax.{write, code}
+use Rattle.reader.specs.Syntax.{done, write, code}
 use Rattle.reader.proofs.Sound.{read-done}
-use Rattle.translation.specs.Translation.{Translation, mapped}
-use Rattle.translation.specs.Running.{readClause, clausesOf, mappedArguments, codeLevels}
-use Rattle.translation.specs.Inner.ItemIndex.{mappedAt}
+use Rattle.translation.specs.Translation.{Translation, mapped, clauseOf}
+use Rattle.translation.specs.Running.{readClause, clausesOf, usesOf, codeLevels}
+use Rattle.translation.specs.Inner.ItemIndex.{codeBefore, mappedAt}
 use Rattle.translation.proofs.Codec.{rises-parts}
 use Rattle.translation.proofs.Lookup.{mem-clause}
 use Rattle.translation.proofs.Fitting.{clause-code}
 use Rattle.translation.proofs.IndexedItems.{mapped-is}
-use Rattle.emitter.specs.Inner.Stands.{Stands}
-use Rattle.emitter.specs.Inner.Table.{Checked}
-use Rattle.emitter.proofs.Clauses as Clauses
+use Rattle.plain.proofs.Uses.{use-zero}
+use Rattle.tables.specs.Inner.Stands.{Stands}
+use Rattle.tables.specs.Inner.Table.{Checked}
+use Rattle.tables.proofs.Clauses as Clauses
 use Rattle.score.specs.Figures.{figureBytes, isFigure}
 use Rattle.score.specs.LoadTable.{load, loadField, encodeTable}
 use Rattle.score.specs.Linear.{Loads, form}
@@ -194,6 +196,11 @@ pub production-in : {s t index b items : List ℕ} {fig : List ℤ} {p count : �
 unfolding fieldEnd
 production-in a = let c = a .production .fits in let d = a .production .two in (omega arith, a .parts .checked .pieces .source-short)
 
+-- A clause that is found before a place in the body.
+clause-some : (s : List ℕ) (place : ℕ) (c : List ℕ) → codeBefore s place ≡ some c → (q : ℕ) × (place ≡ suc q) × (slice (q + 5) (fieldEnd s q) s ≡ c)
+clause-some s zero c e = none-some e
+clause-some s (suc q) c e = (q, refl, some-inj e)
+
 -- The code of a production's clause stands in the body.
 module _ {s t index b items : List ℕ} {fig : List ℤ} {p count : ℕ} {f : Translation} {w : Loads} (a : LoadAsks s t index b items fig p count f w)
     (bytes : (i : ℕ) → getD s i 0 < 256) (body-bytes : (i : ℕ) → getD b i 0 < 256) where
@@ -218,23 +225,44 @@ module _ {s t index b items : List ℕ} {fig : List ℤ} {p count : ℕ} {f : Tr
       let m = bytes (p + 4) in
       (omega arith, omega arith)
 
+  -- The clause of number 0 that the production has: its bytes, and the code that is read of them.
+  record Coded : Type 0 where
+    bytes-are : List ℕ
+    code-is : Code
+    listed : clauseOf (f .body) k n 0 ≡ some bytes-are
+    read-is : readClause f k n 0 bytes-are ≡ done code-is []
+    same : clausesOf f k n 0 ≡ code-is
+
+  coded : Coded
+  coded =
+      let known = arguments-mem (f .source) k n (a .kinds) (a .known) in
+      let (goal, o) = Clauses.fits z .maps k (result-in (f .source) k n (a .kinds) known) in
+      let (c, m) = Clauses.fits z .clauses k n 0 goal (a .kinds) known o in
+      let (u, r) = Clauses.fits z .codes k n 0 c m in
+      record {
+        bytes-are = c;
+        code-is = u;
+        listed = mem-clause (f .body) (Clauses.body-rises z) k n 0 c m;
+        read-is = r;
+        same = clause-code f (Clauses.body-rises z) k n 0 c u m r;
+      }
+
   pub clause-term : (kind place at pair : ℕ) → kind ≡ mappedAt b items k → kind < 32 → pair ≡ pairAt s (p + 3) → place ≡ getD items (32 + pair) 0 → at ≡ place + 4
-      → TermAsks t index fig b kind at 16 (f .target) (mappedArguments f k n) w (clauseAt f s p)
+      → TermAsks t index fig b kind at 16 (f .target) (usesOf f k n) w (clauseAt f s p)
   unfolding readClause fieldEnd
   clause-term kind place at pair ek hk er ep ea =
       let x = a .parts .indexed in
       let few = bytes (p + 4) in
-      let (c, m) = Clauses.fits z .clauses k n (a .kinds) (arguments-mem (f .source) k n (a .kinds) (a .known)) in
-      let y = mem-clause (f .body) (Clauses.body-rises z) k n c m in
-      let (q, is, part) = Clauses.clause-some b (getD items (productionKey k n) 0) c (sym (x .clause k n kind-in few) ∙ y) in
-      let (u, r) = Clauses.fits z .codes k n c m in
-      let same : clausesOf f k n ≡ u = clause-code f (Clauses.body-rises z) k n c u m r in
+      let v = coded in
+      let c = v .bytes-are in
+      let u = v .code-is in
+      let (q, is, part) = clause-some b (getD items (productionKey k n) 0) c (sym (x .clause k n kind-in few) ∙ v .listed) in
       let found : place ≡ suc q = ep ∙ (ap (λ (i : ℕ). getD items (32 + i) 0) er ∙ (ap (λ (i : ℕ). getD items i 0) (key-is .0) ∙ is)) in
       let sound = x .sound .code k n kind-in few (omega (arith, is)) in
       let pr : pairAt b (getD items (productionKey k n) 0) ≡ pairAt b (q + 1) = ap (pairAt b) (is ∙ sym (add-one q)) in
       let lo : q + 5 ≤ q + 3 + pairAt b (q + 1) = omega (arith, sound .0, pr) in
       let hi : q + 3 + pairAt b (q + 1) ≤ length b = omega (arith, sound .1, pr, is) in
-      let d = read-done code (f .target) (mappedArguments f k n) codeLevels (mapped (f .body) k) c u [] r in
+      let d = read-done code (f .target) (usesOf f k n) codeLevels (mapped (f .body) k 0) c u [] (v .read-is) in
       let piece : slice (q + 5) (q + 3 + pairAt b (q + 1)) b ≡ take (q + 3 + pairAt b (q + 1) - (q + 5)) (drop (q + 5) b) = slice-is b (q + 5) (q + 3 + pairAt b (q + 1)) lo hi in
       let small : Bytes c = rw (← part) (part-small (q + 5) (q + 3 + pairAt b (q + 1))) in
       let is-code : c ≡ write code u = d .2 small .0 ∙ append-nil (write code u) in
@@ -246,10 +274,11 @@ module _ {s t index b items : List ℕ} {fig : List ℤ} {p count : ℕ} {f : Tr
       let spot : q + 5 ≡ at = omega (arith, found, ea) in
       record {
         world = a .parts .world;
-        typed = rw (ek ∙ mapped-is b items (f .body) x k kind-in, same) (d .0);
+        plain = λ i j g e. use-zero f (a .parts .plain-body) k n i j g e;
+        typed = rw (ek ∙ mapped-is b items (f .body) x k kind-in, v .same) (d .0);
         kind = hk;
-        stands = rw (same, ← spot) stands;
-        levels = rw same (d .1);
+        stands = rw (v .same, ← spot) stands;
+        levels = rw (v .same) (d .1);
       }
     where
       part-small : (i e : ℕ) → Bytes (slice i e b)

@@ -11,7 +11,7 @@ use Rattle.fields.specs.Fields.{twoBytes}
 use Rattle.fields.specs.Inner.Writing.{Written}
 use Rattle.fields.proofs.Truth.{by-test}
 use Rattle.fields.proofs.Splices.{length-spliced, written-then}
-use Rattle.emitter.specs.Inner.Stands.{Wrote}
+use Rattle.tables.specs.Inner.Stands.{Wrote}
 use Rattle.score.specs.Figures.{unsigned, figureBytes}
 
 -- What fits was put in.

@@ -10,17 +10,17 @@ use lib.ListN.{length, getD}
 use lib.Dec.{ltb}
 use lib.IntN.{ℤ, pos}
 use borrow.Author.Tests.{eq-eqb}
-use Rattle.fields.specs.Lists.{all, concatMap, countUp}
+use Rattle.fields.specs.Lists.{all, concatMap, countUp, isSome}
 use Rattle.fields.specs.Fields.{pairAt}
 use Rattle.fields.specs.Outcome.{Result, value, refused, refuseIf, _>>=_}
 use Rattle.fields.specs.declared.outcome.Reason.{Reason}
 use Rattle.fields.specs.declared.outcome.Reason.the-variants.{ScoreOutOfRange}
-use Rattle.fields.proofs.Truth.{and-both, Mem, mem-concat, true-not}
+use Rattle.fields.proofs.Truth.{and-both, Mem, mem-concat, true-not, some-is}
 use Rattle.fields.proofs.Keyed.{Rising, is-rising}
 use Rattle.fields.proofs.Codec.{fields-encode}
 use Rattle.language.specs.Language.{Language, class, production, entryKey, argumentsOf, isIn}
 use Rattle.language.specs.LanguageFile.{languageOf}
-use Rattle.language.proofs.Lookup.{arguments-mem}
+use Rattle.language.proofs.Lookup.{arguments-mem, result-in}
 use Rattle.reader.specs.Code.{Code, levels}
 use Rattle.reader.specs.Typing.{Typed}
 use Rattle.reader.specs.Syntax.{Read, done, deep, broken, read, tree, write}
@@ -28,17 +28,21 @@ use Rattle.reader.specs.Operations.{wholeTree, treeOf}
 use Rattle.reader.proofs.RoundTrip.{Apart, round, as-tree}
 use Rattle.reader.proofs.Larger.{apart}
 use Rattle.reader.proofs.Sound.{read-done, more-levels}
-use Rattle.translation.specs.Translation.{Translation, mapped}
+use Rattle.translation.specs.Translation.{Translation, mappingOf, mapped}
 use Rattle.translation.specs.Running.{clausesOf, transform}
 use Rattle.translation.specs.TranslationFile.{translationOf}
 use Rattle.translation.specs.Operations.{runBytes}
 use Rattle.translation.proofs.Codec.{translation-whole, rises-parts}
 use Rattle.translation.proofs.Cuts.{pieces-in, body-in-short}
-use Rattle.translation.proofs.Fitting.{fit-carries}
-use Rattle.translation.proofs.Preserved.{typed-run}
+use Rattle.translation.proofs.Lookup.{mem-mapping}
+use Rattle.translation.proofs.Fitting.{uses-are, fit-carries}
+use Rattle.translation.proofs.Running.{ByZero}
+use Rattle.translation.proofs.Preserved.{Carries, kept-tree, typed-run}
 use Rattle.translation.specs.Inner.Parts.{sourceIn, targetIn, bodyIn}
-use Rattle.emitter.specs.Inner.Table.{Checked}
-use Rattle.emitter.proofs.Clauses as Clauses
+use Rattle.plain.specs.Plain.{plain}
+use Rattle.plain.proofs.Uses.{use-zero, typed-zero}
+use Rattle.tables.specs.Inner.Table.{Checked}
+use Rattle.tables.proofs.Clauses as Clauses
 use Rattle.score.specs.Figures.{signed, unsigned, figureAt, figuresFrom, figureBytes, isFigure, isScore}
 use Rattle.score.specs.LoadTable.{load, Table, loadOf, loadsIn, tableOf, figureOf, loadField, encodeTable}
 use Rattle.score.specs.Linear.{Loads, form, passes}
@@ -110,9 +114,9 @@ unfolding loadsIn concatMap joinedLoad all loadFits
 loads-back f w [] h = refl
 loads-back f w (class k c ∷ l) h = loads-back f w l h
 loads-back f w (production r p ks ∷ l) h =
-    let g = and-both (all (placeFits w (clausesOf f r p)) (placesOf (length ks))) (all (loadFits f w) l) h in
-    let e : length (map (form w (clausesOf f r p)) (placesOf (length ks))) ≡ suc (length ks) = map-long _ (placesOf (length ks)) ∙ count-long (suc (length ks)) 0 in
-    rw (load-read r p (length ks) (map (form w (clausesOf f r p)) (placesOf (length ks))) e (places-fit w (clausesOf f r p) (placesOf (length ks)) (g .0)), loads-back f w l (g .1)) refl
+    let g = and-both (all (placeFits w (clausesOf f r p 0)) (placesOf (length ks))) (all (loadFits f w) l) h in
+    let e : length (map (form w (clausesOf f r p 0)) (placesOf (length ks))) ≡ suc (length ks) = map-long _ (placesOf (length ks)) ∙ count-long (suc (length ks)) 0 in
+    rw (load-read r p (length ks) (map (form w (clausesOf f r p 0)) (placesOf (length ks))) e (places-fit w (clausesOf f r p 0) (placesOf (length ks)) (g .0)), loads-back f w l (g .1)) refl
 
 table-back : (f : Translation) (w : Loads) → all (loadFits f w) (f .source) ≡ true → tableOf (f .source) (encodeTable (joinedTable f w)) ≡ value (joinedTable f w)
 unfolding tableOf encodeTable joinedTable
@@ -121,6 +125,7 @@ table-back f w h = rw (fields-encode (map loadField (concatMap (joinedLoad f w) 
 -- What an accepted join was made of.
 record Made (translation table : List ℕ) (f : Translation) (joined : List ℕ) : Type 0 where
   from : Table
+  plain-body : plain (f .body) ≡ true
   is-table : tableOf (f .target) table ≡ value from
   fits : all (loadFits f (figureOf from)) (f .source) ≡ true
   is : joined ≡ encodeTable (joinedTable f (figureOf from))
@@ -130,12 +135,14 @@ unfolding joinBytes joinedOf
 made translation table joined room f ef e =
     let a = bind-value (translationOf translation) _ joined e in
     let same : a .0 ≡ f = value-is (sym (a .1) ∙ ef) in
-    let b = bind-value (tableOf (a .0 .target) table) _ joined (a .2) in
+    let n = test-value (not (plain (a .0 .body))) _ _ joined (a .2) in
+    let b = bind-value (tableOf (a .0 .target) table) _ joined (n .1) in
     let c = bind-value (joinedOf (a .0) (b .0)) _ joined (b .2) in
     let d = test-value (not (all (loadFits (a .0) (figureOf (b .0))) (a .0 .source))) _ _ (c .0) (c .1) in
     let g = test-value (ltb room (length (encodeTable (c .0)))) _ _ joined (c .2) in
     record {
       from = b .0;
+      plain-body = rw (← same) (true-not _ (n .0));
       is-table = rw (← same) (b .1);
       fits = rw (← same) (true-not _ (d .0));
       is = sym (value-is (g .1)) ∙ (ap encodeTable (sym (value-is (d .1))) ∙ ap (λ (h : Translation). encodeTable (joinedTable h (figureOf (b .0)))) same);
@@ -154,14 +161,14 @@ form-get g (suc n) j zero h = let e : j ≡ j + 0 = omega arith in ap g e
 form-get g (suc n) j (suc i) h = let e : suc j + i ≡ j + suc i = omega arith in form-get g n (suc j) i (omega arith) ∙ ap g e
 
 figures-are : (f : Translation) (w : Loads) → Rising entryKey (f .source) → all (loadFits f w) (f .source) ≡ true
-    → (k p : ℕ) (ks : List ℕ) → argumentsOf (f .source) k p ≡ some ks → (i : ℕ) → i ≤ length ks → figureOf (joinedTable f w) k p i ≡ form w (clausesOf f k p) i
+    → (k p : ℕ) (ks : List ℕ) → argumentsOf (f .source) k p ≡ some ks → (i : ℕ) → i ≤ length ks → figureOf (joinedTable f w) k p i ≡ form w (clausesOf f k p 0) i
 unfolding joinedTable joinedLoad
 figures-are f w rises h k p ks e i g =
-    let figs = map (form w (clausesOf f k p)) (placesOf (length ks)) in
+    let figs = map (form w (clausesOf f k p 0)) (placesOf (length ks)) in
     let m : Mem (load k p figs) (concatMap (joinedLoad f w) (f .source)) = mem-concat (joinedLoad f w) (production k p ks) (load k p figs) (f .source) (arguments-mem (f .source) k p ks e) (inl refl) in
     let up = loads-rise (f .source) (map loadField (concatMap (joinedLoad f w) (f .source))) (concatMap (joinedLoad f w) (f .source)) 0 rises (loads-back f w (f .source) h) in
     let z : 0 + i ≡ i = omega arith in
-    figures-found (concatMap (joinedLoad f w) (f .source)) up k p figs m i ∙ (form-get (form w (clausesOf f k p)) (suc (length ks)) 0 i (omega arith) ∙ ap (form w (clausesOf f k p)) z)
+    figures-found (concatMap (joinedLoad f w) (f .source)) up k p figs m i ∙ (form-get (form w (clausesOf f k p 0)) (suc (length ks)) 0 i (omega arith) ∙ ap (form w (clausesOf f k p 0)) z)
 
 -- A tree that was read, and one that was read of what was written.
 whole-done : (o : Read Code) (t : Code) → wholeTree o ≡ value t → o ≡ done t []
@@ -221,22 +228,25 @@ scored language root bytes table l x el e =
     }
 
 record Ran (translation : List ℕ) (root : ℕ) (bytes output : List ℕ) (f : Translation) : Type 0 where
+  maps : (goal : ℕ) × (mappingOf (f .body) root 0 ≡ some goal)
   tree-is : Code
   is-tree : treeOf (f .source) root bytes ≡ value tree-is
-  is : output ≡ write tree (transform f tree-is)
+  is : output ≡ write tree (transform f 0 tree-is)
 
-ran : (translation : List ℕ) (root : ℕ) (bytes output : List ℕ) (space : ℕ) (f : Translation) → translationOf translation ≡ value f → runBytes translation root bytes space ≡ value output
+ran : (translation : List ℕ) (root : ℕ) (bytes output : List ℕ) (space : ℕ) (f : Translation) → translationOf translation ≡ value f → runBytes translation root 0 bytes space ≡ value output
     → Ran translation root bytes output f
 unfolding runBytes
 ran translation root bytes output space f ef e =
     let a = bind-value (translationOf translation) _ output e in
     let same : a .0 ≡ f = value-is (sym (a .1) ∙ ef) in
-    let b = bind-value (treeOf (a .0 .source) root bytes) _ output (a .2) in
-    let c = test-value (ltb space (length (write tree (transform (a .0) (b .0))))) _ _ output (b .2) in
+    let m = test-value (not (isSome (mappingOf (a .0 .body) root 0))) _ _ output (a .2) in
+    let b = bind-value (treeOf (a .0 .source) root bytes) _ output (m .1) in
+    let c = test-value (ltb space (length (write tree (transform (a .0) 0 (b .0))))) _ _ output (b .2) in
     record {
+      maps = some-is (mappingOf (f .body) root 0) (rw (← same) (true-not _ (m .0)));
       tree-is = b .0;
       is-tree = rw (← same) (b .1);
-      is = sym (value-is (c .1)) ∙ ap (λ (h : Translation). write tree (transform h (b .0))) same;
+      is = sym (value-is (c .1)) ∙ ap (λ (h : Translation). write tree (transform h 0 (b .0))) same;
     }
 
 -- The facts of a translation that was accepted.
@@ -250,9 +260,19 @@ module _ (translation : List ℕ) (f : Translation) (ef : translationOf translat
   target-apart : Apart (f .target)
   target-apart = apart (f .target) (translation-whole translation f ef .1 .target-apart)
 
-  transform-typed : (t : Code) (k : ℕ) → Typed (f .source) [] t k → Typed (f .target) [] (transform f t) (mapped (f .body) k)
-  unfolding transform
-  transform-typed t k h = typed-run (fit-carries f (Clauses.body-rises accepted) (Clauses.fits accepted)) h
+  carries : Carries (f .source) (f .target) (mappingOf (f .body)) (clausesOf f)
+  carries = fit-carries f (Clauses.body-rises accepted) (Clauses.fits accepted)
+
+  transform-typed : (t : Code) (k goal : ℕ) → Typed (f .source) [] t k → mappingOf (f .body) k 0 ≡ some goal → Typed (f .target) [] (transform f 0 t) (mapped (f .body) k 0)
+  unfolding transform mapped
+  transform-typed t k goal h e = rw e (typed-run carries (kept-tree (mappingOf (f .body))) 0 goal h e)
+
+  -- The codes of number 0 use arguments by number 0.
+  clauses-zero : plain (f .body) ≡ true → (k p : ℕ) (ks : List ℕ) → argumentsOf (f .source) k p ≡ some ks → ByZero (clausesOf f k p 0)
+  clauses-zero h k p ks e =
+      let (goal, o) = Clauses.fits accepted .maps k (result-in (f .source) k p ks (arguments-mem (f .source) k p ks e)) in
+      let q = mem-mapping (f .body) (Clauses.body-rises accepted) k 0 goal o in
+      typed-zero (λ i j t u. use-zero f h k p i j t (rw (uses-are f k p ks e) u)) (carries .nodes k p 0 goal ks e q)
 
 pub scores-agree : ScoresAgree
 unfolding transform
@@ -260,16 +280,16 @@ scores-agree translation table joined source target bytes output room space root
     let m = made translation table joined room f ef ej in
     let r = ran translation root bytes output space f ef er in
     let a = scored source root bytes joined (f .source) x es ex in
-    let b = scored target (mapped (f .body) root) output table (f .target) y et ey in
+    let b = scored target (mapped (f .body) root 0) output table (f .target) y et ey in
     let v = joinedTable f (figureOf (m .from)) in
     let w-same : b .loads ≡ m .from = value-is (sym (b .is-table) ∙ m .is-table) in
     let v-same : a .loads ≡ v = value-is (sym (a .is-table) ∙ (ap (tableOf (f .source)) (m .is) ∙ table-back f (figureOf (m .from)) (m .fits))) in
     let t-same : a .tree-is ≡ r .tree-is = value-is (sym (a .is-tree) ∙ r .is-tree) in
     let typed = tree-typed (f .source) root bytes (r .tree-is) (r .is-tree) in
-    let u-same : b .tree-is ≡ transform f (r .tree-is) =
-    tree-again (f .target) (target-apart translation f ef) (mapped (f .body) root) (transform f (r .tree-is)) (b .tree-is) (transform-typed translation f ef (r .tree-is) root typed)
-    (ap (treeOf (f .target) (mapped (f .body) root)) (sym (r .is)) ∙ b .is-tree) in
-    let main = form-run (f .source) (clausesOf f) (figureOf v) (figureOf (m .from)) (figures-are f (figureOf (m .from)) (source-rises translation f ef) (m .fits)) typed in
+    let u-same : b .tree-is ≡ transform f 0 (r .tree-is) =
+    tree-again (f .target) (target-apart translation f ef) (mapped (f .body) root 0) (transform f 0 (r .tree-is)) (b .tree-is) (transform-typed translation f ef (r .tree-is) root (r .maps .0) typed (r .maps .1))
+    (ap (treeOf (f .target) (mapped (f .body) root 0)) (sym (r .is)) ∙ b .is-tree) in
+    let main = form-run (f .source) (clausesOf f) (figureOf v) (figureOf (m .from)) (figures-are f (figureOf (m .from)) (source-rises translation f ef) (m .fits)) (clauses-zero translation f ef (m .plain-body)) typed in
     a .is
     ∙ (ap (λ (q : Table). form (figureOf q) (a .tree-is) 0) v-same
     ∙ (ap (λ (q : Code). form (figureOf v) q 0) t-same

@@ -1,11 +1,12 @@
--- A load table joined onto a translation (paper 02, 2026-03): it gives a source tree the score that the table gives its run.
+-- A load table joined onto a translation (paper 02, 2026-03): it gives a source tree the score that the table gives its run. The
+-- translation has number 0 only (paper 02, 2026-13).
 use Prim.Native.Nat.{ℕ, suc}
 use mathlib.Core.Bool.{Bool, true, not, _&&_}
 use mathlib.Core.List.{List, [], _∷_, map}
 use lib.ListN.{length}
 use Rattle.fields.specs.Outcome.{Result, value, refuseIf, _>>=_, written, outputAfter}
 use Rattle.fields.specs.declared.outcome.Outcome.{Outcome}
-use Rattle.fields.specs.declared.outcome.Reason.the-variants.{ValueTooLarge}
+use Rattle.fields.specs.declared.outcome.Reason.the-variants.{NumberUnfit, ValueTooLarge}
 use Rattle.fields.specs.Lists.{all, concatMap, countUp}
 use Rattle.language.specs.Language.{Entry, class, production}
 use Rattle.reader.specs.Code.{Code}
@@ -13,6 +14,7 @@ use Rattle.translation.specs.Translation.{Translation}
 use Rattle.translation.specs.Running.{clausesOf}
 use Rattle.translation.specs.TranslationFile.{translationOf}
 use Rattle.translation.specs.Operations.{fitted}
+use Rattle.plain.specs.Plain.{plain}
 use Rattle.score.specs.Figures.{isFigure}
 use Rattle.score.specs.LoadTable.{load, Table, tableOf, figureOf, encodeTable}
 use Rattle.score.specs.Linear.{Loads, form, passes}
@@ -28,12 +30,12 @@ placesOf n = countUp (suc n) 0
 -- All places of the clause of a production fit.
 unfoldable pub loadFits : Translation → Loads → Entry → Bool
 loadFits f w (class k c) = true
-loadFits f w (production r p ks) = all (placeFits w (clausesOf f r p)) (placesOf (length ks))
+loadFits f w (production r p ks) = all (placeFits w (clausesOf f r p 0)) (placesOf (length ks))
 
 -- The load of a production is the form of its clause's code; a class has none.
 unfoldable pub joinedLoad : Translation → Loads → Entry → Table
 joinedLoad f w (class k c) = []
-joinedLoad f w (production r p ks) = load r p (map (form w (clausesOf f r p)) (placesOf (length ks))) ∷ []
+joinedLoad f w (production r p ks) = load r p (map (form w (clausesOf f r p 0)) (placesOf (length ks))) ∷ []
 
 -- The joined table: a load for each production of the source.
 unfoldable pub joinedTable : Translation → Loads → Table
@@ -43,13 +45,14 @@ joinedTable f w = concatMap (joinedLoad f w) (f .source)
 unfoldable pub joinedOf : Translation → Table → Result Table
 joinedOf f w = refuseIf (not (all (loadFits f (figureOf w)) (f .source))) ValueTooLarge (value (joinedTable f (figureOf w)))
 
--- Join a table: 1 to 7 for the translation, 18 against the target, 11, and 17 last.
+-- Join a table: 1 to 7 for the translation, 26 where it has any number but 0, 18 against the target, 11, and 17 last.
 unfoldable pub joinBytes : List ℕ → List ℕ → ℕ → Result (List ℕ)
 joinBytes translation table room =
     translationOf translation >>= λ f.
-    tableOf (f .target) table >>= λ w.
+    refuseIf (not (plain (f .body))) NumberUnfit
+    (tableOf (f .target) table >>= λ w.
     joinedOf f w >>= λ v.
-    fitted room (encodeTable v)
+    fitted room (encodeTable v))
 
 -- All that the operation answers and leaves.
 pub record Joining : Type 0 where

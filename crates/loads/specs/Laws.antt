@@ -21,7 +21,8 @@ JoinedIsTable =
     → (v : Table) × (tableOf (f .source) joined ≡ value v)
 
 -- Where the joined table's score of a tree and the table's score of its run are both accepted, they are equal. The run's bytes
--- are scored as a tree of the kind in the target to which the root maps.
+-- are scored as a tree of the kind in the target to which the root maps. A translation that a table is joined onto
+-- has no number but 0, so the run is by 0.
 abbrev pub ScoresAgree : Type 0
 ScoresAgree =
     (translation table joined source target tree output : List ℕ) (room space root : ℕ) (f : Translation) (x y : ℤ)
@@ -29,7 +30,7 @@ ScoresAgree =
     → languageOf source ≡ value (f .source)
     → languageOf target ≡ value (f .target)
     → joinBytes translation table room ≡ value joined
-    → runBytes translation root tree space ≡ value output
+    → runBytes translation root 0 tree space ≡ value output
     → scoreBytes source root tree joined ≡ value x
-    → scoreBytes target (mapped (f .body) root) output table ≡ value y
+    → scoreBytes target (mapped (f .body) root 0) output table ≡ value y
     → x ≡ y

@@ -13,6 +13,7 @@ use fields::outcome::refuse;
 use fields::walk::whole_end;
 use language::entries::CLASS;
 use language::entries::PRODUCTION;
+use plain::body::is_plain;
 use reader::index::INDEX;
 use reader::index::put_all;
 use reader::node::Syntax;
@@ -32,23 +33,25 @@ use translation::parts::source_of;
 use translation::parts::target_of;
 ghost use mathlib.Core.Path.{_≡_};
 ghost use mathlib.Core.Bool.{true};
-ghost use mathlib.Core.List.{List, _∷_, [], _++_};
+ghost use mathlib.Core.List.{_∷_, [], _++_};
 ghost use Prim.Native.Nat.{ℕ, _+_, _*_, _<_, _≤_};
 ghost use lib.ListN.{length};
 ghost use Rattle.fields.specs.Lists.{all, countUp};
 ghost use Rattle.fields.specs.Fields.{twoBytes};
 ghost use Rattle.fields.specs.Inner.Writing.{Written};
 ghost use Rattle.reader.specs.Code.{Code};
+ghost use Rattle.reader.specs.Typing.{Uses};
 ghost use Rattle.language.specs.Language.{Language};
 ghost use Rattle.translation.specs.Translation.{Translation};
-ghost use Rattle.emitter.specs.Inner.Table.{Checked};
+ghost use Rattle.plain.specs.Plain.{plain};
+ghost use Rattle.tables.specs.Inner.Table.{Checked};
 ghost use Rattle.score.specs.Figures.{isFigure, figureBytes};
 ghost use Rattle.score.specs.Linear.{Loads};
 ghost use Rattle.score.specs.LoadTable.{Table, encodeTable};
 ghost use Rattle.score.specs.Inner.Kept.{Kept};
 ghost use Rattle.score.specs.Inner.Terms.{TermAsks};
 ghost use Rattle.loads.specs.Joined.{placeFits, loadFits, joinedTable, joinTable};
-ghost use Rattle.loads.specs.Inner.Loading.{Parts, LoadAsks, clauseAt, figuresBytes, loadBytes, Puts, Answers, joinOn, joinWith};
+ghost use Rattle.loads.specs.Inner.Loading.{Parts, LoadAsks, clauseAt, figuresBytes, loadBytes, Puts, Answers, joinOn, joinWith, joinAny};
 
 // A joined table has at most so many bytes: a load has less than two for each byte of its production's field.
 const JOINED: usize = 2048;
@@ -99,8 +102,8 @@ fn join_figures(
     joined: &mut [u8],
     pos: usize,
 ) -> Joined
-    requires { ⌜ (pos + 2 * count ≤ length (now joined)) × (0 < count) × (count ≤ 9) × ((l : Language) × (given : List ℕ) × (w : Loads) × (u : Code) × TermAsks (now target) (now index) (now figures) (now body) kind at 16 l given w u) ⌝ }
-    ensures { λ r. ⌜ ((l : Language) (given : List ℕ) (w : Loads) (u : Code) → TermAsks (now (target .entry)) (now (index .entry)) (now (figures .entry)) (now (body .entry)) kind at 16 l given w u
+    requires { ⌜ (pos + 2 * count ≤ length (now joined)) × (0 < count) × (count ≤ 9) × ((l : Language) × (given : Uses) × (w : Loads) × (u : Code) × TermAsks (now target) (now index) (now figures) (now body) kind at 16 l given w u) ⌝ }
+    ensures { λ r. ⌜ ((l : Language) (given : Uses) (w : Loads) (u : Code) → TermAsks (now (target .entry)) (now (index .entry)) (now (figures .entry)) (now (body .entry)) kind at 16 l given w u
         → Puts (all (placeFits w u) (countUp count 0)) (figuresBytes w u count 0) (now (joined .entry)) (now (joined .exit)) pos r) ⌝ }
 {
     let mut row = [0i64; PLACES];
@@ -208,7 +211,7 @@ fn join_loads(
     Joined::To(n)
 }
 
-// The joined table of a translation and a table that were accepted: 11, and 17 last.
+// The joined table of a translation with number 0 only and a table that were accepted: 11, and 17 last.
 fn join_held(
     source: &[u8],
     target: &[u8],
@@ -216,8 +219,8 @@ fn join_held(
     figures: &[i32],
     output: &mut [u8],
 ) -> Answer
-    requires { ⌜ ((f : Translation) × (w : Table) × Checked (now source) (now target) (now body) f × Kept (now figures) (now target) w) ⌝ }
-    ensures { λ r. ⌜ ((f : Translation) (w : Table) → Checked (now (source .entry)) (now (target .entry)) (now (body .entry)) f → Kept (now (figures .entry)) (now (target .entry)) w
+    requires { ⌜ ((f : Translation) × (w : Table) × Checked (now source) (now target) (now body) f × (plain (f .body) ≡ true) × Kept (now figures) (now target) w) ⌝ }
+    ensures { λ r. ⌜ ((f : Translation) (w : Table) → Checked (now (source .entry)) (now (target .entry)) (now (body .entry)) f → plain (f .body) ≡ true → Kept (now (figures .entry)) (now (target .entry)) w
         → Answers (joinOn f w (length (now (output .entry)))) (now (output .entry)) (now (output .exit)) (r .outcome)) ⌝ }
 {
     let mut index = [0u16; INDEX];
@@ -236,10 +239,10 @@ fn join_held(
     accept(n)
 }
 
-// The joined table of a translation that was accepted: 18, 11, 17.
-fn join_parts(source: &[u8], target: &[u8], body: &[u8], table: &[u8], output: &mut [u8]) -> Answer
-    requires { ⌜ ((f : Translation) × Checked (now source) (now target) (now body) f) ⌝ }
-    ensures { λ r. ⌜ ((f : Translation) → Checked (now (source .entry)) (now (target .entry)) (now (body .entry)) f
+// The joined table of a translation with number 0 only that was accepted: 18, 11, 17.
+fn join_plain(source: &[u8], target: &[u8], body: &[u8], table: &[u8], output: &mut [u8]) -> Answer
+    requires { ⌜ ((f : Translation) × Checked (now source) (now target) (now body) f × (plain (f .body) ≡ true)) ⌝ }
+    ensures { λ r. ⌜ ((f : Translation) → Checked (now (source .entry)) (now (target .entry)) (now (body .entry)) f → plain (f .body) ≡ true
         → Answers (joinWith f (now (table .entry)) (length (now (output .entry)))) (now (output .entry)) (now (output .exit)) (r .outcome)) ⌝ }
 {
     let mut figures = [0i32; FIGURES];
@@ -249,8 +252,20 @@ fn join_parts(source: &[u8], target: &[u8], body: &[u8], table: &[u8], output: &
     join_held(source, target, body, &figures, output)
 }
 
-// Join a table: 1 to 7 for the translation, 18 for the table against the target, 11 where a figure does not fit two bytes, 17
-// where the output is too short.
+// The joined table of a translation that was accepted: 26, 18, 11, 17.
+fn join_parts(source: &[u8], target: &[u8], body: &[u8], table: &[u8], output: &mut [u8]) -> Answer
+    requires { ⌜ ((f : Translation) × Checked (now source) (now target) (now body) f) ⌝ }
+    ensures { λ r. ⌜ ((f : Translation) → Checked (now (source .entry)) (now (target .entry)) (now (body .entry)) f
+        → Answers (joinAny f (now (table .entry)) (length (now (output .entry)))) (now (output .entry)) (now (output .exit)) (r .outcome)) ⌝ }
+{
+    if !is_plain(body) {
+        return refuse(Reason::NumberUnfit);
+    }
+    join_plain(source, target, body, table, output)
+}
+
+// Join a table: 1 to 7 for the translation, 26 where it has any number but 0, 18 for the table against the target, 11 where a
+// figure does not fit two bytes, 17 where the output is too short.
 pub fn join_table(translation: &[u8], table: &[u8], output: &mut [u8]) -> Answer
     ensures { λ r. ⌜ (r .outcome ≡ joinTable (now (translation .entry)) (now (table .entry)) (now (output .entry)) .outcome)
         × (now (output .exit) ≡ joinTable (now (translation .entry)) (now (table .entry)) (now (output .entry)) .output) ⌝ }

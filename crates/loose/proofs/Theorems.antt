@@ -239,7 +239,7 @@ mutual
   pub settled-has-one-score : SettledHasOneScore
   settled-has-one-score w (Trees.node k p t) e = ap (λ (z : ℤ). w k p 0 +ℤ z) (settled-sum w (λ i. w k p (suc i)) t e)
   settled-has-one-score w (Trees.token v) e = ap pos (same-value e v)
-  settled-has-one-score w (Trees.argument i) e = ap pos (same-value e 0)
+  settled-has-one-score w (Trees.argument i j) e = ap pos (same-value e 0)
 
   settled-sum : (w : Loads) (factor : ℕ → ℤ) (t : Codes) (e : End) → endAll e w factor (loosenedAll t) ≡ formAll w factor t 0
   settled-sum w factor Trees.nil e = refl

@@ -58,7 +58,7 @@ unfoldable mutual
   pub loosened : Code → Loose
   loosened (Trees.node k p t) = node k p (loosenedAll t)
   loosened (Trees.token v) = token v v
-  loosened (Trees.argument i) = token 0 0
+  loosened (Trees.argument i j) = token 0 0
 
   pub loosenedAll : Codes → Looses
   loosenedAll Trees.nil = nil

@@ -120,9 +120,9 @@ value-same v w e =
     let b = head-same (a .1) in
     (sym (div-add-mod' v 256) ∙ (ap (λ (q : ℕ). q * 256 + v % 256) (a .0) ∙ (ap (λ (r : ℕ). w / 256 * 256 + r) (b .0) ∙ div-add-mod' w 256)), b .1)
 
-no-argument : (i k : ℕ) {A : Type 0} → kindAt [] i ≡ some k → A
-no-argument zero k e = none-some e
-no-argument (suc i) k e = none-some e
+no-argument : (i j k : ℕ) {A : Type 0} → kindAt [] i j ≡ some k → A
+no-argument zero j k e = none-some e
+no-argument (suc i) j k e = none-some e
 
 module _ (l : Language) (c : Card) (no-clash : (k p : ℕ) (ks : List ℕ) → argumentsOf l k p ≡ some ks → rangeOf l k ≡ none) where
   -- The masked bytes of a and of b, with x and y behind them, are the same bytes.
@@ -162,13 +162,13 @@ module _ (l : Language) (c : Card) (no-clash : (k p : ℕ) (ks : List ℕ) → a
       let a = r t (rw (← same) g) x y (z .1 ∙ ap (λ (i : List ℕ). maskedAll l c i t ++ y) same) in
       (rw (← z .0) (same-production e (a .0)), a .1)
   node-tells k p ks s e r (typed-token {c = v} f g) x y q h = clash k p ks v e f
-  node-tells k p ks s e r (typed-argument {i = i} f) x y q h = no-argument i k f
+  node-tells k p ks s e r (typed-argument {i = i} {j = j} f) x y q h = no-argument i j k f
 
   token-tells : (k v : ℕ) (r : Range) → rangeOf l k ≡ some r → {b : Code} → Typed l [] b k → (x y : List ℕ) → sees c k ≡ true
       → Same k (token v) b x y → Agree l c k (token v) b × (x ≡ y)
   token-tells k v r e (typed-node {p = w} {ks = js} f g) x y q h = clash k w js r f e
   token-tells k v r e (typed-token {v = w} f g) x y q h = token-same k v w x y q h
-  token-tells k v r e (typed-argument {i = i} f) x y q h = no-argument i k f
+  token-tells k v r e (typed-argument {i = i} {j = j} f) x y q h = no-argument i j k f
 
   nil-tells : {u : Codes} → TypedAll l [] u [] → (x y : List ℕ) → maskedAll l c [] nil ++ x ≡ maskedAll l c [] u ++ y → AgreeAll l c [] nil u × (x ≡ y)
   unfolding maskedAll
@@ -194,7 +194,7 @@ module _ (l : Language) (c : Card) (no-clash : (k p : ℕ) (ks : List ℕ) → a
         (λ q. hidden-same k (node k p s) b x y q h)
     tells (typed-token {v = v} {k = k} {c = r} e d) b g x y h =
         by-test (sees c k) (λ q. token-tells k v r e g x y q h) (λ q. hidden-same k (token v) b x y q h)
-    tells (typed-argument {i = i} {k = k} e) b g x y h = no-argument i k e
+    tells (typed-argument {i = i} {j = j} {k = k} e) b g x y h = no-argument i j k e
 
     tells-all : {ks : List ℕ} {s : Codes} → TypedAll l [] s ks → (u : Codes) → TypedAll l [] u ks → (x y : List ℕ)
         → maskedAll l c ks s ++ x ≡ maskedAll l c ks u ++ y → AgreeAll l c ks s u × (x ≡ y)

@@ -17,7 +17,7 @@ use Rattle.reader.specs.Code.{Code, node, token, argument, Codes, nil, cons}
 use Rattle.reader.specs.Syntax.{done, tree, readAll, read}
 use Rattle.reader.specs.Inner.Index.{Indexed}
 use Rattle.reader.specs.Inner.Positions as At
-use Rattle.reader.specs.Inner.Positions.{productionPlace, EndsBy, restAt, restOf}
+use Rattle.reader.specs.Inner.Positions.{productionPlace, EndsBy, restAt, restOf, usesIn}
 use Rattle.reader.specs.declared.node.Read.{Read}
 use Rattle.reader.specs.declared.node.Read.the-variants.{End, Deep, Broken}
 use Rattle.reader.specs.declared.node.Syntax.the-variants.{Tree}
@@ -26,6 +26,7 @@ use Rattle.card.specs.Inner.Sets.{inSet, Holds}
 use Rattle.putting.specs.declared.put.Step.{Step}
 use Rattle.putting.specs.declared.put.Step.the-variants.{To, Full}
 use Rattle.putting.specs.Inner.Putting.{Puts}
+use Rattle.checks.proofs.TreeChain.{no-uses}
 use Rattle.putting.specs.Inner.Passing.{Steps, Passes, forAll}
 use Rattle.putting.proofs.Puts.{puts-same}
 use Rattle.putting.proofs.Passing.{steps-full, steps-to, steps-then, passes-full, passes-to, passes-same, passes-then}
@@ -36,9 +37,9 @@ use Rattle.mask.specs.Inner.Masking.{EndsTree, MasksHidden, MasksTree, M
 
 -- end_at
 module _ (s index : List ℕ) (k : ℕ) (b : List ℕ) (at levels : ℕ) (f : Read)
-    (is : (l : Language) → Indexed index s l → restAt b f ≡ restOf (read tree l [] levels k (drop at b))) where
+    (is : (l : Language) → Indexed index s l → restAt b f ≡ restOf (read tree l (usesIn []) levels k (drop at b))) where
   same-rest : (l : Language) (a : Code) (r : List ℕ) → Indexed index s l → read tree l [] levels k (drop at b) ≡ done a r → restAt b f ≡ At.rest r
-  same-rest l a r z e = is l z ∙ ap restOf e
+  same-rest l a r z e = (rw no-uses at (is l z)) ∙ ap restOf e
 
   pub ends-there : {e : ℕ} → f ≡ End e → EndsBy (length b) f → EndsTree s index k b at levels e
   ends-there {e} h i = record {
@@ -93,7 +94,7 @@ pub masked-hidden : (l : Language) (card : Card) (k : ℕ) (a : Code) → sees c
 unfolding masked
 masked-hidden l card k (node j p t) h = rw h refl
 masked-hidden l card k (token v) h = rw h refl
-masked-hidden l card k (argument i) h = rw h refl
+masked-hidden l card k (argument i j) h = rw h refl
 
 pub masked-token : (l : Language) (card : Card) (k v : ℕ) → sees card k ≡ true → masked l card k (token v) ≡ twoBytes v
 unfolding masked

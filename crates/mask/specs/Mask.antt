@@ -19,7 +19,7 @@ unfoldable mutual
   pub masked : Language → Card → ℕ → Code → List ℕ
   masked l card k (node j p t) = cond (sees card k) (p ∷ maskedAll l card (Option·getD (argumentsOf l j p) []) t) hiddenBlock
   masked l card k (token v) = cond (sees card k) (twoBytes v) hiddenBlock
-  masked l card k (argument i) = cond (sees card k) [] hiddenBlock
+  masked l card k (argument i j) = cond (sees card k) [] hiddenBlock
 
   -- Blocks of these kinds, one after the other.
   pub maskedAll : Language → Card → List ℕ → Codes → List ℕ

@@ -30,16 +30,16 @@ behind Broken next = Broken
 
 -- step_at
 module _ (s index b : List ℕ) (k at : ℕ) where
-  leaf-decides : (top w sum : ℕ) (r : Read) → Leaf r ≡ nodeAt Tree s index [] k b at → Decides s index b k at (leafStep top w sum r)
+  leaf-decides : (top w sum cost : ℕ) (r : Read) → Leaf r ≡ nodeAt Tree s index [] k b at → Decides s index b k at (leafStep top w sum cost r)
   unfolding readAt operandsFrom
-  leaf-decides top w sum (End e) h = λ n. rw (← h)
-  leaf-decides top w sum Deep h = tt
-  leaf-decides top w sum Broken h = tt
+  leaf-decides top w sum cost (End e) h = λ n. rw (← h)
+  leaf-decides top w sum cost Deep h = tt
+  leaf-decides top w sum cost Broken h = tt
 
   -- A token ends where it is read.
-  pub token-decides : (top w sum : ℕ) {r u : Read} → r ≡ u → {x : Step} → x ≡ leafStep top w sum r → Leaf u ≡ nodeAt Tree s index [] k b at
+  pub token-decides : (top w sum cost : ℕ) {r u : Read} → r ≡ u → {x : Step} → x ≡ leafStep top w sum cost r → Leaf u ≡ nodeAt Tree s index [] k b at
       → Decides s index b k at x
-  token-decides top w sum {r} er ex h = rw ex (leaf-decides top w sum r (ap Leaf er ∙ h))
+  token-decides top w sum cost {r} er ex h = rw ex (leaf-decides top w sum cost r (ap Leaf er ∙ h))
 
   -- The operands behind a name decide.
   pub name-decides : (q e to : ℕ) → Operands q e to ≡ nodeAt Tree s index [] k b at
@@ -48,7 +48,7 @@ module _ (s index b : List ℕ) (k at : ℕ) where
   name-decides q e to h n = rw (← h)
 
 -- What is known of a step that found a row.
-decides-row : (s index b : List ℕ) (k at : ℕ) {q e w to sum : ℕ} (x : Step) → x ≡ Step.Row q e w to sum → Decides s index b k at x
+decides-row : (s index b : List ℕ) (k at : ℕ) {q e to sum cost : ℕ} (x : Step) → x ≡ Step.Row q e to sum cost → Decides s index b k at x
     → (n : ℕ) → readAt Tree s index [] b (suc n) k at ≡ operandsFrom (readAt Tree s index [] b n) s (e - q) q to
 decides-row s index b k at x y h = rw y at h
 
@@ -183,7 +183,7 @@ module _ (s index b : List ℕ) (levels : ℕ) where
         }
 
     module _ (more : q < e) (under : outOfLevels index (getD s q 0) (levels - d) ≡ false) (x : Step) (decides : Decides s index b (getD s q 0) to x)
-        {first last v t n : ℕ} (ex : x ≡ Step.Row first last v t n) (past : to < t) where
+        {first last t n c : ℕ} (ex : x ≡ Step.Row first last t n c) (past : to < t) where
       found : term s index b levels d (getD s q 0) to ≡ row s index b levels (d + 1) first last t
       found =
           let z : suc (levels - d - 1) ≡ suc (levels - (d + 1)) = omega arith in

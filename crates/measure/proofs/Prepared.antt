@@ -1,9 +1,9 @@
--- What `prepare` returns: the index of the source, and the counts of the clauses of the body along it.
-use Prim.Native.Nat.{ℕ, _+_, _<_, _≤_}
+-- What `prepare` returns: the index of the source, and the tables of what the clauses of the body count along it.
+use Prim.Native.Nat.{ℕ, suc, _+_, _<_, _≤_}
 use mathlib.Core.Path.{_≡_, refl, _∙_}
-use mathlib.Core.Logic.{_⊎_, ⊎-elim}
+use mathlib.Core.Logic.{_⊎_, inl, inr, ⊎-elim}
 use mathlib.Core.List.{List}
-use mathlib.Core.Bool.{true}
+use mathlib.Core.Bool.{true, cond}
 use mathlib.Core.Option.{some}
 use native.Mathlib.Omega.{arith}
 use lib.ListN.{length, getD, List·getD-eq-default}
@@ -11,25 +11,27 @@ use lib.Dec.{ltb, eqb}
 use borrow.Author.Tests.{eq-eqb, eqb-true, ltb-true, ltb-false}
 use Rattle.fields.specs.Lists.{all, any}
 use Rattle.fields.specs.Outcome.{value}
-use Rattle.fields.specs.Inner.Places.{isWhole, places, keyAt}
-use Rattle.fields.proofs.Truth.{Mem, by-test, and-both, all-mem, mem-all, any-mem, mem-any}
+use Rattle.fields.specs.Inner.Places.{isWhole, places, orderAt}
+use Rattle.fields.proofs.Truth.{by-test, and-both, all-mem, mem-all, any-mem, mem-any}
 use Rattle.fields.proofs.Keyed.{Rising, is-rising}
-use Rattle.language.specs.LanguageFile.{isKind, entriesOf}
+use Rattle.language.specs.Language.{productionKey}
+use Rattle.language.specs.LanguageFile.{entriesOf}
 use Rattle.reader.specs.Inner.Index.{putAll, Indexed}
 use Rattle.reader.proofs.Placed.{puts-length, puts-place, found}
 use Rattle.reader.proofs.Indexed.{build-is}
 use Rattle.reader.proofs.Members.{in-below}
-use Rattle.translation.specs.Translation.{Body, mapping, Translation, itemKey}
+use Rattle.translation.specs.Translation.{Body, Translation, itemKey, mappingOf}
 use Rattle.translation.specs.TranslationFile.{bodyOf, allRising}
 use Rattle.translation.specs.WellFormed.{wellFormed}
-use Rattle.translation.specs.Inner.Items.{itemWhole, itemAt, IsMapping, IsClause, HoldsItems}
-use Rattle.translation.proofs.Items.{holds-items, item-facts, mapping-is, clause-is, rising-is}
-use Rattle.translation.proofs.Codec.{itemWhole as isItem, body-whole, rises-parts}
-use Rattle.translation.proofs.Fitting.{KindsBelow, formed-fits}
-use Rattle.measure.specs.Inner.Counting.{countAll}
+use Rattle.translation.specs.Inner.Items.{itemWhole}
+use Rattle.translation.proofs.Items.{holds-items, rising-is}
+use Rattle.translation.proofs.Codec.{rises-parts}
+use Rattle.translation.proofs.Fitting.{formed-fits}
+use Rattle.measure.specs.Inner.Counting.{Tables, timesAt, countAll, widthOf}
 use Rattle.measure.specs.Inner.Measuring.{Counted}
-use Rattle.measure.proofs.Clauses.{all-counted}
-use Rattle.measure.proofs.Given.{Finds, finds-apart, ItemsAt, items-clauses}
+use Rattle.measure.proofs.Entries.{linked-none}
+use Rattle.measure.proofs.Clauses.{all-times}
+use Rattle.measure.proofs.Given.{Finds, finds-apart, places-along, field-up, items-clauses, number-narrow}
 
 -- An index that is built over zeros finds, for each key, the place of a field of that key.
 built-finds : (s index : List ℕ) → length index ≡ 8224 → ((j : ℕ) → getD index j 0 ≡ 0) → Finds (putAll 0x11 s index (places s)) s
@@ -55,50 +57,42 @@ body-fields s b e =
     let h = holds-items s b e in
     mem-all (isWhole s) (places s) (λ p m. and-both _ _ (all-mem (itemWhole s) (places s) (h .whole) p m) .0)
 
-module _ (s : List ℕ) (f : Translation) (e : bodyOf s ≡ some (f .body)) (rises : allRising f ≡ true) where
-  held : HoldsItems s (f .body)
-  held = holds-items s (f .body) e
-
-  pub items-rise : Rising itemKey (f .body)
-  items-rise = is-rising itemKey (f .body) (rises-parts f rises .2)
-
-  item-is : (p : ℕ) → Mem p (places s) → IsMapping s p ⊎ IsClause s p
-  item-is p m = item-facts s p (all-mem (itemWhole s) (places s) (held .whole) p m)
-
-  is-clause : (p : ℕ) → Mem p (places s) → getD s p 0 ≡ 0x23 → IsClause s p
-  is-clause p m tag = ⊎-elim (λ a. let t = a .tag in absurd (omega arith)) (λ a. a) (item-is p m)
-
-  is-mapping : (p : ℕ) → Mem p (places s) → (getD s p 0 ≡ 0x23 → ⊥) → IsMapping s p
-  is-mapping p m other = ⊎-elim (λ a. a) (λ a. absurd (other (a .tag))) (item-is p m)
-
-  -- The items of the body are those at its places.
-  items-at : ItemsAt s f (itemAt s)
-  items-at = record {
-    items = held .items;
-    ends = λ p m tag. let a = is-clause p m tag in (a .result, a .ends, a .past);
-    clauses = λ p m tag. clause-is s p (is-clause p m tag);
-    others = λ p m other. (getD s (p + 3) 0, getD s (p + 4) 0, mapping-is s p (is-mapping p m other));
-    rises = is-rising (keyAt 0x22 s) (places s) (rising-is s (f .body) held ∙ rises-parts f rises .2);
-  }
-
-  -- All kinds in the source, and all that is mapped, are kinds.
-  pub kinds-below : (source : List ℕ) → entriesOf source ≡ some (f .source) → KindsBelow f
-  unfolding isItem
-  kinds-below source d = (
-    λ k i. in-below source k (f .source) d i,
-    λ a t m. ltb-true a 32 (and-both (isKind a) (isKind t) (all-mem isItem (f .body) (body-whole s (f .body) e .0) (mapping a t) m) .0),
-  )
+-- Tables that are all zero count nothing.
+clear-tables : (counts entries : List ℕ) → ((j : ℕ) → getD counts j 0 ≡ 0) → ((j : ℕ) → getD entries j 0 ≡ 0) → (q key : ℕ) → timesAt (counts, entries) q key ≡ 0
+unfolding timesAt
+clear-tables counts entries a b q key =
+    let n = linked-none (getD entries q 0) entries (getD entries q 0) key (let z = b q in omega arith) in
+    let c : cond (eqb 0 key) (getD counts q 0) 0 ≡ 0 = by-test (eqb 0 key) (λ t. rw t (a q)) (λ t. rw t) in
+    omega arith
 
 -- What `prepare` returns, from what the two passes return.
-module _ (source body index counts : List ℕ) (source-bytes : (i : ℕ) → getD source i 0 < 256) (bytes : (i : ℕ) → getD body i 0 < 256)
-    (short : length source ≤ 1024) (long : length index ≡ 8224) (zeros : (j : ℕ) → getD index j 0 ≡ 0)
-    (room : length counts ≡ 1024) (clear : (j : ℕ) → getD counts j 0 ≡ 0) where
-  pub prepared : {after table : List ℕ} → after ≡ putAll 0x11 source index (places source) → table ≡ countAll body after (places body) counts
+module _ (source body index counts entries : List ℕ) (width : ℕ) (source-bytes : (i : ℕ) → getD source i 0 < 256) (bytes : (i : ℕ) → getD body i 0 < 256)
+    (short : length source ≤ 1024) (brief : length body ≤ 4096) (long : length index ≡ 8224) (zeros : (j : ℕ) → getD index j 0 ≡ 0)
+    (room : length counts ≡ 1024) (clear : (j : ℕ) → getD counts j 0 ≡ 0) (clean : (j : ℕ) → getD entries j 0 ≡ 0)
+    (wide : width ≡ widthOf body) (enough : (length entries ≡ 7168) ⊎ (width ≡ 1)) where
+  pub prepared : {after : List ℕ} {tables : Tables} → after ≡ putAll 0x11 source index (places source) → tables ≡ countAll body after (places body) (counts, entries)
       → (f : Translation) → entriesOf source ≡ some (f .source) → bodyOf body ≡ some (f .body) → allRising f ≡ true → wellFormed f ≡ value f
-      → Indexed after source (f .source) × Counted table after f
-  prepared {after} {table} built counted f d e rises formed =
+      → Indexed after source (f .source) × Counted tables width after f
+  prepared {after} {tables} built counted f d e rises formed =
       let z = build-is source index source-bytes short long zeros (f .source) d built in
-      let fits = formed-fits f f (kinds-below body f e rises source d) (items-rise body f e rises) formed .0 in
-      let w = items-clauses body f (itemAt body) (items-at body f e rises) (items-rise body f e rises) fits in
+      let held = holds-items body (f .body) e in
+      let items-rise : Rising itemKey (f .body) = is-rising itemKey (f .body) (rises-parts f rises .2) in
+      let fits = formed-fits f f (λ k i. in-below source k (f .source) d i) items-rise formed .0 in
+      let w = items-clauses body f held items-rise fits (is-rising (orderAt 0x22 body) (places body) (rising-is body (f .body) held ∙ rises-parts f rises .2)) in
       let x = finds-apart after source (rw built (built-finds source index long zeros)) in
-      (z, rw counted (all-counted source after body f z x w bytes counts room clear))
+      let low : (k j u : ℕ) → mappingOf (f .body) k j ≡ some u → j < width = λ k j u maps. let y = number-narrow body f held items-rise fits k j u maps in omega arith in
+      let all = all-times source after body f z x w bytes brief (length entries) (⊎-elim (λ a. inl a) (λ a. inr (λ k j u maps. let y = low k j u maps in omega arith)) enough)
+      (counts, entries) (record { long = room; entries = refl; fresh = λ q h. let y = clean q in omega arith }) (clear-tables counts entries clear clean)
+      (places-along body) (field-up body) in (
+        z,
+        rw counted (record {
+          owns = λ k p j u ks hk hp there maps.
+              let a : getD after (productionKey k p) 0 + 3 ≡ getD after (productionKey k p) 0 + 3 + 0 = omega arith in
+              rw a (all k p j u ks hk hp there maps 0 0 (omega arith) (omega arith));
+          used = λ k p j u ks hk hp there maps i m h l.
+              let a : getD after (productionKey k p) 0 + 4 + i ≡ getD after (productionKey k p) 0 + 3 + (1 + i) = omega arith in
+              let b : 1 + i ≡ suc i = omega arith in
+              rw (a, b) (all k p j u ks hk hp there maps (suc i) m (omega arith) l);
+          narrow = low;
+        }),
+      )

@@ -14,21 +14,29 @@ use Rattle.measure.specs.declared.measure.Measured.{Measured}
 use Rattle.measure.specs.declared.measure.Measured.the-variants.{End, Deep, Broken}
 use Rattle.measure.specs.declared.measure.Step.{Step}
 use Rattle.measure.specs.declared.measure.Step.the-variants as Step
-use Rattle.measure.specs.Inner.Sizes.{capped}
-use Rattle.measure.specs.Inner.Descent.{downRow, outOfLevels, unwind, Waiting, StepIn}
+use Rattle.measure.specs.Inner.Weighing.{Weights, window, KeptBelow}
+use Rattle.measure.specs.Inner.Descent.{Weighing, downRow, outOfLevels, unwind, Waiting, StepIn}
 use Rattle.measure.proofs.Laws.{Goes, step-row, rows-start, rows-done, rows-back, rows-deep, rows-broken, rows-on, rows-down}
+use Rattle.measure.proofs.Windows.{window-same, window-kept, windows-below, window-room}
+
+-- The weights of the row at each depth.
+abbrev pub rowsOf : ℕ → List ℕ → ℕ → Weights
+rowsOf width weights d = window width weights (d * width)
 
 -- The row from q up to e is open at depth d, the rows above it wait, and all of them together come to the answer.
-pub record Open (s index counts b : List ℕ) (top levels : ℕ) (answer : Measured) (firsts lasts weights : List ℕ) (d q e w to sum : ℕ) : Type 0 where
+pub record Open (s index : List ℕ) (v : Weighing) (b : List ℕ) (top levels width : ℕ) (answer : Measured) (firsts lasts weights : List ℕ)
+    (d base q e to sum cost : ℕ) : Type 0 where
   pub inside : to ≤ length b
   pub under : sum ≤ top
+  pub cheap : cost ≤ top
   pub shallow : d ≤ levels
   pub kinds : KindsIn s q e
   pub waiting : Waiting s firsts lasts d
   pub first-long : length firsts ≡ 64
   pub last-long : length lasts ≡ 64
-  pub weight-long : length weights ≡ 64
-  pub comes : unwind s index counts b top levels firsts lasts weights d (downRow s index counts b top (levels - d) w q e to sum) ≡ answer
+  pub long : 66 * width ≤ length weights
+  pub based : base ≡ d * width
+  pub comes : unwind s index v b top levels firsts lasts (rowsOf width weights) d (downRow s index v b top (levels - d) (rowsOf width weights d) q e to sum cost) ≡ answer
 
 -- A row that is open lies in the source.
 row-in : (s : List ℕ) (q e : ℕ) → length s ≤ 1024 → KindsIn s q e → q < e → (q < length s) × (getD s q 0 < 32) × (q < 1024) × (e ≤ 1024)
@@ -37,74 +45,97 @@ row-in s q e short h more =
     let z = h (e - 1) (omega arith) (omega arith) in
     (a .0, a .1, omega (arith, a .0), omega (arith, z .0))
 
-module _ (s index counts b : List ℕ) (top levels : ℕ) where
-  pub open-start : (firsts lasts weights : List ℕ) (q e w to sum : ℕ) → KindsIn s q e → to ≤ length b → sum ≤ top
-      → length firsts ≡ 64 → length lasts ≡ 64 → length weights ≡ 64
-      → Open s index counts b top levels (downRow s index counts b top levels w q e to sum) firsts lasts weights 0 q e w to sum
-  open-start firsts lasts weights q e w to sum h i u hf hl hw =
+module _ (s index : List ℕ) (v : Weighing) (b : List ℕ) (top levels width : ℕ) where
+  pub open-start : (firsts lasts weights : List ℕ) (q e to sum cost : ℕ) → KindsIn s q e → to ≤ length b → sum ≤ top → cost ≤ top
+      → length firsts ≡ 64 → length lasts ≡ 64 → 66 * width ≤ length weights
+      → Open s index v b top levels width (downRow s index v b top levels (window width weights 0) q e to sum cost) firsts lasts weights 0 0 q e to sum cost
+  open-start firsts lasts weights q e to sum cost h i u c hf hl hw =
+      let z : 0 * width ≡ 0 = omega arith in
       record {
         inside = i;
         under = u;
+        cheap = c;
         shallow = omega arith;
         kinds = h;
         waiting = λ j l. absurd (omega arith);
         first-long = hf;
         last-long = hl;
-        weight-long = hw;
-        comes = rows-start s index counts b top levels firsts lasts weights w q e to sum;
+        long = hw;
+        based = omega arith;
+        comes = rows-start s index v b top levels firsts lasts (rowsOf width weights) q e to sum cost
+            ∙ ap (λ (i : ℕ). downRow s index v b top levels (window width weights i) q e to sum cost) z;
       }
 
-  module _ {answer : Measured} {firsts lasts weights : List ℕ} {d q e w to sum : ℕ}
-      (o : Open s index counts b top levels answer firsts lasts weights d q e w to sum) where
-    pub open-done : e ≤ q → d ≡ 0 → End to sum ≡ answer
-    open-done h y = sym (rows-done s index counts b top levels firsts lasts weights d w q e to sum h y) ∙ o .comes
+  module _ {answer : Measured} {firsts lasts weights : List ℕ} {d base q e to sum cost : ℕ}
+      (o : Open s index v b top levels width answer firsts lasts weights d base q e to sum cost) where
+    pub open-done : e ≤ q → d ≡ 0 → End to sum cost ≡ answer
+    open-done h y = sym (rows-done s index v b top levels firsts lasts (rowsOf width weights) d q e to sum cost h y) ∙ o .comes
 
     pub open-back : e ≤ q → (d ≡ 0 → ⊥)
-        → Open s index counts b top levels answer firsts lasts weights (d - 1) (getD firsts (d - 1) 0) (getD lasts (d - 1) 0) (getD weights (d - 1) 0) to sum
+        → Open s index v b top levels width answer firsts lasts weights (d - 1) (base - width) (getD firsts (d - 1) 0) (getD lasts (d - 1) 0) to sum cost
     open-back h y =
         record {
           inside = o .inside;
           under = o .under;
+          cheap = o .cheap;
           shallow = omega (arith, o .shallow);
           kinds = o .waiting (d - 1) (omega arith) .2;
           waiting = λ j l. o .waiting j (omega arith);
           first-long = o .first-long;
           last-long = o .last-long;
-          weight-long = o .weight-long;
-          comes = sym (rows-back s index counts b top levels firsts lasts weights d w q e to sum h y refl) ∙ o .comes;
+          long = o .long;
+          based = windows-below width d y (o .based) .1;
+          comes = sym (rows-back s index v b top levels firsts lasts (rowsOf width weights) d q e to sum cost h y refl) ∙ o .comes;
         }
+
+    -- The window before the open row's, which is taken when it ends.
+    pub open-base : (d ≡ 0 → ⊥) → width ≤ base
+    open-base y = windows-below width d y (o .based) .0
 
     module _ (more : q < e) where
       pub open-in : length s ≤ 1024 → (q < length s) × (getD s q 0 < 32) × (q < 1024) × (e ≤ 1024)
       open-in short = row-in s q e short (o .kinds) more
 
-      pub open-deep : outOfLevels index (getD s q 0) (levels - d) ≡ true → Deep ≡ answer
-      open-deep y = sym (rows-deep s index counts b top levels firsts lasts weights d w q e to sum more y) ∙ o .comes
+      -- There is room for the weights of an operand, and of what belongs to it.
+      pub open-room : levels < 64 → base + width + 2 * width ≤ length weights
+      open-room fits = window-room width weights d (o .based) (o .long) (omega (arith, o .shallow))
 
-      module _ (below : outOfLevels index (getD s q 0) (levels - d) ≡ false) {c part : ℕ} (ec : c ≡ getD counts q 0) (ep : part ≡ capped top (0 + w * c)) (x : Step)
-          (goes : Goes s index counts b top part (getD s q 0) to sum x) where
-        whole : part ≡ capped top (w * getD counts q 0)
-        whole = let z : 0 + w * c ≡ w * c = omega arith in ep ∙ (ap (capped top) z ∙ ap (λ (i : ℕ). capped top (w * i)) ec)
+      pub open-deep : outOfLevels index (getD s q 0) (levels - d) ≡ true → Deep ≡ answer
+      open-deep y = sym (rows-deep s index v b top levels firsts lasts (rowsOf width weights) d q e to sum cost more y) ∙ o .comes
+
+      -- The weights of the operand were worked out, and then those of what belongs to it.
+      module _ (below : outOfLevels index (getD s q 0) (levels - d) ≡ false) (mid : List ℕ)
+          (mid-is : window width mid (base + width) ≡ v q (window width weights base)) (x : Step)
+          (goes : Goes s index v b top (window width mid (base + width)) (getD s q 0) to sum cost x) where
+        part-is : window width mid (base + width) ≡ v q (rowsOf width weights d)
+        part-is = mid-is ∙ ap (λ (i : ℕ). v q (window width weights i)) (o .based)
 
         pub open-broken : x ≡ Step.Broken → Broken ≡ answer
-        open-broken y = sym (rows-broken s index counts b top levels firsts lasts weights d w q e to sum more below whole x refl goes y) ∙ o .comes
+        open-broken y =
+            sym (rows-broken s index v b top levels firsts lasts (rowsOf width weights) d q e to sum cost more (window width mid (base + width)) below part-is x goes y) ∙ o .comes
 
-        module _ {first last v t n : ℕ} (ex : x ≡ Step.Row first last v t n) (within : StepIn s (length b) top to x) where
-          found : (to < t) × (t ≤ length b) × (n ≤ top) × KindsIn s first last
+        module _ {first last t n u : ℕ} (ex : x ≡ Step.Row first last t n u) (within : StepIn s (length b) top to x) (then : List ℕ)
+            (kept : KeptBelow weights mid (base + width)) (on : KeptBelow mid then (base + width + width)) where
+          found : (to < t) × (t ≤ length b) × (n ≤ top) × (u ≤ top) × KindsIn s first last
           found = step-row s (length b) top to x ex within
 
-          pub open-on : last ≤ first → Open s index counts b top levels answer firsts lasts weights d (q + 1) e w t n
+          stays : (j : ℕ) → j ≤ d → rowsOf width then j ≡ rowsOf width weights j
+          stays j h = window-kept width weights mid then base d j (o .based) h kept on
+
+          pub open-on : last ≤ first → Open s index v b top levels width answer firsts lasts then d base (q + 1) e t n u
           open-on h =
               record {
                 inside = found .1;
                 under = found .2;
+                cheap = found .3;
                 shallow = o .shallow;
                 kinds = λ i j l. o .kinds i (omega arith) l;
                 waiting = o .waiting;
                 first-long = o .first-long;
                 last-long = o .last-long;
-                weight-long = o .weight-long;
-                comes = sym (rows-on s index counts b top levels firsts lasts weights d w q e to sum more below whole x refl goes ex h) ∙ o .comes;
+                long = omega (arith, o .long, kept .long, on .long);
+                based = o .based;
+                comes = sym (rows-on s index v b top levels firsts lasts (rowsOf width weights) d q e to sum cost more (window width mid (base + width)) below part-is x goes ex (rowsOf width then) stays h) ∙ o .comes;
               }
 
           module _ (short : length s ≤ 1024) (fits : levels < 64) (deep : d < levels) where
@@ -122,19 +153,22 @@ module _ (s index counts b : List ℕ) (top levels : ℕ) where
                 let y : j ≡ d → ⊥ = eqb-false j d t in
                 rw (getD-set-other firsts d j (q + 1) 0 y, getD-set-other lasts d j e 0 y) (o .waiting j (omega arith)))
 
-            pub open-down : Open s index counts b top levels answer (set firsts d (q + 1)) (set lasts d e) (set weights d w) (d + 1) first last v t n
+            pub open-down : Open s index v b top levels width answer (set firsts d (q + 1)) (set lasts d e) then (d + 1) (base + width) first last t n u
             open-down =
                 let hf : d < length firsts = omega (arith, o .first-long) in
                 let hl : d < length lasts = omega (arith, o .last-long) in
-                let hw : d < length weights = omega (arith, o .weight-long) in
+                let next : base + width ≡ (d + 1) * width = omega (arith, o .based) in
                 record {
                   inside = found .1;
                   under = found .2;
+                  cheap = found .3;
                   shallow = omega arith;
-                  kinds = found .3;
+                  kinds = found .4;
                   waiting = waits;
                   first-long = length-set firsts d (q + 1) ∙ o .first-long;
                   last-long = length-set lasts d e ∙ o .last-long;
-                  weight-long = length-set weights d w ∙ o .weight-long;
-                  comes = sym (rows-down s index counts b top levels firsts lasts weights d w q e to sum more below whole x refl goes ex refl hf hl hw) ∙ o .comes;
+                  long = omega (arith, o .long, kept .long, on .long);
+                  based = next;
+                  comes = sym (rows-down s index v b top levels firsts lasts (rowsOf width weights) d q e to sum cost more (window width mid (base + width)) below part-is x goes ex (rowsOf width then) stays refl hf hl
+                      (ap (window width then) (sym next) ∙ window-same width mid then (base + width) (on .same))) ∙ o .comes;
                 }

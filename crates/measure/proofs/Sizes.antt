@@ -1,164 +1,157 @@
--- The length of a substitution, and of the run of a node.
+-- The length and the cost of a run by what codes count themselves and how often they use each argument.
 use Prim.Native.Nat.{ℕ, zero, suc, _+_, _*_, _≤_, _<_}
 use mathlib.Core.Path.{_≡_, refl, ap, sym, _∙_}
-use mathlib.Core.Bool.{cond}
-use mathlib.Core.List.{List, [], _∷_}
-use mathlib.Core.Option.{Option, none, some, Option·getD}
+use mathlib.Core.Bool.{Bool, true, false, _&&_}
+use mathlib.Core.List.{List, []}
+use mathlib.Core.Option.{some}
 use native.Mathlib.Omega.{arith}
-use lib.ListN.{length, getElem?, length-append, length-map}
-use lib.Dec.{ltb, leb, eqb}
-use borrow.Author.Tests.{lt-ltb, le-ltb, eq-eqb, ne-eqb, leb-true, leb-false}
-use Rattle.fields.proofs.Truth.{none-some, by-test}
+use native.Mathlib.Nat.{add-mul}
+use lib.ListN.{length, length-append}
+use lib.Dec.{eqb}
+use borrow.Author.Tests.{eq-eqb, ne-eqb}
+use Rattle.fields.proofs.Truth.{none-some}
 use Rattle.language.specs.Language.{Language, argumentsOf}
-use Rattle.reader.specs.Code.{Code, node, token, Codes, nil, cons}
+use Rattle.reader.specs.Code.{Code, node, token, argument, Codes, nil, cons}
 use Rattle.reader.specs.Typing.{Typed, TypedAll, typed-node, typed-token, typed-argument, typed-nil, typed-cons}
-use Rattle.reader.specs.Syntax.{write, writeAll, tree, code}
-use Rattle.reader.proofs.Sound.{read-done}
-use Rattle.translation.specs.Translation.{Translation, mapped}
-use Rattle.translation.specs.Running.{nth, operand, substitute, substituteAll, Clauses, run, runAll, codeLevels, mappedArguments, readClause, wholeCode, clausesOf, transform}
-use Rattle.translation.proofs.Fitting.{whole-done, mapped-arguments}
-use Rattle.measure.specs.Inner.Sizes.{many, size, own, ownAll, uses, usesAll, shares, capped}
+use Rattle.reader.specs.Syntax.{write, writeAll, tree}
+use Rattle.translation.specs.Running.{Replacing, substitute, substituteAll, fromOne, Clauses, run, runOperand}
+use Rattle.measure.specs.Cost.{overUses, overAllUses, countFromOne, cost, costOperand}
+use Rattle.measure.specs.Inner.Sizes.{size, own, ownAll, sameUse, uses, usesAll, sumTo, numbers, weighted, amount, amountAll}
+use Rattle.measure.proofs.Sums.{sum-zero, sum-pick, sum-add, weighted-gather, weighted-add, weighted-none, weighted-pick, weighted-zero, none-of, once-of}
 
--- Weights that are alike from one number on and from another.
-pub shares-alike : (u v : ℕ → ℕ) (i j : ℕ) (t : Codes) → ((m : ℕ) → m < many t → u (i + m) ≡ v (j + m)) → shares u i t ≡ shares v j t
-unfolding shares many
-shares-alike u v i j nil h = refl
-shares-alike u v i j (cons a t) h =
-    let e : u i ≡ v j = (let z : i + 0 ≡ i = omega arith in let w : j + 0 ≡ j = omega arith in rw (← z, ← w) (h 0 (omega arith))) in
-    let more : shares u (suc i) t ≡ shares v (suc j) t =
-    shares-alike u v (suc i) (suc j) t (λ m k. let z : suc i + m ≡ i + suc m = omega arith in let w : suc j + m ≡ j + suc m = omega arith in rw (z, w) (h (suc m) (omega arith))) in
-    rw (e, more)
+-- Every use is of an argument from 1 to n, by a number below 256.
+abbrev mutual
+  pub Bounded : ℕ → Code → Type 0
+  Bounded n (node k p t) = BoundedAll n t
+  Bounded n (token v) = Unit {0}
+  Bounded n (argument i j) = (1 ≤ i) × (i ≤ n) × (j < numbers)
 
--- Weights that are 0, and weights added.
-shares-zero : (i : ℕ) (t : Codes) → shares (λ j. 0) i t ≡ 0
-unfolding shares
-shares-zero i nil = refl
-shares-zero i (cons a t) = let e = shares-zero (suc i) t in omega arith
+  pub BoundedAll : ℕ → Codes → Type 0
+  BoundedAll n nil = Unit {0}
+  BoundedAll n (cons a t) = Bounded n a × BoundedAll n t
 
-shares-add : (u v : ℕ → ℕ) (i : ℕ) (t : Codes) → shares (λ j. u j + v j) i t ≡ shares u i t + shares v i t
-unfolding shares
-shares-add u v i nil = refl
-shares-add u v i (cons a t) = let e = shares-add u v (suc i) t in omega arith
+-- How often a use is met.
+hit : (i j : ℕ) → sameUse i j i j ≡ 1
+hit i j = rw (eq-eqb i i refl, eq-eqb j j refl)
 
--- The weight 1 at one number alone: the length of the code there.
-abbrev one : ℕ → ℕ → ℕ
-one j i = cond (eqb j i) 1 0
+pub miss-first : (a b i j : ℕ) → (a ≡ i → ⊥) → sameUse a b i j ≡ 0
+miss-first a b i j h = rw (ne-eqb a i h)
 
-shares-past : (j i : ℕ) (t : Codes) → j < i → shares (one j) i t ≡ 0
-unfolding shares
-shares-past j i nil h = refl
-shares-past j i (cons a t) h =
-    let ne : j ≡ i → ⊥ = λ e. omega arith in
-    let more = shares-past j (suc i) t (omega arith) in
-    let z : one j i ≡ 0 = cc (ne-eqb j i ne) in
-    rw z (omega arith)
+and-false : (b : Bool) → (b && false) ≡ false
+and-false true = refl
+and-false false = refl
 
-shares-one : (m i : ℕ) (t : Codes) → m < many t → shares (one (i + m)) i t ≡ size (nth t m)
-unfolding shares many nth
-shares-one m i nil h = absurd (omega arith)
-shares-one zero i (cons a t) h =
-    let e : i + 0 ≡ i = omega arith in
-    let past = shares-past i (suc i) t (omega arith) in
-    let z : one i i ≡ 1 = cc (eq-eqb i i refl) in
-    rw (e, z) (omega arith)
-shares-one (suc m) i (cons a t) h =
-    let e : suc i + m ≡ i + suc m = omega arith in
-    let ne : i + suc m ≡ i → ⊥ = λ q. omega arith in
-    let more : shares (one (suc i + m)) (suc i) t ≡ size (nth t m) = shares-one m (suc i) t (omega arith) in
-    let more′ : shares (one (i + suc m)) (suc i) t ≡ size (nth t m) = rw (← e) more in
-    let z : one (i + suc m) i ≡ 0 = cc (ne-eqb (i + suc m) i ne) in
-    rw z (omega arith)
+pub miss-second : (a b i j : ℕ) → (b ≡ j → ⊥) → sameUse a b i j ≡ 0
+miss-second a b i j h = rw (ne-eqb b j h, and-false (eqb a i))
 
-pub get-inside : (r : List ℕ) (i k : ℕ) → getElem? r i ≡ some k → i < length r
-get-inside [] i k e = none-some e
-get-inside (x ∷ r) zero k e = omega arith
-get-inside (x ∷ r) (suc i) k e = let h = get-inside r i k e in omega arith
+-- The sum over all uses: how often each, times what it comes to.
+abbrev pub shares : ℕ → (ℕ → ℕ → ℕ) → (ℕ → ℕ → ℕ) → ℕ
+shares n u s = sumTo n (λ i. weighted (λ j. u i j) (λ j. s i j))
 
--- The length of a code with each argument replaced: its own bytes, and each argument's length as often as it is used.
-module _ {l : Language} {r : List ℕ} (s : Codes) (full : many s ≡ length r) where
+module _ (n : ℕ) (s : ℕ → ℕ → ℕ) where
+  shares-zero : shares n (λ i j. 0) s ≡ 0
+  shares-zero = sum-zero n _ (λ i. weighted-zero _ _ (λ j. let z : 0 * s i j ≡ 0 = omega arith in z))
+
+  shares-add : (u v : ℕ → ℕ → ℕ) → shares n (λ i j. u i j + v i j) s ≡ shares n u s + shares n v s
+  unfolding weighted
+  shares-add u v =
+      (λ x. sumTo n (λ i. sumTo numbers (λ j. add-mul (u i j) (v i j) (s i j) x)))
+      ∙ ((λ x. sumTo n (λ i. sum-add numbers (λ j. u i j * s i j) (λ j. v i j * s i j) x))
+      ∙ sum-add n (λ i. sumTo numbers (λ j. u i j * s i j)) (λ i. sumTo numbers (λ j. v i j * s i j)))
+
+  -- One use.
+  shares-one : (a b : ℕ) → a < n → b < numbers → shares n (λ i j. sameUse (suc a) b (suc i) j) s ≡ s a b
+  shares-one a b h l =
+      sum-pick n a _ h (λ i q. weighted-zero _ _ (λ j. none-of _ (miss-first (suc a) b (suc i) j (λ z. q (let y : a ≡ i = omega arith in y)))))
+      ∙ (weighted-pick _ _ b l (λ j q. none-of _ (miss-second (suc a) b (suc a) j q))
+      ∙ once-of _ (hit (suc a) b))
+
+  -- What the uses in a code come to: each as often as it is made.
   mutual
-    unfolding substitute operand write own uses
+    unfolding overUses countFromOne uses
 
-    pub size-substitute : {a : Code} {k : ℕ} → Typed l r a k → size (substitute s a) ≡ own a + shares (λ i. uses i a) 1 s
-    size-substitute (typed-node e h) = let w = size-substituteAll h in omega arith
-    size-substitute (typed-token e h) = let w = shares-zero 1 s in omega arith
-    size-substitute (typed-argument {i = zero} e) = none-some e
-    size-substitute (typed-argument {i = suc i} {k = k} e) =
-        let h = get-inside r i k e in
-        let w : shares (one (1 + i)) 1 s ≡ size (nth s i) = shares-one i 1 s (omega arith) in
-        let z : 1 + i ≡ suc i = omega arith in
-        let v : shares (one (suc i)) 1 s ≡ size (nth s i) = rw (← z) w in
-        omega arith
+    pub uses-shares : (a : Code) → Bounded n a → overUses (countFromOne s) a ≡ shares n (λ i j. uses (suc i) j a) s
+    uses-shares (node k p t) h = uses-sharesAll t h
+    uses-shares (token v) h = sym shares-zero
+    uses-shares (argument zero j) h = absurd (omega arith)
+    uses-shares (argument (suc i) j) h = sym (shares-one i j (omega arith) (h .2))
 
-    pub size-substituteAll : {t : Codes} {ks : List ℕ} → TypedAll l r t ks → length (writeAll tree (substituteAll s t)) ≡ ownAll t + shares (λ i. usesAll i t) 1 s
-    size-substituteAll typed-nil = let w = shares-zero 1 s in omega arith
-    size-substituteAll (typed-cons {a = a} {t = t} h hs) =
-        let v = size-substitute h in
-        let w = size-substituteAll hs in
-        let z = shares-add (λ i. uses i a) (λ i. usesAll i t) 1 s in
-        let y = length-append (write tree (substitute s a)) (writeAll tree (substituteAll s t)) in
-        omega arith
+    uses-sharesAll : (t : Codes) → BoundedAll n t → overAllUses (countFromOne s) t ≡ shares n (λ i j. usesAll (suc i) j t) s
+    uses-sharesAll nil h = sym shares-zero
+    uses-sharesAll (cons a t) h =
+        (λ x. uses-shares a (h .0) x + uses-sharesAll t (h .1) x) ∙ sym (shares-add (λ i j. uses (suc i) j a) (λ i j. usesAll (suc i) j t))
 
-pub many-run : (f : Clauses) (t : Codes) → many (runAll f t) ≡ many t
-unfolding many runAll
-many-run f nil = refl
-many-run f (cons a t) = ap suc (many-run f t)
+-- The length of a code with each use replaced: its own bytes, and those of what replaces its uses.
+mutual
+  unfolding substitute fromOne write own overUses countFromOne
 
--- The same of a clause's code: what is no code is a token.
-module _ (f : Translation) (k p : ℕ) (ks : List ℕ) (there : argumentsOf (f .source) k p ≡ some ks) (s : Codes) (full : many s ≡ length ks) where
-  code-size : (c : List ℕ) (o : Option Code) → wholeCode (readClause f k p c) ≡ o
-      → size (substitute s (Option·getD o (token 0))) ≡ own (Option·getD o (token 0)) + shares (λ i. uses i (Option·getD o (token 0))) 1 s
-  unfolding readClause substitute own uses write
-  code-size c none e = let z = shares-zero 1 s in omega arith
-  code-size c (some a) e =
-      let r : List ℕ = mappedArguments f k p in
-      let d = read-done code (f .target) r codeLevels (mapped (f .body) k) c a [] (whole-done (readClause f k p c) a e) in
-      let n : length r ≡ length ks = ap length (mapped-arguments f k p ks there) ∙ length-map ks (mapped (f .body)) in
-      size-substitute s (full ∙ sym n) (d .0)
+  pub size-substitute : (n : ℕ) (s : Replacing) (a : Code) → Bounded n a
+      → size (substitute (fromOne s) a) ≡ own a + overUses (countFromOne (λ i j. size (s i j))) a
+  size-substitute n s (node k p t) h = let w = size-substituteAll n s t h in omega arith
+  size-substitute n s (token v) h = refl
+  size-substitute n s (argument zero j) h = absurd (omega arith)
+  size-substitute n s (argument (suc i) j) h = omega arith
 
-  clause-size : size (substitute s (clausesOf f k p)) ≡ own (clausesOf f k p) + shares (λ i. uses i (clausesOf f k p)) 1 s
-  unfolding clausesOf
-  clause-size = code-size _ _ refl
+  size-substituteAll : (n : ℕ) (s : Replacing) (t : Codes) → BoundedAll n t
+      → length (writeAll tree (substituteAll (fromOne s) t)) ≡ ownAll t + overAllUses (countFromOne (λ i j. size (s i j))) t
+  size-substituteAll n s nil h = refl
+  size-substituteAll n s (cons a t) h =
+      let v = size-substitute n s a (h .0) in
+      let w = size-substituteAll n s t (h .1) in
+      let y = length-append (write tree (substitute (fromOne s) a)) (writeAll tree (substituteAll (fromOne s) t)) in
+      omega arith
 
--- The length of the run of a node: the clause's own bytes, and each operand's run as often as the clause uses it.
-pub size-run : (f : Translation) (k p : ℕ) (ks : List ℕ) → argumentsOf (f .source) k p ≡ some ks → (t : Codes) → many t ≡ length ks
-    → size (transform f (node k p t)) ≡ own (clausesOf f k p) + shares (λ i. uses i (clausesOf f k p)) 1 (runAll (clausesOf f) t)
-unfolding transform run
-size-run f k p ks there t full = clause-size f k p ks there (runAll (clausesOf f) t) (many-run (clausesOf f) t ∙ full)
+-- Over legal trees, where codes use the arguments and numbers that there are.
+module _ (l : Language) (f : Clauses) (bounded : (k p j : ℕ) (ks : List ℕ) → argumentsOf l k p ≡ some ks → Bounded (length ks) (f k p j)) where
+  -- The length of a run is what own bytes come to.
+  mutual
+    unfolding amount run write sumTo runOperand
 
--- Capping at each step comes to the same as capping once.
-capped-under : (top a : ℕ) → a ≤ top → capped top a ≡ a
-capped-under top a h = omega arith
+    pub run-amount : {a : Code} {k : ℕ} (j : ℕ) → Typed l [] a k → size (run f j a) ≡ amount own 2 f j a
+    run-amount j (typed-node {k = k} {p = p} {t = t} {ks = ks} e h) =
+        size-substitute (length ks) (λ i by. runOperand f t i by) (f k p j) (bounded k p j ks e)
+        ∙ ap (λ (x : ℕ). own (f k p j) + x) (uses-shares (length ks) _ (f k p j) (bounded k p j ks e)
+        ∙ run-amountAll (λ i by. uses (suc i) by (f k p j)) h)
+    run-amount j (typed-token e g) = refl
+    run-amount j (typed-argument {i = zero} e) = none-some e
+    run-amount j (typed-argument {i = suc i} e) = none-some e
 
-capped-over : (top a : ℕ) → top ≤ a → capped top a ≡ top
-capped-over top a h = omega arith
+    run-amountAll : {t : Codes} {ks : List ℕ} (u : ℕ → ℕ → ℕ) → TypedAll l [] t ks
+        → shares (length ks) u (λ i by. size (runOperand f t i by)) ≡ amountAll own 2 f u t
+    run-amountAll u typed-nil = refl
+    run-amountAll u (typed-cons h hs) = λ x. weighted (λ by. u 0 by) (λ by. run-amount by h x) + run-amountAll (λ i by. u (suc i) by) hs x
 
-pub capped-add : (top a b : ℕ) → capped top (a + b) ≡ capped top (capped top a + capped top b)
-capped-add top a b = omega arith
+  -- The cost of a run is what one for each clause comes to.
+  mutual
+    unfolding amount cost sumTo
 
-pub capped-times : (top u a : ℕ) → capped top (u * a) ≡ capped top (u * capped top a)
-capped-times top zero a = omega arith
-capped-times top (suc u) a =
-    by-test (leb a top)
-    (λ e. rw (capped-under top a (leb-true a top e)))
-    (λ e.
-    let h : top < a = leb-false a top e in
-    let k : top ≤ suc u * a = omega arith in
-    let j : top ≤ suc u * top = omega arith in
-    let i : top ≤ a = omega arith in
-    rw (capped-over top a i, capped-over top (suc u * a) k, capped-over top (suc u * top) j))
+    pub cost-amount : {a : Code} {k : ℕ} (j : ℕ) → Typed l [] a k → cost f j a ≡ amount (λ c. 1) 0 f j a
+    cost-amount j (typed-node {k = k} {p = p} {t = t} {ks = ks} e h) =
+        ap (λ (x : ℕ). 1 + x) (uses-shares (length ks) _ (f k p j) (bounded k p j ks e)
+        ∙ cost-amountAll (λ i by. uses (suc i) by (f k p j)) h)
+    cost-amount j (typed-token e g) = refl
+    cost-amount j (typed-argument e) = refl
 
-pub capped-share : (top n u a : ℕ) → capped top (n + u * a) ≡ capped top (capped top n + u * capped top a)
-capped-share top n u a =
-    let h = capped-times top u a in
-    capped-add top n (u * a) ∙ (ap (λ (m : ℕ). capped top (capped top n + m)) h ∙ omega arith)
+    cost-amountAll : {t : Codes} {ks : List ℕ} (u : ℕ → ℕ → ℕ) → TypedAll l [] t ks
+        → shares (length ks) u (λ i by. costOperand f t i by) ≡ amountAll (λ c. 1) 0 f u t
+    cost-amountAll u typed-nil = refl
+    cost-amountAll u (typed-cons h hs) = λ x. weighted (λ by. u 0 by) (λ by. cost-amount by h x) + cost-amountAll (λ i by. u (suc i) by) hs x
 
--- A length is over the room exactly if it is over it up to one more than the room; within the room it is whole.
-pub over-room : (room n : ℕ) → ltb room (capped (room + 1) n) ≡ ltb room n
-over-room room n =
-    by-test (leb n room)
-    (λ e. let h : n ≤ room = leb-true n room e in let k : capped (room + 1) n ≤ room = omega arith in rw (le-ltb room n h, le-ltb room (capped (room + 1) n) k))
-    (λ e. let h : room < n = leb-false n room e in let k : room < capped (room + 1) n = omega arith in rw (lt-ltb room n h, lt-ltb room (capped (room + 1) n) k))
+-- From above: what operands come to is linear in the weights of their row.
+module _ (e : Code → ℕ) (z : ℕ) (f : Clauses) where
+  amount-linear : (w : ℕ → ℕ) (u : ℕ → ℕ → ℕ → ℕ) (t : Codes)
+      → amountAll e z f (λ i by. weighted w (λ j. u j i by)) t ≡ weighted w (λ j. amountAll e z f (λ i by. u j i by) t)
+  unfolding amountAll
+  amount-linear w u nil = sym (weighted-none w)
+  amount-linear w u (cons a t) =
+      (λ x. weighted-gather w (λ j by. u j 0 by) (λ by. amount e z f by a) x + amount-linear w (λ j i by. u j (suc i) by) t x)
+      ∙ weighted-add w (λ j. weighted (λ by. u j 0 by) (λ by. amount e z f by a)) (λ j. amountAll e z f (λ i by. u j (suc i) by) t)
 
-pub within-room : (room n : ℕ) → capped (room + 1) n ≤ room → capped (room + 1) n ≡ n
-within-room room n h = omega arith
+  -- A node that counts w j times by number j: its codes' own part, and each operand by the weights that its codes give it.
+  pub node-amount : (w : ℕ → ℕ) (k p : ℕ) (t : Codes)
+      → weighted w (λ j. e (f k p j)) + amountAll e z f (λ i by. weighted w (λ j. uses (suc i) by (f k p j))) t
+      ≡ weighted w (λ j. amount e z f j (node k p t))
+  unfolding amount
+  node-amount w k p t =
+      ap (λ (x : ℕ). weighted w (λ j. e (f k p j)) + x) (amount-linear w (λ j i by. uses (suc i) by (f k p j)) t)
+      ∙ weighted-add w (λ j. e (f k p j)) (λ j. amountAll e z f (λ i by. uses (suc i) by (f k p j)) t)

@@ -1,1 +1,2 @@
+pub mod Cost
 pub mod Inner

@@ -4,7 +4,7 @@ ghost use Prim.Native.Nat.{_+_, _*_, _<_, _≤_};
 ghost use Rattle.measure.specs.Inner.Sizes.{capped};
 
 // A sum and one length more.
-fn add(sum: usize, length: usize, top: usize) -> usize
+pub fn add(sum: usize, length: usize, top: usize) -> usize
     requires { ⌜ sum ≤ top ⌝ }
     ensures { λ r. ⌜ r ≡ capped top (sum + length) ⌝ }
 {

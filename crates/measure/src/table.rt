@@ -1,8 +1,8 @@
-// A table of counts.
+// A table of counts, and a table of entries.
 ghost use mathlib.Core.Path.{_≡_};
-ghost use Prim.Native.Nat.{ℕ, _+_, _<_};
-ghost use lib.ListN.{getD};
-ghost use Rattle.measure.specs.Inner.Counting.{addAt};
+ghost use Prim.Native.Nat.{ℕ, _+_, _<_, _≤_};
+ghost use lib.ListN.{length, getD};
+ghost use Rattle.measure.specs.Inner.Counting.{addAt, addEntry};
 
 // The count at i, and 0 past the end.
 pub fn count_at(counts: &[u16], i: usize) -> usize
@@ -39,4 +39,21 @@ pub fn add_at(counts: &mut [u16], i: usize, n: u16)
         return;
     }
     counts[i] = counts[i] + n;
+}
+
+// Puts an entry at e, for position q of the source; nothing where there is no room.
+pub fn add_entry(entries: &mut [u16], e: usize, q: usize, key: u16, n: u16)
+    requires { ⌜ (1024 ≤ e) × (e < 65536) ⌝ }
+    ensures { λ r. ⌜ now (entries .exit) ≡ addEntry (now (entries .entry)) e q key n ⌝ }
+{
+    if entries.len() < e + 3 {
+        return;
+    }
+    if 1024 <= q {
+        return;
+    }
+    entries[e] = entries[q];
+    entries[e + 1] = key;
+    entries[e + 2] = n;
+    entries[q] = e as u16;
 }

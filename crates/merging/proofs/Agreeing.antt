@@ -9,7 +9,7 @@ use lib.Dec.{eqb}
 use borrow.Author.Tests.{ne-eqb}
 use Rattle.fields.specs.Lists.{all, sameNumbers}
 use Rattle.fields.specs.Keyed.{agree, rising}
-use Rattle.fields.specs.Inner.Places.{fieldEnd, isWhole, places, keyAt}
+use Rattle.fields.specs.Inner.Places.{fieldEnd, isWhole, places, orderAt}
 use Rattle.fields.proofs.Truth.{and-both, all-mem, mem-all}
 use Rattle.fields.proofs.Lists.{rising-map}
 use Rattle.fields.proofs.Keyed.{From, from-mem}
@@ -77,7 +77,7 @@ module _ (first : ℕ) (a b : List ℕ) (p q : ℕ) (h : Agreeing first a b p q)
 
   module _ (there : p < length a) where
     -- past a field of a, where all fields that are left of b are above it
-    drop-left : From partKey (suc (keyAt first a p)) (partsFrom first b q) → (e : ℕ) → e ≡ fieldEnd a p → Agreeing first a b e q
+    drop-left : From partKey (suc (orderAt first a p)) (partsFrom first b q) → (e : ℕ) → e ≡ fieldEnd a p → Agreeing first a b e q
     unfolding partAt
     drop-left g e ee = record {
       left = rest-next first a p (h .left) there e ee;
@@ -97,19 +97,19 @@ module _ (first : ℕ) (a b : List ℕ) (p q : ℕ) (h : Agreeing first a b p q)
       heads : agree partKey samePart (partAt first a p ∷ partsFrom first a (fieldEnd a p)) (partAt first b q ∷ partsFrom first b (fieldEnd b q)) ≡ agrees first a b
       heads = rw (← parts-next first a p there, ← parts-next first b q here) (h .answer)
 
-      module _ (j k : ℕ) (ej : j ≡ keyAt first a p) (ek : k ≡ keyAt first b q) where
+      module _ (j k : ℕ) (ej : j ≡ orderAt first a p) (ek : k ≡ orderAt first b q) where
         -- the field of a is below those that are left of b
         pub agree-below : j < k → (e : ℕ) → e ≡ fieldEnd a p → Agreeing first a b e q
         unfolding partAt
         agree-below d =
-            let g : suc (keyAt first a p) ≤ keyAt first b q = omega arith in
+            let g : suc (orderAt first a p) ≤ orderAt first b q = omega arith in
             drop-left (rw (parts-next first b q here) (g, here-rises first b q (h .right) here))
 
         -- past a field of b, that is below those that are left of a or the same as the first of them
         pass : k ≤ j → partsClash (partAt first a p) (partAt first b q) ≡ false → (e : ℕ) → e ≡ fieldEnd b q → Agreeing first a b p e
         unfolding partAt
         pass d c e ee =
-            let g : keyAt first b q ≤ keyAt first a p = omega arith in
+            let g : orderAt first b q ≤ orderAt first a p = omega arith in
             let x = partAt first a p in
             let l = partsFrom first a (fieldEnd a p) in
             record {
@@ -138,11 +138,11 @@ module _ (first : ℕ) (a b : List ℕ) (p q : ℕ) (h : Agreeing first a b p q)
 
 -- Whole entries whose keys rise are sorted fields.
 pub entries-sorted : (s : List ℕ) → RisingEntries s → Sorted 0x11 s
-unfolding rising partsFrom partAt entryWhole
+unfolding rising partsFrom partAt entryWhole orderAt
 entries-sorted s h = record {
   long = entries-long s (h .whole);
   whole = mem-all (isWhole s) (places s) (λ p m. and-both (isWhole s p) (entryGood s p) (all-mem (entryWhole s) (places s) (h .whole) p m) .0);
-  rises = rising-map partKey (partAt 0x11 s) (keyAt 0x11 s) (λ p. refl) 0 (places s) ∙ h .rises;
+  rises = rising-map partKey (partAt 0x11 s) (orderAt 0x11 s) (λ p. refl) 0 (places s) ∙ h .rises;
 }
 
 -- `languages_fit`: x says whether a class of one is a result of the other

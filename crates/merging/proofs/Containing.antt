@@ -12,7 +12,7 @@ use borrow.Author.Tests.{lt-ltb, le-ltb, ltb-true, ltb-false, lt-leb, eq-eqb, ne
 use Rattle.fields.specs.Lists.{all, sameNumbers}
 use Rattle.fields.specs.Keyed.{within}
 use Rattle.fields.specs.Fields.{pairAt}
-use Rattle.fields.specs.Inner.Places.{fieldEnd, keyAt}
+use Rattle.fields.specs.Inner.Places.{fieldEnd, keyAt, orderAt}
 use Rattle.fields.proofs.Truth.{by-test}
 use Rattle.fields.proofs.Lists.{all-true}
 use Rattle.language.specs.Language.{rangeWithin}
@@ -79,19 +79,19 @@ module _ (s : List ℕ) (p : ℕ) (w : WholeAt s p) where
         }
 
   -- A field with the key of a class that is whole.
-  class-piece : classPart (partAt 0x11 s p) ≡ true → keyAt 0x11 s p < 32 → IsClass (pieceAt s p) 0
-  unfolding classPart partAt keyAt
+  class-piece : classPart (partAt 0x11 s p) ≡ true → orderAt 0x11 s p < 32 → IsClass (pieceAt s p) 0
+  unfolding classPart partAt orderAt keyAt
   class-piece h k =
-      let e : entryWhole (pieceAt s p) 0 ≡ true = rw (lt-leb 32 (keyAt 0x11 s p) k) at h in
+      let e : entryWhole (pieceAt s p) 0 ≡ true = rw (lt-leb 32 (orderAt 0x11 s p) k) at h in
       ⊎-elim (λ c. c)
       (λ c.
       let t : getD s p 0 ≡ 0x12 = sym piece-tag ∙ c .tag in
-      let z : keyAt 0x11 s p ≡ 32 + pairAt s (p + 3) = rw t in
+      let z : orderAt 0x11 s p ≡ 32 + pairAt s (p + 3) = rw t in
       absurd (omega arith))
       (entry-facts (pieceAt s p) 0 e)
 
 -- The classes that `lies_at` compares.
-pub classes-here : (a : List ℕ) (p : ℕ) (b : List ℕ) (q : ℕ) → q < length b → (j k : ℕ) → j ≡ keyAt 0x11 a p → k ≡ keyAt 0x11 b q → j ≡ k → j < 32
+pub classes-here : (a : List ℕ) (p : ℕ) (b : List ℕ) (q : ℕ) → q < length b → (j k : ℕ) → j ≡ orderAt 0x11 a p → k ≡ orderAt 0x11 b q → j ≡ k → j < 32
     → WholeAt a p → WholeFrom b q → classPart (partAt 0x11 a p) ≡ true → all classPart (partsFrom 0x11 b q) ≡ true → IsClass a p × IsClass b q
 classes-here a p b q there j k ej ek d h wa wb la lb =
     let l = all-true classPart (partAt 0x11 b q) (partsFrom 0x11 b (fieldEnd b q)) (rw (parts-next 0x11 b q there) at lb) .0 in
@@ -99,7 +99,7 @@ classes-here a p b q there j k ej ek d h wa wb la lb =
     (class-there a p wa (class-piece a p wa la (omega arith)), class-there b q wq (class-piece b q wq l (omega arith)))
 
 -- `lies_at`: j and k are the keys of the entries at p and q
-module _ (a : List ℕ) (p : ℕ) (b : List ℕ) (q : ℕ) (there : q < length b) (j k : ℕ) (ej : j ≡ keyAt 0x11 a p) (ek : k ≡ keyAt 0x11 b q) where
+module _ (a : List ℕ) (p : ℕ) (b : List ℕ) (q : ℕ) (there : q < length b) (j k : ℕ) (ej : j ≡ orderAt 0x11 a p) (ek : k ≡ orderAt 0x11 b q) where
   pub lies-other : (j ≡ k → ⊥) → false ≡ leads partWithin (partAt 0x11 a p) (partsFrom 0x11 b q)
   unfolding partWithin partAt
   lies-other d = rw (parts-next 0x11 b q there) (cc (ne-eqb j k d))
@@ -109,7 +109,7 @@ module _ (a : List ℕ) (p : ℕ) (b : List ℕ) (q : ℕ) (there : q < length b
   unfolding partWithin partAt
   lies-range d h wa wb la lb x ex =
       let l : classPart (partAt 0x11 b q) ≡ true = all-true classPart (partAt 0x11 b q) (partsFrom 0x11 b (fieldEnd b q)) (rw (parts-next 0x11 b q there) at lb) .0 in
-      let i : keyAt 0x11 b q < 32 = omega arith in
+      let i : orderAt 0x11 b q < 32 = omega arith in
       let wq = whole-here b q wb there in
       let u : classRange (pieceAt a p) 0 ≡ classRange a p = range-there a p wa (class-piece a p wa la (omega arith)) in
       let v : classRange (pieceAt b q) 0 ≡ classRange b q = range-there b q wq (class-piece b q wq l i) in
@@ -145,7 +145,7 @@ module _ (a b : List ℕ) (p q : ℕ) (h : Containing a b p q) where
     long-here : (classPart (partAt 0x11 a p) ≡ true) × (all classPart (partsFrom 0x11 a (fieldEnd a p)) ≡ true)
     long-here = all-true classPart (partAt 0x11 a p) (partsFrom 0x11 a (fieldEnd a p)) (rw (parts-next 0x11 a p here) at (h .leftLong))
 
-    module _ (key : ℕ) (ek : key ≡ keyAt 0x11 a p) (r : ℕ) (w : SoughtAt 0x11 b q key r) where
+    module _ (key : ℕ) (ek : key ≡ orderAt 0x11 a p) (r : ℕ) (w : SoughtAt 0x11 b q key r) where
       pub containing-meets : WholeAt a p × WholeFrom b r × (classPart (partAt 0x11 a p) ≡ true) × (all classPart (partsFrom 0x11 b r) ≡ true)
       containing-meets = (
         whole-here a p (h .left .from) here,

@@ -9,13 +9,13 @@ use native.Mathlib.Numerals.{add-one}
 use native.Mathlib.Omega.{arith}
 use lib.ListN.{length, take, drop, getD}
 use lib.Seq.{slice, slice-empty, take-all, take-suc, take-take, getD-take}
-use lib.Dec.{eqb}
-use borrow.Author.Tests.{eq-eqb, eqb-true}
+use lib.Dec.{ltb, eqb}
+use borrow.Author.Tests.{eq-eqb, eqb-true, ltb-false}
 use Rattle.fields.specs.Lists.{all}
 use Rattle.fields.specs.Keyed.{agree, union, within, without}
 use Rattle.fields.specs.Fields.{pairAt}
-use Rattle.fields.specs.Inner.Places.{fieldEnd, keyAt}
-use Rattle.fields.proofs.Truth.{and-both, equal-numbers}
+use Rattle.fields.specs.Inner.Places.{fieldEnd, keyAt, itemOrder, orderAt}
+use Rattle.fields.proofs.Truth.{by-test, and-both, equal-numbers}
 use Rattle.fields.proofs.Lists.{all-true}
 use Rattle.fields.proofs.Keyed.{From, is-rising}
 use Rattle.fields.proofs.Places.{end-past, places-done}
@@ -68,15 +68,33 @@ module _ (a b : List ℕ) (n : ℕ) (h : Alike a b n) where
     unfolding fieldEnd pairAt
     end-same = rw (byte-same (p + 1) (omega arith), byte-same (p + 1 + 1) (omega arith))
 
-    key-same : (first : ℕ) → keyAt first a p ≡ keyAt first b p
-    unfolding keyAt pairAt
-    key-same first = rw (byte-same p (omega arith), byte-same (p + 3) (omega arith), byte-same (p + 3 + 1) (omega arith))
+    pair-same : (i : ℕ) → i + 2 ≤ n → pairAt a i ≡ pairAt b i
+    unfolding pairAt
+    pair-same i l = rw (byte-same i (omega arith), byte-same (i + 1) (omega arith))
+
+    plain-same : (first : ℕ) → keyAt first a p ≡ keyAt first b p
+    unfolding keyAt
+    plain-same first = rw (byte-same p (omega arith), byte-same (p + 3) (omega arith), pair-same (p + 3) (omega arith))
+
+    item-same : fieldEnd a p ≤ n → itemOrder a p ≡ itemOrder b p
+    unfolding itemOrder fieldEnd
+    item-same f =
+        by-test (ltb (pairAt a (p + 1)) 3)
+        (λ t. let u : ltb (pairAt b (p + 1)) 3 ≡ true = rw (pair-same (p + 1) (omega arith)) at t in
+        rw (t, u, byte-same p (omega arith), plain-same 0x22, pair-same (p + 3) (omega arith)))
+        (λ t. let u : ltb (pairAt b (p + 1)) 3 ≡ false = rw (pair-same (p + 1) (omega arith)) at t in
+        let l : 3 ≤ pairAt a (p + 1) = ltb-false _ _ t in
+        rw (t, u, byte-same p (omega arith), plain-same 0x22, pair-same (p + 3) (omega arith), byte-same (p + 5) (omega arith)))
+
+    key-same : (first : ℕ) → fieldEnd a p ≤ n → orderAt first a p ≡ orderAt first b p
+    unfolding orderAt
+    key-same first f = rw (item-same f, plain-same first)
 
     part-same : (first : ℕ) → fieldEnd a p ≤ n → partAt first a p ≡ partAt first b p
     unfolding partAt
     part-same first f =
         let d : pieceAt a p ≡ pieceAt b p = slice-same p (fieldEnd a p) f ∙ ap (λ (e : ℕ). slice p e b) end-same in
-        cc (key-same first)
+        cc (key-same first f)
 
 -- `shared`: no field is passed
 pub shared-start : (first : ℕ) (a b : List ℕ) → WholeFrom a 0 → WholeFrom b 0 → Shared first a b 0

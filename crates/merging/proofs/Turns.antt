@@ -10,7 +10,7 @@ use lib.Dec.{ltb, leb}
 use borrow.Author.Tests.{ltb-true, ltb-false, leb-true, leb-false}
 use Rattle.fields.specs.Lists.{all, keep, concatMap}
 use Rattle.fields.specs.Keyed.{union, within, without}
-use Rattle.fields.specs.Inner.Places.{fieldEnd, keyAt}
+use Rattle.fields.specs.Inner.Places.{fieldEnd, orderAt}
 use Rattle.fields.specs.Inner.Writing.{Inside, Written, Stores}
 use Rattle.fields.proofs.Truth.{by-test}
 use Rattle.fields.proofs.Codec.{concat-append}
@@ -99,14 +99,14 @@ rest-sought first s p k r h w = record {
 
 -- The field at p, and what comes after it.
 module _ (first : ℕ) (s : List ℕ) (p : ℕ) (h : Rest first s p) (here : p < length s) where
-  pub here-rises : From partKey (suc (keyAt first s p)) (partsFrom first s (fieldEnd s p))
+  pub here-rises : From partKey (suc (orderAt first s p)) (partsFrom first s (fieldEnd s p))
   unfolding partAt
   here-rises = let r : From partKey (h .least) (partAt first s p ∷ partsFrom first s (fieldEnd s p)) = rw (parts-next first s p here) at (h .rises) in r .1
 
   pub rest-next : (e : ℕ) → e ≡ fieldEnd s p → Rest first s e
   rest-next e q = rw q (record {
     from = whole-next s p (h .from) here (fieldEnd s p) refl;
-    least = suc (keyAt first s p);
+    least = suc (orderAt first s p);
     rises = here-rises;
   })
 
@@ -153,17 +153,17 @@ all-bytes (suc fuel) first s p h w =
     ∙ piece-join first s p f)))
 
 -- A turn of the two walks: the field of a at p, and b sought through from q on for its key.
-module _ (first : ℕ) (a b : List ℕ) (p q : ℕ) (ra : Rest first a p) (rb : Rest first b q) (here : p < length a) (key : ℕ) (ek : key ≡ keyAt first a p) where
+module _ (first : ℕ) (a b : List ℕ) (p q : ℕ) (ra : Rest first a p) (rb : Rest first b q) (here : p < length a) (key : ℕ) (ek : key ≡ orderAt first a p) where
   next : partsFrom first a p ≡ partAt first a p ∷ partsFrom first a (fieldEnd a p)
   next = parts-next first a p here
 
   -- b is sought through: what is left of it begins with a field to which the one at p stands by the test, or does not
   module _ (r : ℕ) (w : SoughtAt first b q key r) where
-    sought : seek (keyAt first a p) (partsFrom first b q) ≡ partsFrom first b r
+    sought : seek (orderAt first a p) (partsFrom first b q) ≡ partsFrom first b r
     sought = sym (rw ek at (w .rest))
 
     leads-is : (alike : Part → Part → Bool) (stands : Bool) → stands ≡ leads alike (partAt first a p) (partsFrom first b r)
-        → leads alike (partAt first a p) (seek (keyAt first a p) (partsFrom first b q)) ≡ stands
+        → leads alike (partAt first a p) (seek (orderAt first a p) (partsFrom first b q)) ≡ stands
     leads-is alike stands es = ap (leads alike (partAt first a p)) sought ∙ sym es
 
     -- `remove`
@@ -174,7 +174,7 @@ module _ (first : ℕ) (a b : List ℕ) (p q : ℕ) (ra : Rest first a p) (rb : 
     remove-turn e ee stands es =
         let l = partsFrom first a (fieldEnd a p) in
         let m = partsFrom first b q in
-        let k = keyAt first a p in
+        let k = orderAt first a p in
         rw (ee, ← sought)
         (ap bytesOf (ap (λ (r : List Part). without samePart r m) next ∙ without-turn samePart differ (partAt first a p) l (here-rises first a p ra here) (rb .least) m (rb .rises))
         ∙ (ap (λ (t : Bool). bytesOf (cond (not t) (partAt first a p ∷ without samePart l (seek k m)) (without samePart l (seek k m)))) (leads-is samePart stands es)
@@ -191,7 +191,7 @@ module _ (first : ℕ) (a b : List ℕ) (p q : ℕ) (ra : Rest first a p) (rb : 
         rw (ee, ← sought)
         (ap (λ (r : List Part). within partWithin r m) next
         ∙ (within-turn partWithin outside (partAt first a p) l (here-rises first a p ra here) (rb .least) m (rb .rises)
-        ∙ ap (λ (t : Bool). t && within partWithin l (seek (keyAt first a p) m)) (leads-is partWithin lies es)))
+        ∙ ap (λ (t : Bool). t && within partWithin l (seek (orderAt first a p) m)) (leads-is partWithin lies es)))
 
 -- At the end of a.
 module _ (first : ℕ) (a b : List ℕ) (p q : ℕ) (end : length a ≤ p) where
@@ -272,7 +272,7 @@ module _ (first : ℕ) (a b o out : List ℕ) (from p q n : ℕ) (h : Merging fi
         ∙ ap (λ (r : List ℕ). r ++ bytesOf (union partKey l m))
         (slice-join a from p (fieldEnd a p) (h .rise) (omega (arith, end-past a p)) (whole-here a p (h .left .from) there .fits)))))
 
-    module _ (here : q < length b) (j k : ℕ) (ej : j ≡ keyAt first a p) (ek : k ≡ keyAt first b q) where
+    module _ (here : q < length b) (j k : ℕ) (ej : j ≡ orderAt first a p) (ek : k ≡ orderAt first b q) where
       next-right : partsFrom first b q ≡ partAt first b q ∷ partsFrom first b (fieldEnd b q)
       next-right = parts-next first b q here
 
@@ -282,7 +282,7 @@ module _ (first : ℕ) (a b o out : List ℕ) (from p q n : ℕ) (h : Merging fi
       pub merging-low : j ≤ k → (j ≡ k → ⊥) → (e : ℕ) → e ≡ fieldEnd a p → Merging first a b o out from e q n
       unfolding partAt
       merging-low u v e ee =
-          let d : keyAt first a p < keyAt first b q =
+          let d : orderAt first a p < orderAt first b q =
           by-test (ltb j k) (λ t. let z : j < k = ltb-true _ _ t in omega arith) (λ t. absurd (v (omega (arith, ltb-false j k t)))) in
           let w : union partKey (x ∷ l) (partsFrom first b q) ≡ x ∷ union partKey l (partsFrom first b q) =
           rw next-right (union-low x (partAt first b q) l (partsFrom first b (fieldEnd b q)) (h .right .least) (here-rises first a p (h .left) there) right-rises d) in
@@ -296,7 +296,7 @@ module _ (first : ℕ) (a b o out : List ℕ) (from p q n : ℕ) (h : Merging fi
       pub merging-both : j ≡ k → (e : ℕ) → e ≡ fieldEnd a p → (d : ℕ) → d ≡ fieldEnd b q → Merging first a b o out from e d n
       unfolding partAt
       merging-both v e ee d ed =
-          let f : keyAt first b q ≡ keyAt first a p = omega arith in
+          let f : orderAt first b q ≡ orderAt first a p = omega arith in
           let w : union partKey (x ∷ l) (partsFrom first b q) ≡ x ∷ union partKey l (partsFrom first b (fieldEnd b q)) =
           rw next-right (union-same x (partAt first b q) l (partsFrom first b (fieldEnd b q)) (h .right .least) (here-rises first a p (h .left) there) right-rises f) in
           rw (ee, ed) (record {

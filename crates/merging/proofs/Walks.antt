@@ -9,7 +9,7 @@ use lib.ListN.{length, getD}
 use lib.Seq.{slice, slice-empty, length-slice}
 use borrow.Author.Tests.{lt-ltb, le-ltb, eq-eqb, ne-eqb, leb-true}
 use Rattle.fields.specs.Lists.{concatMap, sameNumbers}
-use Rattle.fields.specs.Inner.Places.{fieldEnd, isWhole, longAt, keyAt}
+use Rattle.fields.specs.Inner.Places.{fieldEnd, isWhole, longAt, orderAt}
 use Rattle.fields.proofs.Truth.{numbers-equal, refuted}
 use Rattle.fields.proofs.Lists.{part-done, part-next}
 use Rattle.fields.proofs.Places.{end-past, places-done, places-next, every-here, long-here}
@@ -95,18 +95,18 @@ module _ (first : ℕ) (s : List ℕ) (p k q : ℕ) (h : Seeking first s p k q) 
   unfolding seek lower
   seek-end i = halt (rw (parts-done first s q i)) (rw (parts-done first s q i))
 
-  module _ (key : ℕ) (ek : key ≡ keyAt first s q) (here : q < length s) where
+  module _ (key : ℕ) (ek : key ≡ orderAt first s q) (here : q < length s) where
     pub seek-found : k ≤ key → SoughtAt first s p k q
     unfolding partAt
     seek-found i =
-        let j : k ≤ keyAt first s q = rw ek at i in
+        let j : k ≤ orderAt first s q = rw ek at i in
         let n = parts-next first s q here in
         halt (rw n (seek-stop k (partAt first s q) _ j)) (rw n (lower-stop k (partAt first s q) _ j))
 
     pub seek-on : key < k → (e : ℕ) → e ≡ fieldEnd s q → Seeking first s p k e
     unfolding partAt bytesOf concatMap
     seek-on i e d =
-        let j : keyAt first s q < k = rw ek at i in
+        let j : orderAt first s q < k = rw ek at i in
         let n = parts-next first s q here in
         let x = partAt first s q in
         let f = whole-here s q (h .from) here in
@@ -161,7 +161,7 @@ module _ (first : ℕ) (a : List ℕ) (p : ℕ) (b : List ℕ) (q : ℕ) where
   pub stands-end : (alike : Part → Part → Bool) → length b ≤ q → false ≡ leads alike (partAt first a p) (partsFrom first b q)
   stands-end alike h = rw (parts-done first b q h)
 
-  module _ (j k : ℕ) (ej : j ≡ keyAt first a p) (ek : k ≡ keyAt first b q) where
+  module _ (j k : ℕ) (ej : j ≡ orderAt first a p) (ek : k ≡ orderAt first b q) where
     pub stands-other : q < length b → (j ≡ k → ⊥) → false ≡ leads samePart (partAt first a p) (partsFrom first b q)
     unfolding samePart partAt
     stands-other h d = rw (parts-next first b q h) (cc (ne-eqb j k d))

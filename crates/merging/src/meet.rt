@@ -4,8 +4,8 @@ ghost use mathlib.Core.Bool.{true};
 ghost use Rattle.fields.specs.Lists.{all, sameNumbers};
 ghost use Rattle.merging.specs.Inner.Parts.{WholeAt, WholeFrom, SoughtAt, pieceAt, samePart, partWithin, classPart, partAt, partsFrom, leads};
 use fields::bytes::to_usize;
+use fields::walk::order_at;
 use fields::walk::whole_end;
-use fields::walk::whole_key;
 use language::entries::CLASS;
 use language::entries::KINDS;
 use language::range::range_within;
@@ -36,7 +36,7 @@ pub fn seek(s: &[u8], p: usize, key: usize, leading_tag: u8) -> usize
 {
     let mut q = p;
     while q < s.len() {
-        if key <= whole_key(s, q, leading_tag) {
+        if key <= order_at(s, q, leading_tag) {
             return q;
         }
         q = whole_end(s, q);
@@ -52,7 +52,7 @@ pub fn stands_at(a: &[u8], p: usize, b: &[u8], q: usize, leading_tag: u8) -> boo
     if b.len() <= q {
         return false;
     }
-    if whole_key(a, p, leading_tag) != whole_key(b, q, leading_tag) {
+    if order_at(a, p, leading_tag) != order_at(b, q, leading_tag) {
         return false;
     }
     same_field(a, p, b, q)
@@ -66,8 +66,8 @@ pub fn lies_at(a: &[u8], p: usize, b: &[u8], q: usize) -> bool
     if b.len() <= q {
         return false;
     }
-    let key = whole_key(a, p, CLASS);
-    if key != whole_key(b, q, CLASS) {
+    let key = order_at(a, p, CLASS);
+    if key != order_at(b, q, CLASS) {
         return false;
     }
     if key < to_usize(KINDS) {

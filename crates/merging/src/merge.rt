@@ -7,8 +7,8 @@ use super::prefix::shared;
 use fields::copy::Stored;
 use fields::copy::put_both;
 use fields::copy::put_if;
+use fields::walk::order_at;
 use fields::walk::whole_end;
-use fields::walk::whole_key;
 
 // The union by key, into the output from its start: of two fields of one key the one of a is taken. The bytes of a from
 // `from` up to p are still to be written.
@@ -25,8 +25,8 @@ pub fn merge(a: &[u8], b: &[u8], leading_tag: u8, out: &mut [u8]) -> Stored
         if b.len() <= q {
             break;
         }
-        let j = whole_key(a, p, leading_tag);
-        let k = whole_key(b, q, leading_tag);
+        let j = order_at(a, p, leading_tag);
+        let k = order_at(b, q, leading_tag);
         if k < j {
             let d = seek(b, q, j, leading_tag);
             let Stored::To(m) = put_both(a, from, p, b, q, d, out, n) else {
@@ -57,7 +57,7 @@ pub fn remove(a: &[u8], b: &[u8], leading_tag: u8, out: &mut [u8]) -> Stored
     let mut q = start;
     let mut n = 0;
     while p < a.len() {
-        q = seek(b, q, whole_key(a, p, leading_tag), leading_tag);
+        q = seek(b, q, order_at(a, p, leading_tag), leading_tag);
         let stands = stands_at(a, p, b, q, leading_tag);
         let e = whole_end(a, p);
         let Stored::To(m) = put_if(!stands, a, p, e, out, n) else {

@@ -5,8 +5,8 @@ use super::meet::lies_at;
 use super::meet::same_field;
 use super::meet::seek;
 use super::prefix::shared;
+use fields::walk::order_at;
 use fields::walk::whole_end;
-use fields::walk::whole_key;
 use language::entries::CLASS;
 
 // Every entry of language a lies in one of b.
@@ -18,7 +18,7 @@ pub fn lies_within(a: &[u8], b: &[u8]) -> bool
     let mut p = start;
     let mut q = start;
     while p < a.len() {
-        q = seek(b, q, whole_key(a, p, CLASS), CLASS);
+        q = seek(b, q, order_at(a, p, CLASS), CLASS);
         if !lies_at(a, p, b, q) {
             return false;
         }
@@ -37,9 +37,9 @@ pub fn agree(a: &[u8], b: &[u8], leading_tag: u8) -> bool
     let mut p = start;
     let mut q = start;
     'clash: while p < a.len() {
-        let key = whole_key(a, p, leading_tag);
+        let key = order_at(a, p, leading_tag);
         while q < b.len() {
-            let other = whole_key(b, q, leading_tag);
+            let other = order_at(b, q, leading_tag);
             if key < other {
                 break;
             }

@@ -1,53 +1,54 @@
 -- A code that is an argument alone: it matches any tree, to which the argument is bound.
-use Prim.Native.Nat.{ℕ, _+_, _-_, _≤_, _<_}
-use mathlib.Core.Path.{_≡_, refl, ap, _∙_}
+use Prim.Native.Nat.{ℕ, zero, suc, _+_, _-_, _≤_, _<_}
+use mathlib.Core.Path.{_≡_, refl, ap, sym, _∙_}
 use mathlib.Core.Bool.{true}
-use mathlib.Core.List.{List}
+use mathlib.Core.List.{List, []}
 use native.Mathlib.Omega.{arith}
-use lib.ListN.{length, set}
+use lib.ListN.{length, getD, set}
 use Rattle.reader.specs.Code.{Code, node, token, argument}
 use Rattle.reader.specs.Syntax.{write, tree, code}
 use Rattle.translation.specs.Translation.{Translation}
 use Rattle.translation.specs.Running.{clausesOf}
-use Rattle.emitter.specs.Inner.Stands.{Stands}
-use Rattle.emitter.specs.Inner.Table.{bodyStart, bodyByte, clauseEnd}
-use Rattle.emitter.proofs.Standing.{stands-head}
+use Rattle.tables.specs.Inner.Stands.{Stands}
+use Rattle.tables.specs.Inner.Table.{bodyStart, bodyByte}
+use Rattle.tables.proofs.Standing.{stands-head}
 use Rattle.sources.specs.Inner.Goals.{Goal}
-use Rattle.needs.specs.Inner.Clauses.{StepAsks, StepGives, MatchAsks, MatchGives}
+use Rattle.needs.specs.Inner.Clauses.{ArgumentAsks, ArgumentGives, StepAsks, StepGives, MatchAsks, MatchGives}
 use Rattle.needs.proofs.Lying.{some-byte}
 use Rattle.needs.proofs.Steps.{argument-new, width-other}
 use Rattle.needs.proofs.Turns.{argument-next, number-there, number-is, argument-asks, argument-step}
-use Rattle.needs.proofs.Whole.{Going, production, the-clause, whole-ends, match-start, match-step, match-next, match-done}
+use Rattle.needs.proofs.Whole.{Going, production, the-clause, match-start, match-step, match-next, match-done}
 
 -- A code that starts with 03 has two bytes.
 alone : (t : List ℕ) (c : ℕ) (a : Code) → Stands t (bodyStart + c) (write code a) → bodyByte t c ≡ 3 → length (write code a) ≡ 2
 unfolding write
 alone t c (node k p ts) h e = let x = stands-head t (bodyStart + c) _ _ h .1 in absurd (omega arith)
 alone t c (token v) h e = let x = stands-head t (bodyStart + c) _ _ h .1 in absurd (omega arith)
-alone t c (argument i) h e = refl
+alone t c (argument i zero) h e = refl
+alone t c (argument i (suc j)) h e = let x = stands-head t (bodyStart + c) _ _ h .1 in absurd (omega arith)
 
 some-code : (a : Code) → 0 < length (write code a)
 unfolding write
 some-code (node j q t) = omega arith
 some-code (token x) = omega arith
-some-code (argument i) = omega arith
+some-code (argument i zero) = omega arith
+some-code (argument i (suc j)) = omega arith
 
 pub clause-starts : (table target places kinds bytes bound : List ℕ) (place clause at : ℕ) (f : Translation) (k p : ℕ) (ks : List ℕ) (g : Goal)
     → MatchAsks table target places kinds bytes bound place clause at f k p ks g → clause + 4 < 4096
 clause-starts table target places kinds bytes bound place clause at f k p ks g h =
     let x = the-clause table target places kinds bytes bound place clause at f k p ks g h .inside in
-    let y = some-code (clausesOf f k p) in
+    let y = some-code (clausesOf f k p 0) in
     omega arith
 
 module _ (table target places kinds bytes bound : List ℕ) (place clause at : ℕ) (f : Translation) (k p : ℕ) (ks : List ℕ) (g : Goal)
     (h : MatchAsks table target places kinds bytes bound place clause at f k p ks g) (there : at < length bytes) (sign : bodyByte table (clause + 4) ≡ 3) where
   abbrev stop : ℕ
-  stop = clauseEnd table clause
+  stop = clause + 4 + length (write code (clausesOf f k p 0))
 
   ends : stop ≡ clause + 6
   ends =
-      let x = whole-ends table target places kinds bytes bound place clause at f k p ks g h there stop refl in
-      let y = alone table (clause + 4) (clausesOf f k p) (the-clause table target places kinds bytes bound place clause at f k p ks g h .stands) sign in
+      let y = alone table (clause + 4) (clausesOf f k p 0) (the-clause table target places kinds bytes bound place clause at f k p ks g h .stands) sign in
       omega arith
 
   start : Going table bytes bound (clause + 4) stop at f k p ks g
@@ -62,7 +63,7 @@ module _ (table target places kinds bytes bound : List ℕ) (place clause at : �
   pub clause-inside : clause + 5 < 4096
   clause-inside =
       let x = the-clause table target places kinds bytes bound place clause at f k p ks g h .inside in
-      let y = alone table (clause + 4) (clausesOf f k p) (the-clause table target places kinds bytes bound place clause at f k p ks g h .stands) sign in
+      let y = alone table (clause + 4) (clausesOf f k p 0) (the-clause table target places kinds bytes bound place clause at f k p ks g h .stands) sign in
       omega arith
 
   module _ (m : ℕ) (is : m ≡ bodyByte table (clause + 5)) where

@@ -1,50 +1,57 @@
 -- The next code and the tree that it is compared with, by the form of the code.
-use Prim.Native.Nat.{ℕ, zero, suc, max, _+_, _-_, _/_, _%_, _≤_, _<_}
+use Prim.Native.Nat.{ℕ, zero, suc, max, _+_, _-_, _*_, _/_, _%_, _≤_, _<_}
 use mathlib.Core.Path.{_≡_, refl, ap, sym, _∙_}
 use mathlib.Core.Logic.{_⊎_, inl, inr}
-use mathlib.Core.Bool.{Bool, true}
-use mathlib.Core.List.{List, [], _∷_, _++_}
-use mathlib.Core.Option.{some}
+use mathlib.Core.Bool.{Bool, true, false, cond, _&&_}
+use mathlib.Core.List.{List, [], _∷_, _++_, append-assoc, map}
+use mathlib.Core.Option.{Option, none, some}
 use native.Mathlib.Omega.{arith}
-use lib.ListN.{length, getD, getElem?, drop}
+use lib.ListN.{length, getD, getElem?, drop, length-append}
+use Rattle.fields.specs.Fields.{twoBytes}
 use Rattle.fields.specs.Lists.{all}
 use Rattle.fields.proofs.Truth.{none-some, some-inj, and-both, both-and}
-use Rattle.language.specs.Language.{Language, argumentsOf, isIn}
+use Rattle.language.specs.Language.{Language, Range, rangeOf, argumentsOf, isIn}
 use Rattle.reader.specs.Code.{Code, node, token, argument, Codes, nil, cons, levels, levelsAll}
-use Rattle.reader.specs.Typing.{Typed, TypedAll, typed-node, typed-token, typed-argument, typed-nil, typed-cons}
+use Rattle.reader.specs.Typing.{Uses, kindBy, kindAt, Typed, TypedAll, typed-node, typed-token, typed-argument, typed-nil, typed-cons}
 use Rattle.reader.specs.Syntax.{write, writeAll, tree, code}
 use Rattle.reader.proofs.RoundTrip.{Apart}
+use Rattle.reader.proofs.Larger.{apart}
 use Rattle.translation.specs.Translation.{Translation}
-use Rattle.emitter.specs.Inner.Stands.{Stands}
-use Rattle.emitter.specs.Inner.Table.{bodyStart, bodyByte}
-use Rattle.emitter.proofs.Standing.{stands-head}
-use Rattle.index.specs.Inner.Lying.{Lies, LieAll}
-use Rattle.index.proofs.Lying.{first-byte, node-lies, head-lies, tail-lie}
+use Rattle.translation.specs.Running.{Replacing}
+use Rattle.tables.specs.Inner.Stands.{Stands}
+use Rattle.tables.specs.Inner.Table.{bodyStart, bodyByte}
+use Rattle.tables.proofs.Standing.{stands-head, stands-both}
+use Rattle.index.specs.Inner.Lying.{Index, Lies, LieAll}
+use Rattle.index.proofs.Lying.{node-byte, first-byte, node-lies, head-lies, tail-lie}
 use Rattle.sources.specs.Inner.Goals.{Goal}
 use Rattle.sources.specs.Inner.Matching.{followed, Solves, Alike}
 use Rattle.sources.proofs.Answers.{no-kind}
 use Rattle.sources.proofs.Matching.{typed-followed, write-followed, step-node, no-node, step-token, no-token}
 use Rattle.needs.specs.Inner.Clauses.{Pending}
 
+-- Arguments are used by number 0 only.
+abbrev pub Plain : Uses → Type 0
+Plain given = (i j k : ℕ) → kindAt given i j ≡ some k → j ≡ 0
+
 -- A production: its name in the code and in the tree, and what comes next where they are the same.
-pub record NodeHead (table bytes : List ℕ) (c stop to : ℕ) (f : Translation) (given : List ℕ) (cs us : Codes) (b : ℕ → Goal) : Type 0 where
+pub record NodeHead (table bytes : List ℕ) (c stop to : ℕ) (f : Translation) (given : Uses) (cs us : Codes) (b : ℕ → Goal) : Type 0 where
   pub sign : bodyByte table c ≡ 1
   pub room : c + 2 ≤ stop
   pub same : bodyByte table (c + 1) ≡ getD bytes to 0
       → (js : List ℕ) × (es vs : Codes) × Pending table bytes (c + 2) stop (to + 1) f given js es vs × Alike b cs us b es vs
-  pub other : (bodyByte table (c + 1) ≡ getD bytes to 0 → ⊥) → (s : Codes) → Solves b cs us s → ⊥
+  pub other : (bodyByte table (c + 1) ≡ getD bytes to 0 → ⊥) → (s : Replacing) → Solves b cs us s → ⊥
 
 -- A token.
-pub record TokenHead (table bytes : List ℕ) (c stop to : ℕ) (f : Translation) (given : List ℕ) (cs us : Codes) (b : ℕ → Goal) : Type 0 where
+pub record TokenHead (table bytes : List ℕ) (c stop to : ℕ) (f : Translation) (given : Uses) (cs us : Codes) (b : ℕ → Goal) : Type 0 where
   pub sign : bodyByte table c ≡ 2
   pub room : c + 3 ≤ stop
   pub same : bodyByte table (c + 1) ≡ getD bytes to 0 → bodyByte table (c + 2) ≡ getD bytes (to + 1) 0
       → (js : List ℕ) × (es vs : Codes) × Pending table bytes (c + 3) stop (to + 2) f given js es vs × Alike b cs us b es vs
-  pub high : (bodyByte table (c + 1) ≡ getD bytes to 0 → ⊥) → (s : Codes) → Solves b cs us s → ⊥
-  pub low : (bodyByte table (c + 2) ≡ getD bytes (to + 1) 0 → ⊥) → (s : Codes) → Solves b cs us s → ⊥
+  pub high : (bodyByte table (c + 1) ≡ getD bytes to 0 → ⊥) → (s : Replacing) → Solves b cs us s → ⊥
+  pub low : (bodyByte table (c + 2) ≡ getD bytes (to + 1) 0 → ⊥) → (s : Replacing) → Solves b cs us s → ⊥
 
 -- An argument, counted from 0, and the tree that lies where it comes.
-pub record ArgumentHead (table bytes : List ℕ) (c stop to : ℕ) (f : Translation) (given : List ℕ) (cs us : Codes) : Type 0 where
+pub record ArgumentHead (table bytes : List ℕ) (c stop to : ℕ) (f : Translation) (given : Uses) (cs us : Codes) : Type 0 where
   pub number : ℕ
   pub kind : ℕ
   pub subtree : Code
@@ -54,8 +61,8 @@ pub record ArgumentHead (table bytes : List ℕ) (c stop to : ℕ) (f : Translat
   pub sign : bodyByte table c ≡ 3
   pub room : c + 2 ≤ stop
   pub byte : bodyByte table (c + 1) ≡ suc number
-  pub given-at : getElem? given number ≡ some kind
-  pub cs-is : cs ≡ cons (argument (suc number)) codes
+  pub given-at : kindBy (getElem? given number) 0 ≡ some kind
+  pub cs-is : cs ≡ cons (argument (suc number) 0) codes
   pub us-is : us ≡ cons subtree trees
   pub lies : Lies (f .target) bytes to kind subtree
   pub next : Pending table bytes (c + 2) stop (to + length (write tree subtree)) f given kinds codes trees
@@ -124,7 +131,7 @@ module _ (l : Language) (b : List ℕ) (to k w : ℕ) (js : List ℕ) (us : Code
   token-row = tail-lie l b to k js (token w) us h
 
 -- The next code and tree are of one kind.
-module _ (table bytes : List ℕ) (c stop to : ℕ) (f : Translation) (separate : Apart (f .target)) (given : List ℕ) (k : ℕ) (js : List ℕ)
+module _ (table bytes : List ℕ) (c stop to : ℕ) (f : Translation) (separate : Apart (f .target)) (given : Uses) (k : ℕ) (js : List ℕ)
     (es vs : Codes) (b : ℕ → Goal) (codes : TypedAll (f .target) given es js) (inside : stop ≤ 4096) where
   module _ (p q : ℕ) (t r : Codes) (ks : List ℕ) (known : argumentsOf (f .target) k p ≡ some ks) (typed : TypedAll (f .target) given t ks)
       (stands : Stands table (bodyStart + c) (writeAll code (cons (node k p t) es))) (ends : stop ≡ c + length (writeAll code (cons (node k p t) es)))
@@ -197,8 +204,8 @@ module _ (table bytes : List ℕ) (c stop to : ℕ) (f : Translation) (separate 
           low = λ n s z. no-token b v es vs w (λ d. n (x .2 ∙ (ap (λ (y : ℕ). y % 256) d ∙ sym (t .1)))) s z;
         }
 
-  module _ (i : ℕ) (u : Code) (known : getElem? given i ≡ some k) (stands : Stands table (bodyStart + c) (writeAll code (cons (argument (suc i)) es)))
-      (ends : stop ≡ c + length (writeAll code (cons (argument (suc i)) es))) (trees : LieAll (f .target) bytes to (k ∷ js) (cons u vs)) where
+  module _ (i : ℕ) (u : Code) (known : kindBy (getElem? given i) 0 ≡ some k) (stands : Stands table (bodyStart + c) (writeAll code (cons (argument (suc i) 0) es)))
+      (ends : stop ≡ c + length (writeAll code (cons (argument (suc i) 0) es))) (trees : LieAll (f .target) bytes to (k ∷ js) (cons u vs)) where
     number-bytes : (bodyByte table c ≡ 3) × (bodyByte table (c + 1) ≡ suc i) × Stands table (bodyStart + (c + 2)) (writeAll code es)
     unfolding write
     number-bytes = two-stand table c 3 (suc i) (writeAll code es) stands
@@ -207,7 +214,7 @@ module _ (table bytes : List ℕ) (c stop to : ℕ) (f : Translation) (separate 
     unfolding write
     number-ends = let e = ends in omega arith
 
-    argument-head : ArgumentHead table bytes c stop to f given (cons (argument (suc i)) es) (cons u vs)
+    argument-head : ArgumentHead table bytes c stop to f given (cons (argument (suc i) 0) es) (cons u vs)
     argument-head = record {
       number = i;
       kind = k;
@@ -231,8 +238,8 @@ module _ (table bytes : List ℕ) (c stop to : ℕ) (f : Translation) (separate 
       };
     }
 
--- The three forms.
-module _ (table bytes : List ℕ) (c stop to : ℕ) (f : Translation) (separate : Apart (f .target)) (given : List ℕ) (b : ℕ → Goal) (inside : stop ≤ 4096) where
+-- The three forms: arguments are used by number 0.
+module _ (table bytes : List ℕ) (c stop to : ℕ) (f : Translation) (separate : Apart (f .target)) (given : Uses) (plain : Plain given) (b : ℕ → Goal) (inside : stop ≤ 4096) where
   abbrev Head : Codes → Codes → Type 0
   Head cs us =
       NodeHead table bytes c stop to f given cs us b
@@ -248,18 +255,19 @@ module _ (table bytes : List ℕ) (c stop to : ℕ) (f : Translation) (separate 
   head (typed-token {v = v} {k = k} e h) (typed-token {v = o} d g) js es vs w x y z =
       inr (inl (token-head table bytes c stop to f separate given k js es vs b w inside v o x y z))
   head (typed-argument {i = zero} e) g js es vs w x y z = none-some e
-  head {u = u} (typed-argument {i = suc i} {k = k} e) g js es vs w x y z =
+  head (typed-argument {i = suc i} {j = suc j} {k = k} e) g js es vs w x y z = let n = plain (suc i) (suc j) k e in absurd (omega arith)
+  head {u = u} (typed-argument {i = suc i} {j = zero} {k = k} e) g js es vs w x y z =
       inr (inr (argument-head table bytes c stop to f separate given k js es vs b w inside i u e x y z))
-  head (typed-node e h) (typed-argument {i = i} d) js es vs w x y z = no-kind i d
-  head (typed-token e h) (typed-argument {i = i} d) js es vs w x y z = no-kind i d
+  head (typed-node e h) (typed-argument {i = i} {j = j} d) js es vs w x y z = no-kind i j d
+  head (typed-token e h) (typed-argument {i = i} {j = j} d) js es vs w x y z = no-kind i j d
 
 -- What is pending has a next code, unless it has come to its end.
-pub heads : (table bytes : List ℕ) (c stop to : ℕ) (f : Translation) → Apart (f .target) → (given js : List ℕ) (cs us : Codes) (b : ℕ → Goal)
+pub heads : (table bytes : List ℕ) (c stop to : ℕ) (f : Translation) → Apart (f .target) → (given : Uses) → Plain given → (js : List ℕ) (cs us : Codes) (b : ℕ → Goal)
     → Pending table bytes c stop to f given js cs us → c < stop
     → NodeHead table bytes c stop to f given cs us b
     ⊎ (TokenHead table bytes c stop to f given cs us b ⊎ ArgumentHead table bytes c stop to f given cs us)
 unfolding write
-heads table bytes c stop to f separate given js cs us b h more = go (h .codes) (h .trees .typed) (h .stands) (h .ends) (h .trees)
+heads table bytes c stop to f separate given plain js cs us b h more = go (h .codes) (h .trees .typed) (h .stands) (h .ends) (h .trees)
   where
     go : {js : List ℕ} {cs us : Codes} → TypedAll (f .target) given cs js → TypedAll (f .target) [] us js → Stands table (bodyStart + c) (writeAll code cs)
         → stop ≡ c + length (writeAll code cs) → LieAll (f .target) bytes to js us
@@ -267,4 +275,4 @@ heads table bytes c stop to f separate given js cs us b h more = go (h .codes) (
         ⊎ (TokenHead table bytes c stop to f given cs us b ⊎ ArgumentHead table bytes c stop to f given cs us)
     go typed-nil typed-nil x y z = absurd (omega arith)
     go (typed-cons {a = a} {k = k} {t = es} {ks = ks} p ps) (typed-cons {a = u} {t = vs} q qs) x y z =
-        head table bytes c stop to f separate given b (h .inside) p q ks es vs ps x y z
+        head table bytes c stop to f separate given plain b (h .inside) p q ks es vs ps x y z

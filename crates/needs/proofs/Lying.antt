@@ -2,18 +2,21 @@
 use Prim.Native.Nat.{ℕ, zero, suc, _+_, _-_, _≤_, _<_}
 use mathlib.Core.Path.{_≡_, refl, ap, sym, _∙_}
 use mathlib.Core.List.{List, [], _∷_, _++_}
+use mathlib.Core.Option.{none, some}
 use native.Mathlib.Omega.{arith}
 use native.Mathlib.Decide.{ℕ-discrete}
 use lib.ListN.{length, getD, take, drop, take-append-drop}
 use lib.Seq.{getD-take, getD-drop}
 use Rattle.fields.proofs.Split.{front}
+use Rattle.fields.proofs.Truth.{none-some}
 use Rattle.language.specs.Language.{Language}
 use Rattle.reader.specs.Code.{Code, levels}
 use Rattle.reader.specs.Typing.{Typed, typed-node, typed-token, typed-argument}
-use Rattle.reader.specs.Syntax.{done, write, tree, read}
+use Rattle.reader.specs.Syntax.{Read, done, write, tree, read}
 use Rattle.reader.proofs.RoundTrip.{Apart, round, as-tree}
 use Rattle.index.specs.Inner.Lying.{Lies}
-use Rattle.index.proofs.Lying.{part-is}
+use Rattle.index.proofs.Lying.{past-inside, past-is, part-is}
+use Rattle.sources.proofs.Answers.{no-kind}
 
 done-both : {a b : Code} {r s : List ℕ} → done a r ≡ done b s → (a ≡ b) × (r ≡ s)
 done-both e = (cc, cc)
@@ -51,7 +54,7 @@ pub some-byte : {l : Language} {u : Code} {k : ℕ} → Typed l [] u k → 1 ≤
 unfolding write
 some-byte (typed-node e h) = omega arith
 some-byte (typed-token e h) = omega arith
-some-byte (typed-argument e) = omega arith
+some-byte (typed-argument {i = i} {j = j} e) = no-kind i j e
 
 -- same_part: the parts are equal as far as i.
 pub record SameTo (t : List ℕ) (a b i : ℕ) : Type 0 where

@@ -1,39 +1,42 @@
 -- The least levels: a law for each return and turn of the functions of `levels`.
-use Prim.Native.Nat.{ℕ, zero, suc, max, _+_, _-_, _/_, _%_, _≤_, _<_}
+use Prim.Native.Nat.{ℕ, zero, suc, max, _+_, _-_, _*_, _/_, _%_, _≤_, _<_}
 use mathlib.Core.Path.{_≡_, refl, ap, sym, subst, _∙_}
 use mathlib.Core.Logic.{_⊎_, inl, inr}
 use mathlib.Core.Bool.{Bool, true, false, cond}
-use mathlib.Core.List.{List, _∷_}
-use mathlib.Core.Option.{none, some}
+use mathlib.Core.List.{List, [], _∷_}
+use mathlib.Core.Option.{Option, none, some}
 use native.Mathlib.Omega.{arith}
 use native.Mathlib.Decide.{decLe}
+use lib.Dec.{leb}
 use lib.ListN.{length, getD, drop, drop-of-length-le, replicate, getD-replicate}
 use borrow.Author.Tests.{le-leb, lt-leb}
 use Rattle.fields.specs.Fields.{pairAt}
 use Rattle.fields.specs.Inner.Places.{fieldEnd}
 use Rattle.fields.proofs.Split.{front}
-use Rattle.language.specs.Language.{Language, rangeOf, argumentsOf, inRange, productionKey}
+use Rattle.fields.proofs.Truth.{none-some, some-inj}
+use Rattle.language.specs.Language.{Language, Range, rangeOf, argumentsOf, inRange, kindKey, productionKey}
 use Rattle.language.specs.Inner.Entries.{IsClass, classRange}
-use Rattle.reader.specs.Code.{node, token, Codes}
-use Rattle.reader.specs.Inner.Index.{rangeBefore, argumentsBefore}
-use Rattle.reader.specs.Syntax.{write}
+use Rattle.reader.specs.Code.{Code, node, token, Codes}
+use Rattle.reader.specs.Typing.{TypedAll}
+use Rattle.reader.specs.Inner.Index.{Indexed, rangeBefore, argumentsBefore}
+use Rattle.reader.specs.Syntax.{write, tree}
 use Rattle.reader.proofs.RoundTrip.{Apart}
 use Rattle.reader.proofs.Larger.{apart}
 use Rattle.translation.specs.Translation.{Translation, mapped}
-use Rattle.translation.specs.Running.{Clauses, clausesOf}
-use Rattle.emitter.specs.Inner.Table.{indexEntry, clauseEntry, sourceByte}
+use Rattle.translation.specs.Running.{Clauses, clausesOf, run}
+use Rattle.tables.specs.Inner.Table.{indexEntry, clauseEntry, sourceByte, Production}
+use Rattle.emitter.proofs.Ends.{kind-byte}
 use Rattle.index.specs.Inner.Lying.{Lies}
 use Rattle.index.proofs.Lying.{first-byte}
-use Rattle.sources.specs.Inner.Goals.{Goal, Fits}
+use Rattle.sources.specs.Inner.Goals.{Goal, Meets, Matches, Fits}
 use Rattle.sources.specs.Inner.Levels.{Needs, NeedsAll, NeedsNamed, recalled, noted}
 use Rattle.sources.proofs.Memory.{recall-needs}
-use Rattle.sources.proofs.Answers.{needs-nil, needs-cons, needs-node, needs-unknown, needs-unmatched, names-none, fits-more, needs-zero, needs-kind}
+use Rattle.sources.proofs.Answers.{needs-nil, needs-cons, needs-node, needs-unknown, needs-unmatched, names-none, fits-more, Named, needs-zero, needs-kind}
 use Rattle.sources.proofs.Tokens.{class-token, ValueFor, needs-token, needs-no-token}
-use Rattle.needs.specs.Inner.Setting.{Asked, Truthful, Unnamed, valueAt, Seeks, SeeksAll}
-use Rattle.needs.specs.Inner.Clauses.{MatchAsks, MatchGives}
+use Rattle.needs.specs.Inner.Setting.{Asked, Truthful, Setting, Unnamed, valueAt, Seeks, SeeksAll}
+use Rattle.needs.specs.Inner.Clauses.{Bound, MatchAsks, MatchGives}
 use Rattle.needs.specs.Inner.Memory.{byteFor, memoryWith, freeWith}
 use Rattle.needs.proofs.Truths.{byte-says, kept-true}
-use Rattle.needs.proofs.Turns.{kind-byte}
 
 -- The number in two bytes.
 pair-is : (b : List ℕ) (i v : ℕ) → getD b i 0 ≡ v / 256 → getD b (i + 1) 0 ≡ v % 256 → pairAt b i ≡ v
@@ -106,7 +109,7 @@ module _ (table source index target places kinds bytes memory free : List ℕ) (
       unfolding valueAt classRange
       low-is past = let e : class + 3 ≡ class - 1 + 4 = omega arith in rw (le-leb (length bytes) at past) (ap (pairAt source) e)
 
-      tree-value : (v : ℕ) → Lies (f .target) bytes at (mapped (f .body) k) (token v) → pairAt bytes at ≡ v
+      tree-value : (v : ℕ) → Lies (f .target) bytes at (mapped (f .body) k 0) (token v) → pairAt bytes at ≡ v
       unfolding write
       tree-value v t =
           let p = first-byte bytes at (v / 256) (v % 256 ∷ t .rest) (t .inside) (t .is) in
@@ -120,8 +123,8 @@ module _ (table source index target places kinds bytes memory free : List ℕ) (
       value-for none a = low-is a
       value-for (some u) a =
           let d = h .setting .tokens k (classRange source (class - 1)) the-range in
-          let z = class-token (f .target) clauses target-apart (mapped (f .body) k) (d .0) (d .1) (a .1 .typed) in
-          let t : Lies (f .target) bytes at (mapped (f .body) k) (token (z .0)) = rw (z .1) at (a .1) in
+          let z = class-token (f .target) clauses target-apart (mapped (f .body) k 0) (d .0) (d .1) (a .1 .typed) in
+          let t : Lies (f .target) bytes at (mapped (f .body) k 0) (token (z .0)) = rw (z .1) at (a .1) in
           rw (lt-leb (length bytes) at (a .0)) (z .1 ∙ ap token (sym (tree-value (z .0) t)))
 
       pub class-needs : (m : ℕ) {r : ℕ} → r ≡ cond (inRange (classRange source (class - 1)) (valueAt source class bytes at)) 0 (suc m) → Needs l clauses m k g r
@@ -278,11 +281,11 @@ module _ (table source index target places kinds bytes memory free bound : List 
     pub operand-seeks : (memory′ free′ : List ℕ) → Truthful f bytes memory′ free′ → {k : ℕ} → k ≡ sourceByte table (place + 4 + j)
         → Seeks table source index target places kinds bytes memory′ free′ k (getD bound j 0) f (b j)
     operand-seeks memory′ free′ t {k} e =
-        let z : k ≡ getD ks j 0 = e ∙ kind-byte table (place + 4) ks (h .production .kinds) j q in
+        let z : k ≡ getD ks j 0 = e ∙ kind-byte (h .production .kinds) j q in
         rw z (record { setting = h .setting; truthful = t; kind = h .production .kinds .below j q; asked = h .asked j q })
 
     pub operand-kind : {k : ℕ} → k ≡ sourceByte table (place + 4 + j) → k ≡ getD ks j 0
-    operand-kind e = e ∙ kind-byte table (place + 4) ks (h .production .kinds) j q
+    operand-kind e = e ∙ kind-byte (h .production .kinds) j q
 
 module _ (l : Language) (f : Clauses) (m : ℕ) (ks : List ℕ) (b : ℕ → Goal) where
   pub operands-start : (j : ℕ) → length ks ≤ j → NeedsAll l f m (drop j ks) (λ i. b (i + j)) 0

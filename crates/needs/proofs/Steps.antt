@@ -1,21 +1,24 @@
 -- The steps of the match: a law for each return of the functions of `clause`.
-use Prim.Native.Nat.{ℕ, _+_, _-_, _≤_, _<_}
+use Prim.Native.Nat.{ℕ, zero, suc, _+_, _-_, _≤_, _<_}
 use mathlib.Core.Path.{_≡_, refl, ap, sym, _∙_}
-use mathlib.Core.List.{List}
-use mathlib.Core.Option.{none, some}
+use mathlib.Core.Bool.{Bool, true, false, cond}
+use mathlib.Core.List.{List, [], _∷_, _++_}
+use mathlib.Core.Option.{Option, none, some}
 use native.Mathlib.Omega.{arith}
 use native.Mathlib.Decide.{ℕ-discrete}
+use lib.Dec.{eqb}
 use lib.ListN.{length, getD, set, take, drop, length-set}
 use lib.Seq.{getD-set-same, getD-set-other}
 use borrow.Author.Tests.{eq-eqb, ne-eqb}
-use Rattle.reader.specs.Code.{Code, nil}
+use Rattle.fields.proofs.Truth.{none-some, some-inj}
+use Rattle.reader.specs.Code.{Code, argument, Codes, nil, cons}
 use Rattle.reader.specs.Syntax.{write, tree}
 use Rattle.reader.proofs.Larger.{apart}
 use Rattle.translation.specs.Translation.{Translation, mapped}
-use Rattle.index.specs.Inner.Lying.{Lies, There}
+use Rattle.index.specs.Inner.Lying.{Index, Lies, There}
 use Rattle.index.proofs.Lying.{past-inside}
 use Rattle.sources.specs.Inner.Goals.{Goal}
-use Rattle.sources.specs.Inner.Matching.{bind}
+use Rattle.sources.specs.Inner.Matching.{bind, Solves, Alike}
 use Rattle.sources.proofs.Matching.{step-known, no-known, step-new, bind-here, bind-other}
 use Rattle.needs.specs.Inner.Setting.{Asked}
 use Rattle.needs.specs.Inner.Clauses.{Bound, ArgumentAsks, ArgumentGives, width}
@@ -44,11 +47,11 @@ module _ (target places bytes bound : List ℕ) (kind to i : ℕ) (f : Translati
   asked-free (some w) q z = absurd (omega (arith, q .0))
 
   asked-tree : (g : Goal) → Asked f bytes (getD bound i 0) (getD ks i 0) g → getD bound i 0 < length bytes
-      → (w : Code) × (g ≡ some w) × Lies (f .target) bytes (getD bound i 0) (mapped (f .body) (getD ks i 0)) w
+      → (w : Code) × (g ≡ some w) × Lies (f .target) bytes (getD bound i 0) (mapped (f .body) (getD ks i 0) 0) w
   asked-tree none q z = absurd (omega arith)
   asked-tree (some w) q z = (w, refl, q .1)
 
-  lies-kind : Lies (f .target) bytes to (mapped (f .body) (getD ks i 0)) u
+  lies-kind : Lies (f .target) bytes to (mapped (f .body) (getD ks i 0) 0) u
   lies-kind = rw (← (h .kind-is)) (h .lies)
 
   -- The argument comes first here.
@@ -89,7 +92,7 @@ module _ (target places bytes bound : List ℕ) (kind to i : ℕ) (f : Translati
 
   -- The argument has come before.
   module _ (there : getD bound i 0 < length bytes) where
-    abbrev earlier : (w : Code) × (b i ≡ some w) × Lies (f .target) bytes (getD bound i 0) (mapped (f .body) (getD ks i 0)) w
+    abbrev earlier : (w : Code) × (b i ≡ some w) × Lies (f .target) bytes (getD bound i 0) (mapped (f .body) (getD ks i 0) 0) w
     earlier = asked-tree (b i) (h .is .at i (h .number)) there
 
     pub argument-starts : getD bound i 0 ≤ to
@@ -105,7 +108,7 @@ module _ (target places bytes bound : List ℕ) (kind to i : ℕ) (f : Translati
         → ArgumentGives bytes bound to i e f ks b u
     argument-same e d q =
         let n : e - to ≡ length (write tree u) = omega arith in
-        let z : earlier .0 ≡ u = same-tree (f .target) target-apart bytes (mapped (f .body) (getD ks i 0)) (getD bound i 0) to (earlier .0) u (earlier .2) lies-kind (rw n at q) in
+        let z : earlier .0 ≡ u = same-tree (f .target) target-apart bytes (mapped (f .body) (getD ks i 0) 0) (getD bound i 0) to (earlier .0) u (earlier .2) lies-kind (rw n at q) in
         record {
           goes = λ x. (d, b, later e d, λ cs us. step-known b i u cs us (earlier .1 ∙ ap some z));
           stops = λ x. let v = some-byte (h .lies .typed) in absurd (omega arith);
@@ -119,5 +122,5 @@ module _ (target places bytes bound : List ℕ) (kind to i : ℕ) (f : Translati
           goes = λ x. absurd (x refl);
           stops = λ x cs us s y.
               no-known b i u cs us (earlier .0) (earlier .1)
-              (λ z. q (rw n (tree-same (f .target) target-apart bytes (mapped (f .body) (getD ks i 0)) (getD bound i 0) to (earlier .0) u (earlier .2) lies-kind z))) s y;
+              (λ z. q (rw n (tree-same (f .target) target-apart bytes (mapped (f .body) (getD ks i 0) 0) (getD bound i 0) to (earlier .0) u (earlier .2) lies-kind z))) s y;
         }

@@ -1,15 +1,15 @@
 -- What the memory says stays true.
-use Prim.Native.Nat.{ℕ, _+_, _-_, _*_, _/_, _≤_, _<_}
-use mathlib.Core.Path.{_≡_, refl, ap, _∙_}
+use Prim.Native.Nat.{ℕ, zero, suc, _+_, _-_, _*_, _/_, _≤_, _<_}
+use mathlib.Core.Path.{_≡_, refl, ap, sym, _∙_}
 use mathlib.Core.Bool.{Bool, true, false, cond}
-use mathlib.Core.List.{List}
-use mathlib.Core.Option.{none, some}
+use mathlib.Core.List.{List, []}
+use mathlib.Core.Option.{Option, none, some}
 use native.Mathlib.Omega.{arith}
 use native.Mathlib.Decide.{ℕ-discrete}
 use lib.Dec.{leb}
 use lib.ListN.{length, getD, set, length-set}
 use lib.Seq.{getD-set-same, getD-set-other}
-use borrow.Author.Tests.{leb-false, le-leb, lt-leb}
+use borrow.Author.Tests.{leb-true, leb-false, le-leb, lt-leb}
 use Rattle.reader.specs.Code.{Code}
 use Rattle.reader.proofs.RoundTrip.{Apart}
 use Rattle.translation.specs.Translation.{Translation, mapped}
@@ -55,7 +55,7 @@ module _ (f : Translation) (tree memory free : List ℕ) (k at : ℕ) (small : k
         same : (p j : ℕ) (w : Code) → p ≡ at → j ≡ k → Asked f tree p j (some w) → Says (f .source) (clausesOf f) j (some w) byte
         same p j w e d b =
             let c : Asked f tree at k (some w) = rw (e, d) at b in
-            let x : u ≡ w = lies-one (f .target) apart tree (mapped (f .body) k) at u w (a .1) (c .1) in
+            let x : u ≡ w = lies-one (f .target) apart tree (mapped (f .body) k 0) at u w (a .1) (c .1) in
             rw (d, ← x) (noted-says m r few h)
 
         go : (p j : ℕ) (w : Code) → j < 32 → Asked f tree p j (some w) → Dec (p * 32 + j ≡ at * 32 + k)

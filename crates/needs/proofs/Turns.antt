@@ -2,43 +2,50 @@
 use Prim.Native.Nat.{ℕ, zero, suc, _+_, _-_, _≤_, _<_}
 use mathlib.Core.Path.{_≡_, refl, ap, sym, _∙_}
 use mathlib.Core.Logic.{_⊎_, inl, inr}
+use mathlib.Core.Bool.{Bool, true, false}
 use mathlib.Core.List.{List, [], _∷_, map}
-use mathlib.Core.Option.{some}
+use mathlib.Core.Option.{Option, none, some, Option·getD}
 use native.Mathlib.Omega.{arith}
-use lib.ListN.{length, getD, getElem?}
-use Rattle.fields.proofs.Truth.{none-some, some-inj}
-use Rattle.reader.specs.Code.{Codes}
+use lib.ListN.{length, getD, getElem?, drop}
+use Rattle.fields.proofs.Truth.{none-some}
+use Rattle.reader.specs.Code.{Code, argument, Codes, nil, cons}
+use Rattle.reader.specs.Typing.{Uses, kindBy}
+use Rattle.reader.specs.Syntax.{write, tree}
+use Rattle.reader.proofs.RoundTrip.{Apart}
 use Rattle.reader.proofs.Larger.{apart}
-use Rattle.translation.specs.Translation.{Translation, mapped}
-use Rattle.emitter.proofs.Rows.{stands-nth}
-use Rattle.emitter.specs.Inner.Table.{sourceStart, sourceByte, bodyByte, KindsAt}
+use Rattle.translation.specs.Translation.{Translation, Body, mappingOf, mapped}
+use Rattle.translation.specs.Running.{Replacing}
+use Rattle.translation.proofs.Preserved.{use-kind}
+use Rattle.emitter.proofs.Ends.{kind-byte}
+use Rattle.tables.specs.Inner.Table.{sourceByte, bodyByte}
 use Rattle.sources.specs.Inner.Goals.{Goal}
 use Rattle.sources.specs.Inner.Matching.{Solves, Alike}
 use Rattle.needs.specs.Inner.Clauses.{Bound, Pending, ArgumentAsks, ArgumentGives, width, StepAsks, StepGives}
 use Rattle.needs.proofs.Steps.{width-token, width-other}
-use Rattle.needs.proofs.Heads.{NodeHead, TokenHead, ArgumentHead, heads}
+use Rattle.needs.proofs.Heads.{Plain, NodeHead, TokenHead, ArgumentHead, heads}
 
--- The kind of an argument of a production.
-pub kind-byte : (table : List ℕ) (q : ℕ) (ks : List ℕ) → KindsAt table q ks → (i : ℕ) → i < length ks → sourceByte table (q + i) ≡ getD ks i 0
-kind-byte table q ks h i l =
-    let e : sourceStart + (q + i) ≡ sourceStart + q + i = omega arith in
-    ap (λ (x : ℕ). getD table x 0) e ∙ stands-nth table (sourceStart + q) ks i (h .stands) l
+-- The kind that argument i, counted from 0, has by number 0.
+mapped-at : (b : Body) (ks : List ℕ) (i k : ℕ) → kindBy (getElem? (map (mappingOf b) ks) i) 0 ≡ some k → (i < length ks) × (k ≡ mapped b (getD ks i 0) 0)
+unfolding mapped
+mapped-at b [] i k e = none-some e
+mapped-at b (x ∷ ks) zero k e = (omega arith, sym (ap (λ (o : Option ℕ). Option·getD o 0) e))
+mapped-at b (x ∷ ks) (suc i) k e = let r = mapped-at b ks i k e in let z = r .0 in (omega arith, r .1)
 
-mapped-at : (to : ℕ → ℕ) (ks : List ℕ) (i k : ℕ) → getElem? (map to ks) i ≡ some k → (i < length ks) × (k ≡ to (getD ks i 0))
-mapped-at to [] i k e = none-some e
-mapped-at to (x ∷ ks) zero k e = let z : k ≡ to x = sym (some-inj e) in (omega arith, z)
-mapped-at to (x ∷ ks) (suc i) k e = let r = mapped-at to ks i k e in let z = r .0 in (omega arith, r .1)
+-- Where kinds have number 0 only, arguments are used by it only.
+plain-uses : (b : Body) (ks : List ℕ) → ((k j t : ℕ) → mappingOf b k j ≡ some t → j ≡ 0) → Plain (map (mappingOf b) ks)
+plain-uses b ks h zero j k e = none-some e
+plain-uses b ks h (suc i) j k e = let q = use-kind (mappingOf b) ks i j k e in h (q .0) j k (q .2)
 
 alike-of : {b d : ℕ → Goal} {cs us es vs xs ys : Codes} → cs ≡ es → us ≡ vs → Alike b es vs d xs ys → Alike b cs us d xs ys
 alike-of e q h = rw (e, q) h
 
-solves-of : {b : ℕ → Goal} {cs us es vs s : Codes} → cs ≡ es → us ≡ vs → Solves b cs us s → Solves b es vs s
+solves-of : {b : ℕ → Goal} {cs us es vs : Codes} {s : Replacing} → cs ≡ es → us ≡ vs → Solves b cs us s → Solves b es vs s
 solves-of e q h = rw (← e, ← q) h
 
 module _ (table target places kinds bytes bound : List ℕ) (place c stop to : ℕ) (f : Translation) (ks js : List ℕ) (cs us : Codes) (b : ℕ → Goal)
     (h : StepAsks table target places kinds bytes bound place c stop to f ks js cs us b) where
-  abbrev given : List ℕ
-  given = map (mapped (f .body)) ks
+  abbrev given : Uses
+  given = map (mappingOf (f .body)) ks
 
   abbrev View : Type 0
   View =
@@ -46,7 +53,7 @@ module _ (table target places kinds bytes bound : List ℕ) (place c stop to : �
       ⊎ (TokenHead table bytes c stop to f given cs us b ⊎ ArgumentHead table bytes c stop to f given cs us)
 
   view : View
-  view = heads table bytes c stop to f (apart (f .target) (h .targeted .target-index .apart)) given js cs us b (h .row) (h .more)
+  view = heads table bytes c stop to f (apart (f .target) (h .targeted .target-index .apart)) given (plain-uses (f .body) ks (h .targeted .plain)) js cs us b (h .row) (h .more)
 
   pub code-inside : c < 4096
   code-inside = let x = h .row .inside in let y = h .more in omega arith
@@ -72,8 +79,8 @@ module _ (table target places kinds bytes bound : List ℕ) (place c stop to : �
         go (inr (inl n)) = let y = n .sign in absurd (omega arith)
         go (inr (inr n)) = n
 
-    pub number-there : (argument-next .number < length ks) × (argument-next .kind ≡ mapped (f .body) (getD ks (argument-next .number) 0))
-    number-there = mapped-at (mapped (f .body)) ks (argument-next .number) (argument-next .kind) (argument-next .given-at)
+    pub number-there : (argument-next .number < length ks) × (argument-next .kind ≡ mapped (f .body) (getD ks (argument-next .number) 0) 0)
+    number-there = mapped-at (f .body) ks (argument-next .number) (argument-next .kind) (argument-next .given-at)
 
     pub number-is : {m : ℕ} → m ≡ bodyByte table (c + 1) → m - 1 ≡ argument-next .number
     number-is e = let y = argument-next .byte in omega arith
@@ -89,12 +96,12 @@ module _ (table target places kinds bytes bound : List ℕ) (place c stop to : �
         omega arith
 
     kind-there : {m x y : ℕ} → m ≡ bodyByte table (c + 1) → x ≡ sourceByte table (place + 4 + (m - 1)) → y ≡ getD kinds x 0
-        → y ≡ mapped (f .body) (getD ks (argument-next .number) 0)
+        → y ≡ mapped (f .body) (getD ks (argument-next .number) 0) 0
     kind-there {m} {x} {y} e d q =
         let n = number-is e in
         let i = number-there .0 in
         let k : x ≡ getD ks (argument-next .number) 0 =
-        d ∙ (ap (λ (j : ℕ). sourceByte table (place + 4 + j)) n ∙ kind-byte table (place + 4) ks (h .production .kinds) (argument-next .number) i) in
+        d ∙ (ap (λ (j : ℕ). sourceByte table (place + 4 + j)) n ∙ kind-byte (h .production .kinds) (argument-next .number) i) in
         let low : getD ks (argument-next .number) 0 < 32 = h .production .kinds .below (argument-next .number) i in
         q ∙ (ap (λ (j : ℕ). getD kinds j 0) k ∙ h .targeted .maps (getD ks (argument-next .number) 0) low)
 
@@ -139,7 +146,7 @@ module _ (table target places kinds bytes bound : List ℕ) (place c stop to : �
     pub first-differs : (bodyByte table (c + 1) ≡ getD bytes to 0 → ⊥) → StepGives table bytes bound c stop 0 f ks cs us b
     first-differs d = record { goes = λ n. absurd (n refl); stops = λ n s y. go s y view }
       where
-        go : (s : Codes) → Solves b cs us s → View → ⊥
+        go : (s : Replacing) → Solves b cs us s → View → ⊥
         go s y (inl n) = n .other d s y
         go s y (inr (inl n)) = n .high d s y
         go s y (inr (inr n)) = plain (n .sign)
@@ -172,7 +179,7 @@ module _ (table target places kinds bytes bound : List ℕ) (place c stop to : �
         pub second-differs : (bodyByte table (c + 2) ≡ getD bytes (to + 1) 0 → ⊥) → StepGives table bytes bound c stop 0 f ks cs us b
         second-differs d = record { goes = λ n. absurd (n refl); stops = λ n s y. go s y view }
           where
-            go : (s : Codes) → Solves b cs us s → View → ⊥
+            go : (s : Replacing) → Solves b cs us s → View → ⊥
             go s y (inl n) = let z = n .sign in omega arith
             go s y (inr (inl n)) = n .low d s y
             go s y (inr (inr n)) = plain (n .sign)

@@ -1,24 +1,26 @@
 -- The match of a whole clause: a law for each return and turn of `matches`.
-use Prim.Native.Nat.{ℕ, _+_, _-_, _≤_, _<_}
+use Prim.Native.Nat.{ℕ, zero, suc, _+_, _-_, _≤_, _<_}
 use mathlib.Core.Path.{_≡_, refl, ap, sym, _∙_}
-use mathlib.Core.Bool.{true, false}
+use mathlib.Core.Bool.{Bool, true, false}
 use mathlib.Core.List.{List, [], _∷_, _++_, map, append-nil}
-use mathlib.Core.Option.{none, some}
+use mathlib.Core.Option.{Option, none, some}
 use native.Mathlib.Omega.{arith}
-use lib.ListN.{length}
+use lib.ListN.{length, getD, drop}
 use Rattle.fields.specs.Lists.{all}
-use Rattle.fields.proofs.Truth.{none-some, false-true, both-and}
-use Rattle.language.specs.Language.{isIn}
+use Rattle.fields.proofs.Truth.{none-some, false-true, both-and, is-some}
+use Rattle.language.specs.Language.{productionKey, isIn}
+use Rattle.language.proofs.Lookup.{arguments-mem, result-in}
 use Rattle.reader.specs.Code.{Code, node, token, argument, Codes, nil, cons, levels}
 use Rattle.reader.specs.Typing.{Typed, TypedAll, typed-nil, typed-cons}
 use Rattle.reader.specs.Syntax.{write, writeAll, tree, code}
-use Rattle.translation.specs.Translation.{Translation, mapped}
+use Rattle.translation.specs.Translation.{Translation, mappingOf, mapped}
 use Rattle.translation.specs.Running.{clausesOf}
-use Rattle.translation.proofs.Fitting.{mapped-arguments}
-use Rattle.emitter.specs.Inner.Table.{bodyByte, clauseEnd, Production, Clause}
+use Rattle.translation.proofs.Fitting.{uses-are}
+use Rattle.tables.specs.Inner.Stands.{Stands}
+use Rattle.tables.specs.Inner.Table.{bodyStart, bodyByte, indexEntry, clauseEntry, Production, Clause}
 use Rattle.index.specs.Inner.Lying.{Lies, LieAll}
 use Rattle.sources.specs.Inner.Goals.{Goal, Meets, Matches}
-use Rattle.sources.specs.Inner.Matching.{nothing-bound, Alike}
+use Rattle.sources.specs.Inner.Matching.{nothing-bound, Solves, Alike}
 use Rattle.sources.proofs.Matching.{alike-same, alike-then, matched, unmatched, matches-none}
 use Rattle.needs.specs.Inner.Setting.{Asked}
 use Rattle.needs.specs.Inner.Clauses.{Bound, Pending, width, StepAsks, StepGives, MatchAsks, MatchGives}
@@ -45,20 +47,23 @@ pub record Going (table bytes bound : List ℕ) (c stop to : ℕ) (f : Translati
   pub codes : Codes
   pub trees : Codes
   pub so-far : ℕ → Goal
-  pub row : Pending table bytes c stop to f (map (mapped (f .body)) ks) kinds codes trees
+  pub row : Pending table bytes c stop to f (map (mappingOf (f .body)) ks) kinds codes trees
   pub is : Bound f bytes bound to ks so-far
-  pub alike : Alike nothing-bound (cons (clausesOf f k p) nil) (cons goal nil) so-far codes trees
+  pub alike : Alike nothing-bound (cons (clausesOf f k p 0) nil) (cons goal nil) so-far codes trees
 
 module _ (table target places kinds bytes bound : List ℕ) (place clause at : ℕ) (f : Translation) (k p : ℕ) (ks : List ℕ) (g : Goal)
     (h : MatchAsks table target places kinds bytes bound place clause at f k p ks g) where
   pub production : Production table place ks
   production = rw (h .place-is) (h .targeted .ready .production k p ks (h .kind) (h .name) (h .known))
 
-  pub the-clause : Clause table clause (clausesOf f k p)
+  pub the-clause : Clause table (clause + 4) (clausesOf f k p 0)
   the-clause = rw (h .clause-is) (h .targeted .ready .clause k p ks (h .kind) (h .name) (h .known))
 
-  typed-code : Typed (f .target) (map (mapped (f .body)) ks) (clausesOf f k p) (mapped (f .body) k)
-  typed-code = rw (← (mapped-arguments f k p ks (h .known))) (h .targeted .ready .typed k p ks (h .kind) (h .name) (h .known))
+  typed-code : Typed (f .target) (map (mappingOf (f .body)) ks) (clausesOf f k p 0) (mapped (f .body) k 0)
+  typed-code =
+      let known = result-in (f .source) k p ks (arguments-mem (f .source) k p ks (h .known)) in
+      rw (uses-are f k p ks (h .known)) at
+      (h .targeted .ready .typed k p 0 ks (h .kind) (h .name) (h .known) (is-some (mappingOf (f .body) k 0) (h .targeted .has-zero k known)))
 
   nothing-yet : (to : ℕ) → Bound f bytes bound to ks nothing-bound
   nothing-yet to = record {
@@ -80,19 +85,16 @@ module _ (table target places kinds bytes bound : List ℕ) (place clause at : �
       go (some u) a = absurd (omega (arith, a .0))
 
   -- The whole code and the whole tree.
-  module _ (there : at < length bytes) (stop : ℕ) (ends : stop ≡ clauseEnd table clause) where
-    pub whole-ends : stop ≡ clause + 4 + length (write code (clausesOf f k p))
-    whole-ends = let x = the-clause .size in omega arith
-
-    whole-row : (u : Code) → Lies (f .target) bytes at (mapped (f .body) k) u
-        → Pending table bytes (clause + 4) stop at f (map (mapped (f .body)) ks) (mapped (f .body) k ∷ []) (cons (clausesOf f k p) nil) (cons u nil)
+  module _ (there : at < length bytes) (stop : ℕ) (ends : stop ≡ clause + 4 + length (write code (clausesOf f k p 0))) where
+    whole-row : (u : Code) → Lies (f .target) bytes at (mapped (f .body) k 0) u
+        → Pending table bytes (clause + 4) stop at f (map (mappingOf (f .body)) ks) (mapped (f .body) k 0 ∷ []) (cons (clausesOf f k p 0) nil) (cons u nil)
     unfolding write
     whole-row u l = record {
       codes = typed-cons typed-code typed-nil;
-      stands = rw (append-nil (write code (clausesOf f k p))) (the-clause .stands);
-      ends = whole-ends ∙ ap (λ (v : List ℕ). clause + 4 + length v) (sym (append-nil (write code (clausesOf f k p))));
-      inside = let x = the-clause .inside in let y = whole-ends in omega arith;
-      trees = row-one f bytes at (mapped (f .body) k) u l;
+      stands = rw (append-nil (write code (clausesOf f k p 0))) (the-clause .stands);
+      ends = ends ∙ ap (λ (v : List ℕ). clause + 4 + length v) (sym (append-nil (write code (clausesOf f k p 0))));
+      inside = let x = the-clause .inside in let y = ends in omega arith;
+      trees = row-one f bytes at (mapped (f .body) k 0) u l;
     }
 
     pub match-start : Going table bytes bound (clause + 4) stop at f k p ks g
@@ -103,13 +105,13 @@ module _ (table target places kinds bytes bound : List ℕ) (place clause at : �
         go (some u) a = record {
           goal = u;
           goal-is = refl;
-          kinds = mapped (f .body) k ∷ [];
-          codes = cons (clausesOf f k p) nil;
+          kinds = mapped (f .body) k 0 ∷ [];
+          codes = cons (clausesOf f k p 0) nil;
           trees = cons u nil;
           so-far = nothing-bound;
           row = whole-row u (a .1);
           is = nothing-yet at;
-          alike = alike-same nothing-bound (cons (clausesOf f k p) nil) (cons u nil);
+          alike = alike-same nothing-bound (cons (clausesOf f k p 0) nil) (cons u nil);
         }
 
   -- A turn.
@@ -148,7 +150,7 @@ module _ (table target places kinds bytes bound : List ℕ) (place clause at : �
           }
 
     -- Nothing is left.
-    row-over : {js : List ℕ} {cs us : Codes} → TypedAll (f .target) (map (mapped (f .body)) ks) cs js → TypedAll (f .target) [] us js
+    row-over : {js : List ℕ} {cs us : Codes} → TypedAll (f .target) (map (mappingOf (f .body)) ks) cs js → TypedAll (f .target) [] us js
         → length (writeAll code cs) ≡ 0 → (cs ≡ nil) × (us ≡ nil)
     unfolding write
     row-over typed-nil typed-nil e = (refl, refl)
@@ -157,18 +159,19 @@ module _ (table target places kinds bytes bound : List ℕ) (place clause at : �
         some-code : (a : Code) (v : List ℕ) → length (write code a ++ v) ≡ 0 → ⊥
         some-code (node j q t) v e = omega arith
         some-code (token x) v e = omega arith
-        some-code (argument i) v e = omega arith
+        some-code (argument i zero) v e = omega arith
+        some-code (argument i (suc j)) v e = omega arith
 
     pub match-done : stop ≤ c → MatchGives bytes now true f k p ks g
     match-done e =
         let z = row-over (w .row .codes) (w .row .trees .typed) (let x = w .row .ends in omega arith) in
         record { holds = λ y. (w .so-far, whole (w .is), goal-of (w .goal-is) (all-of (z .0) (z .1) (w .alike))); fails = λ y. false-true (sym y) }
       where
-        all-of : {d : ℕ → Goal} {cs us : Codes} → cs ≡ nil → us ≡ nil → Alike nothing-bound (cons (clausesOf f k p) nil) (cons (w .goal) nil) d cs us
-            → Alike nothing-bound (cons (clausesOf f k p) nil) (cons (w .goal) nil) d nil nil
+        all-of : {d : ℕ → Goal} {cs us : Codes} → cs ≡ nil → us ≡ nil → Alike nothing-bound (cons (clausesOf f k p 0) nil) (cons (w .goal) nil) d cs us
+            → Alike nothing-bound (cons (clausesOf f k p 0) nil) (cons (w .goal) nil) d nil nil
         all-of x y q = rw (x, y) at q
 
-        goal-of : {y : Goal} → y ≡ some (w .goal) → Alike nothing-bound (cons (clausesOf f k p) nil) (cons (w .goal) nil) (w .so-far) nil nil
+        goal-of : {y : Goal} → y ≡ some (w .goal) → Alike nothing-bound (cons (clausesOf f k p 0) nil) (cons (w .goal) nil) (w .so-far) nil nil
             → Matches (f .source) (clausesOf f) k p ks y (w .so-far)
         goal-of e q = rw e (matched (f .source) (clausesOf f) k p ks (w .goal) (w .so-far) (w .is .inside) q)
 

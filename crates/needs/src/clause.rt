@@ -1,12 +1,12 @@
 // A clause's code matched with the target tree: names and tokens are compared byte by byte, and where an argument comes
 // again its tree must be the one that it was bound to.
 use crate::ends::end_of;
-use emitter::table::body_at;
-use emitter::table::clause_end;
-use emitter::table::source_at;
 use fields::bytes::byte_at;
 use fields::bytes::to_usize;
 use reader::index::TABLE;
+use tables::table::body_at;
+use tables::table::clause_end;
+use tables::table::source_at;
 ghost use mathlib.Core.Path.{_≡_};
 ghost use mathlib.Core.Bool.{true, false};
 ghost use mathlib.Core.List.{List};
@@ -15,6 +15,7 @@ ghost use lib.ListN.{length, take, drop};
 ghost use Rattle.reader.specs.Code.{Code, Codes};
 ghost use Rattle.translation.specs.Translation.{Translation};
 ghost use Rattle.sources.specs.Inner.Goals.{Goal};
+ghost use Rattle.tables.specs.Inner.Table.{bodyByte};
 ghost use Rattle.needs.specs.Inner.Clauses.{ArgumentAsks, ArgumentGives, width, StepAsks, StepGives, MatchAsks, MatchGives};
 
 // Whether the n bytes from a on are those from b on.
@@ -127,7 +128,7 @@ pub fn matches(
         bound[body_at(table, clause + 5) - 1] = at;
         return true;
     }
-    let stop = clause_end(table, clause);
+    let stop = clause_end(table, clause + 4);
     let mut c = clause + 4;
     let mut to = at;
     while c < stop {

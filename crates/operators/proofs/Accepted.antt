@@ -123,8 +123,8 @@ language-given l v o o′ r e g = rw e at g
 -- No code of a sound translation goes too deep.
 pub code-shallow : (f : Translation) → Sound f → (a : Item) → Mem a (f .body) → codeIsDeep f a ≡ false
 unfolding codeIsDeep
-code-shallow f s (mapping k t) m = refl
-code-shallow f s (clause r p c) m = ap isDeep (s .fits .codes r p c m .1)
+code-shallow f s (mapping k j t) m = refl
+code-shallow f s (clause r p j c) m = ap isDeep (s .fits .codes r p j c m .1)
 
 or-none : (a b c : Bool) → (a || (b || (c || false))) ≡ (a || (b || c))
 or-none true b c = refl

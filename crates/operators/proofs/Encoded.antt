@@ -1,5 +1,5 @@
 -- What the operators on bytes come to for languages and for bodies that are written in bytes.
-use Prim.Native.Nat.{ℕ, _+_, _*_, _-_, _/_, _%_, _<_, _≤_}
+use Prim.Native.Nat.{ℕ, zero, suc, _+_, _*_, _-_, _/_, _%_, _<_, _≤_}
 use mathlib.Core.Path.{_≡_, refl, sym, ap, _∙_}
 use mathlib.Core.Bool.{Bool, true, cond}
 use mathlib.Core.List.{List, [], _∷_, _++_, map, append-assoc, append-nil}
@@ -9,11 +9,11 @@ use native.Mathlib.Omega.{arith}
 use lib.ListN.{length, take, drop, length-append, length-take, length-drop, List·getD-append}
 use lib.Seq.{slice, take-append-seam, drop-append-seam, getD-append-add}
 use lib.Dec.{ltb, leb, eqb}
-use borrow.Author.Tests.{lt-ltb, le-ltb, ltb-true, le-leb, eq-eqb, ne-eqb, leb-true, eqb-true}
+use borrow.Author.Tests.{lt-ltb, le-ltb, ltb-true, ltb-false, le-leb, eq-eqb, ne-eqb, leb-true, eqb-true}
 use Rattle.fields.specs.Lists.{all, concatMap, sameNumbers}
 use Rattle.fields.specs.Fields.{Field, field, byteAt, pairAt, twoBytes, encodeField, encodeFields, fieldsOf}
 use Rattle.fields.specs.Keyed.{union, within, without, agree, rising}
-use Rattle.fields.specs.Inner.Places.{fieldEnd, isWhole, longAt, fieldAt, keyAt, placesFrom, places}
+use Rattle.fields.specs.Inner.Places.{fieldEnd, isWhole, longAt, fieldAt, keyAt, itemOrder, orderAt, placesFrom, places}
 use Rattle.fields.proofs.Truth.{Mem, by-test, and-both, both-and, or-left, or-right, same-truth, numbers-equal, equal-numbers}
 use Rattle.fields.proofs.Codec.{Each, contentsOf, cond-some, fields-encode, field-length}
 use Rattle.fields.proofs.Lists.{all-true, rising-map, part-past}
@@ -29,7 +29,7 @@ use Rattle.language.proofs.Holds.{holds-entries}
 use Rattle.language.proofs.Chain.{rising-is}
 use Rattle.language.proofs.Clashes.{meet-is}
 use Rattle.language.proofs.Lookup as Entries
-use Rattle.translation.specs.Translation.{Item, mapping, clause, Body, itemKey, sameItem}
+use Rattle.translation.specs.Translation.{Item, mapping, clause, Body, plainKey, numberOf, itemKey, sameItem}
 use Rattle.translation.specs.TranslationFile.{itemField}
 use Rattle.translation.proofs.Lookup as Items
 use Rattle.translation.specs.Inner.Parts.{sourceIn, targetIn, bodyIn}
@@ -40,9 +40,18 @@ use Rattle.fields.proofs.Splices.{slice-is}
 use Rattle.merging.proofs.Walks.{parts-done, parts-next}
 use Rattle.operators.proofs.Mapped.{union-mapped, within-mapped, without-mapped, agree-mapped}
 
--- The key of a field, and the field by key and bytes.
+-- The key of a field without a number; with it, in a body; and the field by key and bytes.
+abbrev plainFieldKey : ℕ → ℕ → List ℕ → ℕ
+plainFieldKey first tag c = cond (eqb tag first) (byteAt c 0) (32 + pairAt c 0)
+
+abbrev itemFieldKey : ℕ → List ℕ → ℕ
+itemFieldKey tag c =
+    cond (ltb tag 0x28) (plainFieldKey 0x22 tag c * 256)
+    (cond (eqb tag 0x28) (pairAt c 0)
+    (cond (ltb (length c) 3) ((32 + pairAt c 0) * 256) ((32 + pairAt c 0) * 256 + byteAt c 2)))
+
 abbrev fieldKey : ℕ → Field → ℕ
-fieldKey first (field tag c) = cond (eqb tag first) (byteAt c 0) (32 + pairAt c 0)
+fieldKey first (field tag c) = cond (eqb first 0x22) (itemFieldKey tag c) (plainFieldKey first tag c)
 
 abbrev fieldPart : ℕ → Field → Part
 fieldPart first f = record { key = fieldKey first f; bytes = encodeField f }
@@ -86,17 +95,41 @@ module _ (front : List ℕ) (tag : ℕ) (c rest : List ℕ) where
       ∙ (ap (λ (r : List ℕ). take (e - length front) r) (drop-append-seam front (x ++ rest))
       ∙ (ap (λ (j : ℕ). take j (x ++ rest)) n ∙ take-append-seam x rest))
 
-  at-key : (first : ℕ) → Long (field tag c) → keyAt first file (length front) ≡ fieldKey first (field tag c)
-  unfolding keyAt pairAt encodeField
-  at-key first h =
-      let z : length front + 0 ≡ length front = omega arith in
+  at-tag : byteAt file (length front) ≡ tag
+  unfolding encodeField
+  at-tag = let z : length front + 0 ≡ length front = omega arith in ap (byteAt file) (sym z) ∙ at-byte 0
+
+  at-pair : Long (field tag c) → pairAt file (length front + 3) ≡ pairAt c 0
+  unfolding pairAt encodeField
+  at-pair h =
       let d : length front + 3 + 1 ≡ length front + 4 = omega arith in
       let i : 0 < length c = omega arith in
       let j : 1 < length c = omega arith in
-      let t : byteAt file (length front) ≡ tag = ap (byteAt file) (sym z) ∙ at-byte 0 in
       let a : byteAt file (length front + 3) ≡ byteAt c 0 = at-byte 3 ∙ List·getD-append c rest 0 0 i in
       let b : byteAt file (length front + 3 + 1) ≡ byteAt c 1 = ap (byteAt file) d ∙ (at-byte 4 ∙ List·getD-append c rest 0 1 j) in
       cc
+
+  at-plain : (first : ℕ) → Long (field tag c) → keyAt first file (length front) ≡ plainFieldKey first tag c
+  unfolding keyAt encodeField
+  at-plain first h =
+      let i : 0 < length c = omega arith in
+      let a : byteAt file (length front + 3) ≡ byteAt c 0 = at-byte 3 ∙ List·getD-append c rest 0 0 i in
+      cc (at-tag, at-pair h)
+
+  at-third : 3 ≤ length c → byteAt file (length front + 5) ≡ byteAt c 2
+  unfolding encodeField
+  at-third h = at-byte 5 ∙ List·getD-append c rest 0 2 (omega arith)
+
+  at-item : Long (field tag c) → itemOrder file (length front) ≡ itemFieldKey tag c
+  unfolding itemOrder
+  at-item h =
+      by-test (ltb (length c) 3)
+      (λ e. rw (at-tag, at-plain 0x22 h, at-pair h, at-size, e))
+      (λ e. rw (at-tag, at-plain 0x22 h, at-pair h, at-size, e, at-third (ltb-false _ _ e)))
+
+  at-key : (first : ℕ) → Long (field tag c) → orderAt first file (length front) ≡ fieldKey first (field tag c)
+  unfolding orderAt
+  at-key first h = rw (at-item h, at-plain first h)
 
   at-part : (first : ℕ) → Long (field tag c) → partAt first file (length front) ≡ fieldPart first (field tag c)
   unfolding partAt
@@ -417,19 +450,43 @@ rising-language l h r =
     record { whole = w .whole; rises = rising-is (encodeLanguage l) l w ∙ r }
 
 -- Bodies.
-item-equal : (a b : Item) → itemField a ≡ itemField b → a ≡ b
+-- The item that a field was written for.
+abbrev itemBack : Field → Item
+itemBack (field tag c) =
+    cond (eqb tag 0x22) (mapping (byteAt c 0) 0 (byteAt c 1))
+    (cond (eqb tag 0x23) (clause (byteAt c 0) (byteAt c 1) 0 (drop 2 c))
+    (cond (eqb tag 0x28) (mapping (byteAt c 0) (byteAt c 1) (byteAt c 2))
+    (clause (byteAt c 0) (byteAt c 1) (byteAt c 2) (drop 3 c))))
+
+item-back : (a : Item) → itemBack (itemField a) ≡ a
 unfolding itemField
-item-equal (mapping s t) (mapping u v) e = cc
-item-equal (mapping s t) (clause q m d) e = let z : _≡_ {A = ℕ} 0x22 0x23 = cc in absurd (omega arith)
-item-equal (clause r p c) (mapping u v) e = let z : _≡_ {A = ℕ} 0x23 0x22 = cc in absurd (omega arith)
-item-equal (clause r p c) (clause q m d) e = cc
+item-back (mapping s zero t) = refl
+item-back (mapping s (suc j) t) = refl
+item-back (clause r p zero c) = refl
+item-back (clause r p (suc j) c) = refl
+
+-- The field of an item holds its key.
+pub item-long : (a : Item) → 2 ≤ length (contentsOf (itemField a))
+unfolding itemField
+item-long (mapping s zero t) = omega arith
+item-long (mapping s (suc j) t) = omega arith
+item-long (clause r p zero c) = omega arith
+item-long (clause r p (suc j) c) = omega arith
+
+item-key : (a : Item) → fieldKey 0x22 (itemField a) ≡ itemKey a
+unfolding itemField itemKey plainKey numberOf pairAt
+item-key (mapping s zero t) = omega arith
+item-key (mapping s (suc j) t) = refl
+item-key (clause r p zero c) = omega arith
+item-key (clause r p (suc j) c) =
+    let h : 3 ≤ length (r ∷ p ∷ suc j ∷ c) = omega arith in
+    rw (le-ltb (length (r ∷ p ∷ suc j ∷ c)) 3 h) refl
 
 items : Kept 0x22 itemField itemKey sameItem
-unfolding itemField itemKey pairAt
 items = record {
-  long = λ a. elim a [ mapping s t ↦ omega arith | clause r p c ↦ omega arith ];
-  keys = λ a. elim a [ mapping s t ↦ refl | clause r p c ↦ refl ];
-  tells = item-equal;
+  long = item-long;
+  keys = item-key;
+  tells = λ a b e. sym (item-back a) ∙ (ap itemBack e ∙ item-back b);
   alike-equal = Items.same-equal;
   equal-alike = Items.equal-same;
 }

@@ -1,5 +1,5 @@
 -- The identity of a proper language is sound (document 000: C.18).
-use Prim.Native.Nat.{ℕ, zero, suc, _+_, _≤_, _<_}
+use Prim.Native.Nat.{ℕ, zero, suc, _+_, _*_, _≤_, _<_}
 use mathlib.Core.Path.{_≡_, refl, ap, sym, _∙_}
 use mathlib.Core.Logic.{_⊎_, inl, inr, ⊎-elim}
 use mathlib.Core.Bool.{true}
@@ -13,21 +13,22 @@ use Rattle.fields.proofs.Truth.{Mem, both-and, keep-cases, mem-keep, mem-map, m
 use Rattle.fields.proofs.Keyed.{Rising, From, from-weaken, keep-from}
 use Rattle.language.specs.Language.{Entry, class, production, Language, entryKey, isIn}
 use Rattle.language.specs.LanguageFile.{isKind}
-use Rattle.language.proofs.Lookup.{mem-arguments, mem-range, class-in, result-in, argument-in}
+use Rattle.language.proofs.Lookup.{mem-arguments, result-in, argument-in}
 use Rattle.language.proofs.Ranges.{within-itself}
 use Rattle.reader.specs.Code.{node, levels, levelsAll}
 use Rattle.reader.specs.Typing.{TypedAll, typed-node, typed-argument, typed-nil, typed-cons}
 use Rattle.reader.specs.Syntax.{done, write, code}
 use Rattle.reader.proofs.RoundTrip.{round, as-code}
-use Rattle.translation.specs.Translation.{Item, mapping, clause, Body, itemKey, mapped}
-use Rattle.translation.specs.Running.{mappedArguments, readClause, codeLevels}
+use Rattle.translation.specs.Translation.{Item, mapping, clause, Body, plainKey, numberOf, itemKey, mappingOf, mapped}
+use Rattle.translation.specs.Running.{usesOf, readClause, codeLevels}
 use Rattle.translation.specs.WellFormed.{kinds}
 use Rattle.translation.proofs.Codec.{itemWhole}
-use Rattle.translation.proofs.Lookup.{mem-mapped}
-use Rattle.translation.proofs.Fitting.{Fitting, mapped-arguments}
+use Rattle.translation.proofs.Lookup.{mem-mapping}
+use Rattle.translation.proofs.Preserved.{Mappings, kind-use}
+use Rattle.translation.proofs.Fitting.{Fitting, uses-are}
 use Rattle.operators.specs.Operators.{argumentsFrom, identityClause, identityOf}
 use Rattle.operators.proofs.Proper.{Proper, proper-apart, proper-below, Sound}
-use Rattle.operators.proofs.JoinSound.{mapping-clause}
+use Rattle.operators.proofs.ItemParts.{mapping-parts, clause-parts, mapping-clause}
 
 -- The arguments in order are of the kinds in order.
 get-append : (r : List ℕ) (k : ℕ) (ks : List ℕ) → getElem? (r ++ k ∷ ks) (length r) ≡ some k
@@ -41,13 +42,17 @@ length-snoc : (r : List ℕ) (k : ℕ) → length (r ++ k ∷ []) ≡ suc (lengt
 length-snoc [] k = refl
 length-snoc (x ∷ r) k = ap suc (length-snoc r k)
 
-arguments-typed : (l : Language) (r ks : List ℕ) → TypedAll l (r ++ ks) (argumentsFrom (suc (length r)) ks) ks
+-- Kinds that map to themselves by number 0.
+abbrev Same : Mappings → List ℕ → Type 0
+Same to ks = (k : ℕ) → Mem k ks → to k 0 ≡ some k
+
+arguments-typed : (l : Language) (to : Mappings) (r ks : List ℕ) → Same to ks → TypedAll l (map to (r ++ ks)) (argumentsFrom (suc (length r)) ks) ks
 unfolding argumentsFrom
-arguments-typed l r [] = typed-nil
-arguments-typed l r (k ∷ ks) =
-    let rest : TypedAll l (r ++ k ∷ ks) (argumentsFrom (suc (suc (length r))) ks) ks
-    = rw (← snoc r k ks, ← length-snoc r k) (arguments-typed l (r ++ k ∷ []) ks) in
-    typed-cons (typed-argument (get-append r k ks)) rest
+arguments-typed l to r [] h = typed-nil
+arguments-typed l to r (k ∷ ks) h =
+    let rest : TypedAll l (map to (r ++ k ∷ ks)) (argumentsFrom (suc (suc (length r))) ks) ks
+    = rw (← snoc r k ks, ← length-snoc r k) (arguments-typed l to (r ++ k ∷ []) ks (λ j m. h j (inr m))) in
+    typed-cons (typed-argument (kind-use to (r ++ k ∷ ks) (length r) 0 k (get-append r k ks) ∙ h k (inl refl))) rest
 
 arguments-levels : (i : ℕ) (ks : List ℕ) → levelsAll (argumentsFrom i ks) ≤ 1
 unfolding argumentsFrom levels
@@ -55,34 +60,36 @@ arguments-levels i [] = omega arith
 arguments-levels i (k ∷ ks) = omega (arith, arguments-levels (suc i) ks)
 
 -- A list below n, then one from n on.
-from-append : {A : Type 0} (key : A → ℕ) (n m : ℕ) (l r : List A) → From key n l → n ≤ m → ((a : A) → Mem a l → key a < m) → From key m r → From key n (l ++ r)
+pub from-append : {A : Type 0} (key : A → ℕ) (n m : ℕ) (l r : List A) → From key n l → n ≤ m → ((a : A) → Mem a l → key a < m) → From key m r → From key n (l ++ r)
 from-append key n m [] r f h below g = from-weaken key r h g
 from-append key n m (x ∷ l) r f h below g = (f .0, from-append key (suc (key x)) m l r (f .1) (below x (inl refl)) (λ a q. below a (inr q)) g)
 
-count-from : (m n : ℕ) → From (λ k. k) n (countUp m n)
+pub count-from : (m n : ℕ) → From (λ k. k) n (countUp m n)
 unfolding countUp
 count-from zero n = tt
 count-from (suc m) n = (omega arith, count-from m (suc n))
 
-mappings-from : (n : ℕ) (l : List ℕ) → From (λ k. k) n l → From itemKey n (map (λ k. mapping k k) l)
-unfolding itemKey
+mappings-from : (n : ℕ) (l : List ℕ) → From (λ k. k) n l → From itemKey (n * 256) (map (λ k. mapping k 0 k) l)
+unfolding itemKey plainKey numberOf
 mappings-from n [] f = tt
-mappings-from n (k ∷ l) f = (f .0, mappings-from (suc k) l (f .1))
+mappings-from n (k ∷ l) f =
+    let w : suc (k * 256 + 0) ≤ suc k * 256 = omega arith in
+    (omega (arith, f .0), from-weaken itemKey (map (λ k. mapping k 0 k) l) w (mappings-from (suc k) l (f .1)))
 
-clauses-from : (n m : ℕ) (l : Language) → From entryKey n l → m ≤ n → From itemKey m (concatMap identityClause l)
-unfolding concatMap identityClause entryKey itemKey
+clauses-from : (n m : ℕ) (l : Language) → From entryKey n l → m ≤ n * 256 → From itemKey m (concatMap identityClause l)
+unfolding concatMap identityClause entryKey itemKey plainKey numberOf
 clauses-from n m [] f h = tt
 clauses-from n m (class k c ∷ l) f h = clauses-from (suc k) m l (f .1) (omega (arith, f .0))
 clauses-from n m (production r p ks ∷ l) f h = (omega (arith, f .0), clauses-from _ _ l (f .1) (omega arith))
 
 -- Clauses come only from productions.
 clause-from : (a : Item) (e : Entry) → Mem a (identityClause e)
-    → (r : ℕ) × (p : ℕ) × (ks : List ℕ) × (e ≡ production r p ks) × (a ≡ clause r p (write code (node r p (argumentsFrom 1 ks))))
+    → (r : ℕ) × (p : ℕ) × (ks : List ℕ) × (e ≡ production r p ks) × (a ≡ clause r p 0 (write code (node r p (argumentsFrom 1 ks))))
 unfolding identityClause
 clause-from a (production r p ks) (inl e) = (r, p, ks, refl, e)
 
 -- Their keys are past the kinds.
-clauses-past : (n : ℕ) (b : Body) → From itemKey n b → ((a : Item) → Mem a b → 32 ≤ itemKey a) → From itemKey 32 b
+clauses-past : (n : ℕ) (b : Body) → From itemKey n b → ((a : Item) → Mem a b → 8192 ≤ itemKey a) → From itemKey 8192 b
 clauses-past n [] f h = tt
 clauses-past n (a ∷ b) f h = (h a (inl refl), f .1)
 
@@ -92,31 +99,31 @@ module _ (l : Language) (s : Proper l) where
   kept = keep (isIn l) kinds
 
   abbrev mappings : Body
-  mappings = map (λ k. mapping k k) kept
+  mappings = map (λ k. mapping k 0 k) kept
 
   abbrev clauses : Body
   clauses = concatMap identityClause l
 
-  mem-mappings : (k : ℕ) → isIn l k ≡ true → Mem (mapping k k) (identityOf l .body)
+  mem-mappings : (k : ℕ) → isIn l k ≡ true → Mem (mapping k 0 k) (identityOf l .body)
   unfolding identityOf kinds
   mem-mappings k e =
-      mem-append (mapping k k) mappings clauses (inl (mem-map (λ j. mapping j j) k kept (mem-keep (isIn l) k kinds (mem-count 32 0 k (omega arith) (proper-below l s k e)) e)))
+      mem-append (mapping k 0 k) mappings clauses (inl (mem-map (λ j. mapping j 0 j) k kept (mem-keep (isIn l) k kinds (mem-count 32 0 k (omega arith) (proper-below l s k e)) e)))
 
-  mem-clauses : (r p : ℕ) (ks : List ℕ) → Mem (production r p ks) l → Mem (clause r p (write code (node r p (argumentsFrom 1 ks)))) (identityOf l .body)
+  mem-clauses : (r p : ℕ) (ks : List ℕ) → Mem (production r p ks) l → Mem (clause r p 0 (write code (node r p (argumentsFrom 1 ks)))) (identityOf l .body)
   unfolding identityOf identityClause
   mem-clauses r p ks m =
-      let a = clause r p (write code (node r p (argumentsFrom 1 ks))) in
+      let a = clause r p 0 (write code (node r p (argumentsFrom 1 ks))) in
       mem-append a mappings clauses (inr (mem-concat identityClause (production r p ks) a l m (inl refl)))
 
   -- A member is the mapping of a kind in the language, or the clause of a production.
   cases : (a : Item) → Mem a (identityOf l .body)
-      → ((k : ℕ) × (isIn l k ≡ true) × (k < 32) × (a ≡ mapping k k))
-      ⊎ ((r : ℕ) × (p : ℕ) × (ks : List ℕ) × Mem (production r p ks) l × (a ≡ clause r p (write code (node r p (argumentsFrom 1 ks)))))
+      → ((k : ℕ) × (isIn l k ≡ true) × (k < 32) × (a ≡ mapping k 0 k))
+      ⊎ ((r : ℕ) × (p : ℕ) × (ks : List ℕ) × Mem (production r p ks) l × (a ≡ clause r p 0 (write code (node r p (argumentsFrom 1 ks)))))
   unfolding identityOf kinds
   cases a m =
       ⊎-elim
       (λ q.
-      let r = map-cases (λ j. mapping j j) a kept q in
+      let r = map-cases (λ j. mapping j 0 j) a kept q in
       let t = keep-cases (isIn l) (r .0) kinds (r .1) in
       inl (r .0, t .1, count-mem 32 0 (r .0) (t .0) .1, r .2))
       (λ q.
@@ -125,80 +132,75 @@ module _ (l : Language) (s : Proper l) where
       inr (t .0, t .1, t .2, rw (t .3) at (r .1), t .4))
       (append-cases a mappings clauses m)
 
-  past-kinds : (a : Item) → Mem a clauses → 32 ≤ itemKey a
-  unfolding itemKey
+  past-kinds : (a : Item) → Mem a clauses → 8192 ≤ itemKey a
+  unfolding itemKey plainKey numberOf
   past-kinds a m =
       let r = concat-cases identityClause a l m in
       let t = clause-from a (r .0) (r .2) in
       rw (t .4) (omega arith)
 
-  mappings-below : (a : Item) → Mem a mappings → itemKey a < 32
-  unfolding itemKey kinds
+  mappings-below : (a : Item) → Mem a mappings → itemKey a < 8192
+  unfolding itemKey plainKey numberOf kinds
   mappings-below a m =
-      let r = map-cases (λ j. mapping j j) a kept m in
-      rw (r .2) (count-mem 32 0 (r .0) (keep-cases (isIn l) (r .0) kinds (r .1) .0) .1)
+      let r = map-cases (λ j. mapping j 0 j) a kept m in
+      let h = count-mem 32 0 (r .0) (keep-cases (isIn l) (r .0) kinds (r .1) .0) .1 in
+      rw (r .2) (omega (arith, h))
 
   identity-rises : Rising itemKey (identityOf l .body)
   unfolding identityOf kinds
   identity-rises =
-      from-append itemKey 0 32 mappings clauses
+      from-append itemKey 0 8192 mappings clauses
       (mappings-from 0 kept (keep-from (λ k. k) (isIn l) 0 kinds (count-from 32 0))) (omega arith) mappings-below
       (clauses-past 0 clauses (clauses-from 0 0 l (s .rises) (omega arith)) past-kinds)
 
-  identity-mapped : (k : ℕ) → isIn l k ≡ true → mapped (identityOf l .body) k ≡ k
-  identity-mapped k e = mem-mapped (identityOf l .body) identity-rises k k (mem-mappings k e)
-
-  map-itself : (f : ℕ → ℕ) (r : List ℕ) → ((j : ℕ) → Mem j r → f j ≡ j) → map f r ≡ r
-  map-itself f [] h = refl
-  map-itself f (x ∷ r) h = λ i. h x (inl refl) i ∷ map-itself f r (λ j m. h j (inr m)) i
+  identity-mapped : (k : ℕ) → isIn l k ≡ true → mappingOf (identityOf l .body) k 0 ≡ some k
+  identity-mapped k e = mem-mapping (identityOf l .body) identity-rises k 0 k (mem-mappings k e)
 
   identity-levels : (r p : ℕ) (ks : List ℕ) → levels (node r p (argumentsFrom 1 ks)) ≤ codeLevels
   unfolding levels
   identity-levels r p ks = omega (arith, arguments-levels 1 ks)
 
   identity-read : (r p : ℕ) (ks : List ℕ) → Mem (production r p ks) l
-      → readClause (identityOf l) r p (write code (node r p (argumentsFrom 1 ks))) ≡ done (node r p (argumentsFrom 1 ks)) []
-  unfolding readClause identityOf
+      → readClause (identityOf l) r p 0 (write code (node r p (argumentsFrom 1 ks))) ≡ done (node r p (argumentsFrom 1 ks)) []
+  unfolding readClause identityOf mapped
   identity-read r p ks m =
       let e = mem-arguments l (s .rises) r p ks m in
-      let q : mappedArguments (identityOf l) r p ≡ ks
-      = mapped-arguments (identityOf l) r p ks e ∙ map-itself (mapped (identityOf l .body)) ks (λ j n. identity-mapped j (argument-in l r p ks m j n)) in
+      let to = mappingOf (identityOf l .body) in
+      let q : usesOf (identityOf l) r p ≡ map to ks = uses-are (identityOf l) r p ks e in
+      let h : Same to ks = λ j n. identity-mapped j (argument-in l r p ks m j n) in
       rw (q, identity-mapped r (result-in l r p ks m), ← append-nil (write code (node r p (argumentsFrom 1 ks))))
-      (round l (proper-apart l s) (typed-node e (arguments-typed l [] ks)) as-code codeLevels [] (identity-levels r p ks))
+      (round l (proper-apart l s) (typed-node e (arguments-typed l to [] ks h)) as-code codeLevels [] (identity-levels r p ks))
 
-  mapping-same : {a b k : ℕ} → mapping a b ≡ mapping k k → (a ≡ k) × (b ≡ k)
-  mapping-same e = (cc, cc)
-
-  clause-same : {a b r p : ℕ} {c d : List ℕ} → clause a b c ≡ clause r p d → (a ≡ r) × (b ≡ p) × (c ≡ d)
-  clause-same e = (cc, cc, cc)
-
-  identity-maps : (x t : ℕ) → Mem (mapping x t) (identityOf l .body) → (isIn l x ≡ true) × (isIn l t ≡ true)
-  identity-maps x t m =
+  -- A mapping is that of a kind to itself by number 0.
+  identity-mapping : (x j t : ℕ) → Mem (mapping x j t) (identityOf l .body) → (isIn l x ≡ true) × (j ≡ 0) × (t ≡ x)
+  identity-mapping x j t m =
       ⊎-elim
-      (λ q. let e = mapping-same (q .3) in (rw (e .0) (q .1), rw (e .1) (q .1)))
+      (λ q. let e = mapping-parts (q .3) in (rw (e .0) (q .1), e .1, e .2 ∙ sym (e .0)))
       (λ q. mapping-clause (q .4))
-      (cases (mapping x t) m)
+      (cases (mapping x j t) m)
 
   -- A clause is that of a production with its code.
-  identity-clause : (r p : ℕ) (c : List ℕ) → Mem (clause r p c) (identityOf l .body)
-      → (ks : List ℕ) × Mem (production r p ks) l × (c ≡ write code (node r p (argumentsFrom 1 ks)))
-  identity-clause r p c m =
+  identity-clause : (r p j : ℕ) (c : List ℕ) → Mem (clause r p j c) (identityOf l .body)
+      → (ks : List ℕ) × Mem (production r p ks) l × (j ≡ 0) × (c ≡ write code (node r p (argumentsFrom 1 ks)))
+  identity-clause r p j c m =
       ⊎-elim
       (λ q. mapping-clause (sym (q .3)))
-      (λ q. let e = clause-same (q .4) in (q .2, rw (e .0, e .1) (q .3), rw (e .0, e .1) (e .2)))
-      (cases (clause r p c) m)
+      (λ q. let e = clause-parts (q .4) in (q .2, rw (e .0, e .1) (q .3), e .2, rw (e .0, e .1) (e .3)))
+      (cases (clause r p j c) m)
 
   identity-fits : Fitting (identityOf l)
   unfolding identityOf
   identity-fits = record {
     maps = λ k e. (k, mem-mappings k e);
-    mapsOnly = identity-maps;
-    classes = λ k c m. (c, rw (identity-mapped k (class-in l k c m)) (mem-range l (s .rises) k c m), within-itself c);
-    clauses = λ r p ks m. (write code (node r p (argumentsFrom 1 ks)), mem-clauses r p ks m);
-    clausesOnly = λ r p c m. let q = identity-clause r p c m in (q .0, q .1);
-    codes = λ r p c m.
-        let q = identity-clause r p c m in
-        (node r p (argumentsFrom 1 (q .0)), ap (readClause (identityOf l) r p) (q .2) ∙ identity-read r p (q .0) (q .1));
+    mapsOnly = λ x j t m. let q = identity-mapping x j t m in (q .0, rw (q .2) (q .0));
+    classes = λ x j t c m e. (c, rw (identity-mapping x j t m .2) e, within-itself c);
+    clauses = λ r p j t ks m n. (write code (node r p (argumentsFrom 1 ks)), rw (identity-mapping r j t n .1) (mem-clauses r p ks m));
+    clausesOnly = λ r p j c m.
+        let q = identity-clause r p j c m in
+        ((q .0, q .1), (r, rw (q .2) (mem-mappings r (result-in l r p (q .0) (q .1)))));
+    codes = λ r p j c m.
+        let q = identity-clause r p j c m in
+        (node r p (argumentsFrom 1 (q .0)), (λ x. readClause (identityOf l) r p (q .2 x) (q .3 x)) ∙ identity-read r p (q .0) (q .1));
   }
 
   result-kind : (r p : ℕ) (ks : List ℕ) → Mem (production r p ks) l → isKind r ≡ true
@@ -208,8 +210,8 @@ module _ (l : Language) (s : Proper l) where
   unfolding itemWhole
   identity-whole a m =
       ⊎-elim
-      (λ q. rw (q .3) (both-and (isKind (q .0)) (isKind (q .0)) (lt-ltb (q .0) 32 (q .2)) (lt-ltb (q .0) 32 (q .2))))
-      (λ q. rw (q .4) (result-kind (q .0) (q .1) (q .2) (q .3)))
+      (λ q. let h = lt-ltb (q .0) 32 (q .2) in rw (q .3) (both-and (isKind (q .0)) _ h (both-and (isKind (q .0)) true h refl)))
+      (λ q. rw (q .4) (both-and (isKind (q .0)) true (result-kind (q .0) (q .1) (q .2) (q .3)) refl))
       (cases a m)
 
   -- C.18.

@@ -1,37 +1,36 @@
 -- What stays of a translation without a language: a law for each return and turn.
 use Prim.Native.Nat.{ℕ, _+_, _≤_, _<_}
 use mathlib.Core.Path.{_≡_, refl, sym, ap, _∙_}
-use mathlib.Core.Logic.{⊎-elim}
 use mathlib.Core.Bool.{Bool, true, false, cond}
 use mathlib.Core.List.{List, [], _∷_, _++_, map}
 use mathlib.Core.Option.{some}
 use native.Mathlib.Omega.{arith}
 use lib.ListN.{length, take, getD}
 use lib.Seq.{slice}
-use lib.Dec.{ltb}
-use borrow.Author.Tests.{eq-eqb, leb-true}
+use lib.Dec.{ltb, eqb}
+use borrow.Author.Tests.{leb-true}
 use Rattle.fields.specs.Outcome.{value, refuseIf}
 use Rattle.fields.specs.declared.outcome.Outcome.{Outcome}
 use Rattle.fields.specs.declared.outcome.Outcome.the-variants.{Refused}
 use Rattle.fields.specs.declared.outcome.Reason.the-variants.{ValueTooLarge}
-use Rattle.fields.specs.Lists.{all, keep, concatMap}
-use Rattle.fields.specs.Fields.{byteAt, encodeField, encodeFields}
-use Rattle.fields.specs.Inner.Places.{fieldEnd, isWhole, placesFrom, places}
-use Rattle.fields.proofs.Truth.{and-both, mem-all}
+use Rattle.fields.specs.Lists.{all, keep, isSome, concatMap}
+use Rattle.fields.specs.Fields.{byteAt, pairAt, encodeField, encodeFields}
+use Rattle.fields.specs.Inner.Places.{fieldEnd, isWhole, keyAt, placesFrom, places}
+use Rattle.fields.proofs.Truth.{false-true, and-both, mem-all}
 use Rattle.fields.proofs.Codec.{Each, contentsOf}
 use Rattle.fields.proofs.Keyed.{rising-is}
 use Rattle.fields.proofs.Places.{end-past, places-done, places-next, every-here}
-use Rattle.language.specs.Language.{Language, isIn, productionKey}
+use Rattle.language.specs.Language.{Language, isIn, argumentsOf, productionKey}
 use Rattle.language.specs.LanguageFile.{entriesOf, encodeLanguage}
 use Rattle.language.proofs.Codec.{entryWhole, language-encode}
 use Rattle.reader.specs.Inner.Index.{argumentsBefore, Indexed}
-use Rattle.translation.specs.Translation.{Item, mapping, clause, Body, Translation, itemKey}
+use Rattle.translation.specs.Translation.{Item, Body, Translation, itemKey}
 use Rattle.translation.specs.TranslationFile.{itemField, bodyOf, encodeTranslation}
-use Rattle.translation.specs.Inner.Items.{itemWhole, itemGood, itemAt, IsClause}
+use Rattle.translation.specs.Inner.Items.{itemWhole, itemGood, itemAt, ItemFacts, plain-mapping, plain-clause, numbered-mapping, numbered-clause, isClauseTag}
 use Rattle.translation.specs.Inner.ItemIndex.{knownAt}
 use Rattle.translation.proofs.Codec as Codec
-use Rattle.translation.proofs.Items.{item-facts, clause-is, holds-items}
-use Rattle.translation.proofs.IndexedItems.{clause-key, there}
+use Rattle.translation.proofs.Items.{item-facts, mapping-is, clause-is, numbered-mapping-is, numbered-clause-is, holds-items}
+use Rattle.translation.proofs.IndexedItems.{there}
 use Rattle.fields.specs.declared.copy.Stored.{Stored}
 use Rattle.fields.specs.declared.copy.Stored.the-variants.{To, Full}
 use Rattle.operators.specs.Operators.{isOf, languageWithout, translationWithout}
@@ -40,7 +39,7 @@ use Rattle.merging.specs.Inner.Parts.{Part, pieceAt, partAt, partsFrom}
 use Rattle.operators.specs.Inner.Values.{translationBytes, Gives}
 use Rattle.operators.proofs.Proper.{GoodTranslation}
 use Rattle.operators.proofs.SumSound.{proper-without, sound-without}
-use Rattle.operators.proofs.Encoded.{parts-encode, map-map}
+use Rattle.operators.proofs.Encoded.{parts-encode, map-map, item-long}
 use Rattle.merging.proofs.Turns.{Progress, progress-start}
 use Rattle.operators.specs.Inner.Assembled.{assembled}
 use Rattle.operators.specs.Inner.Kept.{writtenFrom, stayingAt, Left}
@@ -48,22 +47,40 @@ use Rattle.operators.proofs.Given.{gives-refused, stored-first}
 use Rattle.operators.proofs.Accepted.{accepted-good, assembled-given, body-over}
 
 -- stays
-module _ (b : List ℕ) (p tag : ℕ) (et : tag ≡ byteAt b p) (l : Language) where
-  pub stays-mapping : tag ≡ 0x22 → (k : ℕ) → k ≡ byteAt b (p + 3) → (r : Bool) → r ≡ isIn l k → r ≡ isOf l (itemAt b p)
-  unfolding itemAt isOf
-  stays-mapping h k ek r er =
-      let z : itemAt b p ≡ mapping (byteAt b (p + 3)) (byteAt b (p + 4)) = cc (eq-eqb tag 0x22 h) in
-      er ∙ (ap (isIn l) ek ∙ sym (ap (isOf l) z))
+module _ (b : List ℕ) (p tag : ℕ) (et : tag ≡ byteAt b p) (w : itemWhole b p ≡ true) (clause? : Bool) (ec : clause? ≡ isClauseTag tag) (l : Language) where
+  -- the tag, as the item has it
+  tag-clause : (t : ℕ) → byteAt b p ≡ t → clause? ≡ isClauseTag t
+  tag-clause t e = ec ∙ ap isClauseTag (et ∙ e)
+
+  pub stays-mapping : clause? ≡ false → (k : ℕ) → k ≡ byteAt b (p + 3) → (r : Bool) → r ≡ isIn l k → r ≡ isOf l (itemAt b p)
+  unfolding isOf
+  stays-mapping h k ek r er = er ∙ (ap (isIn l) ek ∙ go (item-facts b p w))
+    where
+      go : ItemFacts b p → isIn l (byteAt b (p + 3)) ≡ isOf l (itemAt b p)
+      go (plain-mapping m) = sym (ap (isOf l) (mapping-is b p m))
+      go (plain-clause m) = false-true (sym h ∙ tag-clause 0x23 (m .tag))
+      go (numbered-mapping m) = sym (ap (isOf l) (numbered-mapping-is b p m))
+      go (numbered-clause m) = false-true (sym h ∙ tag-clause 0x29 (m .tag))
 
   module _ (s index : List ℕ) (z : Indexed index s l) (bytes : (i : ℕ) → byteAt b i < 256) where
-    known-is : IsClause b p → knownAt 0x22 b index p ≡ isOf l (itemAt b p)
-    unfolding knownAt isOf
-    known-is c =
-        rw (clause-is b p c, c .tag, clause-key b p c, z .arguments (getD b (p + 3) 0) (getD b (p + 4) 0) (c .result) (bytes (p + 4)))
+    -- the key of a clause, looked up
+    known-key : (t : ℕ) → byteAt b p ≡ t → eqb t 0x22 ≡ false → byteAt b (p + 3) < 32
+        → knownAt 0x22 b index p ≡ isSome (argumentsOf l (byteAt b (p + 3)) (byteAt b (p + 4)))
+    unfolding knownAt keyAt pairAt
+    known-key t e n h =
+        let d : p + 3 + 1 ≡ p + 4 = omega arith in
+        rw (e, n, d, z .arguments (getD b (p + 3) 0) (getD b (p + 4) 0) h (bytes (p + 4)))
         (there (argumentsBefore s) refl (λ q. refl) (getD index (productionKey (getD b (p + 3) 0) (getD b (p + 4) 0)) 0))
 
-    pub stays-clause : itemWhole b p ≡ true → (tag ≡ 0x22 → ⊥) → (r : Bool) → r ≡ knownAt 0x22 b index p → r ≡ isOf l (itemAt b p)
-    stays-clause w other r er = er ∙ ⊎-elim (λ m. absurd (other (et ∙ m .tag))) (λ c. known-is c) (item-facts b p w)
+    pub stays-clause : clause? ≡ true → (r : Bool) → r ≡ knownAt 0x22 b index p → r ≡ isOf l (itemAt b p)
+    unfolding isOf
+    stays-clause h r er = er ∙ go (item-facts b p w)
+      where
+        go : ItemFacts b p → knownAt 0x22 b index p ≡ isOf l (itemAt b p)
+        go (plain-mapping m) = false-true (sym (tag-clause 0x22 (m .tag)) ∙ h)
+        go (plain-clause m) = known-key 0x23 (m .tag) refl (m .result) ∙ sym (ap (isOf l) (clause-is b p m))
+        go (numbered-mapping m) = false-true (sym (tag-clause 0x28 (m .tag)) ∙ h)
+        go (numbered-clause m) = known-key 0x29 (m .tag) refl (m .result) ∙ sym (ap (isOf l) (numbered-clause-is b p m))
 
 -- A walk that writes for each field.
 module _ (piece : ℕ → List ℕ) (s : List ℕ) (p : ℕ) where
@@ -130,10 +147,8 @@ kept-list s f (p ∷ ps) (a ∷ b) e d =
     go false = refl
 
 all-long : (b : Body) → Each (λ f. 2 ≤ length (contentsOf f)) (map itemField b)
-unfolding itemField
 all-long [] = tt
-all-long (mapping s t ∷ b) = (omega arith, all-long b)
-all-long (clause r p c ∷ b) = (omega arith, all-long b)
+all-long (a ∷ b) = (item-long a, all-long b)
 
 pieces-are : (b : Body) → map (pieceAt (encodeFields (map itemField b))) (places (encodeFields (map itemField b))) ≡ map (λ a. encodeField (itemField a)) b
 unfolding partsFrom partAt

@@ -9,7 +9,10 @@ pub mod SameItem
 pub mod Making
 pub mod Encoded
 pub mod IdentitySound
+pub mod ItemParts
+pub mod JoinRises
 pub mod JoinSound
 pub mod Mapped
+pub mod Numbering
 pub mod Proper
 pub mod SumSound

@@ -17,7 +17,7 @@ use Rattle.language.proofs.Lookup.{in-mem, NoClash, clashes-none, none-clashes}
 use Rattle.language.proofs.Codec.{entryWhole, GoodLanguage}
 use Rattle.reader.proofs.RoundTrip.{Apart}
 use Rattle.reader.proofs.Larger as Larger
-use Rattle.translation.specs.Translation.{Item, mapping, Translation, itemKey}
+use Rattle.translation.specs.Translation.{Item, Translation, itemKey}
 use Rattle.translation.specs.TranslationFile.{encodeTranslation, translationLimit, allRising, translationOf}
 use Rattle.translation.specs.WellFormed.{wellFormed}
 use Rattle.translation.proofs.Codec.{itemWhole, WholeTranslation, translation-back}
@@ -81,19 +81,15 @@ pub record Sound (f : Translation) : Type 0 where
   pub rises : Rising itemKey (f .body)
   pub fits : Fitting f
 
-mapping-below : (s t : ℕ) → itemWhole (mapping s t) ≡ true → s < 32
-unfolding itemWhole
-mapping-below s t e = ltb-true s 32 (and-both (isKind s) (isKind t) e .0)
-
 -- The kinds of a translation are kinds.
-pub kinds-below : (f : Translation) → Proper (f .source) → ((a : Item) → Mem a (f .body) → itemWhole a ≡ true) → KindsBelow f
-kinds-below f p w = (proper-below (f .source) p, λ s t m. mapping-below s t (w (mapping s t) m))
+pub kinds-below : (f : Translation) → Proper (f .source) → KindsBelow f
+kinds-below f p = proper-below (f .source) p
 
 -- A well-formed translation is sound.
 pub formed-sound : (f g : Translation) → Proper (f .source) → Proper (f .target) → ((a : Item) → Mem a (f .body) → itemWhole a ≡ true)
     → Rising itemKey (f .body) → wellFormed f ≡ value g → Sound f × (f ≡ g)
 formed-sound f g s t w r e =
-    let h = formed-fits f g (kinds-below f s w) r e in
+    let h = formed-fits f g (kinds-below f s) r e in
     (record { source = s; target = t; whole = w; rises = r; fits = h .0 }, h .1)
 
 -- A value of a translation term: sound and within the limits.
@@ -126,4 +122,4 @@ good-whole f g = record {
 pub good-back : (f : Translation) → GoodTranslation f → translationOf (encodeTranslation f) ≡ value f
 good-back f g =
     translation-back f (good-whole f g)
-    ∙ fit-tests f (kinds-below f (g .sound .source) (g .sound .whole)) (g .sound .rises) (g .sound .source .rises) (g .sound .fits)
+    ∙ fit-tests f (kinds-below f (g .sound .source)) (g .sound .rises) (g .sound .source .rises) (g .sound .fits)

@@ -132,18 +132,18 @@ map-append : {A B : Type 0} (f : A → B) (l m : List A) → map f (l ++ m) ≡ 
 map-append f [] m = refl
 map-append f (a ∷ l) m = ap (λ r. f a ∷ r) (map-append f l m)
 
-items-append : (x y : Body) → encodeFields (map itemField (x ++ y)) ≡ encodeFields (map itemField x) ++ encodeFields (map itemField y)
+pub items-append : (x y : Body) → encodeFields (map itemField (x ++ y)) ≡ encodeFields (map itemField x) ++ encodeFields (map itemField y)
 unfolding encodeFields
 items-append x y = ap (concatMap encodeField) (map-append itemField x y) ∙ concat-append encodeField (map itemField x) (map itemField y)
 
 -- The mappings.
-kinds-bytes : (l : Language) (ks : List ℕ) → concatMap (kindItem l) ks ≡ encodeFields (map itemField (map (λ k. mapping k k) (keep (isIn l) ks)))
+kinds-bytes : (l : Language) (ks : List ℕ) → concatMap (kindItem l) ks ≡ encodeFields (map itemField (map (λ k. mapping k 0 k) (keep (isIn l) ks)))
 unfolding concatMap keep encodeFields kindItem
 kinds-bytes l [] = refl
 kinds-bytes l (k ∷ ks) = rw (kinds-bytes l ks) (go (isIn l k))
   where
-    go : (t : Bool) → cond t (encodeField (itemField (mapping k k))) [] ++ encodeFields (map itemField (map (λ k. mapping k k) (keep (isIn l) ks)))
-        ≡ encodeFields (map itemField (map (λ k. mapping k k) (cond t (k ∷ keep (isIn l) ks) (keep (isIn l) ks))))
+    go : (t : Bool) → cond t (encodeField (itemField (mapping k 0 k))) [] ++ encodeFields (map itemField (map (λ k. mapping k 0 k) (keep (isIn l) ks)))
+        ≡ encodeFields (map itemField (map (λ k. mapping k 0 k) (cond t (k ∷ keep (isIn l) ks) (keep (isIn l) ks))))
     go true = refl
     go false = refl
 
@@ -161,7 +161,7 @@ unfolding identityOf kindItems writtenFrom kinds
 same-bytes s l e =
     let a : concatMap (clauseItem s) (places s) ≡ encodeFields (map itemField (concatMap identityClause l)) =
     clauses-bytes s (places s) ∙ ap (λ (m : Language). encodeFields (map itemField (concatMap identityClause m))) (holds-entries s l e .entries) in
-    rw (kinds-bytes l (countUp 32 0), a) (sym (items-append (map (λ k. mapping k k) (keep (isIn l) (countUp 32 0))) (concatMap identityClause l)))
+    rw (kinds-bytes l (countUp 32 0), a) (sym (items-append (map (λ k. mapping k 0 k) (keep (isIn l) (countUp 32 0))) (concatMap identityClause l)))
 
 -- identity
 module _ (s : List ℕ) (l : Language) (e : exactLanguage s ≡ value l) where

@@ -1,24 +1,26 @@
 -- Sums and "without" keep languages proper and translations sound (document 000: B.5, B.7, C.14).
 use Prim.Native.Nat.{ℕ}
-use mathlib.Core.Path.{_≡_, sym, _∙_}
+use mathlib.Core.Path.{_≡_, refl, ap, sym}
 use mathlib.Core.Logic.{_⊎_, inl, inr, ⊎-elim}
-use mathlib.Core.Bool.{true, not, _&&_}
-use mathlib.Core.Option.{some}
+use mathlib.Core.Bool.{true, not, _&&_, _||_}
+use mathlib.Core.Option.{Option, none, some, Option·getD}
 use mathlib.Core.List.{List, []}
+use Rattle.fields.specs.Lists.{all, isSome}
 use Rattle.fields.specs.Keyed.{union, agree, without}
-use Rattle.fields.proofs.Truth.{Mem, and-both, not-true, some-is, is-some, keep-cases, mem-keep}
-use Rattle.fields.proofs.Keyed.{Rising, Agree, union-cases, union-mem, union-from, agree-holds, holds-agree, keep-from}
+use Rattle.fields.proofs.Truth.{Mem, by-test, none-some, and-both, not-true, all-mem, mem-all, some-is, is-some, keep-cases, mem-keep}
+use Rattle.fields.proofs.Keyed.{Rising, Agree, agree-sym, union-cases, union-mem, union-from, agree-holds, holds-agree, keep-from}
 use Rattle.language.specs.Language.{Entry, class, production, Language, entryKey, sameEntry, Range, isIn, argumentsOf, clashes}
-use Rattle.language.proofs.Lookup.{same-equal, equal-same, in-larger, in-union, class-in, result-in, argument-in, arguments-mem, mem-arguments, NoClash, clashes-none, none-clashes}
+use Rattle.language.proofs.Lookup.{same-equal, equal-same, in-larger, in-union, class-in, result-in, argument-in, range-mem, mem-range, arguments-mem, mem-arguments, NoClash, clashes-none, none-clashes}
 use Rattle.language.proofs.Ranges.{within-both}
 use Rattle.reader.specs.Code.{Code}
 use Rattle.reader.specs.Syntax.{done}
 use Rattle.reader.proofs.Larger.{Larger, larger}
-use Rattle.translation.specs.Translation.{mapping, clause, Translation, itemKey, sameItem, mapped}
+use Rattle.translation.specs.Translation.{Item, mapping, clause, Translation, plainKey, numberOf, itemKey, sameItem, mappingOf, mapped}
 use Rattle.translation.specs.Running.{readClause}
 use Rattle.translation.proofs.Lookup as Items
-use Rattle.translation.proofs.Fitting.{Fitting, Contains, clause-alike}
-use Rattle.operators.specs.Operators.{languagesFit, languageUnion, languageWithout, translationsFit, translationUnion, isOf, translationWithout}
+use Rattle.translation.proofs.Preserved.{Contains}
+use Rattle.translation.proofs.Fitting.{Fitting, clause-alike}
+use Rattle.operators.specs.Operators.{languagesFit, languageUnion, languageWithout, numberKept, numbersAgree, translationsFit, translationUnion, isOf, translationWithout}
 use Rattle.operators.proofs.Proper.{Proper, proper-keep, Sound}
 
 -- Languages that fit: entries agree by key, and no class of one is a result of the other.
@@ -74,7 +76,7 @@ pub proper-without : (l m : Language) → Proper l → Proper (languageWithout l
 unfolding languageWithout without
 proper-without l m p = proper-keep _ l p
 
--- f's kinds that are in the source of u are mapped by u as by f, and u's target is larger.
+-- f's kinds that are in the source of u are mapped by u as by f, by the same numbers, and u's target is larger.
 pub record Part (f u : Translation) : Type 0 where
   pub source-rises : Rising entryKey (f .source)
   pub whole-rises : Rising entryKey (u .source)
@@ -82,60 +84,104 @@ pub record Part (f u : Translation) : Type 0 where
   pub whole-body-rises : Rising itemKey (u .body)
   pub target : (a : Entry) → Mem a (f .target) → Mem a (u .target)
   pub target-rises : Rising entryKey (u .target)
-  pub mappings : (k t : ℕ) → isIn (u .source) k ≡ true → Mem (mapping k t) (f .body) → Mem (mapping k t) (u .body)
+  pub mappings : (k j t : ℕ) → isIn (u .source) k ≡ true → Mem (mapping k j t) (f .body) → Mem (mapping k j t) (u .body)
+  pub numbers : (k j t : ℕ) → isIn (f .source) k ≡ true → Mem (mapping k j t) (u .body) → Mem (mapping k j t) (f .body)
+
+-- Two lookups that find the same are equal.
+options-equal : (a b : Option ℕ) → ((t : ℕ) → a ≡ some t → b ≡ some t) → ((t : ℕ) → b ≡ some t → a ≡ some t) → a ≡ b
+options-equal none none h k = refl
+options-equal none (some t) h k = none-some (k t refl)
+options-equal (some t) b h k = sym (h t refl)
 
 module _ (f u : Translation) (w : Fitting f) (h : Part f u) where
-  -- A kind in both sources is mapped alike.
-  pub part-mapped : (k : ℕ) → isIn (f .source) k ≡ true → isIn (u .source) k ≡ true → mapped (f .body) k ≡ mapped (u .body) k
-  part-mapped k e d =
-      let t = w .maps k e in
-      Items.mem-mapped (f .body) (h .body-rises) k (t .0) (t .1)
-      ∙ sym (Items.mem-mapped (u .body) (h .whole-body-rises) k (t .0) (h .mappings k (t .0) d (t .1)))
+  -- A kind in both sources is mapped alike by every number.
+  pub part-mapped : (k : ℕ) → isIn (f .source) k ≡ true → isIn (u .source) k ≡ true → (j : ℕ) → mappingOf (f .body) k j ≡ mappingOf (u .body) k j
+  part-mapped k e d j =
+      options-equal (mappingOf (f .body) k j) (mappingOf (u .body) k j)
+      (λ t q. Items.mem-mapping (u .body) (h .whole-body-rises) k j t (h .mappings k j t d (Items.mapping-mem (f .body) k j t q)))
+      (λ t q. Items.mem-mapping (f .body) (h .body-rises) k j t (h .numbers k j t e (Items.mapping-mem (u .body) k j t q)))
 
   part-larger : Larger (f .target) (u .target)
   part-larger = larger (f .target) (u .target) (h .target-rises) (h .target)
 
-  pub part-class : (k : ℕ) (a : Range) → Mem (class k a) (f .source) → Mem (class k a) (u .source)
-      → Contains (u .target) (mapped (u .body) k) a
-  part-class k a m n =
-      let c = w .classes k a m in
-      let d = part-larger .classes (mapped (f .body) k) (c .0) (c .1) in (
-        d .0,
-        rw (← part-mapped k (class-in (f .source) k a m) (class-in (u .source) k a n)) (d .1),
-        within-both a (c .0) (d .0) (c .2) (d .2),
-      )
+  pub part-class : (k j t : ℕ) (a : Range) → Mem (class k a) (f .source) → Mem (mapping k j t) (u .body) → Contains (u .target) t a
+  part-class k j t a m n =
+      let c = w .classes k j t a (h .numbers k j t (class-in (f .source) k a m) n) (mem-range (f .source) (h .source-rises) k a m) in
+      let d = part-larger .classes t (c .0) (c .1) in
+      (d .0, d .1, within-both a (c .0) (d .0) (c .2) (d .2))
 
-  pub part-code : (r p : ℕ) (ks : List ℕ) (c : List ℕ) → Mem (production r p ks) (f .source) → Mem (production r p ks) (u .source)
-      → Mem (clause r p c) (f .body) → (a : Code) × (readClause u r p c ≡ done a [])
-  part-code r p ks c m n q =
-      let x = w .codes r p c q in (
+  pub part-clause : (r p j t : ℕ) (ks : List ℕ) → Mem (production r p ks) (f .source) → Mem (mapping r j t) (u .body)
+      → (c : List ℕ) × Mem (clause r p j c) (f .body)
+  part-clause r p j t ks m n = w .clauses r p j t ks m (h .numbers r j t (result-in (f .source) r p ks m) n)
+
+  pub part-code : (r p j : ℕ) (ks : List ℕ) (c : List ℕ) → Mem (production r p ks) (f .source) → Mem (production r p ks) (u .source)
+      → Mem (clause r p j c) (f .body) → (a : Code) × (readClause u r p j c ≡ done a [])
+  unfolding mapped
+  part-code r p j ks c m n q =
+      let x = w .codes r p j c q in (
         x .0,
-        clause-alike f u part-larger r p ks (mem-arguments (f .source) (h .source-rises) r p ks m) (mem-arguments (u .source) (h .whole-rises) r p ks n)
-            (part-mapped r (result-in (f .source) r p ks m) (result-in (u .source) r p ks n))
-            (λ j z. part-mapped j (argument-in (f .source) r p ks m j z) (argument-in (u .source) r p ks n j z)) c (x .0) (x .1),
+        clause-alike f u part-larger r p j ks (mem-arguments (f .source) (h .source-rises) r p ks m) (mem-arguments (u .source) (h .whole-rises) r p ks n)
+            (ap (λ (o : Option ℕ). Option·getD o 0) (part-mapped r (result-in (f .source) r p ks m) (result-in (u .source) r p ks n) j))
+            (λ i z. part-mapped i (argument-in (f .source) r p ks m i z) (argument-in (u .source) r p ks n i z)) c (x .0) (x .1),
       )
 
--- Translations that fit: languages fit, and items agree by key (C.12).
+-- A kind of the second has there each number that it has in the first (paper 02, 2026-13).
+abbrev pub NumbersKept : Translation → Translation → Type 0
+NumbersKept f g = (k j t : ℕ) → Mem (mapping k j t) (f .body) → isIn (g .source) k ≡ true → (s : ℕ) × (mappingOf (g .body) k j ≡ some s)
+
+kept-numbers : (f g : Translation) → all (numberKept g) (f .body) ≡ true → NumbersKept f g
+unfolding numberKept
+kept-numbers f g e k j t m i =
+    let w : (not (isIn (g .source) k) || isSome (mappingOf (g .body) k j)) ≡ true = all-mem (numberKept g) (f .body) e (mapping k j t) m in
+    some-is (mappingOf (g .body) k j) (rw i at w)
+
+numbers-kept : (f g : Translation) → NumbersKept f g → all (numberKept g) (f .body) ≡ true
+unfolding numberKept
+numbers-kept f g h = mem-all (numberKept g) (f .body) each
+  where
+    each : (a : Item) → Mem a (f .body) → numberKept g a ≡ true
+    each (mapping k j t) m =
+        by-test (isIn (g .source) k)
+        (λ e. rw (e, h k j t m e .1))
+        (λ e. rw e)
+    each (clause r p j c) m = refl
+
+-- Translations that fit: languages fit, shared kinds have the same numbers, and items agree by key (C.12).
 pub record TranslationsFit (f g : Translation) : Type 0 where
   pub source : LanguagesFit (f .source) (g .source)
   pub target : LanguagesFit (f .target) (g .target)
+  pub left : NumbersKept f g
+  pub right : NumbersKept g f
   pub body : Agree itemKey (f .body) (g .body)
 
 pub fit-translations : (f g : Translation) → translationsFit f g ≡ true → TranslationsFit f g
-unfolding translationsFit
+unfolding translationsFit numbersAgree
 fit-translations f g e =
-    let a = and-both (languagesFit (f .source) (g .source)) (languagesFit (f .target) (g .target) && agree itemKey sameItem (f .body) (g .body)) e in
-    let b = and-both (languagesFit (f .target) (g .target)) (agree itemKey sameItem (f .body) (g .body)) (a .1) in
+    let a = and-both (languagesFit (f .source) (g .source)) (languagesFit (f .target) (g .target) && (numbersAgree f g && agree itemKey sameItem (f .body) (g .body))) e in
+    let b = and-both (languagesFit (f .target) (g .target)) (numbersAgree f g && agree itemKey sameItem (f .body) (g .body)) (a .1) in
+    let c = and-both (numbersAgree f g) (agree itemKey sameItem (f .body) (g .body)) (b .1) in
+    let d = and-both (all (numberKept g) (f .body)) (all (numberKept f) (g .body)) (c .0) in
     record {
       source = fit-languages (f .source) (g .source) (a .0);
       target = fit-languages (f .target) (g .target) (b .0);
-      body = agree-holds sameItem Items.same-equal Items.equal-same itemKey (f .body) (g .body) (b .1);
+      left = kept-numbers f g (d .0);
+      right = kept-numbers g f (d .1);
+      body = agree-holds sameItem Items.same-equal Items.equal-same itemKey (f .body) (g .body) (c .1);
     }
 
 pub translations-fit : (f g : Translation) → TranslationsFit f g → translationsFit f g ≡ true
-unfolding translationsFit
+unfolding translationsFit numbersAgree
 translations-fit f g h =
-    rw (languages-fit (f .source) (g .source) (h .source), languages-fit (f .target) (g .target) (h .target), holds-agree sameItem Items.same-equal Items.equal-same itemKey (f .body) (g .body) (h .body))
+    rw (languages-fit (f .source) (g .source) (h .source), languages-fit (f .target) (g .target) (h .target), numbers-kept f g (h .left), numbers-kept g f (h .right), holds-agree sameItem Items.same-equal Items.equal-same itemKey (f .body) (g .body) (h .body))
+
+-- A mapping of the second, of a kind that the first has, is one of the first too where the two fit.
+pub shared-mapping : (f g : Translation) → Agree itemKey (f .body) (g .body) → NumbersKept g f → (k j t : ℕ) → isIn (f .source) k ≡ true
+    → Mem (mapping k j t) (g .body) → Mem (mapping k j t) (f .body)
+unfolding itemKey plainKey numberOf
+shared-mapping f g a h k j t e m =
+    let s = h k j t m e in
+    let n = Items.mapping-mem (f .body) k j (s .0) (s .1) in
+    rw (← a (mapping k j (s .0)) (mapping k j t) n m refl) n
 
 -- What two translations of which u is made say of u (C.14).
 module _ (f g u : Translation) (sf : Fitting f) (sg : Fitting g) (pf : Part f u) (pg : Part g u)
@@ -145,20 +191,27 @@ module _ (f g u : Translation) (sf : Fitting f) (sg : Fitting g) (pf : Part f u)
   union-fits = record {
     maps = λ k e.
         ⊎-elim (λ d. let t = sf .maps k d in (t .0, bodies .left _ (t .1))) (λ d. let t = sg .maps k d in (t .0, bodies .right _ (t .1))) (in-either k e);
-    mapsOnly = λ s t m.
+    mapsOnly = λ s j t m.
         ⊎-elim
-        (λ d. let x = sf .mapsOnly s t d in (in-larger (f .source) (u .source) (sources .left) s (x .0), in-larger (f .target) (u .target) (targets .left) t (x .1)))
-        (λ d. let x = sg .mapsOnly s t d in (in-larger (g .source) (u .source) (sources .right) s (x .0), in-larger (g .target) (u .target) (targets .right) t (x .1)))
+        (λ d. let x = sf .mapsOnly s j t d in (in-larger (f .source) (u .source) (sources .left) s (x .0), in-larger (f .target) (u .target) (targets .left) t (x .1)))
+        (λ d. let x = sg .mapsOnly s j t d in (in-larger (g .source) (u .source) (sources .right) s (x .0), in-larger (g .target) (u .target) (targets .right) t (x .1)))
         (bodies .only _ m);
-    classes = λ k c m. ⊎-elim (λ d. part-class f u sf pf k c d m) (λ d. part-class g u sg pg k c d m) (sources .only _ m);
-    clauses = λ r p ks m.
-        ⊎-elim (λ d. let c = sf .clauses r p ks d in (c .0, bodies .left _ (c .1))) (λ d. let c = sg .clauses r p ks d in (c .0, bodies .right _ (c .1))) (sources .only _ m);
-    clausesOnly = λ r p c m.
-        ⊎-elim (λ d. let x = sf .clausesOnly r p c d in (x .0, sources .left _ (x .1))) (λ d. let x = sg .clausesOnly r p c d in (x .0, sources .right _ (x .1))) (bodies .only _ m);
-    codes = λ r p c m.
+    classes = λ k j t c m e.
+        ⊎-elim (λ d. part-class f u sf pf k j t c d m) (λ d. part-class g u sg pg k j t c d m) (sources .only _ (range-mem (u .source) k c e));
+    clauses = λ r p j t ks m n.
         ⊎-elim
-        (λ d. let x = sf .clausesOnly r p c d in part-code f u sf pf r p (x .0) c (x .1) (sources .left _ (x .1)) d)
-        (λ d. let x = sg .clausesOnly r p c d in part-code g u sg pg r p (x .0) c (x .1) (sources .right _ (x .1)) d)
+        (λ d. let c = part-clause f u sf pf r p j t ks d n in (c .0, bodies .left _ (c .1)))
+        (λ d. let c = part-clause g u sg pg r p j t ks d n in (c .0, bodies .right _ (c .1)))
+        (sources .only _ m);
+    clausesOnly = λ r p j c m.
+        ⊎-elim
+        (λ d. let x = sf .clausesOnly r p j c d in ((x .0 .0, sources .left _ (x .0 .1)), (x .1 .0, bodies .left _ (x .1 .1))))
+        (λ d. let x = sg .clausesOnly r p j c d in ((x .0 .0, sources .right _ (x .0 .1)), (x .1 .0, bodies .right _ (x .1 .1))))
+        (bodies .only _ m);
+    codes = λ r p j c m.
+        ⊎-elim
+        (λ d. let x = sf .clausesOnly r p j c d .0 in part-code f u sf pf r p j (x .0) c (x .1) (sources .left _ (x .1)) d)
+        (λ d. let x = sg .clausesOnly r p j c d .0 in part-code g u sg pg r p j (x .0) c (x .1) (sources .right _ (x .1)) d)
         (bodies .only _ m);
   }
 
@@ -186,7 +239,8 @@ sound-union f g s t h =
             whole-body-rises = rises;
             target = target .left;
             target-rises = pt .rises;
-            mappings = λ k x e m. body .left _ m;
+            mappings = λ k j x e m. body .left _ m;
+            numbers = λ k j x e m. ⊎-elim (λ d. d) (λ d. shared-mapping f g (h .body) (h .right) k j x e d) (body .only _ m);
           })
           (record {
             source-rises = t .source .rises;
@@ -195,7 +249,8 @@ sound-union f g s t h =
             whole-body-rises = rises;
             target = target .right;
             target-rises = pt .rises;
-            mappings = λ k x e m. body .right _ m;
+            mappings = λ k j x e m. body .right _ m;
+            numbers = λ k j x e m. ⊎-elim (λ d. shared-mapping g f (agree-sym itemKey (f .body) (g .body) (h .body)) (h .left) k j x e d) (λ d. d) (body .only _ m);
           })
           source target body (λ k e. in-union (f .source) (g .source) k e);
     }
@@ -222,26 +277,30 @@ module _ (f : Translation) (l : Language) (s : Sound f) where
     whole-body-rises = keep-from itemKey (isOf left-source) 0 (f .body) (s .rises);
     target = λ a m. m;
     target-rises = s .target .rises;
-    mappings = λ k t e m. mem-keep (isOf left-source) (mapping k t) (f .body) m e;
+    mappings = λ k j t e m. mem-keep (isOf left-source) (mapping k j t) (f .body) m e;
+    numbers = λ k j t e m. keep-cases (isOf left-source) (mapping k j t) (f .body) m .0;
   }
 
   without-fits : Fitting (translationWithout f l)
   unfolding translationWithout left-source isOf
   without-fits = record {
-    maps = λ k e. let t = s .fits .maps k (in-larger left-source (f .source) left-mem k e) in (t .0, mem-keep (isOf left-source) (mapping k (t .0)) (f .body) (t .1) e);
-    mapsOnly = λ k t m. let x = keep-cases (isOf left-source) (mapping k t) (f .body) m in (x .1, s .fits .mapsOnly k t (x .0) .1);
-    classes = λ k c m. part-class f (translationWithout f l) (s .fits) left-part k c (left-mem _ m) m;
-    clauses = λ r p ks m.
-        let c = s .fits .clauses r p ks (left-mem _ m) in
-        (c .0, mem-keep (isOf left-source) (clause r p (c .0)) (f .body) (c .1) (is-some (argumentsOf left-source r p) (mem-arguments left-source (left-proper .rises) r p ks m)));
-    clausesOnly = λ r p c m.
-        let x = some-is (argumentsOf left-source r p) (keep-cases (isOf left-source) (clause r p c) (f .body) m .1) in
-        (x .0, arguments-mem left-source r p (x .0) (x .1));
-    codes = λ r p c m.
-        let k = keep-cases (isOf left-source) (clause r p c) (f .body) m in
+    maps = λ k e. let t = s .fits .maps k (in-larger left-source (f .source) left-mem k e) in (t .0, mem-keep (isOf left-source) (mapping k 0 (t .0)) (f .body) (t .1) e);
+    mapsOnly = λ k j t m. let x = keep-cases (isOf left-source) (mapping k j t) (f .body) m in (x .1, s .fits .mapsOnly k j t (x .0) .1);
+    classes = λ k j t c m e. part-class f (translationWithout f l) (s .fits) left-part k j t c (left-mem _ (range-mem left-source k c e)) m;
+    clauses = λ r p j t ks m n.
+        let c = part-clause f (translationWithout f l) (s .fits) left-part r p j t ks (left-mem _ m) n in
+        (c .0, mem-keep (isOf left-source) (clause r p j (c .0)) (f .body) (c .1) (is-some (argumentsOf left-source r p) (mem-arguments left-source (left-proper .rises) r p ks m)));
+    clausesOnly = λ r p j c m.
+        let k = keep-cases (isOf left-source) (clause r p j c) (f .body) m in
         let x = some-is (argumentsOf left-source r p) (k .1) in
         let n = arguments-mem left-source r p (x .0) (x .1) in
-        part-code f (translationWithout f l) (s .fits) left-part r p (x .0) c (left-mem _ n) n (k .0);
+        let t = s .fits .clausesOnly r p j c (k .0) .1 in
+        ((x .0, n), (t .0, mem-keep (isOf left-source) (mapping r j (t .0)) (f .body) (t .1) (result-in left-source r p (x .0) n)));
+    codes = λ r p j c m.
+        let k = keep-cases (isOf left-source) (clause r p j c) (f .body) m in
+        let x = some-is (argumentsOf left-source r p) (k .1) in
+        let n = arguments-mem left-source r p (x .0) (x .1) in
+        part-code f (translationWithout f l) (s .fits) left-part r p j (x .0) c (left-mem _ n) n (k .0);
   }
 
   pub sound-without : Sound (translationWithout f l)

@@ -3,6 +3,7 @@ use Prim.Native.Nat.{ℕ, _≤_, _<_}
 use mathlib.Core.Path.{_≡_, refl, sym, ap, subst, _∙_}
 use mathlib.Core.Bool.{Bool, true, false, _&&_}
 use mathlib.Core.List.{List, map}
+use mathlib.Core.Option.{some}
 use native.Mathlib.Omega.{arith}
 use lib.ListN.{length, take}
 use lib.Dec.{ltb}
@@ -11,6 +12,7 @@ use Rattle.fields.specs.declared.outcome.Outcome.{Outcome}
 use Rattle.fields.specs.declared.outcome.Outcome.the-variants.{Refused}
 use Rattle.fields.specs.declared.outcome.Reason.the-variants.{SumUnfit, ValueTooLarge}
 use Rattle.fields.specs.Fields.{encodeFields}
+use Rattle.fields.specs.Lists.{all}
 use Rattle.fields.specs.Keyed.{agree}
 use Rattle.fields.proofs.Truth.{mem-all}
 use Rattle.fields.proofs.Keyed.{rising-is}
@@ -18,23 +20,26 @@ use Rattle.language.specs.Language.{Language, entryKey}
 use Rattle.language.specs.LanguageFile.{encodeLanguage}
 use Rattle.language.specs.Inner.Entries.{RisingEntries}
 use Rattle.language.proofs.Codec.{entryWhole}
-use Rattle.translation.specs.Translation.{Translation, itemKey, sameItem}
-use Rattle.translation.specs.TranslationFile.{itemField, encodeTranslation, translationOf}
+use Rattle.translation.specs.Translation.{Body, Translation, itemKey, sameItem}
+use Rattle.translation.specs.TranslationFile.{itemField, bodyOf, encodeTranslation, translationOf}
+use Rattle.translation.proofs.Codec.{itemWhole, body-encode, rising-grouped}
 use Rattle.translation.specs.Inner.Parts.{sourceIn, targetIn, bodyIn}
 use Rattle.fields.specs.declared.copy.Stored.{Stored}
 use Rattle.fields.specs.declared.copy.Stored.the-variants.{To, Full}
-use Rattle.operators.specs.Operators.{languagesFit, languageWithout, translationsFit, translationUnion, translationSum, translationWithout}
+use Rattle.operators.specs.Operators.{languagesFit, languageWithout, numbersAgree, translationsFit, translationUnion, translationSum, translationWithout}
 use Rattle.fields.specs.Inner.Writing.{Stores}
 use Rattle.merging.specs.Inner.Parts.{Sorted, SortedEntries, united, removed, agrees, fitTogether}
+use Rattle.operators.specs.Inner.Numbers.{numberIn}
 use Rattle.operators.specs.Inner.Values.{exactLanguage, exactTranslation, translationBytes, Gives}
 use Rattle.operators.proofs.Proper.{GoodTranslation}
 use Rattle.operators.proofs.Encoded.{bodyBytes, sorted-entries, rising-language, united-languages, removed-language, languages-fit, sorted-body, united-bodies, bodies-agree}
+use Rattle.operators.proofs.Numbering.{numbers-agree}
 use Rattle.operators.proofs.SumSound.{fit-translations, sound-union}
 use Rattle.operators.specs.Inner.Assembled.{assembled}
 use Rattle.operators.specs.Inner.EncodedParts.{EncodedParts}
 use Rattle.operators.specs.Inner.Kept.{Left}
 use Rattle.operators.proofs.Given.{gives-refused, stored-first, stored-short}
-use Rattle.operators.proofs.Accepted.{exact-translation, accepted-good, language-written, source-written, target-written, body-written, assembled-given, source-over, target-over, body-over}
+use Rattle.operators.proofs.Accepted.{exact-translation, accepted-good, language-written, source-written, target-written, body-written, assembled-given, source-over, target-over, body-in, body-over}
 
 -- The parts of a translation in its own bytes.
 pub accepted-spelt : (s : List ℕ) (f : Translation) → exactTranslation s ≡ value f
@@ -66,6 +71,14 @@ module _ (s t b : List ℕ) (f : Translation) (w : EncodedParts s t b f) where
   pub body-sorted : Sorted 0x22 b
   body-sorted = subst (Sorted 0x22) (sym (w .body)) (sorted-body (f .body) (f .body) (rising-is itemKey (f .body) (spelt-good .sound .rises)))
 
+  pub body-read : bodyOf b ≡ some (f .body)
+  body-read =
+      let h = mem-all itemWhole (f .body) (spelt-good .sound .whole) in
+      ap bodyOf (w .body) ∙ body-encode (f .body) h (rising-grouped (f .body) (rising-is itemKey (f .body) (spelt-good .sound .rises)) h)
+
+  pub body-short : length b ≤ 32768
+  body-short = omega (arith, ap length (w .body), body-in f, spelt-good .short)
+
   pub source-rises : RisingEntries s
   source-rises =
       let g = spelt-good .sound .source in
@@ -95,7 +108,12 @@ module _ (s t x u v y : List ℕ) (f g : Translation) (p : EncodedParts s t x f)
       ap (λ (a : List ℕ). agrees 0x22 a y) (p .body)
       ∙ (ap (agrees 0x22 (bodyBytes (f .body))) (q .body) ∙ bodies-agree (f .body) (g .body))
 
-  fit-is : translationsFit f g ≡ (fitTogether s u && (fitTogether t v && agrees 0x22 x y))
+  pub numbers-fit : (n : Bool) → ((b c : Body) → bodyOf x ≡ some b → bodyOf y ≡ some c → n ≡ (all (numberIn c) b && all (numberIn b) c)) → n ≡ numbersAgree f g
+  numbers-fit n e =
+      e (f .body) (g .body) (body-read s t x f p) (body-read u v y g q)
+      ∙ numbers-agree f g (spelt-good s t x f p .sound) (spelt-good u v y g q .sound)
+
+  fit-is : translationsFit f g ≡ (fitTogether s u && (fitTogether t v && (numbersAgree f g && agrees 0x22 x y)))
   unfolding translationsFit
   fit-is = rw (sources-fit, targets-fit, bodies-fit)
 
@@ -108,8 +126,12 @@ module _ (s t x u v y : List ℕ) (f g : Translation) (p : EncodedParts s t x f)
       pub targets-unfit : b ≡ false → false ≡ translationsFit f g
       targets-unfit h = cc fit-is
 
-      pub all-fit : b ≡ true → (c : Bool) → c ≡ agrees 0x22 x y → c ≡ translationsFit f g
-      all-fit h c e = cc fit-is
+      module _ (hb : b ≡ true) (n : Bool) (en : n ≡ numbersAgree f g) where
+        pub numbers-unfit : n ≡ false → false ≡ translationsFit f g
+        numbers-unfit h = cc fit-is
+
+        pub all-fit : n ≡ true → (c : Bool) → c ≡ agrees 0x22 x y → c ≡ translationsFit f g
+        all-fit h c e = cc fit-is
 
   -- unite
   source-is : united 0x11 s u ≡ encodeLanguage (translationUnion f g .source)

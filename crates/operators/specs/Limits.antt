@@ -19,8 +19,8 @@ isDeep broken = false
 
 -- The same of an item; a mapping has no code.
 unfoldable pub codeIsDeep : Translation → Item → Bool
-codeIsDeep f (mapping s t) = false
-codeIsDeep f (clause r p bytes) = isDeep (readClause f r p bytes)
+codeIsDeep f (mapping s j t) = false
+codeIsDeep f (clause r p j bytes) = isDeep (readClause f r p j bytes)
 
 -- A value exceeds a limit: 1,024 bytes of a language, 4,096 of a translation, 16 levels of a code.
 unfoldable pub languageExceeds : Language → Bool

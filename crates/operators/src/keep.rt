@@ -20,10 +20,12 @@ use fields::copy::Stored;
 use fields::copy::put_if;
 use fields::outcome::Outcome;
 use fields::outcome::Reason;
+use fields::walk::MAPPING;
 use fields::walk::field_end;
 use reader::index::INDEX;
 use reader::index::build;
 use reader::kinds::is_in;
+use translation::body::is_clause;
 use translation::index::known_at;
 
 // The item at p is of the language: its kind is in it, or its production.
@@ -31,10 +33,10 @@ fn stays(body: &[u8], p: usize, source: &[u8], index: &[u16]) -> bool
     requires { ⌜ (itemWhole (now body) p ≡ true) × (p < length (now body)) × ((l : Language) × Indexed (now index) (now source) l) ⌝ }
     ensures { λ r. ⌜ ((l : Language) → Indexed (now (index .entry)) (now (source .entry)) l → r ≡ isOf l (itemAt (now (body .entry)) p)) ⌝ }
 {
-    if byte_at(body, p) == 0x22 {
+    if !is_clause(byte_at(body, p)) {
         return is_in(source, byte_at(body, p + 3));
     }
-    known_at(body, p, 0x22, index)
+    known_at(body, p, MAPPING, index)
 }
 
 // The items of a body that are of the language, into the output from its start.

@@ -7,5 +7,6 @@ pub mod keep;
 pub mod languages;
 pub mod limit;
 pub mod make;
+pub mod numbers;
 pub mod translations;
 pub mod walk;

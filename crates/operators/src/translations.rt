@@ -11,6 +11,7 @@ ghost use Rattle.operators.specs.Inner.Values.{exactLanguage, exactTrans
 ghost use Rattle.operators.specs.Inner.EncodedParts.{EncodedParts};
 use super::assemble::assemble;
 use super::keep::keep_parts;
+use super::numbers::numbers_agree;
 use fields::copy::Stored;
 use fields::outcome::Outcome;
 use fields::outcome::Reason;
@@ -22,7 +23,7 @@ use translation::parts::body_of;
 use translation::parts::source_of;
 use translation::parts::target_of;
 
-// Both sources fit, both targets fit, and items of one key are the same in both bodies.
+// Both sources fit, both targets fit, shared kinds have the same numbers, and items of one key are the same in both bodies.
 fn parts_fit(
     first_source: &[u8],
     first_target: &[u8],
@@ -39,6 +40,9 @@ fn parts_fit(
         return false;
     }
     if !languages_fit(first_target, second_target) {
+        return false;
+    }
+    if !numbers_agree(first_body, second_body) {
         return false;
     }
     agree(first_body, second_body, 0x22)

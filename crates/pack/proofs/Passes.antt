@@ -15,13 +15,13 @@ use Rattle.fields.specs.Outcome.{value, refuseIf, checked}
 use Rattle.fields.specs.declared.outcome.Outcome.{Outcome}
 use Rattle.fields.specs.declared.outcome.Outcome.the-variants.{Accepted, Refused}
 use Rattle.fields.specs.declared.outcome.Reason.the-variants as Why
-use Rattle.fields.specs.Inner.Places.{fieldEnd, isWhole, contentsAt, placesFrom, places, keyAt, tagIs, longAt, WholeEnd}
+use Rattle.fields.specs.Inner.Places.{fieldEnd, isWhole, contentsAt, placesFrom, places, orderAt, tagIs, longAt, WholeEnd}
 use Rattle.fields.proofs.Truth.{false-true, and-both, some-is}
 use Rattle.fields.proofs.Lists.{all-true}
 use Rattle.fields.proofs.Places.{pass-done, pass-next, end-whole}
-use Rattle.language.specs.Language.{entryKey, clashes}
+use Rattle.language.specs.Language.{Language, entryKey, clashes}
 use Rattle.language.specs.LanguageFile.{entriesOf, languageLimit}
-use Rattle.language.specs.Inner.Entries.{entryWhole, resultsMeet}
+use Rattle.language.specs.Inner.Entries.{entryWhole, Holds, resultsMeet}
 use Rattle.language.proofs.Facts.{entries-long}
 use Rattle.language.proofs.Holds.{entries-there, holds-entries}
 use Rattle.language.proofs.Chain.{rising-is}
@@ -58,11 +58,11 @@ module _ (s : List ℕ) (p e : ℕ) (ee : e ≡ fieldEnd s p) where
     unfolding partGood
     good-term n h = cc (ne-eqb tag 0x30 n, ne-eqb tag 0x31 h)
 
-    pub rises-language : tag ≡ 0x30 → x ≡ rising (keyAt 0x11 (cut s (p + 3) e)) (places (cut s (p + 3) e)) → x ≡ risesAt s p
+    pub rises-language : tag ≡ 0x30 → x ≡ rising (orderAt 0x11 (cut s (p + 3) e)) (places (cut s (p + 3) e)) → x ≡ risesAt s p
     unfolding risesAt
     rises-language h ex = cc (lent, eq-eqb tag 0x30 h)
 
-    pub rises-body : (tag ≡ 0x30 → ⊥) → tag ≡ 0x31 → x ≡ rising (keyAt 0x22 (cut s (p + 3) e)) (places (cut s (p + 3) e)) → x ≡ risesAt s p
+    pub rises-body : (tag ≡ 0x30 → ⊥) → tag ≡ 0x31 → x ≡ rising (orderAt 0x22 (cut s (p + 3) e)) (places (cut s (p + 3) e)) → x ≡ risesAt s p
     unfolding risesAt
     rises-body n h ex = cc (lent, ne-eqb tag 0x30 n, eq-eqb tag 0x31 h)
 
@@ -166,13 +166,18 @@ module _ (s : List ℕ) (p e : ℕ) (ee : e ≡ fieldEnd s p) (tag : ℕ) (et : 
         let l : all (longAt (contentsAt s p)) (places (contentsAt s p)) ≡ true = items-long (contentsAt s p) (holds-items _ _ (body-is s p i) .whole) in
         ap (λ (c : List ℕ). all (longAt c) (places c)) (lent s p e ee) ∙ l
 
-  pub entries-rise : risesAt s p ≡ true → tag ≡ 0x30 → rising (keyAt 0x11 (cut s (p + 3) e)) (places (cut s (p + 3) e)) ≡ true
+  pub entries-rise : risesAt s p ≡ true → tag ≡ 0x30 → rising (orderAt 0x11 (cut s (p + 3) e)) (places (cut s (p + 3) e)) ≡ true
   unfolding risesAt
   entries-rise r h =
-      let i : rising (keyAt 0x11 (contentsAt s p)) (places (contentsAt s p)) ≡ true = rw (← et, eq-eqb tag 0x30 h) at r in
-      ap (λ (c : List ℕ). rising (keyAt 0x11 c) (places c)) (lent s p e ee) ∙ i
+      let i : rising (orderAt 0x11 (contentsAt s p)) (places (contentsAt s p)) ≡ true = rw (← et, eq-eqb tag 0x30 h) at r in
+      ap (λ (c : List ℕ). rising (orderAt 0x11 c) (places c)) (lent s p e ee) ∙ i
 
 -- The keys of all languages and bodies rise where they do at each place.
+-- The keys of a language, as they are ordered.
+language-rises : (s : List ℕ) (l : Language) → Holds s l → rising (orderAt 0x11 s) (places s) ≡ rising entryKey l
+unfolding orderAt
+language-rises s l h = rising-is s l h
+
 rises-places : (s l : List ℕ) → all (partWhole s) l ≡ true
     → all (risesAt s) l ≡ (all (rising entryKey) (map (languageAt s) (keep (tagIs 0x30 s) l)) && all (rising itemKey) (map (bodyAt s) (keep (tagIs 0x31 s) l)))
 unfolding all keep risesAt
@@ -183,7 +188,7 @@ rises-places s (p ∷ l) h =
     part-cases s p (w .0)
     (λ e i.
     let z : eqb (getD s p 0) 0x31 ≡ false = cc (eqb-true (getD s p 0) 0x30 e) in
-    let r = rising-is (contentsAt s p) (languageAt s p) (holds-entries _ _ (language-is s p i)) in
+    let r = language-rises (contentsAt s p) (languageAt s p) (holds-entries _ _ (language-is s p i)) in
     cc (more, r, and-join (rising entryKey (languageAt s p)) (all (rising entryKey) (map (languageAt s) (keep (tagIs 0x30 s) l))) (all (rising itemKey) (map (bodyAt s) (keep (tagIs 0x31 s) l)))))
     (λ d e i.
     let r = items-rise (contentsAt s p) (bodyAt s p) (holds-items _ _ (body-is s p i)) in

@@ -6,11 +6,11 @@ ghost use Rattle.fields.specs.Inner.Places.{WholeEnd, places};
 ghost use Rattle.pack.specs.Inner.Parts.{partWhole, risesAt, clashAt};
 use super::whole::BODY;
 use super::whole::LANGUAGE;
+use fields::walk::MAPPING;
 use fields::walk::keys_rise;
 use fields::walk::whole_end;
 use language::clash::result_is_class;
 use language::entries::CLASS;
-use translation::body::MAPPING;
 
 // The keys of the part at p, which ends at e, rise, if it is a language or a body.
 fn rises_at(s: &[u8], p: usize, e: usize) -> bool

@@ -1,6 +1,7 @@
 -- The index that was built is the index of the language: what is looked up through it is what stands in the language.
 use Prim.Native.Nat.{ℕ, zero, suc, _+_, _-_, _<_, _≤_}
 use mathlib.Core.Path.{_≡_, refl, sym, ap, subst, _∙_}
+use mathlib.Core.Logic.{inl, inr, ⊎-elim}
 use mathlib.Core.List.{List}
 use mathlib.Core.Bool.{true}
 use mathlib.Core.Option.{some}
@@ -12,7 +13,7 @@ use lib.Dec.{eqb}
 use borrow.Author.Tests.{eq-eqb, eqb-true, eqb-false, ltb-true}
 use Rattle.fields.specs.Fields.{pairAt}
 use Rattle.fields.specs.Lists.{all, first}
-use Rattle.fields.specs.Inner.Places.{fieldEnd, places, keyAt}
+use Rattle.fields.specs.Inner.Places.{fieldEnd, places, keyAt, slotAt}
 use Rattle.fields.proofs.Truth.{by-test}
 use Rattle.fields.proofs.Lists.{all-true, part-next}
 use Rattle.language.specs.Language.{class, Language, rangeAt, rangeOf, argumentsAt, argumentsOf, kindKey, productionKey}
@@ -35,12 +36,12 @@ part-kinds (suc m) s q e y h a x i j =
 
 -- Keys and places of whole entries.
 module _ (s : List ℕ) (p : ℕ) where
-  class-key : IsClass s p → keyAt 0x11 s p ≡ getD s (p + 3) 0
-  unfolding keyAt
+  class-key : IsClass s p → slotAt 0x11 s p ≡ getD s (p + 3) 0
+  unfolding slotAt keyAt
   class-key w = cc (eq-eqb _ _ (w .tag))
 
-  pub production-key : IsProduction s p → keyAt 0x11 s p ≡ productionKey (getD s (p + 3) 0) (getD s (p + 4) 0)
-  unfolding keyAt pairAt
+  pub production-key : IsProduction s p → slotAt 0x11 s p ≡ productionKey (getD s (p + 3) 0) (getD s (p + 4) 0)
+  unfolding slotAt keyAt pairAt
   production-key w = let d : p + 3 + 1 ≡ p + 4 = omega arith in cc (w .tag)
 
   production-fits : IsProduction s p → p + 5 ≤ length s
@@ -51,12 +52,16 @@ module _ (s : List ℕ) (p : ℕ) where
   production-kinds w = part-kinds _ s (p + 5) (fieldEnd s p) refl (w .fits) (w .arguments)
 
 -- Classes and productions.
-groups : (s : List ℕ) → Groups 0x11 s (entryWhole s) (IsClass s) (IsProduction s)
+abbrev none-other : ℕ → Type 0
+none-other p = ⊥
+
+groups : (s : List ℕ) → Groups 0x11 s (entryWhole s) (IsClass s) (IsProduction s) none-other
 groups s = record {
-  facts = entry-facts s;
+  facts = λ p w. ⊎-elim (λ c. inl c) (λ c. inr (inl c)) (entry-facts s p w);
   kind = λ p c. c .kind;
   kind-key = class-key s;
   name-key = production-key s;
+  no-key = λ p o. absurd o;
 }
 
 -- The index that was built.
@@ -75,7 +80,7 @@ module _ (s index : List ℕ) (bytes : (i : ℕ) → getD s i 0 < 256) (short : 
   at-key j h = puts-place 0x11 s (places s) index j (omega arith) (zeros j)
 
   -- A place in the index is that of a whole entry of the key.
-  found-at : (j : ℕ) → j < 8224 → 0 < getD built j 0 → (p : ℕ) × (getD built j 0 ≡ p + 1) × (keyAt 0x11 s p ≡ j) × (entryWhole s p ≡ true)
+  found-at : (j : ℕ) → j < 8224 → 0 < getD built j 0 → (p : ℕ) × (getD built j 0 ≡ p + 1) × (slotAt 0x11 s p ≡ j) × (entryWhole s p ≡ true)
   found-at j h z =
       let k = at-key j h in
       let f = found 0x11 (entryWhole s) s j (places s) (held .whole) (rw k at z) in
@@ -85,13 +90,13 @@ module _ (s index : List ℕ) (bytes : (i : ℕ) → getD s i 0 < 256) (short : 
   class-at k h z =
       let f = found-at k (omega arith) z in
       let i : f .0 ≡ getD built (kindKey k) 0 - 1 = omega (arith, f .1) in
-      subst (IsClass s) i (of-first 0x11 s (entryWhole s) (IsClass s) (IsProduction s) (groups s) (f .0) (f .3) (rw (f .2) h))
+      subst (IsClass s) i (of-first 0x11 s (entryWhole s) (IsClass s) (IsProduction s) none-other (groups s) (f .0) (f .3) (rw (f .2) h))
 
   production-at : (k p : ℕ) → k < 32 → p < 256 → 0 < getD built (productionKey k p) 0
       → (q : ℕ) × (getD built (productionKey k p) 0 ≡ q + 1) × IsProduction s q
   production-at k p h j z =
       let f = found-at (productionKey k p) (omega arith) z in
-      (f .0, f .1, of-second 0x11 s (entryWhole s) (IsClass s) (IsProduction s) (groups s) (f .0) (f .3) (rw (f .2) (omega arith)))
+      (f .0, f .1, of-second 0x11 s (entryWhole s) (IsClass s) (IsProduction s) none-other (groups s) (f .0) (f .3) (rw (f .2) (omega arith)) (rw (f .2) (omega arith)))
 
   kinds-at : (q place : ℕ) → place ≡ q + 1 → IsProduction s q → KindsIn s (place + 4) (place + 2 + pairAt s place)
   unfolding fieldEnd
@@ -113,15 +118,15 @@ module _ (s index : List ℕ) (bytes : (i : ℕ) → getD s i 0 < 256) (short : 
     entries = e;
     range = λ k h.
         ap (first (rangeAt k)) (sym (held .entries))
-        ∙ (looked-kind 0x11 s (entryWhole s) (IsClass s) (IsProduction s) (groups s) (entryAt s) (rangeAt k) (rangeBefore s) refl
+        ∙ (looked-kind 0x11 s (entryWhole s) (IsClass s) (IsProduction s) none-other (groups s) (entryAt s) (rangeAt k) (rangeBefore s) refl
         (classRange s) (λ p. rw add-one refl) k h
-        (λ p c. ap (rangeAt k) (class-is s p c)) (λ p c. ap (rangeAt k) (production-is s p c)) (places s) (held .whole)
+        (λ p c. ap (rangeAt k) (class-is s p c)) (λ p c. ap (rangeAt k) (production-is s p c)) (λ p o. absurd o) (places s) (held .whole)
         ∙ ap (rangeBefore s) (sym (at-key k (omega arith))));
     arguments = λ k p h j.
         ap (first (argumentsAt k p)) (sym (held .entries))
-        ∙ (looked-name 0x11 s (entryWhole s) (IsClass s) (IsProduction s) (groups s) (entryAt s) (argumentsAt k p) (argumentsBefore s) refl
+        ∙ (looked-name 0x11 s (entryWhole s) (IsClass s) (IsProduction s) none-other (groups s) (entryAt s) (argumentsAt k p) (argumentsBefore s) refl
         (λ q. slice (q + 5) (fieldEnd s q) s) (λ q. rw add-one refl) k h p j bytes
-        (λ q c. ap (argumentsAt k p) (class-is s q c)) (λ q c. ap (argumentsAt k p) (production-is s q c)) (places s) (held .whole)
+        (λ q c. ap (argumentsAt k p) (class-is s q c)) (λ q c. ap (argumentsAt k p) (production-is s q c)) (λ q o. absurd o) (places s) (held .whole)
         ∙ ap (argumentsBefore s) (sym (at-key (productionKey k p) (omega arith))));
   }
 

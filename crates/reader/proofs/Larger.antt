@@ -12,8 +12,8 @@ use Rattle.language.specs.Language.{Entry, Language, entryKey, Range, inRange, 
 use Rattle.language.proofs.Lookup.{range-mem, arguments-mem, mem-range, mem-arguments, clashes-none}
 use Rattle.language.proofs.Ranges.{within-itself, value-within}
 use Rattle.reader.specs.Code.{Code, token, Codes}
-use Rattle.reader.specs.Typing.{Typed, TypedAll, typed-node, typed-token, typed-argument, typed-nil, typed-cons}
-use Rattle.reader.specs.Syntax.{code, Read, done, deep, broken, andThen, readAll, readOperands, readNode, readToken, readArgument, readCodeLevel, readLevel, current, pastLevels, readBy, read}
+use Rattle.reader.specs.Typing.{Uses, Typed, TypedAll, typed-node, typed-token, typed-argument, typed-nil, typed-cons}
+use Rattle.reader.specs.Syntax.{code, Read, done, deep, broken, andThen, readAll, readOperands, readNode, readToken, readUse, readCodeLevel, readLevel, current, pastLevels, readBy, read}
 use Rattle.reader.proofs.RoundTrip.{Apart}
 
 -- A language with all productions of another, and for each class of it a class of that kind that contains its range.
@@ -37,12 +37,12 @@ apart l e k p ks q = go (rangeOf l k) refl
 
 module _ {l m : Language} (w : Larger l m) where
   mutual
-    pub typed-larger : {r : List ℕ} {a : Code} {k : ℕ} → Typed l r a k → Typed m r a k
+    pub typed-larger : {r : Uses} {a : Code} {k : ℕ} → Typed l r a k → Typed m r a k
     typed-larger (typed-node e h) = typed-node (w .productions _ _ _ e) (typed-largerAll h)
     typed-larger (typed-token {v = v} {c = c} e h) = let d = w .classes _ c e in typed-token (d .1) (value-within c (d .0) (d .2) v h)
     typed-larger (typed-argument e) = typed-argument e
 
-    pub typed-largerAll : {r : List ℕ} {t : Codes} {ks : List ℕ} → TypedAll l r t ks → TypedAll m r t ks
+    pub typed-largerAll : {r : Uses} {t : Codes} {ks : List ℕ} → TypedAll l r t ks → TypedAll m r t ks
     typed-largerAll typed-nil = typed-nil
     typed-largerAll (typed-cons h hs) = typed-cons (typed-larger h) (typed-largerAll hs)
 
@@ -100,18 +100,17 @@ module _ {l m : Language} (w : Larger l m) (f g : ℕ → List ℕ → Read Code
   node-keeps k [] = keeps-broken
   node-keeps k (p ∷ s) = operands-keep k p s (argumentsOf l k p) refl
 
-  level-keeps : (arguments : List ℕ) (k : ℕ) (s : List ℕ) → Keeps (readCodeLevel f l arguments k s) (readCodeLevel g m arguments k s)
+  level-keeps : (uses : Uses) (k : ℕ) (s : List ℕ) → Keeps (readCodeLevel f l uses k s) (readCodeLevel g m uses k s)
   unfolding readCodeLevel
-  level-keeps arguments k [] = keeps-broken
-  level-keeps arguments k (b ∷ s) = go (eqb b 1) (eqb b 2) (eqb b 3)
+  level-keeps uses k [] = keeps-broken
+  level-keeps uses k (b ∷ s) = go (eqb b 1) (eqb b 2)
     where
-      go : (x y z : Bool) → Keeps {A = Code}
-          (elim x [ true ↦ readNode f l k s | false ↦ elim y [ true ↦ readToken (rangeOf l k) s | false ↦ elim z [ true ↦ readArgument arguments k s | false ↦ broken ] ] ])
-          (elim x [ true ↦ readNode g m k s | false ↦ elim y [ true ↦ readToken (rangeOf m k) s | false ↦ elim z [ true ↦ readArgument arguments k s | false ↦ broken ] ] ])
-      go true y z = node-keeps k s
-      go false true z = token-keeps w k s (rangeOf l k) refl
-      go false false true = keeps-same (readArgument arguments k s)
-      go false false false = keeps-broken
+      go : (x y : Bool) → Keeps {A = Code}
+          (elim x [ true ↦ readNode f l k s | false ↦ elim y [ true ↦ readToken (rangeOf l k) s | false ↦ readUse uses k b s ] ])
+          (elim x [ true ↦ readNode g m k s | false ↦ elim y [ true ↦ readToken (rangeOf m k) s | false ↦ readUse uses k b s ] ])
+      go true y = node-keeps k s
+      go false true = token-keeps w k s (rangeOf l k) refl
+      go false false = keeps-same (readUse uses k b s)
 
 -- What is read past the last level.
 past-keeps : {l m : Language} → Larger l m → (k : ℕ) (s : List ℕ) → Keeps (pastLevels current code l k s) (pastLevels current code m k s)
@@ -124,11 +123,11 @@ past-keeps {l} {m} w k (b ∷ s) = go (eqb b 2)
     go false = keeps-deep
 
 -- A code read in a language is read alike in a larger one.
-pub read-keeps : {l m : Language} → Larger l m → (arguments : List ℕ) (n k : ℕ) (s : List ℕ)
-    → Keeps (read code l arguments n k s) (read code m arguments n k s)
+pub read-keeps : {l m : Language} → Larger l m → (uses : Uses) (n k : ℕ) (s : List ℕ)
+    → Keeps (read code l uses n k s) (read code m uses n k s)
 unfolding readBy readLevel
-read-keeps w arguments zero k s = past-keeps w k s
-read-keeps w arguments (suc n) k s = level-keeps w _ _ (λ j r. read-keeps w arguments n j r) arguments k s
+read-keeps w uses zero k s = past-keeps w k s
+read-keeps w uses (suc n) k s = level-keeps w _ _ (λ j r. read-keeps w uses n j r) uses k s
 
 -- Too deep, or broken, is not done.
 pub deep-done : {A B : Type 0} {a : A} {r : List ℕ} → deep ≡ done a r → B

@@ -1,10 +1,10 @@
 -- The definitions by position, one turn at a time, in the terms of the code: a law for each return.
-use Prim.Native.Nat.{ℕ, suc, _+_, _-_, _<_, _≤_}
+use Prim.Native.Nat.{ℕ, suc, _+_, _*_, _-_, _<_, _≤_}
 use mathlib.Core.Path.{_≡_, refl, sym, ap, _∙_}
 use mathlib.Core.List.{List}
 use mathlib.Core.Bool.{Bool, true, false, cond}
 use native.Mathlib.Omega.{arith}
-use lib.ListN.{length, getD}
+use lib.ListN.{length, getD, List·getD-eq-default}
 use lib.Dec.{ltb, leb, eqb}
 use borrow.Author.Tests.{ltb-true, ltb-false, leb-false, eqb-true, eqb-false, lt-ltb, le-ltb, leb-true, le-leb, lt-leb, eq-eqb, ne-eqb}
 use Rattle.fields.specs.Fields.{pairAt}
@@ -18,7 +18,11 @@ use Rattle.reader.specs.declared.node.Read.the-variants.{End, Deep, Brok
 use Rattle.reader.specs.declared.node.Node.{Node}
 use Rattle.reader.specs.declared.node.Node.the-variants.{Leaf, Operands}
 use Rattle.reader.specs.Inner.Index.{Sound}
-use Rattle.reader.specs.Inner.Positions.{nameLength, productionPlace, tokenAt, operandsAt, nameAt, argumentIs, argumentAt, treeNode, classPlace, codeLeaf, codeNode, nodeAt, leafAt, operandsFrom, pastAt, readAt, EndsBy, NodeIn, KindsIn}
+use Rattle.reader.specs.Inner.Positions.{nameLength, productionPlace, tokenAt, operandsAt, nameAt, argumentIs, argumentAt, numberedAt, treeNode, classPlace, codeLeaf, codeNode, nodeAt, leafAt, operandsFrom, pastAt, readAt, EndsBy, NodeIn, KindsIn}
+
+-- Past the end of a list its default stands.
+past-zero : (u : List ℕ) (i : ℕ) → length u ≤ i → getD u i 0 ≡ 0
+past-zero u i h = List·getD-eq-default u 0 h
 
 -- token
 module _ (s : List ℕ) (place : ℕ) (b : List ℕ) (at : ℕ) where
@@ -56,33 +60,63 @@ module _ (s index : List ℕ) (k : ℕ) (b : List ℕ) (at : ℕ) where
     name-known h e = cc (lt-leb (length b) at there, ne-eqb place 0 h)
 
 -- argument_is
-module _ (arguments : List ℕ) (k i : ℕ) where
-  pub is-zero : i ≡ 0 → false ≡ argumentIs arguments k i
+module _ (u : List ℕ) (k i j : ℕ) where
+  pub is-zero : i ≡ 0 → false ≡ argumentIs u k i j
   unfolding argumentIs
   is-zero h = simp (eq-eqb i 0 h)
 
-  pub is-past : (i ≡ 0 → ⊥) → length arguments < i → false ≡ argumentIs arguments k i
+  pub is-past : (i ≡ 0 → ⊥) → length u ≤ 8191 + i → false ≡ argumentIs u k i j
   unfolding argumentIs
-  is-past h g = simp (ne-eqb i 0 h, lt-ltb (length arguments) i g)
+  is-past h g = simp (ne-eqb i 0 h, le-leb (length u) (8191 + i) g)
 
-  pub is-there : (i ≡ 0 → ⊥) → i ≤ length arguments → eqb (getD arguments (i - 1) 0) k ≡ argumentIs arguments k i
+  pub is-there : (i ≡ 0 → ⊥) → 8191 + i < length u → eqb (getD u (getD u (8191 + i) 0 * 256 + j) 0) (k + 1) ≡ argumentIs u k i j
   unfolding argumentIs
-  is-there h g = simp (ne-eqb i 0 h, le-ltb (length arguments) i g)
+  is-there h g = simp (ne-eqb i 0 h, lt-leb (length u) (8191 + i) g)
+
+  module _ {x : ℕ} (some : i ≡ 0 → ⊥) (there : 8191 + i < length u) (ex : x ≡ getD u (8191 + i) 0) where
+    pub is-outside : length u ≤ x * 256 + j → false ≡ argumentIs u k i j
+    is-outside o =
+        let z : getD u (getD u (8191 + i) 0 * 256 + j) 0 ≡ 0 = past-zero u _ (rw (sym ex) o) in
+        let n : 0 ≡ k + 1 → ⊥ = λ q. omega arith in
+        sym (ne-eqb 0 (k + 1) n) ∙ (ap (λ y. eqb y (k + 1)) (sym z) ∙ is-there some there)
+
+    pub is-kind : {a b : ℕ} → a ≡ getD u (x * 256 + j) 0 → b ≡ k → eqb a (b + 1) ≡ argumentIs u k i j
+    is-kind ea eb = rw (ea, eb, ex) (is-there some there)
 
 -- argument
-module _ (arguments : List ℕ) (k : ℕ) (b : List ℕ) (at : ℕ) where
-  pub argument-end : length b ≤ at → Broken ≡ argumentAt arguments k b at
+module _ (u : List ℕ) (k : ℕ) (b : List ℕ) (at : ℕ) where
+  pub argument-end : length b ≤ at → Broken ≡ argumentAt u k b at
   unfolding argumentAt
   argument-end h = simp (le-leb (length b) at h)
 
-  module _ {i : ℕ} {t : Bool} (there : at < length b) (ei : i ≡ getD b at 0) (et : t ≡ argumentIs arguments k i) where
-    pub argument-good : t ≡ true → End (at + 1) ≡ argumentAt arguments k b at
+  module _ {i : ℕ} {t : Bool} (there : at < length b) (ei : i ≡ getD b at 0) (et : t ≡ argumentIs u k i 0) where
+    pub argument-good : t ≡ true → End (at + 1) ≡ argumentAt u k b at
     unfolding argumentAt
     argument-good h = cc (lt-leb (length b) at there)
 
-    pub argument-bad : t ≡ false → Broken ≡ argumentAt arguments k b at
+    pub argument-bad : t ≡ false → Broken ≡ argumentAt u k b at
     unfolding argumentAt
     argument-bad h = cc (lt-leb (length b) at there)
+
+-- numbered
+module _ (u : List ℕ) (k : ℕ) (b : List ℕ) (at : ℕ) where
+  pub numbered-end : length b - at < 2 → Broken ≡ numberedAt u k b at
+  unfolding numberedAt
+  numbered-end h = simp (lt-ltb (length b - at) 2 h)
+
+  pub numbered-zero : 2 ≤ length b - at → getD b (at + 1) 0 ≡ 0 → Broken ≡ numberedAt u k b at
+  unfolding numberedAt
+  numbered-zero h e = simp (le-ltb (length b - at) 2 h, eq-eqb (getD b (at + 1) 0) 0 e)
+
+  module _ {i j : ℕ} {t : Bool} (there : 2 ≤ length b - at) (ei : i ≡ getD b at 0) (ej : j ≡ getD b (at + 1) 0)
+      (some : getD b (at + 1) 0 ≡ 0 → ⊥) (et : t ≡ argumentIs u k i j) where
+    pub numbered-good : t ≡ true → End (at + 2) ≡ numberedAt u k b at
+    unfolding numberedAt
+    numbered-good h = cc (le-ltb (length b - at) 2 there, ne-eqb (getD b (at + 1) 0) 0 some)
+
+    pub numbered-bad : t ≡ false → Broken ≡ numberedAt u k b at
+    unfolding numberedAt
+    numbered-bad h = cc (le-ltb (length b - at) 2 there, ne-eqb (getD b (at + 1) 0) 0 some)
 
 -- tree_node
 module _ (s index : List ℕ) (k : ℕ) (b : List ℕ) (at : ℕ) {j place : ℕ} (ej : j ≡ k) (ei : place ≡ getD index j 0) where
@@ -95,58 +129,65 @@ module _ (s index : List ℕ) (k : ℕ) (b : List ℕ) (at : ℕ) {j place : ℕ
   tree-token h e = cc (ne-eqb place 0 h)
 
 -- code_leaf
-module _ (s index arguments : List ℕ) (k : ℕ) (b : List ℕ) (at : ℕ) where
-  pub leaf-end : length b ≤ at → Broken ≡ codeLeaf s index arguments k b at
+module _ (s index u : List ℕ) (k : ℕ) (b : List ℕ) (at : ℕ) where
+  pub leaf-end : length b ≤ at → Broken ≡ codeLeaf s index u k b at
   unfolding codeLeaf
   leaf-end h = simp (le-leb (length b) at h)
 
   module _ (there : at < length b) where
-    pub leaf-argument : {r : Read} → getD b at 0 ≡ 3 → r ≡ argumentAt arguments k b (at + 1) → r ≡ codeLeaf s index arguments k b at
+    pub leaf-argument : {r : Read} → getD b at 0 ≡ 3 → r ≡ argumentAt u k b (at + 1) → r ≡ codeLeaf s index u k b at
     unfolding codeLeaf
     leaf-argument h e = cc (lt-leb (length b) at there)
 
     pub leaf-token : {r : Read} {j place : ℕ} → getD b at 0 ≡ 2 → j ≡ k → place ≡ getD index j 0 → r ≡ tokenAt s place b (at + 1)
-        → r ≡ codeLeaf s index arguments k b at
+        → r ≡ codeLeaf s index u k b at
     unfolding codeLeaf
     leaf-token h ej ei e = cc (lt-leb (length b) at there)
 
-    pub leaf-other : (getD b at 0 ≡ 3 → ⊥) → (getD b at 0 ≡ 2 → ⊥) → Broken ≡ codeLeaf s index arguments k b at
+    pub leaf-numbered : {r : Read} → getD b at 0 ≡ 4 → r ≡ numberedAt u k b (at + 1) → r ≡ codeLeaf s index u k b at
     unfolding codeLeaf
-    leaf-other h i = cc (lt-leb (length b) at there, ne-eqb (getD b at 0) 3 h, ne-eqb (getD b at 0) 2 i)
+    leaf-numbered h e = cc (lt-leb (length b) at there)
+
+    pub leaf-other : (getD b at 0 ≡ 3 → ⊥) → (getD b at 0 ≡ 2 → ⊥) → (getD b at 0 ≡ 4 → ⊥) → Broken ≡ codeLeaf s index u k b at
+    unfolding codeLeaf
+    leaf-other h i j = cc (lt-leb (length b) at there, ne-eqb (getD b at 0) 3 h, ne-eqb (getD b at 0) 2 i, ne-eqb (getD b at 0) 4 j)
 
 -- code_node
-module _ (s index arguments : List ℕ) (k : ℕ) (b : List ℕ) (at : ℕ) where
-  pub code-end : length b ≤ at → Leaf Broken ≡ codeNode s index arguments k b at
+module _ (s index u : List ℕ) (k : ℕ) (b : List ℕ) (at : ℕ) where
+  pub code-end : length b ≤ at → Leaf Broken ≡ codeNode s index u k b at
   unfolding codeNode
   code-end h = simp (le-leb (length b) at h)
 
   module _ (there : at < length b) where
-    pub code-name : {r : Node} → getD b at 0 ≡ 1 → r ≡ nameAt s index k b (at + 1) → r ≡ codeNode s index arguments k b at
+    pub code-name : {r : Node} → getD b at 0 ≡ 1 → r ≡ nameAt s index k b (at + 1) → r ≡ codeNode s index u k b at
     unfolding codeNode
     code-name h e = cc (lt-leb (length b) at there)
 
-    pub code-leaf : {r : Read} → (getD b at 0 ≡ 1 → ⊥) → r ≡ codeLeaf s index arguments k b at → Leaf r ≡ codeNode s index arguments k b at
+    pub code-leaf : {r : Read} → (getD b at 0 ≡ 1 → ⊥) → r ≡ codeLeaf s index u k b at → Leaf r ≡ codeNode s index u k b at
     unfolding codeNode
     code-leaf h e = cc (lt-leb (length b) at there, ne-eqb (getD b at 0) 1 h)
 
     module _ (other : getD b at 0 ≡ 1 → ⊥) where
       pub code-token : {r : Read} {j place : ℕ} → getD b at 0 ≡ 2 → j ≡ k → place ≡ getD index j 0 → r ≡ tokenAt s place b (at + 1)
-          → Leaf r ≡ codeNode s index arguments k b at
-      code-token h ej ei e = code-leaf other (leaf-token s index arguments k b at there h ej ei e)
+          → Leaf r ≡ codeNode s index u k b at
+      code-token h ej ei e = code-leaf other (leaf-token s index u k b at there h ej ei e)
 
-      pub code-argument : {r : Read} → getD b at 0 ≡ 3 → r ≡ argumentAt arguments k b (at + 1) → Leaf r ≡ codeNode s index arguments k b at
-      code-argument h e = code-leaf other (leaf-argument s index arguments k b at there h e)
+      pub code-argument : {r : Read} → getD b at 0 ≡ 3 → r ≡ argumentAt u k b (at + 1) → Leaf r ≡ codeNode s index u k b at
+      code-argument h e = code-leaf other (leaf-argument s index u k b at there h e)
 
-      pub code-other : (getD b at 0 ≡ 3 → ⊥) → (getD b at 0 ≡ 2 → ⊥) → Leaf Broken ≡ codeNode s index arguments k b at
-      code-other h i = code-leaf other (leaf-other s index arguments k b at there h i)
+      pub code-numbered : {r : Read} → getD b at 0 ≡ 4 → r ≡ numberedAt u k b (at + 1) → Leaf r ≡ codeNode s index u k b at
+      code-numbered h e = code-leaf other (leaf-numbered s index u k b at there h e)
+
+      pub code-other : (getD b at 0 ≡ 3 → ⊥) → (getD b at 0 ≡ 2 → ⊥) → (getD b at 0 ≡ 4 → ⊥) → Leaf Broken ≡ codeNode s index u k b at
+      code-other h i j = code-leaf other (leaf-other s index u k b at there h i j)
 
 -- node_at
-module _ (s index arguments : List ℕ) (k : ℕ) (b : List ℕ) (at : ℕ) {x : Syntax} {r : Node} where
-  pub node-tree : x ≡ Tree → r ≡ treeNode s index k b at → r ≡ nodeAt x s index arguments k b at
+module _ (s index u : List ℕ) (k : ℕ) (b : List ℕ) (at : ℕ) {x : Syntax} {r : Node} where
+  pub node-tree : x ≡ Tree → r ≡ treeNode s index k b at → r ≡ nodeAt x s index u k b at
   unfolding nodeAt
   node-tree h e = cc
 
-  pub node-code : x ≡ Code → r ≡ codeNode s index arguments k b at → r ≡ nodeAt x s index arguments k b at
+  pub node-code : x ≡ Code → r ≡ codeNode s index u k b at → r ≡ nodeAt x s index u k b at
   unfolding nodeAt
   node-code h e = cc
 
@@ -225,25 +266,25 @@ module _ (s index : List ℕ) (k : ℕ) (b : List ℕ) (at : ℕ) {x : Syntax} {
   past-code h e = cc
 
 -- read_at
-module _ (x : Syntax) (s index arguments b : List ℕ) (n k at : ℕ) where
-  pub read-past : {r : Read} → n ≡ 0 → r ≡ pastAt x s index k b at → r ≡ readAt x s index arguments b n k at
+module _ (x : Syntax) (s index u b : List ℕ) (n k at : ℕ) where
+  pub read-past : {r : Read} → n ≡ 0 → r ≡ pastAt x s index k b at → r ≡ readAt x s index u b n k at
   unfolding readAt
   read-past h e = rw h e
 
-  module _ {d : Node} (pos : n ≡ 0 → ⊥) (ed : d ≡ nodeAt x s index arguments k b at) where
+  module _ {d : Node} (pos : n ≡ 0 → ⊥) (ed : d ≡ nodeAt x s index u k b at) where
     one-less : n ≡ suc (n - 1)
     one-less = omega arith
 
-    pub read-leaf : {r : Read} → d ≡ Leaf r → r ≡ readAt x s index arguments b n k at
+    pub read-leaf : {r : Read} → d ≡ Leaf r → r ≡ readAt x s index u b n k at
     unfolding readAt
     read-leaf y = rw one-less (cc)
 
     pub read-operands : {q e to : ℕ} → d ≡ Operands q e to
-        → operandsFrom (readAt x s index arguments b (n - 1)) s (e - q) q to ≡ readAt x s index arguments b n k at
+        → operandsFrom (readAt x s index u b (n - 1)) s (e - q) q to ≡ readAt x s index u b n k at
     unfolding readAt
     read-operands {q} {e} {to} y =
-        (let z : operandsFrom (readAt x s index arguments b (n - 1)) s (e - q) q to ≡ readAt x s index arguments b (suc (n - 1)) k at = cc in z)
-        ∙ ap (λ (m : ℕ). readAt x s index arguments b m k at) (sym one-less)
+        (let z : operandsFrom (readAt x s index u b (n - 1)) s (e - q) q to ≡ readAt x s index u b (suc (n - 1)) k at = cc in z)
+        ∙ ap (λ (m : ℕ). readAt x s index u b m k at) (sym one-less)
 
 -- class_place
 pub place-tree : {x : Syntax} {j r : ℕ} (index : List ℕ) (k : ℕ) → x ≡ Tree → j ≡ k → r ≡ getD index j 0 → r ≡ classPlace x index k
@@ -260,17 +301,17 @@ unfolding classPlace
 in-tree Tree index k h = (refl, refl)
 in-tree Code index k h = absurd (h refl)
 
-module _ (x : Syntax) (s index arguments b : List ℕ) (n k at : ℕ) where
+module _ (x : Syntax) (s index u b : List ℕ) (n k at : ℕ) where
   pub read-token : {place : ℕ} {r : Read} → place ≡ classPlace x index k → (place ≡ 0 → ⊥) → r ≡ tokenAt s place b at
-      → r ≡ readAt x s index arguments b n k at
+      → r ≡ readAt x s index u b n k at
   read-token {place} e h t =
       let w = in-tree x index k (λ z. h (e ∙ z)) in
       by-test (eqb n 0)
-      (λ z. read-past x s index arguments b n k at (eqb-true n 0 z) (past-tree s index k b at (w .0) (past-token s index k b at refl (e ∙ w .1) h t)))
-      (λ z. read-leaf x s index arguments b n k at (eqb-false n 0 z) (node-tree s index arguments k b at (w .0) (tree-token s index k b at refl (e ∙ w .1) h t)) refl)
+      (λ z. read-past x s index u b n k at (eqb-true n 0 z) (past-tree s index k b at (w .0) (past-token s index k b at refl (e ∙ w .1) h t)))
+      (λ z. read-leaf x s index u b n k at (eqb-false n 0 z) (node-tree s index u k b at (w .0) (tree-token s index k b at refl (e ∙ w .1) h t)) refl)
 
 -- leaf
-module _ (x : Syntax) (s index arguments b : List ℕ) (n k at : ℕ) where
+module _ (x : Syntax) (s index u b : List ℕ) (n k at : ℕ) where
   -- An unknown name in a tree, where no token of a class is to be.
   tree-nothing : getD index k 0 ≡ 0 → productionPlace Tree index k b at ≡ 0 → Leaf Broken ≡ treeNode s index k b at
   unfolding productionPlace
@@ -283,18 +324,18 @@ module _ (x : Syntax) (s index arguments b : List ℕ) (n k at : ℕ) where
       tree-name s index k b at refl (sym e) refl (name-unknown s index k b at there refl refl (sym z) refl))
 
   -- The same in a code.
-  code-nothing : productionPlace Code index k b at ≡ 0 → Leaf (codeLeaf s index arguments k b at) ≡ codeNode s index arguments k b at
+  code-nothing : productionPlace Code index k b at ≡ 0 → Leaf (codeLeaf s index u k b at) ≡ codeNode s index u k b at
   unfolding productionPlace
   code-nothing h =
       by-test (leb (length b) at)
       (λ t.
       let over : length b ≤ at = leb-true (length b) at t in
-      ap Leaf (sym (leaf-end s index arguments k b at over)) ∙ code-end s index arguments k b at over)
+      ap Leaf (sym (leaf-end s index u k b at over)) ∙ code-end s index u k b at over)
       (λ t.
       let there : at < length b = leb-false (length b) at t in
       by-test (eqb (getD b at 0) 1)
-      (λ d. let one : getD b at 0 ≡ 1 = eqb-true _ _ d in ap Leaf (sym (leaf-other s index arguments k b at there (λ z. omega arith) (λ z. omega arith))) ∙ code-name s index arguments k b at there one (unknown there one h))
-      (λ d. code-leaf s index arguments k b at there (eqb-false _ _ d) refl))
+      (λ d. let one : getD b at 0 ≡ 1 = eqb-true _ _ d in ap Leaf (sym (leaf-other s index u k b at there (λ z. omega arith) (λ z. omega arith) (λ z. omega arith))) ∙ code-name s index u k b at there one (unknown there one h))
+      (λ d. code-leaf s index u k b at there (eqb-false _ _ d) refl))
     where
       unknown : at < length b → getD b at 0 ≡ 1
           → cond (leb (length b) (at + 1)) 0 (cond (eqb (getD b at 0) 1) (getD index (productionKey k (getD b (at + 1) 0)) 0) 0) ≡ 0
@@ -344,30 +385,30 @@ module _ (x : Syntax) (index : List ℕ) (k : ℕ) (b : List ℕ) (at class : �
         let l : at + 1 < length b = omega arith in cc (eq-eqb class 0 none, lt-leb (length b) (at + 1) l)
 
 -- leaf_at
-module _ (s index arguments : List ℕ) (k : ℕ) (b : List ℕ) (at : ℕ) {x : Syntax} where
-  pub leaf-tree : x ≡ Tree → Broken ≡ leafAt x s index arguments k b at
+module _ (s index u : List ℕ) (k : ℕ) (b : List ℕ) (at : ℕ) {x : Syntax} where
+  pub leaf-tree : x ≡ Tree → Broken ≡ leafAt x s index u k b at
   unfolding leafAt
   leaf-tree h = cc
 
-  pub leaf-code : {r : Read} → x ≡ Code → r ≡ codeLeaf s index arguments k b at → r ≡ leafAt x s index arguments k b at
+  pub leaf-code : {r : Read} → x ≡ Code → r ≡ codeLeaf s index u k b at → r ≡ leafAt x s index u k b at
   unfolding leafAt
   leaf-code h e = cc
 
 -- leaf, where no production was found and no token of a class in a tree is to be read
-module _ (x : Syntax) (s index arguments b : List ℕ) (n k at : ℕ) where
-  nothing-node : {r : Read} → classPlace x index k ≡ 0 → productionPlace x index k b at ≡ 0 → r ≡ leafAt x s index arguments k b at
-      → Leaf r ≡ nodeAt x s index arguments k b at
+module _ (x : Syntax) (s index u b : List ℕ) (n k at : ℕ) where
+  nothing-node : {r : Read} → classPlace x index k ≡ 0 → productionPlace x index k b at ≡ 0 → r ≡ leafAt x s index u k b at
+      → Leaf r ≡ nodeAt x s index u k b at
   unfolding classPlace leafAt nodeAt
   nothing-node {r} e h y = go x e h y
     where
-      go : (x : Syntax) → classPlace x index k ≡ 0 → productionPlace x index k b at ≡ 0 → r ≡ leafAt x s index arguments k b at
-          → Leaf r ≡ nodeAt x s index arguments k b at
-      go Tree e h y = ap Leaf y ∙ tree-nothing Tree s index arguments b n k at e h
-      go Code e h y = ap Leaf y ∙ code-nothing Code s index arguments b n k at h
+      go : (x : Syntax) → classPlace x index k ≡ 0 → productionPlace x index k b at ≡ 0 → r ≡ leafAt x s index u k b at
+          → Leaf r ≡ nodeAt x s index u k b at
+      go Tree e h y = ap Leaf y ∙ tree-nothing Tree s index u b n k at e h
+      go Code e h y = ap Leaf y ∙ code-nothing Code s index u b n k at h
 
-  pub leaf-read : {r : Read} {class : ℕ} → (n ≡ 0 → ⊥) → r ≡ leafAt x s index arguments k b at → class ≡ classPlace x index k → class ≡ 0
-      → productionPlace x index k b at ≡ 0 → r ≡ readAt x s index arguments b n k at
-  leaf-read pos y e z h = read-leaf x s index arguments b n k at pos (nothing-node (sym e ∙ z) h y) refl
+  pub leaf-read : {r : Read} {class : ℕ} → (n ≡ 0 → ⊥) → r ≡ leafAt x s index u k b at → class ≡ classPlace x index k → class ≡ 0
+      → productionPlace x index k b at ≡ 0 → r ≡ readAt x s index u b n k at
+  leaf-read pos y e z h = read-leaf x s index u b n k at pos (nothing-node (sym e ∙ z) h y) refl
 
 -- No production was found.
 pub none-found : (x : Syntax) (index : List ℕ) (k : ℕ) (b : List ℕ) (at : ℕ) {class place : ℕ} → class ≡ 0
@@ -416,21 +457,21 @@ class-at x s index {place} {k} z kind e h =
     class-in index s z refl kind d pos
 
 -- A production that was found: its name stands at i, and the node is a name.
-pub record Named (x : Syntax) (s index arguments : List ℕ) (k : ℕ) (b : List ℕ) (at place : ℕ) : Type 0 where
+pub record Named (x : Syntax) (s index u : List ℕ) (k : ℕ) (b : List ℕ) (at place : ℕ) : Type 0 where
   pub name : ℕ
   pub next : name + 1 ≡ at + nameLength x
   pub inside : name < length b
   pub found : place ≡ getD index (productionKey k (getD b name 0)) 0
-  pub node : nameAt s index k b name ≡ nodeAt x s index arguments k b at
+  pub node : nameAt s index k b name ≡ nodeAt x s index u k b at
 
-named-by : (x : Syntax) (s index arguments : List ℕ) (k : ℕ) (b : List ℕ) (at place : ℕ) → classPlace x index k ≡ 0
-    → place ≡ productionPlace x index k b at → (place ≡ 0 → ⊥) → Named x s index arguments k b at place
+named-by : (x : Syntax) (s index u : List ℕ) (k : ℕ) (b : List ℕ) (at place : ℕ) → classPlace x index k ≡ 0
+    → place ≡ productionPlace x index k b at → (place ≡ 0 → ⊥) → Named x s index u k b at place
 unfolding classPlace productionPlace nodeAt treeNode codeNode
-named-by Tree s index arguments k b at place none e pos =
+named-by Tree s index u k b at place none e pos =
     by-test (leb (length b) at)
     (λ t. absurd (pos (cc)))
     (λ t. record { name = at; next = refl; inside = leb-false _ _ t; found = cc; node = cc (eq-eqb (getD index k 0) 0 none) })
-named-by Code s index arguments k b at place none e pos =
+named-by Code s index u k b at place none e pos =
     by-test (leb (length b) (at + 1))
     (λ t. absurd (pos (cc)))
     (λ t.
@@ -458,15 +499,15 @@ past-named Code s index k b at place none e pos =
     past-other s index k b at m (λ w. omega (arith, one, w)))
     (λ u. absurd (pos (cc))))
 
-module _ (x : Syntax) (s index arguments : List ℕ) (k : ℕ) (b : List ℕ) (at : ℕ) {class place : ℕ} (ec : class ≡ classPlace x index k) (ep : place ≡ cond (eqb class 0) (productionPlace x index k b at) 0) (pos : place ≡ 0 → ⊥) where
-  pub named : Named x s index arguments k b at place
+module _ (x : Syntax) (s index u : List ℕ) (k : ℕ) (b : List ℕ) (at : ℕ) {class place : ℕ} (ec : class ≡ classPlace x index k) (ep : place ≡ cond (eqb class 0) (productionPlace x index k b at) 0) (pos : place ≡ 0 → ⊥) where
+  pub named : Named x s index u k b at place
   named =
       by-test (eqb class 0)
-      (λ t. named-by x s index arguments k b at place (sym ec ∙ eqb-true class 0 t) (ep ∙ ap (λ (u : Bool). cond u (productionPlace x index k b at) 0) t) pos)
+      (λ t. named-by x s index u k b at place (sym ec ∙ eqb-true class 0 t) (ep ∙ ap (λ (u : Bool). cond u (productionPlace x index k b at) 0) t) pos)
       (λ t. absurd (pos (ep ∙ ap (λ (u : Bool). cond u (productionPlace x index k b at) 0) t)))
 
   -- The node that was found, and where its operands and their kinds stand.
-  pub named-node : {n m : ℕ} → n ≡ pairAt s place → m ≡ nameLength x → Operands (place + 4) (place + 2 + n) (at + m) ≡ nodeAt x s index arguments k b at
+  pub named-node : {n m : ℕ} → n ≡ pairAt s place → m ≡ nameLength x → Operands (place + 4) (place + 2 + n) (at + m) ≡ nodeAt x s index u k b at
   named-node {n} e d =
       ap (λ (j : ℕ). Operands (place + 4) (place + 2 + n) j) (ap (λ (j : ℕ). at + j) d ∙ sym (named .next))
       ∙ (name-known s index k b (named .name) (named .inside) refl refl (named .found) pos e ∙ named .node)

@@ -6,7 +6,7 @@ use lib.ListN.{length, getD, set, replicate, length-set, getD-replicate, length-
 use lib.Seq.{set-out}
 use lib.Dec.{ltb, eqb}
 use borrow.Author.Tests.{eq-eqb, ne-eqb, ltb-true, ltb-false}
-use Rattle.fields.specs.Inner.Places.{fieldEnd, placesFrom, keyAt}
+use Rattle.fields.specs.Inner.Places.{fieldEnd, placesFrom, slotAt}
 use Rattle.fields.proofs.Truth.{by-test}
 use Rattle.fields.proofs.Places.{pass-done, pass-next}
 use Rattle.reader.specs.Inner.Index.{putAt, putAll}
@@ -35,7 +35,7 @@ module _ (first : ℕ) (s : List ℕ) (p : ℕ) (index x : List ℕ) (inv : putA
   unfolding putAll
   puts-done h = pass-done (putAll first s index) s p x inv h
 
-  pub puts-next : (more : List ℕ) (key v end : ℕ) → more ≡ putAt index key v → key ≡ keyAt first s p → v ≡ p + 1 → end ≡ fieldEnd s p → p < length s
+  pub puts-next : (more : List ℕ) (key v end : ℕ) → more ≡ putAt index key v → key ≡ slotAt first s p → v ≡ p + 1 → end ≡ fieldEnd s p → p < length s
       → putAll first s more (placesFrom s end) ≡ x
   unfolding putAll
   puts-next more key v end em ek ev ee here = rw (em, ek, ev) (pass-next (putAll first s index) s p x inv end here ee)

@@ -2,13 +2,13 @@
 use Prim.Native.Nat.{ℕ, zero, suc, _+_, _*_, _-_, _<_, _≤_}
 use mathlib.Core.Path.{_≡_, refl, sym, ap, _∙_}
 use mathlib.Core.Bool.{true, false}
-use mathlib.Core.List.{List, [], _∷_}
-use mathlib.Core.Option.{none, some}
+use mathlib.Core.List.{List, [], _∷_, map}
+use mathlib.Core.Option.{Option, none, some}
 use native.Mathlib.Omega.{arith}
 use lib.ListN.{length, getD, getElem?, drop, length-drop, drop-of-length-le}
-use lib.Seq.{slice}
+use lib.Seq.{slice, getD-drop}
 use lib.Dec.{ltb, leb, eqb}
-use borrow.Author.Tests.{le-leb, lt-leb, ne-eqb, leb-true, leb-false, ltb-true, ltb-false, eqb-true, eqb-false}
+use borrow.Author.Tests.{lt-ltb, le-leb, lt-leb, eq-eqb, ne-eqb, leb-true, leb-false, ltb-true, ltb-false, eqb-true, eqb-false}
 use Rattle.fields.specs.Fields.{pairAt}
 use Rattle.fields.specs.Inner.Places.{fieldEnd}
 use Rattle.fields.proofs.Truth.{by-test}
@@ -18,16 +18,16 @@ use Rattle.language.specs.Language.{Language, Range, inRange, productionKey}
 use Rattle.language.specs.Inner.Entries.{classRange}
 use Rattle.reader.specs.Code.{node, token, cons}
 use Rattle.reader.specs.Code as C
-use Rattle.reader.specs.Typing.{kindAt}
+use Rattle.reader.specs.Typing.{Uses, kindBy, kindAt}
 use Rattle.reader.specs.Syntax as Meant
-use Rattle.reader.specs.Syntax.{andThen, readAll, readOperands, readNode, readToken, readArgument, isThe, readTreeLevel, readCodeLevel, readLevel, pastLevels, current}
+use Rattle.reader.specs.Syntax.{andThen, readAll, readOperands, readNode, readToken, useOf, readArgument, readNumbered, readUse, isThe, readTreeLevel, readCodeLevel, readLevel, pastLevels, current}
 use Rattle.reader.specs.declared.node.Syntax.{Syntax}
 use Rattle.reader.specs.declared.node.Syntax.the-variants.{Tree, Code}
 use Rattle.reader.specs.declared.node.Read.{Read}
 use Rattle.reader.specs.declared.node.Read.the-variants.{End, Deep, Broken}
 use Rattle.reader.proofs.Laws as Laws
 use Rattle.reader.specs.Inner.Index.{Indexed, rangeBefore, argumentsBefore}
-use Rattle.reader.specs.Inner.Positions.{tokenAt, operandsAt, nameAt, argumentIs, argumentAt, treeNode, codeNode, nodeAt, operandsFrom, follow, pastAt, readAt, KindsIn, rest, deep, broken, restAt, restOf, syntaxOf}
+use Rattle.reader.specs.Inner.Positions.{tokenAt, operandsAt, nameAt, usesLength, kindBefore, mappedIn, usesIn, argumentIs, argumentAt, numberedAt, treeNode, codeNode, nodeAt, operandsFrom, follow, pastAt, readAt, KindsIn, rest, deep, broken, restAt, restOf, syntaxOf}
 
 -- What was read, by what is left of it.
 pub done-of : {A : Type 0} (g : Meant.Read A) (u : List ℕ) → restOf g ≡ rest u → (a : A) × (g ≡ Meant.done a u)
@@ -117,32 +117,106 @@ inside [] i h = absurd (omega arith)
 inside (a ∷ l) zero h = refl
 inside (a ∷ l) (suc i) h = inside l i (omega arith)
 
-kind-same : (l : List ℕ) (k i : ℕ) → argumentIs l k (suc i) ≡ isThe k (getElem? l i)
-kind-same l k i =
-    let pos : suc i ≡ 0 → ⊥ = λ h. omega arith in
-    let one : suc i - 1 ≡ i = omega arith in
-    by-test (ltb (length l) (suc i))
-    (λ e. let h : length l < suc i = ltb-true _ _ e in cc (Laws.is-past l k (suc i) pos h, past l i (omega arith)))
-    (λ e. let h : suc i ≤ length l = ltb-false _ _ e in cc (Laws.is-there l k (suc i) pos h, inside l i (omega arith)))
+-- A kind is the one that is wanted where its number plus one stands there.
+kind-before : (k x : ℕ) → eqb x (k + 1) ≡ isThe k (kindBefore x)
+kind-before k zero = ne-eqb 0 (k + 1) (λ h. omega arith)
+kind-before k (suc x) =
+    by-test (eqb x k)
+    (λ e. let h : x ≡ k = eqb-true _ _ e in cc (eq-eqb (suc x) (k + 1) (omega arith)))
+    (λ e. let h : x ≡ k → ⊥ = eqb-false _ _ e in cc (ne-eqb (suc x) (k + 1) (λ w. h (omega arith))))
 
-is-same : (arguments : List ℕ) (k i : ℕ) → argumentIs arguments k i ≡ isThe k (kindAt arguments i)
-is-same arguments k zero = sym (Laws.is-zero arguments k 0 refl)
-is-same arguments k (suc i) = kind-same arguments k i
+-- The uses of bytes, by the kinds that stand in them.
+used : (f : ℕ → ℕ → Option ℕ) (l : List ℕ) (i j : ℕ) → i < length l → kindBy (getElem? (map f l) i) j ≡ f (getD l i 0) j
+used f [] i j h = absurd (omega arith)
+used f (a ∷ l) zero j h = refl
+used f (a ∷ l) (suc i) j h = used f l i j (omega arith)
 
-module _ (arguments : List ℕ) (k : ℕ) (b : List ℕ) (at : ℕ) where
-  argument-end : length b ≤ at → restAt b (argumentAt arguments k b at) ≡ restOf (readArgument arguments k (drop at b))
+unused : (f : ℕ → ℕ → Option ℕ) (l : List ℕ) (i j : ℕ) → length l ≤ i → kindBy (getElem? (map f l) i) j ≡ none
+unused f [] i j h = refl
+unused f (a ∷ l) zero j h = absurd (omega arith)
+unused f (a ∷ l) (suc i) j h = unused f l i j (omega arith)
+
+kind-in : (u : List ℕ) (k i j : ℕ) → j < 256 → 8191 + suc i < length u → argumentIs u k (suc i) j ≡ isThe k (kindAt (usesIn u) (suc i) j)
+unfolding usesIn mappedIn
+kind-in u k i j small h =
+    let pos : suc i ≡ 0 → ⊥ = λ w. omega arith in
+    let n : i < length (drop usesLength u) = rw length-drop (omega arith) in
+    let g : getD (drop usesLength u) i 0 ≡ getD u (8191 + suc i) 0 = getD-drop usesLength u i 0 ∙ ap (λ x. getD u x 0) (omega arith) in
+    sym (Laws.is-there u k (suc i) j pos h) ∙ (kind-before k (getD u (getD u (8191 + suc i) 0 * 256 + j) 0)
+    ∙ ap (isThe k) (sym (used (mappedIn u) (drop usesLength u) i j n ∙ same g)))
+  where
+    same : getD (drop usesLength u) i 0 ≡ getD u (8191 + suc i) 0
+        → mappedIn u (getD (drop usesLength u) i 0) j ≡ kindBefore (getD u (getD u (8191 + suc i) 0 * 256 + j) 0)
+    same e = rw (e, lt-ltb j 256 small)
+
+kind-past : (u : List ℕ) (k i j : ℕ) → length u ≤ 8191 + suc i → argumentIs u k (suc i) j ≡ isThe k (kindAt (usesIn u) (suc i) j)
+unfolding usesIn
+kind-past u k i j h =
+    let pos : suc i ≡ 0 → ⊥ = λ w. omega arith in
+    let n : length (drop usesLength u) ≤ i = rw length-drop (omega arith) in
+    sym (Laws.is-past u k (suc i) j pos h) ∙ ap (isThe k) (sym (unused (mappedIn u) (drop usesLength u) i j n))
+
+is-same : (u : List ℕ) (k i j : ℕ) → j < 256 → argumentIs u k i j ≡ isThe k (kindAt (usesIn u) i j)
+is-same u k zero j small = sym (Laws.is-zero u k 0 j refl)
+is-same u k (suc i) j small =
+    by-test (leb (length u) (8191 + suc i)) (λ e. kind-past u k i j (leb-true _ _ e)) (λ e. kind-in u k i j small (leb-false _ _ e))
+
+module _ (u : List ℕ) (k : ℕ) (b : List ℕ) (at : ℕ) where
+  argument-end : length b ≤ at → restAt b (argumentAt u k b at) ≡ restOf (readArgument (usesIn u) k (drop at b))
   unfolding argumentAt readArgument
   argument-end h = cc (le-leb (length b) at h, drop-of-length-le b h)
 
-  argument-in : at < length b → restAt b (argumentAt arguments k b at) ≡ restOf (readArgument arguments k (drop at b))
-  unfolding argumentAt readArgument
+  argument-in : at < length b → restAt b (argumentAt u k b at) ≡ restOf (readArgument (usesIn u) k (drop at b))
+  unfolding argumentAt readArgument useOf
   argument-in h =
-      rw (front b at h) (by-test (argumentIs arguments k (getD b at 0))
-      (λ d. cc (lt-leb (length b) at h, is-same arguments k (getD b at 0)))
-      (λ d. cc (lt-leb (length b) at h, is-same arguments k (getD b at 0))))
+      rw (front b at h) (by-test (argumentIs u k (getD b at 0) 0)
+      (λ d. cc (lt-leb (length b) at h, is-same u k (getD b at 0) 0 (omega arith)))
+      (λ d. cc (lt-leb (length b) at h, is-same u k (getD b at 0) 0 (omega arith))))
 
-  argument-same : restAt b (argumentAt arguments k b at) ≡ restOf (readArgument arguments k (drop at b))
+  argument-same : restAt b (argumentAt u k b at) ≡ restOf (readArgument (usesIn u) k (drop at b))
   argument-same = by-test (leb (length b) at) (λ e. argument-end (leb-true _ _ e)) (λ e. argument-in (leb-false _ _ e))
+
+-- An argument by a number.
+numbered-cut : (u : Uses) (k : ℕ) (s : List ℕ) → length s < 2 → readNumbered u k s ≡ Meant.broken
+unfolding readNumbered
+numbered-cut u k [] h = refl
+numbered-cut u k (i ∷ []) h = refl
+numbered-cut u k (i ∷ j ∷ s) h = absurd (omega arith)
+
+numbered-zero : (u : Uses) (k i j : ℕ) (s : List ℕ) → j ≡ 0 → readNumbered u k (i ∷ j ∷ s) ≡ Meant.broken
+unfolding readNumbered
+numbered-zero u k i zero s e = refl
+numbered-zero u k i (suc j) s e = absurd (omega arith)
+
+numbered-some : (u : Uses) (k i j : ℕ) (s : List ℕ) → (j ≡ 0 → ⊥) → readNumbered u k (i ∷ j ∷ s) ≡ useOf u k i j s
+unfolding readNumbered
+numbered-some u k i zero s e = absurd (e refl)
+numbered-some u k i (suc j) s e = refl
+
+module _ (u : List ℕ) (k : ℕ) (b : List ℕ) (at : ℕ) (bytes : (i : ℕ) → getD b i 0 < 256) where
+  is-itself : (p : ℕ) → argumentIs u k (getD b p 0) (getD b (p + 1) 0) ≡ argumentIs u k (getD b p 0) (getD b (p + 1) 0)
+  is-itself p = refl
+
+  numbered-in : 2 ≤ length b - at → (getD b (at + 1) 0 ≡ 0 → ⊥) → restAt b (numberedAt u k b at) ≡ restOf (useOf (usesIn u) k (getD b at 0) (getD b (at + 1) 0) (drop (at + 2) b))
+  unfolding useOf
+  numbered-in h z =
+      by-test (argumentIs u k (getD b at 0) (getD b (at + 1) 0))
+      (λ d. cc (Laws.numbered-good u k b at h refl refl z (is-itself at) d, is-same u k (getD b at 0) (getD b (at + 1) 0) (bytes (at + 1))))
+      (λ d. cc (Laws.numbered-bad u k b at h refl refl z (is-itself at) d, is-same u k (getD b at 0) (getD b (at + 1) 0) (bytes (at + 1))))
+
+  numbered-there : 2 ≤ length b - at → restAt b (numberedAt u k b at) ≡ restOf (readNumbered (usesIn u) k (drop at b))
+  numbered-there h =
+      rw (two b at h) (by-test (eqb (getD b (at + 1) 0) 0)
+      (λ e. let z : getD b (at + 1) 0 ≡ 0 = eqb-true _ _ e in cc (Laws.numbered-zero u k b at h z, numbered-zero (usesIn u) k (getD b at 0) (getD b (at + 1) 0) (drop (at + 2) b) z))
+      (λ e. let z : getD b (at + 1) 0 ≡ 0 → ⊥ = eqb-false _ _ e in numbered-in h z ∙ ap restOf (sym (numbered-some (usesIn u) k (getD b at 0) (getD b (at + 1) 0) (drop (at + 2) b) z))))
+
+  numbered-same : restAt b (numberedAt u k b at) ≡ restOf (readNumbered (usesIn u) k (drop at b))
+  numbered-same =
+      by-test (ltb (length b - at) 2)
+      (λ e. let h : length b - at < 2 = ltb-true _ _ e in
+      let n : length (drop at b) < 2 = rw length-drop h in
+      cc (Laws.numbered-end u k b at h, numbered-cut (usesIn u) k (drop at b) n))
+      (λ e. numbered-there (ltb-false _ _ e))
 
 -- A part of a list, an element at a time.
 no-slice : (s : List ℕ) (q e : ℕ) → e ≤ q → slice q e s ≡ []
@@ -152,7 +226,7 @@ one-slice : (s : List ℕ) (q e : ℕ) → q < e → e ≤ length s → slice q 
 one-slice s q e h k = sym (part-next (λ l. l) s q e (slice q e s) refl h k)
 
 -- Operands, and what else stands at a level, where the levels below are read alike.
-module _ (s index arguments b : List ℕ) (l : Language) (z : Indexed index s l) (bytes : (i : ℕ) → getD b i 0 < 256)
+module _ (s index u b : List ℕ) (l : Language) (z : Indexed index s l) (bytes : (i : ℕ) → getD b i 0 < 256)
     (f : ℕ → ℕ → Read) (g : ℕ → List ℕ → Meant.Read C.Code)
     (below : (k at : ℕ) → k < 32 → restAt b (f k at) ≡ restOf (g k (drop at b))) where
   code-next : (m q at e : ℕ) → f (getD s q 0) at ≡ End e → operandsFrom f s (suc m) q at ≡ operandsFrom f s m (q + 1) e
@@ -222,30 +296,32 @@ module _ (s index arguments b : List ℕ) (l : Language) (z : Indexed index s l)
 
   -- One level of a code.
   module _ (k at : ℕ) (kind : k < 32) where
-    code-end : length b ≤ at → restAt b (follow f s (codeNode s index arguments k b at)) ≡ restOf (readCodeLevel g l arguments k (drop at b))
+    code-end : length b ≤ at → restAt b (follow f s (codeNode s index u k b at)) ≡ restOf (readCodeLevel g l (usesIn u) k (drop at b))
     unfolding readCodeLevel
-    code-end h = cc (Laws.code-end s index arguments k b at h, drop-of-length-le b h)
+    code-end h = cc (Laws.code-end s index u k b at h, drop-of-length-le b h)
 
     module _ (there : at < length b) where
-      code-in : restAt b (follow f s (codeNode s index arguments k b at)) ≡ restOf (readCodeLevel g l arguments k (getD b at 0 ∷ drop (at + 1) b))
-      unfolding readCodeLevel
+      code-in : restAt b (follow f s (codeNode s index u k b at)) ≡ restOf (readCodeLevel g l (usesIn u) k (getD b at 0 ∷ drop (at + 1) b))
+      unfolding readCodeLevel readUse
       code-in =
           by-test (eqb (getD b at 0) 1)
-          (λ d. cc (Laws.code-name s index arguments k b at there (eqb-true _ _ d) refl, name-same k (at + 1) kind))
+          (λ d. cc (Laws.code-name s index u k b at there (eqb-true _ _ d) refl, name-same k (at + 1) kind))
           (λ d. by-test (eqb (getD b at 0) 2)
-          (λ e. cc (Laws.code-token s index arguments k b at there (eqb-false _ _ d) (eqb-true _ _ e) refl refl refl, token-same s (getD index k 0) b (at + 1), z .range k kind))
+          (λ e. cc (Laws.code-token s index u k b at there (eqb-false _ _ d) (eqb-true _ _ e) refl refl refl, token-same s (getD index k 0) b (at + 1), z .range k kind))
           (λ e. by-test (eqb (getD b at 0) 3)
-          (λ c. cc (Laws.code-argument s index arguments k b at there (eqb-false _ _ d) (eqb-true _ _ c) refl, argument-same arguments k b (at + 1)))
-          (λ c. cc (Laws.code-other s index arguments k b at there (eqb-false _ _ d) (eqb-false _ _ c) (eqb-false _ _ e)))))
+          (λ c. cc (Laws.code-argument s index u k b at there (eqb-false _ _ d) (eqb-true _ _ c) refl, argument-same u k b (at + 1)))
+          (λ c. by-test (eqb (getD b at 0) 4)
+          (λ g. cc (Laws.code-numbered s index u k b at there (eqb-false _ _ d) (eqb-true _ _ g) refl, numbered-same u k b (at + 1) bytes))
+          (λ g. cc (Laws.code-other s index u k b at there (eqb-false _ _ d) (eqb-false _ _ c) (eqb-false _ _ e) (eqb-false _ _ g))))))
 
-    code-same : restAt b (follow f s (codeNode s index arguments k b at)) ≡ restOf (readCodeLevel g l arguments k (drop at b))
+    code-same : restAt b (follow f s (codeNode s index u k b at)) ≡ restOf (readCodeLevel g l (usesIn u) k (drop at b))
     code-same =
         by-test (leb (length b) at)
         (λ e. code-end (leb-true _ _ e))
         (λ e. let h : at < length b = leb-false _ _ e in rw (front b at h) (code-in h))
 
   level-same : (x : Syntax) (k at : ℕ) → k < 32
-      → restAt b (follow f s (nodeAt x s index arguments k b at)) ≡ restOf (readLevel (syntaxOf x) g l arguments k (drop at b))
+      → restAt b (follow f s (nodeAt x s index u k b at)) ≡ restOf (readLevel (syntaxOf x) g l (usesIn u) k (drop at b))
   unfolding nodeAt readLevel
   level-same Tree k at h = tree-same (getD index k 0) k at refl h
   level-same Code k at h = code-same k at h
@@ -275,10 +351,10 @@ module _ (s index b : List ℕ) (l : Language) (z : Indexed index s l) where
   past-same Code k at h = past-code k at h
 
 -- Reading by position is reading.
-pub read-same : (x : Syntax) (s index arguments b : List ℕ) (l : Language) → Indexed index s l → ((i : ℕ) → getD b i 0 < 256)
-    → (n k at : ℕ) → k < 32 → restAt b (readAt x s index arguments b n k at) ≡ restOf (Meant.read (syntaxOf x) l arguments n k (drop at b))
+pub read-same : (x : Syntax) (s index u b : List ℕ) (l : Language) → Indexed index s l → ((i : ℕ) → getD b i 0 < 256)
+    → (n k at : ℕ) → k < 32 → restAt b (readAt x s index u b n k at) ≡ restOf (Meant.read (syntaxOf x) l (usesIn u) n k (drop at b))
 unfolding readAt Meant.readBy
-read-same x s index arguments b l z bytes zero k at h = past-same s index b l z x k at h
-read-same x s index arguments b l z bytes (suc n) k at h =
-    level-same s index arguments b l z bytes (readAt x s index arguments b n) (Meant.read (syntaxOf x) l arguments n)
-    (λ j e i. read-same x s index arguments b l z bytes n j e i) x k at h
+read-same x s index u b l z bytes zero k at h = past-same s index b l z x k at h
+read-same x s index u b l z bytes (suc n) k at h =
+    level-same s index u b l z bytes (readAt x s index u b n) (Meant.read (syntaxOf x) l (usesIn u) n)
+    (λ j e i. read-same x s index u b l z bytes n j e i) x k at h

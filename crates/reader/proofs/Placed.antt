@@ -12,7 +12,7 @@ use lib.Seq.{getD-set-same, getD-set-other}
 use lib.Dec.{eqb}
 use borrow.Author.Tests.{eq-eqb, ne-eqb, eqb-true, eqb-false}
 use Rattle.fields.specs.Lists.{all, first}
-use Rattle.fields.specs.Inner.Places.{keyAt}
+use Rattle.fields.specs.Inner.Places.{slotAt}
 use Rattle.fields.proofs.Truth.{by-test}
 use Rattle.fields.proofs.Lists.{all-true}
 use Rattle.language.specs.Language.{productionKey}
@@ -41,14 +41,14 @@ module _ (index : List ℕ) (key v j : ℕ) where
 -- The first place of a key, and one more; 0 where it has none. The first entries have the tag t.
 unfoldable pub placeOf : ℕ → List ℕ → ℕ → List ℕ → ℕ
 placeOf t s j [] = 0
-placeOf t s j (p ∷ l) = cond (eqb (keyAt t s p) j) (p + 1) (placeOf t s j l)
+placeOf t s j (p ∷ l) = cond (eqb (slotAt t s p) j) (p + 1) (placeOf t s j l)
 
 module _ (t : ℕ) (s : List ℕ) (j p : ℕ) (l : List ℕ) where
-  place-here : keyAt t s p ≡ j → placeOf t s j (p ∷ l) ≡ p + 1
+  place-here : slotAt t s p ≡ j → placeOf t s j (p ∷ l) ≡ p + 1
   unfolding placeOf
   place-here h = cc (eq-eqb _ _ h)
 
-  place-on : (keyAt t s p ≡ j → ⊥) → placeOf t s j (p ∷ l) ≡ placeOf t s j l
+  place-on : (slotAt t s p ≡ j → ⊥) → placeOf t s j (p ∷ l) ≡ placeOf t s j l
   unfolding placeOf
   place-on h = cc (ne-eqb _ _ h)
 
@@ -56,20 +56,20 @@ module _ (t : ℕ) (s : List ℕ) (j p : ℕ) (l : List ℕ) where
 pub puts-length : (t : ℕ) (s l index : List ℕ) → length (putAll t s index l) ≡ length index
 unfolding putAll
 puts-length t s [] index = refl
-puts-length t s (p ∷ l) index = puts-length t s l (putAt index (keyAt t s p) (p + 1)) ∙ put-length index (keyAt t s p) (p + 1)
+puts-length t s (p ∷ l) index = puts-length t s l (putAt index (slotAt t s p) (p + 1)) ∙ put-length index (slotAt t s p) (p + 1)
 
 puts-kept : (t : ℕ) (s l index : List ℕ) (j : ℕ) → (getD index j 0 ≡ 0 → ⊥) → getD (putAll t s index l) j 0 ≡ getD index j 0
 unfolding putAll
 puts-kept t s [] index j n = refl
 puts-kept t s (p ∷ l) index j n =
-    let k = put-kept index (keyAt t s p) (p + 1) j n in
-    puts-kept t s l (putAt index (keyAt t s p) (p + 1)) j (λ z. n (sym k ∙ z)) ∙ k
+    let k = put-kept index (slotAt t s p) (p + 1) j n in
+    puts-kept t s l (putAt index (slotAt t s p) (p + 1)) j (λ z. n (sym k ∙ z)) ∙ k
 
 pub puts-place : (t : ℕ) (s l index : List ℕ) (j : ℕ) → j < length index → getD index j 0 ≡ 0 → getD (putAll t s index l) j 0 ≡ placeOf t s j l
 unfolding putAll placeOf
 puts-place t s [] index j h z = z
 puts-place t s (p ∷ l) index j h z =
-    let key : ℕ = keyAt t s p in
+    let key : ℕ = slotAt t s p in
     let more : List ℕ = putAt index key (p + 1) in
     by-test (eqb key j)
     (λ e.
@@ -90,14 +90,14 @@ module _ {E B : Type 0} (f : E → Option B) (a : E) (l : List E) where
   first-none h = cc
 
 module _ {E B : Type 0} (t : ℕ) (ok : ℕ → Bool) (at : ℕ → E) (look : E → Option B) (through : ℕ → Option B) (empty : through 0 ≡ none) (s : List ℕ) (j : ℕ)
-    (hit : (p : ℕ) → ok p ≡ true → keyAt t s p ≡ j → (b : B) × (look (at p) ≡ some b) × (through (p + 1) ≡ some b))
-    (miss : (p : ℕ) → ok p ≡ true → (keyAt t s p ≡ j → ⊥) → look (at p) ≡ none) where
+    (hit : (p : ℕ) → ok p ≡ true → slotAt t s p ≡ j → (b : B) × (look (at p) ≡ some b) × (through (p + 1) ≡ some b))
+    (miss : (p : ℕ) → ok p ≡ true → (slotAt t s p ≡ j → ⊥) → look (at p) ≡ none) where
   looked : (l : List ℕ) → all ok l ≡ true → first look (map at l) ≡ through (placeOf t s j l)
   unfolding first placeOf
   looked [] h = sym empty
   looked (p ∷ l) h =
       let w = all-true ok p l h in
-      by-test (eqb (keyAt t s p) j)
+      by-test (eqb (slotAt t s p) j)
       (λ e.
       let b = hit p (w .0) (eqb-true _ _ e) in
       first-some look (at p) (map at l) (b .1) ∙ (sym (b .2) ∙ ap through (sym (place-here t s j p l (eqb-true _ _ e)))))
@@ -107,48 +107,52 @@ module _ {E B : Type 0} (t : ℕ) (ok : ℕ → Bool) (at : ℕ → E) (look : E
 
 -- A place that is not 0 is that of a whole entry of the key.
 pub found : (t : ℕ) (ok : ℕ → Bool) (s : List ℕ) (j : ℕ) (l : List ℕ) → all ok l ≡ true → 0 < placeOf t s j l
-    → (p : ℕ) × (placeOf t s j l ≡ p + 1) × (keyAt t s p ≡ j) × (ok p ≡ true)
+    → (p : ℕ) × (placeOf t s j l ≡ p + 1) × (slotAt t s p ≡ j) × (ok p ≡ true)
 unfolding placeOf
 found t ok s j [] h z = absurd (omega arith)
 found t ok s j (p ∷ l) h z =
     let w = all-true ok p l h in
-    by-test (eqb (keyAt t s p) j)
+    by-test (eqb (slotAt t s p) j)
     (λ e. (p, place-here t s j p l (eqb-true _ _ e), eqb-true _ _ e, w .0))
     (λ e.
     let k = place-on t s j p l (eqb-false _ _ e) in
     let f = found t ok s j l (w .1) (rw k at z) in
     (f .0, k ∙ f .1, f .2, f .3))
 
--- Entries in two groups: the key of one of the first tag is a kind, that of any other a kind and a name.
-pub record Groups (t : ℕ) (s : List ℕ) (ok : ℕ → Bool) (First Second : ℕ → Type 0) : Type 0 where
-  pub facts : (p : ℕ) → ok p ≡ true → First p ⊎ Second p
+-- Entries in two groups: the key of one of the first tag is a kind, that of any other a kind and a name. Any other entry has
+-- a key past every index.
+pub record Groups (t : ℕ) (s : List ℕ) (ok : ℕ → Bool) (First Second Other : ℕ → Type 0) : Type 0 where
+  pub facts : (p : ℕ) → ok p ≡ true → First p ⊎ (Second p ⊎ Other p)
   pub kind : (p : ℕ) → First p → getD s (p + 3) 0 < 32
-  pub kind-key : (p : ℕ) → First p → keyAt t s p ≡ getD s (p + 3) 0
-  pub name-key : (p : ℕ) → Second p → keyAt t s p ≡ productionKey (getD s (p + 3) 0) (getD s (p + 4) 0)
+  pub kind-key : (p : ℕ) → First p → slotAt t s p ≡ getD s (p + 3) 0
+  pub name-key : (p : ℕ) → Second p → slotAt t s p ≡ productionKey (getD s (p + 3) 0) (getD s (p + 4) 0)
+  pub no-key : (p : ℕ) → Other p → slotAt t s p ≡ 65568
 
-module _ (t : ℕ) (s : List ℕ) (ok : ℕ → Bool) (First Second : ℕ → Type 0) (g : Groups t s ok First Second) where
-  pub of-first : (p : ℕ) → ok p ≡ true → keyAt t s p < 32 → First p
-  of-first p w h = ⊎-elim (λ a. a) (λ a. absurd (omega (arith, g .name-key p a))) (g .facts p w)
+module _ (t : ℕ) (s : List ℕ) (ok : ℕ → Bool) (First Second Other : ℕ → Type 0) (g : Groups t s ok First Second Other) where
+  pub of-first : (p : ℕ) → ok p ≡ true → slotAt t s p < 32 → First p
+  of-first p w h =
+      ⊎-elim (λ a. a) (⊎-elim (λ a. absurd (omega (arith, g .name-key p a))) (λ a. absurd (omega (arith, g .no-key p a)))) (g .facts p w)
 
-  pub of-second : (p : ℕ) → ok p ≡ true → 32 ≤ keyAt t s p → Second p
-  of-second p w h = ⊎-elim (λ a. absurd (omega (arith, g .kind-key p a, g .kind p a))) (λ a. a) (g .facts p w)
+  pub of-second : (p : ℕ) → ok p ≡ true → 32 ≤ slotAt t s p → slotAt t s p < 8224 → Second p
+  of-second p w h i =
+      ⊎-elim (λ a. absurd (omega (arith, g .kind-key p a, g .kind p a))) (⊎-elim (λ a. a) (λ a. absurd (omega (arith, g .no-key p a)))) (g .facts p w)
 
   module _ {E B : Type 0} (at : ℕ → E) (look : E → Option B) (through : ℕ → Option B) (empty : through 0 ≡ none)
       (value : ℕ → B) (here : (p : ℕ) → through (p + 1) ≡ some (value p)) (k : ℕ) (kind : k < 32) where
     -- A lookup by kind.
     module _ (in-first : (p : ℕ) → First p → look (at p) ≡ cond (eqb (getD s (p + 3) 0) k) (some (value p)) none)
-        (in-second : (p : ℕ) → Second p → look (at p) ≡ none) where
-      kind-hit : (p : ℕ) → ok p ≡ true → keyAt t s p ≡ k → (b : B) × (look (at p) ≡ some b) × (through (p + 1) ≡ some b)
+        (in-second : (p : ℕ) → Second p → look (at p) ≡ none) (in-other : (p : ℕ) → Other p → look (at p) ≡ none) where
+      kind-hit : (p : ℕ) → ok p ≡ true → slotAt t s p ≡ k → (b : B) × (look (at p) ≡ some b) × (through (p + 1) ≡ some b)
       kind-hit p w e =
           let c = of-first p w (omega arith) in
           let j : getD s (p + 3) 0 ≡ k = sym (g .kind-key p c) ∙ e in
           (value p, cc (in-first p c, eq-eqb _ _ j), here p)
 
-      kind-miss : (p : ℕ) → ok p ≡ true → (keyAt t s p ≡ k → ⊥) → look (at p) ≡ none
+      kind-miss : (p : ℕ) → ok p ≡ true → (slotAt t s p ≡ k → ⊥) → look (at p) ≡ none
       kind-miss p w n =
           ⊎-elim
           (λ c. cc (in-first p c, ne-eqb (getD s (p + 3) 0) k (λ d. n (g .kind-key p c ∙ d))))
-          (in-second p)
+          (⊎-elim (in-second p) (in-other p))
           (g .facts p w)
 
       pub looked-kind : (l : List ℕ) → all ok l ≡ true → first look (map at l) ≡ through (placeOf t s k l)
@@ -157,29 +161,30 @@ module _ (t : ℕ) (s : List ℕ) (ok : ℕ → Bool) (First Second : ℕ → Ty
     -- A lookup by kind and name.
     module _ (n : ℕ) (byte : n < 256) (bytes : (i : ℕ) → getD s i 0 < 256) (in-first : (p : ℕ) → First p → look (at p) ≡ none)
         (in-second : (p : ℕ) → Second p
-        → look (at p) ≡ cond (eqb (getD s (p + 3) 0) k && eqb (getD s (p + 4) 0) n) (some (value p)) none) where
-      name-hit : (p : ℕ) → ok p ≡ true → keyAt t s p ≡ productionKey k n
+        → look (at p) ≡ cond (eqb (getD s (p + 3) 0) k && eqb (getD s (p + 4) 0) n) (some (value p)) none)
+        (in-other : (p : ℕ) → Other p → look (at p) ≡ none) where
+      name-hit : (p : ℕ) → ok p ≡ true → slotAt t s p ≡ productionKey k n
           → (b : B) × (look (at p) ≡ some b) × (through (p + 1) ≡ some b)
       name-hit p w e =
-          let c = of-second p w (omega arith) in
+          let c = of-second p w (omega arith) (omega arith) in
           let d : productionKey (getD s (p + 3) 0) (getD s (p + 4) 0) ≡ productionKey k n = sym (g .name-key p c) ∙ e in
           let b = bytes (p + 4) in
           let i : getD s (p + 3) 0 ≡ k = omega arith in
           let j : getD s (p + 4) 0 ≡ n = omega arith in
           (value p, cc (in-second p c, eq-eqb _ _ i, eq-eqb _ _ j), here p)
 
-      name-miss : (p : ℕ) → ok p ≡ true → (keyAt t s p ≡ productionKey k n → ⊥) → look (at p) ≡ none
+      name-miss : (p : ℕ) → ok p ≡ true → (slotAt t s p ≡ productionKey k n → ⊥) → look (at p) ≡ none
       name-miss p w m =
           ⊎-elim
           (in-first p)
-          (λ c. by-test (eqb (getD s (p + 3) 0) k)
+          (⊎-elim (λ c. by-test (eqb (getD s (p + 3) 0) k)
           (λ d. by-test (eqb (getD s (p + 4) 0) n)
           (λ e.
           let i : getD s (p + 3) 0 ≡ k = eqb-true _ _ d in
           let j : getD s (p + 4) 0 ≡ n = eqb-true _ _ e in
           absurd (m (g .name-key p c ∙ cc)))
           (λ e. cc (in-second p c)))
-          (λ d. cc (in-second p c)))
+          (λ d. cc (in-second p c))) (in-other p))
           (g .facts p w)
 
       pub looked-name : (l : List ℕ) → all ok l ≡ true → first look (map at l) ≡ through (placeOf t s (productionKey k n) l)

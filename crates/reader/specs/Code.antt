@@ -1,12 +1,13 @@
 -- Codes (document 000: C.1, reconstructors). A tree is a code without arguments.
 use Prim.Native.Nat.{ℕ, suc, max}
 
--- A production of a kind with its operands, a token, or an argument by its number from 1.
+-- A production of a kind with its operands, a token, or an argument by its number from 1, used by a mapping's number
+-- (paper 02, 2026-13).
 mutual
   pub data Code : Type 0 where
     node : (kind name : ℕ) (operands : Codes) → Code
     token : (value : ℕ) → Code
-    argument : (number : ℕ) → Code
+    argument : (number by : ℕ) → Code
 
   pub data Codes : Type 0 where
     nil : Codes
@@ -18,7 +19,7 @@ unfoldable mutual
   pub levels : Code → ℕ
   levels (node k p t) = suc (levelsAll t)
   levels (token v) = 0
-  levels (argument i) = 1
+  levels (argument i j) = 1
 
   pub levelsAll : Codes → ℕ
   levelsAll nil = 0

@@ -1,4 +1,5 @@
--- Codes in bytes, written and read (paper 01: "Languages", legal trees; "Translations", the prefix form of code).
+-- Codes in bytes, written and read (paper 01: "Languages", legal trees; "Translations", the prefix form of code; paper 02,
+-- 2026-13, 04).
 use Prim.Native.Nat.{ℕ, zero, suc, _+_, _*_}
 use mathlib.Core.Bool.{Bool, true, false}
 use mathlib.Core.List.{List, [], _∷_, _++_}
@@ -7,9 +8,10 @@ use lib.Dec.{eqb}
 use Rattle.fields.specs.Fields.{twoBytes}
 use Rattle.language.specs.Language.{Language, Range, rangeOf, argumentsOf, inRange}
 use Rattle.reader.specs.Code.{Code, node, token, argument, Codes, nil, cons}
-use Rattle.reader.specs.Typing.{kindAt}
+use Rattle.reader.specs.Typing.{Uses, kindAt}
 
--- Trees are written without signs; in a code 01 stands before a name, 02 before a token, 03 before an argument number.
+-- Trees are written without signs; in a code 01 stands before a name, 02 before a token, 03 before an argument number,
+-- 04 before an argument number and the number of a mapping that is not 0.
 pub data Syntax : Type 0 where
   tree code : Syntax
 
@@ -23,7 +25,8 @@ unfoldable mutual
   pub write : Syntax → Code → List ℕ
   write s (node k p t) = sign s 1 ++ p ∷ writeAll s t
   write s (token v) = sign s 2 ++ twoBytes v
-  write s (argument i) = sign s 3 ++ i ∷ []
+  write s (argument i zero) = sign s 3 ++ i ∷ []
+  write s (argument i (suc j)) = sign s 4 ++ i ∷ suc j ∷ []
 
   pub writeAll : Syntax → Codes → List ℕ
   writeAll s nil = []
@@ -68,10 +71,29 @@ abbrev pub isThe : ℕ → Option ℕ → Bool
 isThe k none = false
 isThe k (some j) = eqb j k
 
--- An argument number whose kind is the one that is wanted.
-unfoldable pub readArgument : List ℕ → ℕ → List ℕ → Read Code
-readArgument arguments k [] = broken
-readArgument arguments k (i ∷ s) = elim (isThe k (kindAt arguments i)) [ true ↦ done (argument i) s | false ↦ broken ]
+-- Argument i by number j, where its kind by that number is the one that is wanted.
+unfoldable pub useOf : Uses → ℕ → ℕ → ℕ → List ℕ → Read Code
+useOf uses k i j s = elim (isThe k (kindAt uses i j)) [ true ↦ done (argument i j) s | false ↦ broken ]
+
+-- Behind 03: an argument number; it is used by number 0.
+unfoldable pub readArgument : Uses → ℕ → List ℕ → Read Code
+readArgument uses k [] = broken
+readArgument uses k (i ∷ s) = useOf uses k i 0 s
+
+-- Behind 04: an argument number, and the number that it is used by, which is not 0.
+unfoldable pub readNumbered : Uses → ℕ → List ℕ → Read Code
+readNumbered uses k [] = broken
+readNumbered uses k (i ∷ []) = broken
+readNumbered uses k (i ∷ zero ∷ s) = broken
+readNumbered uses k (i ∷ suc j ∷ s) = useOf uses k i (suc j) s
+
+-- A use of an argument, behind its sign; any other sign is broken.
+unfoldable pub readUse : Uses → ℕ → ℕ → List ℕ → Read Code
+readUse uses k b s =
+    elim (eqb b 3) [
+      | true ↦ readArgument uses k s
+      | false ↦ elim (eqb b 4) [ true ↦ readNumbered uses k s | false ↦ broken ]
+    ]
 
 -- One level in tree syntax: a class has a token, any other kind a name.
 unfoldable pub readTreeLevel : (ℕ → List ℕ → Read Code) → Language → ℕ → List ℕ → Read Code
@@ -79,22 +101,22 @@ readTreeLevel reads l k s =
     elim (rangeOf l k) [ some c ↦ readToken (some c) s | none ↦ readNode reads l k s ]
 
 -- One level in code syntax: its sign says what follows.
-unfoldable pub readCodeLevel : (ℕ → List ℕ → Read Code) → Language → List ℕ → ℕ → List ℕ → Read Code
-readCodeLevel reads l arguments k [] = broken
-readCodeLevel reads l arguments k (b ∷ s) =
+unfoldable pub readCodeLevel : (ℕ → List ℕ → Read Code) → Language → Uses → ℕ → List ℕ → Read Code
+readCodeLevel reads l uses k [] = broken
+readCodeLevel reads l uses k (b ∷ s) =
     elim (eqb b 1) [
       | true ↦ readNode reads l k s
       | false ↦
           elim (eqb b 2) [
             | true ↦ readToken (rangeOf l k) s
-            | false ↦ elim (eqb b 3) [ true ↦ readArgument arguments k s | false ↦ broken ]
+            | false ↦ readUse uses k b s
           ]
     ]
 
 -- One level in either syntax.
-unfoldable pub readLevel : Syntax → (ℕ → List ℕ → Read Code) → Language → List ℕ → ℕ → List ℕ → Read Code
-readLevel tree reads l arguments k s = readTreeLevel reads l k s
-readLevel code reads l arguments k s = readCodeLevel reads l arguments k s
+unfoldable pub readLevel : Syntax → (ℕ → List ℕ → Read Code) → Language → Uses → ℕ → List ℕ → Read Code
+readLevel tree reads l uses k s = readTreeLevel reads l k s
+readLevel code reads l uses k s = readCodeLevel reads l uses k s
 
 -- What counts as a level: by the earlier rule every node, token and argument (paper 01, "Languages" and "Translations"),
 -- by the current one no token (paper 02, 2026-07).
@@ -111,10 +133,10 @@ pastLevels current code l k [] = deep
 pastLevels current code l k (b ∷ s) = elim (eqb b 2) [ true ↦ readToken (rangeOf l k) s | false ↦ deep ]
 
 -- A code of kind k off the front of the bytes, with so many levels left by a rule.
-unfoldable pub readBy : Rule → Syntax → Language → List ℕ → ℕ → ℕ → List ℕ → Read Code
-readBy c x l arguments zero k s = pastLevels c x l k s
-readBy c x l arguments (suc n) k s = readLevel x (readBy c x l arguments n) l arguments k s
+unfoldable pub readBy : Rule → Syntax → Language → Uses → ℕ → ℕ → List ℕ → Read Code
+readBy c x l uses zero k s = pastLevels c x l k s
+readBy c x l uses (suc n) k s = readLevel x (readBy c x l uses n) l uses k s
 
 -- Reading by the current rule.
-abbrev pub read : Syntax → Language → List ℕ → ℕ → ℕ → List ℕ → Read Code
-read x l arguments n k s = readBy current x l arguments n k s
+abbrev pub read : Syntax → Language → Uses → ℕ → ℕ → List ℕ → Read Code
+read x l uses n k s = readBy current x l uses n k s

@@ -1,6 +1,6 @@
 // The index of a language, or of a body: where the field of each entry stands, by the entry's key.
 use fields::walk::field_end;
-use fields::walk::key_at;
+use fields::walk::slot_at;
 ghost use mathlib.Core.Path.{_≡_};
 ghost use Prim.Native.Nat.{ℕ, _+_, _<_, _≤_};
 ghost use lib.ListN.{length, getD};
@@ -14,7 +14,7 @@ ghost use Rattle.reader.specs.Inner.Index.{putAt, putAll, Indexed, index
 pub const INDEX: usize = 8224;
 
 // How many numbers the table of a run has; the index of the source stands first in it.
-pub const TABLE: usize = 25664;
+pub const TABLE: usize = 29760;
 
 // Puts a value at a key that has none yet.
 fn put(index: &mut [u16], key: usize, value: u16)
@@ -36,7 +36,7 @@ pub fn put_all(s: &[u8], leading_tag: u8, index: &mut [u16])
 {
     let mut p = 0;
     while p < s.len() {
-        put(index, key_at(s, p, leading_tag), (p + 1) as u16);
+        put(index, slot_at(s, p, leading_tag), (p + 1) as u16);
         p = field_end(s, p);
     }
 }

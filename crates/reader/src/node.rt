@@ -8,7 +8,7 @@ ghost use mathlib.Core.Bool.{cond};
 ghost use lib.Dec.{eqb};
 ghost use lib.ListN.{length, getD};
 ghost use Rattle.language.specs.Inner.Entries.{IsClass};
-ghost use Rattle.reader.specs.Inner.Positions.{nameLength, productionPlace, tokenAt, nameAt, argumentIs, argumentAt, treeNode, codeLeaf, codeNode, nodeAt, leafAt, pastAt, EndsBy, NodeIn};
+ghost use Rattle.reader.specs.Inner.Positions.{nameLength, productionPlace, tokenAt, nameAt, argumentIs, argumentAt, numberedAt, treeNode, codeLeaf, codeNode, nodeAt, leafAt, pastAt, EndsBy, NodeIn};
 ghost use Rattle.reader.specs.Inner.Index.{Ready, indexLength};
 
 // Trees are written without signs, codes with them.
@@ -122,29 +122,54 @@ fn name(language: &[u8], index: &[u16], kind: u8, bytes: &[u8], at: usize) -> No
     Node::Operands(place + 4, place + 2 + pair_in(language, place), at + 1)
 }
 
-// Whether argument i is of the kind.
-fn argument_is(arguments: &[u8], kind: u8, i: usize) -> bool
-    ensures { λ r. ⌜ r ≡ argumentIs (now (arguments .entry)) kind i ⌝ }
+// How many numbers the mappings take in the uses; the kinds of the arguments stand behind them.
+pub const USES: usize = 8192;
+
+// Whether argument i by a number is of the kind.
+fn argument_is(uses: &[u8], kind: u8, i: usize, by: usize) -> bool
+    requires { ⌜ (i < 256) × (by < 256) ⌝ }
+    ensures { λ r. ⌜ r ≡ argumentIs (now (uses .entry)) kind i by ⌝ }
 {
     if i == 0 {
         return false;
     }
-    if arguments.len() < i {
+    if uses.len() <= 8191 + i {
         return false;
     }
-    arguments[i - 1] == kind
+    let place = to_usize(uses[8191 + i]) * 256 + by;
+    if uses.len() <= place {
+        return false;
+    }
+    to_usize(uses[place]) == to_usize(kind) + 1
 }
 
 // The number of an argument of the kind.
-fn argument(arguments: &[u8], kind: u8, bytes: &[u8], at: usize) -> Read
+fn argument(uses: &[u8], kind: u8, bytes: &[u8], at: usize) -> Read
     requires { ⌜ at ≤ length (now bytes) ⌝ }
-    ensures { λ r. ⌜ (r ≡ argumentAt (now (arguments .entry)) kind (now (bytes .entry)) at) × EndsBy (length (now (bytes .entry))) r ⌝ }
+    ensures { λ r. ⌜ (r ≡ argumentAt (now (uses .entry)) kind (now (bytes .entry)) at) × EndsBy (length (now (bytes .entry))) r ⌝ }
 {
     if bytes.len() <= at {
         return Read::Broken;
     }
-    if argument_is(arguments, kind, to_usize(bytes[at])) {
+    if argument_is(uses, kind, to_usize(bytes[at]), 0) {
         return Read::End(at + 1);
+    }
+    Read::Broken
+}
+
+// The number of an argument that is of the kind by the number behind it, which is not 0.
+fn numbered(uses: &[u8], kind: u8, bytes: &[u8], at: usize) -> Read
+    requires { ⌜ at ≤ length (now bytes) ⌝ }
+    ensures { λ r. ⌜ (r ≡ numberedAt (now (uses .entry)) kind (now (bytes .entry)) at) × EndsBy (length (now (bytes .entry))) r ⌝ }
+{
+    if bytes.len() - at < 2 {
+        return Read::Broken;
+    }
+    if bytes[at + 1] == 0 {
+        return Read::Broken;
+    }
+    if argument_is(uses, kind, to_usize(bytes[at]), to_usize(bytes[at + 1])) {
+        return Read::End(at + 2);
     }
     Read::Broken
 }
@@ -161,42 +186,46 @@ fn tree_node(language: &[u8], index: &[u16], kind: u8, bytes: &[u8], at: usize) 
     Node::Leaf(token(language, place, bytes, at))
 }
 
-// A leaf of a code: 02 and a token, or 03 and an argument.
-fn code_leaf(
+// A leaf of a code with another sign than 03: 02 and a token, or 04 and an argument with a number.
+fn other_leaf(
     language: &[u8],
     index: &[u16],
-    arguments: &[u8],
+    uses: &[u8],
     kind: u8,
     bytes: &[u8],
     at: usize,
 ) -> Read
-    requires { ⌜ Ready (now index) (now language) kind (now bytes) at ⌝ }
-    ensures { λ r. ⌜ (r ≡ codeLeaf (now (language .entry)) (now (index .entry)) (now (arguments .entry)) kind (now (bytes .entry)) at) × EndsBy (length (now (bytes .entry))) r ⌝ }
+    requires { ⌜ Ready (now index) (now language) kind (now bytes) at × (at < length (now bytes)) ⌝ }
+    ensures { λ r. ⌜ ((getD (now (bytes .entry)) at 0 ≡ 3 → ⊥) → r ≡ codeLeaf (now (language .entry)) (now (index .entry)) (now (uses .entry)) kind (now (bytes .entry)) at) × EndsBy (length (now (bytes .entry))) r ⌝ }
 {
-    if bytes.len() <= at {
-        return Read::Broken;
-    }
     let sign = bytes[at];
-    if sign == 3 {
-        return argument(arguments, kind, bytes, at + 1);
-    }
     if sign == 2 {
         return token(language, place_at(index, to_usize(kind)), bytes, at + 1);
+    }
+    if sign == 4 {
+        return numbered(uses, kind, bytes, at + 1);
     }
     Read::Broken
 }
 
-// A node of a code: its sign says what follows.
-fn code_node(
-    language: &[u8],
-    index: &[u16],
-    arguments: &[u8],
-    kind: u8,
-    bytes: &[u8],
-    at: usize,
-) -> Node
+// A leaf of a code. Most are 03 and an argument.
+fn code_leaf(language: &[u8], index: &[u16], uses: &[u8], kind: u8, bytes: &[u8], at: usize) -> Read
     requires { ⌜ Ready (now index) (now language) kind (now bytes) at ⌝ }
-    ensures { λ r. ⌜ (r ≡ codeNode (now (language .entry)) (now (index .entry)) (now (arguments .entry)) kind (now (bytes .entry)) at) × NodeIn (now (language .entry)) (now (bytes .entry)) r ⌝ }
+    ensures { λ r. ⌜ (r ≡ codeLeaf (now (language .entry)) (now (index .entry)) (now (uses .entry)) kind (now (bytes .entry)) at) × EndsBy (length (now (bytes .entry))) r ⌝ }
+{
+    if bytes.len() <= at {
+        return Read::Broken;
+    }
+    if bytes[at] == 3 {
+        return argument(uses, kind, bytes, at + 1);
+    }
+    other_leaf(language, index, uses, kind, bytes, at)
+}
+
+// A node of a code: its sign says what follows.
+fn code_node(language: &[u8], index: &[u16], uses: &[u8], kind: u8, bytes: &[u8], at: usize) -> Node
+    requires { ⌜ Ready (now index) (now language) kind (now bytes) at ⌝ }
+    ensures { λ r. ⌜ (r ≡ codeNode (now (language .entry)) (now (index .entry)) (now (uses .entry)) kind (now (bytes .entry)) at) × NodeIn (now (language .entry)) (now (bytes .entry)) r ⌝ }
 {
     if bytes.len() <= at {
         return Node::Leaf(Read::Broken);
@@ -204,7 +233,7 @@ fn code_node(
     if bytes[at] == 1 {
         return name(language, index, kind, bytes, at + 1);
     }
-    Node::Leaf(code_leaf(language, index, arguments, kind, bytes, at))
+    Node::Leaf(code_leaf(language, index, uses, kind, bytes, at))
 }
 
 // What stands where no production of the kind does, and no token of a class in a tree, with a level left.
@@ -212,17 +241,17 @@ pub fn leaf_at(
     syntax: Syntax,
     language: &[u8],
     index: &[u16],
-    arguments: &[u8],
+    uses: &[u8],
     kind: u8,
     bytes: &[u8],
     at: usize,
 ) -> Read
     requires { ⌜ Ready (now index) (now language) kind (now bytes) at ⌝ }
-    ensures { λ r. ⌜ (r ≡ leafAt syntax (now (language .entry)) (now (index .entry)) (now (arguments .entry)) kind (now (bytes .entry)) at) × EndsBy (length (now (bytes .entry))) r ⌝ }
+    ensures { λ r. ⌜ (r ≡ leafAt syntax (now (language .entry)) (now (index .entry)) (now (uses .entry)) kind (now (bytes .entry)) at) × EndsBy (length (now (bytes .entry))) r ⌝ }
 {
     match syntax {
         Syntax::Tree => Read::Broken,
-        Syntax::Code => code_leaf(language, index, arguments, kind, bytes, at),
+        Syntax::Code => code_leaf(language, index, uses, kind, bytes, at),
     }
 }
 
@@ -231,17 +260,17 @@ pub fn node_at(
     syntax: Syntax,
     language: &[u8],
     index: &[u16],
-    arguments: &[u8],
+    uses: &[u8],
     kind: u8,
     bytes: &[u8],
     at: usize,
 ) -> Node
     requires { ⌜ Ready (now index) (now language) kind (now bytes) at ⌝ }
-    ensures { λ r. ⌜ (r ≡ nodeAt syntax (now (language .entry)) (now (index .entry)) (now (arguments .entry)) kind (now (bytes .entry)) at) × NodeIn (now (language .entry)) (now (bytes .entry)) r ⌝ }
+    ensures { λ r. ⌜ (r ≡ nodeAt syntax (now (language .entry)) (now (index .entry)) (now (uses .entry)) kind (now (bytes .entry)) at) × NodeIn (now (language .entry)) (now (bytes .entry)) r ⌝ }
 {
     match syntax {
         Syntax::Tree => tree_node(language, index, kind, bytes, at),
-        Syntax::Code => code_node(language, index, arguments, kind, bytes, at),
+        Syntax::Code => code_node(language, index, uses, kind, bytes, at),
     }
 }
 

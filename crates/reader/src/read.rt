@@ -17,7 +17,7 @@ ghost use mathlib.Core.List.{List};
 ghost use lib.ListN.{length, getD, drop};
 ghost use Rattle.language.specs.Language.{Language};
 ghost use Rattle.reader.specs.Syntax.{read as readCode};
-ghost use Rattle.reader.specs.Inner.Positions.{classPlace, productionPlace, operandsFrom, readAt, KindsIn, EndsBy, restAt, restOf, syntaxOf};
+ghost use Rattle.reader.specs.Inner.Positions.{classPlace, productionPlace, operandsFrom, readAt, KindsIn, EndsBy, restAt, restOf, syntaxOf, usesIn};
 ghost use Rattle.reader.specs.Inner.Index.{Sound, Ready, Indexed};
 
 // The place of the class that a token of the kind is read by: 0 in a code, where a sign stands before it.
@@ -36,7 +36,7 @@ fn leaf(
     syntax: Syntax,
     language: &[u8],
     index: &[u16],
-    arguments: &[u8],
+    uses: &[u8],
     kind: u8,
     bytes: &[u8],
     at: usize,
@@ -44,13 +44,13 @@ fn leaf(
 ) -> Read
     requires { ⌜ Ready (now index) (now language) kind (now bytes) at ⌝ }
     ensures { λ r. ⌜ ((class : ℕ) → class ≡ classPlace syntax (now (index .entry)) kind → class ≡ 0 → productionPlace syntax (now (index .entry)) kind (now (bytes .entry)) at ≡ 0
-        → r ≡ readAt syntax (now (language .entry)) (now (index .entry)) (now (arguments .entry)) (now (bytes .entry)) levels kind at)
+        → r ≡ readAt syntax (now (language .entry)) (now (index .entry)) (now (uses .entry)) (now (bytes .entry)) levels kind at)
         × EndsBy (length (now (bytes .entry))) r ⌝ }
 {
     if levels == 0 {
         return past_levels(syntax, language, index, kind, bytes, at);
     }
-    leaf_at(syntax, language, index, arguments, kind, bytes, at)
+    leaf_at(syntax, language, index, uses, kind, bytes, at)
 }
 
 // Codes of the kinds that stand in the language from `from` up to `stop`, one after the other. Tokens of a class are
@@ -59,7 +59,7 @@ fn operands(
     syntax: Syntax,
     language: &[u8],
     index: &[u16],
-    arguments: &[u8],
+    uses: &[u8],
     from: usize,
     stop: usize,
     bytes: &[u8],
@@ -67,7 +67,7 @@ fn operands(
     levels: usize,
 ) -> Read
     requires { ⌜ Sound (now index) (now language) × KindsIn (now language) from stop × (at ≤ length (now bytes)) ⌝ }
-    ensures { λ r. ⌜ (r ≡ operandsFrom (readAt syntax (now (language .entry)) (now (index .entry)) (now (arguments .entry)) (now (bytes .entry)) levels) (now (language .entry)) (stop - from) from at) × EndsBy (length (now (bytes .entry))) r ⌝ }
+    ensures { λ r. ⌜ (r ≡ operandsFrom (readAt syntax (now (language .entry)) (now (index .entry)) (now (uses .entry)) (now (bytes .entry)) levels) (now (language .entry)) (stop - from) from at) × EndsBy (length (now (bytes .entry))) r ⌝ }
 {
     let mut q = from;
     let mut end = stop;
@@ -94,7 +94,7 @@ fn operands(
                     syntax,
                     language,
                     index,
-                    arguments,
+                    uses,
                     first,
                     last,
                     bytes,
@@ -116,7 +116,7 @@ fn operands(
             let read = if class != 0 {
                 token(language, class, bytes, to)
             } else {
-                leaf(syntax, language, index, arguments, kind, bytes, to, left)
+                leaf(syntax, language, index, uses, kind, bytes, to, left)
             };
             match read {
                 Read::End(e) => {
@@ -140,25 +140,25 @@ pub fn read_at(
     syntax: Syntax,
     language: &[u8],
     index: &[u16],
-    arguments: &[u8],
+    uses: &[u8],
     kind: u8,
     bytes: &[u8],
     at: usize,
     levels: usize,
 ) -> Read
     requires { ⌜ Ready (now index) (now language) kind (now bytes) at ⌝ }
-    ensures { λ r. ⌜ (r ≡ readAt syntax (now (language .entry)) (now (index .entry)) (now (arguments .entry)) (now (bytes .entry)) levels kind at) × EndsBy (length (now (bytes .entry))) r ⌝ }
+    ensures { λ r. ⌜ (r ≡ readAt syntax (now (language .entry)) (now (index .entry)) (now (uses .entry)) (now (bytes .entry)) levels kind at) × EndsBy (length (now (bytes .entry))) r ⌝ }
 {
     if levels == 0 {
         return past_levels(syntax, language, index, kind, bytes, at);
     }
-    match node_at(syntax, language, index, arguments, kind, bytes, at) {
+    match node_at(syntax, language, index, uses, kind, bytes, at) {
         Node::Leaf(r) => r,
         Node::Operands(q, stop, to) => operands(
             syntax,
             language,
             index,
-            arguments,
+            uses,
             q,
             stop,
             bytes,
@@ -173,7 +173,7 @@ pub fn read(
     syntax: Syntax,
     language: &[u8],
     index: &[u16],
-    arguments: &[u8],
+    uses: &[u8],
     kind: u8,
     bytes: &[u8],
     at: usize,
@@ -181,8 +181,8 @@ pub fn read(
 ) -> Read
     requires { ⌜ Ready (now index) (now language) kind (now bytes) at ⌝ }
     ensures is { λ r. ⌜ ((l : Language) → Indexed (now (index .entry)) (now (language .entry)) l
-        → restAt (now (bytes .entry)) r ≡ restOf (readCode (syntaxOf syntax) l (now (arguments .entry)) levels kind (drop at (now (bytes .entry))))) ⌝ }
+        → restAt (now (bytes .entry)) r ≡ restOf (readCode (syntaxOf syntax) l (usesIn (now (uses .entry))) levels kind (drop at (now (bytes .entry))))) ⌝ }
     ensures within { λ r. ⌜ EndsBy (length (now (bytes .entry))) r ⌝ }
 {
-    read_at(syntax, language, index, arguments, kind, bytes, at, levels)
+    read_at(syntax, language, index, uses, kind, bytes, at, levels)
 }

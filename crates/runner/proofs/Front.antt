@@ -8,8 +8,9 @@ use Rattle.fields.specs.Inner.Places.{places}
 use Rattle.language.specs.Language.{Language, productionKey}
 use Rattle.reader.specs.Inner.Index.{Sound, Indexed, putAll}
 use Rattle.translation.specs.Translation.{Translation}
+use Rattle.measure.specs.Inner.Counting.{Tables}
 use Rattle.measure.specs.Inner.Measuring.{Counted}
-use Rattle.emitter.proofs.Tables.{front-index-long}
+use Rattle.tables.proofs.Tables.{front-index-long}
 
 -- What is looked up in a longer table is what stands in its front.
 module _ (index table s : List ℕ) (long : 8224 ≤ length table) (same : (j : ℕ) → j < 8224 → getD table j 0 ≡ getD index j 0) where
@@ -30,14 +31,15 @@ module _ (index table s : List ℕ) (long : 8224 ≤ length table) (same : (j : 
     arguments = λ k p h j. rw (same (productionKey k p) (omega arith)) (z .arguments k p h j);
   }
 
-  pub counted-front : (counts : List ℕ) (f : Translation) → Counted counts index f → Counted counts table f
-  counted-front counts f z = record {
-    owns = λ k p ks h j e. rw (same (productionKey k p) (omega arith)) (z .owns k p ks h j e);
-    used = λ k p ks h j e i n. rw (same (productionKey k p) (omega arith)) (z .used k p ks h j e i n);
+  pub counted-front : (t : Tables) (width : ℕ) (f : Translation) → Counted t width index f → Counted t width table f
+  counted-front t width f z = record {
+    owns = λ k p j u ks h i e q. rw (same (productionKey k p) (omega arith)) (z .owns k p j u ks h i e q);
+    used = λ k p j u ks h i e q a m n l. rw (same (productionKey k p) (omega arith)) (z .used k p j u ks h i e q a m n l);
+    narrow = z .narrow;
   }
 
 -- begin: the front of the table o was replaced by the index.
-module _ (s o index : List ℕ) (long : length o ≡ 25664) (put : index ≡ putAll 0x11 s (take 8224 o) (places s)) where
+module _ (s o index : List ℕ) (long : length o ≡ 29760) (put : index ≡ putAll 0x11 s (take 8224 o) (places s)) where
   index-long : length index ≡ 8224
   index-long = rw put (front-index-long s o long)
 

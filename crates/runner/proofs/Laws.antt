@@ -1,50 +1,71 @@
 -- What a run relies on, and a law for each return of `write_tree`, `run_parts` and `run`.
-use Prim.Native.Nat.{ℕ, _+_, _<_, _≤_}
+use Prim.Native.Nat.{ℕ, zero, suc, _+_, _*_, _<_, _≤_}
 use mathlib.Core.Path.{_≡_, refl, sym, ap, _∙_}
-use mathlib.Core.Bool.{Bool, true, false}
+use mathlib.Core.Logic.{_⊎_, ⊎-elim}
+use mathlib.Core.Bool.{Bool, true, false, not, _&&_}
 use mathlib.Core.List.{List, [], _++_}
+use mathlib.Core.Option.{some}
 use native.Mathlib.Omega.{arith}
 use lib.ListN.{length, getD, drop, drop-of-length-le}
-use lib.Dec.{ltb}
-use borrow.Author.Tests.{le-ltb, lt-ltb}
+use lib.Dec.{ltb, eqb}
+use borrow.Author.Tests.{le-ltb, lt-ltb, ltb-true, ne-eqb}
 use Rattle.fields.specs.Outcome.{Result, value, refused, _>>=_, checked, written, outputAfter}
 use Rattle.fields.specs.declared.outcome.Outcome.{Outcome}
 use Rattle.fields.specs.declared.outcome.Outcome.the-variants.{Accepted, Refused}
 use Rattle.fields.specs.declared.outcome.Reason.{Reason}
 use Rattle.fields.specs.declared.outcome.Reason.the-variants as Why
-use Rattle.fields.proofs.Truth.{by-test}
+use Rattle.fields.specs.Lists.{isSome}
+use Rattle.fields.proofs.Truth.{by-test, and-both, all-mem, same-truth, some-is, is-some}
 use Rattle.fields.proofs.Split.{front}
 use Rattle.fields.proofs.Codec.{bytes-from}
 use Rattle.language.specs.Language.{isIn}
+use Rattle.language.specs.LanguageFile.{isKind}
 use Rattle.reader.specs.Code.{Code}
 use Rattle.reader.specs.Syntax as Meant
 use Rattle.reader.specs.Operations.{treeOf, wholeTree}
-use Rattle.reader.specs.declared.node.Syntax.the-variants.{Tree}
+use Rattle.reader.specs.declared.node.Syntax.the-variants.{Tree, Code as InCode}
+use Rattle.reader.specs.Inner.Index.{Indexed}
+use Rattle.reader.specs.Inner.Positions.{kindBefore, mappedIn}
 use Rattle.translation.proofs.Accepted.{refused-not}
 use Rattle.reader.proofs.RoundTrip.{Apart}
 use Rattle.reader.proofs.Larger.{apart}
 use Rattle.reader.proofs.Sound.{read-done as right-done}
-use Rattle.reader.proofs.Members.{in-below}
-use Rattle.translation.specs.Translation.{Translation}
-use Rattle.translation.specs.Running.{transform}
+use Rattle.translation.specs.Translation.{mapping, Translation, mappingOf}
+use Rattle.translation.specs.Running.{clausesOf, transform}
 use Rattle.translation.specs.TranslationFile.{allRising, translationOf}
 use Rattle.translation.specs.WellFormed.{wellFormed}
 use Rattle.translation.specs.Operations.{checkTranslation, fitted, runBytes, runTree}
 use Rattle.translation.specs.Inner.Parts.{sourceIn, targetIn, bodyIn}
-use Rattle.translation.proofs.Codec.{translation-whole}
+use Rattle.translation.specs.Inner.ItemIndex.{Mapped}
+use Rattle.translation.proofs.Codec.{itemWhole, translation-whole}
+use Rattle.translation.proofs.Lookup.{mapping-mem, mem-mapping}
 use Rattle.translation.proofs.Cuts.{pieces-in, body-in-short}
 use Rattle.measure.specs.declared.measure.Measured.{Measured}
 use Rattle.measure.specs.declared.measure.Measured.the-variants.{End, Deep, Broken}
 use Rattle.measure.specs.Inner.Sizes.{size, capped}
+use Rattle.measure.specs.Cost.{cost}
+use Rattle.measure.specs.Inner.Learning.{Learnt}
 use Rattle.measure.specs.Inner.Measuring.{EndsIn, sizedAt, sizedOf}
-use Rattle.measure.proofs.Sizes.{over-room, within-room}
+use Rattle.measure.proofs.Sums.{over-room, within-room}
 use Rattle.measure.proofs.Meaning.{sized-done, sized-deep, sized-broken}
 use Rattle.fields.specs.Inner.Writing.{spliced}
-use Rattle.emitter.specs.Inner.Stands.{Wrote}
-use Rattle.emitter.specs.Inner.Table.{Ready, Checked}
-use Rattle.emitter.specs.Inner.Runs.{Right, TermAsks}
-use Rattle.emitter.proofs.Standing.{drop-stands, wrote-long}
-use Rattle.runner.specs.Inner.Runs.{runOf, Answers}
+use Rattle.tables.specs.Inner.Stands.{Wrote}
+use Rattle.tables.specs.Inner.Table.{Ready, Checked}
+use Rattle.tables.specs.Inner.Filling.{Begun}
+use Rattle.tables.proofs.Clauses.{body-rises, fits}
+use Rattle.emitter.specs.Inner.Runs.{TermAsks}
+use Rattle.emitter.proofs.Skips.{no-kind}
+use Rattle.tables.proofs.Standing.{drop-stands, wrote-long}
+use Rattle.runner.specs.Inner.Runs.{runOf, Answers, Reads, Measures}
+use Rattle.runner.proofs.Learning.{learnt-right}
+
+-- A mapping in a file is of a kind and by a byte.
+item-below : (k j u : ℕ) → itemWhole (mapping k j u) ≡ true → (k < 32) × (j < 256)
+unfolding itemWhole
+item-below k j u e =
+    let a = and-both (isKind k) _ e in
+    let b = and-both (isKind u) _ (a .1) in
+    (ltb-true k 32 (a .0), ltb-true j 256 (b .1))
 
 -- A translation that was accepted rises, and is well formed.
 module _ {s t b : List ℕ} {f : Translation} (z : Checked s t b f) where
@@ -57,25 +78,63 @@ module _ {s t b : List ℕ} {f : Translation} (z : Checked s t b f) where
   pub formed : wellFormed f ≡ value f
   formed = translation-whole (z .file) f (z .accepted) .2
 
+-- has_number
+module _ {s t b : List ℕ} {f : Translation} (z : Checked s t b f) (k : ℕ) where
+  mapped-in : isSome (mappingOf (f .body) k 0) ≡ isIn (f .source) k
+  mapped-in =
+      same-truth (isSome (mappingOf (f .body) k 0)) (isIn (f .source) k)
+      (λ e. let u = some-is (mappingOf (f .body) k 0) e in fits z .mapsOnly k 0 (u .0) (mapping-mem (f .body) k 0 (u .0) (u .1)) .0)
+      (λ e. let u = fits z .maps k e in is-some (mappingOf (f .body) k 0) (mem-mapping (f .body) (body-rises z) k 0 (u .0) (u .1)))
+
+  pub number-zero : {r : Bool} {n : ℕ} → n ≡ 0 → r ≡ isIn (f .source) k → r ≡ isSome (mappingOf (f .body) k n)
+  number-zero e h = h ∙ (sym mapped-in ∙ ap (λ (j : ℕ). isSome (mappingOf (f .body) k j)) (sym e))
+
+  some-before : (x : ℕ) → not (eqb x 0) ≡ isSome (kindBefore x)
+  some-before zero = refl
+  some-before (suc x) = rw (ne-eqb (suc x) 0 (λ h. omega arith)) refl
+
+  pub number-other : {uses : List ℕ} {n h i : ℕ} → Mapped uses (f .body) → k < 32 → n < 256 → h ≡ k → i ≡ n
+      → not (eqb (getD uses (h * 256 + i) 0) 0) ≡ isSome (mappingOf (f .body) k n)
+  unfolding mappedIn
+  number-other {uses} {n} {h} {i} w small byte eh ei =
+      let e : kindBefore (getD uses (k * 256 + n) 0) ≡ mappingOf (f .body) k n = rw (lt-ltb n 256 byte) at (w .is k n small byte) in
+      rw (eh, ei) (some-before (getD uses (k * 256 + n) 0) ∙ ap isSome e)
+
 -- The bytes of a run, and what reading its tree comes to.
-abbrev pub runBy : Translation → Code → List ℕ
-runBy f t = Meant.write Meant.tree (transform f t)
+abbrev pub runBy : Translation → ℕ → Code → List ℕ
+runBy f j t = Meant.write Meant.tree (transform f j t)
 
 abbrev pub treeRead : Translation → ℕ → List ℕ → Meant.Read Code
 treeRead f k b = Meant.read Meant.tree (f .source) [] 64 k b
 
+-- What measuring leaves.
+pub measures : {s x b : List ℕ} {f : Translation} → Checked s x b f → (table ends before bytes : List ℕ) (k j top : ℕ) (r : Measured)
+    → Begun s table → Indexed table s (f .source) → ((i : ℕ) → getD bytes i 0 < 256) → ((i : ℕ) → getD before i 0 ≡ 0)
+    → ((u : ℕ) → mappingOf (f .body) k j ≡ some u → sizedAt bytes r ≡ sizedOf top f j (treeRead f k bytes))
+    → EndsIn (length bytes) top r → Learnt s table bytes before ends → Measures s table ends f k j bytes top r
+measures {s} {f = f} z table ends before bytes k j top r begun indexed narrow zeros is within learnt = record {
+  begun = begun;
+  is = is;
+  within = within;
+  kept = learnt-right s table bytes (f .source) indexed (source-apart z) narrow before ends zeros learnt;
+}
+
 -- What `write_tree` hands to the emitter: the tree that was read stands in its bytes.
-pub tree-asks : (table b ends : List ℕ) (k : ℕ) (f : Translation) (t : Code) → Ready table f → k < 32 → ((i : ℕ) → getD b i 0 < 256)
-    → treeRead f k b ≡ Meant.done t [] → Right Tree ends b (f .source) [] → TermAsks Tree table b ends 64 k f [] t
-tree-asks table b ends k f t r h y e g =
-    let d = right-done Meant.tree (f .source) [] 64 k b t [] e in
+pub tree-asks : (table b ends : List ℕ) (k j : ℕ) (f : Translation) (t : Code) → Ready table f → k < 32 → ((i : ℕ) → getD b i 0 < 256)
+    → Reads f k j ends b t → TermAsks Tree table b ends 64 k j f [] t
+tree-asks table b ends k j f t r h y e =
+    let d = right-done Meant.tree (f .source) [] 64 k b t [] (e .is) in
     record {
-      table = record { ready = r; plain = λ q. refl };
-      kept = g;
+      table = record { ready = r; plain = λ q. refl; uses = λ a i n q. no-kind a i q; numbers = λ q. no-code q };
+      kept = e .kept;
       term = record { typed = d .0; kind = h; stands = drop-stands b 0 _ [] (omega arith) (d .2 (bytes-from b (λ i l. y i)) .0) };
+      has = e .has;
       levels = d .1;
       most = omega arith;
     }
+  where
+    no-code : {A : Type 0} → Tree ≡ InCode → A
+    no-code q = let z : _≡_ {A = ℕ} 0 1 = cc in absurd (omega arith)
 
 -- write_tree
 module _ (v o after : List ℕ) (p : ℕ) (w : Wrote v o after 0 p) where
@@ -100,56 +159,73 @@ answer-refused {o = o} e h = record { answer = h ∙ sym (ap written e); left = 
 answer-same : {x y : Result (List ℕ)} {o after : List ℕ} {out : Outcome} → x ≡ y → Answers y o after out → Answers x o after out
 answer-same {o = o} e h = record { answer = h .answer ∙ sym (ap written e); left = h .left ∙ sym (ap (outputAfter o) e) }
 
--- run_parts
-module _ (f : Translation) (k room : ℕ) (b o : List ℕ) {r : Bool} (er : r ≡ isIn (f .source) k) where
-  pub kind-out : {out : Outcome} → r ≡ false → out ≡ Refused Why.UnknownRoot → Answers (runOf f k b room) o o out
+-- run_parts: the kind lacks the number.
+pub kind-out : (f : Translation) (k j room : ℕ) (b o : List ℕ) {r : Bool} → r ≡ isSome (mappingOf (f .body) k j)
+    → {out : Outcome} → r ≡ false → out ≡ Refused Why.UnknownRoot → Answers (runOf f k j b room) o o out
+unfolding runOf
+kind-out f k j room b o er h i = answer-refused (rw (← er, h) refl) i
+
+-- finish
+module _ {s t x : List ℕ} {f : Translation} (z : Checked s t x f) (k j top : ℕ) (b o table ends : List ℕ) (has : isSome (mappingOf (f .body) k j) ≡ true) (m : Measured)
+    (over : length o < top) (w : Measures s table ends f k j b top m) where
+  room : ℕ
+  room = length o
+
+  there : isIn (f .source) k ≡ true
+  there = let u = some-is (mappingOf (f .body) k j) has in fits z .mapsOnly k j (u .0) (mapping-mem (f .body) k j (u .0) (u .1)) .0
+
+  by-read : {g : Meant.Read Code} → treeRead f k b ≡ g → runOf f k j b room ≡ (wholeTree g >>= λ t. fitted room (runBy f j t))
   unfolding runOf treeOf
-  kind-out h i = answer-refused (rw (← er, h)) i
+  by-read e = rw (has, there, e) refl
 
-  module _ (there : r ≡ true) where
-    by-read : {g : Meant.Read Code} → treeRead f k b ≡ g → runOf f k b room ≡ (wholeTree g >>= λ t. fitted room (runBy f t))
-    unfolding runOf treeOf
-    by-read e = rw (← er, there, e)
+  em : sizedAt b m ≡ sizedOf top f j (treeRead f k b)
+  em = let u = some-is (mappingOf (f .body) k j) has in w .is (u .0) (u .1)
 
-    module _ (m : Measured) (em : sizedAt b m ≡ sizedOf (room + 1) f (treeRead f k b)) where
-      pub tree-deep : {out : Outcome} → m ≡ Deep → out ≡ Refused Why.TooDeep → Answers (runOf f k b room) o o out
-      tree-deep y i = answer-refused (by-read (sized-deep f (room + 1) (treeRead f k b) (sym em ∙ ap (sizedAt b) y))) i
+  pub tree-deep : {out : Outcome} → m ≡ Deep → out ≡ Refused Why.TooDeep → Answers (runOf f k j b (length o)) o o out
+  unfolding room
+  tree-deep y i = answer-refused (by-read (sized-deep f top j (treeRead f k b) (sym em ∙ ap (sizedAt b) y))) i
 
-      pub tree-broken : {out : Outcome} → m ≡ Broken → out ≡ Refused Why.IllegalTree → Answers (runOf f k b room) o o out
-      tree-broken y i = answer-refused (by-read (sized-broken f (room + 1) (treeRead f k b) (sym em ∙ ap (sizedAt b) y))) i
+  pub tree-broken : {out : Outcome} → m ≡ Broken → out ≡ Refused Why.IllegalTree → Answers (runOf f k j b (length o)) o o out
+  unfolding room
+  tree-broken y i = answer-refused (by-read (sized-broken f top j (treeRead f k b) (sym em ∙ ap (sizedAt b) y))) i
 
-      module _ (e n : ℕ) (y : m ≡ End e n) where
-        read-done : (a : Code) × (treeRead f k b ≡ Meant.done a (drop e b)) × (n ≡ capped (room + 1) (size (transform f a)))
-        read-done = sized-done f (room + 1) (treeRead f k b) (drop e b) n (sym em ∙ ap (sizedAt b) y)
+  module _ (e n c : ℕ) (y : m ≡ End e n c) where
+    read-done : (a : Code) × (treeRead f k b ≡ Meant.done a (drop e b)) × (n ≡ capped top (size (transform f j a))) × (c ≡ capped top (cost (clausesOf f) j a))
+    read-done = sized-done f top j (treeRead f k b) (drop e b) n c (sym em ∙ ap (sizedAt b) y)
 
-        pub tree-more : {out : Outcome} → EndsIn (length b) (room + 1) m → (e ≡ length b → ⊥) → out ≡ Refused Why.IllegalTree → Answers (runOf f k b room) o o out
-        tree-more w h i =
-            let x : EndsIn (length b) (room + 1) (End e n) = rw y at w in
-            let l = x .0 in
-            let j : e < length b = omega arith in
-            answer-refused (by-read (read-done .1 ∙ ap (Meant.done (read-done .0)) (front b e j))) i
+    pub tree-more : {out : Outcome} → (e ≡ length b → ⊥) → out ≡ Refused Why.IllegalTree → Answers (runOf f k j b (length o)) o o out
+    unfolding room
+    tree-more h i =
+        let v : EndsIn (length b) top (End e n c) = rw y at (w .within) in
+        let l = v .0 in
+        let g : e < length b = omega arith in
+        answer-refused (by-read (read-done .1 ∙ ap (Meant.done (read-done .0)) (front b e g))) i
 
-        module _ (all : e ≡ length b) where
-          read-all : treeRead f k b ≡ Meant.done (read-done .0) []
-          read-all = read-done .1 ∙ ap (Meant.done (read-done .0)) (drop-of-length-le b {i = e} (omega arith))
+    module _ (all : e ≡ length b) where
+      read-all : treeRead f k b ≡ Meant.done (read-done .0) []
+      read-all = read-done .1 ∙ ap (Meant.done (read-done .0)) (drop-of-length-le b {i = e} (omega arith))
 
-          -- The tree is legal.
-          pub tree-whole : (t : Code) × (treeRead f k b ≡ Meant.done t [])
-          tree-whole = (read-done .0, read-all)
+      -- The tree is legal.
+      pub tree-whole : (t : Code) × Reads f k j ends b t
+      tree-whole = (read-done .0, record { has = has; is = read-all; kept = w .kept })
 
-          fitted-is : (c : Bool) → ltb room n ≡ c → ltb room (size (transform f (read-done .0))) ≡ c
-          fitted-is c h = sym (over-room room (size (transform f (read-done .0)))) ∙ (ap (ltb room) (sym (read-done .2)) ∙ h)
+      fitted-is : (d : Bool) → ltb room n ≡ d → ltb room (size (transform f j (read-done .0))) ≡ d
+      unfolding room
+      fitted-is d h = sym (over-room room top (size (transform f j (read-done .0))) over) ∙ (ap (ltb room) (sym (read-done .2)) ∙ h)
 
-          pub tree-long : {out : Outcome} → room < n → out ≡ Refused Why.OutputTooShort → Answers (runOf f k b room) o o out
-          tree-long h i = answer-refused (by-read read-all ∙ rw (fitted-is true (lt-ltb room n h))) i
+      pub tree-long : {out : Outcome} → length o < n → out ≡ Refused Why.OutputTooShort → Answers (runOf f k j b (length o)) o o out
+      unfolding room
+      tree-long h i = answer-refused (by-read read-all ∙ rw (fitted-is true (lt-ltb room n h)) refl) i
 
-          pub tree-fits : {out : Outcome} {after : List ℕ} → n ≤ room
-              → ((t : Code) → treeRead f k b ≡ Meant.done t [] → length (runBy f t) ≤ room → Answers (value (runBy f t)) o after out)
-              → Answers (runOf f k b room) o after out
-          tree-fits h x =
-              let j = read-done .2 in
-              let l = within-room room (size (transform f (read-done .0))) (omega arith) in
-              answer-same (by-read read-all ∙ rw (fitted-is false (le-ltb room n h))) (x (read-done .0) read-all (omega arith))
+      pub tree-fits : {out : Outcome} {after : List ℕ} → n ≤ length o
+          → ((t : Code) → Reads f k j ends b t → length (runBy f j t) ≤ length o → Answers (value (runBy f j t)) o after out)
+          → Answers (runOf f k j b (length o)) o after out
+      unfolding room
+      tree-fits h g =
+          let q = read-done .2 in
+          let l = within-room room top (size (transform f j (read-done .0))) over (omega arith) in
+          let y : Reads f k j ends b (read-done .0) = record { has = has; is = read-all; kept = w .kept } in
+          answer-same (by-read read-all ∙ rw (fitted-is false (le-ltb room n h)) refl) (g (read-done .0) y (omega arith))
 
 -- run: the parts that are lent.
 pub parts-checked : (s : List ℕ) (f : Translation) → translationOf s ≡ value f → {x y z : List ℕ} → x ≡ sourceIn s → y ≡ targetIn s → z ≡ bodyIn s
@@ -158,30 +234,36 @@ parts-checked s f e ex ey ez =
     rw (ex, ey, ez) (record { pieces = pieces-in s f e; short = body-in-short s f e; file = s; accepted = e })
 
 -- The outcome and the output are those of the operation.
-abbrev pub AsRun : List ℕ → ℕ → List ℕ → List ℕ → List ℕ → Outcome → Type 0
-AsRun s root b o after out = (out ≡ runTree s root b o .outcome) × (after ≡ runTree s root b o .output)
+abbrev pub AsRun : List ℕ → (root number : ℕ) → List ℕ → List ℕ → List ℕ → Outcome → Type 0
+AsRun s root j b o after out = (out ≡ runTree s root j b o .outcome) × (after ≡ runTree s root j b o .output)
 
-module _ (s : List ℕ) (root : ℕ) (b o : List ℕ) where
-  run-is : (out : Outcome) (after : List ℕ) → Answers (runBytes s root b (length o)) o after out → AsRun s root b o after out
+module _ (s : List ℕ) (root j : ℕ) (b o : List ℕ) where
+  run-is : (out : Outcome) (after : List ℕ) → Answers (runBytes s root j b (length o)) o after out → AsRun s root j b o after out
   unfolding runTree
   run-is out after h = (h .answer, h .left)
 
   module _ (f : Translation) (e : translationOf s ≡ value f) (out : Outcome) where
-    pub run-accepted : (after : List ℕ) → Answers (runOf f root b (length o)) o after out → AsRun s root b o after out
+    pub run-accepted : (after : List ℕ) → Answers (runOf f root j b (length o)) o after out → AsRun s root j b o after out
     unfolding runBytes runOf
     run-accepted after h = run-is out after (answer-same (rw e) h)
 
-    pub root-past : 31 < root → out ≡ Refused Why.UnknownRoot → AsRun s root b o o out
-    root-past h i =
-        let w = translation-whole s f e .0 in
-        run-accepted o (by-test (isIn (f .source) root)
-        (λ j. let l = in-below (w .sourceBytes) root (f .source) (w .source) j in absurd (omega arith))
-        (λ j. kind-out f root (length o) b o refl j i))
+    mapped-whole : (u : ℕ) → mappingOf (f .body) root j ≡ some u → (root < 32) × (j < 256)
+    mapped-whole u q =
+        let w = translation-whole s f e in
+        let v = mapping-mem (f .body) root j u q in
+        let x = all-mem itemWhole (f .body) (w .1 .body) (mapping root j u) v in
+        item-below root j u x
 
-  pub run-refused : (c out : Outcome) (r : Reason) → c ≡ checkTranslation s → c ≡ Refused r → out ≡ Refused r → AsRun s root b o o out
+    pub root-past : (31 < root) ⊎ (255 < j) → out ≡ Refused Why.UnknownRoot → AsRun s root j b o o out
+    root-past h i =
+        run-accepted o (by-test (isSome (mappingOf (f .body) root j))
+        (λ q. let u = some-is (mappingOf (f .body) root j) q in let l = mapped-whole (u .0) (u .1) in ⊎-elim (λ g. absurd (omega arith)) (λ g. absurd (omega arith)) h)
+        (λ q. kind-out f root j (length o) b o refl q i))
+
+  pub run-refused : (c out : Outcome) (r : Reason) → c ≡ checkTranslation s → c ≡ Refused r → out ≡ Refused r → AsRun s root j b o o out
   unfolding checkTranslation runBytes
   run-refused c out r ec h i = run-is out o (answer-refused (go (translationOf s) refl (sym ec ∙ h)) i)
     where
-      go : (q : Result Translation) → translationOf s ≡ q → checked q ≡ Refused r → runBytes s root b (length o) ≡ refused r
+      go : (q : Result Translation) → translationOf s ≡ q → checked q ≡ Refused r → runBytes s root j b (length o) ≡ refused r
       go (value f) e d = refused-not {n = 0} {r = r} (sym d)
       go (refused x) e d = rw e (cc)

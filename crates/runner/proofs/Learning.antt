@@ -12,16 +12,16 @@ use Rattle.reader.specs.Syntax as Meant
 use Rattle.reader.specs.declared.node.Syntax.the-variants.{Tree}
 use Rattle.reader.specs.declared.node.Read.the-variants.{End}
 use Rattle.reader.specs.Inner.Index.{Indexed}
-use Rattle.reader.specs.Inner.Positions.{readAt, restAt}
+use Rattle.reader.specs.Inner.Positions.{usesIn, readAt, restAt}
 use Rattle.reader.specs.Inner.Ends.{Kept}
 use Rattle.reader.proofs.RoundTrip.{Apart, round, as-tree}
 use Rattle.reader.proofs.Larger.{deep-done}
 use Rattle.reader.proofs.Meaning.{done-of, read-same}
 use Rattle.reader.proofs.Sound.{More, more-levels}
 use Rattle.measure.specs.Inner.Learning.{Learnt}
-use Rattle.emitter.specs.Inner.Stands.{Stands}
+use Rattle.tables.specs.Inner.Stands.{Stands}
 use Rattle.emitter.specs.Inner.Runs.{Right}
-use Rattle.emitter.proofs.Standing.{stands-drop}
+use Rattle.tables.proofs.Standing.{stands-drop}
 
 -- What is left after a reading.
 abbrev left : Meant.Read Code → List ℕ
@@ -44,6 +44,7 @@ module _ (s index b : List ℕ) (l : Language) (indexed : Indexed index s l) (ap
   -- Where the reader ends, any tree of the kind that stands there ends.
   read-ends : (n k at e : ℕ) → k < 32 → readAt Tree s index [] b n k at ≡ End e → e ≤ length b
       → (u : Code) → Typed l [] u k → Stands b at (Meant.write Meant.tree u) → e ≡ at + length (Meant.write Meant.tree u)
+  unfolding usesIn
   read-ends n k at e small r i u typed stands =
       let v = Meant.write Meant.tree u in
       let to = at + length v in

@@ -1,10 +1,12 @@
 // The operation run. It measures the result first and writes it only where it fits.
 use checks::translations::check_translation;
+use fields::bytes::to_usize;
 use fields::outcome::Answer;
 use fields::outcome::Outcome;
 use fields::outcome::Reason;
 use fields::outcome::accept;
 use fields::outcome::refuse;
+use measure::count::width_of;
 use measure::measure::Measured;
 use measure::measure::measure;
 use measure::prepare::prepare;
@@ -12,132 +14,311 @@ use reader::index::INDEX;
 use reader::index::TABLE;
 use reader::kinds::is_in;
 use reader::node::Syntax;
+use reader::node::USES;
+use translation::index::put_uses;
 use translation::parts::body_of;
 use translation::parts::source_of;
 use translation::parts::target_of;
 ghost use mathlib.Core.Path.{_≡_};
 ghost use mathlib.Core.Bool.{true};
 ghost use mathlib.Core.Option.{some};
-ghost use mathlib.Core.List.{[]};
-ghost use Prim.Native.Nat.{ℕ, _<_, _≤_};
+ghost use mathlib.Core.List.{List};
+ghost use mathlib.Core.Logic.{_⊎_};
+ghost use Prim.Native.Nat.{ℕ, _*_, _<_, _≤_};
 ghost use lib.ListN.{length, getD};
 ghost use Rattle.fields.specs.Outcome.{value};
 ghost use Rattle.language.specs.LanguageFile.{entriesOf};
 ghost use Rattle.reader.specs.Code.{Code};
-ghost use Rattle.reader.specs.Syntax.{read, done, write, tree as inTrees};
-ghost use Rattle.translation.specs.Translation.{Translation};
+ghost use Rattle.reader.specs.Syntax.{write, tree as inTrees};
+ghost use Rattle.fields.specs.Lists.{isSome};
+ghost use Rattle.translation.specs.Translation.{Translation, mappingOf};
 ghost use Rattle.translation.specs.Running.{transform};
 ghost use Rattle.translation.specs.Operations.{runTree};
 ghost use Rattle.translation.specs.TranslationFile.{bodyOf, allRising};
 ghost use Rattle.translation.specs.WellFormed.{wellFormed};
 ghost use Rattle.measure.specs.Inner.Measuring.{Counted};
-ghost use Rattle.reader.specs.declared.node.Syntax.the-variants.{Tree};
+ghost use Rattle.measure.specs.Inner.Counting.{widthOf};
 ghost use Rattle.reader.specs.Inner.Index.{Indexed, tableLength};
-ghost use Rattle.emitter.specs.Inner.Table.{Checked};
-ghost use Rattle.emitter.specs.Inner.Filling.{Begun};
-ghost use Rattle.emitter.specs.Inner.Runs.{Right};
-ghost use Rattle.runner.specs.Inner.Runs.{runOf, Answers};
+ghost use Rattle.tables.specs.Inner.Table.{Checked};
+ghost use Rattle.tables.specs.Inner.Filling.{Begun};
+ghost use Rattle.runner.specs.Inner.Runs.{runOf, Answers, Reads, Measures};
 
-// Puts the index of the source into the front of the table of a run, and what the body's clauses count into another. Both
-// are all zero before.
-fn begin(source: &[u8], body: &[u8], table: &mut [u16], counts: &mut [u16])
+// The largest number of a mapping.
+const LAST_NUMBER: u32 = 255;
+
+// The length of a table of uses, where there are numbers other than 0.
+const ENTRIES: usize = 7168;
+
+// Weights for every number, and for the levels of a tree.
+const WEIGHTS: usize = 16896;
+
+// Lengths are counted up to here at least.
+const LEAST_TOP: usize = 4294967296;
+
+// Whether a kind has a number: it is mapped by it. Exactly the kinds in the source have number 0.
+fn has_number(source: &[u8], body: &[u8], kind: u8, number: u8) -> bool
+    requires { ⌜ (kind < 32) × ((t : List ℕ) × (f : Translation) × Checked (now source) t (now body) f) ⌝ }
+    ensures { λ r. ⌜ ((t : List ℕ) (f : Translation) → Checked (now (source .entry)) t (now (body .entry)) f → r ≡ isSome (mappingOf (f .body) kind number)) ⌝ }
+{
+    if number == 0 {
+        return is_in(source, kind);
+    }
+    let mut uses = [0u8; USES];
+    put_uses(body, &mut uses);
+    uses[to_usize(kind) * 256 + to_usize(number)] != 0
+}
+
+// Puts the index of the source into the front of the table of a run, and what the body's clauses count into others. All are
+// all zero before.
+fn begin(
+    source: &[u8],
+    body: &[u8],
+    table: &mut [u16],
+    counts: &mut [u16],
+    entries: &mut [u16],
+    width: usize,
+)
     requires { ⌜ (length (now source) ≤ 1024) × (length (now body) ≤ 4096) × (length (now table) ≡ tableLength) × ((j : ℕ) → getD (now table) j 0 ≡ 0)
-        × (length (now counts) ≡ 1024) × ((j : ℕ) → getD (now counts) j 0 ≡ 0)
+        × (length (now counts) ≡ 1024) × ((j : ℕ) → getD (now counts) j 0 ≡ 0) × ((j : ℕ) → getD (now entries) j 0 ≡ 0)
+        × (width ≡ widthOf (now body)) × ((length (now entries) ≡ 7168) ⊎ (width ≡ 1))
         × ((f : Translation) × (entriesOf (now source) ≡ some (f .source)) × (bodyOf (now body) ≡ some (f .body))) ⌝ }
     ensures begun { λ r. ⌜ Begun (now (source .entry)) (now (table .exit)) ⌝ }
     ensures ready { λ r. ⌜ ((f : Translation) → entriesOf (now (source .entry)) ≡ some (f .source) → bodyOf (now (body .entry)) ≡ some (f .body)
         → allRising f ≡ true → wellFormed f ≡ value f
-        → Indexed (now (table .exit)) (now (source .entry)) (f .source) × Counted (now (counts .exit)) (now (table .exit)) f) ⌝ }
+        → Indexed (now (table .exit)) (now (source .entry)) (f .source) × Counted (now (counts .exit), now (entries .exit)) width (now (table .exit)) f) ⌝ }
 {
-    prepare(source, body, &mut table[..INDEX], counts);
+    prepare(source, body, &mut table[..INDEX], counts, entries, width);
 }
 
-// Writes the run of a legal tree whose result fits into the output.
+// The tree, checked, and the length of its run by a number, which its kind has, over tables that are lent all zero. Where long
+// subtrees end is kept.
+fn measure_with(
+    source: &[u8],
+    body: &[u8],
+    table: &mut [u16; TABLE],
+    kind: u8,
+    number: u8,
+    tree: &[u8],
+    top: usize,
+    entries: &mut [u16],
+    weights: &mut [usize],
+    width: usize,
+    ends: &mut [u32],
+) -> Measured
+    requires { ⌜ (kind < 32) × (length (now table) ≡ tableLength) × ((j : ℕ) → getD (now table) j 0 ≡ 0) × ((j : ℕ) → getD (now entries) j 0 ≡ 0) × (width ≡ widthOf (now body)) × (0 < width) × (width ≤ 256)
+        × ((length (now entries) ≡ 7168) ⊎ (width ≡ 1)) × (66 * width ≤ length (now weights)) × ((j : ℕ) → getD (now ends) j 0 ≡ 0)
+        × ((t : List ℕ) × (f : Translation) × Checked (now source) t (now body) f) ⌝ }
+    ensures { λ r. ⌜ ((t : List ℕ) (f : Translation) → Checked (now (source .entry)) t (now (body .entry)) f
+        → Measures (now (source .entry)) (now (table .exit)) (now (ends .exit)) f kind number (now (tree .entry)) top r) ⌝ }
+{
+    let mut counts = [0u16; 1024];
+    begin(source, body, table, &mut counts, entries, width);
+    measure(
+        source,
+        table,
+        &counts,
+        entries,
+        kind,
+        number,
+        tree,
+        0,
+        64,
+        top,
+        weights,
+        width,
+        ends,
+    )
+}
+
+// The same, with tables for the numbers that the body has.
+fn measured(
+    source: &[u8],
+    body: &[u8],
+    table: &mut [u16; TABLE],
+    kind: u8,
+    number: u8,
+    tree: &[u8],
+    top: usize,
+    ends: &mut [u32],
+) -> Measured
+    requires { ⌜ (kind < 32) × (length (now table) ≡ tableLength) × ((j : ℕ) → getD (now table) j 0 ≡ 0) × ((j : ℕ) → getD (now ends) j 0 ≡ 0)
+        × ((t : List ℕ) × (f : Translation) × Checked (now source) t (now body) f) ⌝ }
+    ensures { λ r. ⌜ ((t : List ℕ) (f : Translation) → Checked (now (source .entry)) t (now (body .entry)) f
+        → Measures (now (source .entry)) (now (table .exit)) (now (ends .exit)) f kind number (now (tree .entry)) top r) ⌝ }
+{
+    let width = width_of(body);
+    if width == 1 {
+        let mut entries = [0u16; 1];
+        let mut weights = [0usize; 66];
+        return measure_with(
+            source,
+            body,
+            table,
+            kind,
+            number,
+            tree,
+            top,
+            &mut entries,
+            &mut weights,
+            width,
+            ends,
+        );
+    }
+    let mut entries = [0u16; ENTRIES];
+    let mut weights = [0usize; WEIGHTS];
+    measure_with(
+        source,
+        body,
+        table,
+        kind,
+        number,
+        tree,
+        top,
+        &mut entries,
+        &mut weights,
+        width,
+        ends,
+    )
+}
+
+// Writes the run by a number of a legal tree whose result fits into the output.
 fn write_tree(
     source: &[u8],
     target: &[u8],
     body: &[u8],
     table: &mut [u16; TABLE],
     kind: u8,
+    number: u8,
     tree: &[u8],
     ends: &[u32],
     output: &mut [u8],
 ) -> Answer
-    requires { ⌜ (kind < 32) × Begun (now source) (now table) × ((f : Translation) × (t : Code) × Checked (now source) (now target) (now body) f × (read inTrees (f .source) [] 64 kind (now tree) ≡ done t []) × Right Tree (now ends) (now tree) (f .source) []) ⌝ }
-    ensures { λ r. ⌜ ((f : Translation) (t : Code) → Checked (now (source .entry)) (now (target .entry)) (now (body .entry)) f
-        → read inTrees (f .source) [] 64 kind (now (tree .entry)) ≡ done t [] → Right Tree (now (ends .entry)) (now (tree .entry)) (f .source) [] → length (write inTrees (transform f t)) ≤ length (now (output .entry))
-        → Answers (value (write inTrees (transform f t))) (now (output .entry)) (now (output .exit)) (r .outcome)) ⌝ }
+    requires { ⌜ (kind < 32) × Begun (now source) (now table) × ((f : Translation) × (t : Code) × Checked (now source) (now target) (now body) f × Reads f kind number (now ends) (now tree) t) ⌝ }
+    ensures { λ r. ⌜ ((f : Translation) (t : Code) → Checked (now (source .entry)) (now (target .entry)) (now (body .entry)) f → Reads f kind number (now (ends .entry)) (now (tree .entry)) t
+        → length (write inTrees (transform f number t)) ≤ length (now (output .entry))
+        → Answers (value (write inTrees (transform f number t))) (now (output .entry)) (now (output .exit)) (r .outcome)) ⌝ }
 {
-    emitter::prepare::prepare(source, target, body, table);
-    let p = emitter::run::run(Syntax::Tree, table, tree, ends, kind, 64, output, 0);
+    tables::prepare::prepare(source, target, body, table);
+    let p = emitter::run::run(Syntax::Tree, table, tree, ends, kind, number, 64, output, 0);
     if output.len() < p {
         return refuse(Reason::OutputTooShort);
     }
     accept(p)
 }
 
-// The run of a tree of a kind, through a translation that was accepted: 14 to 17. Where long subtrees end is kept in a table,
-// which is all zero before.
-fn run_kept(
+// What a run answers by what measuring came to: 15, 16, 17, or the run written.
+fn finish(
+    result: Measured,
     source: &[u8],
     target: &[u8],
     body: &[u8],
+    table: &mut [u16; TABLE],
     kind: u8,
+    number: u8,
     tree: &[u8],
-    ends: &mut [u32],
+    ends: &[u32],
     output: &mut [u8],
 ) -> Answer
-    requires { ⌜ (kind < 32) × ((j : ℕ) → getD (now ends) j 0 ≡ 0) × ((f : Translation) × Checked (now source) (now target) (now body) f) ⌝ }
-    ensures { λ r. ⌜ ((f : Translation) → Checked (now (source .entry)) (now (target .entry)) (now (body .entry)) f
-        → Answers (runOf f kind (now (tree .entry)) (length (now (output .entry)))) (now (output .entry)) (now (output .exit)) (r .outcome)) ⌝ }
+    requires { ⌜ (kind < 32) × ((f : Translation) × (top : ℕ) × Checked (now source) (now target) (now body) f × (isSome (mappingOf (f .body) kind number) ≡ true) × (length (now output) < top)
+        × Measures (now source) (now table) (now ends) f kind number (now tree) top result) ⌝ }
+    ensures { λ r. ⌜ ((f : Translation) (top : ℕ) → Checked (now (source .entry)) (now (target .entry)) (now (body .entry)) f → isSome (mappingOf (f .body) kind number) ≡ true → length (now (output .entry)) < top
+        → Measures (now (source .entry)) (now (table .entry)) (now (ends .entry)) f kind number (now (tree .entry)) top result
+        → Answers (runOf f kind number (now (tree .entry)) (length (now (output .entry)))) (now (output .entry)) (now (output .exit)) (r .outcome)) ⌝ }
 {
-    if !is_in(source, kind) {
-        return refuse(Reason::UnknownRoot);
-    }
-    let mut table = [0u16; TABLE];
-    let mut counts = [0u16; 1024];
-    begin(source, body, &mut table, &mut counts);
     let room = output.len();
-    match measure(source, &table, &counts, kind, tree, 0, 64, room + 1, ends) {
-        Measured::End(e, n) => {
+    match result {
+        Measured::End(e, n, cost) => {
             if e != tree.len() {
                 return refuse(Reason::IllegalTree);
             }
             if room < n {
                 return refuse(Reason::OutputTooShort);
             }
-            write_tree(source, target, body, &mut table, kind, tree, ends, output)
+            write_tree(
+                source,
+                target,
+                body,
+                table,
+                kind,
+                number,
+                tree,
+                ends,
+                output,
+            )
         }
         Measured::Deep => refuse(Reason::TooDeep),
         Measured::Broken => refuse(Reason::IllegalTree),
     }
 }
 
-// The same, with a table for a tree that has long subtrees.
+// A top that is above the room.
+fn top_over(room: usize) -> usize
+    requires { ⌜ room < 9223372036854775808 ⌝ }
+    ensures { λ r. ⌜ room < r ⌝ }
+{
+    if room < LEAST_TOP {
+        return LEAST_TOP;
+    }
+    room + 1
+}
+
+// The run of a tree of a kind by a number, through a translation that was accepted: 14 to 17. Where long subtrees of a long tree
+// end is kept in a table.
 fn run_parts(
     source: &[u8],
     target: &[u8],
     body: &[u8],
     kind: u8,
+    number: u8,
     tree: &[u8],
     output: &mut [u8],
 ) -> Answer
     requires { ⌜ (kind < 32) × ((f : Translation) × Checked (now source) (now target) (now body) f) ⌝ }
     ensures { λ r. ⌜ ((f : Translation) → Checked (now (source .entry)) (now (target .entry)) (now (body .entry)) f
-        → Answers (runOf f kind (now (tree .entry)) (length (now (output .entry)))) (now (output .entry)) (now (output .exit)) (r .outcome)) ⌝ }
+        → Answers (runOf f kind number (now (tree .entry)) (length (now (output .entry)))) (now (output .entry)) (now (output .exit)) (r .outcome)) ⌝ }
 {
+    if !has_number(source, body, kind, number) {
+        return refuse(Reason::UnknownRoot);
+    }
+    let mut table = [0u16; TABLE];
+    let top = top_over(output.len());
     if tree.len() < 4096 {
         let mut ends = [0u32; 2];
-        return run_kept(source, target, body, kind, tree, &mut ends, output);
+        let result = measured(source, body, &mut table, kind, number, tree, top, &mut ends);
+        return finish(
+            result,
+            source,
+            target,
+            body,
+            &mut table,
+            kind,
+            number,
+            tree,
+            &ends,
+            output,
+        );
     }
     let mut ends = [0u32; 8192];
-    run_kept(source, target, body, kind, tree, &mut ends, output)
+    let result = measured(source, body, &mut table, kind, number, tree, top, &mut ends);
+    finish(
+        result,
+        source,
+        target,
+        body,
+        &mut table,
+        kind,
+        number,
+        tree,
+        &ends,
+        output,
+    )
 }
 
-// Run: 1 to 7 for the translation, 14 to 16 for the tree against its source, 17 where the result is longer than the output.
-pub fn run(translation: &[u8], root: u32, tree: &[u8], output: &mut [u8]) -> Answer
-    ensures { λ r. ⌜ (r .outcome ≡ runTree (now (translation .entry)) root (now (tree .entry)) (now (output .entry)) .outcome)
-        × (now (output .exit) ≡ runTree (now (translation .entry)) root (now (tree .entry)) (now (output .entry)) .output) ⌝ }
+// Run by a number: 1 to 7 for the translation, 14 for the root and the number, 15 and 16 for the tree against its source, 17 where
+// the result is longer than the output.
+pub fn run(translation: &[u8], root: u32, number: u32, tree: &[u8], output: &mut [u8]) -> Answer
+    ensures { λ r. ⌜ (r .outcome ≡ runTree (now (translation .entry)) root number (now (tree .entry)) (now (output .entry)) .outcome)
+        × (now (output .exit) ≡ runTree (now (translation .entry)) root number (now (tree .entry)) (now (output .entry)) .output) ⌝ }
 {
     let answer = check_translation(translation);
     let outcome = answer.outcome;
@@ -147,11 +328,15 @@ pub fn run(translation: &[u8], root: u32, tree: &[u8], output: &mut [u8]) -> Ans
     if 31 < root {
         return refuse(Reason::UnknownRoot);
     }
+    if LAST_NUMBER < number {
+        return refuse(Reason::UnknownRoot);
+    }
     run_parts(
         source_of(translation),
         target_of(translation),
         body_of(translation),
         root as u8,
+        number as u8,
         tree,
         output,
     )

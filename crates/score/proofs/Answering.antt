@@ -17,7 +17,7 @@ use Rattle.fields.specs.declared.outcome.Outcome.{Outcome}
 use Rattle.fields.specs.declared.outcome.Outcome.the-variants.{Accepted, Refused}
 use Rattle.fields.specs.declared.outcome.Reason.{Reason}
 use Rattle.fields.specs.declared.outcome.Reason.the-variants as Why
-use Rattle.fields.specs.Inner.Places.{places, keyAt}
+use Rattle.fields.specs.Inner.Places.{places, keyAt, slotAt}
 use Rattle.fields.proofs.Truth.{by-test, false-true, all-mem, mem-all, any-mem, mem-any, some-is, Mem}
 use Rattle.fields.proofs.Split.{front}
 use Rattle.language.specs.Language.{Language, argumentsOf, productionKey, isIn}
@@ -73,7 +73,7 @@ module _ (s : List ℕ) (fig : List ℤ) (l : Language) (w : Table) (bytes : (i 
     name : getD s (place + 4) 0 ≡ n
 
   spot : (k n : ℕ) → k < 32 → n < 256 → 0 < getD after (productionKey k n) 0 → Spot k n
-  unfolding keyAt
+  unfolding slotAt keyAt
   spot k n h i more =
       let at = puts-place 0x11 s (places s) zeros (productionKey k n) (omega (arith, long)) (zero (productionKey k n)) in
       let same : getD after (productionKey k n) 0 ≡ _ = ap (λ (a : List ℕ). getD a (productionKey k n) 0) built ∙ at in
@@ -82,7 +82,7 @@ module _ (s : List ℕ) (fig : List ℤ) (l : Language) (w : Table) (bytes : (i 
       let (r, m, e) = any-mem (eqb p) (places s) here in
       ⊎-elim
       (λ c.
-      let o : keyAt 0x11 s p ≡ getD s (p + 3) 0 = cc (eq-eqb _ _ (c .tag)) in
+      let o : slotAt 0x11 s p ≡ getD s (p + 3) 0 = cc (eq-eqb _ _ (c .tag)) in
       let d = c .kind in
       absurd (omega (arith, o, key, d)))
       (λ c.

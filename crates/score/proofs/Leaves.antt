@@ -13,7 +13,6 @@ use mir.Val.{toZ, ofZ}
 use borrow.Author.Tests.{eq-eqb, ne-eqb, eqb-true, eqb-false}
 use Rattle.fields.specs.Fields.{pairAt}
 use Rattle.fields.proofs.Truth.{by-test, false-true}
-use Rattle.emitter.specs.Inner.Runs.{leafLength}
 use Rattle.score.specs.Figures.{isFigure}
 use Rattle.score.specs.Linear.{constant, used}
 use Rattle.score.specs.Inner.Terms.{leafForm, LeafIn, Asked, Added, AddsLeaf, AddsRow}
@@ -88,11 +87,9 @@ used-here (suc j) h = rw (eq-eqb (suc j) (suc j) refl) refl
 -- add_leaf
 module _ (b : List ℕ) (at : ℕ) where
   pub token-in : LeafIn b at → getD b at 0 ≡ 2 → at + 3 ≤ length b
-  unfolding leafLength
   token-in h t = let k = h .inside in let m : at + 3 ≤ length b = rw (eq-eqb _ _ t) at k in m
 
   pub argument-in : LeafIn b at → (getD b at 0 ≡ 2 → ⊥) → at + 2 ≤ length b
-  unfolding leafLength
   argument-in h t = let k = h .inside in let m : at + 2 ≤ length b = rw (ne-eqb _ _ t) at k in m
 
   pub leaf-in : LeafIn b at → at + 2 ≤ length b
@@ -110,7 +107,6 @@ module _ (b : List ℕ) (at : ℕ) where
 
   module _ (t : getD b at 0 ≡ 2 → ⊥) (n : ℕ) (en : n ≡ getD b (at + 1) 0) {factor : ℤ} {count : ℕ} {before : List ℤ} where
     used-as : {after : List ℤ} → Added (used n) factor count before after → AddsLeaf b at factor count before after (at + 2)
-    unfolding leafLength
     used-as h = record {
       end = rw (ne-eqb _ _ t) refl;
       added = added-as (λ j i. ap (λ (m : ℕ). used m j) en ∙ argument-form t j) h;
@@ -126,7 +122,7 @@ module _ (b : List ℕ) (at : ℕ) where
 
     pub leaf-token : getD b at 0 ≡ 2 → s ≡ getD before 0 (pos 0) → (v : ℕ) → v ≡ pairAt b (at + 1) → v < 65536 → z ≡ pos v
         → AddsLeaf b at factor count before (set before 0 x) (at + 3)
-    unfolding leafLength constant
+    unfolding constant
     leaf-token t es v ev hv ez =
         let h = a .some in
         let d = a .long in

@@ -15,26 +15,25 @@ use Rattle.fields.specs.Inner.Places.{fieldEnd}
 use Rattle.fields.proofs.Truth.{by-test, none-some, some-inj}
 use Rattle.language.specs.Language.{Language, argumentsOf, productionKey}
 use Rattle.reader.specs.Code.{Code, node, token, argument, Codes, levels, levelsAll}
-use Rattle.reader.specs.Typing.{kindAt, Typed, TypedAll, typed-node, typed-token, typed-argument}
+use Rattle.reader.specs.Typing.{Uses, kindAt, Typed, TypedAll, typed-node, typed-token, typed-argument}
 use Rattle.reader.specs.Syntax.{write}
 use Rattle.reader.specs.declared.node.Syntax.the-variants as Syntaxes
 use Rattle.reader.specs.Inner.Positions.{KindsIn}
 use Rattle.reader.specs.Inner.Index.{Indexed, argumentsBefore}
-use Rattle.emitter.specs.Inner.Stands.{Stands}
-use Rattle.emitter.specs.Inner.Runs.{leafLength}
-use Rattle.emitter.proofs.Standing.{stands-head}
+use Rattle.tables.specs.Inner.Stands.{Stands}
+use Rattle.tables.proofs.Standing.{stands-head}
 use Rattle.emitter.proofs.Skips.{some-bytes}
 use Rattle.score.specs.Figures.{isFigure}
 use Rattle.score.specs.Linear.{Loads, constant, used, form, passes}
-use Rattle.score.specs.Inner.Terms.{bytesOf, allBytes, World, KindsAt, ProductionAt, TermAsks, NodeAsks, leafSize, leafForm, LeafIn, AddsLeaf, Adds}
+use Rattle.score.specs.Inner.Terms.{bytesOf, allBytes, World, KindsAt, ProductionAt, Plain, TermAsks, NodeAsks, leafSize, leafForm, LeafIn, AddsLeaf, Adds}
 use Rattle.score.specs.declared.form.Formed.{Formed}
 use Rattle.score.specs.declared.form.Formed.the-variants.{To, Outside}
 use Rattle.score.proofs.Leaves.{added-as}
 
 -- Arguments are counted from 1.
-counted-from : (given : List ℕ) (i : ℕ) {k : ℕ} → kindAt given i ≡ some k → 0 < i
-counted-from given zero h = none-some h
-counted-from given (suc i) h = omega arith
+counted-from : (given : Uses) (i j : ℕ) {k : ℕ} → kindAt given i j ≡ some k → 0 < i
+counted-from given zero j h = none-some h
+counted-from given (suc i) j h = omega arith
 
 -- The value of a token in its two bytes.
 module _ (b : List ℕ) (at v : ℕ) where
@@ -53,7 +52,7 @@ pub record LeafIs (b : List ℕ) (at : ℕ) (w : Loads) (u : Code) : Type 0 wher
   pub counted : (getD b at 0 ≡ 2 → ⊥) → 0 < getD b (at + 1) 0
 
 -- What is known of a production.
-pub record NodeIs (b : List ℕ) (at : ℕ) (l : Language) (given : List ℕ) (u : Code) (k : ℕ) : Type 0 where
+pub record NodeIs (b : List ℕ) (at : ℕ) (l : Language) (given : Uses) (u : Code) (k : ℕ) : Type 0 where
   pub name : ℕ
   pub operands : Codes
   pub kinds : List ℕ
@@ -66,11 +65,11 @@ pub record NodeIs (b : List ℕ) (at : ℕ) (l : Language) (given : List ℕ) (u
   pub long : length (bytesOf u) ≡ 2 + length (allBytes operands)
   pub deep : levels u ≡ suc (levelsAll operands)
 
-module _ (b : List ℕ) (at : ℕ) (l : Language) (given : List ℕ) where
-  leaf-of : (w : Loads) {u : Code} {k : ℕ} → Typed l given u k → Stands b at (bytesOf u) → (getD b at 0 ≡ 1 → ⊥) → LeafIs b at w u
-  unfolding leafLength leafForm form passes write
-  leaf-of w (typed-node e h) st y = let a = stands-head b at 1 _ st in absurd (y (a .1))
-  leaf-of w (typed-token {v = v} {k = k} e h) st y =
+module _ (b : List ℕ) (at : ℕ) (l : Language) (given : Uses) where
+  leaf-of : (w : Loads) → Plain given → {u : Code} {k : ℕ} → Typed l given u k → Stands b at (bytesOf u) → (getD b at 0 ≡ 1 → ⊥) → LeafIs b at w u
+  unfolding leafForm form passes write
+  leaf-of w plain (typed-node e h) st y = let a = stands-head b at 1 _ st in absurd (y (a .1))
+  leaf-of w plain (typed-token {v = v} {k = k} e h) st y =
       let a = stands-head b at 2 (v / 256 ∷ v % 256 ∷ []) st in
       record {
         long = rw (a .1) refl;
@@ -78,14 +77,15 @@ module _ (b : List ℕ) (at : ℕ) (l : Language) (given : List ℕ) where
         passed = λ j. refl;
         counted = λ n. absurd (n (a .1));
       }
-  leaf-of w (typed-argument {i = n} e) st y =
+  leaf-of w plain (typed-argument {i = n} {j = suc m} {k = k} e) st y = absurd (omega (arith, plain n (suc m) k e))
+  leaf-of w plain (typed-argument {i = n} {j = zero} e) st y =
       let a = stands-head b at 3 (n ∷ []) st in
       let c = stands-head b (at + 1) n [] (a .2) in
       record {
         long = rw (a .1) refl;
         is = λ j. rw (a .1) (ap (λ (m : ℕ). used m j) (c .1));
         passed = λ j. refl;
-        counted = λ m. rw (c .1) (counted-from given n e);
+        counted = λ m. rw (c .1) (counted-from given n 0 e);
       }
 
   pub node-of : {u : Code} {k : ℕ} → Typed l given u k → Stands b at (bytesOf u) → getD b at 0 ≡ 1 → NodeIs b at l given u k
@@ -109,8 +109,10 @@ module _ (b : List ℕ) (at : ℕ) (l : Language) (given : List ℕ) where
       }
   node-of (typed-token {v = v} {k = k} e h) st y =
       let a = stands-head b at 2 (v / 256 ∷ v % 256 ∷ []) st in absurd (omega (arith, a .1))
-  node-of (typed-argument {i = n} e) st y =
+  node-of (typed-argument {i = n} {j = zero} e) st y =
       let a = stands-head b at 3 (n ∷ []) st in absurd (omega (arith, a .1))
+  node-of (typed-argument {i = n} {j = suc m} e) st y =
+      let a = stands-head b at 4 (n ∷ suc m ∷ []) st in absurd (omega (arith, a .1))
 
 -- The kinds of a production by its place.
 arguments-some : (s : List ℕ) (place : ℕ) (ks : List ℕ) → argumentsBefore s place ≡ some ks → (p : ℕ) × (place ≡ suc p) × (slice (p + 5) (fieldEnd s p) s ≡ ks)
@@ -181,14 +183,14 @@ pub adds-as : {w : Loads} {u v : Code} {f factor : ℤ} {count : ℕ} {before af
 adds-as eu ef ee h = rw (eu, ← ef, ← ee) h
 
 -- What `form_at` asks and answers.
-module _ {s index : List ℕ} {fig : List ℤ} {b : List ℕ} {k at left : ℕ} {l : Language} {given : List ℕ} {w : Loads} {u : Code}
+module _ {s index : List ℕ} {fig : List ℤ} {b : List ℕ} {k at left : ℕ} {l : Language} {given : Uses} {w : Loads} {u : Code}
     (a : TermAsks s index fig b k at left l given w u) where
   pub term-in : at < length b
   term-in = let n = some-bytes Syntaxes.Code u in let i = a .stands .inside in omega arith
 
   module _ (y : getD b at 0 ≡ 1 → ⊥) where
     leaf : LeafIs b at w u
-    leaf = leaf-of b at l given w (a .typed) (a .stands) y
+    leaf = leaf-of b at l given w (a .plain) (a .typed) (a .stands) y
 
     pub leaf-in : LeafIn b at
     leaf-in = let f = leaf in let i = a .stands .inside in record { inside = omega (arith, f .long); counted = f .counted }
@@ -225,7 +227,7 @@ module _ {s index : List ℕ} {fig : List ℤ} {b : List ℕ} {k at left : ℕ} 
           let p = production-at (a .world) k (ns .name) (ns .kinds) (a .kind) few (ns .known) in
           let d = ns .deep in
           let v = a .levels in
-          record { world = a .world; production = rw at-place p; typed = ns .typed; stands = ns .stands; levels = omega arith }
+          record { world = a .world; plain = a .plain; production = rw at-place p; typed = ns .typed; stands = ns .stands; levels = omega arith }
 
       pub node-adds : {f factor : ℤ} {count : ℕ} {before after : List ℤ} {r : Formed} → f ≡ factor
           → Adds w (node k (ns .name) (ns .operands)) f count before after (at + 2 + length (allBytes (ns .operands))) r

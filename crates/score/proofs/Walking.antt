@@ -15,10 +15,10 @@ use Rattle.fields.specs.Fields.{pairAt}
 use Rattle.fields.proofs.Truth.{by-test}
 use Rattle.language.specs.Language.{Language}
 use Rattle.reader.specs.Code.{Code, node, Codes, nil, cons, levels, levelsAll}
-use Rattle.reader.specs.Typing.{Typed, TypedAll, typed-nil, typed-cons}
+use Rattle.reader.specs.Typing.{Uses, Typed, TypedAll, typed-nil, typed-cons}
 use Rattle.reader.specs.Syntax.{writeAll}
-use Rattle.emitter.specs.Inner.Stands.{Stands}
-use Rattle.emitter.proofs.Standing.{stands-both}
+use Rattle.tables.specs.Inner.Stands.{Stands}
+use Rattle.tables.proofs.Standing.{stands-both}
 use Rattle.score.specs.Figures.{isFigure}
 use Rattle.score.specs.Linear.{Loads, constant, form, formAll, passes, passesAll}
 use Rattle.score.specs.Inner.Terms.{bytesOf, allBytes, TermAsks, KindsAt, NodeAsks, Asked, Added, AddsRow, Adds}
@@ -34,7 +34,7 @@ unfoldable pub weigh : Loads → List ℤ → ℕ → Codes → ℕ → ℤ
 weigh w fig q nil j = pos 0
 weigh w fig q (cons a t) j = getD fig q (pos 0) *ℤ form w a j +ℤ weigh w fig (q + 1) t j
 
-weigh-is : {l : Language} {given : List ℕ} {ts : Codes} {ks : List ℕ} → TypedAll l given ts ks → (w : Loads) (fig : List ℤ) (g : ℕ → ℤ) (q j : ℕ)
+weigh-is : {l : Language} {given : Uses} {ts : Codes} {ks : List ℕ} → TypedAll l given ts ks → (w : Loads) (fig : List ℤ) (g : ℕ → ℤ) (q j : ℕ)
     → ((i : ℕ) → i < length ks → getD fig (q + i) (pos 0) ≡ g i) → weigh w fig q ts j ≡ formAll w g ts j
 unfolding weigh formAll
 weigh-is typed-nil w fig g q j h = refl
@@ -62,7 +62,7 @@ constant-near z zero h = h
 constant-near z (suc j) h = omega arith
 
 -- Where the loop stands: the operands from q on are still to be added to the row; those before them passed.
-pub record Walking (s : List ℕ) (fig : List ℤ) (b : List ℕ) (l : Language) (given : List ℕ) (w : Loads) (u : Code) (ts : Codes) (stop end left count : ℕ) (row : List ℤ) (q to : ℕ) : Type 0 where
+pub record Walking (s : List ℕ) (fig : List ℤ) (b : List ℕ) (l : Language) (given : Uses) (w : Loads) (u : Code) (ts : Codes) (stop end left count : ℕ) (row : List ℤ) (q to : ℕ) : Type 0 where
   pub codes : Codes
   pub kinds : List ℕ
   pub typed : TypedAll l given codes kinds
@@ -78,7 +78,7 @@ pub record Walking (s : List ℕ) (fig : List ℤ) (b : List ℕ) (l : Language)
   pub pass : (j : ℕ) → j < count → passesAll isFigure w ts j ≡ passesAll isFigure w codes j
 
 -- The first operand that is still to be added, and the others.
-record First (l : Language) (given : List ℕ) (cs : Codes) (ks : List ℕ) : Type 0 where
+record First (l : Language) (given : Uses) (cs : Codes) (ks : List ℕ) : Type 0 where
   code : Code
   kind : ℕ
   codes : Codes
@@ -88,12 +88,12 @@ record First (l : Language) (given : List ℕ) (cs : Codes) (ks : List ℕ) : Ty
   typed : Typed l given code kind
   others : TypedAll l given codes kinds
 
-first-of : {l : Language} {given : List ℕ} {cs : Codes} {ks : List ℕ} → TypedAll l given cs ks → 0 < length ks → First l given cs ks
+first-of : {l : Language} {given : Uses} {cs : Codes} {ks : List ℕ} → TypedAll l given cs ks → 0 < length ks → First l given cs ks
 first-of typed-nil h = absurd (omega arith)
 first-of (typed-cons {a = a} {k = k} {t = t} {ks = ks} y ys) h =
     record { code = a; kind = k; codes = t; kinds = ks; is-codes = refl; is-kinds = refl; typed = y; others = ys }
 
-none-left : {l : Language} {given : List ℕ} {cs : Codes} {ks : List ℕ} → TypedAll l given cs ks → length ks ≡ 0 → cs ≡ nil
+none-left : {l : Language} {given : Uses} {cs : Codes} {ks : List ℕ} → TypedAll l given cs ks → length ks ≡ 0 → cs ≡ nil
 none-left typed-nil h = refl
 none-left (typed-cons y ys) h = absurd (omega arith)
 
@@ -102,7 +102,7 @@ pub adds-outside : {w : Loads} {u : Code} {factor : ℤ} {count : ℕ} {before a
     → Adds w u factor count before after end Outside
 adds-outside h = record { done = λ e q. out-not q; outside = λ q. h }
 
-module _ {s index : List ℕ} {fig : List ℤ} {place : ℕ} {b : List ℕ} {at left : ℕ} {l : Language} {given : List ℕ} {w : Loads} {k p : ℕ} {ts : Codes} {ks : List ℕ}
+module _ {s index : List ℕ} {fig : List ℤ} {place : ℕ} {b : List ℕ} {at left : ℕ} {l : Language} {given : Uses} {w : Loads} {k p : ℕ} {ts : Codes} {ks : List ℕ}
     (a : NodeAsks s index fig place b at left l given w k p ts ks) where
   -- What the code may ask of the production.
   pub node-in : (place + 4 ≤ length s) × (length s ≤ 1024) × (length fig ≡ 1024)
@@ -193,7 +193,7 @@ module _ {s index : List ℕ} {fig : List ℤ} {place : ℕ} {b : List ℕ} {at 
       unfolding operand
       operand-asks =
           let g = here in
-          rw (g .0) (record { world = a .world; typed = ahead .typed; kind = g .1; stands = both .0; levels = deep .0 })
+          rw (g .0) (record { world = a .world; plain = a .plain; typed = ahead .typed; kind = g .1; stands = both .0; levels = deep .0 })
 
       module _ {f : ℤ} {after : List ℤ} {r : Formed} (d : Adds w operand f count row after (to + length (bytesOf operand)) r) where
         pub walk-outside : r ≡ Outside → (j : ℕ) × (j < count) × (passes isFigure w (node k p ts) j ≡ false)

@@ -20,13 +20,14 @@ unfoldable pub used : ℕ → ℕ → ℤ
 used i zero = pos 0
 used i (suc j) = cond (eqb i (suc j)) (pos 1) (pos 0)
 
--- What stands at place j in the form of a code. A token scores its value; a production its constant plus each factor times
+-- What stands at place j in the form of a code. A token scores its value, an argument stands for its own place by whatever
+-- number it is used (a table is joined only where that is 0); a production its constant plus each factor times
 -- that operand's form, added from the last operand to the first.
 unfoldable mutual
   pub form : Loads → Code → ℕ → ℤ
   form w (node k p t) j = constant (w k p 0) j +ℤ formAll w (λ i. w k p (suc i)) t j
   form w (token v) j = constant (pos v) j
-  form w (argument i) j = used i j
+  form w (argument i n) j = used i j
 
   pub formAll : Loads → (ℕ → ℤ) → Codes → ℕ → ℤ
   formAll w factor nil j = pos 0
@@ -37,7 +38,7 @@ unfoldable mutual
   pub passes : (ℤ → Bool) → Loads → Code → ℕ → Bool
   passes test w (node k p t) j = passesAll test w t j && test (form w (node k p t) j)
   passes test w (token v) j = true
-  passes test w (argument i) j = true
+  passes test w (argument i n) j = true
 
   pub passesAll : (ℤ → Bool) → Loads → Codes → ℕ → Bool
   passesAll test w nil j = true

@@ -14,6 +14,7 @@ ghost use lib.ListN.{length};
 ghost use lib.IntN.{natAbs};
 ghost use Rattle.language.specs.Language.{Language};
 ghost use Rattle.reader.specs.Code.{Code, Codes, node};
+ghost use Rattle.reader.specs.Typing.{Uses};
 ghost use Rattle.score.specs.Linear.{Loads};
 ghost use Rattle.score.specs.Inner.Terms.{bytesOf, allBytes, LeafIn, TermAsks, NodeAsks, Asked, AddsLeaf, AddsRow, Adds};
 
@@ -78,8 +79,8 @@ pub fn form_at(
     count: usize,
     sum: &mut [i64; PLACES],
 ) -> Formed
-    requires { ⌜ Asked factor count (now sum) × ((l : Language) × (given : List ℕ) × (w : Loads) × (u : Code) × TermAsks (now language) (now index) (now figures) (now bytes) kind at left l given w u) ⌝ }
-    ensures { λ r. ⌜ ((l : Language) (given : List ℕ) (w : Loads) (u : Code) → TermAsks (now (language .entry)) (now (index .entry)) (now (figures .entry)) (now (bytes .entry)) kind at left l given w u
+    requires { ⌜ Asked factor count (now sum) × ((l : Language) × (given : Uses) × (w : Loads) × (u : Code) × TermAsks (now language) (now index) (now figures) (now bytes) kind at left l given w u) ⌝ }
+    ensures { λ r. ⌜ ((l : Language) (given : Uses) (w : Loads) (u : Code) → TermAsks (now (language .entry)) (now (index .entry)) (now (figures .entry)) (now (bytes .entry)) kind at left l given w u
         → Adds w u factor count (now (sum .entry)) (now (sum .exit)) (at + length (bytesOf u)) r) ⌝ }
 {
     if bytes[at] != 1 {
@@ -115,8 +116,8 @@ fn form_node(
     count: usize,
     sum: &mut [i64; PLACES],
 ) -> Formed
-    requires { ⌜ Asked factor count (now sum) × ((l : Language) × (given : List ℕ) × (w : Loads) × (k : ℕ) × (p : ℕ) × (ts : Codes) × (ks : List ℕ) × NodeAsks (now language) (now index) (now figures) production (now bytes) at left l given w k p ts ks) ⌝ }
-    ensures { λ r. ⌜ ((l : Language) (given : List ℕ) (w : Loads) (k p : ℕ) (ts : Codes) (ks : List ℕ) → NodeAsks (now (language .entry)) (now (index .entry)) (now (figures .entry)) production (now (bytes .entry)) at left l given w k p ts ks
+    requires { ⌜ Asked factor count (now sum) × ((l : Language) × (given : Uses) × (w : Loads) × (k : ℕ) × (p : ℕ) × (ts : Codes) × (ks : List ℕ) × NodeAsks (now language) (now index) (now figures) production (now bytes) at left l given w k p ts ks) ⌝ }
+    ensures { λ r. ⌜ ((l : Language) (given : Uses) (w : Loads) (k p : ℕ) (ts : Codes) (ks : List ℕ) → NodeAsks (now (language .entry)) (now (index .entry)) (now (figures .entry)) production (now (bytes .entry)) at left l given w k p ts ks
         → Adds w (node k p ts) factor count (now (sum .entry)) (now (sum .exit)) (at + length (allBytes ts)) r) ⌝ }
 {
     let stop = production + 2 + pair_in(language, production);

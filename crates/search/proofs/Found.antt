@@ -1,47 +1,52 @@
 -- The first source tree found, or none: a law for each return of `find`.
-use Prim.Native.Nat.{ℕ, min, _+_, _≤_, _<_}
-use mathlib.Core.Path.{_≡_, refl, ap, _∙_}
-use mathlib.Core.List.{List, _++_}
+use Prim.Native.Nat.{ℕ, zero, suc, min, _+_, _≤_, _<_}
+use mathlib.Core.Path.{_≡_, refl, ap, sym, _∙_}
+use mathlib.Core.Bool.{Bool, true, false}
+use mathlib.Core.List.{List, [], _∷_, _++_}
 use mathlib.Core.Option.{Option, none, some}
 use native.Mathlib.Omega.{arith}
-use lib.ListN.{length, drop}
+use lib.ListN.{length, getD, drop}
+use lib.Dec.{ltb}
 use borrow.Author.Tests.{le-ltb, lt-ltb}
+use Rattle.fields.specs.Outcome.{Result, value, refused, _>>=_, written, outputAfter}
 use Rattle.fields.specs.declared.outcome.Outcome.{Outcome}
 use Rattle.fields.specs.declared.outcome.Outcome.the-variants.{Accepted, Refused}
+use Rattle.fields.specs.declared.outcome.Reason.{Reason}
 use Rattle.fields.specs.declared.outcome.Reason.the-variants.{NoSource, OutputTooShort}
 use Rattle.fields.specs.Inner.Writing.{spliced}
 use Rattle.reader.specs.Code.{Code}
 use Rattle.reader.specs.Syntax.{write, tree}
 use Rattle.reader.proofs.Larger.{apart}
-use Rattle.translation.specs.Translation.{Translation, mapped}
+use Rattle.translation.specs.Translation.{Translation, mappingOf}
 use Rattle.translation.specs.Running.{clausesOf}
+use Rattle.translation.specs.Operations.{fitted}
 use Rattle.translation.proofs.Preserved.{Carries}
 use Rattle.translation.proofs.Fitting.{fit-carries}
-use Rattle.emitter.proofs.Clauses as Clauses
-use Rattle.sources.specs.Inner.Goals.{Fits, First}
+use Rattle.tables.proofs.Clauses as Clauses
+use Rattle.sources.specs.Inner.Goals.{Goal, Fits, First}
 use Rattle.sources.specs.Inner.Levels.{Needs}
 use Rattle.sources.proofs.Answers.{fits-more}
 use Rattle.needs.specs.Inner.Setting.{Seeks}
 use Rattle.backward.specs.Sources.{searchOf}
-use Rattle.backward.specs.Operations.{foundIn}
+use Rattle.backward.specs.Operations.{found, foundIn}
 use Rattle.backward.proofs.Finding.{search-first, search-none}
 use Rattle.first.specs.Inner.Puts.{Puts}
 use Rattle.search.specs.Inner.Finding.{Rooted, Answers}
 
 module _ (table source index target places kinds bytes memory free : List ℕ) (k : ℕ) (f : Translation) (u : Code)
     (h : Seeks table source index target places kinds bytes memory free k 0 f (some u)) (w : Rooted source target bytes f u) (limit : ℕ) where
-  carries : Carries (f .source) (f .target) (mapped (f .body)) (clausesOf f)
+  carries : Carries (f .source) (f .target) (mappingOf (f .body)) (clausesOf f)
   carries = fit-carries f (Clauses.body-rises (w .checked)) (Clauses.fits (w .checked))
 
   first-by : (v : List ℕ) → searchOf f limit k (write tree u) ≡ some v → (t : Code) × First (f .source) (clausesOf f) limit k (some u) t × (v ≡ write tree t)
   first-by v e =
-      search-first f (apart (f .source) (h .setting .apart)) (apart (f .target) (h .setting .targeted .target-index .apart)) (h .setting .named) carries limit k u
-      (h .asked .1 .typed) v e
+      search-first f (apart (f .source) (h .setting .apart)) (apart (f .target) (h .setting .targeted .target-index .apart)) (h .setting .named) carries
+      (h .setting .targeted .has-zero) limit k u (h .asked .1 .typed) v e
 
   none-by : searchOf f limit k (write tree u) ≡ none → (t : Code) → Fits (f .source) (clausesOf f) limit k (some u) t → ⊥
   none-by e =
-      search-none f (apart (f .source) (h .setting .apart)) (apart (f .target) (h .setting .targeted .target-index .apart)) (h .setting .named) carries limit k u
-      (h .asked .1 .typed) e
+      search-none f (apart (f .source) (h .setting .apart)) (apart (f .target) (h .setting .targeted .target-index .apart)) (h .setting .named) carries
+      (h .setting .targeted .has-zero) limit k u (h .asked .1 .typed) e
 
   module _ (needed : ℕ) (n : Needs (f .source) (clausesOf f) limit k (some u) needed) where
     searched-none : limit < needed → searchOf f limit k bytes ≡ none

@@ -1,9 +1,9 @@
 -- The search over the parts of a translation: what it hands to `find`.
-use Prim.Native.Nat.{ℕ, suc, _+_, _≤_, _<_}
+use Prim.Native.Nat.{ℕ, zero, suc, _+_, _≤_, _<_}
 use mathlib.Core.Path.{_≡_, refl, ap, sym, _∙_}
 use mathlib.Core.Bool.{Bool, true, false, cond, not, _&&_}
 use mathlib.Core.List.{List, [], _∷_, map, append-nil}
-use mathlib.Core.Option.{some}
+use mathlib.Core.Option.{Option, none, some}
 use native.Mathlib.Omega.{arith}
 use lib.ListN.{length, getD, replicate}
 use lib.Seq.{slice}
@@ -11,26 +11,27 @@ use lib.Dec.{eqb, leb}
 use borrow.Author.Tests.{le-ltb, le-leb, lt-leb}
 use Rattle.fields.specs.Fields.{byteAt}
 use Rattle.fields.specs.Inner.Places.{places, fieldEnd}
-use Rattle.fields.specs.Outcome.{Result, value, refused, refuseIf}
+use Rattle.fields.specs.Outcome.{Result, value, refused, refuseIf, _>>=_, written, outputAfter}
 use Rattle.fields.specs.declared.outcome.Outcome.{Outcome}
 use Rattle.fields.specs.declared.outcome.Outcome.the-variants.{Accepted, Refused}
 use Rattle.fields.specs.declared.outcome.Reason.{Reason}
-use Rattle.fields.specs.declared.outcome.Reason.the-variants.{UnknownRoot, LimitOutOfRange}
+use Rattle.fields.specs.declared.outcome.Reason.the-variants.{UnknownRoot, LimitOutOfRange, NumberUnfit}
 use Rattle.fields.proofs.Codec.{bytes-from, value-inj}
-use Rattle.fields.proofs.Truth.{Mem, map-cases}
-use Rattle.language.specs.Language.{Language, class, production, Range, isIn}
+use Rattle.fields.proofs.Truth.{Mem, map-cases, refuted}
+use Rattle.fields.proofs.Keyed.{Rising}
+use Rattle.language.specs.Language.{Language, Entry, class, production, Range, rangeOf, argumentsOf, isIn}
 use Rattle.language.specs.LanguageFile.{entriesOf, languageLimit, languageOf}
 use Rattle.language.specs.Inner.Entries.{entryAt, classRange}
-use Rattle.language.proofs.Lookup.{arguments-mem}
+use Rattle.language.proofs.Lookup.{range-mem, arguments-mem, class-in}
 use Rattle.language.proofs.Holds.{holds-entries}
 use Rattle.reader.specs.Code.{Code}
 use Rattle.reader.specs.Syntax.{write, tree}
 use Rattle.reader.specs.Operations.{treeOf, checkTree}
 use Rattle.reader.specs.Inner.Index.{Indexed}
 use Rattle.reader.proofs.Members.{in-below}
-use Rattle.translation.specs.Translation.{Translation, Body, mapped}
+use Rattle.translation.specs.Translation.{Translation, Body, itemKey, mappingOf, mapped}
 use Rattle.translation.specs.Running.{clausesOf}
-use Rattle.translation.specs.TranslationFile.{translationOf}
+use Rattle.translation.specs.TranslationFile.{bodyOf, translationOf}
 use Rattle.translation.specs.Operations.{checkTranslation}
 use Rattle.translation.specs.Inner.Parts.{sourceIn, targetIn, bodyIn}
 use Rattle.translation.specs.Inner.ItemIndex.{IndexedItems, mappedAt}
@@ -42,14 +43,17 @@ use Rattle.checks.proofs.Legal as Legal
 use Rattle.checks.proofs.Legal.{tree-right, accepted-tree, refused-tree}
 use Rattle.translation.proofs.Preserved.{Carries}
 use Rattle.translation.proofs.Fitting.{fit-carries}
-use Rattle.emitter.specs.Inner.Table.{Ready, Checked}
-use Rattle.emitter.proofs.Clauses as Clauses
+use Rattle.translation.proofs.Lookup.{mem-mapping, mem-mapped}
+use Rattle.plain.specs.Plain.{plain}
+use Rattle.plain.proofs.Uses.{mapping-zero}
+use Rattle.tables.specs.Inner.Table.{Ready, Checked}
+use Rattle.tables.proofs.Clauses as Clauses
 use Rattle.sources.proofs.Answers.{Named}
-use Rattle.needs.specs.Inner.Setting.{Seeks}
+use Rattle.needs.specs.Inner.Setting.{Targeted, Setting, Seeks}
 use Rattle.needs.proofs.Lying.{some-byte}
 use Rattle.needs.proofs.Truths.{blank-true}
 use Rattle.backward.specs.Operations.{isLimit, ready, foundIn, searchBytes, searchTree}
-use Rattle.search.specs.Inner.Finding.{Rooted, Mapped, Placed, Answers, readyIn, Leaves}
+use Rattle.search.specs.Inner.Finding.{Searchable, Rooted, Mapped, Placed, Answers, readyIn, readyFrom, Leaves}
 
 -- A name in a file is a byte.
 class-production : {A : Type 0} {k r p : ℕ} {c : Range} {ks : List ℕ} → production r p ks ≡ class k c → A
@@ -88,10 +92,23 @@ pub placed-rooted : {source target body places kinds bytes : List ℕ} {k : ℕ}
     → Rooted source target bytes f u
 placed-rooted {body = body} z w = record { body = body; checked = z; whole = w .whole }
 
-module _ (source target body table index places kinds bytes memory free : List ℕ) (k : ℕ) (f : Translation) (u : Code) (z : Checked source target body f)
+module _ (source target body table index places kinds bytes memory free : List ℕ) (k : ℕ) (f : Translation) (u : Code) (z : Searchable source target body f)
     (w : Placed target places kinds bytes k f u) (small : k < 32) where
-  carries : Carries (f .source) (f .target) (mapped (f .body)) (clausesOf f)
-  carries = fit-carries f (Clauses.body-rises z) (Clauses.fits z)
+  rises : Rising itemKey (f .body)
+  rises = Clauses.body-rises (z .checked)
+
+  carries : Carries (f .source) (f .target) (mappingOf (f .body)) (clausesOf f)
+  carries = fit-carries f rises (Clauses.fits (z .checked))
+
+  has-zero : (j : ℕ) → isIn (f .source) j ≡ true → mappingOf (f .body) j 0 ≡ some (mapped (f .body) j 0)
+  has-zero j i =
+      let (t, m) = Clauses.fits (z .checked) .maps j i in
+      mem-mapping (f .body) rises j 0 t m ∙ ap some (sym (mem-mapped (f .body) rises j 0 t m))
+
+  class-there : (j : ℕ) (c : Range) → rangeOf (f .source) j ≡ some c → (d : Range) × (rangeOf (f .target) (mapped (f .body) j 0) ≡ some d)
+  class-there j c e =
+      let d = carries .tokens j 0 (mapped (f .body) j 0) c (has-zero j (class-in (f .source) j c (range-mem (f .source) j c e))) e in
+      (d .0, d .1)
 
   some-bytes : 0 < length bytes
   some-bytes = let x = some-byte (w .lies .typed) in let y = ap length (w .whole) in omega arith
@@ -101,11 +118,18 @@ module _ (source target body table index places kinds bytes memory free : List �
       → Seeks table source index target places kinds bytes memory free k 0 f (some u)
   placed-seeks ready indexed narrow-source narrow long blank empty = record {
     setting = record {
-      targeted = record { ready = ready; target-index = w .target-index; maps = w .kinds-are .maps; narrow = narrow };
+      targeted = record {
+        ready = ready;
+        target-index = w .target-index;
+        maps = w .kinds-are .maps;
+        plain = mapping-zero (f .body) (z .by-zero);
+        has-zero = has-zero;
+        narrow = narrow;
+      };
       source-index = indexed;
-      apart = translation-whole (z .file) f (z .accepted) .1 .source-apart;
-      named = named-of source (f .source) (z .pieces .source) narrow-source;
-      tokens = λ j c e. let d = carries .tokens j c e in (d .0, d .1);
+      apart = translation-whole (z .checked .file) f (z .checked .accepted) .1 .source-apart;
+      named = named-of source (f .source) (z .checked .pieces .source) narrow-source;
+      tokens = class-there;
     };
     truthful = blank-true f bytes memory free long blank empty;
     kind = small;
@@ -126,7 +150,7 @@ kinds-mapped body index kinds b x maps = record { maps = λ k small. maps k smal
 -- search_in
 module _ (source target body kinds bytes : List ℕ) (k limit : ℕ) (f : Translation) (z : Checked source target body f) (maps : Mapped kinds (f .body)) (small : k < 32)
     (root : ℕ) (root-is : root ≡ getD kinds k 0) (c : Outcome) (told : c ≡ checkTree target root bytes) where
-  root-mapped : root ≡ mapped (f .body) k
+  root-mapped : root ≡ mapped (f .body) k 0
   root-mapped = root-is ∙ maps .maps k small
 
   pub stage-refused : (r : Reason) → c ≡ Refused r → readyIn f k bytes limit ≡ refused r
@@ -142,8 +166,8 @@ module _ (source target body kinds bytes : List ℕ) (k limit : ℕ) (f : Transl
     same-language : checked .language ≡ f .target
     same-language = value-inj (sym (checked .is) ∙ target-language z)
 
-    pub tree-is : treeOf (f .target) (mapped (f .body) k) bytes ≡ value (checked .subject)
-    tree-is = ap (λ (l : Language). treeOf l (mapped (f .body) k) bytes) (sym same-language) ∙ (ap (λ (j : ℕ). treeOf (checked .language) j bytes) (sym root-mapped) ∙ checked .tree-is)
+    pub tree-is : treeOf (f .target) (mapped (f .body) k 0) bytes ≡ value (checked .subject)
+    tree-is = ap (λ (l : Language). treeOf l (mapped (f .body) k 0) bytes) (sym same-language) ∙ (ap (λ (j : ℕ). treeOf (checked .language) j bytes) (sym root-mapped) ∙ checked .tree-is)
 
     pub limit-refused : isLimit limit ≡ false → readyIn f k bytes limit ≡ refused LimitOutOfRange
     unfolding readyIn
@@ -156,7 +180,7 @@ module _ (source target body kinds bytes : List ℕ) (k limit : ℕ) (f : Transl
     pub stage-placed : (places : List ℕ) → ((i : ℕ) → getD bytes i 0 < 256)
         → ((n : ℕ) (l : Language) → c ≡ Accepted n → entriesOf target ≡ some l → Indexed places target l) → Placed target places kinds bytes k f (checked .subject)
     stage-placed places narrow indexed =
-        let r = tree-right (f .target) (mapped (f .body) k) bytes (checked .subject) tree-is in
+        let r = tree-right (f .target) (mapped (f .body) k 0) bytes (checked .subject) tree-is in
         let e = r .1 .2 (bytes-from bytes (λ i q. narrow i)) .0 in
         record {
           target-index = record { indexed = indexed n (f .target) h (z .pieces .target); apart = translation-whole (z .file) f (z .accepted) .1 .target-apart };
@@ -187,7 +211,31 @@ module _ (stage : Result Translation) (k : ℕ) (bytes : List ℕ) (limit : ℕ)
       → Leaves stage k bytes limit o after workspace left out
   leaves-found f after left e h i = rw e (record { answer = h .answer; output = h .left; memory = i })
 
+-- search_from
+pub root-past : (source target body : List ℕ) (f : Translation) → Searchable source target body f → (root : ℕ) → 31 < root → isIn (f .source) root ≡ false
+root-past source target body f z root h =
+    refuted (isIn (f .source) root) (λ e. let x = in-below source root (f .source) (z .checked .pieces .source) e in omega arith)
+
+module _ (f : Translation) (root : ℕ) (bytes : List ℕ) (limit : ℕ) (workspace o : List ℕ) (out : Outcome) where
+  pub from-unknown : isIn (f .source) root ≡ false → out ≡ Refused UnknownRoot → Leaves (readyFrom f root bytes limit) root bytes limit o o workspace workspace out
+  unfolding readyFrom
+  from-unknown e i = leaves-refused (readyFrom f root bytes limit) root bytes limit o workspace out UnknownRoot (rw e) i
+
+  pub from-known : (after left : List ℕ) → isIn (f .source) root ≡ true → Leaves (readyIn f root bytes limit) root bytes limit o after workspace left out
+      → Leaves (readyFrom f root bytes limit) root bytes limit o after workspace left out
+  unfolding readyFrom
+  from-known after left e h = rw e h
+
 -- search
+module _ (s : List ℕ) (f : Translation) (is : translationOf s ≡ value f) where
+  pub parts-searchable : plain (f .body) ≡ true → {x y z : List ℕ} → x ≡ sourceIn s → y ≡ targetIn s → z ≡ bodyIn s → Searchable x y z f
+  parts-searchable e ex ey ez =
+      rw (ex, ey, ez) (record { checked = record { pieces = pieces-in s f is; short = body-in-short s f is; file = s; accepted = is }; by-zero = e })
+
+  pub body-there : {x : List ℕ} → x ≡ bodyIn s → bodyOf x ≡ some (f .body)
+  body-there ex = ap bodyOf ex ∙ pieces-in s f is .body
+
+-- What is answered and left is as the definition says.
 abbrev pub AsSearched : List ℕ → ℕ → List ℕ → ℕ → (workspace left o after : List ℕ) → Outcome → Type 0
 AsSearched s root bytes limit workspace left o after out =
     (out ≡ searchTree s root bytes limit workspace o .outcome) × (after ≡ searchTree s root bytes limit workspace o .output)
@@ -207,24 +255,11 @@ module _ (s : List ℕ) (root : ℕ) (bytes : List ℕ) (limit : ℕ) (workspace
       go (refused x) e d = rw e (cc)
 
   module _ (f : Translation) (is : translationOf s ≡ value f) where
-    pub parts-checked : {x y z : List ℕ} → x ≡ sourceIn s → y ≡ targetIn s → z ≡ bodyIn s → Checked x y z f
-    parts-checked ex ey ez = rw (ex, ey, ez) (record { pieces = pieces-in s f is; short = body-in-short s f is; file = s; accepted = is })
-
-    pub source-in : {x : List ℕ} → x ≡ sourceIn s → entriesOf x ≡ some (f .source)
-    source-in ex = ap entriesOf ex ∙ pieces-in s f is .source
-
-    pub root-past : 31 < root → isIn (f .source) root ≡ false
-    root-past h = go (isIn (f .source) root) refl
-      where
-        go : (b : Bool) → isIn (f .source) root ≡ b → b ≡ false
-        go true e = let z = in-below (sourceIn s) root (f .source) (pieces-in s f is .source) e in absurd (omega arith)
-        go false e = refl
-
-    pub search-unknown : isIn (f .source) root ≡ false → out ≡ Refused UnknownRoot → AsSearched s root bytes limit workspace workspace o o out
+    pub search-numbered : plain (f .body) ≡ false → out ≡ Refused NumberUnfit → AsSearched s root bytes limit workspace workspace o o out
     unfolding ready
-    search-unknown e i = as-leaves o workspace (leaves-refused (ready s root bytes limit) root bytes limit o workspace out UnknownRoot (rw (is, e)) i)
+    search-numbered e i = as-leaves o workspace (leaves-refused (ready s root bytes limit) root bytes limit o workspace out NumberUnfit (rw (is, e)) i)
 
-    pub search-known : (after left : List ℕ) → isIn (f .source) root ≡ true → Leaves (readyIn f root bytes limit) root bytes limit o after workspace left out
+    pub search-plain : (after left : List ℕ) → plain (f .body) ≡ true → Leaves (readyFrom f root bytes limit) root bytes limit o after workspace left out
         → AsSearched s root bytes limit workspace left o after out
-    unfolding ready readyIn
-    search-known after left e h = as-leaves after left (rw (is, e) h)
+    unfolding ready readyFrom readyIn
+    search-plain after left e h = as-leaves after left (rw (is, e) h)

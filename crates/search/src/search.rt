@@ -1,7 +1,6 @@
 // The operation that searches back. It measures the first source tree and writes it only where it fits.
 use checks::translations::check_translation;
 use checks::trees::check_indexed;
-use emitter::prepare::prepare;
 use fields::bytes::byte_at;
 use fields::outcome::Answer;
 use fields::outcome::Outcome;
@@ -11,11 +10,13 @@ use fields::outcome::refuse;
 use first::put::put_first;
 use needs::levels::need;
 use needs::memory::clear;
+use plain::body::is_plain;
 use reader::index::INDEX;
 use reader::index::TABLE;
 use reader::index::build;
 use reader::index::put_all;
 use reader::kinds::is_in;
+use tables::prepare::prepare;
 use translation::index::build_items;
 use translation::index::map_kinds;
 use translation::parts::body_of;
@@ -28,10 +29,9 @@ ghost use lib.ListN.{length, replicate};
 ghost use Rattle.reader.specs.Code.{Code};
 ghost use Rattle.translation.specs.Translation.{Translation, Body};
 ghost use Rattle.translation.specs.TranslationFile.{bodyOf};
-ghost use Rattle.emitter.specs.Inner.Table.{Checked};
 ghost use Rattle.needs.specs.Inner.Setting.{Seeks};
 ghost use Rattle.backward.specs.Operations.{foundIn, searchTree};
-ghost use Rattle.search.specs.Inner.Finding.{Rooted, Mapped, Placed, Answers, readyIn, Leaves};
+ghost use Rattle.search.specs.Inner.Finding.{Searchable, Rooted, Mapped, Placed, Answers, readyIn, readyFrom, Leaves};
 
 // The most levels that a search may have.
 const MOST_LEVELS: u32 = 16;
@@ -129,9 +129,9 @@ fn search_placed(
     workspace: &mut [u8],
     output: &mut [u8],
 ) -> Answer
-    requires { ⌜ (kind < 32) × (limit ≤ 16) × ((f : Translation) × (u : Code) × Checked (now source) (now target) (now body) f × Placed (now target) (now places) (now kinds) (now tree) kind f u) ⌝ }
+    requires { ⌜ (kind < 32) × (limit ≤ 16) × ((f : Translation) × (u : Code) × Searchable (now source) (now target) (now body) f × Placed (now target) (now places) (now kinds) (now tree) kind f u) ⌝ }
     ensures { λ r. ⌜ (now (workspace .exit) ≡ replicate (length (now (workspace .entry))) 0)
-        × ((f : Translation) (u : Code) → Checked (now (source .entry)) (now (target .entry)) (now (body .entry)) f → Placed (now (target .entry)) (now (places .entry)) (now (kinds .entry)) (now (tree .entry)) kind f u
+        × ((f : Translation) (u : Code) → Searchable (now (source .entry)) (now (target .entry)) (now (body .entry)) f → Placed (now (target .entry)) (now (places .entry)) (now (kinds .entry)) (now (tree .entry)) kind f u
         → Answers (foundIn f kind (now (tree .entry)) limit (length (now (output .entry)))) (now (output .entry)) (now (output .exit)) (r .outcome)) ⌝ }
 {
     let mut table = [0u16; TABLE];
@@ -159,7 +159,7 @@ fn search_placed(
     answer
 }
 
-// Puts the kind that each kind maps to, by a body, into a table of 32.
+// Puts the kind that each kind maps to by number 0, by a body, into a table of 32.
 fn kinds_of(body: &[u8], kinds: &mut [u8])
     requires { ⌜ (length (now body) ≤ 32768) × (length (now kinds) ≡ 32) × ((b : Body) × (bodyOf (now body) ≡ some b)) ⌝ }
     ensures { λ _. ⌜ ((b : Body) → bodyOf (now (body .entry)) ≡ some b → Mapped (now (kinds .exit)) b) ⌝ }
@@ -169,7 +169,7 @@ fn kinds_of(body: &[u8], kinds: &mut [u8])
     map_kinds(body, &items, kinds);
 }
 
-// The search in a translation that was accepted, for a source kind that is in it: 15, 16, 24, 23, 17.
+// The search in a translation that is searchable, for a source kind that is in it: 15, 16, 24, 23, 17.
 fn search_in(
     source: &[u8],
     target: &[u8],
@@ -180,8 +180,8 @@ fn search_in(
     workspace: &mut [u8],
     output: &mut [u8],
 ) -> Answer
-    requires { ⌜ (kind < 32) × ((f : Translation) × Checked (now source) (now target) (now body) f) ⌝ }
-    ensures { λ r. ⌜ ((f : Translation) → Checked (now (source .entry)) (now (target .entry)) (now (body .entry)) f
+    requires { ⌜ (kind < 32) × ((f : Translation) × Searchable (now source) (now target) (now body) f) ⌝ }
+    ensures { λ r. ⌜ ((f : Translation) → Searchable (now (source .entry)) (now (target .entry)) (now (body .entry)) f
         → Leaves (readyIn f kind (now (tree .entry)) limit) kind (now (tree .entry)) limit (now (output .entry)) (now (output .exit)) (now (workspace .entry)) (now (workspace .exit)) (r .outcome)) ⌝ }
 {
     let mut kinds = [0u8; 32];
@@ -213,7 +213,41 @@ fn search_in(
     )
 }
 
-// Search back: 1 to 7 for the translation, 14 for the source kind, 15 and 16 for the target tree, 24, 23, 17.
+// The search in a translation that is searchable: 14 for the source kind, 15, 16, 24, 23, 17.
+fn search_from(
+    source: &[u8],
+    target: &[u8],
+    body: &[u8],
+    root: u32,
+    tree: &[u8],
+    limit: u32,
+    workspace: &mut [u8],
+    output: &mut [u8],
+) -> Answer
+    requires { ⌜ ((f : Translation) × Searchable (now source) (now target) (now body) f) ⌝ }
+    ensures { λ r. ⌜ ((f : Translation) → Searchable (now (source .entry)) (now (target .entry)) (now (body .entry)) f
+        → Leaves (readyFrom f root (now (tree .entry)) limit) root (now (tree .entry)) limit (now (output .entry)) (now (output .exit)) (now (workspace .entry)) (now (workspace .exit)) (r .outcome)) ⌝ }
+{
+    if 31 < root {
+        return refuse(Reason::UnknownRoot);
+    }
+    if !is_in(source, root as u8) {
+        return refuse(Reason::UnknownRoot);
+    }
+    search_in(
+        source,
+        target,
+        body,
+        root as usize,
+        tree,
+        limit,
+        workspace,
+        output,
+    )
+}
+
+// Search back: 1 to 7 for the translation, 26 where it has any number but 0, 14 for the source kind, 15 and 16 for the target
+// tree, 24, 23, 17.
 pub fn search(
     translation: &[u8],
     root: u32,
@@ -231,18 +265,15 @@ pub fn search(
     if let Outcome::Refused(reason) = outcome {
         return refuse(reason);
     }
-    if 31 < root {
-        return refuse(Reason::UnknownRoot);
+    let body = body_of(translation);
+    if !is_plain(body) {
+        return refuse(Reason::NumberUnfit);
     }
-    let source = source_of(translation);
-    if !is_in(source, root as u8) {
-        return refuse(Reason::UnknownRoot);
-    }
-    search_in(
-        source,
+    search_from(
+        source_of(translation),
         target_of(translation),
-        body_of(translation),
-        root as usize,
+        body,
+        root,
         tree,
         limit,
         workspace,

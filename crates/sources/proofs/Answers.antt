@@ -1,23 +1,23 @@
 -- The least levels and the first trees, step by step: of operands, of a name, of the names of a kind, of a class.
-use Prim.Native.Nat.{ℕ, zero, suc, max, _≤_, _<_}
+use Prim.Native.Nat.{ℕ, zero, suc, max, _+_, _≤_, _<_}
 use mathlib.Core.Path.{_≡_, refl, ap, sym, _∙_}
 use mathlib.Core.Logic.{inl}
 use mathlib.Core.List.{List, [], _∷_}
-use mathlib.Core.Option.{none, some}
+use mathlib.Core.Option.{Option, none, some}
 use native.Mathlib.Omega.{arith}
 use Rattle.fields.proofs.Truth.{none-some, some-inj}
-use Rattle.language.specs.Language.{Language, rangeOf, argumentsOf}
-use Rattle.reader.specs.Code.{Code, node, Codes, nil, cons, levels, levelsAll}
+use Rattle.language.specs.Language.{Language, Range, rangeOf, argumentsOf, inRange}
+use Rattle.reader.specs.Code.{Code, node, token, argument, Codes, nil, cons, levels, levelsAll}
 use Rattle.reader.specs.Typing.{kindAt, Typed, TypedAll, typed-node, typed-token, typed-argument, typed-nil, typed-cons}
-use Rattle.translation.specs.Running.{Clauses}
+use Rattle.translation.specs.Running.{Clauses, run}
 use Rattle.sources.specs.Inner.Order.{UptoAll}
 use Rattle.sources.specs.Inner.Goals.{Goal, Meets, MeetsAll, Fits, FitsAll, First, FirstAll, Matches}
 use Rattle.sources.specs.Inner.Levels.{Needs, NeedsAll, NeedsNamed}
 use Rattle.sources.proofs.Order.{node-upto, first-upto, rest-upto, upto-same, not-upto, Tri, below, level, above, tri}
 
-pub no-kind : (i : ℕ) {k : ℕ} {A : Type 0} → kindAt [] i ≡ some k → A
-no-kind zero e = none-some e
-no-kind (suc i) e = none-some e
+pub no-kind : (i j : ℕ) {k : ℕ} {A : Type 0} → kindAt [] i j ≡ some k → A
+no-kind zero j e = none-some e
+no-kind (suc i) j e = none-some e
 
 -- More levels do not hurt.
 pub fits-more : {l : Language} {f : Clauses} {n m k : ℕ} {g : Goal} {t : Code} → n ≤ m → Fits l f n k g t → Fits l f m k g t
@@ -156,7 +156,7 @@ module _ (l : Language) (f : Clauses) (named : Named l) (k : ℕ) (g : Goal) (pl
   pub kind-node : {t : Code} → Typed l [] t k → (p : ℕ) × (r : Codes) × (t ≡ node k p r) × (p < 256)
   kind-node (typed-node {p = p} {t = t} {ks = ks} d h) = (p, t, refl, named k p ks d)
   kind-node (typed-token d h) = none-some (sym plain ∙ d)
-  kind-node (typed-argument {i = i} d) = no-kind i d
+  kind-node (typed-argument {i = i} {j = j} d) = no-kind i j d
 
   no-level : (p : ℕ) (r : Codes) → Fits l f 0 k g (node k p r) → ⊥
   unfolding levels

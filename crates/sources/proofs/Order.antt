@@ -1,14 +1,20 @@
 -- Written trees of one kind are prefix-free: two of them are equal, or part at a byte.
-use Prim.Native.Nat.{ℕ, _+_, _/_, _%_, _≤_, _<_}
-use mathlib.Core.Path.{_≡_, refl, ap, sym}
+use Prim.Native.Nat.{ℕ, zero, suc, _+_, _*_, _/_, _%_, _≤_, _<_}
+use mathlib.Core.Path.{_≡_, refl, ap, sym, _∙_}
 use mathlib.Core.Logic.{_⊎_, inl, inr}
 use mathlib.Core.Bool.{Bool, true, false}
 use mathlib.Core.List.{List, [], _∷_, _++_}
+use mathlib.Core.Option.{none, some}
 use native.Mathlib.Omega.{arith}
 use lib.Dec.{ltb}
 use borrow.Author.Tests.{ltb-true, ltb-false}
+use Rattle.fields.specs.Fields.{twoBytes}
+use Rattle.fields.proofs.Truth.{none-some, some-inj}
+use Rattle.language.specs.Language.{Language, Range, rangeOf, argumentsOf}
 use Rattle.reader.specs.Code.{Code, node, token, argument, Codes, nil, cons}
+use Rattle.reader.specs.Typing.{kindAt, Typed, TypedAll, typed-node, typed-token, typed-argument, typed-nil, typed-cons}
 use Rattle.reader.specs.Syntax.{write, writeAll, tree}
+use Rattle.reader.proofs.RoundTrip.{Apart}
 use Rattle.sources.specs.Inner.Order.{Earlier, EarlierAll, by-name, by-operands, by-value, at-first, after, Upto, UptoAll, Parts, here, on}
 
 -- Two numbers compared, with the fact.
@@ -108,9 +114,9 @@ upto-token v w h = go (tri v w)
 abbrev Sooner : Code → Code → Type 0
 Sooner (node k p t) (node j q r) = (p < q) ⊎ ((p ≡ q) × EarlierAll t r)
 Sooner (node k p t) (token v) = Unit {0}
-Sooner (node k p t) (argument i) = Unit {0}
+Sooner (node k p t) (argument i j) = Unit {0}
 Sooner (token v) b = Unit {0}
-Sooner (argument i) b = Unit {0}
+Sooner (argument i j) b = Unit {0}
 
 sooner : {a b : Code} → Earlier a b → Sooner a b
 sooner (by-name h) = inl h

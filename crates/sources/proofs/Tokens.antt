@@ -1,20 +1,21 @@
 -- The least levels and the first trees of a class: a token is no level.
-use Prim.Native.Nat.{ℕ, suc, _-_, _%_, _≤_}
+use Prim.Native.Nat.{ℕ, zero, suc, _-_, _%_, _≤_, _<_}
 use mathlib.Core.Path.{_≡_, refl, ap, sym, _∙_}
 use mathlib.Core.Logic.{inl}
 use mathlib.Core.Bool.{Bool, true, false, _&&_}
-use mathlib.Core.List.{[]}
-use mathlib.Core.Option.{none, some}
+use mathlib.Core.List.{List, []}
+use mathlib.Core.Option.{Option, none, some}
 use native.Mathlib.Omega.{arith}
 use native.Mathlib.Nat.{zero-mod}
 use lib.Dec.{leb, eqb}
 use borrow.Author.Tests.{leb-true, le-leb, eq-eqb}
 use Rattle.fields.proofs.Truth.{none-some, some-inj, false-true, and-both, both-and}
 use Rattle.language.specs.Language.{Language, Range, rangeOf, inRange}
-use Rattle.reader.specs.Code.{Code, token, levels}
-use Rattle.reader.specs.Typing.{Typed, typed-node, typed-token, typed-argument}
+use Rattle.reader.specs.Code.{Code, node, token, argument, Codes, levels}
+use Rattle.reader.specs.Typing.{kindAt, Typed, typed-node, typed-token, typed-argument}
 use Rattle.reader.proofs.RoundTrip.{Apart}
 use Rattle.translation.specs.Running.{Clauses, run}
+use Rattle.sources.specs.Inner.Order.{Upto}
 use Rattle.sources.specs.Inner.Goals.{Goal, Meets, Fits, First}
 use Rattle.sources.specs.Inner.Levels.{Needs}
 use Rattle.sources.proofs.Order.{upto-token}
@@ -36,7 +37,7 @@ module _ (l : Language) (f : Clauses) (apart : Apart l) (k : ℕ) (c : Range) (c
   pub class-token : {t : Code} → Typed l [] t k → (v : ℕ) × (t ≡ token v) × (inRange c v ≡ true)
   class-token (typed-node {p = p} {ks = ks} d h) = none-some (sym (apart k p ks d) ∙ class)
   class-token (typed-token {v = v} d h) = (v, refl, rw (some-inj (sym d ∙ class)) at h)
-  class-token (typed-argument {i = i} d) = no-kind i d
+  class-token (typed-argument {i = i} {j = j} d) = no-kind i j d
 
   token-fits : (n v : ℕ) (g : Goal) → inRange c v ≡ true → Meets f g (token v) → Fits l f n k g (token v)
   unfolding levels
@@ -56,7 +57,7 @@ module _ (l : Language) (f : Clauses) (apart : Apart l) (k : ℕ) (c : Range) (c
   unfolding run
   runs-to n v t q =
       let z = class-token (q .legal) in
-      let y : run f (token (z .0)) ≡ token v = rw (z .1) at (q .meets) in
+      let y : run f 0 (token (z .0)) ≡ token v = rw (z .1) at (q .meets) in
       let x : z .0 ≡ v = token-value y in
       (z .1 ∙ ap token x, ap (inRange c) (sym x) ∙ z .2)
 

@@ -1,5 +1,5 @@
 -- Bodies and translations in bytes: what is written is read back, and what is read was written.
-use Prim.Native.Nat.{ℕ, suc, _+_, _*_, _≤_}
+use Prim.Native.Nat.{ℕ, zero, suc, _+_, _*_, _<_, _≤_}
 use mathlib.Core.Path.{_≡_, refl, sym, ap, _∙_}
 use mathlib.Core.Bool.{Bool, true, false, not, _&&_, _||_}
 use mathlib.Core.List.{List, [], _∷_, map}
@@ -7,40 +7,54 @@ use mathlib.Core.Option.{Option, none, some}
 use native.Mathlib.Omega.{arith}
 use lib.ListN.{length, drop, drop-of-length-le}
 use lib.Dec.{ltb, leb, eqb}
-use borrow.Author.Tests.{le-leb, leb-true, eqb-true, le-ltb, ltb-true, ltb-false}
+use borrow.Author.Tests.{lt-ltb, le-leb, leb-true, eqb-true, le-ltb, ltb-true, ltb-false}
 use Rattle.fields.specs.Outcome.{value, refuseIf}
 use Rattle.fields.specs.declared.outcome.Reason.the-variants.{WrongMapping, WrongClauses, IllegalCode}
 use Rattle.fields.specs.Lists.{all, traverse}
 use Rattle.fields.specs.Fields.{Field, field, byteAt, fieldsOf, encodeFields, hasOver}
 use Rattle.fields.specs.Keyed.{rising, risingFrom}
 use Rattle.fields.proofs.Truth.{by-test, none-some, false-true, and-both, both-and, or-false, false-or}
-use Rattle.fields.proofs.Codec.{Each, Bytes, contentsOf, Codec, refused-value, cond-some, two-tags, front-two, fields-encode, fields-sound, fields-length, encode-length, Within, not-over, within-over, entries-encode, entries-whole, entries-length, entries-sound}
+use Rattle.fields.proofs.Codec.{Each, Bytes, contentsOf, Codec, refused-value, cond-some, four-tags, front-two, front-three, fields-encode, fields-sound, fields-length, encode-length, Within, not-over, within-over, entries-encode, entries-whole, entries-length, entries-sound}
 use Rattle.language.specs.Language.{Language, entryKey, clashes}
 use Rattle.language.specs.LanguageFile.{isKind, entriesOf, encodeLanguage, languageLimit}
 use Rattle.language.proofs.Codec.{entryWhole, language-encode, language-whole, language-length, open-value, open-rest}
-use Rattle.translation.specs.Translation.{Item, mapping, clause, Body, Translation, itemKey}
-use Rattle.translation.specs.TranslationFile.{mappingField, clauseField, itemOf, itemField, grouped, inGroups, itemsIn, bodyIn, bodyOf, parts, partsIn, partsOfFields, partsOf, translationFields, encodeTranslation, translationLimit, isLanguageTag, allRising, translationOf}
+use Rattle.translation.specs.Translation.{Item, mapping, clause, Body, Translation, plainKey, numberOf, itemKey}
+use Rattle.translation.specs.TranslationFile.{mappingField, numberedMapping, clauseField, numberedClause, itemOf, itemField, grouped, inGroups, itemsIn, bodyIn, bodyOf, parts, partsIn, partsOfFields, partsOf, translationFields, encodeTranslation, translationLimit, isLanguageTag, allRising, translationOf}
 use Rattle.translation.specs.WellFormed.{wellFormed, mappingFits, clausesFit, codesFit}
 
--- An item that a file can hold: its kinds are kinds.
+-- An item that a file can hold: its kinds are kinds, its number is a byte.
 unfoldable pub itemWhole : Item → Bool
-itemWhole (mapping s t) = isKind s && isKind t
-itemWhole (clause r p code) = isKind r
+itemWhole (mapping s j t) = isKind s && (isKind t && ltb j 256)
+itemWhole (clause r p j code) = isKind r && ltb j 256
 
 -- A whole item that is written is read back.
 item-reads : (i : Item) → itemWhole i ≡ true → itemOf (itemField i) ≡ some i
-unfolding itemWhole itemOf itemField mappingField clauseField
-item-reads (mapping s t) h = let w = and-both (isKind s) (isKind t) h in rw (w .0, w .1)
-item-reads (clause r p code) h =
+unfolding itemWhole itemOf itemField mappingField clauseField numberedMapping numberedClause
+item-reads (mapping s zero t) h =
+    let w = and-both (isKind s) (isKind t && ltb 0 256) h in
+    let v = and-both (isKind t) (ltb 0 256) (w .1) in
+    rw (w .0, v .0)
+item-reads (mapping s (suc j) t) h =
+    let w = and-both (isKind s) (isKind t && ltb (suc j) 256) h in
+    let v = and-both (isKind t) (ltb (suc j) 256) (w .1) in
+    let z : 0 < suc j = omega arith in
+    rw (w .0, v .0, lt-ltb 0 (suc j) z, v .1)
+item-reads (clause r p zero code) h =
+    let w = and-both (isKind r) (ltb 0 256) h in
     let a : 2 ≤ suc (suc (length code)) = omega arith in
-    rw (le-leb 2 (suc (suc (length code))) a, h)
+    rw (le-leb 2 (suc (suc (length code))) a, w .0)
+item-reads (clause r p (suc j) code) h =
+    let w = and-both (isKind r) (ltb (suc j) 256) h in
+    let a : 3 ≤ suc (suc (suc (length code))) = omega arith in
+    let z : 0 < suc j = omega arith in
+    rw (le-leb 3 (suc (suc (suc (length code)))) a, w .0, lt-ltb 0 (suc j) z, w .1)
 
--- What a mapping is read from.
+-- What a mapping by number 0 is read from.
 record MappingIn (c : List ℕ) (i : Item) : Type 0 where
   long : length c ≡ 2
   source : isKind (byteAt c 0) ≡ true
   target : isKind (byteAt c 1) ≡ true
-  same : mapping (byteAt c 0) (byteAt c 1) ≡ i
+  same : mapping (byteAt c 0) 0 (byteAt c 1) ≡ i
 
 -- A mapping that is read.
 mapping-in : (c : List ℕ) (i : Item) → mappingField c ≡ some i → MappingIn c i
@@ -51,11 +65,11 @@ mapping-in c i h =
     let u = and-both _ _ (v .1) in
     record { long = eqb-true (length c) 2 (v .0); source = u .0; target = u .1; same = w .1 }
 
--- What a clause is read from.
+-- What a clause of number 0 is read from.
 record ClauseIn (c : List ℕ) (i : Item) : Type 0 where
   least : 2 ≤ length c
   result : isKind (byteAt c 0) ≡ true
-  same : clause (byteAt c 0) (byteAt c 1) (drop 2 c) ≡ i
+  same : clause (byteAt c 0) (byteAt c 1) 0 (drop 2 c) ≡ i
 
 -- A clause that is read.
 clause-in : (c : List ℕ) (i : Item) → clauseField c ≡ some i → ClauseIn c i
@@ -65,20 +79,72 @@ clause-in c i h =
     let v = and-both _ _ (w .0) in
     record { least = leb-true 2 (length c) (v .0); result = v .1; same = w .1 }
 
--- An item that is read is one of the two.
+-- What a mapping by another number is read from.
+record NumberedMappingIn (c : List ℕ) (i : Item) : Type 0 where
+  long : length c ≡ 3
+  source : isKind (byteAt c 0) ≡ true
+  number : 0 < byteAt c 1
+  byte : ltb (byteAt c 1) 256 ≡ true
+  target : isKind (byteAt c 2) ≡ true
+  same : mapping (byteAt c 0) (byteAt c 1) (byteAt c 2) ≡ i
+
+numbered-mapping-in : (c : List ℕ) (i : Item) → numberedMapping c ≡ some i → NumberedMappingIn c i
+unfolding numberedMapping
+numbered-mapping-in c i h =
+    let w = cond-some _ _ i h in
+    let v = and-both _ _ (w .0) in
+    let u = and-both _ _ (v .1) in
+    let t = and-both _ _ (u .1) in
+    let o = and-both _ _ (t .0) in
+    record { long = eqb-true (length c) 3 (v .0); source = u .0; number = ltb-true 0 (byteAt c 1) (o .0); byte = o .1; target = t .1; same = w .1 }
+
+-- What a clause of another number is read from.
+record NumberedClauseIn (c : List ℕ) (i : Item) : Type 0 where
+  least : 3 ≤ length c
+  result : isKind (byteAt c 0) ≡ true
+  number : 0 < byteAt c 2
+  byte : ltb (byteAt c 2) 256 ≡ true
+  same : clause (byteAt c 0) (byteAt c 1) (byteAt c 2) (drop 3 c) ≡ i
+
+numbered-clause-in : (c : List ℕ) (i : Item) → numberedClause c ≡ some i → NumberedClauseIn c i
+unfolding numberedClause
+numbered-clause-in c i h =
+    let w = cond-some _ _ i h in
+    let v = and-both _ _ (w .0) in
+    let u = and-both _ _ (v .1) in
+    let o = and-both _ _ (u .1) in
+    record { least = leb-true 3 (length c) (v .0); result = u .0; number = ltb-true 0 (byteAt c 2) (o .0); byte = o .1; same = w .1 }
+
+-- An item that is read is one of the four.
 item-in : {B : Type 0} (tag : ℕ) (c : List ℕ) (i : Item) → itemOf (field tag c) ≡ some i
-    → (tag ≡ 0x22 → MappingIn c i → B) → (tag ≡ 0x23 → ClauseIn c i → B) → B
+    → (tag ≡ 0x22 → MappingIn c i → B) → (tag ≡ 0x23 → ClauseIn c i → B)
+    → (tag ≡ 0x28 → NumberedMappingIn c i → B) → (tag ≡ 0x29 → NumberedClauseIn c i → B) → B
 unfolding itemOf
-item-in tag c i h f g =
-    two-tags tag 0x22 0x23 (mappingField c) (clauseField c) i h (λ t d. f t (mapping-in c i d)) (λ t d. g t (clause-in c i d))
+item-in tag c i h f g k l =
+    four-tags tag 0x22 0x23 0x28 0x29 (mappingField c) (clauseField c) (numberedMapping c) (numberedClause c) i h
+    (λ t d. f t (mapping-in c i d)) (λ t d. g t (clause-in c i d))
+    (λ t d. k t (numbered-mapping-in c i d)) (λ t d. l t (numbered-clause-in c i d))
 
 -- An item that is read is whole.
 item-wholes : (f : Field) (i : Item) → itemOf f ≡ some i → itemWhole i ≡ true
 unfolding itemWhole
 item-wholes (field tag c) i h =
     item-in tag c i h
-    (λ t m. rw (← m .same) (both-and _ _ (m .source) (m .target)))
-    (λ t m. rw (← m .same) (m .result))
+    (λ t m. rw (← m .same) (both-and _ _ (m .source) (both-and _ _ (m .target) refl)))
+    (λ t m. rw (← m .same) (both-and _ _ (m .result) refl))
+    (λ t m. rw (← m .same) (both-and _ _ (m .source) (both-and _ _ (m .target) (m .byte))))
+    (λ t m. rw (← m .same) (both-and _ _ (m .result) (m .byte)))
+
+-- The field that holds a number that is not 0.
+mapping-numbered : (s j t : ℕ) → 0 < j → itemField (mapping s j t) ≡ field 0x28 (s ∷ j ∷ t ∷ [])
+unfolding itemField
+mapping-numbered s zero t h = absurd (omega arith)
+mapping-numbered s (suc j) t h = refl
+
+clause-numbered : (r p j : ℕ) (code : List ℕ) → 0 < j → itemField (clause r p j code) ≡ field 0x29 (r ∷ p ∷ j ∷ code)
+unfolding itemField
+clause-numbered r p zero code h = absurd (omega arith)
+clause-numbered r p (suc j) code h = refl
 
 -- It has as many bytes as it is read from.
 item-sizes : (f : Field) (i : Item) → itemOf f ≡ some i → length (contentsOf (itemField i)) ≡ length (contentsOf f)
@@ -87,6 +153,8 @@ item-sizes (field tag c) i h =
     item-in tag c i h
     (λ t m. rw (← m .same) (sym (m .long)))
     (λ t m. rw (← m .same) (ap length (front-two c (m .least))))
+    (λ t m. rw (← m .same) (ap (λ (x : Field). length (contentsOf x)) (mapping-numbered _ _ _ (m .number)) ∙ sym (m .long)))
+    (λ t m. rw (← m .same) (ap (λ (x : Field). length (contentsOf x)) (clause-numbered _ _ _ _ (m .number)) ∙ ap length (front-three c (m .least))))
 
 -- It is written in the field that it is read from.
 item-gives : (f : Field) (i : Item) → itemOf f ≡ some i → Bytes (contentsOf f) → itemField i ≡ f
@@ -99,27 +167,46 @@ item-gives (field tag c) i h b =
     let all-two : byteAt c 0 ∷ byteAt c 1 ∷ [] ≡ c = cc (front-two c two, drop-of-length-le c past) in
     rw (← m .same, t) (ap (λ (l : List ℕ). field 0x22 l) all-two))
     (λ t m. rw (← m .same, t) (ap (λ (l : List ℕ). field 0x23 l) (front-two c (m .least))))
+    (λ t m.
+    let three : 3 ≤ length c = omega (arith, m .long) in
+    let past : length c ≤ 3 = omega (arith, m .long) in
+    let all-three : byteAt c 0 ∷ byteAt c 1 ∷ byteAt c 2 ∷ [] ≡ c = cc (front-three c three, drop-of-length-le c past) in
+    rw (← m .same, t) (mapping-numbered _ _ _ (m .number) ∙ ap (λ (l : List ℕ). field 0x28 l) all-three))
+    (λ t m. rw (← m .same, t) (clause-numbered _ _ _ _ (m .number) ∙ ap (λ (l : List ℕ). field 0x29 l) (front-three c (m .least))))
 
 -- Items, one to a field.
 pub itemCodec : Codec itemOf itemField itemWhole
 itemCodec = record { reads = item-reads; wholes = item-wholes; sizes = λ f i h. omega (arith, item-sizes f i h) }
 
+-- The key of a whole mapping lies below that of a clause.
+mapping-below : (s j t : ℕ) → itemWhole (mapping s j t) ≡ true → itemKey (mapping s j t) < 8192
+unfolding itemWhole itemKey plainKey numberOf
+mapping-below s j t w =
+    let (a, b) = and-both (isKind s) (isKind t && ltb j 256) w in
+    let (c, d) = and-both (isKind t) (ltb j 256) b in
+    let e : s < 32 = ltb-true s 32 a in
+    let f : j < 256 = ltb-true j 256 d in
+    omega arith
+
+clause-above : (r p j : ℕ) (c : List ℕ) → 8192 ≤ itemKey (clause r p j c)
+unfolding itemKey plainKey numberOf
+clause-above r p j c = omega arith
+
 -- Keys that rise keep the mappings in front of the clauses.
-grouped-from : (n : ℕ) (past : Bool) (b : Body) → (past ≡ true → 32 ≤ n) → risingFrom itemKey n b ≡ true → all itemWhole b ≡ true → grouped past b ≡ true
-unfolding risingFrom itemKey all itemWhole grouped
+grouped-from : (n : ℕ) (past : Bool) (b : Body) → (past ≡ true → 8192 ≤ n) → risingFrom itemKey n b ≡ true → all itemWhole b ≡ true → grouped past b ≡ true
+unfolding risingFrom all grouped
 grouped-from n past [] h r w = refl
-grouped-from n past (mapping s t ∷ b) h r w =
-    let (r1, r2) = and-both (leb n s) (risingFrom itemKey (suc s) b) r in
-    let (w1, w2) = and-both (isKind s && isKind t) (all itemWhole b) w in
-    let (w3, w4) = and-both (isKind s) (isKind t) w1 in
-    let rest = grouped-from (suc s) false b (λ e. false-true e) r2 w2 in
+grouped-from n past (mapping s j t ∷ b) h r w =
+    let (r1, r2) = and-both (leb n (itemKey (mapping s j t))) (risingFrom itemKey (suc (itemKey (mapping s j t))) b) r in
+    let (w1, w2) = and-both (itemWhole (mapping s j t)) (all itemWhole b) w in
+    let rest = grouped-from (suc (itemKey (mapping s j t))) false b (λ e. false-true e) r2 w2 in
     by-test past
-    (λ e. absurd (omega (arith, h e, leb-true n s r1, ltb-true s 32 w3)))
+    (λ e. absurd (omega (arith, h e, leb-true n (itemKey (mapping s j t)) r1, mapping-below s j t w1)))
     (λ e. rw (e, rest))
-grouped-from n past (clause r p code ∷ b) h k w =
-    let (k1, k2) = and-both (leb n (32 + (r * 256 + p))) (risingFrom itemKey (suc (32 + (r * 256 + p))) b) k in
-    let (w1, w2) = and-both (isKind r) (all itemWhole b) w in
-    grouped-from (suc (32 + (r * 256 + p))) true b (λ e. omega arith) k2 w2
+grouped-from n past (clause r p j code ∷ b) h k w =
+    let (k1, k2) = and-both (leb n (itemKey (clause r p j code))) (risingFrom itemKey (suc (itemKey (clause r p j code))) b) k in
+    let (w1, w2) = and-both (itemWhole (clause r p j code)) (all itemWhole b) w in
+    grouped-from (suc (itemKey (clause r p j code))) true b (λ e. omega (arith, clause-above r p j code)) k2 w2
 
 -- A whole body that rises stands in its groups.
 pub rising-grouped : (b : Body) → rising itemKey b ≡ true → all itemWhole b ≡ true → grouped false b ≡ true
@@ -207,8 +294,10 @@ rises-parts f h =
 items-within : (limit : ℕ) (b : Body) → Each (Within isLanguageTag limit) (map itemField b)
 unfolding itemField
 items-within limit [] = tt
-items-within limit (mapping s t ∷ b) = (λ e. false-true e, items-within limit b)
-items-within limit (clause r p code ∷ b) = (λ e. false-true e, items-within limit b)
+items-within limit (mapping s zero t ∷ b) = (λ e. false-true e, items-within limit b)
+items-within limit (mapping s (suc j) t ∷ b) = (λ e. false-true e, items-within limit b)
+items-within limit (clause r p zero code ∷ b) = (λ e. false-true e, items-within limit b)
+items-within limit (clause r p (suc j) code ∷ b) = (λ e. false-true e, items-within limit b)
 
 -- The parts of a whole translation are read back.
 pub parts-encode : (f : Translation) → WholeTranslation f → partsOf (encodeTranslation f) ≡ some f

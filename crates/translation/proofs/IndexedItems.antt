@@ -2,7 +2,8 @@
 use Prim.Native.Nat.{ℕ, zero, suc, _+_, _<_, _≤_}
 use mathlib.Core.Path.{_≡_, refl, sym, ap, _∙_}
 use mathlib.Core.List.{List}
-use mathlib.Core.Bool.{true, false, not}
+use mathlib.Core.Logic.{_⊎_, inl, inr}
+use mathlib.Core.Bool.{Bool, true, false, cond, not, _&&_}
 use mathlib.Core.Option.{Option, none, some, Option·getD}
 use native.Mathlib.Omega.{arith}
 use native.Mathlib.Numerals.{add-one}
@@ -12,37 +13,104 @@ use lib.Dec.{ltb, eqb}
 use borrow.Author.Tests.{eq-eqb, ne-eqb, eqb-true, eqb-false, ltb-true, ltb-false}
 use Rattle.fields.specs.Fields.{pairAt}
 use Rattle.fields.specs.Lists.{first, isSome}
-use Rattle.fields.specs.Inner.Places.{fieldEnd, places, keyAt}
+use Rattle.fields.specs.Inner.Places.{fieldEnd, places, keyAt, slotAt}
 use Rattle.fields.proofs.Truth.{by-test}
 use Rattle.language.specs.Language.{kindKey, productionKey}
 use Rattle.reader.specs.Inner.Index.{putAll}
 use Rattle.reader.proofs.Placed.{placeOf, puts-length, puts-place, found, Groups, of-first, of-second, looked-kind, looked-name}
-use Rattle.translation.specs.Translation.{Body, targetAt, mappingOf, codeAt, clauseOf, mapped}
+use Rattle.translation.specs.Translation.{mapping, clause, Body, targetAt, mappingOf, codeAt, clauseOf, mapped}
 use Rattle.translation.specs.TranslationFile.{bodyOf}
-use Rattle.translation.specs.Inner.Items.{itemWhole, itemAt, IsMapping, IsClause, HoldsItems}
-use Rattle.translation.specs.Inner.ItemIndex.{targetBefore, codeBefore, SoundKinds, SoundItems, IndexedItems, IndexedKinds, mappedAt, knownAt}
-use Rattle.translation.proofs.Items.{item-facts, mapping-is, clause-is, holds-items}
+use Rattle.translation.specs.Inner.Items.{itemWhole, itemAt, IsMapping, IsClause, IsNumberedMapping, IsNumberedClause, ItemFacts, plain-mapping, plain-clause, numbered-mapping, numbered-clause, HoldsItems}
+use Rattle.translation.specs.Inner.ItemIndex.{targetBefore, codeBefore, SoundItems, IndexedItems, mappedAt, knownAt}
+use Rattle.translation.proofs.Items.{item-facts, mapping-is, clause-is, numbered-mapping-is, numbered-clause-is, holds-items}
 
 -- Keys of whole items.
 module _ (s : List ℕ) (p : ℕ) where
-  pub mapping-key : IsMapping s p → keyAt 0x22 s p ≡ getD s (p + 3) 0
-  unfolding keyAt
-  mapping-key w = cc (eq-eqb _ _ (w .tag))
+  pub mapping-key : IsMapping s p → slotAt 0x22 s p ≡ getD s (p + 3) 0
+  unfolding slotAt keyAt
+  mapping-key w = cc (w .tag)
 
-  pub clause-key : IsClause s p → keyAt 0x22 s p ≡ productionKey (getD s (p + 3) 0) (getD s (p + 4) 0)
-  unfolding keyAt pairAt
+  pub clause-key : IsClause s p → slotAt 0x22 s p ≡ productionKey (getD s (p + 3) 0) (getD s (p + 4) 0)
+  unfolding slotAt keyAt pairAt
   clause-key w = let d : p + 3 + 1 ≡ p + 4 = omega arith in cc (w .tag)
 
+  numbered-key : IsNumberedMapping s p ⊎ IsNumberedClause s p → slotAt 0x22 s p ≡ 65568
+  unfolding slotAt
+  numbered-key (inl w) = cc (w .tag)
+  numbered-key (inr w) = cc (w .tag)
+
+  -- The four forms in three groups.
+  item-groups : itemWhole s p ≡ true → IsMapping s p ⊎ (IsClause s p ⊎ (IsNumberedMapping s p ⊎ IsNumberedClause s p))
+  item-groups w = go (item-facts s p w)
+    where
+      go : ItemFacts s p → IsMapping s p ⊎ (IsClause s p ⊎ (IsNumberedMapping s p ⊎ IsNumberedClause s p))
+      go (plain-mapping m) = inl m
+      go (plain-clause m) = inr (inl m)
+      go (numbered-mapping m) = inr (inr (inl m))
+      go (numbered-clause m) = inr (inr (inr m))
+
+-- Items with a number.
+abbrev Numbered : List ℕ → ℕ → Type 0
+Numbered s p = IsNumberedMapping s p ⊎ IsNumberedClause s p
+
+-- A numbered item is not looked up by number 0.
+no-target : (s : List ℕ) (k p : ℕ) → Numbered s p → targetAt k 0 (itemAt s p) ≡ none
+unfolding targetAt
+no-target s k p (inl m) = rw (numbered-mapping-is s p m, ne-eqb (getD s (p + 4) 0) 0 (λ z. omega (arith, m .number))) (go (eqb (getD s (p + 3) 0) k))
+  where
+    go : (x : Bool) → cond (x && false) (some (getD s (p + 5) 0)) none ≡ none
+    go true = refl
+    go false = refl
+no-target s k p (inr m) = rw (numbered-clause-is s p m)
+
+no-code : (s : List ℕ) (k n p : ℕ) → Numbered s p → codeAt k n 0 (itemAt s p) ≡ none
+unfolding codeAt
+no-code s k n p (inl m) = rw (numbered-mapping-is s p m)
+no-code s k n p (inr m) = rw (numbered-clause-is s p m, ne-eqb (getD s (p + 5) 0) 0 (λ z. omega (arith, m .number))) (go (eqb (getD s (p + 3) 0) k) (eqb (getD s (p + 4) 0) n))
+  where
+    go : (x y : Bool) → cond (x && (y && false)) (some (slice (p + 6) (fieldEnd s p) s)) none ≡ none
+    go true true = refl
+    go true false = refl
+    go false y = refl
+
+-- A plain one is.
+plain-target : (s : List ℕ) (k p : ℕ) → IsMapping s p → targetAt k 0 (itemAt s p) ≡ cond (eqb (getD s (p + 3) 0) k) (some (getD s (p + 4) 0)) none
+unfolding targetAt
+plain-target s k p m = rw (mapping-is s p m) (go (eqb (getD s (p + 3) 0) k))
+  where
+    go : (x : Bool) → cond (x && true) (some (getD s (p + 4) 0)) none ≡ cond x (some (getD s (p + 4) 0)) none
+    go true = refl
+    go false = refl
+
+plain-code : (s : List ℕ) (k n p : ℕ) → IsClause s p
+    → codeAt k n 0 (itemAt s p) ≡ cond (eqb (getD s (p + 3) 0) k && eqb (getD s (p + 4) 0) n) (some (slice (p + 5) (fieldEnd s p) s)) none
+unfolding codeAt
+plain-code s k n p m = rw (clause-is s p m) (go (eqb (getD s (p + 3) 0) k) (eqb (getD s (p + 4) 0) n))
+  where
+    go : (x y : Bool) → cond (x && (y && true)) (some (slice (p + 5) (fieldEnd s p) s)) none ≡ cond (x && y) (some (slice (p + 5) (fieldEnd s p) s)) none
+    go true true = refl
+    go true false = refl
+    go false y = refl
+
+clause-target : (s : List ℕ) (k p : ℕ) → IsClause s p → targetAt k 0 (itemAt s p) ≡ none
+unfolding targetAt
+clause-target s k p c = rw (clause-is s p c)
+
+mapping-code : (s : List ℕ) (k n p : ℕ) → IsMapping s p → codeAt k n 0 (itemAt s p) ≡ none
+unfolding codeAt
+mapping-code s k n p m = rw (mapping-is s p m)
+
 -- Mappings and clauses.
-groups : (s : List ℕ) → Groups 0x22 s (itemWhole s) (IsMapping s) (IsClause s)
+groups : (s : List ℕ) → Groups 0x22 s (itemWhole s) (IsMapping s) (IsClause s) (Numbered s)
 groups s = record {
-  facts = item-facts s;
+  facts = item-groups s;
   kind = λ p c. c .source;
   kind-key = mapping-key s;
   name-key = clause-key s;
+  no-key = numbered-key s;
 }
 
--- The index that was built: of the mappings, where it has room for them, and of the clauses, where it has for those.
+-- The index that was built.
 module _ (s index : List ℕ) (bytes : (i : ℕ) → getD s i 0 < 256) (short : length s ≤ 32768)
     (zeros : (j : ℕ) → getD index j 0 ≡ 0) (b : Body) (e : bodyOf s ≡ some b) where
   abbrev built : List ℕ
@@ -55,7 +123,7 @@ module _ (s index : List ℕ) (bytes : (i : ℕ) → getD s i 0 < 256) (short : 
   at-key j h = puts-place 0x22 s (places s) index j h (zeros j)
 
   -- A place in the index is that of a whole item of the key.
-  found-at : (j : ℕ) → j < length index → 0 < getD built j 0 → (p : ℕ) × (getD built j 0 ≡ p + 1) × (keyAt 0x22 s p ≡ j) × (itemWhole s p ≡ true)
+  found-at : (j : ℕ) → j < length index → 0 < getD built j 0 → (p : ℕ) × (getD built j 0 ≡ p + 1) × (slotAt 0x22 s p ≡ j) × (itemWhole s p ≡ true)
   found-at j h z =
       let k = at-key j h in
       let f = found 0x22 (itemWhole s) s j (places s) (held .whole) (rw k at z) in
@@ -65,62 +133,49 @@ module _ (s index : List ℕ) (bytes : (i : ℕ) → getD s i 0 < 256) (short : 
     target-in : (k place : ℕ) → place ≡ getD built (kindKey k) 0 → k < 32 → 0 < place → (place + 3 < length s) × (getD s (place + 3) 0 < 32)
     target-in k place i h z =
         let f = found-at k (omega arith) (rw i at z) in
-        let c = of-first 0x22 s (itemWhole s) (IsMapping s) (IsClause s) (groups s) (f .0) (f .3) (rw (f .2) h) in
+        let c = of-first 0x22 s (itemWhole s) (IsMapping s) (IsClause s) (Numbered s) (groups s) (f .0) (f .3) (rw (f .2) h) in
         let d : place + 3 ≡ f .0 + 4 = omega (arith, i, f .1) in
         let g = c .fits in
         (omega arith, rw d (c .target))
 
-    kinds-built : IndexedKinds built s b
-    unfolding mappingOf targetAt
-    kinds-built = record {
-      sound = record {
-        long = rw (puts-length 0x22 s (places s) index) room;
-        short = short;
-        target = λ k h z. target-in k _ refl h z;
-      };
-      items = e;
-      mapping = λ k h.
-          ap (first (targetAt k)) (sym (held .items))
-          ∙ (looked-kind 0x22 s (itemWhole s) (IsMapping s) (IsClause s) (groups s) (itemAt s) (targetAt k) (targetBefore s) refl
-          (λ p. getD s (p + 4) 0) (λ p. rw add-one refl) k h
-          (λ p c. ap (targetAt k) (mapping-is s p c)) (λ p c. ap (targetAt k) (clause-is s p c)) (places s) (held .whole)
-          ∙ ap (targetBefore s) (sym (at-key k (omega arith))));
-    }
-
-    -- What `put_all` makes of a small table.
-    pub kinds-are : {after : List ℕ} → after ≡ built → IndexedKinds after s b
-    kinds-are h = rw h kinds-built
+    mapping-built : (k : ℕ) → k < 32 → mappingOf b k 0 ≡ targetBefore s (getD built (kindKey k) 0)
+    unfolding mappingOf
+    mapping-built k h =
+        ap (first (targetAt k 0)) (sym (held .items))
+        ∙ (looked-kind 0x22 s (itemWhole s) (IsMapping s) (IsClause s) (Numbered s) (groups s) (itemAt s) (targetAt k 0) (targetBefore s) refl
+        (λ p. getD s (p + 4) 0) (λ p. rw add-one refl) k h
+        (plain-target s k) (λ p c. clause-target s k p c) (no-target s k) (places s) (held .whole)
+        ∙ ap (targetBefore s) (sym (at-key k (omega arith))))
 
   module _ (long : length index ≡ 8224) where
     code-in : (k p place : ℕ) → place ≡ getD built (productionKey k p) 0 → k < 32 → p < 256 → 0 < place → (2 ≤ pairAt s place) × (place + 2 + pairAt s place ≤ length s)
     unfolding fieldEnd
     code-in k p place i h j z =
         let f = found-at (productionKey k p) (omega arith) (rw i at z) in
-        let c = of-second 0x22 s (itemWhole s) (IsMapping s) (IsClause s) (groups s) (f .0) (f .3) (rw (f .2) (omega arith)) in
+        let c = of-second 0x22 s (itemWhole s) (IsMapping s) (IsClause s) (Numbered s) (groups s) (f .0) (f .3) (rw (f .2) (omega arith)) (rw (f .2) (omega arith)) in
         let d : place ≡ f .0 + 1 = i ∙ f .1 in
         let g = c .past in
         let l = c .ends in
         rw d (omega arith, omega arith)
 
     index-built : IndexedItems built s b
-    unfolding clauseOf codeAt
+    unfolding clauseOf
     index-built =
         let room : 32 ≤ length index = omega arith in
-        let k = kinds-built room in
         record {
           sound = record {
             long = puts-length 0x22 s (places s) index ∙ long;
             short = short;
-            target = k .sound .target;
+            target = λ k h z. target-in room k _ refl h z;
             code = λ k p h j z. code-in k p _ refl h j z;
           };
           items = e;
-          mapping = k .mapping;
+          mapping = mapping-built room;
           clause = λ k p h j.
-              ap (first (codeAt k p)) (sym (held .items))
-              ∙ (looked-name 0x22 s (itemWhole s) (IsMapping s) (IsClause s) (groups s) (itemAt s) (codeAt k p) (codeBefore s) refl
+              ap (first (codeAt k p 0)) (sym (held .items))
+              ∙ (looked-name 0x22 s (itemWhole s) (IsMapping s) (IsClause s) (Numbered s) (groups s) (itemAt s) (codeAt k p 0) (codeBefore s) refl
               (λ q. slice (q + 5) (fieldEnd s q) s) (λ q. rw add-one refl) k h p j bytes
-              (λ q c. ap (codeAt k p) (mapping-is s q c)) (λ q c. ap (codeAt k p) (clause-is s q c)) (places s) (held .whole)
+              (λ q c. mapping-code s k p q c) (plain-code s k p) (no-code s k p) (places s) (held .whole)
               ∙ ap (codeBefore s) (sym (at-key (productionKey k p) (omega arith))));
         }
 
@@ -128,14 +183,7 @@ module _ (s index : List ℕ) (bytes : (i : ℕ) → getD s i 0 < 256) (short : 
     pub build-is : {after : List ℕ} → after ≡ built → IndexedItems after s b
     build-is h = rw h index-built
 
--- The index of a body holds its mappings.
-pub kinds-sound : {index s : List ℕ} → SoundItems index s → SoundKinds index s
-kinds-sound z = record { long = omega (arith, z .long); short = z .short; target = z .target }
-
-pub kinds-of : {index s : List ℕ} {b : Body} → IndexedItems index s b → IndexedKinds index s b
-kinds-of z = record { sound = kinds-sound (z .sound); items = z .items; mapping = z .mapping }
-
--- target_kind
+-- map_kind
 module _ (s index : List ℕ) (k place : ℕ) (ep : place ≡ getD index k 0) where
   pub kind-none : place ≡ 0 → 0 ≡ mappedAt s index k
   unfolding mappedAt
@@ -145,25 +193,22 @@ module _ (s index : List ℕ) (k place : ℕ) (ep : place ≡ getD index k 0) wh
   unfolding mappedAt
   kind-there h = cc (ne-eqb place 0 h)
 
-  pub kind-in : SoundKinds index s → k < 32 → (place ≡ 0 → ⊥) → (place + 3 < length s) × (getD s (place + 3) 0 < 32)
+  pub kind-in : SoundItems index s → k < 32 → (place ≡ 0 → ⊥) → (place + 3 < length s) × (getD s (place + 3) 0 < 32)
   kind-in z h n = rw ep (z .target k h (rw (← ep) (omega arith)))
 
--- What is looked up is what a kind maps to.
-pub mapped-in : (s index : List ℕ) (b : Body) → IndexedKinds index s b → (k : ℕ) → k < 32 → mappedAt s index k ≡ mapped b k
+-- What is looked up is what a kind maps to by number 0.
+pub mapped-is : (s index : List ℕ) (b : Body) → IndexedItems index s b → (k : ℕ) → k < 32 → mappedAt s index k ≡ mapped b k 0
 unfolding mapped
-mapped-in s index b z k h = go (getD index k 0) refl (z .mapping k h)
+mapped-is s index b z k h = go (getD index k 0) refl (z .mapping k h)
   where
-    go : (place : ℕ) → getD index k 0 ≡ place → mappingOf b k ≡ targetBefore s place → mappedAt s index k ≡ Option·getD (mappingOf b k) 0
+    go : (place : ℕ) → getD index k 0 ≡ place → mappingOf b k 0 ≡ targetBefore s place → mappedAt s index k ≡ Option·getD (mappingOf b k 0) 0
     go zero d e = sym (kind-none s index k 0 (sym d) refl) ∙ rw e
     go (suc p) d e =
         let i : suc p + 3 ≡ p + 4 = omega arith in
         sym (kind-there s index k (suc p) (sym d) (λ y. omega arith)) ∙ rw (e, i)
 
-pub mapped-is : (s index : List ℕ) (b : Body) → IndexedItems index s b → (k : ℕ) → k < 32 → mappedAt s index k ≡ mapped b k
-mapped-is s index b z = mapped-in s index b (kinds-of z)
-
 -- What a kind maps to is a kind.
-pub mapped-kind : (s index : List ℕ) → SoundKinds index s → (k : ℕ) → k < 32 → mappedAt s index k < 32
+pub mapped-kind : (s index : List ℕ) → SoundItems index s → (k : ℕ) → k < 32 → mappedAt s index k < 32
 unfolding mappedAt
 mapped-kind s index z k h =
     by-test (eqb (getD index k 0) 0)
@@ -192,7 +237,7 @@ mapped-more s index table n i v ei h l e m k j =
 pub mapped-below : (s index table : List ℕ) → SoundItems index s → length table ≡ 32 → Mapped s index table 32 → (k : ℕ) → getD table k 0 < 32
 mapped-below s index table z l m k =
     by-test (ltb k 32)
-    (λ d. let h : k < 32 = ltb-true k 32 d in rw (m k h) (mapped-kind s index (kinds-sound z) k h))
+    (λ d. let h : k < 32 = ltb-true k 32 d in rw (m k h) (mapped-kind s index z k h))
     (λ d. let h : length table ≤ k = omega (arith, ltb-false k 32 d) in rw (List·getD-eq-default table 0 h) (omega arith))
 
 -- known_at

@@ -10,4 +10,4 @@ pub mod Cuts
 pub mod Rising
 pub mod IndexedItems
 pub mod Accepted
-pub mod Front
+pub mod Uses

@@ -4,7 +4,7 @@ use mathlib.Core.Bool.{Bool, true, false, _&&_, _||_}
 use mathlib.Core.List.{List}
 use Prim.Native.Nat.{ℕ}
 use Rattle.fields.specs.Keyed.{rising}
-use Rattle.fields.specs.Inner.Places.{places, keyAt}
+use Rattle.fields.specs.Inner.Places.{places, keyAt, orderAt}
 use Rattle.fields.proofs.Truth.{and-both}
 use Rattle.language.specs.Language.{clashes}
 use Rattle.language.specs.Inner.Entries.{resultIsClass}
@@ -18,7 +18,7 @@ use Rattle.translation.proofs.Items.{holds-items, rising-is as items-ri
 
 module _ (s t b : List ℕ) (f : Translation) (w : Pieces s t b f) where
   -- The order of all keys, by the walk over the three parts.
-  rising-three : (rising (keyAt 0x11 s) (places s) && (rising (keyAt 0x11 t) (places t) && rising (keyAt 0x22 b) (places b))) ≡ allRising f
+  rising-three : (rising (keyAt 0x11 s) (places s) && (rising (keyAt 0x11 t) (places t) && rising (orderAt 0x22 b) (places b))) ≡ allRising f
   unfolding allRising
   rising-three =
       rw (
@@ -29,8 +29,8 @@ module _ (s t b : List ℕ) (f : Translation) (w : Pieces s t b f) where
 
   pub both-rise : allRising f ≡ true → (rising (keyAt 0x11 s) (places s) ≡ true) × (rising (keyAt 0x11 t) (places t) ≡ true)
   both-rise h =
-      let u = and-both (rising (keyAt 0x11 s) (places s)) (rising (keyAt 0x11 t) (places t) && rising (keyAt 0x22 b) (places b)) (rising-three ∙ h) in
-      let v = and-both (rising (keyAt 0x11 t) (places t)) (rising (keyAt 0x22 b) (places b)) (u .1) in
+      let u = and-both (rising (keyAt 0x11 s) (places s)) (rising (keyAt 0x11 t) (places t) && rising (orderAt 0x22 b) (places b)) (rising-three ∙ h) in
+      let v = and-both (rising (keyAt 0x11 t) (places t)) (rising (orderAt 0x22 b) (places b)) (u .1) in
       (u .0, v .0)
 
   -- in_order
@@ -42,7 +42,7 @@ module _ (s t b : List ℕ) (f : Translation) (w : Pieces s t b f) where
       pub order-target : y ≡ false → false ≡ allRising f
       order-target h = rw (← ex, xt, ← ey, h) at rising-three
 
-      pub order-body : y ≡ true → (z : Bool) → z ≡ rising (keyAt 0x22 b) (places b) → z ≡ allRising f
+      pub order-body : y ≡ true → (z : Bool) → z ≡ rising (orderAt 0x22 b) (places b) → z ≡ allRising f
       order-body h z ez = rw (← ex, xt, ← ey, h, ← ez) at rising-three
 
   -- Clashes, by the walk over the two languages.

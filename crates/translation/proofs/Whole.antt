@@ -10,7 +10,7 @@ use lib.Seq.{slice}
 use lib.Dec.{eqb}
 use borrow.Author.Tests.{lt-ltb, eq-eqb, eqb-true, eqb-false, ltb-true}
 use Rattle.fields.specs.Lists.{all}
-use Rattle.fields.specs.Inner.Places.{fieldEnd, longAt, placesFrom, places, keyAt}
+use Rattle.fields.specs.Inner.Places.{fieldEnd, longAt, placesFrom, places}
 use Rattle.fields.proofs.Truth.{by-test, all-mem, mem-all}
 use Rattle.fields.proofs.Lists.{all-true, part-next}
 use Rattle.fields.proofs.Places.{every-here}
@@ -18,7 +18,7 @@ use Rattle.language.specs.LanguageFile.{isKind}
 use Rattle.language.specs.Inner.Entries.{entryWhole, IsProduction}
 use Rattle.language.proofs.Facts.{entry-facts}
 use Rattle.reader.specs.Inner.Positions.{KindsIn}
-use Rattle.translation.specs.Inner.Items.{itemWhole, IsClause}
+use Rattle.translation.specs.Inner.Items.{itemWhole, IsClause, ItemFacts, plain-mapping, plain-clause, numbered-mapping, numbered-clause}
 use Rattle.translation.proofs.Items.{item-facts}
 
 -- A walk over kinds.
@@ -60,21 +60,13 @@ module _ (s : List ℕ) (p : ℕ) (whole : all (entryWhole s) (placesFrom s p) �
 
 -- A whole item has its first five bytes.
 pub item-long : (b : List ℕ) (p : ℕ) → itemWhole b p ≡ true → p + 4 < length b
-item-long b p w =
-    ⊎-elim
-    (λ m. let f = m .fits in omega arith)
-    (λ c. let f = c .past in let g = c .ends in omega arith)
-    (item-facts b p w)
-
--- A clause's result is a kind, and its code may be cut out.
-pub result-kind : (b : List ℕ) (p k : ℕ) → IsClause b p → k ≡ getD b (p + 3) 0 → k < 32
-result-kind b p k c e = rw e (c .result)
-
-pub code-cut : (b : List ℕ) (p e : ℕ) → IsClause b p → e ≡ fieldEnd b p → (p + 5 ≤ e) × (e ≤ length b)
-code-cut b p e c ee = (rw ee (c .past), rw ee (c .ends))
-
-pub other-clause : (b : List ℕ) (p tag : ℕ) → tag ≡ getD b p 0 → itemWhole b p ≡ true → (tag ≡ 0x22 → ⊥) → IsClause b p
-other-clause b p tag et w h = ⊎-elim (λ m. absurd (h (et ∙ m .tag))) (λ c. c) (item-facts b p w)
+item-long b p w = go (item-facts b p w)
+  where
+    go : ItemFacts b p → p + 4 < length b
+    go (plain-mapping m) = let f = m .fits in omega arith
+    go (plain-clause c) = let f = c .past in let g = c .ends in omega arith
+    go (numbered-mapping m) = let f = m .fits in omega arith
+    go (numbered-clause c) = let f = c .past in let g = c .ends in omega arith
 
 -- A walk over whole items: the one at p, and those after it.
 module _ (s : List ℕ) (p : ℕ) (whole : all (itemWhole s) (placesFrom s p) ≡ true) (e : ℕ) (ee : e ≡ fieldEnd s p) (here : p < length s) where
@@ -83,12 +75,6 @@ module _ (s : List ℕ) (p : ℕ) (whole : all (itemWhole s) (placesFrom s p) �
 
   pub items-on : all (itemWhole s) (placesFrom s e) ≡ true
   items-on = rw ee (every-here (itemWhole s) s p whole here .1)
-
--- A whole item with the key of a clause is one.
-pub clause-here : (b : List ℕ) (p : ℕ) → itemWhole b p ≡ true → 32 ≤ keyAt 0x22 b p → IsClause b p
-unfolding keyAt
-clause-here b p w h =
-    ⊎-elim (λ c. let k = c .source in let e : keyAt 0x22 b p ≡ getD b (p + 3) 0 = cc (eq-eqb _ _ (c .tag)) in absurd (omega arith)) (λ c. c) (item-facts b p w)
 
 -- Whole items have their first five bytes.
 pub items-long : (s : List ℕ) → all (itemWhole s) (places s) ≡ true → all (longAt s) (places s) ≡ true

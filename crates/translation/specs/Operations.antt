@@ -1,13 +1,16 @@
 -- The operations on translations (paper 01, "Operations and their refusals").
 use Prim.Native.Nat.{ℕ}
+use mathlib.Core.Bool.{not}
 use mathlib.Core.List.{List}
 use lib.ListN.{length}
 use lib.Dec.{ltb}
 use Rattle.fields.specs.Outcome.{Result, value, refuseIf, _>>=_, checked, written, outputAfter}
 use Rattle.fields.specs.declared.outcome.Outcome.{Outcome}
-use Rattle.fields.specs.declared.outcome.Reason.the-variants.{OutputTooShort}
+use Rattle.fields.specs.declared.outcome.Reason.the-variants.{UnknownRoot, OutputTooShort}
+use Rattle.fields.specs.Lists.{isSome}
 use Rattle.reader.specs.Syntax.{write, tree}
 use Rattle.reader.specs.Operations.{treeOf}
+use Rattle.translation.specs.Translation.{mappingOf}
 use Rattle.translation.specs.Running.{transform}
 use Rattle.translation.specs.TranslationFile.{translationOf}
 
@@ -19,12 +22,14 @@ checkTranslation translation = checked (translationOf translation)
 abbrev pub fitted : ℕ → List ℕ → Result (List ℕ)
 fitted room bytes = refuseIf (ltb room (length bytes)) OutputTooShort (value bytes)
 
--- Run: 1 to 7, 14 to 16 against the source, 17; then the bytes of the tree that the clauses define.
-unfoldable pub runBytes : List ℕ → ℕ → List ℕ → ℕ → Result (List ℕ)
-runBytes translation root bytes room =
+-- Run by a number: 1 to 7, 14 for a root that is not in the source or lacks the number, 15 and 16, 17; then the bytes of the
+-- tree that the clauses define.
+unfoldable pub runBytes : List ℕ → ℕ → ℕ → List ℕ → ℕ → Result (List ℕ)
+runBytes translation root number bytes room =
     translationOf translation >>= λ f.
-    treeOf (f .source) root bytes >>= λ t.
-    fitted room (write tree (transform f t))
+    refuseIf (not (isSome (mappingOf (f .body) root number))) UnknownRoot
+    (treeOf (f .source) root bytes >>= λ t.
+    fitted room (write tree (transform f number t)))
 
 -- All that a run answers and leaves.
 pub record Ran : Type 0 where
@@ -32,7 +37,7 @@ pub record Ran : Type 0 where
   pub output : List ℕ
 
 -- Run, with the output as it is lent.
-unfoldable pub runTree : List ℕ → ℕ → List ℕ → List ℕ → Ran
-runTree translation root bytes output =
-    let result = runBytes translation root bytes (length output) in
+unfoldable pub runTree : List ℕ → ℕ → ℕ → List ℕ → List ℕ → Ran
+runTree translation root number bytes output =
+    let result = runBytes translation root number bytes (length output) in
     record { outcome = written result; output = outputAfter output result }

@@ -1,5 +1,6 @@
--- A translation in bytes (paper 01, "Translations", fields 20 to 23; "Check a translation").
-use Prim.Native.Nat.{ℕ}
+-- A translation in bytes (paper 01, "Translations", fields 20 to 23; "Check a translation"; fields 28 and 29, paper 02,
+-- 2026-13).
+use Prim.Native.Nat.{ℕ, zero, suc}
 use mathlib.Core.Bool.{Bool, true, false, cond, not, _&&_, _||_}
 use mathlib.Core.List.{List, [], _∷_, map}
 use mathlib.Core.Option.{Option, none, some}
@@ -15,30 +16,54 @@ use Rattle.language.specs.LanguageFile.{isKind, entriesOf, encodeLanguage, lang
 use Rattle.translation.specs.Translation.{Item, mapping, clause, Body, Translation, itemKey}
 use Rattle.translation.specs.WellFormed.{wellFormed}
 
--- Field 22, length 2: source kind, target kind.
+-- Field 22, length 2: source kind, target kind; its number is 0.
 unfoldable pub mappingField : List ℕ → Option Item
 mappingField c =
     cond (eqb (length c) 2 && (isKind (byteAt c 0) && isKind (byteAt c 1)))
-    (some (mapping (byteAt c 0) (byteAt c 1)))
+    (some (mapping (byteAt c 0) 0 (byteAt c 1)))
     none
 
--- Field 23, length 2 or more: result, name, code.
+-- A number that is written: 1 to 255.
+abbrev pub isNumber : ℕ → Bool
+isNumber n = ltb 0 n && ltb n 256
+
+-- Field 28, length 3: source kind, number, which is not 0, target kind.
+unfoldable pub numberedMapping : List ℕ → Option Item
+numberedMapping c =
+    cond (eqb (length c) 3 && (isKind (byteAt c 0) && (isNumber (byteAt c 1) && isKind (byteAt c 2))))
+    (some (mapping (byteAt c 0) (byteAt c 1) (byteAt c 2)))
+    none
+
+-- Field 23, length 2 or more: result, name, code; its number is 0.
 unfoldable pub clauseField : List ℕ → Option Item
-clauseField c = cond (leb 2 (length c) && isKind (byteAt c 0)) (some (clause (byteAt c 0) (byteAt c 1) (drop 2 c))) none
+clauseField c = cond (leb 2 (length c) && isKind (byteAt c 0)) (some (clause (byteAt c 0) (byteAt c 1) 0 (drop 2 c))) none
+
+-- Field 29, length 3 or more: result, name, number, which is not 0, code.
+unfoldable pub numberedClause : List ℕ → Option Item
+numberedClause c =
+    cond (leb 3 (length c) && (isKind (byteAt c 0) && isNumber (byteAt c 2)))
+    (some (clause (byteAt c 0) (byteAt c 1) (byteAt c 2) (drop 3 c)))
+    none
 
 -- The item of a field, by its tag.
 unfoldable pub itemOf : Field → Option Item
-itemOf (field tag c) = cond (eqb tag 0x22) (mappingField c) (cond (eqb tag 0x23) (clauseField c) none)
+itemOf (field tag c) =
+    cond (eqb tag 0x22) (mappingField c)
+    (cond (eqb tag 0x23) (clauseField c)
+    (cond (eqb tag 0x28) (numberedMapping c)
+    (cond (eqb tag 0x29) (numberedClause c) none)))
 
--- The field of an item.
+-- The field of an item: number 0 is not written.
 unfoldable pub itemField : Item → Field
-itemField (mapping s t) = field 0x22 (s ∷ t ∷ [])
-itemField (clause r p code) = field 0x23 (r ∷ p ∷ code)
+itemField (mapping s zero t) = field 0x22 (s ∷ t ∷ [])
+itemField (mapping s (suc j) t) = field 0x28 (s ∷ suc j ∷ t ∷ [])
+itemField (clause r p zero code) = field 0x23 (r ∷ p ∷ code)
+itemField (clause r p (suc j) code) = field 0x29 (r ∷ p ∷ suc j ∷ code)
 
 -- No mapping stands after a clause.
 abbrev pub isClause : Item → Bool
-isClause (mapping s t) = false
-isClause (clause r p code) = true
+isClause (mapping s j t) = false
+isClause (clause r p j code) = true
 
 -- The items stand in their groups; the first argument says whether a clause has come.
 unfoldable pub grouped : Bool → List Item → Bool
@@ -50,7 +75,7 @@ abbrev pub inGroups : Option Body → Option Body
 inGroups none = none
 inGroups (some b) = cond (grouped false b) (some b) none
 
--- The items of fields 22, then fields 23: none where a field is broken or stands in the wrong group.
+-- The items of fields 22 and 28, then fields 23 and 29: none where a field is broken or stands in the wrong group.
 unfoldable pub itemsIn : List Field → Option Body
 itemsIn fs = inGroups (traverse itemOf fs)
 

@@ -6,17 +6,19 @@ ghost use Rattle.fields.specs.Lists.{isSome};
 ghost use Rattle.fields.specs.Inner.Places.{WholeEnd};
 ghost use Rattle.language.specs.Inner.Entries.{sizeAt};
 ghost use Rattle.translation.specs.TranslationFile.{bodyOf};
-ghost use Rattle.translation.specs.Inner.Items.{mappingWhole, clauseWhole, itemGood};
+ghost use Rattle.translation.specs.Inner.Items.{mappingWhole, numberedMappingWhole, clauseWhole, numberedClauseWhole, itemGood, isClauseTag};
+use fields::walk::MAPPING;
+use fields::walk::NUMBERED;
 use fields::walk::end_if_whole;
 use language::entries::KINDS;
 
-// The tag of a mapping.
-pub const MAPPING: u8 = 0x22;
-
-// The tag of a clause.
+// The tag of a clause of number 0.
 pub const CLAUSE: u8 = 0x23;
 
-// The contents of the whole field at p, n bytes, are those of a mapping: source kind, target kind.
+// The tag of a clause of another number.
+pub const NUMBERED_CLAUSE: u8 = 0x29;
+
+// The contents of the whole field at p, n bytes, are those of a mapping by number 0: source kind, target kind.
 fn mapping_whole(s: &[u8], p: usize, n: usize) -> bool
     requires { ⌜ (p + 3 + n ≤ length (now s)) × (n ≡ sizeAt (now s) p) ⌝ }
     ensures { λ r. ⌜ r ≡ mappingWhole (now (s .entry)) p ⌝ }
@@ -30,7 +32,7 @@ fn mapping_whole(s: &[u8], p: usize, n: usize) -> bool
     s[p + 4] < KINDS
 }
 
-// The contents of the whole field at p, n bytes, are those of a clause: result, name, code.
+// The contents of the whole field at p, n bytes, are those of a clause of number 0: result, name, code.
 fn clause_whole(s: &[u8], p: usize, n: usize) -> bool
     requires { ⌜ (p + 3 + n ≤ length (now s)) × (n ≡ sizeAt (now s) p) ⌝ }
     ensures { λ r. ⌜ r ≡ clauseWhole (now (s .entry)) p ⌝ }
@@ -39,6 +41,37 @@ fn clause_whole(s: &[u8], p: usize, n: usize) -> bool
         return false;
     }
     s[p + 3] < KINDS
+}
+
+// They are those of a mapping by another number: source kind, number, target kind.
+fn numbered_mapping_whole(s: &[u8], p: usize, n: usize) -> bool
+    requires { ⌜ (p + 3 + n ≤ length (now s)) × (n ≡ sizeAt (now s) p) ⌝ }
+    ensures { λ r. ⌜ r ≡ numberedMappingWhole (now (s .entry)) p ⌝ }
+{
+    if n != 3 {
+        return false;
+    }
+    if KINDS <= s[p + 3] {
+        return false;
+    }
+    if s[p + 4] == 0 {
+        return false;
+    }
+    s[p + 5] < KINDS
+}
+
+// They are those of a clause of another number: result, name, number, code.
+fn numbered_clause_whole(s: &[u8], p: usize, n: usize) -> bool
+    requires { ⌜ (p + 3 + n ≤ length (now s)) × (n ≡ sizeAt (now s) p) ⌝ }
+    ensures { λ r. ⌜ r ≡ numberedClauseWhole (now (s .entry)) p ⌝ }
+{
+    if n < 3 {
+        return false;
+    }
+    if KINDS <= s[p + 3] {
+        return false;
+    }
+    0 < s[p + 5]
 }
 
 // The whole field at p, which ends at e, is an item.
@@ -54,14 +87,30 @@ fn item_good(s: &[u8], p: usize, e: usize) -> bool
     if tag == CLAUSE {
         return clause_whole(s, p, n);
     }
+    if tag == NUMBERED {
+        return numbered_mapping_whole(s, p, n);
+    }
+    if tag == NUMBERED_CLAUSE {
+        return numbered_clause_whole(s, p, n);
+    }
     false
+}
+
+// A tag is that of a clause.
+pub fn is_clause(tag: u8) -> bool
+    ensures { λ r. ⌜ r ≡ isClauseTag tag ⌝ }
+{
+    if tag == CLAUSE {
+        return true;
+    }
+    tag == NUMBERED_CLAUSE
 }
 
 // The file is whole items, no mapping after a clause.
 pub fn body_whole(s: &[u8]) -> bool
     ensures { λ r. ⌜ r ≡ isSome (bodyOf (now (s .entry))) ⌝ }
 {
-    let mut last = MAPPING;
+    let mut past = false;
     let mut p = 0;
     while p < s.len() {
         let e = end_if_whole(s, p);
@@ -71,11 +120,13 @@ pub fn body_whole(s: &[u8]) -> bool
         if !item_good(s, p, e) {
             return false;
         }
-        let tag = s[p];
-        if tag < last {
-            return false;
+        let clause = is_clause(s[p]);
+        if past {
+            if !clause {
+                return false;
+            }
         }
-        last = tag;
+        past = clause;
         p = e;
     }
     true

@@ -1,15 +1,19 @@
 // The index of a body, and lookups through it.
 ghost use mathlib.Core.Path.{_≡_};
 ghost use mathlib.Core.Option.{some};
-ghost use Prim.Native.Nat.{ℕ, _<_, _≤_};
+ghost use Prim.Native.Nat.{ℕ, _+_, _<_, _≤_};
 ghost use lib.ListN.{length, getD};
 ghost use Rattle.reader.specs.Inner.Index.{putAt, indexLength};
+ghost use Rattle.reader.specs.Inner.Positions.{usesLength};
 ghost use Rattle.translation.specs.Translation.{Body};
 ghost use Rattle.translation.specs.TranslationFile.{bodyOf};
-ghost use Rattle.translation.specs.Inner.ItemIndex.{SoundKinds, SoundItems, IndexedItems, IndexedKinds, mappedAt, knownAt};
+ghost use Rattle.translation.specs.Inner.ItemIndex.{SoundItems, IndexedItems, Mapped, mappedAt, knownAt};
+use crate::body::is_clause;
 use fields::bytes::byte_at;
 use fields::bytes::to_usize;
+use fields::walk::MAPPING;
 use fields::walk::key_at;
+use fields::walk::order_at;
 use fields::walk::whole_end;
 use reader::index::put_all;
 use reader::node::place_at;
@@ -22,35 +26,37 @@ pub fn build_items(body: &[u8], index: &mut [u16])
     put_all(body, 0x22, index);
 }
 
-// Puts a value at a key that has none yet.
-fn put(index: &mut [u16], key: usize, value: u16)
-    requires { ⌜ key < length (now index) ⌝ }
-    ensures { λ r. ⌜ now (index .exit) ≡ putAt (now (index .entry)) key value ⌝ }
+// Puts a kind plus one at a key that has none yet.
+fn put_use(uses: &mut [u8], key: usize, kind: u8)
+    requires { ⌜ (key < length (now uses)) × (kind < 32) ⌝ }
+    ensures { λ r. ⌜ now (uses .exit) ≡ putAt (now (uses .entry)) key (kind + 1) ⌝ }
 {
-    if index[key] != 0 {
+    if uses[key] != 0 {
         return;
     }
-    index[key] = value;
+    uses[key] = kind + 1;
 }
 
-// Builds the index of the mappings of a body, which stand in front, in a table that is all zero.
-pub fn put_mappings(body: &[u8], index: &mut [u16])
-    requires { ⌜ (length (now body) ≤ 32768) × (length (now index) ≡ 32) × ((j : ℕ) → getD (now index) j 0 ≡ 0) × ((b : Body) × (bodyOf (now body) ≡ some b)) ⌝ }
-    ensures { λ r. ⌜ ((b : Body) → bodyOf (now (body .entry)) ≡ some b → IndexedKinds (now (index .exit)) (now (body .entry)) b) ⌝ }
+// Puts the kind that each kind maps to by each number, plus one, into a table that is all zero. The mappings stand in front,
+// and the last byte of each is its target.
+pub fn put_uses(body: &[u8], uses: &mut [u8])
+    requires { ⌜ (length (now body) ≤ 32768) × (length (now uses) ≡ usesLength) × ((j : ℕ) → getD (now uses) j 0 ≡ 0) × ((b : Body) × (bodyOf (now body) ≡ some b)) ⌝ }
+    ensures { λ r. ⌜ (length (now (uses .exit)) ≡ usesLength) × ((b : Body) → bodyOf (now (body .entry)) ≡ some b → Mapped (now (uses .exit)) b) ⌝ }
 {
     let mut p = 0;
     while p < body.len() {
-        if body[p] != 0x22 {
+        if is_clause(body[p]) {
             return;
         }
-        put(index, to_usize(body[p + 3]), (p + 1) as u16);
-        p = whole_end(body, p);
+        let e = whole_end(body, p);
+        put_use(uses, order_at(body, p, MAPPING), body[e - 1]);
+        p = e;
     }
 }
 
-// The kind that a kind maps to, by an index of the mappings; 0 where it is not mapped.
-pub fn target_kind(body: &[u8], index: &[u16], kind: u8) -> u8
-    requires { ⌜ SoundKinds (now index) (now body) × (kind < 32) ⌝ }
+// The kind that a kind maps to by number 0; 0 where it is not mapped.
+pub fn map_kind(body: &[u8], index: &[u16], kind: u8) -> u8
+    requires { ⌜ SoundItems (now index) (now body) × (kind < 32) ⌝ }
     ensures { λ r. ⌜ (r ≡ mappedAt (now (body .entry)) (now (index .entry)) kind) × (r < 32) ⌝ }
 {
     let place = place_at(index, to_usize(kind));
@@ -60,15 +66,7 @@ pub fn target_kind(body: &[u8], index: &[u16], kind: u8) -> u8
     body[place + 3]
 }
 
-// The kind that a kind maps to; 0 where it is not mapped.
-pub fn map_kind(body: &[u8], index: &[u16], kind: u8) -> u8
-    requires { ⌜ SoundItems (now index) (now body) × (kind < 32) ⌝ }
-    ensures { λ r. ⌜ (r ≡ mappedAt (now (body .entry)) (now (index .entry)) kind) × (r < 32) ⌝ }
-{
-    target_kind(body, index, kind)
-}
-
-// Puts the kind that each kind maps to into a table of 32; 0 where a kind is not mapped.
+// Puts the kind that each kind maps to by number 0 into a table of 32; 0 where a kind is not mapped.
 pub fn map_kinds(body: &[u8], index: &[u16], mapped: &mut [u8])
     requires { ⌜ SoundItems (now index) (now body) × (length (now mapped) ≡ 32) ⌝ }
     ensures { λ r. ⌜ ((k : ℕ) → k < 32 → getD (now (mapped .exit)) k 0 ≡ mappedAt (now (body .entry)) (now (index .entry)) k) × ((k : ℕ) → getD (now (mapped .exit)) k 0 < 32) × (length (now (mapped .exit)) ≡ 32) ⌝ }

@@ -5,7 +5,7 @@ ghost use Rattle.language.specs.Language.{clashes};
 ghost use Rattle.translation.specs.Translation.{Translation};
 ghost use Rattle.translation.specs.TranslationFile.{allRising};
 ghost use Rattle.translation.specs.Inner.Pieces.{Pieces};
-use super::body::MAPPING;
+use fields::walk::MAPPING;
 use fields::walk::keys_rise;
 use language::clash::result_is_class;
 use language::entries::CLASS;

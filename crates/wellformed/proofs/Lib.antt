@@ -1,5 +1,7 @@
 pub mod Marked
-pub mod Mappings
+pub mod Bounds
 pub mod Coded
+pub mod Mappings
+pub mod Wanted
 pub mod Matching
 pub mod Formed

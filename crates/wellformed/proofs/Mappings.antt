@@ -1,49 +1,46 @@
 -- The mapping by place: a law for each return of the functions on it, and what the tests say of the translation.
-use Prim.Native.Nat.{ℕ, zero, suc, _+_, _-_, _<_, _≤_}
+use Prim.Native.Nat.{ℕ, zero, suc, _+_, _-_, _*_, _<_, _≤_}
 use mathlib.Core.Path.{_≡_, refl, sym, ap, _∙_}
-use mathlib.Core.Logic.{_⊎_, inl, inr, ⊎-elim}
-use mathlib.Core.Bool.{Bool, true, false, not, Bool·beq}
+use mathlib.Core.Logic.{inl, inr}
+use mathlib.Core.Bool.{Bool, true, false, not, _&&_, _||_, Bool·beq}
 use mathlib.Core.List.{List, [], _∷_, map}
 use mathlib.Core.Option.{some}
 use native.Mathlib.Omega.{arith}
-use lib.ListN.{length, getD, List·getD-eq-default}
+use lib.ListN.{length, getD}
 use lib.Dec.{eqb}
-use borrow.Author.Tests.{eq-eqb, ne-eqb, eqb-true, eqb-false}
+use borrow.Author.Tests.{eq-eqb, ne-eqb, eqb-true}
 use Rattle.fields.specs.Lists.{all, isSome, countUp}
-use Rattle.fields.specs.Fields.{pairAt}
-use Rattle.fields.specs.Inner.Places.{placesFrom, places, tagIs}
-use Rattle.fields.proofs.Lists.{all-stop, all-next, all-true}
-use Rattle.fields.proofs.Truth.{Mem, by-test, count-mem}
-use Rattle.language.specs.Language.{Entry, Language, rangeWithin, isIn, rangeOf}
-use Rattle.language.specs.LanguageFile.{entriesOf}
-use Rattle.language.specs.Inner.Entries.{entryWhole, entryAt, classRange, IsClass}
-use Rattle.language.proofs.Facts.{entry-facts, class-is, production-is}
-use Rattle.language.proofs.Holds.{holds-entries}
+use Rattle.fields.specs.Inner.Places.{fieldEnd, isWhole, placesFrom, places}
+use Rattle.fields.proofs.Lists.{all-stop, all-next, all-true, all-and}
+use Rattle.fields.proofs.Places.{places-next}
+use Rattle.fields.proofs.Truth.{Mem, by-test, false-true, and-both, count-mem}
+use Rattle.language.specs.Language.{rangeWithin, isIn}
+use Rattle.language.specs.Inner.Entries.{sizeAt, classRange, IsClass}
 use Rattle.reader.specs.Inner.Index.{rangeBefore, Sound}
-use Rattle.translation.specs.Translation.{Item, Body, Translation, mappingOf, mapped}
+use Rattle.reader.specs.Inner.Positions.{kindBefore, mappedIn}
+use Rattle.translation.specs.Translation.{Item, mapping, Body, Translation, mappingOf}
 use Rattle.translation.specs.TranslationFile.{bodyOf}
-use Rattle.translation.specs.WellFormed.{kinds, kindsMapped, reachesTarget, liesIn, classKept, mappingFits}
-use Rattle.translation.specs.Inner.Items.{itemWhole, itemAt}
-use Rattle.translation.specs.Inner.ItemIndex.{targetBefore, mappedAt}
+use Rattle.translation.specs.WellFormed.{kinds, kindsMapped, reachesTarget, keepsRange, classKept, mappingFits}
+use Rattle.translation.specs.Inner.Items.{mappingWhole, numberedMappingWhole, itemGood, itemWhole, itemAt, ItemFacts, plain-mapping, plain-clause, numbered-mapping, numbered-clause, isClauseTag, itemsWhole}
 use Rattle.wellformed.specs.Inner.Ready.{Ready}
-use Rattle.wellformed.specs.Inner.Tests.{mappedIf, reachesAt, rangeKept, keptAt}
-use Rattle.translation.proofs.Items.{item-facts, mapping-is, clause-is, holds-items}
-use Rattle.translation.proofs.IndexedItems.{mapped-in, mapped-kind}
-use Rattle.translation.proofs.Front.{Front, front-clauses}
+use Rattle.wellformed.specs.Inner.Tests.{mappedIf, MapsAt, reachesAt, rangeKept, keptAt, fitsAt, isClauseAt}
+use Rattle.translation.proofs.Items.{item-facts, mapping-is, numbered-mapping-is, holds-items}
+use Rattle.translation.proofs.Uses.{Front}
+use Rattle.wellformed.proofs.Coded.{clause-at}
 
 -- mapped_if
-module _ (index : List ℕ) (table : List Bool) (k : ℕ) where
-  pub if-none : getD index k 0 ≡ 0 → not (getD table k false) ≡ mappedIf index table k
+module _ (u : List ℕ) (table : List Bool) (k : ℕ) where
+  pub if-none : getD u (k * 256) 0 ≡ 0 → not (getD table k false) ≡ mappedIf u table k
   unfolding mappedIf
-  if-none h = rw (eq-eqb (getD index k 0) 0 h) (go (getD table k false))
+  if-none h = rw (eq-eqb (getD u (k * 256) 0) 0 h) (go (getD table k false))
     where
       go : (b : Bool) → not b ≡ Bool·beq false b
       go true = refl
       go false = refl
 
-  pub if-some : (getD index k 0 ≡ 0 → ⊥) → getD table k false ≡ mappedIf index table k
+  pub if-some : (getD u (k * 256) 0 ≡ 0 → ⊥) → getD table k false ≡ mappedIf u table k
   unfolding mappedIf
-  if-some h = rw (ne-eqb (getD index k 0) 0 h) (go (getD table k false))
+  if-some h = rw (ne-eqb (getD u (k * 256) 0) 0 h) (go (getD table k false))
     where
       go : (b : Bool) → b ≡ Bool·beq true b
       go true = refl
@@ -70,64 +67,126 @@ module _ (f : ℕ → Bool) (k : ℕ) (x : Bool) (inv : all f (countUp (32 - k) 
     count-next h = all-next f k _ turn (sym eb ∙ h)
 
 -- reaches_at
-module _ (s : List ℕ) (p tag : ℕ) (table : List Bool) (et : tag ≡ getD s p 0) where
-  pub reaches-other : (tag ≡ 0x22 → ⊥) → true ≡ reachesAt s table p
+module _ (b : List ℕ) (p : ℕ) (marked reached : List Bool) (i : ℕ) (ei : i ≡ getD b (p + 3) 0) where
+  pub reaches-not : getD marked i false ≡ false → false ≡ reachesAt b marked reached p
   unfolding reachesAt
-  reaches-other h = cc (ne-eqb tag 0x22 h)
+  reaches-not h = cc
 
-  module _ (here : tag ≡ 0x22) (k : ℕ) (ek : k ≡ getD s (p + 4) 0) where
-    pub reaches-in : getD table k false ≡ reachesAt s table p
-    unfolding reachesAt
-    reaches-in = cc (eq-eqb tag 0x22 here)
+  pub reaches-both : getD marked i false ≡ true → (e : ℕ) → e ≡ fieldEnd b p → (j : ℕ) → j ≡ getD b (e - 1) 0
+      → getD reached j false ≡ reachesAt b marked reached p
+  unfolding reachesAt
+  reaches-both h e ee j ej = cc
 
-    pub reaches-out : length table ≤ k → false ≡ reachesAt s table p
-    reaches-out h = sym (List·getD-eq-default {A = Bool} table false {n = k} h) ∙ reaches-in
+pub target-below : (b : List ℕ) (p e j n : ℕ) → MapsAt b p → e ≡ fieldEnd b p → j ≡ getD b (e - 1) 0 → n ≡ 32 → j < n
+target-below b p e j n m ee ej en =
+    let i : j ≡ getD b (fieldEnd b p - 1) 0 = ej ∙ ap (λ (x : ℕ). getD b (x - 1) 0) ee in
+    rw (i, en) (m .target)
 
 -- range_kept
-module _ (s : List ℕ) (p : ℕ) (t : List ℕ) (place : ℕ) where
-  pub range-none : place ≡ 0 → false ≡ rangeKept s p t place
+module _ (s : List ℕ) (place : ℕ) (t : List ℕ) (goal : ℕ) where
+  pub range-free : place ≡ 0 → true ≡ rangeKept s place t goal
   unfolding rangeKept
-  range-none h = cc
+  range-free h = cc
 
-  pub range-there : (place ≡ 0 → ⊥) → (x : Bool) → x ≡ rangeWithin (classRange s p) (classRange t (place - 1)) → x ≡ rangeKept s p t place
+  pub range-none : (place ≡ 0 → ⊥) → goal ≡ 0 → false ≡ rangeKept s place t goal
   unfolding rangeKept
-  range-there h x ex = cc (ne-eqb place 0 h)
+  range-none h k = cc (ne-eqb place 0 h)
+
+  pub range-there : (place ≡ 0 → ⊥) → (goal ≡ 0 → ⊥) → (x : Bool) → x ≡ rangeWithin (classRange s (place - 1)) (classRange t (goal - 1))
+      → x ≡ rangeKept s place t goal
+  unfolding rangeKept
+  range-there h k x ex = cc (ne-eqb place 0 h, ne-eqb goal 0 k)
 
 -- kept_at
-module _ (s t it b ib : List ℕ) (p tag : ℕ) (et : tag ≡ getD s p 0) where
-  pub kept-other : (tag ≡ 0x11 → ⊥) → true ≡ keptAt s t it b ib p
-  unfolding keptAt
-  kept-other h = cc (ne-eqb tag 0x11 h)
-
-  pub kept-class : tag ≡ 0x11 → (k place : ℕ) → k ≡ mappedAt b ib (getD s (p + 3) 0) → place ≡ getD it k 0
-      → (x : Bool) → x ≡ rangeKept s p t place → x ≡ keptAt s t it b ib p
-  unfolding keptAt
-  kept-class h k place ek ep x ex = cc (eq-eqb tag 0x11 h)
-
-  pub kept-whole : entryWhole s p ≡ true → tag ≡ 0x11 → IsClass s p
-  kept-whole w h = ⊎-elim (λ c. c) (λ c. absurd (omega (arith, et, h, c .tag))) (entry-facts s p w)
-
-  pub kept-kind : entryWhole s p ≡ true → (k : ℕ) → k ≡ getD s (p + 3) 0 → k < 32
-  kept-kind w k e = rw e (⊎-elim (λ c. c .kind) (λ c. c .kind) (entry-facts s p w))
+pub kept-is : (s is t it b : List ℕ) (p e : ℕ) → e ≡ fieldEnd b p → (i place j goal : ℕ) → i ≡ getD b (p + 3) 0 → place ≡ getD is i 0
+    → j ≡ getD b (e - 1) 0 → goal ≡ getD it j 0 → (x : Bool) → x ≡ rangeKept s place t goal → x ≡ keptAt s is t it b p
+unfolding keptAt
+kept-is s is t it b p e ee i place j goal ei ep ej eg x ex = cc
 
 -- The place of a class is that of a whole one.
-pub place-in : (it t : List ℕ) → Sound it t → (k place : ℕ) → k < 32 → place ≡ getD it k 0 → 0 < place → IsClass t (place - 1)
-place-in it t z k place h e i = rw e (z .class k h (rw e at i))
+pub place-in : (it t : List ℕ) → Sound it t → (i k place : ℕ) → i ≡ k → k < 32 → place ≡ getD it i 0 → 0 < place → IsClass t (place - 1)
+place-in it t z i k place ei h e j =
+    let d : place ≡ getD it k 0 = e ∙ ap (λ (x : ℕ). getD it x 0) ei in
+    rw d (z .class k h (rw d at j))
+
+-- The mapping at p, by its place.
+module _ (b : List ℕ) (p : ℕ) (w : itemWhole b p ≡ true) where
+  ends-plain : getD b p 0 ≡ 0x22 → fieldEnd b p ≡ p + 5
+  unfolding itemWhole itemGood mappingWhole fieldEnd
+  ends-plain t =
+      let a = and-both (isWhole b p) (itemGood b p) w in
+      let q : mappingWhole b p ≡ true = rw t at (a .1) in
+      let c = and-both (eqb (sizeAt b p) 2) _ q in
+      let n = eqb-true (sizeAt b p) 2 (c .0) in
+      omega arith
+
+  ends-numbered : getD b p 0 ≡ 0x28 → fieldEnd b p ≡ p + 6
+  unfolding itemWhole itemGood numberedMappingWhole fieldEnd
+  ends-numbered t =
+      let a = and-both (isWhole b p) (itemGood b p) w in
+      let q : numberedMappingWhole b p ≡ true = rw t at (a .1) in
+      let c = and-both (eqb (sizeAt b p) 3) _ q in
+      let n = eqb-true (sizeAt b p) 3 (c .0) in
+      omega arith
+
+  pub mapping-at : isClauseTag (getD b p 0) ≡ false
+      → MapsAt b p × (j : ℕ) × (itemAt b p ≡ mapping (getD b (p + 3) 0) j (getD b (fieldEnd b p - 1) 0))
+  mapping-at t = go (item-facts b p w)
+    where
+      go : ItemFacts b p → MapsAt b p × (j : ℕ) × (itemAt b p ≡ mapping (getD b (p + 3) 0) j (getD b (fieldEnd b p - 1) 0))
+      go (plain-mapping m) =
+          let e = ends-plain (m .tag) in
+          let i : fieldEnd b p - 1 ≡ p + 4 = omega arith in
+          let g = m .fits in
+          (record { past = omega arith; ends = omega arith; source = m .source; target = rw i (m .target) }, 0, rw i (mapping-is b p m))
+      go (plain-clause m) = false-true (sym (rw (m .tag) at t))
+      go (numbered-mapping m) =
+          let e = ends-numbered (m .tag) in
+          let i : fieldEnd b p - 1 ≡ p + 5 = omega arith in
+          let g = m .fits in
+          (record { past = omega arith; ends = omega arith; source = m .source; target = rw i (m .target) }, getD b (p + 4) 0, rw i (numbered-mapping-is b p m))
+      go (numbered-clause m) = false-true (sym (rw (m .tag) at t))
+
+-- mappings_fit
+module _ (s is t it b : List ℕ) (marked reached : List Bool) where
+  module _ (p : ℕ) (tag : isClauseTag (getD b p 0) ≡ false) (x : Bool) (ex : x ≡ reachesAt b marked reached p) where
+    pub fits-not : x ≡ false → false ≡ fitsAt s is t it b marked reached p
+    unfolding fitsAt
+    fits-not h = rw (tag, ← ex, h)
+
+    pub fits-kept : x ≡ true → (y : Bool) → y ≡ keptAt s is t it b p → y ≡ fitsAt s is t it b marked reached p
+    unfolding fitsAt
+    fits-kept h y ey = rw (tag, ← ex, h) ey
+
+  -- Clauses are left alone.
+  clauses-fit : (l : List ℕ) → itemsWhole b true l ≡ true → all (fitsAt s is t it b marked reached) l ≡ true
+  unfolding all itemsWhole fitsAt
+  clauses-fit [] h = refl
+  clauses-fit (p ∷ l) h =
+      let u = and-both (itemWhole b p && (isClauseTag (getD b p 0) || false)) (itemsWhole b (isClauseTag (getD b p 0)) l) h in
+      let v = and-both (itemWhole b p) (isClauseTag (getD b p 0) || false) (u .0) in
+      let c = only (isClauseTag (getD b p 0)) (v .1) in
+      rw c (clauses-fit l (rw c at (u .1)))
+    where
+      only : (a : Bool) → (a || false) ≡ true → a ≡ true
+      only true e = refl
+      only false e = false-true e
+
+  pub front-fits : (p : ℕ) → Front b p → p < length b → isClauseTag (getD b p 0) ≡ true → (x : Bool)
+      → all (fitsAt s is t it b marked reached) (placesFrom b p) ≡ x → true ≡ x
+  unfolding all itemsWhole fitsAt
+  front-fits p w here c x inv =
+      let u = rw (places-next b p here, c) at w in
+      let v = and-both (itemWhole b p && true) (itemsWhole b true (placesFrom b (fieldEnd b p))) u in
+      sym (clauses-fit (placesFrom b (fieldEnd b p)) (v .1)) ∙ (rw (places-next b p here, c) at inv)
 
 -- What the tests say of the translation.
-all-alike : {A : Type 0} (ok f : ℕ → Bool) (at : ℕ → A) (g : A → Bool) → ((p : ℕ) → ok p ≡ true → f p ≡ g (at p))
+pub all-alike : {A : Type 0} (ok f : ℕ → Bool) (at : ℕ → A) (g : A → Bool) → ((p : ℕ) → ok p ≡ true → f p ≡ g (at p))
     → (l : List ℕ) → all ok l ≡ true → all f l ≡ all g (map at l)
 unfolding all
 all-alike ok f at g same [] h = refl
 all-alike ok f at g same (p ∷ l) h =
     let w = all-true ok p l h in rw (same p (w .0), all-alike ok f at g same l (w .1))
-
--- Tests of the entries of a language, and of the items of a body, by place.
-pub entries-alike : (s : List ℕ) (l : Language) → entriesOf s ≡ some l → (f : ℕ → Bool) (g : Entry → Bool)
-    → ((p : ℕ) → entryWhole s p ≡ true → f p ≡ g (entryAt s p)) → all f (places s) ≡ all g l
-entries-alike s l e f g same =
-    let h = holds-entries s l e in
-    all-alike (entryWhole s) f (entryAt s) g same (places s) (h .whole) ∙ ap (all g) (h .entries)
 
 pub items-alike : (s : List ℕ) (b : Body) → bodyOf s ≡ some b → (f : ℕ → Bool) (g : Item → Bool)
     → ((p : ℕ) → itemWhole s p ≡ true → f p ≡ g (itemAt s p)) → all f (places s) ≡ all g b
@@ -135,87 +194,65 @@ items-alike s b e f g same =
     let h = holds-items s b e in
     all-alike (itemWhole s) f (itemAt s) g same (places s) (h .whole) ∙ ap (all g) (h .items)
 
-module _ (s t it b ib : List ℕ) (f : Translation) (z : Ready s t it b ib f) where
-  -- A kind is looked up if it is mapped.
-  is-there : (place k : ℕ) → mappingOf (f .body) k ≡ targetBefore b place → not (eqb place 0) ≡ isSome (mappingOf (f .body) k)
-  is-there zero k e = rw e
-  is-there (suc p) k e = rw (e, ne-eqb (suc p) 0 (λ h. omega arith))
+range-same : (s : List ℕ) (place : ℕ) (t : List ℕ) (goal : ℕ) → rangeKept s place t goal ≡ keepsRange (rangeBefore s place) (rangeBefore t goal)
+unfolding rangeKept
+range-same s zero t goal = refl
+range-same s (suc p) t zero = rw (ne-eqb (suc p) 0 (λ h. omega arith))
+range-same s (suc p) t (suc q) =
+    let i : suc p - 1 ≡ p = omega arith in
+    let j : suc q - 1 ≡ q = omega arith in
+    rw (ne-eqb (suc p) 0 (λ h. omega arith), ne-eqb (suc q) 0 (λ h. omega arith), i, j)
 
-  module _ (table : List Bool) (et : (k : ℕ) → k < 32 → getD table k false ≡ isIn (f .source) k) where
-    pub mapped-test : all (mappedIf ib table) (countUp 32 0) ≡ kindsMapped f
+module _ (s is t it b u : List ℕ) (f : Translation) (z : Ready s is t it b u f) where
+  -- A kind has an entry by number 0 if it is mapped by it.
+  is-there : (k : ℕ) → k < 32 → not (eqb (getD u (k * 256) 0) 0) ≡ isSome (mappingOf (f .body) k 0)
+  unfolding mappedIn
+  is-there k h =
+      let i : k * 256 + 0 ≡ k * 256 = omega arith in
+      let e : kindBefore (getD u (k * 256) 0) ≡ mappingOf (f .body) k 0 = rw i at (z .uses .is k 0 h (omega arith)) in
+      rw (← e) (go (getD u (k * 256) 0))
+    where
+      go : (x : ℕ) → not (eqb x 0) ≡ isSome (kindBefore x)
+      go zero = refl
+      go (suc x) = rw (ne-eqb (suc x) 0 (λ h. omega arith))
+
+  module _ (marked : List Bool) (em : (k : ℕ) → k < 32 → getD marked k false ≡ isIn (f .source) k) where
+    mapped-test : all (mappedIf u marked) (countUp 32 0) ≡ kindsMapped f
     unfolding kindsMapped kinds mappedIf all
     mapped-test = on (countUp 32 0) (λ k m. count-mem 32 0 k m .1)
       where
         on : (l : List ℕ) → ((k : ℕ) → Mem k l → k < 32)
-            → all (λ k. Bool·beq (not (eqb (getD ib k 0) 0)) (getD table k false)) l
-            ≡ all (λ k. Bool·beq (isSome (mappingOf (f .body) k)) (isIn (f .source) k)) l
+            → all (λ k. Bool·beq (not (eqb (getD u (k * 256) 0) 0)) (getD marked k false)) l
+            ≡ all (λ k. Bool·beq (isSome (mappingOf (f .body) k 0)) (isIn (f .source) k)) l
         on [] h = refl
         on (k ∷ l) h =
             let i = h k (inl refl) in
-            rw (is-there (getD ib k 0) k (z .body .mapping k i), et k i, on l (λ j m. h j (inr m)))
+            rw (is-there k i, em k i, on l (λ j m. h j (inr m)))
 
-  pub reaches-test : (table : List Bool) → ((k : ℕ) → k < 32 → getD table k false ≡ isIn (f .target) k)
-      → all (reachesAt b table) (places b) ≡ all (reachesTarget f) (f .body)
-  unfolding reachesAt reachesTarget
-  reaches-test table et =
-      items-alike b (f .body) (z .body .items) (reachesAt b table) (reachesTarget f)
-      (λ p w. ⊎-elim
-      (λ m. rw (mapping-is b p m, m .tag) (et (getD b (p + 4) 0) (m .target)))
-      (λ c. rw (clause-is b p c, c .tag))
-      (item-facts b p w))
+    module _ (reached : List Bool) (er : (k : ℕ) → k < 32 → getD reached k false ≡ isIn (f .target) k) where
+      fits-is : (p : ℕ) → itemWhole b p ≡ true
+          → fitsAt s is t it b marked reached p ≡ (reachesTarget f (itemAt b p) && classKept f (itemAt b p))
+      unfolding fitsAt reachesAt keptAt reachesTarget classKept isClauseAt
+      fits-is p w =
+          by-test (isClauseTag (getD b p 0))
+          (λ c. rw (c, clause-at b p (rw (w, c)) .is))
+          (λ c.
+          let (m, j, e) = mapping-at b p w c in
+          let k : ℕ = getD b (p + 3) 0 in
+          let g : ℕ = getD b (fieldEnd b p - 1) 0 in
+          rw (c, e, em k (m .source), er g (m .target), range-same s (getD is k 0) t (getD it g 0), ← z .source .range k (m .source), ← z .target .range g (m .target)))
 
-  range-same : (p place k : ℕ) → rangeOf (f .target) k ≡ rangeBefore t place
-      → rangeKept s p t place ≡ liesIn (classRange s p) (rangeOf (f .target) k)
-  unfolding rangeKept
-  range-same p zero k e = rw e
-  range-same p (suc q) k e = let z : suc q - 1 ≡ q = omega arith in rw (e, ne-eqb (suc q) 0 (λ h. omega arith), z)
+      fits-test : all (fitsAt s is t it b marked reached) (places b) ≡ (all (reachesTarget f) (f .body) && all (classKept f) (f .body))
+      fits-test =
+          items-alike b (f .body) (z .body) (fitsAt s is t it b marked reached) (λ a. reachesTarget f a && classKept f a) fits-is
+          ∙ all-and (reachesTarget f) (classKept f) (f .body)
 
-  pub kept-test : all (keptAt s t it b ib) (places s) ≡ all (classKept f) (f .source)
-  unfolding keptAt classKept
-  kept-test =
-      entries-alike s (f .source) (z .source) (keptAt s t it b ib) (classKept f)
-      (λ p w. ⊎-elim
-      (λ c.
-      let j : ℕ = getD s (p + 3) 0 in
-      let k : ℕ = mapped (f .body) j in
-      let e : mappedAt b ib j ≡ k = mapped-in b ib (f .body) (z .body) j (c .kind) in
-      let i : k < 32 = rw (← e) (mapped-kind b ib (z .body .sound) j (c .kind)) in
-      rw (class-is s p c, c .tag, e) (range-same p (getD it k 0) k (z .target .range k i)))
-      (λ c. rw (production-is s p c, c .tag))
-      (entry-facts s p w))
+      -- mapping_fits
+      pub fits-items : (x : Bool) → x ≡ all (mappedIf u marked) (countUp 32 0) → x ≡ true
+          → (y : Bool) → y ≡ all (fitsAt s is t it b marked reached) (places b) → y ≡ mappingFits f
+      unfolding mappingFits
+      fits-items x ex h y ey = rw (← mapped-test, ← ex, h) (ey ∙ fits-test)
 
-  -- mapping_fits
-  module _ (table : List Bool) (et : (k : ℕ) → k < 32 → getD table k false ≡ isIn (f .source) k)
-      (x : Bool) (ex : x ≡ all (mappedIf ib table) (countUp 32 0)) where
-    first-test : kindsMapped f ≡ x
-    first-test = sym (ex ∙ mapped-test table et)
-
-    pub fits-kinds : x ≡ false → false ≡ mappingFits f
+    pub fits-kinds : (x : Bool) → x ≡ all (mappedIf u marked) (countUp 32 0) → x ≡ false → false ≡ mappingFits f
     unfolding mappingFits
-    fits-kinds h = rw (first-test, h)
-
-    module _ (xt : x ≡ true) (marks : List Bool) (em : (k : ℕ) → k < 32 → getD marks k false ≡ isIn (f .target) k)
-        (y : Bool) (ey : y ≡ all (reachesAt b marks) (places b)) where
-      second-test : all (reachesTarget f) (f .body) ≡ y
-      second-test = sym (ey ∙ reaches-test marks em)
-
-      pub fits-targets : y ≡ false → false ≡ mappingFits f
-      unfolding mappingFits
-      fits-targets h = rw (first-test, xt, second-test, h)
-
-      pub fits-classes : y ≡ true → (c : Bool) → c ≡ all (keptAt s t it b ib) (places s) → c ≡ mappingFits f
-      unfolding mappingFits
-      fits-classes h c ec = rw (first-test, xt, second-test, h) (ec ∙ kept-test)
-
--- targets_marked: clauses are left alone
-reached : (s : List ℕ) (kinds : List Bool) (l : List ℕ) → all (tagIs 0x23 s) l ≡ true → all (reachesAt s kinds) l ≡ true
-unfolding all reachesAt
-reached s kinds [] h = refl
-reached s kinds (p ∷ l) h =
-    let w = all-true (tagIs 0x23 s) p l h in
-    let n : getD s p 0 ≡ 0x22 → ⊥ = λ y. omega (arith, y, eqb-true (getD s p 0) 0x23 (w .0)) in
-    rw (ne-eqb _ _ n) (reached s kinds l (w .1))
-
-pub front-reached : (s : List ℕ) (p : ℕ) → Front s p → p < length s → (kinds : List Bool) (x : Bool) → all (reachesAt s kinds) (placesFrom s p) ≡ x
-    → (getD s p 0 ≡ 0x22 → ⊥) → true ≡ x
-front-reached s p w here kinds x inv h = sym (reached s kinds (placesFrom s p) (front-clauses s p w here h)) ∙ inv
+    fits-kinds x ex h = rw (← mapped-test, ← ex, h)

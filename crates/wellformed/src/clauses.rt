@@ -1,47 +1,75 @@
-// Source productions and clauses side by side: both stand by rising key, so that each clause is found beside its
-// production.
+// Source productions and clauses side by side: both stand by rising key, so that the clauses of a production, one for each
+// number of its result, are found beside it. The mappings of the results stand by rising kind too.
 ghost use mathlib.Core.Path.{_≡_};
 ghost use mathlib.Core.Bool.{true};
-ghost use Rattle.fields.specs.Inner.Places.{placesFrom};
+ghost use Prim.Native.Nat.{_<_};
+ghost use Rattle.fields.specs.Inner.Places.{placesFrom, longAt};
 ghost use Rattle.fields.specs.Lists.{all};
-ghost use Rattle.language.specs.Inner.Entries.{entryWhole};
-ghost use Rattle.translation.specs.Inner.Items.{itemWhole};
-ghost use Rattle.wellformed.specs.Inner.Matching.{Skipped, keysMatch};
-use fields::walk::field_end;
+ghost use Rattle.wellformed.specs.Inner.Matching.{Skipped, keysMatch, Sides, Asked, Cleared};
+use fields::bytes::to_usize;
+use fields::walk::MAPPING;
+use fields::walk::order_at;
 use fields::walk::whole_end;
 use fields::walk::whole_key;
+use language::entries::CLASS;
 
-// The place of the first field that is not of the tag.
-pub fn skip(s: &[u8], tag: u8) -> usize
-    ensures { λ r. ⌜ Skipped tag (now (s .entry)) r ⌝ }
+// The place of the first entry from p on whose key is not below `least`.
+pub fn skip_below(s: &[u8], p: usize, leading_tag: u8, least: usize) -> usize
+    requires { ⌜ all (longAt (now s)) (placesFrom (now s) p) ≡ true ⌝ }
+    ensures { λ r. ⌜ Skipped «leading_tag» least (now (s .entry)) p r ⌝ }
 {
-    let mut p = 0;
-    while p < s.len() {
-        if s[p] != tag {
-            return p;
+    let mut q = p;
+    while q < s.len() {
+        if least <= order_at(s, q, leading_tag) {
+            return q;
         }
-        p = field_end(s, p);
+        q = whole_end(s, q);
     }
-    p
+    q
 }
 
-// The productions from q on and the clauses from p on have the same keys, one for one.
+// Where the clauses from p on of a production end, one for each mapping of its result, which stand from m on; past the
+// end where one is missing. Its key is that of the production.
+fn clauses_end(body: &[u8], m: usize, kind: usize, key: usize, p: usize) -> usize
+    requires { ⌜ Asked (now body) m kind p × (key < 65568) ⌝ }
+    ensures { λ r. ⌜ Cleared (now (body .entry)) m kind key p r ⌝ }
+{
+    let first = kind * 256;
+    let mut at = m;
+    let mut to = p;
+    while at < body.len() {
+        let order = order_at(body, at, MAPPING);
+        if first + 256 <= order {
+            return to;
+        }
+        if body.len() <= to {
+            return body.len() + 1;
+        }
+        if order_at(body, to, MAPPING) != key * 256 + (order - first) {
+            return body.len() + 1;
+        }
+        at = whole_end(body, at);
+        to = whole_end(body, to);
+    }
+    to
+}
+
+// The productions from q on have their clauses, one for each number of the result, and there is no other from p on.
 pub fn clauses_match(source: &[u8], q: usize, body: &[u8], p: usize) -> bool
-    requires { ⌜ (all (entryWhole (now source)) (placesFrom (now source) q) ≡ true) × (all (itemWhole (now body)) (placesFrom (now body) p) ≡ true) ⌝ }
+    requires { ⌜ Sides (now source) q (now body) p ⌝ }
     ensures { λ r. ⌜ r ≡ keysMatch (now (source .entry)) q (now (body .entry)) p ⌝ }
 {
     let mut from = q;
     let mut to = p;
-    while to < body.len() {
-        if source.len() <= from {
-            return false; // a clause too many
-        }
-        let key = whole_key(source, from, 0x11);
-        if whole_key(body, to, 0x22) != key {
+    let mut m = 0;
+    while from < source.len() {
+        let kind = to_usize(source[from + 3]);
+        m = skip_below(body, m, MAPPING, kind * 256);
+        to = clauses_end(body, m, kind, whole_key(source, from, CLASS), to);
+        if body.len() < to {
             return false;
         }
         from = whole_end(source, from);
-        to = whole_end(body, to);
     }
-    source.len() <= from
+    body.len() <= to
 }

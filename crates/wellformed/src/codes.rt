@@ -1,48 +1,87 @@
-// The codes: each clause's code is of the kind that its result maps to.
+// The codes: each clause's code is of the kind that its result maps to by its number.
 ghost use mathlib.Core.Path.{_≡_};
-ghost use mathlib.Core.List.{map};
-ghost use Prim.Native.Nat.{_+_, _<_, _≤_};
-ghost use lib.ListN.{length, take};
+ghost use mathlib.Core.Bool.{true};
+ghost use mathlib.Core.List.{[]};
+ghost use mathlib.Core.Option.{Option·getD};
+ghost use Prim.Native.Nat.{ℕ, _<_, _≤_};
+ghost use lib.ListN.{length, getD};
 ghost use lib.Seq.{slice};
-ghost use Rattle.fields.specs.Inner.Places.{fieldEnd};
-ghost use Rattle.fields.specs.Lists.{isSome};
-ghost use Rattle.language.specs.Language.{Language};
+ghost use Rattle.fields.specs.Inner.Places.{fieldEnd, placesFrom};
+ghost use Rattle.fields.specs.Lists.{all, isSome};
+ghost use Rattle.language.specs.Language.{Language, productionKey};
 ghost use Rattle.reader.specs.Syntax.{read as readCode, code};
-ghost use Rattle.reader.specs.Inner.Index.{Sound, Indexed};
-ghost use Rattle.reader.specs.Inner.Positions.{KindsIn};
+ghost use Rattle.reader.specs.Inner.Index.{Sound, Indexed, argumentsBefore};
+ghost use Rattle.reader.specs.Inner.Positions.{usesIn};
 ghost use Rattle.translation.specs.Translation.{Translation};
 ghost use Rattle.translation.specs.Running.{wholeCode, codeLevels};
-ghost use Rattle.translation.specs.WellFormed.{codeFits, codesFit};
+ghost use Rattle.translation.specs.WellFormed.{codeFits};
 ghost use Rattle.translation.specs.Inner.Items.{itemAt};
-ghost use Rattle.translation.specs.Inner.ItemIndex.{SoundKinds, mappedAt};
-ghost use Rattle.wellformed.specs.Inner.Matching.{Corresponding, Matched};
-ghost use Rattle.wellformed.specs.Inner.Tests.{endsAt};
+ghost use Rattle.wellformed.specs.Inner.Ready.{Ready, usesRoom};
+ghost use Rattle.wellformed.specs.Inner.Tests.{endsAt, isClauseAt, ClauseAt, codeStart, clauseNumber, kindIn, Behind};
+use fields::bytes::pair_in;
+use fields::bytes::to_usize;
+use fields::copy::Stored;
+use fields::copy::put;
+use fields::walk::MAPPING;
 use fields::walk::whole_end;
+use fields::walk::whole_key;
 use reader::node::Read;
 use reader::node::Syntax;
+use reader::node::USES;
+use reader::node::place_at;
 use reader::read::read;
-use translation::index::target_kind;
+use translation::body::CLAUSE;
 
-// Puts what the kinds of the source from p up to e map to in front of the table, and says how many they are.
-fn map_part(
-    source: &[u8],
-    p: usize,
-    e: usize,
-    body: &[u8],
-    mapped: &[u16],
-    kinds: &mut [u8],
-) -> usize
-    requires { ⌜ KindsIn (now source) p e × SoundKinds (now mapped) (now body) × (e ≤ p + length (now kinds)) ⌝ }
-    ensures { λ r. ⌜ (take r (now (kinds .exit)) ≡ map (mappedAt (now (body .entry)) (now (mapped .entry))) (slice p e (now (source .entry)))) × (r ≤ length (now (kinds .entry))) ⌝ }
+// Puts the kinds of the arguments of the production of this key behind the uses of the mappings, and says where they end.
+fn put_arguments(source: &[u8], sources: &[u16], key: usize, uses: &mut [u8]) -> usize
+    requires { ⌜ ((l : Language) × Indexed (now sources) (now source) l) × ((k : ℕ) × (n : ℕ) × (k < 32) × (n < 256) × (key ≡ productionKey k n)) × (length (now uses) ≡ usesRoom) ⌝ }
+    ensures { λ r. ⌜ Behind (now (uses .entry)) (now (uses .exit)) (Option·getD (argumentsBefore (now (source .entry)) (getD (now (sources .entry)) key 0)) []) r ⌝ }
 {
-    let mut i = 0;
-    let mut q = p;
-    while q < e {
-        kinds[i] = target_kind(body, mapped, source[q]);
-        i += 1;
-        q += 1;
+    let place = place_at(sources, key);
+    if place == 0 {
+        return USES;
     }
-    i
+    let stop = place + 2 + pair_in(source, place);
+    if stop <= place + 4 {
+        return USES;
+    }
+    let Stored::To(end) = put(source, place + 4, stop, uses, USES) else {
+        return USES;
+    };
+    end
+}
+
+// The number of the clause at p.
+fn clause_number(body: &[u8], p: usize) -> usize
+    requires { ⌜ ClauseAt (now body) p ⌝ }
+    ensures { λ r. ⌜ r ≡ clauseNumber (now (body .entry)) p ⌝ }
+{
+    if body[p] == CLAUSE {
+        return 0;
+    }
+    to_usize(body[p + 5])
+}
+
+// Where the code of the clause at p starts.
+fn code_start(body: &[u8], p: usize) -> usize
+    requires { ⌜ ClauseAt (now body) p ⌝ }
+    ensures { λ r. ⌜ r ≡ codeStart (now (body .entry)) p ⌝ }
+{
+    if body[p] == CLAUSE {
+        return p + 5;
+    }
+    p + 6
+}
+
+// The kind at a key of the uses; 0 where there is none.
+fn kind_in(uses: &[u8], key: usize) -> u8
+    requires { ⌜ key < length (now uses) ⌝ }
+    ensures { λ r. ⌜ r ≡ kindIn (now (uses .entry)) key ⌝ }
+{
+    if uses[key] == 0 {
+        return 0;
+    }
+    uses[key] - 1
 }
 
 // What was read ends at n.
@@ -56,77 +95,82 @@ fn ends_at(read: Read, n: usize) -> bool
     }
 }
 
-// The code of the clause from p up to e, with nothing after it, is of the kind; its arguments are of these kinds.
+// The code from p up to e, with nothing after it, is of the kind; it has these uses.
 fn code_reads(
     target: &[u8],
     targets: &[u16],
-    kinds: &[u8],
+    uses: &[u8],
     kind: u8,
     body: &[u8],
     p: usize,
     e: usize,
 ) -> bool
-    requires { ⌜ (p + 5 ≤ e) × (e ≤ length (now body)) × (kind < 32) × Sound (now targets) (now target) ⌝ }
+    requires { ⌜ (p ≤ e) × (e ≤ length (now body)) × (kind < 32) × Sound (now targets) (now target) ⌝ }
     ensures { λ r. ⌜ ((l : Language) → Indexed (now (targets .entry)) (now (target .entry)) l
-        → r ≡ isSome (wholeCode (readCode code l (now (kinds .entry)) codeLevels kind (slice (p + 5) e (now (body .entry)))))) ⌝ }
+        → r ≡ isSome (wholeCode (readCode code l (usesIn (now (uses .entry))) codeLevels kind (slice p e (now (body .entry)))))) ⌝ }
 {
     let end = read(
         Syntax::Code,
         target,
         targets,
-        kinds,
+        uses,
         kind,
-        &body[p + 5..e],
+        &body[p..e],
         0,
         16,
     );
-    ends_at(end, e - p - 5)
+    ends_at(end, e - p)
 }
 
-// The code of the clause from p up to e, whose production stands at q, is of the kind that its result maps to.
+// The code of the clause from p up to e is of the kind that its result maps to by its number. The kinds of the arguments
+// are left behind the uses of the mappings.
 fn code_typed(
     source: &[u8],
-    q: usize,
+    sources: &[u16],
     target: &[u8],
     targets: &[u16],
     body: &[u8],
     p: usize,
     e: usize,
-    mapped: &[u16],
+    uses: &mut [u8],
 ) -> bool
-    requires { ⌜ (e ≡ fieldEnd (now body) p) × ((f : Translation) × Corresponding (now source) (now target) (now targets) (now body) (now mapped) f q p) ⌝ }
-    ensures { λ r. ⌜ ((f : Translation) → Corresponding (now (source .entry)) (now (target .entry)) (now (targets .entry)) (now (body .entry)) (now (mapped .entry)) f q p
-        → r ≡ codeFits f (itemAt (now (body .entry)) p)) ⌝ }
+    requires { ⌜ (e ≡ fieldEnd (now body) p) × ClauseAt (now body) p × ((f : Translation) × Ready (now source) (now sources) (now target) (now targets) (now body) (now uses) f) ⌝ }
+    ensures { λ r. ⌜ ((f : Translation) → Ready (now (source .entry)) (now (sources .entry)) (now (target .entry)) (now (targets .entry)) (now (body .entry)) (now (uses .entry)) f
+        → (r ≡ codeFits f (itemAt (now (body .entry)) p)) × Ready (now (source .entry)) (now (sources .entry)) (now (target .entry)) (now (targets .entry)) (now (body .entry)) (now (uses .exit)) f) ⌝ }
 {
-    let mut kinds = [0u8; 8];
-    let end = whole_end(source, q);
-    let count = map_part(source, q + 5, end, body, mapped, &mut kinds);
-    let kind = target_kind(body, mapped, body[p + 3]);
-    code_reads(target, targets, &kinds[..count], kind, body, p, e)
+    let kind = kind_in(uses, to_usize(body[p + 3]) * 256 + clause_number(body, p));
+    let end = put_arguments(source, sources, whole_key(body, p, MAPPING), uses);
+    code_reads(
+        target,
+        targets,
+        &uses[..end],
+        kind,
+        body,
+        code_start(body, p),
+        e,
+    )
 }
 
-// Every code fits, of the clauses from p on, whose productions stand from q on.
+// Every code fits, of the clauses from p on.
 pub fn codes_typed(
     source: &[u8],
-    q: usize,
+    sources: &[u16],
     target: &[u8],
     targets: &[u16],
     body: &[u8],
     p: usize,
-    mapped: &[u16],
+    uses: &mut [u8],
 ) -> bool
-    requires { ⌜ ((f : Translation) × Matched (now source) (now target) (now targets) (now body) (now mapped) f q p) ⌝ }
-    ensures { λ r. ⌜ ((f : Translation) → Matched (now (source .entry)) (now (target .entry)) (now (targets .entry)) (now (body .entry)) (now (mapped .entry)) f q p
-        → r ≡ codesFit f) ⌝ }
+    requires { ⌜ (all (isClauseAt (now body)) (placesFrom (now body) p) ≡ true) × ((f : Translation) × Ready (now source) (now sources) (now target) (now targets) (now body) (now uses) f) ⌝ }
+    ensures { λ r. ⌜ ((f : Translation) → Ready (now (source .entry)) (now (sources .entry)) (now (target .entry)) (now (targets .entry)) (now (body .entry)) (now (uses .entry)) f
+        → r ≡ all (λ x. codeFits f (itemAt (now (body .entry)) x)) (placesFrom (now (body .entry)) p)) ⌝ }
 {
-    let mut from = q;
     let mut to = p;
     while to < body.len() {
         let e = whole_end(body, to);
-        if !code_typed(source, from, target, targets, body, to, e, mapped) {
+        if !code_typed(source, sources, target, targets, body, to, e, uses) {
             return false;
         }
-        from = whole_end(source, from);
         to = e;
     }
     true

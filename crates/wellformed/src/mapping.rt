@@ -1,46 +1,46 @@
-// The mapping: exactly the kinds in the source are mapped, each to a kind in the target, and classes to classes that contain them.
+// The mapping: exactly the kinds in the source are mapped by number 0; each mapping is of a kind in the source, to a kind in
+// the target, and a class maps to a class that contains it.
 ghost use mathlib.Core.Path.{_≡_};
 ghost use mathlib.Core.Bool.{true};
 ghost use mathlib.Core.Option.{some};
 ghost use Prim.Native.Nat.{_+_, _-_, _<_, _≤_};
 ghost use lib.ListN.{length};
 ghost use Rattle.fields.specs.Lists.{all, countUp};
-ghost use Rattle.fields.specs.Inner.Places.{places};
-ghost use Rattle.language.specs.Inner.Entries.{entryWhole, IsClass};
+ghost use Rattle.fields.specs.Inner.Places.{places, fieldEnd};
+ghost use Rattle.language.specs.Inner.Entries.{IsClass};
 ghost use Rattle.reader.specs.Inner.Index.{Sound};
+ghost use Rattle.reader.specs.Inner.Positions.{usesLength};
 ghost use Rattle.translation.specs.Translation.{Body, Translation};
 ghost use Rattle.translation.specs.TranslationFile.{bodyOf};
 ghost use Rattle.translation.specs.WellFormed.{mappingFits};
-ghost use Rattle.translation.specs.Inner.ItemIndex.{SoundKinds};
 ghost use Rattle.wellformed.specs.Inner.Ready.{Ready};
-ghost use Rattle.wellformed.specs.Inner.Tests.{mappedIf, reachesAt, rangeKept, keptAt};
+ghost use Rattle.wellformed.specs.Inner.Tests.{mappedIf, MapsAt, reachesAt, rangeKept, keptAt, fitsAt};
 use super::kinds::mark_entries;
-use fields::bytes::byte_at;
 use fields::bytes::to_usize;
 use fields::walk::whole_end;
 use language::range::range_within;
 use reader::node::place_at;
-use translation::index::target_kind;
+use translation::body::is_clause;
 
-// A kind is mapped if it is marked, and only then.
-fn mapped_if(index: &[u16], kinds: &[bool], k: usize) -> bool
-    requires { ⌜ (k < length (now index)) × (k < length (now kinds)) ⌝ }
-    ensures { λ r. ⌜ r ≡ mappedIf (now (index .entry)) (now (kinds .entry)) k ⌝ }
+// A kind is mapped by number 0 if it is marked, and only then.
+fn mapped_if(uses: &[u8], kinds: &[bool], k: usize) -> bool
+    requires { ⌜ (k < 32) × (usesLength ≤ length (now uses)) × (length (now kinds) ≡ 32) ⌝ }
+    ensures { λ r. ⌜ r ≡ mappedIf (now (uses .entry)) (now (kinds .entry)) k ⌝ }
 {
-    if index[k] == 0 {
+    if uses[k * 256] == 0 {
         return !kinds[k];
     }
     kinds[k]
 }
 
-// Exactly the kinds that are marked are mapped.
-fn kinds_mapped(index: &[u16], kinds: &[bool]) -> bool
-    requires { ⌜ (32 ≤ length (now index)) × (length (now kinds) ≡ 32) ⌝ }
-    ensures { λ r. ⌜ r ≡ all (mappedIf (now (index .entry)) (now (kinds .entry))) (countUp 32 0) ⌝ }
+// Exactly the kinds that are marked are mapped by number 0.
+fn kinds_mapped(uses: &[u8], kinds: &[bool]) -> bool
+    requires { ⌜ (usesLength ≤ length (now uses)) × (length (now kinds) ≡ 32) ⌝ }
+    ensures { λ r. ⌜ r ≡ all (mappedIf (now (uses .entry)) (now (kinds .entry))) (countUp 32 0) ⌝ }
 {
     let mut k = 0;
     while k < 32 {
-        if !mapped_if(index, kinds, k) {
+        if !mapped_if(uses, kinds, k) {
             return false;
         }
         k += 1;
@@ -48,80 +48,75 @@ fn kinds_mapped(index: &[u16], kinds: &[bool]) -> bool
     true
 }
 
-// The mapping at p, if there is one, is to a kind that is marked.
-fn reaches_at(s: &[u8], p: usize, kinds: &[bool]) -> bool
-    requires { ⌜ p ≤ length (now s) ⌝ }
-    ensures { λ r. ⌜ r ≡ reachesAt (now (s .entry)) (now (kinds .entry)) p ⌝ }
+// The mapping at p, which ends at e, is of a kind that is marked, and goes to one that is.
+fn reaches_at(body: &[u8], p: usize, e: usize, marked: &[bool], reached: &[bool]) -> bool
+    requires { ⌜ MapsAt (now body) p × (e ≡ fieldEnd (now body) p) × (length (now marked) ≡ 32) × (length (now reached) ≡ 32) ⌝ }
+    ensures { λ r. ⌜ r ≡ reachesAt (now (body .entry)) (now (marked .entry)) (now (reached .entry)) p ⌝ }
 {
-    if byte_at(s, p) != 0x22 {
-        return true;
-    }
-    let target = to_usize(byte_at(s, p + 4));
-    if kinds.len() <= target {
+    if !marked[to_usize(body[p + 3])] {
         return false;
     }
-    kinds[target]
+    reached[to_usize(body[e - 1])]
 }
 
-// Each mapping is to a kind that is marked. They stand in front.
-fn targets_marked(s: &[u8], kinds: &[bool]) -> bool
-    requires { ⌜ ((b : Body) × (bodyOf (now s) ≡ some b)) ⌝ }
-    ensures { λ r. ⌜ r ≡ all (reachesAt (now (s .entry)) (now (kinds .entry))) (places (now (s .entry))) ⌝ }
-{
-    let mut p = 0;
-    while p < s.len() {
-        if s[p] != 0x22 {
-            return true;
-        }
-        if !reaches_at(s, p, kinds) {
-            return false;
-        }
-        p = whole_end(s, p);
-    }
-    true
-}
-
-// The range of the class at p of s lies in that of the class in t before `place`; there is no class at 0.
-fn range_kept(s: &[u8], p: usize, t: &[u8], place: usize) -> bool
-    requires { ⌜ IsClass (now s) p × (0 < place → IsClass (now t) (place - 1)) ⌝ }
-    ensures { λ r. ⌜ r ≡ rangeKept (now (s .entry)) p (now (t .entry)) place ⌝ }
+// The range of the source's class before `place` lies in that of the target's before `goal`; there is no class at 0.
+fn range_kept(source: &[u8], place: usize, target: &[u8], goal: usize) -> bool
+    requires { ⌜ (0 < place → IsClass (now source) (place - 1)) × (0 < goal → IsClass (now target) (goal - 1)) ⌝ }
+    ensures { λ r. ⌜ r ≡ rangeKept (now (source .entry)) place (now (target .entry)) goal ⌝ }
 {
     if place == 0 {
+        return true;
+    }
+    if goal == 0 {
         return false;
     }
-    range_within(s, p, t, place - 1)
+    range_within(source, place - 1, target, goal - 1)
 }
 
-// The class at p, if there is one, maps to a class that contains its range.
+// The mapping at p, which ends at e, takes a class to a class that contains its range.
 fn kept_at(
     source: &[u8],
-    p: usize,
+    sources: &[u16],
     target: &[u8],
     targets: &[u16],
     body: &[u8],
-    items: &[u16],
+    p: usize,
+    e: usize,
 ) -> bool
-    requires { ⌜ (p ≤ length (now source)) × (entryWhole (now source) p ≡ true) × Sound (now targets) (now target) × SoundKinds (now items) (now body) ⌝ }
-    ensures { λ r. ⌜ r ≡ keptAt (now (source .entry)) (now (target .entry)) (now (targets .entry)) (now (body .entry)) (now (items .entry)) p ⌝ }
+    requires { ⌜ Sound (now sources) (now source) × Sound (now targets) (now target) × MapsAt (now body) p × (e ≡ fieldEnd (now body) p) ⌝ }
+    ensures { λ r. ⌜ r ≡ keptAt (now (source .entry)) (now (sources .entry)) (now (target .entry)) (now (targets .entry)) (now (body .entry)) p ⌝ }
 {
-    if byte_at(source, p) != 0x11 {
-        return true;
-    }
-    let kind = target_kind(body, items, byte_at(source, p + 3));
-    range_kept(source, p, target, place_at(targets, to_usize(kind)))
+    let place = place_at(sources, to_usize(body[p + 3]));
+    let goal = place_at(targets, to_usize(body[e - 1]));
+    range_kept(source, place, target, goal)
 }
 
-// Each source class maps to a target class that contains its range.
-fn classes_kept(source: &[u8], target: &[u8], targets: &[u16], body: &[u8], items: &[u16]) -> bool
-    requires { ⌜ (all (entryWhole (now source)) (places (now source)) ≡ true) × Sound (now targets) (now target) × SoundKinds (now items) (now body) ⌝ }
-    ensures { λ r. ⌜ r ≡ all (keptAt (now (source .entry)) (now (target .entry)) (now (targets .entry)) (now (body .entry)) (now (items .entry))) (places (now (source .entry))) ⌝ }
+// Each mapping is of a kind that is marked, goes to one that is, and keeps the range of a class. They stand in front.
+fn mappings_fit(
+    source: &[u8],
+    sources: &[u16],
+    target: &[u8],
+    targets: &[u16],
+    body: &[u8],
+    marked: &[bool],
+    reached: &[bool],
+) -> bool
+    requires { ⌜ Sound (now sources) (now source) × Sound (now targets) (now target) × ((b : Body) × (bodyOf (now body) ≡ some b)) × (length (now marked) ≡ 32) × (length (now reached) ≡ 32) ⌝ }
+    ensures { λ r. ⌜ r ≡ all (fitsAt (now (source .entry)) (now (sources .entry)) (now (target .entry)) (now (targets .entry)) (now (body .entry)) (now (marked .entry)) (now (reached .entry))) (places (now (body .entry))) ⌝ }
 {
     let mut p = 0;
-    while p < source.len() {
-        if !kept_at(source, p, target, targets, body, items) {
+    while p < body.len() {
+        if is_clause(body[p]) {
+            return true;
+        }
+        let e = whole_end(body, p);
+        if !reaches_at(body, p, e, marked, reached) {
             return false;
         }
-        p = whole_end(source, p);
+        if !kept_at(source, sources, target, targets, body, p, e) {
+            return false;
+        }
+        p = e;
     }
     true
 }
@@ -129,23 +124,21 @@ fn classes_kept(source: &[u8], target: &[u8], targets: &[u16], body: &[u8], item
 // The mapping is as required.
 pub fn mapping_fits(
     source: &[u8],
+    sources: &[u16],
     target: &[u8],
     targets: &[u16],
     body: &[u8],
-    items: &[u16],
+    uses: &[u8],
 ) -> bool
-    requires { ⌜ ((f : Translation) × Ready (now source) (now target) (now targets) (now body) (now items) f) ⌝ }
-    ensures { λ r. ⌜ ((f : Translation) → Ready (now (source .entry)) (now (target .entry)) (now (targets .entry)) (now (body .entry)) (now (items .entry)) f → r ≡ mappingFits f) ⌝ }
+    requires { ⌜ ((f : Translation) × Ready (now source) (now sources) (now target) (now targets) (now body) (now uses) f) ⌝ }
+    ensures { λ r. ⌜ ((f : Translation) → Ready (now (source .entry)) (now (sources .entry)) (now (target .entry)) (now (targets .entry)) (now (body .entry)) (now (uses .entry)) f → r ≡ mappingFits f) ⌝ }
 {
-    let mut mentioned = [false; 32];
-    mark_entries(source, &mut mentioned);
-    if !kinds_mapped(items, &mentioned) {
+    let mut marked = [false; 32];
+    mark_entries(source, &mut marked);
+    if !kinds_mapped(uses, &marked) {
         return false;
     }
     let mut reached = [false; 32];
     mark_entries(target, &mut reached);
-    if !targets_marked(body, &reached) {
-        return false;
-    }
-    classes_kept(source, target, targets, body, items)
+    mappings_fit(source, sources, target, targets, body, &marked, &reached)
 }

@@ -78,9 +78,9 @@ kinds-known : (l : Language) (k p : ℕ) (ks : List ℕ) → argumentsOf l k p �
 unfolding kindsOf
 kinds-known l k p ks e = rw e
 
-no-kind : (i : ℕ) {k : ℕ} {A : Type 0} → kindAt [] i ≡ some k → A
-no-kind zero e = none-some e
-no-kind (suc i) e = none-some e
+no-kind : (i j : ℕ) {k : ℕ} {A : Type 0} → kindAt [] i j ≡ some k → A
+no-kind zero j e = none-some e
+no-kind (suc i) j e = none-some e
 
 module _ (l : Language) where
   pub class-text : (n k : ℕ) (c : Range) (s : List ℕ) → rangeOf l k ≡ some c → readText l n k s ≡ readToken k c s
@@ -119,7 +119,7 @@ module _ (l : Language) where
           rw (node-parts k k p t ks r e)
           (element-text n k p ks t (exportAll l ks t) r (apart k p ks e) e (roundAll h n (nodeTag closeNode k p ++ r) (omega arith)))
       round (typed-token {v = v} {k = k} {c = c} e h) n r d = token-text n k v c r e h
-      round (typed-argument {i = i} e) n r d = no-kind i e
+      round (typed-argument {i = i} {j = j} e) n r d = no-kind i j e
 
       pub roundAll : {t : Codes} {ks : List ℕ} → TypedAll l [] t ks → (n : ℕ) (r : List ℕ) → levelsAll t ≤ n
           → readAll (readText l n) ks (exportAll l ks t ++ r) ≡ done t r

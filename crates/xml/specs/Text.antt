@@ -55,7 +55,7 @@ unfoldable mutual
   pub export : Language → ℕ → Code → List ℕ
   export l k (node j p t) = nodeTag openNode j p ++ (exportAll l (kindsOf l j p) t ++ nodeTag closeNode j p)
   export l k (token v) = tokenTag openToken k ++ (decimal v ++ tokenTag closeToken k)
-  export l k (argument i) = []
+  export l k (argument i j) = []
 
   -- Trees of the kinds, one after the other.
   pub exportAll : Language → List ℕ → Codes → List ℕ

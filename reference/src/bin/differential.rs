@@ -24,7 +24,8 @@ mod xml;
 
 use algebra::raw as library;
 use reference::generate::{
-    language_file, reduce_case, run_case, translation_file, tree_case, Random, LONG_TREE,
+    has_numbers, language_file, reduce_case, run_case, translation_file, tree_case, Random,
+    RunCase, LONG_TREE,
 };
 use reference::laws::Broken;
 use std::fmt::Write as _;
@@ -32,7 +33,7 @@ use std::process::ExitCode;
 use std::time::Instant;
 
 /// Answers are counted by number, and so is what the laws say.
-const NUMBERS: usize = 26;
+const NUMBERS: usize = 27;
 
 /// What one side answered: number, length and the buffers at the end.
 #[derive(PartialEq, Eq)]
@@ -61,6 +62,8 @@ struct Finding {
     reached: Vec<usize>,
     /// Whether the case has a long tree.
     long: bool,
+    /// Whether it has a translation or a pack with other numbers than 0.
+    numbered: bool,
     difference: Option<Vec<String>>,
 }
 
@@ -102,7 +105,7 @@ const OPERATIONS: &[Operation] = &[
     },
     Operation {
         name: "reduce",
-        possible: &[0, 1, 2, 3, 4, 5, 6, 7, 8, 9, 10, 11, 12, 13],
+        possible: &[0, 1, 2, 3, 4, 5, 6, 7, 8, 9, 10, 11, 12, 13, 26],
         label: answer_label,
         find: |random| compare_reduce(random).finding(),
     },
@@ -120,7 +123,7 @@ const OPERATIONS: &[Operation] = &[
     },
     Operation {
         name: "join_table",
-        possible: &[0, 1, 2, 3, 4, 5, 6, 7, 11, 17, 18],
+        possible: &[0, 1, 2, 3, 4, 5, 6, 7, 11, 17, 18, 26],
         label: answer_label,
         find: |random| score::compare_join(random).finding(),
     },
@@ -162,13 +165,13 @@ const OPERATIONS: &[Operation] = &[
     },
     Operation {
         name: "search",
-        possible: &[0, 1, 2, 3, 4, 5, 6, 7, 14, 15, 16, 17, 23, 24],
+        possible: &[0, 1, 2, 3, 4, 5, 6, 7, 14, 15, 16, 17, 23, 24, 26],
         label: answer_label,
         find: search::find,
     },
     Operation {
         name: "laws",
-        possible: &[0, 1, 2, 3, 4],
+        possible: &[0, 1, 2, 3, 4, 5, 6],
         label: |number| reference::laws::SAID[number].to_string(),
         find: laws::find,
     },
@@ -258,8 +261,9 @@ fn compare_run(random: &mut Random) -> Comparison {
     let case = run_case(random);
     let mut output = marked_buffer(random, case.output);
     let mut library_output = output.clone();
-    let expected = reference::run(&case.translation, case.root, &case.tree, &mut output);
-    let found = library::run(&case.translation, case.root, &case.tree, &mut library_output);
+    let RunCase { translation, root, number, tree, .. } = &case;
+    let expected = reference::run(translation, *root, *number, tree, &mut output);
+    let found = library::run(translation, *root, *number, tree, &mut library_output);
     Comparison {
         library: Answer {
             number: found.number,
@@ -276,6 +280,7 @@ fn compare_run(random: &mut Random) -> Comparison {
         inputs: vec![
             ("translation", Input::Bytes(case.translation)),
             ("root", Input::Number(u64::from(case.root))),
+            ("number", Input::Number(u64::from(case.number))),
             ("tree", Input::Bytes(case.tree)),
             ("output length", Input::Number(case.output as u64)),
         ],
@@ -326,10 +331,10 @@ mod laws {
         Answer::new(answer.number, answer.length, output)
     }
 
-    /// Runs a translation.
-    fn run(translation: &[u8], root: u32, tree: &[u8], output: usize) -> Answer {
+    /// Runs a translation by a number.
+    fn run(translation: &[u8], root: u32, number: u32, tree: &[u8], output: usize) -> Answer {
         let mut output = vec![0xCC; output];
-        let answer = library::run(translation, root, tree, &mut output);
+        let answer = library::run(translation, root, number, tree, &mut output);
         Answer::new(answer.number, answer.length, output)
     }
 
@@ -352,12 +357,13 @@ impl Finding {
     /// What laws said of a case, by number, or how one was broken.
     fn of_laws(said: Result<Vec<usize>, Broken>) -> Finding {
         match said {
-            Ok(reached) => Finding { reached, long: false, difference: None },
+            Ok(reached) => Finding { reached, long: false, numbered: false, difference: None },
             Err(broken) => {
                 let inputs = broken.inputs.into_iter();
                 let inputs = inputs.map(|(name, bytes)| Input::Bytes(bytes).line(name));
                 let lines = [format!("  {}", broken.what)].into_iter().chain(inputs);
-                Finding { reached: vec![], long: false, difference: Some(lines.collect()) }
+                let difference = Some(lines.collect());
+                Finding { reached: vec![], long: false, numbered: false, difference }
             }
         }
     }
@@ -455,7 +461,14 @@ impl Comparison {
     fn finding(&self) -> Finding {
         let difference = (self.library != self.reference).then(|| self.lines());
         let reached = vec![self.reference.number as usize];
-        Finding { reached, long: self.has_long_tree(), difference }
+        Finding { reached, long: self.has_long_tree(), numbered: self.is_numbered(), difference }
+    }
+
+    /// Whether one of the inputs is a translation or a pack with other numbers than 0.
+    fn is_numbered(&self) -> bool {
+        let numbered = |input: &Input| matches!(input, Input::Bytes(bytes) if has_numbers(bytes));
+        let named = |name: &str| ["translation", "pack"].contains(&name);
+        self.inputs.iter().any(|(name, input)| named(name) && numbered(input))
     }
 
     /// Whether one of the inputs is a long tree, or a text that is as long.
@@ -497,6 +510,7 @@ const SHOWN: u64 = 5;
 fn compare_all(operation: &Operation, cases: u64, request: &Request) -> (u64, u64) {
     let (seed, start) = (request.seed, Instant::now());
     let (mut reached, mut reached_long) = ([0u64; NUMBERS], [0u64; NUMBERS]);
+    let mut reached_numbered = [0u64; NUMBERS];
     let mut differences = 0;
     for case in request.first..request.first + cases {
         if request.trace {
@@ -507,6 +521,7 @@ fn compare_all(operation: &Operation, cases: u64, request: &Request) -> (u64, u6
         for &number in &finding.reached {
             reached[number] += 1;
             reached_long[number] += u64::from(finding.long);
+            reached_numbered[number] += u64::from(finding.numbered);
         }
         if let Some(lines) = finding.difference {
             differences += 1;
@@ -518,17 +533,18 @@ fn compare_all(operation: &Operation, cases: u64, request: &Request) -> (u64, u6
     let seconds = start.elapsed().as_secs_f64();
     println!("{}: {cases} cases, seed {seed}, {seconds:.1} s", operation.name);
     let missing = print_reached(operation, &reached);
-    print_long(operation, &reached_long);
+    print_some(operation, &format!("trees or texts of {LONG_TREE} bytes or more"), &reached_long);
+    print_some(operation, "files with other numbers than 0", &reached_numbered);
     (differences, missing)
 }
 
-/// Prints how many cases had a long tree and how often each number was reached on them, if any.
-fn print_long(operation: &Operation, reached: &[u64; NUMBERS]) {
-    let trees: u64 = reached.iter().sum();
-    if trees == 0 {
+/// Prints how many cases are of some sort and how often each number was reached on them, if any.
+fn print_some(operation: &Operation, what: &str, reached: &[u64; NUMBERS]) {
+    let cases: u64 = reached.iter().sum();
+    if cases == 0 {
         return;
     }
-    println!("  trees or texts of {LONG_TREE} bytes or more: {trees}, of which");
+    println!("  {what}: {cases}, of which");
     for number in (0..NUMBERS).filter(|&number| reached[number] > 0) {
         println!("    {}: {:8}", (operation.label)(number), reached[number]);
     }

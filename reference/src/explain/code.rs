@@ -9,7 +9,7 @@ type Local = (usize, String);
 /// Reads a code from left to right.
 struct Reader<'a> {
     target: &'a Grammar<'a>,
-    arguments: &'a ArgumentKinds,
+    arguments: &'a ArgumentKinds<'a>,
     code: &'a [u8],
     at: usize,
 }
@@ -39,8 +39,8 @@ impl Reader<'_> {
         }
         match symbol {
             Symbol::Token(value) => self.check_token(kind, value).map_err(|what| (at, what)),
-            Symbol::Argument(number) => {
-                self.check_argument(kind, number).map_err(|what| (at, what))
+            Symbol::Argument(argument, number) => {
+                self.check_argument(kind, argument, number).map_err(|what| (at, what))
             }
             Symbol::Production(name) => self.read_arguments(kind, name, at, levels - 1),
         }
@@ -59,9 +59,10 @@ impl Reader<'_> {
     fn cut(&self, kind: u8) -> Local {
         let what = match &self.code[self.at..] {
             [] => format!("the code ends where one of kind {kind} is needed"),
-            [3, 0, ..] => "arguments are numbered from 1".to_string(),
-            [1..=3, ..] => "the code ends within a sign".to_string(),
-            [sign, ..] => format!("{sign:02X} is none of the signs 01, 02 and 03"),
+            [3 | 4, 0, ..] => "arguments are numbered from 1".to_string(),
+            [4, _, 0, ..] => "number 0 is used by 03".to_string(),
+            [1..=4, ..] => "the code ends within a sign".to_string(),
+            [sign, ..] => format!("{sign:02X} is none of the signs 01, 02, 03 and 04"),
         };
         (self.at, what)
     }
@@ -77,15 +78,17 @@ impl Reader<'_> {
         }
     }
 
-    /// Refuses an argument (numbered from 0) that is not there or not of the kind.
-    fn check_argument(&self, kind: u8, number: u8) -> Result<(), String> {
-        let shown = u32::from(number) + 1;
-        match self.arguments.get(number) {
-            Some(found) if found == kind => Ok(()),
-            Some(found) => Err(format!(
-                "argument {shown} is mapped to kind {found}, where kind {kind} is needed"
+    /// Refuses an argument (numbered from 0) that is not there, lacks the number or is not of the kind.
+    fn check_argument(&self, kind: u8, argument: u8, number: u8) -> Result<(), String> {
+        let shown = u32::from(argument) + 1;
+        let by = if number == 0 { String::new() } else { format!(" by number {number}") };
+        match (self.arguments.get(argument, number), self.arguments.get(argument, 0)) {
+            (Some(found), _) if found == kind => Ok(()),
+            (Some(found), _) => Err(format!(
+                "argument {shown} is mapped to kind {found}{by}, where kind {kind} is needed"
             )),
-            None => Err(format!("the production has no argument {shown}")),
+            (None, Some(_)) => Err(format!("the kind of argument {shown} has no number {number}")),
+            (None, None) => Err(format!("the production has no argument {shown}")),
         }
     }
 }

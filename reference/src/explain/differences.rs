@@ -4,7 +4,7 @@ use super::language::kind_in;
 use crate::body::{Body, Clause};
 use crate::code::CODE_LEVELS;
 use crate::language::{bit, Class, Language, Production, KINDS, LANGUAGE_LIMIT};
-use crate::operators::{join_size, unite_languages, unite_translations};
+use crate::operators::{has_high_number, join_size, unite_languages, unite_translations};
 use crate::translation::{Translation, TRANSLATION_LIMIT};
 
 /// The class of a kind.
@@ -81,19 +81,33 @@ fn mapping_difference(first: &Translation, second: &Translation) -> Option<Strin
         (Some(one), Some(other)) if one != other => Some(format!(
             "kind {kind} is mapped to {one} in the first and to {other} in the second"
         )),
+        (Some(_), Some(_)) => number_difference(&first.body, &second.body, kind as u8),
         _ => None,
     })
+}
+
+/// A number of a kind that is mapped in both, by which they differ.
+fn number_difference(first: &Body, second: &Body, kind: u8) -> Option<String> {
+    let differs = |number: &u8| first.mapped(kind, *number) != second.mapped(kind, *number);
+    let number = (1..=u8::MAX).find(differs)?;
+    let to = |body: &Body| match body.mapped(kind, number) {
+        Some(target) => format!("mapped to {target}"),
+        None => "not mapped".to_string(),
+    };
+    let (one, other) = (to(first), to(second));
+    Some(format!("by number {number} kind {kind} is {one} in the first and {other} in the second"))
 }
 
 /// A production to which two translations give different codes.
 fn clause_difference(first: &Translation, second: &Translation) -> Option<String> {
     let differs = |one: &Clause| {
         let mut others = second.body.clauses.iter();
-        others.any(|other| other.key == one.key && other.code != one.code)
+        others.any(|other| other.place() == one.place() && other.code != one.code)
     };
     let clause = first.body.clauses.iter().find(differs)?;
     let [result, name] = clause.key.to_be_bytes();
-    Some(format!("clause {result}.{name} has different codes"))
+    let number = if clause.number == 0 { String::new() } else { format!(".{}", clause.number) };
+    Some(format!("clause {result}.{name}{number} has different codes"))
 }
 
 /// By how much the sum of two translations is too long.
@@ -112,9 +126,19 @@ fn sum_size_fault(first: &Translation, second: &Translation) -> Option<String> {
 
 /// Why two translations have no join, or one that exceeds a limit; the inner one runs first.
 pub fn join_fault(outer: &Translation, inner: &Translation) -> Option<String> {
-    class_outside(&inner.target, &outer.source)
+    high_number(outer, inner)
+        .or_else(|| class_outside(&inner.target, &outer.source))
         .or_else(|| production_outside(&inner.target, &outer.source))
         .or_else(|| join_size_fault(outer, inner))
+}
+
+/// A number of a join's operand that is above 15.
+fn high_number(outer: &Translation, inner: &Translation) -> Option<String> {
+    let named = [("first", outer), ("second", inner)].into_iter();
+    let (name, operand) = named.filter(|(_, operand)| has_high_number(operand)).next()?;
+    let highest = operand.body.others.iter().max_by_key(|other| other.number)?;
+    let (kind, number) = (highest.kind, highest.number);
+    Some(format!("kind {kind} of the {name} operand has number {number}, which is above 15"))
 }
 
 /// A class of the second operand's target that is not inside the first's source.

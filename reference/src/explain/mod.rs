@@ -71,9 +71,15 @@ pub fn reduce(pack: &[u8], workspace: usize, output: usize) -> Option<Fault> {
     pack::check(pack, workspace, output).err()
 }
 
-/// Looks for a fault of a translation, a root and a tree, and of the output's length.
-pub fn run(translation: &[u8], root: u32, tree: &[u8], output: usize) -> Option<Fault> {
-    tree::check_run(translation, root, tree, output).err()
+/// Looks for a fault of a translation, a root, a number and a tree, and of the output's length.
+pub fn run(
+    translation: &[u8],
+    root: u32,
+    number: u32,
+    tree: &[u8],
+    output: usize,
+) -> Option<Fault> {
+    tree::check_run(translation, root, number, tree, output).err()
 }
 
 /// Looks for a fault of a language, a load table, a root and a tree, and of the scores in it.

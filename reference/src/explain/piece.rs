@@ -1,7 +1,7 @@
 //! Parts of a file that know where they stand in it.
 
 use super::Fault;
-use crate::body::{CLAUSE_TAG, MAPPING_TAG};
+use crate::body::{CLAUSE_TAG, MAPPING_TAG, NUMBERED_CLAUSE_TAG, NUMBERED_MAPPING_TAG};
 use crate::field::{two_bytes, HEADER};
 use crate::language::{CLASS_TAG, PRODUCTION_TAG};
 use crate::outcome::Refusal;
@@ -33,22 +33,29 @@ impl Spot<'_> {
         self.at + HEADER
     }
 
-    /// The key by which the fields of a language, a body or a table rise: the tag, then its number.
-    pub fn key(&self) -> (u8, u16) {
-        let number = match (self.tag, self.contents) {
-            (PRODUCTION_TAG | CLAUSE_TAG | TABLE_TAG, [result, name, ..]) => {
-                two_bytes(*result, *name)
+    /// The key by which the fields of a language, a body or a table rise: the tag, then what the field
+    /// is for, then its number, which has no part in the tag.
+    pub fn key(&self) -> (u8, u16, u8) {
+        match (self.tag, self.contents) {
+            (NUMBERED_MAPPING_TAG, [kind, number, ..]) => (MAPPING_TAG, u16::from(*kind), *number),
+            (NUMBERED_CLAUSE_TAG, [result, name, number, ..]) => {
+                (CLAUSE_TAG, two_bytes(*result, *name), *number)
             }
-            (_, [kind, ..]) => u16::from(*kind),
-            _ => 0,
-        };
-        (self.tag, number)
+            (PRODUCTION_TAG | CLAUSE_TAG | TABLE_TAG, [result, name, ..]) => {
+                (self.tag, two_bytes(*result, *name), 0)
+            }
+            (tag, [kind, ..]) => (tag, u16::from(*kind), 0),
+            (tag, _) => (tag, 0, 0),
+        }
     }
 
     /// What the field of a language, a body or a table is called.
     pub fn name(&self) -> String {
-        let [high, low] = self.key().1.to_be_bytes();
+        let (_, key, number) = self.key();
+        let [high, low] = key.to_be_bytes();
         match self.tag {
+            NUMBERED_MAPPING_TAG => format!("mapping of kind {low} by number {number}"),
+            NUMBERED_CLAUSE_TAG => format!("clause {high}.{low}.{number}"),
             CLASS_TAG => format!("class {low}"),
             PRODUCTION_TAG => format!("production {high}.{low}"),
             MAPPING_TAG => format!("mapping of kind {low}"),

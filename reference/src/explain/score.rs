@@ -73,6 +73,7 @@ impl Scorer<'_> {
 pub fn check_join(bytes: &[u8], table: &[u8], output: usize) -> Result<(), Fault> {
     translation::check(bytes)?;
     let translation = read_translation(bytes).map_err(|reason| vague(reason, "translation"))?;
+    translation::check_plain(&translation, "a table")?;
     table::check(&translation.target, table)?;
     let table = Table::read(&translation.target, table).map_err(|reason| vague(reason, "table"))?;
     check_figures(bytes, &translation, &table)?;
@@ -130,7 +131,7 @@ impl Joiner<'_> {
         let (mut form, behind) = (Form::default(), self.code.len() - rest.len());
         match symbol {
             Symbol::Token(value) => form.constant = i64::from(value),
-            Symbol::Argument(number) => form.factors[usize::from(number)] = 1,
+            Symbol::Argument(number, _) => form.factors[usize::from(number)] = 1,
             Symbol::Production(name) => {
                 let place = self.target.place(kind, name).expect("a well-formed code");
                 let (form, behind) = self.production_form(place, behind)?;

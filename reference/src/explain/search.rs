@@ -8,6 +8,7 @@ use crate::translation::Translation;
 /// Looks for any fault of a search within a limit of levels, with an output of so many bytes.
 pub fn check(bytes: &[u8], root: u32, tree: &[u8], limit: u32, output: usize) -> Result<(), Fault> {
     let translation = translation::well_formed(bytes)?;
+    translation::check_plain(&translation, "a search")?;
     let root = tree::known_root(&translation.source, "source", root)?;
     let mapped = u32::from(translation.mapped(root));
     tree::check_rooted(&translation.target, "target", mapped, tree)?;

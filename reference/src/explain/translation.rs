@@ -34,6 +34,14 @@ pub fn well_formed(bytes: &[u8]) -> Result<Translation, Fault> {
     })
 }
 
+/// Refuses a translation with any number but 0, where something needs 0 alone.
+pub fn check_plain(translation: &Translation, what: &str) -> Result<(), Fault> {
+    let Some(other) = translation.body.others.first() else { return Ok(()) };
+    let (kind, number) = (other.kind, other.number);
+    let what = format!("kind {kind} has number {number}, and {what} needs 0 alone");
+    Err(Piece::whole("translation", &[]).fault_somewhere(Refusal::Number, what))
+}
+
 /// A language whose fields are whole.
 pub fn decoded(piece: &Piece) -> Result<Language, Fault> {
     let draft = Language::decode(piece.bytes);

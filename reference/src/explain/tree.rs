@@ -4,7 +4,8 @@ use super::{language, translation, Fault, Piece};
 use crate::grammar::Grammar;
 use crate::language::{Class, Language};
 use crate::outcome::Refusal;
-use crate::run::result_length;
+use crate::run::{result_length, root_rank};
+use crate::translation::Translation;
 use crate::tree::{root_kind, TREE_LEVELS};
 
 /// Reads a tree from left to right and knows the path to the node that it reads.
@@ -22,11 +23,18 @@ pub fn check(language: &[u8], root: u32, tree: &[u8]) -> Result<(), Fault> {
     check_rooted(&translation::decoded(&piece)?, "language", root, tree).map(|_| ())
 }
 
-/// Looks for any fault of a run, with an output of so many bytes.
-pub fn check_run(bytes: &[u8], root: u32, tree: &[u8], output: usize) -> Result<(), Fault> {
+/// Looks for any fault of a run by a number, with an output of so many bytes.
+pub fn check_run(
+    bytes: &[u8],
+    root: u32,
+    number: u32,
+    tree: &[u8],
+    output: usize,
+) -> Result<(), Fault> {
     let translation = translation::well_formed(bytes)?;
+    check_number(&translation, known_root(&translation.source, "source", root)?, number)?;
     let root = check_rooted(&translation.source, "source", root, tree)?;
-    match result_length(&translation, root, tree) {
+    match result_length(&translation, root, number as u8, tree) {
         Some(length) if length > output as u64 || length == u64::MAX => {
             let more = if length == u64::MAX { " or more" } else { "" };
             let what = format!("its length is {output}, and that of the result {length}{more}");
@@ -34,6 +42,15 @@ pub fn check_run(bytes: &[u8], root: u32, tree: &[u8], output: usize) -> Result<
         }
         _ => Ok(()),
     }
+}
+
+/// Refuses a number that a root kind lacks.
+fn check_number(translation: &Translation, root: u8, number: u32) -> Result<(), Fault> {
+    let lacks = |reason| {
+        let what = format!("kind {root} has no number {number}");
+        Piece::whole("number", &[]).fault_somewhere(reason, what)
+    };
+    root_rank(translation, root, number).map(|_| ()).map_err(lacks)
 }
 
 /// The root as a kind, which must be in the language.

@@ -2,6 +2,7 @@
 
 use super::damage::damage_bytes;
 use super::heights::Heights;
+use super::numbers::Use;
 use super::random::Random;
 use super::ranges::{edge_value, legal_value};
 use crate::code::{Symbol, CODE_LEVELS};
@@ -11,15 +12,15 @@ use crate::language::{Class, Language, Production};
 pub struct Coder<'a> {
     pub target: &'a Language,
     pub heights: &'a Heights,
-    /// The kinds that the clause's arguments are mapped to.
-    pub arguments: &'a [u8],
+    /// The uses that may be made of the clause's arguments, by each of their numbers.
+    pub arguments: &'a [Use],
 }
 
 impl Coder<'_> {
     /// The least number of levels of a code of the kind, if one is found.
     fn least(&self, kind: u8) -> Option<usize> {
         let least = self.heights.least(kind);
-        if self.arguments.contains(&kind) {
+        if self.arguments.iter().any(|of| of.kind == kind) {
             return Some(least.map_or(1, |least| least.min(1)));
         }
         least
@@ -66,8 +67,8 @@ impl Coder<'_> {
 
     /// One of the arguments that have the kind and are not among those used.
     fn fresh(&self, random: &mut Random, kind: u8, used: &[Symbol]) -> Option<Symbol> {
-        let arguments = self.arguments.iter().enumerate().filter(|(_, &other)| other == kind);
-        let arguments = arguments.map(|(number, _)| Symbol::Argument(number as u8));
+        let arguments = self.arguments.iter().filter(|of| of.kind == kind);
+        let arguments = arguments.map(|of| of.symbol);
         let list: Vec<Symbol> = arguments.filter(|symbol| !used.contains(symbol)).collect();
         (!list.is_empty()).then(|| random.pick(&list))
     }
@@ -129,12 +130,23 @@ impl Coder<'_> {
 
     /// One of the arguments that have the kind.
     fn argument(&self, random: &mut Random, kind: u8) -> Option<Symbol> {
-        let fits = |number: &usize| self.arguments[*number] == kind;
-        let list: Vec<usize> = (0..self.arguments.len()).filter(fits).collect();
-        if list.is_empty() {
-            return None;
-        }
-        Some(Symbol::Argument(random.pick(&list) as u8))
+        self.fresh(random, kind, &[])
+    }
+
+    /// How many arguments there are.
+    fn argument_count(&self) -> u8 {
+        let number = |of: &Use| match of.symbol {
+            Symbol::Argument(argument, _) => argument + 1,
+            _ => 0,
+        };
+        self.arguments.iter().map(number).max().unwrap_or(0)
+    }
+
+    /// A use of an argument that is of another kind, or by a number that it lacks or cannot have.
+    fn wrong_use(&self, random: &mut Random) -> Vec<u8> {
+        let count = self.argument_count();
+        let argument = random.pick(&[0, 1, 1, 2, count, count, count + 1, 9, 255]);
+        vec![4, argument, random.pick(&[0, 1, 2, 15, 16, 255])]
     }
 
     /// The class of a kind of the target.
@@ -145,10 +157,11 @@ impl Coder<'_> {
     /// A code that is wrong in some way, made from a good one.
     pub fn wrong_code(&self, random: &mut Random, kind: u8, code: &[u8]) -> Vec<u8> {
         let mut wrong = code.to_vec();
-        match random.below(7) {
+        match random.below(8) {
+            7 => wrong = self.wrong_use(random),
             0 => wrong.clear(),
             1 => wrong = vec![3, random.pick(&[0, 1, 8, 9, 255])],
-            2 => wrong = vec![3, self.arguments.len() as u8 + 1],
+            2 => wrong = vec![3, self.argument_count() + 1],
             3 => wrong.extend_from_slice(&[3, 1]),
             4 if self.heights.has(kind, CODE_LEVELS as usize + 1) => {
                 wrong.clear();

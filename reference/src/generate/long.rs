@@ -59,7 +59,7 @@ struct Wish {
 struct LongGrower<'a> {
     source: &'a Language,
     lengths: &'a Lengths,
-    /// For each production how often its clause uses each argument.
+    /// For each production how often its clauses use each argument, by whichever number the most.
     uses: Vec<[u64; ARGUMENTS]>,
     /// For each kind its class, and the places of its productions.
     classes: [Option<Class>; KINDS],
@@ -81,7 +81,8 @@ impl<'a> LongGrower<'a> {
         source.classes.iter().for_each(|class| classes[class.kind as usize] = Some(*class));
         let end = |kind: u8| source.productions.partition_point(|p| p.result < kind);
         let places = std::array::from_fn(|kind| end(kind as u8)..end(kind as u8 + 1));
-        let uses = value.body.clauses.iter().map(|clause| uses(clause.code)).collect();
+        let uses = source.productions.iter().map(|production| most_uses(value, production.key()));
+        let uses = uses.collect();
         LongGrower {
             source,
             lengths,
@@ -204,11 +205,19 @@ impl<'a> LongGrower<'a> {
 fn uses(code: &[u8]) -> [u64; ARGUMENTS] {
     let mut uses = [0; ARGUMENTS];
     for symbol in symbols(code) {
-        if let Symbol::Argument(number) = symbol {
+        if let Symbol::Argument(number, _) = symbol {
             uses[number as usize] += 1;
         }
     }
     uses
+}
+
+/// How often the clauses of a production use each argument, by whichever number the most.
+fn most_uses(value: &Translation, key: u16) -> [u64; ARGUMENTS] {
+    let clauses = value.body.clauses.iter().filter(|clause| clause.key == key);
+    clauses.map(|clause| uses(clause.code)).fold([0; ARGUMENTS], |most, uses| {
+        std::array::from_fn(|argument| most[argument].max(uses[argument]))
+    })
 }
 
 /// The length of a tree to grow: the shorter the more often, some about once or twice 4,096.
@@ -308,8 +317,10 @@ fn try_long_run_case(random: &mut Random, length: usize) -> Option<LongRunCase> 
         return None;
     }
     let root = random.pick(&kinds);
+    let numbers: Vec<(u8, u8)> = value.body.numbers(root).collect();
+    let number = random.pick(&numbers).0;
     let mut grower = grown(random, &value, &lengths, root, length);
-    let result = result_length(&value, root, &grower.tree).expect("a legal tree");
+    let result = result_length(&value, root, number, &grower.tree).expect("a legal tree");
     let too_short = grower.tree.len() < LONG_TREE + 4;
     if too_short || result > MOST_OUTPUT && random.percent(90) {
         return None;
@@ -320,7 +331,8 @@ fn try_long_run_case(random: &mut Random, length: usize) -> Option<LongRunCase> 
     }
     let LongGrower { tree, levels, subtrees, .. } = grower;
     let translation = translation_bytes(random, &value);
-    let case = RunCase { translation, root: u32::from(root), tree, output };
+    let (root, number) = (u32::from(root), u32::from(number));
+    let case = RunCase { translation, root, number, tree, output };
     Some(LongRunCase { case, levels, subtrees })
 }
 

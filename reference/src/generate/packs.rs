@@ -2,13 +2,14 @@
 
 use super::damage::{damage, damage_bytes, damage_fields};
 use super::languages::{encoded, full_language, full_language_file, language};
+use super::numbers::{cut_others, with_changed_numbers};
 use super::random::Random;
 use super::ranges::{around, inside, related, with_one_range, with_ranges};
 use super::terms::{deepened, Names, TermWriter};
 use super::translations::{
     chain_code, chain_code_with_end, counting_language, counting_translation, counting_with_class,
-    counting_with_tokens, cut_mapping, endomorphism, full_translation, full_translation_into,
-    single_translation, translation_file, wrong_body,
+    counting_with_tokens, cut_mapping, endomorphism, full_numbers, full_translation,
+    full_translation_by, single_translation, translation_file, wrong_body,
 };
 use super::written::{full_with_steps, write_steps, write_steps_within};
 use crate::body::{Body, Clause};
@@ -101,7 +102,8 @@ fn cut(whole: &Translation, source: Language) -> Translation {
     };
     let clauses = whole.body.clauses.iter().filter(has).collect();
     let mapping = cut_mapping(&source, |kind| whole.mapped(kind));
-    Translation { source, target: whole.target.clone(), body: Body { mapping, clauses } }
+    let others = cut_others(&source, &whole.body.others);
+    Translation { source, target: whole.target.clone(), body: Body { mapping, others, clauses } }
 }
 
 /// Constants of which many fit: a language, parts of it, and a translation cut to the parts.
@@ -316,10 +318,11 @@ fn shorten_first(translation: &mut Translation) {
     let clauses: Vec<Clause> = translation.body.clauses.iter().collect();
     let short = |(number, clause): (usize, &Clause)| {
         let code = if number == 0 { vec![1, 0] } else { clause.code.to_vec() };
-        (clause.key, code)
+        (clause.place(), code)
     };
-    let codes: Vec<(u16, Vec<u8>)> = clauses.iter().enumerate().map(short).collect();
-    let clauses = codes.iter().map(|(key, code)| Clause { key: *key, code });
+    let codes: Vec<((u16, u8), Vec<u8>)> = clauses.iter().enumerate().map(short).collect();
+    let clauses =
+        codes.iter().map(|((key, number), code)| Clause { key: *key, number: *number, code });
     translation.body.clauses = clauses.collect();
 }
 
@@ -337,6 +340,9 @@ fn conflicting_sum(random: &mut Random) -> Vec<u8> {
         if changed.check_well_formed().is_ok() {
             right = changed;
         }
+    }
+    if random.percent(40) {
+        right = with_changed_numbers(random, &right).unwrap_or(right);
     }
     if random.percent(30) {
         let mut changed = right.clone();
@@ -381,6 +387,7 @@ fn spoil_chain(random: &mut Random, chain: &mut [Translation]) {
             let mapping = value.body.mapping;
             value.body.mapping =
                 cut_mapping(&value.source, |kind| mapping[kind as usize].expect("mapped before"));
+            value.body.others = cut_others(&value.source, &value.body.others);
         }
         _ => with_one_range(random, &mut value.source, related),
     }
@@ -410,6 +417,31 @@ fn widening_join(random: &mut Random) -> Vec<u8> {
     constants.pack(&term)
 }
 
+/// Translations of a language into itself, or from others into it, of which one or two are joined
+/// onto another; numbers above 15 and targets that do not fit come up, also both.
+fn numbered_join(random: &mut Random) -> Vec<u8> {
+    let (mut constants, base) = (Constants::default(), language(random));
+    let mut terms: Vec<Vec<u8>> = vec![];
+    for _ in 0..random.within(2..=3) {
+        let mut value = endomorphism(random, &base);
+        if random.percent(15) {
+            value = with_changed_numbers(random, &value).unwrap_or(value);
+        }
+        if random.percent(15) {
+            let part = part_of(random, &value.source);
+            value = cut(&value, part);
+        }
+        terms.push(constants.translation(&value));
+    }
+    let last = terms.pop().unwrap_or_default();
+    let onto_last = random.percent(50);
+    let term = terms.into_iter().fold(last, |term, next| match onto_last {
+        true => [&[0x54], &next[..], &term].concat(),
+        false => [&[0x54], &term[..], &next].concat(),
+    });
+    constants.pack(&term)
+}
+
 /// A sign 50 whose value is over 4,096 bytes and may not be well formed.
 fn overfull_body(random: &mut Random) -> Vec<u8> {
     let mut constants = Constants::default();
@@ -425,7 +457,8 @@ fn full_translation_pack(random: &mut Random) -> Vec<u8> {
     let mut constants = Constants::default();
     let bytes = TRANSLATION_LIMIT + random.below(2);
     let target = if random.percent(50) { counting_language() } else { counting_with_class(random) };
-    let whole = full_translation_into(random, target, bytes);
+    let numbers = full_numbers(random);
+    let whole = full_translation_by(random, target, numbers, bytes);
     if random.percent(40) {
         let term = constants.translation(&whole);
         return constants.pack_with_steps(random, &term);
@@ -453,8 +486,8 @@ fn deep_join(random: &mut Random) -> Vec<u8> {
     let levels = random.within(15 / added..=18 / added).clamp(1, 16);
     let source = Language { classes: vec![], productions: vec![Production::new(5, 0, &[])] };
     let code = chain_code(levels);
-    let clauses = [Clause { key: 0x0500, code: &code }].into_iter().collect();
-    let body = Body { mapping: cut_mapping(&source, |_| 1), clauses };
+    let clauses = [Clause::plain(0x0500, &code)].into_iter().collect();
+    let body = Body { mapping: cut_mapping(&source, |_| 1), clauses, ..Body::default() };
     let inner = Translation { source, target: counting_language(), body };
     let outer = constants.translation(&outer);
     let inner = constants.translation(&inner);
@@ -476,9 +509,9 @@ fn deep_token_join(random: &mut Random) -> Vec<u8> {
     let language = counting_with_tokens();
     let codes = [&[1, 0], &longer[..], &[1, 2, 3, 2, 3, 1], token];
     let clauses = language.productions.iter().zip(codes);
-    let clauses = clauses.map(|(production, code)| Clause { key: production.key(), code });
+    let clauses = clauses.map(|(production, code)| Clause::plain(production.key(), code));
     let mapping = cut_mapping(&language, |kind| kind);
-    let body = Body { mapping, clauses: clauses.collect() };
+    let body = Body { mapping, clauses: clauses.collect(), ..Body::default() };
     let outer = Translation { source: language.clone(), target: language, body };
     let levels = random.within(14 / added..=18 / added).clamp(1, 16);
     let inner = single_translation(&chain_code_with_end(random, levels));
@@ -541,7 +574,7 @@ fn full_pack(random: &mut Random) -> Vec<u8> {
     let term = [0x55, 0x40, random.below(constants.languages.len()) as u8];
     let wanted = PACK_LIMIT + random.below(2);
     let code = wanted - constants.pack(&term).len() - 8;
-    let clauses = [Clause { key: 0, code: &vec![9; code] }].into_iter().collect();
+    let clauses = [Clause::plain(0, &vec![9; code])].into_iter().collect();
     constants.body(0, 0, &Body { clauses, ..Body::default() });
     constants.pack(&term)
 }
@@ -564,6 +597,21 @@ fn many_constants(random: &mut Random) -> Vec<u8> {
     constants.pack(&term)
 }
 
+/// Bodies whose fields are broken or out of order: a mapping behind a clause, number 0 in a field 28 or
+/// 29, lengths, and mappings and clauses that do not rise.
+const WRONG_BODIES: [&[u8]; 10] = [
+    &[0x23, 0, 2, 1, 1, 0x22, 0, 2, 1, 1],
+    &[0x23, 0, 2, 1, 1, 0x28, 0, 3, 1, 1, 1],
+    &[0x29, 0, 3, 1, 1, 1, 0x22, 0, 2, 1, 1],
+    &[0x28, 0, 3, 1, 0, 1],
+    &[0x29, 0, 3, 1, 1, 0],
+    &[0x28, 0, 2, 1, 1],
+    &[0x29, 0, 2, 1, 1],
+    &[0x28, 0, 3, 1, 1, 1, 0x22, 0, 2, 1, 1],
+    &[0x29, 0, 3, 1, 1, 1, 0x23, 0, 2, 1, 1],
+    &[0x28, 0, 3, 1, 2, 1, 0x28, 0, 3, 1, 1, 1],
+];
+
 /// A pack in which some language has a clash, is too long, or a group is out of order.
 fn wrong_constants(random: &mut Random) -> Vec<u8> {
     let mut constants = fitting_constants(random);
@@ -576,7 +624,7 @@ fn wrong_constants(random: &mut Random) -> Vec<u8> {
         4 => constants.languages[place] = [0x12, 0, 2, 1, 0].repeat(2),
         5 => constants.bodies.push([0x22, 0, 2, 1, 1].repeat(2)),
         6 => constants.bodies.push(vec![0x23, 0, 2, 1, 1, 0x23, 0, 2, 1, 0]),
-        _ => constants.bodies.push(vec![0x23, 0, 2, 1, 1, 0x22, 0, 2, 1, 1]),
+        _ => constants.bodies.push(random.pick(&WRONG_BODIES).to_vec()),
     }
     let mut pack = constants.pack(&term);
     if random.percent(30) {
@@ -587,7 +635,7 @@ fn wrong_constants(random: &mut Random) -> Vec<u8> {
 
 /// The bytes of a pack: one that reduces, at a limit, wrong in one way, or damaged.
 fn pack_file(random: &mut Random) -> Vec<u8> {
-    match random.below(40) {
+    match random.below(44) {
         0 => full_pack(random),
         1 => many_constants(random),
         2 | 3 => wrong_constants(random),
@@ -615,6 +663,7 @@ fn pack_file(random: &mut Random) -> Vec<u8> {
         25 => scoped_pack(random),
         26..=28 => widening_join(random),
         29 => shorter_constant(random),
+        30..=33 => numbered_join(random),
         _ => random_pack(random),
     }
 }
@@ -684,9 +733,9 @@ mod tests {
         cases: usize,
         pack: fn(&mut Random) -> Vec<u8>,
         mut look: impl FnMut(Translation),
-    ) -> [usize; 18] {
+    ) -> [usize; 27] {
         let mut random = Random::new(1);
-        let mut numbers = [0; 18];
+        let mut numbers = [0; 27];
         for _ in 0..cases {
             let (mut workspace, mut output) = (vec![0; WORKSPACE_LEAST], vec![0; OUTPUT_LEAST]);
             let pack = pack(&mut random);

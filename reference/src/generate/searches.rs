@@ -5,6 +5,7 @@ use super::damage::damage_bytes;
 use super::exact::{exact_language, exact_tree, EXACT_KIND};
 use super::indexes::room_for;
 use super::languages::name;
+use super::numbers::has_numbers;
 use super::random::Random;
 use super::translations::{
     arrangement, cut_mapping, endomorphism, run_case, translation_bytes, RunCase,
@@ -87,13 +88,13 @@ type Entry = (Production, Vec<u8>);
 
 /// A translation of productions, by rising key, each with its code, into trees of leaves and pairs.
 fn into_pairs(entries: &[Entry]) -> Translation {
-    let clauses = entries.iter().map(|(of, code)| Clause { key: of.key(), code }).collect();
+    let clauses = entries.iter().map(|(of, code)| Clause::plain(of.key(), code)).collect();
     let productions = entries.iter().map(|(production, _)| *production).collect();
     let source = Language { classes: vec![], productions };
     let mapping = cut_mapping(&source, |_| 1);
     let productions = vec![Production::new(1, 0, &[]), Production::new(1, 2, &[1, 1])];
     let target = Language { classes: vec![], productions };
-    Translation { source, target, body: Body { mapping, clauses } }
+    Translation { source, target, body: Body { mapping, clauses, ..Body::default() } }
 }
 
 /// The first of the kinds that lead to each other in cycles.
@@ -136,8 +137,18 @@ fn doubles_and_drops(random: &mut Random) -> Translation {
     into_pairs(&entries)
 }
 
-/// A well-formed translation, mostly with a small source.
+/// A well-formed translation, mostly with a small source and with number 0 alone.
 fn searched(random: &mut Random) -> Translation {
+    let mut tries = (1..TRIES).map(|_| small_translation(random));
+    let plain = tries.find(|value| value.body.is_plain());
+    match plain {
+        Some(value) if random.percent(95) => value,
+        _ => small_translation(random),
+    }
+}
+
+/// A well-formed translation, mostly with a small source; some have other numbers than 0.
+fn small_translation(random: &mut Random) -> Translation {
     let language = small_language(random);
     match random.below(10) {
         0 => cycles(random),
@@ -158,7 +169,7 @@ fn some_run(random: &mut Random, value: &Translation, file: &[u8]) -> Option<(u3
     let mut tree = Vec::new();
     grower.grow(random, kind, grower.heights.greatest(kind, wanted)?, &mut tree);
     let mut output = vec![0; LONGEST_RUN];
-    let outcome = run(file, u32::from(kind), &tree, &mut output);
+    let outcome = run(file, u32::from(kind), 0, &tree, &mut output);
     output.truncate(outcome.length() as usize);
     (outcome.number() == 0).then_some((u32::from(kind), output))
 }
@@ -229,9 +240,9 @@ fn with_buffers(random: &mut Random, mut case: SearchCase) -> SearchCase {
 
 /// A search in the translation of a run, which may be refused, for the result of the run.
 fn run_search(random: &mut Random) -> SearchCase {
-    let RunCase { translation, root, tree, .. } = run_case(random);
+    let RunCase { translation, root, number, tree, .. } = run_case(random);
     let mut output = vec![0; LONGEST_RUN];
-    let outcome = run(&translation, root, &tree, &mut output);
+    let outcome = run(&translation, root, number, &tree, &mut output);
     output.truncate(outcome.length() as usize);
     let tree = if outcome.number() == 0 { output } else { tree };
     let tree = tree[..tree.len().min(LONGEST_RUN)].to_vec();
@@ -261,7 +272,9 @@ const SOME_BYTES: usize = 1000;
 /// A search for the run of a large source tree, which is mostly large too.
 fn large_search(random: &mut Random) -> SearchCase {
     let mut tries = (1..TRIES).map(|_| large_run_search(random));
-    let large = tries.find(|case| case.tree.len() >= SOME_BYTES);
+    let large =
+        |case: &SearchCase| case.tree.len() >= SOME_BYTES && !has_numbers(&case.translation);
+    let large = tries.find(large);
     large.unwrap_or_else(|| large_run_search(random))
 }
 
@@ -274,7 +287,7 @@ fn large_run_search(random: &mut Random) -> SearchCase {
     };
     let (bytes, translation) = (random.within(500..=20_000), translation_bytes(random, &value));
     let (source, mut tree) = (exact_tree(random, bytes), vec![0; LARGEST]);
-    let outcome = run(&translation, kind, &source, &mut tree);
+    let outcome = run(&translation, kind, 0, &source, &mut tree);
     tree.truncate(outcome.length() as usize);
     let limit = MOST_LEVELS as u32;
     SearchCase { translation, root: kind, tree, limit, workspace: 0, output: 0 }

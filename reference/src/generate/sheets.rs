@@ -30,7 +30,7 @@ fn exported(language: &[u8], root: u32, tree: &[u8]) -> Option<Vec<u8>> {
 fn try_sheet_case(random: &mut Random) -> Option<SheetCase> {
     let case = run_case(random);
     let mut output = vec![0; MOST_TEXT];
-    let outcome = run(&case.translation, case.root, &case.tree, &mut output);
+    let outcome = run(&case.translation, case.root, 0, &case.tree, &mut output);
     if outcome.number() != 0 {
         return None;
     }

@@ -6,6 +6,7 @@ use super::damage::{damage, damage_fields, put_together, take_apart, Part};
 use super::heights::Heights;
 use super::languages::{encoded, language};
 use super::long_trees::long_tree_case;
+use super::numbers::uses_of;
 use super::random::Random;
 use super::translations::{
     arrangement, cut_mapping, endomorphism, full_translation, run_case, translation,
@@ -212,9 +213,9 @@ fn edge_translation(kind: u8, code: &[u8]) -> Translation {
     let target = edge_language();
     let productions = vec![Production::new(3, 4, &[1, 2])];
     let source = Language { classes: target.classes.clone(), productions };
-    let clauses = [Clause { key: 0x0304, code }].into_iter().collect();
+    let clauses = [Clause::plain(0x0304, code)].into_iter().collect();
     let mapping = cut_mapping(&source, |from| if from == 3 { kind } else { from });
-    Translation { source, target, body: Body { mapping, clauses } }
+    Translation { source, target, body: Body { mapping, clauses, ..Body::default() } }
 }
 
 /// A token at the root of a code, at the limit or one past it.
@@ -270,7 +271,8 @@ fn edge_factor(random: &mut Random) -> (Translation, Vec<u8>) {
 fn edge_code(random: &mut Random) -> (Translation, Vec<u8>) {
     let target = edge_language();
     let heights = Heights::new(&target);
-    let coder = Coder { target: &target, heights: &heights, arguments: &[1, 2] };
+    let arguments = uses_of(&edge_translation(1, &[3, 1]).body, &[1, 2]);
+    let coder = Coder { target: &target, heights: &heights, arguments: &arguments };
     let code = coder.code(random, 1).unwrap_or_else(|| vec![3, 1]);
     let figures = any_figures(random);
     let table = table_of(random, &target, figures);

@@ -5,11 +5,12 @@ use super::damage::{damage, damage_fields};
 use super::heights::Heights;
 use super::languages::{arguments, encoded, full_language, language, name};
 use super::long::long_run_case;
+use super::numbers::{cut_others, other_numbers, root_number, uses_of, wrong_numbers};
 use super::random::Random;
 use super::ranges::{inside, outside, related, step, with_one_range, with_ranges};
 use super::trees::{chain_language, chain_tree, root_and_tree};
 use super::written::{write_steps, write_steps_within};
-use crate::body::{Body, Clause, Clauses, Mapping};
+use crate::body::{Body, Clause, Clauses, Mapping, Numbered};
 use crate::code::{Symbol, CODE_LEVELS};
 use crate::field::put_header;
 use crate::language::{bit, Class, Language, Production, KINDS, LANGUAGE_LIMIT};
@@ -23,6 +24,7 @@ use std::collections::BTreeMap;
 pub struct RunCase {
     pub translation: Vec<u8>,
     pub root: u32,
+    pub number: u32,
     pub tree: Vec<u8>,
     pub output: usize,
 }
@@ -89,29 +91,35 @@ fn source_productions(random: &mut Random, classes: &[(Class, u8)]) -> Vec<Produ
 /// Gives a code of a kind, if one is found.
 type Code = fn(&Coder, &mut Random, u8) -> Option<Vec<u8>>;
 
-/// A body for the source: the mapping cut to its kinds, and a code for each production.
+/// A body for the source: the mapping cut to its kinds, often with other numbers, and a code for each
+/// production and number.
 ///
 /// Productions for which no code is found are dropped from the source.
 fn with_body(
     random: &mut Random,
     mut source: Language,
     target: Language,
-    whole: &[u8; KINDS],
+    zero: &[u8; KINDS],
     code: Code,
 ) -> Translation {
     let heights = Heights::new(&target);
+    let others = other_numbers(random, &source, &target, zero);
+    let whole = Body { mapping: zero.map(Some), others, clauses: Clauses::default() };
     let mut clauses = Clauses::default();
     source.productions.retain(|production| {
-        let arguments: Vec<u8> =
-            production.arguments().iter().map(|&kind| whole[kind as usize]).collect();
+        let arguments = uses_of(&whole, production.arguments());
         let coder = Coder { target: &target, heights: &heights, arguments: &arguments };
-        let code = code(&coder, random, whole[production.result as usize]);
-        let Some(code) = code else { return false };
-        clauses.push(Clause { key: production.key(), code: &code });
+        let by = |(number, kind)| Some((number, code(&coder, random, kind)?));
+        let codes: Option<Vec<(u8, Vec<u8>)>> = whole.numbers(production.result).map(by).collect();
+        let Some(codes) = codes else { return false };
+        for (number, code) in &codes {
+            clauses.push(Clause { key: production.key(), number: *number, code });
+        }
         true
     });
-    let mapping = cut_mapping(&source, |kind| whole[kind as usize]);
-    Translation { source, target, body: Body { mapping, clauses } }
+    let mapping = cut_mapping(&source, |kind| zero[kind as usize]);
+    let others = cut_others(&source, &whole.others);
+    Translation { source, target, body: Body { mapping, others, clauses } }
 }
 
 /// A mapping of exactly the kinds in the language.
@@ -129,12 +137,13 @@ fn trim(mut translation: Translation, limit: usize) -> Translation {
     while translation.encoded_length() > limit
         || translation.source.encoded_length() > LANGUAGE_LIMIT
     {
-        translation.source.productions.pop();
-        let count = translation.source.productions.len();
-        let clauses = translation.body.clauses.iter().take(count).collect();
+        let gone = translation.source.productions.pop().map(|production| production.key());
+        let clauses = translation.body.clauses.iter();
+        let clauses = clauses.filter(|clause| Some(clause.key) != gone).collect();
         let whole = translation.body.mapping;
         let to = |kind| whole[kind as usize].expect("mapped before");
         translation.body.mapping = cut_mapping(&translation.source, to);
+        translation.body.others = cut_others(&translation.source, &translation.body.others);
         translation.body.clauses = clauses;
     }
     translation
@@ -196,10 +205,9 @@ pub fn counting_language() -> Language {
 pub fn counting_translation(codes: [&[u8]; 3]) -> Translation {
     let (source, target) = (counting_language(), counting_language());
     let clauses = source.productions.iter().zip(codes);
-    let clauses =
-        clauses.map(|(production, code)| Clause { key: production.key(), code }).collect();
+    let clauses = clauses.map(|(production, code)| Clause::plain(production.key(), code)).collect();
     let mapping = cut_mapping(&source, |_| 1);
-    Translation { source, target, body: Body { mapping, clauses } }
+    Translation { source, target, body: Body { mapping, clauses, ..Body::default() } }
 }
 
 /// Appends a code over the counting language with so many nodes and few levels.
@@ -236,12 +244,23 @@ pub fn counting_with_class(random: &mut Random) -> Language {
 
 /// A well-formed translation of exactly so many bytes, into the counting language.
 pub fn full_translation(random: &mut Random, bytes: usize) -> Translation {
-    full_translation_into(random, counting_language(), bytes)
+    let numbers = full_numbers(random);
+    full_translation_by(random, counting_language(), numbers, bytes)
 }
 
 /// The same into the counting language with some more in it.
 pub fn full_translation_into(random: &mut Random, target: Language, bytes: usize) -> Translation {
-    let count = random.within(1..=bytes / 60);
+    full_translation_by(random, target, &[], bytes)
+}
+
+/// The same by these numbers besides 0, which rise; there are at most three.
+pub fn full_translation_by(
+    random: &mut Random,
+    target: Language,
+    numbers: &[u8],
+    bytes: usize,
+) -> Translation {
+    let count = random.within(1..=bytes / (60 * (1 + numbers.len())));
     let mut names: Vec<u8> = (0..count).map(|_| random.byte()).collect();
     names.sort_unstable();
     names.dedup();
@@ -249,7 +268,7 @@ pub fn full_translation_into(random: &mut Random, target: Language, bytes: usize
         names.iter().map(|&name| Production::new(7, name, &vec![7; random.below(4)])).collect();
     let fixed = |productions: &[Production]| {
         let source = Language { classes: vec![], productions: productions.to_vec() };
-        let codes = productions.len() * 5;
+        let codes = productions.len() * (5 + 6 * numbers.len()) + 6 * numbers.len();
         6 + source.encoded_length() + target.encoded_length() + 5 + codes
     };
     if (bytes - fixed(&productions)) % 2 == 1 {
@@ -260,17 +279,25 @@ pub fn full_translation_into(random: &mut Random, target: Language, bytes: usize
     let nodes = (bytes - fixed(&productions)) / 2;
     let mut clauses = Clauses::default();
     let mut left = nodes;
-    for (number, production) in productions.iter().enumerate() {
-        let rest = productions.len() - number;
+    let all = [&[0], numbers].concat();
+    let due = productions.iter().flat_map(|of| all.iter().map(move |&number| (of.key(), number)));
+    for (place, (key, number)) in due.enumerate() {
+        let rest = productions.len() * all.len() - place;
         let share = if rest == 1 { left } else { random.within(1..=2 * left / rest - 1) };
         let mut code = Vec::new();
         put_counting_code(share, &mut code);
-        clauses.push(Clause { key: production.key(), code: &code });
+        clauses.push(Clause { key, number, code: &code });
         left -= share;
     }
     let source = Language { classes: vec![], productions };
     let mapping = cut_mapping(&source, |_| 1);
-    Translation { source, target, body: Body { mapping, clauses } }
+    let others = numbers.iter().map(|&number| Numbered { kind: 7, number, target: 1 }).collect();
+    Translation { source, target, body: Body { mapping, others, clauses } }
+}
+
+/// Numbers for a full translation: often none besides 0.
+pub fn full_numbers(random: &mut Random) -> &'static [u8] {
+    random.pick(&[&[], &[], &[1], &[1, 15], &[2, 3, 15], &[16], &[1, 255]])
 }
 
 /// The bytes of a translation; some steps of 1 may be written.
@@ -335,17 +362,18 @@ fn wrong_mapping(random: &mut Random, translation: &mut Translation) {
 /// Adds, drops or renames one clause.
 fn wrong_clauses(random: &mut Random, translation: &mut Translation) {
     let clauses: Vec<Clause> = translation.body.clauses.iter().collect();
-    let mut table: BTreeMap<u16, Vec<u8>> =
-        clauses.iter().map(|clause| (clause.key, clause.code.to_vec())).collect();
+    let mut table: BTreeMap<(u16, u8), Vec<u8>> =
+        clauses.iter().map(|clause| (clause.place(), clause.code.to_vec())).collect();
     let code = clauses.first().map_or(vec![1, 0], |clause| clause.code.to_vec());
     if random.percent(50) && !clauses.is_empty() {
-        let gone = random.pick(&clauses).key;
+        let gone = random.pick(&clauses).place();
         table.remove(&gone);
     }
     if random.percent(50) {
-        table.entry(random.below(KINDS * 256) as u16).or_insert(code);
+        let number = random.pick(&[0, 0, 0, 1, 15]);
+        table.entry((random.below(KINDS * 256) as u16, number)).or_insert(code);
     }
-    let clauses = table.iter().map(|(&key, code)| Clause { key, code });
+    let clauses = table.iter().map(|(&(key, number), code)| Clause { key, number, code });
     translation.body.clauses = clauses.collect();
 }
 
@@ -358,15 +386,13 @@ fn wrong_codes(random: &mut Random, translation: &mut Translation) {
     let heights = Heights::new(&translation.target);
     let chosen = random.below(count);
     let mut changed = Clauses::default();
-    let pairs = translation.source.productions.iter().zip(translation.body.clauses.iter());
-    for (number, (production, clause)) in pairs.enumerate() {
-        let arguments = production.arguments().iter();
-        let arguments: Vec<u8> = arguments.map(|&kind| translation.mapped(kind)).collect();
+    let pairs = translation.due_clauses().zip(translation.body.clauses.iter());
+    for (place, ((production, _, kind), clause)) in pairs.enumerate() {
+        let arguments = uses_of(&translation.body, production.arguments());
         let coder = Coder { target: &translation.target, heights: &heights, arguments: &arguments };
-        let kind = translation.mapped(production.result);
         let wrong = coder.wrong_code(random, kind, clause.code);
-        let code = if number == chosen { &wrong } else { clause.code };
-        changed.push(Clause { key: clause.key, code });
+        let code = if place == chosen { &wrong } else { clause.code };
+        changed.push(Clause { code, ..clause });
     }
     translation.body.clauses = changed;
 }
@@ -384,6 +410,7 @@ pub fn counting_with_tokens() -> Language {
 pub fn chain_code_with_end(random: &mut Random, levels: usize) -> Vec<u8> {
     let (end, own): (&[u8], usize) = random.pick(&[
         (&[1, 0], 1),
+        (&NUMBERED_END, 1),
         (&[1, 3, 2, 0, 7], 1),
         (&[1, 3, 2, 0, 7], 1),
         (&[3, 1], 1),
@@ -392,14 +419,20 @@ pub fn chain_code_with_end(random: &mut Random, levels: usize) -> Vec<u8> {
     [&[1, 1].repeat(levels.saturating_sub(own)), end].concat()
 }
 
+/// The end of a code that uses its first argument, of kind 1, by a number.
+const NUMBERED_END: [u8; 3] = [4, 1, 5];
+
 /// A translation of one production with arguments of kinds 1 and 2, by a code.
 pub fn single_translation(code: &[u8]) -> Translation {
     let target = counting_with_tokens();
     let productions = vec![Production::new(3, 4, &[1, 2])];
     let source = Language { classes: target.classes.clone(), productions };
-    let clauses = [Clause { key: 0x0304, code }].into_iter().collect();
+    let clauses = [Clause::plain(0x0304, code)].into_iter().collect();
     let mapping = cut_mapping(&source, |kind| if kind == 2 { 2 } else { 1 });
-    Translation { source, target, body: Body { mapping, clauses } }
+    let by_number = code.ends_with(&NUMBERED_END);
+    let others = by_number.then_some(Numbered { kind: 1, number: 5, target: 1 });
+    let others = others.into_iter().collect();
+    Translation { source, target, body: Body { mapping, others, clauses } }
 }
 
 /// A translation with one code, a chain at or past the limit.
@@ -421,7 +454,7 @@ fn clash(random: &mut Random, translation: &mut Translation) {
 
 /// Makes some of codes, clauses and mapping wrong.
 pub fn wrong_body(random: &mut Random, translation: &mut Translation) {
-    for wrong in [wrong_codes, wrong_clauses, wrong_mapping, wrong_range] {
+    for wrong in [wrong_codes, wrong_clauses, wrong_mapping, wrong_range, wrong_numbers] {
         if random.percent(50) {
             wrong(random, translation);
         }
@@ -438,7 +471,7 @@ fn several_wrong(random: &mut Random, translation: &mut Translation) {
 
 /// The bytes of a translation: valid, at a limit, wrong in one way, or damaged.
 pub fn translation_file(random: &mut Random) -> Vec<u8> {
-    let choice = random.below(32);
+    let choice = random.below(36);
     if choice <= 1 && random.percent(30) {
         return full_translation_with_step(random, TRANSLATION_LIMIT + choice);
     }
@@ -456,6 +489,7 @@ pub fn translation_file(random: &mut Random) -> Vec<u8> {
         8..=10 => wrong_clauses(random, &mut value),
         11..=14 => wrong_codes(random, &mut value),
         15 | 16 => clash(random, &mut value),
+        32..=34 => wrong_numbers(random, &mut value),
         24 | 25 => several_wrong(random, &mut value),
         _ => {}
     }
@@ -473,9 +507,14 @@ pub fn translation_file(random: &mut Random) -> Vec<u8> {
 }
 
 /// An output length for a run: often exact or one short of it.
-fn output_length(random: &mut Random, translation: &[u8], root: u32, tree: &[u8]) -> usize {
+fn output_length(
+    random: &mut Random,
+    translation: &[u8],
+    (root, number): (u32, u32),
+    tree: &[u8],
+) -> usize {
     const MOST: usize = 5000;
-    let outcome = run(translation, root, tree, &mut [0; MOST]);
+    let outcome = run(translation, root, number, tree, &mut [0; MOST]);
     let exact = outcome.length() as usize;
     match random.below(6) {
         0 | 1 => exact,
@@ -505,16 +544,16 @@ fn endless_run_case(random: &mut Random) -> RunCase {
     if random.percent(50) {
         tree = [vec![2, 0], vec![1; links], vec![0]].concat();
     }
-    let output = output_length(random, &translation, 1, &tree);
-    RunCase { translation, root: 1, tree, output }
+    let output = output_length(random, &translation, (1, 0), &tree);
+    RunCase { translation, root: 1, number: 0, tree, output }
 }
 
 /// A run of an identity on a chain about the limit of levels.
 fn chain_run_case(random: &mut Random) -> RunCase {
     let (language, kind) = chain_language(random);
     let (translation, tree) = (identity(&language).encode(), chain_tree(random));
-    let output = output_length(random, &translation, u32::from(kind), &tree);
-    RunCase { translation, root: u32::from(kind), tree, output }
+    let output = output_length(random, &translation, (u32::from(kind), 0), &tree);
+    RunCase { translation, root: u32::from(kind), number: 0, tree, output }
 }
 
 /// One run in so many is on a long tree.
@@ -534,7 +573,8 @@ pub fn run_case(random: &mut Random) -> RunCase {
     if random.percent(12) {
         let bytes = translation_file(random);
         let tree = (0..random.below(6)).map(|_| random.byte()).collect();
-        return RunCase { translation: bytes, root: random.below(34) as u32, tree, output: 64 };
+        let (root, number) = (random.below(34) as u32, random.pick(&[0, 0, 0, 1, 256]));
+        return RunCase { translation: bytes, root, number, tree, output: 64 };
     }
     let value = match random.below(3) {
         0 => translation(random),
@@ -549,7 +589,8 @@ pub fn run_case(random: &mut Random) -> RunCase {
         }
     };
     let (root, tree) = root_and_tree(random, &value.source);
+    let number = root_number(random, &value, root);
     let translation = translation_bytes(random, &value);
-    let output = output_length(random, &translation, root, &tree);
-    RunCase { translation, root, tree, output }
+    let output = output_length(random, &translation, (root, number), &tree);
+    RunCase { translation, root, number, tree, output }
 }

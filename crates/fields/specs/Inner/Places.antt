@@ -1,6 +1,6 @@
 -- The fields of a file by their places, as the code walks over them.
 -- `proofs/Split.antt` shows that they are the fields of `fieldsOf`.
-use Prim.Native.Nat.{ℕ, zero, suc, _+_, _<_, _≤_}
+use Prim.Native.Nat.{ℕ, zero, suc, _+_, _*_, _<_, _≤_}
 use mathlib.Core.Path.{_≡_}
 use mathlib.Core.Bool.{Bool, true, false, cond, _&&_}
 use mathlib.Core.List.{List, [], _∷_}
@@ -70,6 +70,29 @@ tagsOrdered test s last (p ∷ l) = (test p && leb last (byteAt s p)) && tagsOrd
 -- The key of the entry at p: the kind in a field of the leading tag, and the kind and the name in any other.
 unfoldable pub keyAt : ℕ → List ℕ → ℕ → ℕ
 keyAt leading s p = cond (eqb (byteAt s p) leading) (byteAt s (p + 3)) (32 + pairAt s (p + 3))
+
+-- The tag of a mapping without a number, the first of a body's tags; and the least tag of a field with one (paper 02,
+-- 2026-13): 28 is a mapping, 29 a clause.
+abbrev pub mappingTag : ℕ
+mappingTag = 0x22
+
+abbrev pub numberedTag : ℕ
+numberedTag = 0x28
+
+-- The key of the item of a body at p: that of its kind or production, then its number, if the field is long enough for one.
+unfoldable pub itemOrder : List ℕ → ℕ → ℕ
+itemOrder s p =
+    cond (ltb (byteAt s p) numberedTag) (keyAt mappingTag s p * 256)
+    (cond (eqb (byteAt s p) numberedTag) (pairAt s (p + 3))
+    (cond (ltb (pairAt s (p + 1)) 3) ((32 + pairAt s (p + 3)) * 256) ((32 + pairAt s (p + 3)) * 256 + byteAt s (p + 5))))
+
+-- The key that the entry at p is ordered by: in a body with its number.
+unfoldable pub orderAt : ℕ → List ℕ → ℕ → ℕ
+orderAt leading s p = cond (eqb leading mappingTag) (itemOrder s p) (keyAt leading s p)
+
+-- The key that the entry at p has in an index: that of its kind or production, or, with a number, one that no index has.
+unfoldable pub slotAt : ℕ → List ℕ → ℕ → ℕ
+slotAt leading s p = cond (ltb (byteAt s p) numberedTag) (keyAt leading s p) 65568
 
 -- The first three bytes of the field at p are there, its tag is of a language, and its length bytes say that it is
 -- over the limit. `proofs/Over.antt` shows that `hasOver` asks for such a place.

@@ -1,29 +1,35 @@
 -- The text as the code makes it: by a walk over the fields of a translation's bytes, from place to place.
 -- `proofs/Walk.antt` shows that it is the text of the translation.
-use Prim.Native.Nat.{ℕ, _+_}
-use mathlib.Core.Bool.{Bool, cond, _&&_}
+use Prim.Native.Nat.{ℕ}
+use mathlib.Core.Bool.{cond, _&&_}
 use mathlib.Core.List.{List, [], _++_}
-use lib.ListN.{take, drop}
+use lib.ListN.{length, take, drop}
 use lib.Dec.{leb, eqb}
 use Rattle.fields.specs.Lists.{concatMap}
 use Rattle.fields.specs.Fields.{byteAt}
 use Rattle.fields.specs.Outcome.{reasonNumber}
 use Rattle.fields.specs.declared.outcome.Outcome.{Outcome}
 use Rattle.fields.specs.declared.outcome.Outcome.the-variants.{Accepted, Refused}
-use Rattle.fields.specs.Inner.Places.{fieldEnd, isWhole, contentsAt, places}
-use Rattle.listing.specs.Text.{acceptedWord, refusedWord, firstLine, clauseLine}
+use Rattle.fields.specs.Inner.Places.{isWhole, contentsAt, places}
+use Rattle.listing.specs.Text.{acceptedWord, refusedWord, firstLine, clauseLine, numberedLine}
 
--- The line of a clause, from the contents of its field: result, name, code.
+-- The line of a clause of number 0, from the contents of its field: result, name, code.
 unfoldable pub contentsLine : List ℕ → List ℕ
 contentsLine contents = clauseLine (byteAt contents 0) (byteAt contents 1) (drop 2 contents)
 
--- The field at p is a whole clause.
-unfoldable pub isClause : List ℕ → ℕ → Bool
-isClause s p = eqb (byteAt s p) 0x23 && (leb (p + 5) (fieldEnd s p) && isWhole s p)
+-- The line of a clause of another number: result, name, number, code.
+unfoldable pub numberedContents : List ℕ → List ℕ
+numberedContents contents = numberedLine (byteAt contents 0) (byteAt contents 1) (byteAt contents 2) (drop 3 contents)
 
--- What the field at p adds: a clause its line, another field nothing.
+-- What a field adds, by its tag and contents: a clause its line, another field nothing.
+unfoldable pub fieldLine : ℕ → List ℕ → List ℕ
+fieldLine tag contents =
+    cond (eqb tag 0x23 && leb 2 (length contents)) (contentsLine contents)
+    (cond (eqb tag 0x29 && leb 3 (length contents)) (numberedContents contents) [])
+
+-- What the field at p adds, where it is whole.
 unfoldable pub lineAt : List ℕ → ℕ → List ℕ
-lineAt s p = cond (isClause s p) (contentsLine (contentsAt s p)) []
+lineAt s p = cond (isWhole s p) (fieldLine (byteAt s p) (contentsAt s p)) []
 
 -- The lines of the clauses in a translation's bytes, in order.
 unfoldable pub clauseLines : List ℕ → List ℕ

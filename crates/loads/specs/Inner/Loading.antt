@@ -1,15 +1,16 @@
 -- What the functions that put a joined table together ask for and give.
 use Prim.Native.Nat.{ℕ, _+_}
 use mathlib.Core.Path.{_≡_}
-use mathlib.Core.Bool.{Bool, true, false}
+use mathlib.Core.Bool.{Bool, true, false, not}
 use mathlib.Core.List.{List, map}
 use mathlib.Core.Option.{some}
 use lib.ListN.{getD}
 use lib.IntN.{ℤ}
 use Rattle.fields.specs.Lists.{concatMap, countUp}
 use Rattle.fields.specs.Fields.{encodeField}
-use Rattle.fields.specs.Outcome.{Result, _>>=_, written, outputAfter}
+use Rattle.fields.specs.Outcome.{Result, refuseIf, _>>=_, written, outputAfter}
 use Rattle.fields.specs.declared.outcome.Outcome.{Outcome}
+use Rattle.fields.specs.declared.outcome.Reason.the-variants.{NumberUnfit}
 use Rattle.fields.specs.Inner.Writing.{Written}
 use Rattle.language.specs.Language.{argumentsOf}
 use Rattle.language.specs.Inner.Entries.{IsProduction}
@@ -18,7 +19,8 @@ use Rattle.translation.specs.Translation.{Translation}
 use Rattle.translation.specs.Running.{clausesOf}
 use Rattle.translation.specs.Operations.{fitted}
 use Rattle.translation.specs.Inner.ItemIndex.{IndexedItems}
-use Rattle.emitter.specs.Inner.Table.{Checked}
+use Rattle.plain.specs.Plain.{plain}
+use Rattle.tables.specs.Inner.Table.{Checked}
 use Rattle.score.specs.Figures.{figureBytes}
 use Rattle.score.specs.LoadTable.{load, Table, loadField, encodeTable, tableOf}
 use Rattle.score.specs.Linear.{Loads, form}
@@ -28,15 +30,17 @@ use Rattle.loads.specs.declared.join.Joined.{Joined}
 use Rattle.loads.specs.declared.join.Joined.the-variants.{To}
 use Rattle.loads.specs.declared.join.Joined.the-variants as Ends
 
--- The three parts of f, the indexes of its target and its body, and the figures of a table of the target.
+-- The three parts of f, which has number 0 only, the indexes of its target and its body, and the figures of a table of the
+-- target.
 pub record Parts (s t index b items : List ℕ) (figures : List ℤ) (f : Translation) (w : Loads) : Type 0 where
   pub checked : Checked s t b f
+  pub plain-body : plain (f .body) ≡ true
   pub world : World t index figures (f .target) w
   pub indexed : IndexedItems items b (f .body)
 
 -- The code of the clause of the production at p of the source.
 abbrev pub clauseAt : Translation → List ℕ → ℕ → Code
-clauseAt f s p = clausesOf f (getD s (p + 3) 0) (getD s (p + 4) 0)
+clauseAt f s p = clausesOf f (getD s (p + 3) 0) (getD s (p + 4) 0) 0
 
 -- So many figures of a code's form, from place j on, in bytes.
 unfoldable pub figuresBytes : Loads → Code → ℕ → ℕ → List ℕ
@@ -70,3 +74,7 @@ joinOn f w room = joinedOf f w >>= λ v. fitted room (encodeTable v)
 -- The same with the table in its bytes.
 unfoldable pub joinWith : Translation → List ℕ → ℕ → Result (List ℕ)
 joinWith f table room = tableOf (f .target) table >>= λ w. joinOn f w room
+
+-- The same where f may have other numbers than 0.
+unfoldable pub joinAny : Translation → List ℕ → ℕ → Result (List ℕ)
+joinAny f table room = refuseIf (not (plain (f .body))) NumberUnfit (joinWith f table room)

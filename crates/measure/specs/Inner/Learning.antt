@@ -18,6 +18,6 @@ Learnt s index b before after =
 
 -- The row that a step found decides where the tree of kind k at `at` ends, however many levels are left.
 abbrev pub Decides : List ℕ → List ℕ → List ℕ → ℕ → ℕ → Step → Type 0
-Decides s index b k at (Step.Row q e w to sum) =
+Decides s index b k at (Step.Row q e to sum cost) =
     (n : ℕ) → readAt Tree s index [] b (suc n) k at ≡ operandsFrom (readAt Tree s index [] b n) s (e - q) q to
 Decides s index b k at Step.Broken = Unit {0}

@@ -9,7 +9,7 @@ use lib.Seq.{slice}
 use lib.Dec.{ltb, leb, eqb}
 use Rattle.fields.specs.Lists.{all, concatMap, sameNumbers}
 use Rattle.fields.specs.Keyed.{rising, union, without, within, agree}
-use Rattle.fields.specs.Inner.Places.{fieldEnd, isWhole, longAt, placesFrom, keyAt}
+use Rattle.fields.specs.Inner.Places.{fieldEnd, isWhole, longAt, placesFrom, orderAt}
 use Rattle.language.specs.Language.{rangeWithin}
 use Rattle.language.specs.Inner.Entries.{entryWhole, classRange, resultsMeet}
 
@@ -35,7 +35,7 @@ pieceAt s p = slice p (fieldEnd s p) s
 
 -- The field at p, where `leading` is the tag of the fields that come first.
 unfoldable pub partAt : ℕ → List ℕ → ℕ → Part
-partAt leading s p = record { key = keyAt leading s p; bytes = pieceAt s p }
+partAt leading s p = record { key = orderAt leading s p; bytes = pieceAt s p }
 
 -- The fields from p on, and all fields.
 unfoldable pub partsFrom : ℕ → List ℕ → ℕ → List Part

@@ -2,18 +2,18 @@
 use Prim.Native.Nat.{ℕ, suc, _+_, _<_, _≤_}
 use mathlib.Core.Path.{_≡_}
 use mathlib.Core.Bool.{Bool, true, false, cond}
-use mathlib.Core.List.{List, []}
+use mathlib.Core.List.{List, [], map}
 use mathlib.Core.Option.{some}
 use lib.ListN.{length, getD}
 use lib.Dec.{eqb}
 use Rattle.language.specs.Language.{argumentsOf, productionKey}
-use Rattle.reader.specs.Code.{Code, node, argument, Codes, cons}
-use Rattle.reader.specs.Typing.{TypedAll}
+use Rattle.reader.specs.Code.{Code, node, argument, Codes, nil, cons}
+use Rattle.reader.specs.Typing.{Uses, TypedAll}
 use Rattle.reader.specs.Syntax.{write, writeAll, tree, code}
-use Rattle.translation.specs.Translation.{Translation, mapped}
-use Rattle.translation.specs.Running.{clausesOf}
-use Rattle.emitter.specs.Inner.Stands.{Stands}
-use Rattle.emitter.specs.Inner.Table.{bodyStart, bodyByte, indexEntry, clauseEntry, Production}
+use Rattle.translation.specs.Translation.{Translation, mappingOf, mapped}
+use Rattle.translation.specs.Running.{Replacing, clausesOf}
+use Rattle.tables.specs.Inner.Stands.{Stands}
+use Rattle.tables.specs.Inner.Table.{bodyStart, bodyByte, indexEntry, clauseEntry, Production}
 use Rattle.index.specs.Inner.Lying.{Index, Lies, LieAll}
 use Rattle.sources.specs.Inner.Goals.{Goal, Meets, Matches}
 use Rattle.sources.specs.Inner.Matching.{Inside, Solves, Alike}
@@ -28,7 +28,7 @@ pub record Bound (f : Translation) (bytes bound : List ℕ) (to : ℕ) (ks : Lis
   pub inside : Inside ks b
 
 -- The codes cs stand in the body from c up to `stop`, the trees us of the same kinds in the bytes from `to` on.
-pub record Pending (table bytes : List ℕ) (c stop to : ℕ) (f : Translation) (given js : List ℕ) (cs us : Codes) : Type 0 where
+pub record Pending (table bytes : List ℕ) (c stop to : ℕ) (f : Translation) (given : Uses) (js : List ℕ) (cs us : Codes) : Type 0 where
   pub codes : TypedAll (f .target) given cs js
   pub stands : Stands table (bodyStart + c) (writeAll code cs)
   pub ends : stop ≡ c + length (writeAll code cs)
@@ -41,14 +41,14 @@ pub record ArgumentAsks (target places bytes bound : List ℕ) (kind to i : ℕ)
   pub is : Bound f bytes bound to ks b
   pub number : i < length ks
   pub few : length ks ≤ 8
-  pub kind-is : kind ≡ mapped (f .body) (getD ks i 0)
+  pub kind-is : kind ≡ mapped (f .body) (getD ks i 0) 0
   pub lies : Lies (f .target) bytes to kind u
 
 -- It is bound to that tree, up to r; or it is bound to another, where r is 0.
 pub record ArgumentGives (bytes after : List ℕ) (to i r : ℕ) (f : Translation) (ks : List ℕ) (b : ℕ → Goal) (u : Code) : Type 0 where
   pub goes : (r ≡ 0 → ⊥)
-      → (r ≡ to + length (write tree u)) × (d : ℕ → Goal) × Bound f bytes after r ks d × ((cs us : Codes) → Alike b (cons (argument (suc i)) cs) (cons u us) d cs us)
-  pub stops : r ≡ 0 → (cs us s : Codes) → Solves b (cons (argument (suc i)) cs) (cons u us) s → ⊥
+      → (r ≡ to + length (write tree u)) × (d : ℕ → Goal) × Bound f bytes after r ks d × ((cs us : Codes) → Alike b (cons (argument (suc i) 0) cs) (cons u us) d cs us)
+  pub stops : r ≡ 0 → (cs us : Codes) (s : Replacing) → Solves b (cons (argument (suc i) 0) cs) (cons u us) s → ⊥
 
 -- How many bytes of the code stand for one step: a sign, and a name, an argument or a token of two bytes.
 unfoldable pub width : ℕ → ℕ
@@ -58,7 +58,7 @@ width sign = cond (eqb sign 2) 3 2
 pub record StepAsks (table target places kinds bytes bound : List ℕ) (place c stop to : ℕ) (f : Translation) (ks js : List ℕ) (cs us : Codes) (b : ℕ → Goal) : Type 0 where
   pub targeted : Targeted table target places kinds bytes f
   pub production : Production table place ks
-  pub row : Pending table bytes c stop to f (mathlib.Core.List.map (mapped (f .body)) ks) js cs us
+  pub row : Pending table bytes c stop to f (map (mappingOf (f .body)) ks) js cs us
   pub is : Bound f bytes bound to ks b
   pub more : c < stop
 
@@ -66,9 +66,9 @@ pub record StepAsks (table target places kinds bytes bound : List ℕ) (place c 
 pub record StepGives (table bytes after : List ℕ) (c stop r : ℕ) (f : Translation) (ks : List ℕ) (cs us : Codes) (b : ℕ → Goal) : Type 0 where
   pub goes : (r ≡ 0 → ⊥)
       → (js : List ℕ) × (es vs : Codes) × (d : ℕ → Goal)
-      × Pending table bytes (c + width (bodyByte table c)) stop r f (mathlib.Core.List.map (mapped (f .body)) ks) js es vs
+      × Pending table bytes (c + width (bodyByte table c)) stop r f (map (mappingOf (f .body)) ks) js es vs
       × Bound f bytes after r ks d × Alike b cs us d es vs
-  pub stops : r ≡ 0 → (s : Codes) → Solves b cs us s → ⊥
+  pub stops : r ≡ 0 → (s : Replacing) → Solves b cs us s → ⊥
 
 -- The clause of production p of kind k is matched with what is asked at a position; nothing is bound yet.
 pub record MatchAsks (table target places kinds bytes bound : List ℕ) (place clause at : ℕ) (f : Translation) (k p : ℕ) (ks : List ℕ) (g : Goal) : Type 0 where

@@ -1,27 +1,30 @@
 -- What the search knows: the translation by its table and its indexes, the target tree in bytes, and its memory.
 use Prim.Native.Nat.{ℕ, _+_, _*_, _<_, _≤_}
 use mathlib.Core.Path.{_≡_}
-use mathlib.Core.Bool.{false, cond}
+use mathlib.Core.Bool.{true, false, cond}
 use mathlib.Core.List.{List}
-use mathlib.Core.Option.{none, some}
+use mathlib.Core.Option.{Option, none, some}
 use lib.ListN.{length, getD}
 use lib.Dec.{leb}
 use Rattle.fields.specs.Fields.{pairAt}
 use Rattle.reader.specs.Code.{Code}
 use Rattle.reader.specs.Inner.Index.{Indexed}
-use Rattle.language.specs.Language.{Range, rangeOf, argumentsOf, productionKey, clashes}
-use Rattle.translation.specs.Translation.{Translation, mapped}
+use Rattle.language.specs.Language.{Range, rangeOf, argumentsOf, productionKey, isIn, clashes}
+use Rattle.translation.specs.Translation.{Translation, mappingOf, mapped}
 use Rattle.translation.specs.Running.{clausesOf}
-use Rattle.emitter.specs.Inner.Table.{Ready, Production}
+use Rattle.tables.specs.Inner.Table.{Ready, Production}
 use Rattle.index.specs.Inner.Lying.{Index, Lies}
 use Rattle.sources.specs.Inner.Goals.{Goal}
 use Rattle.sources.specs.Inner.Levels.{Says}
 
--- The table, the index of the target and the kinds that are mapped to are those of f; the tree is bytes.
+-- The table, the index of the target and the kinds that are mapped to by number 0 are those of f; each kind in its source has
+-- that number and no other; the tree is bytes.
 pub record Targeted (table target places kinds tree : List ℕ) (f : Translation) : Type 0 where
   pub ready : Ready table f
   pub target-index : Index places target (f .target)
-  pub maps : (k : ℕ) → k < 32 → getD kinds k 0 ≡ mapped (f .body) k
+  pub maps : (k : ℕ) → k < 32 → getD kinds k 0 ≡ mapped (f .body) k 0
+  pub plain : (k j t : ℕ) → mappingOf (f .body) k j ≡ some t → j ≡ 0
+  pub has-zero : (k : ℕ) → isIn (f .source) k ≡ true → mappingOf (f .body) k 0 ≡ some (mapped (f .body) k 0)
   pub narrow : (i : ℕ) → getD tree i 0 < 256
 
 -- The same, and the index of the source.
@@ -30,12 +33,12 @@ pub record Setting (table source index target places kinds tree : List ℕ) (f :
   pub source-index : Indexed index source (f .source)
   pub apart : clashes (f .source) (f .source) ≡ false
   pub named : (k p : ℕ) (ks : List ℕ) → argumentsOf (f .source) k p ≡ some ks → p < 256
-  pub tokens : (k : ℕ) (c : Range) → rangeOf (f .source) k ≡ some c → (d : Range) × (rangeOf (f .target) (mapped (f .body) k) ≡ some d)
+  pub tokens : (k : ℕ) (c : Range) → rangeOf (f .source) k ≡ some c → (d : Range) × (rangeOf (f .target) (mapped (f .body) k 0) ≡ some d)
 
 -- What is asked at a position: nothing past the tree, and else the target tree that lies there, of the kind that k maps to.
 abbrev pub Asked : Translation → List ℕ → ℕ → ℕ → Goal → Type 0
 Asked f tree at k none = length tree ≤ at
-Asked f tree at k (some u) = (at < length tree) × Lies (f .target) tree at (mapped (f .body) k) u
+Asked f tree at k (some u) = (at < length tree) × Lies (f .target) tree at (mapped (f .body) k 0) u
 
 -- All that the memory says is true.
 pub record Truthful (f : Translation) (tree memory free : List ℕ) : Type 0 where

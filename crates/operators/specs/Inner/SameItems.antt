@@ -12,7 +12,7 @@ use Rattle.operators.specs.Operators.{identityClause}
 
 -- The mapping of kind k to itself, where the kind is in the language.
 unfoldable pub kindItem : Language → ℕ → List ℕ
-kindItem l k = cond (isIn l k) (encodeField (itemField (mapping k k))) []
+kindItem l k = cond (isIn l k) (encodeField (itemField (mapping k 0 k))) []
 
 -- The same for each kind from k on.
 unfoldable pub kindItems : Language → ℕ → List ℕ

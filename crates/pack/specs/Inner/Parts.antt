@@ -10,7 +10,7 @@ use lib.Dec.{eqb}
 use Rattle.fields.specs.Lists.{isSome, keep}
 use Rattle.fields.specs.Fields.{byteAt}
 use Rattle.fields.specs.Keyed.{rising}
-use Rattle.fields.specs.Inner.Places.{fieldEnd, isWhole, contentsAt, places, keyAt, tagIs, tagsOrdered}
+use Rattle.fields.specs.Inner.Places.{fieldEnd, isWhole, contentsAt, places, orderAt, tagIs, tagsOrdered}
 use Rattle.language.specs.Language.{Language}
 use Rattle.language.specs.LanguageFile.{entriesOf}
 use Rattle.language.specs.Inner.Entries.{resultsMeet}
@@ -60,8 +60,8 @@ tagged tag s = keep (tagIs tag s) (places s)
 -- The keys of the field at p rise, if it is a language or a body.
 unfoldable pub risesAt : List ℕ → ℕ → Bool
 risesAt s p =
-    cond (eqb (byteAt s p) 0x30) (rising (keyAt 0x11 (contentsAt s p)) (places (contentsAt s p)))
-    (cond (eqb (byteAt s p) 0x31) (rising (keyAt 0x22 (contentsAt s p)) (places (contentsAt s p))) true)
+    cond (eqb (byteAt s p) 0x30) (rising (orderAt 0x11 (contentsAt s p)) (places (contentsAt s p)))
+    (cond (eqb (byteAt s p) 0x31) (rising (orderAt 0x22 (contentsAt s p)) (places (contentsAt s p))) true)
 
 -- The field at p is a language in which a result is a class.
 unfoldable pub clashAt : List ℕ → ℕ → Bool

@@ -9,7 +9,7 @@ use lib.ListN.{length, getD, set}
 use lib.Seq.{slice}
 use lib.Dec.{eqb}
 use Rattle.fields.specs.Fields.{pairAt}
-use Rattle.fields.specs.Inner.Places.{fieldEnd, keyAt}
+use Rattle.fields.specs.Inner.Places.{fieldEnd, slotAt}
 use Rattle.language.specs.Language.{Language, Range, rangeOf, argumentsOf, kindKey, productionKey}
 use Rattle.language.specs.LanguageFile.{entriesOf}
 use Rattle.language.specs.Inner.Entries.{classRange, IsClass}
@@ -21,7 +21,7 @@ indexLength = 8224
 
 -- How many numbers the table of a run has.
 abbrev pub tableLength : ℕ
-tableLength = 25664
+tableLength = 29760
 
 -- The range in the field before `place`.
 abbrev pub rangeBefore : List ℕ → ℕ → Option Range
@@ -40,7 +40,7 @@ putAt index key v = cond (eqb (getD index key 0) 0) (set index key v) index
 -- The index with the entries at places put in, one after the other. The first entries have the tag `first`.
 unfoldable pub putAll : ℕ → List ℕ → List ℕ → List ℕ → List ℕ
 putAll first s index [] = index
-putAll first s index (p ∷ l) = putAll first s (putAt index (keyAt first s p) (p + 1)) l
+putAll first s index (p ∷ l) = putAll first s (putAt index (slotAt first s p) (p + 1)) l
 
 -- What a lookup may rely on: each place is that of a whole field.
 pub record Sound (index s : List ℕ) : Type 0 where

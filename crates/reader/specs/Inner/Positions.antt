@@ -1,12 +1,14 @@
 -- Reading by position: what stands where in the bytes, looked up through the index of the language.
-use Prim.Native.Nat.{ℕ, zero, suc, _+_, _-_, _<_, _≤_}
+use Prim.Native.Nat.{ℕ, zero, suc, _+_, _-_, _*_, _<_, _≤_}
 use mathlib.Core.Bool.{Bool, false, cond}
-use mathlib.Core.List.{List}
+use mathlib.Core.List.{List, map}
+use mathlib.Core.Option.{Option, none, some}
 use lib.ListN.{length, getD, drop}
 use lib.Dec.{ltb, leb, eqb}
 use Rattle.fields.specs.Fields.{pairAt}
 use Rattle.language.specs.Language.{productionKey, inRange, mentions}
 use Rattle.language.specs.Inner.Entries.{entryAt, classRange}
+use Rattle.reader.specs.Typing.{Uses}
 use Rattle.reader.specs.Syntax as Meant
 use Rattle.reader.specs.declared.node.Syntax.{Syntax}
 use Rattle.reader.specs.declared.node.Syntax.the-variants.{Tree, Code}
@@ -31,15 +33,41 @@ unfoldable pub nameAt : List ℕ → List ℕ → ℕ → List ℕ → ℕ → N
 nameAt s index k b at =
     cond (leb (length b) at) (Leaf Broken) (operandsAt s (getD index (productionKey k (getD b at 0)) 0) (at + 1))
 
--- Argument i is of kind k.
-unfoldable pub argumentIs : List ℕ → ℕ → ℕ → Bool
-argumentIs arguments k i =
-    cond (eqb i 0) false (cond (ltb (length arguments) i) false (eqb (getD arguments (i - 1) 0) k))
+-- The uses in bytes: for each kind k and number j the kind that it maps to, plus one, at 256 k + j, or 0 where it has none;
+-- behind these the kinds of the arguments, one after the other.
+abbrev pub usesLength : ℕ
+usesLength = 8192
+
+-- The kind before a number; 0 has none.
+abbrev pub kindBefore : ℕ → Option ℕ
+kindBefore zero = none
+kindBefore (suc k) = some k
+
+-- The kind that kind k maps to by number j.
+unfoldable pub mappedIn : List ℕ → ℕ → ℕ → Option ℕ
+mappedIn u k j = cond (ltb j 256) (kindBefore (getD u (k * 256 + j) 0)) none
+
+-- The uses that the bytes say.
+unfoldable pub usesIn : List ℕ → Uses
+usesIn u = map (mappedIn u) (drop usesLength u)
+
+-- Argument i by number j is of kind k.
+unfoldable pub argumentIs : List ℕ → ℕ → ℕ → ℕ → Bool
+argumentIs u k i j =
+    cond (eqb i 0) false
+    (cond (leb (length u) (8191 + i)) false (eqb (getD u (getD u (8191 + i) 0 * 256 + j) 0) (k + 1)))
 
 -- An argument number at `at`.
 unfoldable pub argumentAt : List ℕ → ℕ → List ℕ → ℕ → Read
-argumentAt arguments k b at =
-    cond (leb (length b) at) Broken (cond (argumentIs arguments k (getD b at 0)) (End (at + 1)) Broken)
+argumentAt u k b at =
+    cond (leb (length b) at) Broken (cond (argumentIs u k (getD b at 0) 0) (End (at + 1)) Broken)
+
+-- An argument number at `at`, and behind it the number that it is used by.
+unfoldable pub numberedAt : List ℕ → ℕ → List ℕ → ℕ → Read
+numberedAt u k b at =
+    cond (ltb (length b - at) 2) Broken
+    (cond (eqb (getD b (at + 1) 0) 0) Broken
+    (cond (argumentIs u k (getD b at 0) (getD b (at + 1) 0)) (End (at + 2)) Broken))
 
 -- What stands at `at` in a tree.
 unfoldable pub treeNode : List ℕ → List ℕ → ℕ → List ℕ → ℕ → Node
@@ -63,28 +91,29 @@ productionPlace Code index k b at =
     cond (leb (length b) (at + 1)) 0
     (cond (eqb (getD b at 0) 1) (getD index (productionKey k (getD b (at + 1) 0)) 0) 0)
 
--- A leaf of a code at `at`: 02 and a token, or 03 and an argument.
+-- A leaf of a code at `at`: 02 and a token, 03 and an argument, or 04 and an argument by a number.
 unfoldable pub codeLeaf : List ℕ → List ℕ → List ℕ → ℕ → List ℕ → ℕ → Read
-codeLeaf s index arguments k b at =
+codeLeaf s index uses k b at =
     cond (leb (length b) at) Broken
-    (cond (eqb (getD b at 0) 3) (argumentAt arguments k b (at + 1))
-    (cond (eqb (getD b at 0) 2) (tokenAt s (getD index k 0) b (at + 1)) Broken))
+    (cond (eqb (getD b at 0) 3) (argumentAt uses k b (at + 1))
+    (cond (eqb (getD b at 0) 2) (tokenAt s (getD index k 0) b (at + 1))
+    (cond (eqb (getD b at 0) 4) (numberedAt uses k b (at + 1)) Broken)))
 
 -- What stands at `at` in a code.
 unfoldable pub codeNode : List ℕ → List ℕ → List ℕ → ℕ → List ℕ → ℕ → Node
-codeNode s index arguments k b at =
+codeNode s index uses k b at =
     cond (leb (length b) at) (Leaf Broken)
-    (cond (eqb (getD b at 0) 1) (nameAt s index k b (at + 1)) (Leaf (codeLeaf s index arguments k b at)))
+    (cond (eqb (getD b at 0) 1) (nameAt s index k b (at + 1)) (Leaf (codeLeaf s index uses k b at)))
 
 -- What stands at `at` where no production of kind k does, and no token of a class in a tree.
 unfoldable pub leafAt : Syntax → List ℕ → List ℕ → List ℕ → ℕ → List ℕ → ℕ → Read
-leafAt Tree s index arguments k b at = Broken
-leafAt Code s index arguments k b at = codeLeaf s index arguments k b at
+leafAt Tree s index uses k b at = Broken
+leafAt Code s index uses k b at = codeLeaf s index uses k b at
 
 -- What stands at `at`, in either syntax.
 unfoldable pub nodeAt : Syntax → List ℕ → List ℕ → List ℕ → ℕ → List ℕ → ℕ → Node
-nodeAt Tree s index arguments k b at = treeNode s index k b at
-nodeAt Code s index arguments k b at = codeNode s index arguments k b at
+nodeAt Tree s index uses k b at = treeNode s index k b at
+nodeAt Code s index uses k b at = codeNode s index uses k b at
 
 -- As many operands as the number says, whose kinds stand in s from q on.
 unfoldable pub operandsFrom : (ℕ → ℕ → Read) → List ℕ → ℕ → ℕ → ℕ → Read
@@ -105,9 +134,9 @@ pastAt Code s index k b at =
 
 -- A code of kind k at `at`, with so many levels left.
 unfoldable pub readAt : Syntax → List ℕ → List ℕ → List ℕ → List ℕ → ℕ → ℕ → ℕ → Read
-readAt x s index arguments b zero k at = pastAt x s index k b at
-readAt x s index arguments b (suc n) k at =
-    follow (readAt x s index arguments b n) s (nodeAt x s index arguments k b at)
+readAt x s index uses b zero k at = pastAt x s index k b at
+readAt x s index uses b (suc n) k at =
+    follow (readAt x s index uses b n) s (nodeAt x s index uses k b at)
 
 -- A position that was reached lies in the bytes.
 abbrev pub EndsBy : ℕ → Read → Type 0

@@ -1,20 +1,46 @@
 -- The run of a tree through a translation whose parts stand in bytes of their own.
 use Prim.Native.Nat.{ℕ}
 use mathlib.Core.Path.{_≡_}
-use mathlib.Core.List.{List}
-use Rattle.fields.specs.Outcome.{Result, _>>=_, written, outputAfter}
+use mathlib.Core.Bool.{true, not}
+use mathlib.Core.List.{List, []}
+use mathlib.Core.Option.{some}
+use lib.ListN.{length}
+use Rattle.fields.specs.Outcome.{Result, refuseIf, _>>=_, written, outputAfter}
 use Rattle.fields.specs.declared.outcome.Outcome.{Outcome}
-use Rattle.reader.specs.Syntax.{write, tree}
+use Rattle.fields.specs.declared.outcome.Reason.the-variants.{UnknownRoot}
+use Rattle.fields.specs.Lists.{isSome}
+use Rattle.reader.specs.Code.{Code}
+use Rattle.reader.specs.Syntax.{read, done, write, tree}
 use Rattle.reader.specs.Operations.{treeOf}
-use Rattle.translation.specs.Translation.{Translation}
+use Rattle.reader.specs.declared.node.Syntax.the-variants.{Tree}
+use Rattle.translation.specs.Translation.{Translation, mappingOf}
 use Rattle.translation.specs.Running.{transform}
 use Rattle.translation.specs.Operations.{fitted}
+use Rattle.measure.specs.declared.measure.Measured.{Measured}
+use Rattle.measure.specs.Inner.Measuring.{EndsIn, sizedAt, sizedOf}
+use Rattle.tables.specs.Inner.Filling.{Begun}
+use Rattle.emitter.specs.Inner.Runs.{Right}
 
--- What the run of a tree through f comes to, with so much room: 14 to 17, the last links of the chain of `runBytes`.
-unfoldable pub runOf : Translation → ℕ → List ℕ → ℕ → Result (List ℕ)
-runOf f root bytes room = treeOf (f .source) root bytes >>= λ t. fitted room (write tree (transform f t))
+-- What the run of a tree through f by a number comes to, with so much room: 14 to 17, the last links of the chain of `runBytes`.
+unfoldable pub runOf : Translation → (root number : ℕ) → List ℕ → ℕ → Result (List ℕ)
+runOf f root number bytes room =
+    refuseIf (not (isSome (mappingOf (f .body) root number))) UnknownRoot
+    (treeOf (f .source) root bytes >>= λ t. fitted room (write tree (transform f number t)))
 
 -- What is answered, and the output that is left, are those of a result.
 pub record Answers (result : Result (List ℕ)) (before after : List ℕ) (outcome : Outcome) : Type 0 where
   pub answer : outcome ≡ written result
   pub left : after ≡ outputAfter before result
+
+-- The bytes are the tree t of a kind that has the number, and what is kept of where its parts end is right.
+pub record Reads (f : Translation) (kind number : ℕ) (ends bytes : List ℕ) (t : Code) : Type 0 where
+  pub has : isSome (mappingOf (f .body) kind number) ≡ true
+  pub is : read tree (f .source) [] 64 kind bytes ≡ done t []
+  pub kept : Right Tree ends bytes (f .source) []
+
+-- What measuring leaves: the index of the source s in the table, where parts of the tree end, and what it came to.
+pub record Measures (s table ends : List ℕ) (f : Translation) (kind number : ℕ) (bytes : List ℕ) (top : ℕ) (r : Measured) : Type 0 where
+  pub begun : Begun s table
+  pub is : (u : ℕ) → mappingOf (f .body) kind number ≡ some u → sizedAt bytes r ≡ sizedOf top f number (read tree (f .source) [] 64 kind bytes)
+  pub within : EndsIn (length bytes) top r
+  pub kept : Right Tree ends bytes (f .source) []

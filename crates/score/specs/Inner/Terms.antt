@@ -10,12 +10,10 @@ use lib.IntN.{ℤ, pos, natAbs, _+ℤ_, _*ℤ_}
 use Rattle.fields.specs.Fields.{pairAt}
 use Rattle.language.specs.Language.{Language, rangeOf, argumentsOf, productionKey}
 use Rattle.reader.specs.Code.{Code, Codes, levels, levelsAll}
-use Rattle.reader.specs.Typing.{Typed, TypedAll}
+use Rattle.reader.specs.Typing.{Uses, kindAt, Typed, TypedAll}
 use Rattle.reader.specs.Syntax.{code, write, writeAll}
-use Rattle.reader.specs.declared.node.Syntax.the-variants as Syntaxes
 use Rattle.reader.specs.Inner.Index.{Indexed}
-use Rattle.emitter.specs.Inner.Stands.{Stands}
-use Rattle.emitter.specs.Inner.Runs.{leafLength}
+use Rattle.tables.specs.Inner.Stands.{Stands}
 use Rattle.score.specs.Figures.{isFigure}
 use Rattle.score.specs.Linear.{Loads, constant, used, form, passes}
 use Rattle.score.specs.Inner.Kept.{Small, figuresLength}
@@ -53,9 +51,14 @@ pub record ProductionAt (s : List ℕ) (figures : List ℤ) (place : ℕ) (w : L
   pub kinds : KindsAt s (place + 4) ks
   pub figures-are : (i : ℕ) → i ≤ length ks → getD figures (place + 3 + i) (pos 0) ≡ w k p i
 
+-- Arguments are used by number 0 only.
+abbrev pub Plain : Uses → Type 0
+Plain given = (i j k : ℕ) → kindAt given i j ≡ some k → j ≡ 0
+
 -- The code u of kind k stands in the input from `at` on, and has no more levels than are left.
-pub record TermAsks (s index : List ℕ) (figures : List ℤ) (b : List ℕ) (k at left : ℕ) (l : Language) (given : List ℕ) (w : Loads) (u : Code) : Type 0 where
+pub record TermAsks (s index : List ℕ) (figures : List ℤ) (b : List ℕ) (k at left : ℕ) (l : Language) (given : Uses) (w : Loads) (u : Code) : Type 0 where
   pub world : World s index figures l w
+  pub plain : Plain given
   pub typed : Typed l given u k
   pub kind : k < 32
   pub stands : Stands b at (bytesOf u)
@@ -63,8 +66,9 @@ pub record TermAsks (s index : List ℕ) (figures : List ℤ) (b : List ℕ) (k 
 
 -- The operands ts of production p of kind k, whose field stands before `place` in the language, stand in the input from `at`
 -- on.
-pub record NodeAsks (s index : List ℕ) (figures : List ℤ) (place : ℕ) (b : List ℕ) (at left : ℕ) (l : Language) (given : List ℕ) (w : Loads) (k p : ℕ) (ts : Codes) (ks : List ℕ) : Type 0 where
+pub record NodeAsks (s index : List ℕ) (figures : List ℤ) (place : ℕ) (b : List ℕ) (at left : ℕ) (l : Language) (given : Uses) (w : Loads) (k p : ℕ) (ts : Codes) (ks : List ℕ) : Type 0 where
   pub world : World s index figures l w
+  pub plain : Plain given
   pub production : ProductionAt s figures place w k p ks
   pub typed : TypedAll l given ts ks
   pub stands : Stands b at (allBytes ts)
@@ -72,7 +76,7 @@ pub record NodeAsks (s index : List ℕ) (figures : List ℤ) (place : ℕ) (b :
 
 -- How long the leaf at `at` is: a token, or an argument.
 abbrev pub leafSize : List ℕ → ℕ → ℕ
-leafSize b at = leafLength Syntaxes.Code b at
+leafSize b at = cond (eqb (getD b at 0) 2) 3 2
 
 -- What place j of its form is.
 unfoldable pub leafForm : List ℕ → ℕ → ℕ → ℤ

@@ -13,10 +13,10 @@ use Rattle.sources.specs.Inner.Order.{Upto, UptoAll}
 abbrev pub Goal : Type 0
 Goal = Option Code
 
--- The run of a tree meets a goal.
+-- The run of a tree by number 0 meets a goal.
 abbrev pub Meets : Clauses → Goal → Code → Type 0
 Meets f none t = Unit {0}
-Meets f (some u) t = run f t ≡ u
+Meets f (some u) t = run f 0 t ≡ u
 
 -- Each operand, as many as there are kinds, meets what is asked of it; they are counted from 0.
 abbrev pub MeetsAll : Clauses → List ℕ → (ℕ → Goal) → Codes → Type 0

@@ -1,5 +1,6 @@
 -- The least levels at which there is a tree for a goal: a number up to m, or m + 1 where m levels do not suffice.
 use Prim.Native.Nat.{ℕ, suc, _+_, _-_, _≤_, _<_}
+use mathlib.Core.Path.{_≡_}
 use mathlib.Core.Bool.{cond}
 use mathlib.Core.List.{List}
 use lib.Dec.{eqb, leb}

@@ -1,5 +1,5 @@
--- The index of a body, in the form of a language's: for the key of an item the place of its field in the body's
--- bytes, and one more; 0 where there is no such item.
+-- The index of a body, in the form of a language's: for the key of an item of number 0 the place of its field in the body's
+-- bytes, and one more; 0 where there is no such item. Beside it the table of what kinds map to by number.
 use Prim.Native.Nat.{ℕ, zero, suc, _+_, _<_, _≤_}
 use mathlib.Core.Path.{_≡_}
 use mathlib.Core.Bool.{Bool, true, cond, not}
@@ -14,6 +14,7 @@ use Rattle.language.specs.Language.{kindKey, productionKey}
 use Rattle.translation.specs.Translation.{Body, mappingOf, clauseOf}
 use Rattle.translation.specs.TranslationFile.{bodyOf}
 use Rattle.reader.specs.Inner.Index.{indexLength}
+use Rattle.reader.specs.Inner.Positions.{mappedIn}
 
 -- The target kind in the field before `place`.
 abbrev pub targetBefore : List ℕ → ℕ → Option ℕ
@@ -35,27 +36,18 @@ pub record SoundItems (index s : List ℕ) : Type 0 where
       → (2 ≤ pairAt s (getD index (productionKey k p) 0))
       × (getD index (productionKey k p) 0 + 2 + pairAt s (getD index (productionKey k p) 0) ≤ length s)
 
--- What a lookup of kinds may rely on, in an index that holds at least the mappings.
-pub record SoundKinds (index s : List ℕ) : Type 0 where
-  pub long : 32 ≤ length index
-  pub short : length s ≤ 32768
-  pub target : (k : ℕ) → k < 32 → 0 < getD index (kindKey k) 0
-      → (getD index (kindKey k) 0 + 3 < length s) × (byteAt s (getD index (kindKey k) 0 + 3) < 32)
-
 -- The index of body b, whose bytes are s: what is looked up through it is what stands in b.
 pub record IndexedItems (index s : List ℕ) (b : Body) : Type 0 where
   pub sound : SoundItems index s
   pub items : bodyOf s ≡ some b
-  pub mapping : (k : ℕ) → k < 32 → mappingOf b k ≡ targetBefore s (getD index (kindKey k) 0)
-  pub clause : (k p : ℕ) → k < 32 → p < 256 → clauseOf b k p ≡ codeBefore s (getD index (productionKey k p) 0)
+  pub mapping : (k : ℕ) → k < 32 → mappingOf b k 0 ≡ targetBefore s (getD index (kindKey k) 0)
+  pub clause : (k p : ℕ) → k < 32 → p < 256 → clauseOf b k p 0 ≡ codeBefore s (getD index (productionKey k p) 0)
 
--- An index of the mappings of body b, whose bytes are s.
-pub record IndexedKinds (index s : List ℕ) (b : Body) : Type 0 where
-  pub sound : SoundKinds index s
-  pub items : bodyOf s ≡ some b
-  pub mapping : (k : ℕ) → k < 32 → mappingOf b k ≡ targetBefore s (getD index (kindKey k) 0)
+-- The table of what kinds map to by number, of body b.
+pub record Mapped (uses : List ℕ) (b : Body) : Type 0 where
+  pub is : (k j : ℕ) → k < 32 → j < 256 → mappedIn uses k j ≡ mappingOf b k j
 
--- The kind that kind k maps to, looked up; 0 where it is not mapped.
+-- The kind that kind k maps to by number 0, looked up; 0 where it is not mapped.
 unfoldable pub mappedAt : List ℕ → List ℕ → ℕ → ℕ
 mappedAt s index k = cond (eqb (getD index k 0) 0) 0 (byteAt s (getD index k 0 + 3))
 

@@ -4,15 +4,21 @@ use mathlib.Core.Bool.{true}
 use mathlib.Core.List.{List}
 use mathlib.Core.Option.{some}
 use Prim.Native.Nat.{ℕ}
-use Rattle.language.specs.LanguageFile.{entriesOf}
+use lib.ListN.{length}
 use Rattle.reader.specs.Inner.Index.{Indexed}
 use Rattle.translation.specs.Translation.{Translation}
-use Rattle.translation.specs.TranslationFile.{allRising}
-use Rattle.translation.specs.Inner.ItemIndex.{IndexedKinds}
+use Rattle.translation.specs.TranslationFile.{bodyOf, allRising}
+use Rattle.translation.specs.Inner.ItemIndex.{Mapped}
 
--- The three parts of f, whose keys rise: the target with its index, the body with that of its mappings.
-pub record Ready (s t it b ib : List ℕ) (f : Translation) : Type 0 where
-  pub source : entriesOf s ≡ some (f .source)
+-- How many bytes the uses have: those of the mappings, and room for the kinds of eight arguments.
+abbrev pub usesRoom : ℕ
+usesRoom = 8200
+
+-- The three parts of f, whose keys rise: both languages with their indexes, the body with what kinds map to by number.
+pub record Ready (s is t it b u : List ℕ) (f : Translation) : Type 0 where
+  pub source : Indexed is s (f .source)
   pub target : Indexed it t (f .target)
-  pub body : IndexedKinds ib b (f .body)
+  pub body : bodyOf b ≡ some (f .body)
+  pub room : length u ≡ usesRoom
+  pub uses : Mapped u (f .body)
   pub rises : allRising f ≡ true

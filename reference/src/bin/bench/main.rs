@@ -111,39 +111,67 @@ fn bench_check_translation() {
 mod run {
     use super::*;
     use inputs::runs;
+    use reference::generate::{with_turns, with_twin};
+
+    /// The number besides 0 that some translations have.
+    const NUMBER: u8 = 15;
 
     /// The length of an output with room for each of the results from a tree.
     fn room(tree: &[u8]) -> usize {
         4 * tree.len() + 64
     }
 
-    /// Measures one run, with an output that has room for the result.
+    /// Measures one run by number 0, with an output that has room for the result.
     fn bench_one(name: &str, translation: &[u8], tree: &[u8]) -> Timing {
+        bench_by(name, translation, 0, tree)
+    }
+
+    /// Measures one run by a number.
+    fn bench_by(name: &str, translation: &[u8], number: u32, tree: &[u8]) -> Timing {
         let mut output = vec![0; room(tree)];
-        let expected = reference::run(translation, 1, tree, &mut output);
+        let expected = reference::run(translation, 1, number, tree, &mut output);
         assert_eq!(expected.number(), 0);
         let mut library_output = vec![0; output.len()];
-        let found = library::run(translation, 1, tree, &mut library_output);
+        let found = library::run(translation, 1, number, tree, &mut library_output);
         assert_eq!((found.number, found.length), (0, expected.length()));
         assert_eq!(output, library_output);
         let timing = compare(
-            || library::run(translation, 1, black_box(tree), &mut library_output),
-            || reference::run(translation, 1, black_box(tree), &mut output),
+            || library::run(translation, 1, number, black_box(tree), &mut library_output),
+            || reference::run(translation, 1, number, black_box(tree), &mut output),
         );
         print_line(name, tree.len(), timing);
         timing
     }
 
-    /// Measures how the time for a byte of a run grows from the small tree to the large one.
-    fn bench_growth(name: &str, translation: &[u8], small: &[u8], large: &[u8]) {
+    /// Measures how the time for a byte of a run by a number grows from the small tree to the large
+    /// one.
+    fn bench_growth(name: &str, translation: &[u8], number: u32, [small, large]: [&[u8]; 2]) {
         let (mut library_output, mut output) = (vec![0; room(large)], vec![0; room(large)]);
         let growth = growth(
             small,
             large,
-            |tree| library::run(translation, 1, tree, &mut library_output[..room(tree)]),
-            |tree| reference::run(translation, 1, tree, &mut output[..room(tree)]),
+            |tree| library::run(translation, 1, number, tree, &mut library_output[..room(tree)]),
+            |tree| reference::run(translation, 1, number, tree, &mut output[..room(tree)]),
         );
         print_growth(name, growth);
+    }
+
+    /// Measures translations with a second number: one whose clauses use their arguments by that
+    /// number, and one whose numbers take turns.
+    pub fn bench_numbers() {
+        let swapping = runs::swapping();
+        let by = u32::from(NUMBER);
+        let trees = trees();
+        let [_, small, large] = &trees;
+        for (name, translation) in [
+            ("swapping by a number", with_twin(&swapping, NUMBER)),
+            ("swapping by turns", with_turns(&swapping, NUMBER)),
+        ] {
+            for ((size, _), tree) in SIZES.iter().zip(&trees) {
+                bench_by(&format!("run, {name}, {size}"), &translation, by, tree);
+            }
+            bench_growth(&format!("run, {name}"), &translation, by, [small, large]);
+        }
     }
 
     /// Measures the four translations on trees of three sizes, and a chain and a flat tree.
@@ -160,7 +188,7 @@ mod run {
             for ((size, _), tree) in SIZES.iter().zip(&trees) {
                 bench_one(&format!("run, {name}, {size}"), translation, tree);
             }
-            bench_growth(&format!("run, {name}"), translation, small, large);
+            bench_growth(&format!("run, {name}"), translation, 0, [small, large]);
         }
         for (name, translation) in &translations {
             let (chain, flat) = (runs::chain_tree(), runs::flat_tree());
@@ -210,11 +238,12 @@ mod reduce {
 }
 
 /// What can be timed, by name.
-const SECTIONS: [(&str, fn()); 10] = [
+const SECTIONS: [(&str, fn()); 11] = [
     ("check_language", bench_check_language),
     ("check_tree", bench_check_tree),
     ("check_translation", bench_check_translation),
     ("run", run::bench),
+    ("numbers", run::bench_numbers),
     ("reduce", reduce::bench),
     ("score", score::bench),
     ("xml", xml::bench),

@@ -34,10 +34,14 @@ fn compare(random: &mut Random, case: SearchCase) -> Comparison {
         &mut library_output,
     );
     let expected = reference::search(translation, *root, tree, *limit, &mut workspace, &mut output);
-    let (number, length) = (found.number, found.length);
-    let library = Answer { number, length, output: library_output, workspace: library_workspace };
-    let (number, length) = (expected.number(), expected.length());
-    let reference = Answer { number, length, output, workspace };
+    let library = Answer {
+        length: found.length,
+        output: library_output,
+        workspace: library_workspace,
+        ..Answer::of_check(found.number)
+    };
+    let length = expected.length();
+    let reference = Answer { length, output, workspace, ..Answer::of_check(expected.number()) };
     Comparison { library, reference, inputs: inputs(case) }
 }
 
@@ -65,7 +69,7 @@ fn search(case: &SearchCase, mut workspace: Vec<u8>, room: usize) -> (u32, Vec<u
 /// Number and result of a run by the library.
 fn run(translation: &[u8], root: u32, tree: &[u8], room: usize) -> (u32, Vec<u8>) {
     let mut output = vec![0; room];
-    let answer = library::run(translation, root, tree, &mut output);
+    let answer = library::run(translation, root, 0, tree, &mut output);
     output.truncate(answer.length as usize);
     (answer.number, output)
 }

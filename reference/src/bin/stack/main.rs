@@ -13,9 +13,10 @@ mod shapes;
 use algebra::STACK_BYTES;
 use mixed::Mixed;
 use reference::call::{Answer, Buffers, Call};
+use reference::check_translation;
 use reference::generate::{
-    language_file, long_run_case, reduce_case, run_case, translation_file, tree_case, Random,
-    ReduceCase, RunCase, TreeCase,
+    language_file, long_run_case, reduce_case, run_case, translation_file, tree_case, with_turns,
+    with_twin, Random, ReduceCase, RunCase, TreeCase,
 };
 use reference::stack::{on_large_stack, LargeStack};
 use shapes::{shapes, Detour, Order, Shape, Size, ROOT, TREE_LEVELS};
@@ -28,6 +29,8 @@ const LONG_CASES: usize = 40;
 
 /// An output that is long enough for the runs that are built here.
 const OUTPUT: usize = 1 << 16;
+/// The number besides 0 that some translations have.
+const NUMBER: u8 = 15;
 /// The least workspace and output to reduce with.
 const WORKSPACE: usize = 65_536;
 const REDUCED: usize = 4096;
@@ -120,8 +123,29 @@ fn run_cases() -> Vec<Case> {
         let translation = shape.translation();
         trees(&shape).into_iter().map(move |(name, tree)| {
             let translation = translation.clone();
-            let case = RunCase { translation, root: ROOT, tree, output: OUTPUT };
+            let case = RunCase { translation, root: ROOT, number: 0, tree, output: OUTPUT };
             Case { name, call: Call::Run(case) }
+        })
+    });
+    cases.collect()
+}
+
+/// Runs by a second number, in whose clauses arguments are used by that number or, in turns with
+/// number 0, by the other.
+fn numbered_run_cases() -> Vec<Case> {
+    let shapes = [Size::Lean, Size::Small].into_iter().flat_map(shapes);
+    let shapes = shapes.filter(|shape| matches!(shape.order, Order::Dropped | Order::LowReversed));
+    let both = shapes.flat_map(|shape| {
+        let plain = shape.translation();
+        [with_twin(&plain, NUMBER), with_turns(&plain, NUMBER)]
+            .map(|translation| (shape, translation))
+    });
+    let fitting = both.filter(|(_, translation)| check_translation(translation).number() == 0);
+    let cases = fitting.flat_map(|(shape, translation)| {
+        trees(&shape).into_iter().map(move |(name, tree)| {
+            let (translation, number) = (translation.clone(), u32::from(NUMBER));
+            let case = RunCase { translation, root: ROOT, number, tree, output: OUTPUT };
+            Case { name: format!("by number {NUMBER}, {name}"), call: Call::Run(case) }
         })
     });
     cases.collect()
@@ -131,7 +155,7 @@ fn run_cases() -> Vec<Case> {
 fn mixed_run(random: &mut Random) -> RunCase {
     let mixed = Mixed::new(random);
     let (translation, tree) = (mixed.translation(random), mixed.tree(random));
-    RunCase { translation, root: ROOT, tree, output: OUTPUT }
+    RunCase { translation, root: ROOT, number: 0, tree, output: OUTPUT }
 }
 
 /// A reduction with the least room.
@@ -173,7 +197,13 @@ fn first_cases(seed: u64) -> Vec<Vec<Case>> {
         translation_cases(Call::CheckTranslation).into_iter().chain(translation).collect(),
         tree_cases(|_, case| Call::CheckTree(case)).into_iter().chain(tree).collect(),
         reduce_cases().into_iter().chain(reduce).chain(signs).chain(mixed).collect(),
-        run_cases().into_iter().chain(run).chain(deep).chain(long).collect(),
+        run_cases()
+            .into_iter()
+            .chain(numbered_run_cases())
+            .chain(run)
+            .chain(deep)
+            .chain(long)
+            .collect(),
     ]
 }
 

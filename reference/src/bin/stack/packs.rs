@@ -3,7 +3,7 @@
 use crate::mixed::Mixed;
 use crate::shapes::{shapes, Order, Shape, Size};
 use reference::files::pack;
-use reference::generate::Random;
+use reference::generate::{with_turns, with_twin, Random};
 
 /// The most levels of a term.
 const TERM_LEVELS: usize = 12;
@@ -11,6 +11,8 @@ const TERM_LEVELS: usize = 12;
 /// Terms name so many bodies, one of which is flat.
 const BODIES: usize = 7;
 const FLAT_BODY: usize = 1;
+/// The number that some bodies have besides 0.
+const NUMBER: u8 = 1;
 
 /// Binds variable 0 to the deep translation, then the other variable 0 to its language.
 const BINDINGS: &[u8] = &[0x57, 0, 0x50, 0x40, 0, 0x40, 0, 0, 0x56, 0, 0x40, 0];
@@ -234,6 +236,17 @@ impl Stock {
         Stock { name: format!("{shape:?}"), languages: [shape.language(), vec![]], bodies }
     }
 
+    /// The same languages and bodies, with a second number besides 0 in each body: arguments are used
+    /// by the same number in one half of the bodies, and by the other in the other half.
+    fn numbered(&self) -> Stock {
+        let mut bodies = self.bodies.clone();
+        for (place, body) in bodies.iter_mut().enumerate() {
+            *body = if place % 2 == 0 { with_twin(body, NUMBER) } else { with_turns(body, NUMBER) };
+        }
+        let name = format!("by 0 and {NUMBER}, {}", self.name);
+        Stock { name, languages: self.languages.clone(), bodies }
+    }
+
     /// Random bodies, but for the flat one, over a random language.
     fn random(random: &mut Random) -> Stock {
         let mixed = Mixed::new(random);
@@ -343,6 +356,9 @@ pub fn fixed_packs() -> Vec<NamedPack> {
     let pairs = stocks.iter().take(1).flat_map(step_pairs);
     let full = stocks.iter().flat_map(full_terms);
     let joins = joins_of_all_shapes();
+    let numbered: Vec<Stock> = stocks.iter().take(4).map(Stock::numbered).collect();
+    let numbered = numbered.iter().flat_map(single_steps);
+    let single = single.chain(numbered);
     single.chain(languages).chain(pairs).chain(full).chain(joins).collect()
 }
 

@@ -146,7 +146,7 @@ fn edit_cases(seed: u64) -> Vec<Case> {
 /// A search in a translation with codes of 16 levels for the run of a tree, with some workspace.
 fn searched(shape: &Shape, case: TreeCase) -> Call {
     let (translation, mut tree) = (shape.translation(), vec![0; LONGEST_RUN]);
-    let outcome = reference::run(&translation, case.root, &case.tree, &mut tree);
+    let outcome = reference::run(&translation, case.root, 0, &case.tree, &mut tree);
     tree.truncate(outcome.length() as usize);
     let (workspace, output) = (32 * tree.len(), case.tree.len());
     Call::Search(SearchCase { translation, root: case.root, tree, limit: 16, workspace, output })

@@ -1,26 +1,19 @@
-use native.Mathlib.Omega.{arith}
-use Prim.Native.Nat.{_+_}
-use Rattle.emitter.proofs.Puts.{in-set, name-tree-full, name-code-full, name-tree, name-code}
+use Rattle.emitter.proofs.Puts.{name-tree-full, name-tree, name-code}
 use borrow.Author.Needs.{needs}
 use Rattle.emitter.proofs.put.put_name.Statement.{statement}
 use Rattle.emitter.proofs.put.put_name.Tie as tie
 use Rattle.emitter.proofs.put.put_name.Reads as reads
 use Rattle.emitter.proofs.put.put_name.Lts as lts
+use Rattle.emitter.proofs.put.put_two.Reads as put-two-reads
 
 returns : tie.Need-returns
-returns c = name-tree-full _ _ _ _ (c .before .before .before .pre) (c .if1 .taken) (c .before .enum-told .given .1)
+returns c = name-tree-full _ _ _ _ (c .if1 .taken) (c .before .enum-told .given .1)
 
 returns-2 : tie.Need-returns-2
-returns-2 c = name-code-full _ _ _ _ (c .before .before .before .pre) (c .if2 .taken) (c .before .enum-told2 .given .1)
-
-slice-write-output-3 : tie.Need-slice-write-output-3
-slice-write-output-3 c = in-set (c .before .before .before .args .output .now) (c .before .before .before .args .pos) 1 (c .before .before .before .args .pos + 1) (omega (arith, c .before .before .before .pre, c .if2 .left))
+returns-2 c = name-tree _ _ _ _ (c .if1 .left) (c .before .enum-told .given .1)
 
 returns-3 : tie.Need-returns-3
-returns-3 c = name-tree _ _ _ _ (c .before .before .before .pre) (c .if1 .left) (c .before .enum-told .given .1)
-
-returns-4 : tie.Need-returns-4
-returns-4 c = name-code _ _ _ _ (c .before .before .before .pre) (c .if2 .left) (c .before .enum-told2 .given .1)
+returns-3 c = name-code _ _ _ _ (c .before .before .before .before .enum-told2 .given .1) (c .before .before .put-two .ensures)
 
 pub put-name-spec : {M : Type 1} → statement M
 put-name-spec =
@@ -33,14 +26,8 @@ put-name-spec =
     (λ c. search needs)
     (λ c. search needs)
     (λ c. search needs)
-    (λ c. search needs)
+    (λ c κs. search needs)
     (λ c. search needs)
     returns-2
     (λ c. search needs)
-    (λ c. search needs)
-    slice-write-output-3
-    (λ c. search needs)
-    (λ c. search needs)
-    returns-3
-    (λ c. search needs)
-    returns-4)
+    returns-3)

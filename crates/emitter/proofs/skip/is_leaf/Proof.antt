@@ -4,7 +4,7 @@ use Rattle.emitter.proofs.skip.is_leaf.Statement.{statement}
 use Rattle.emitter.proofs.skip.is_leaf.Tie as tie
 use Rattle.emitter.proofs.skip.is_leaf.Reads as reads
 use Rattle.emitter.proofs.skip.is_leaf.Lts as lts
-use Rattle.emitter.proofs.table.index_at.Reads as index-at-reads
+use Rattle.tables.proofs.table.index_at.Reads as index-at-reads
 
 returns : tie.Need-returns
 returns c = leaf-tree _ _ _ _ (c .before .enum-told .given .1) (c .index-at .ensures .0)

@@ -1,5 +1,5 @@
 use native.Mathlib.Omega.{arith}
-use Rattle.emitter.proofs.Skips.{length-tree, length-token, length-argument}
+use Rattle.emitter.proofs.Skips.{length-tree, length-two, length-three}
 use borrow.Author.Needs.{needs}
 use Rattle.emitter.proofs.skip.leaf_length.Statement.{statement}
 use Rattle.emitter.proofs.skip.leaf_length.Tie as tie
@@ -10,10 +10,10 @@ returns : tie.Need-returns
 returns c = (length-tree _ _ (c .enum-told .given .1), omega arith, omega arith)
 
 returns-2 : tie.Need-returns-2
-returns-2 c = (length-token _ _ (c .before .before .enum-told2 .given .1) (c .if1 .taken), omega arith, omega arith)
+returns-2 c = (length-two _ _ (c .before .before .enum-told2 .given .1) (c .if1 .taken), omega arith, omega arith)
 
 returns-3 : tie.Need-returns-3
-returns-3 c = (length-argument _ _ (c .before .before .enum-told2 .given .1) (c .if1 .left), omega arith, omega arith)
+returns-3 c = (length-three _ _ (c .before .before .enum-told2 .given .1) (c .if1 .left), omega arith, omega arith)
 
 pub leaf-length-spec : {M : Type 1} → statement M
 leaf-length-spec =

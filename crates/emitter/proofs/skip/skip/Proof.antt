@@ -10,8 +10,8 @@ use Rattle.emitter.proofs.skip.skip.Lts as lts
 use Rattle.emitter.proofs.skip.is_leaf.Reads as is-leaf-reads
 use Rattle.emitter.proofs.skip.leaf_length.Reads as leaf-length-reads
 use Rattle.emitter.proofs.skip.sign_length.Reads as sign-length-reads
-use Rattle.emitter.proofs.table.index_at.Reads as index-at-reads
-use Rattle.emitter.proofs.table.source_at.Reads as source-at-reads
+use Rattle.tables.proofs.table.index_at.Reads as index-at-reads
+use Rattle.tables.proofs.table.source_at.Reads as source-at-reads
 use Rattle.reader.proofs.node.name_length.Reads as name-length-reads
 
 abbrev Inv-loop : tie.InvT-loop

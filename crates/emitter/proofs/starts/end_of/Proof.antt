@@ -5,7 +5,7 @@ use Rattle.emitter.proofs.starts.end_of.Tie as tie
 use Rattle.emitter.proofs.starts.end_of.Reads as reads
 use Rattle.emitter.proofs.starts.end_of.Lts as lts
 use Rattle.emitter.proofs.skip.skip.Reads as skip-reads
-use Rattle.emitter.proofs.table.source_at.Reads as source-at-reads
+use Rattle.tables.proofs.table.source_at.Reads as source-at-reads
 use Rattle.reader.proofs.ends.known_end.Reads as known-end-reads
 
 source-at-requires : tie.Need-source-at-requires

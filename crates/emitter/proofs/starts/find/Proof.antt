@@ -5,10 +5,10 @@ use native.Mathlib.Omega.{arith}
 use borrow.Author.Needs.{needs}
 use lib.ListN.{getD}
 use Rattle.reader.specs.Code.{Codes}
+use Rattle.reader.specs.Typing.{Uses}
 use Rattle.translation.specs.Translation.{Translation}
-use Rattle.translation.specs.Running.{nth}
 use Rattle.emitter.specs.Inner.Runs.{FindAsks}
-use Rattle.emitter.proofs.Ends.{Reached, find-inside, reached-none, reached-skip, reached-known, reached-more, reached-done}
+use Rattle.emitter.proofs.Ends.{nth, Reached, find-inside, reached-none, reached-skip, reached-known, reached-more, reached-done}
 use Rattle.emitter.proofs.starts.find.Statement.{statement}
 use Rattle.emitter.proofs.starts.find.Tie as tie
 use Rattle.emitter.proofs.starts.find.Reads as reads
@@ -17,7 +17,7 @@ use Rattle.emitter.proofs.starts.end_of.Reads as end-of-reads
 
 abbrev Inv-loop : tie.InvT-loop
 Inv-loop syntax table input ends node₀ j from p₀ i₀ node p i =
-    (i ≤ j) × ((f : Translation) (given : List ℕ) (ts : Codes) (ks : List ℕ) → FindAsks syntax table input ends node₀ j f given ts ks → Reached syntax table input node₀ node p i f given ts ks)
+    (i ≤ j) × ((f : Translation) (given : Uses) (ts : Codes) (ks : List ℕ) → FindAsks syntax table input ends node₀ j f given ts ks → Reached syntax table input node₀ node p i f given ts ks)
 
 abbrev μ-loop : tie.MeasureT-loop
 μ-loop syntax table input ends node₀ j from p₀ i₀ node p i = j - i

@@ -6,7 +6,7 @@ use Rattle.emitter.proofs.starts.last_end.Reads as reads
 use Rattle.emitter.proofs.starts.last_end.Lts as lts
 use Rattle.emitter.proofs.starts.find.Reads as find-reads
 use Rattle.emitter.proofs.starts.known.Reads as known-reads
-use Rattle.emitter.proofs.table.source_at.Reads as source-at-reads
+use Rattle.tables.proofs.table.source_at.Reads as source-at-reads
 
 returns : tie.Need-returns
 returns c = λ f given ts ks a. last-known a (c .before .before .before .source-at .ensures .0) (c .before .known .ensures) (c .if1 .taken)

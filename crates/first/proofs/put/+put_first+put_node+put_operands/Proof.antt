@@ -1,6 +1,6 @@
 use borrow.Author.Needs.{needs}
-use Prim.Native.Nat.{_+_, _-_, _*_, _≤_}
-use mathlib.Core.Path.{_≡_, refl, _∙_}
+use Prim.Native.Nat.{suc, _+_, _-_, _*_, _≤_}
+use mathlib.Core.Path.{_≡_, refl, sym, _∙_}
 use mathlib.Core.List.{List}
 use native.Mathlib.Omega.{arith}
 use lib.ListN.{length}
@@ -9,7 +9,7 @@ use Rattle.reader.specs.Code.{Codes}
 use Rattle.translation.specs.Translation.{Translation}
 use Rattle.translation.specs.Running.{clausesOf}
 use Rattle.sources.specs.Inner.Goals.{Goal, FirstAll}
-use Rattle.needs.specs.Inner.Setting.{Truthful, SeeksAll}
+use Rattle.needs.specs.Inner.Setting.{Truthful, Seeks, SeeksAll}
 use Rattle.needs.proofs.Needing.{plain, class-positive, class-whole, seeks-still, key-inside, key-small, name-unknown, name-known, asks-match, name-unmatched, name-seeks, count-inside, count-is, kind-inside, operand-seeks, operand-kind}
 use Rattle.first.proofs.Putting.{puts-past, puts-same, token-written, no-levels, one-level, node-put, first-of, unknown-none, go-on, Going, going-start, going-end, going-first, going-next}
 use Prim.Native.Nat.{ℕ, _<_}
@@ -24,9 +24,9 @@ use Rattle.first.proofs.put.+put_first+put_node+put_operands.Lts-put_no
 use Rattle.first.proofs.put.put_operands.Reads as put-operands
 use Rattle.first.proofs.put.put_operands.Kinds as put-operands-kinds
 use Rattle.first.proofs.put.+put_first+put_node+put_operands.Lts-put_operands as put-operands-lts
-use Rattle.emitter.proofs.table.clause_at.Reads as clause-at-reads
-use Rattle.emitter.proofs.table.index_at.Reads as index-at-reads
-use Rattle.emitter.proofs.table.source_at.Reads as source-at-reads
+use Rattle.tables.proofs.table.clause_at.Reads as clause-at-reads
+use Rattle.tables.proofs.table.index_at.Reads as index-at-reads
+use Rattle.tables.proofs.table.source_at.Reads as source-at-reads
 use Rattle.needs.proofs.clause.matches.Reads as matches-reads
 use Rattle.needs.proofs.levels.token_value.Reads as token-value-reads
 use Rattle.reader.proofs.node.place_at.Reads as place-at-reads

@@ -15,10 +15,10 @@ slice-aggregate-measure : tie.Need-slice-aggregate-measure
 slice-aggregate-measure c = front-length _ _ _ (given-whole (assembled (c .before .before .before .before .before .before .before .before .before .before .before .before .args .source .now) (c .before .before .before .before .before .before .before .before .before .before .before .before .args .target .now) (c .before .before .before .before .before .before .before .before .before .before .before .before .args .body .now)) _ _ _ (c .before .before .before .before .before .before .assemble .ensures) _ (c .before .before .n .given .1))
 
 returns : tie.Need-returns
-returns c = λ f g x y h a b d. finish-checked f g x y h _ _ _ _ _ a b d _ (c .before .before .before .before .before .before .before .assemble .ensures) _ (c .before .before .before .n .given .1) _ (c .measure .ensures)
+returns c = λ f g x y h k l a b d. finish-checked f g x y h k l _ _ _ _ _ a b d _ (c .before .before .before .before .before .before .before .assemble .ensures) _ (c .before .before .before .n .given .1) _ (c .measure .ensures)
 
 returns-2 : tie.Need-returns-2
-returns-2 c = λ f g x y h a b d. finish-refused f g x y h _ _ _ _ _ a b d _ (c .before .before .before .before .before .assemble .ensures) (c .before .reason .given .1)
+returns-2 c = λ f g x y h k l a b d. finish-refused f g x y h k l _ _ _ _ _ a b d _ (c .before .before .before .before .before .assemble .ensures) (c .before .reason .given .1)
 
 pub finish-spec : {M : Type 1} → statement M
 finish-spec =

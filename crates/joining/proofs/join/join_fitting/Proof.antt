@@ -22,7 +22,7 @@ finish-requires : tie.Need-finish-requires
 finish-requires c κs = (source-within _ _ _ _ (c .before .before .before .before .before .before .before .before .before .before .before .before .before .before .pre .1 .2 .second .1), target-within _ _ _ _ (c .before .before .before .before .before .before .before .before .before .before .before .before .before .before .pre .1 .2 .first), c .before .before .before .before .before .before .before .before .before .before .before .before .before .before .pre .0)
 
 returns-2 : tie.Need-returns-2
-returns-2 c = λ f g w. c .before .before .finish .ensures f g (spelt-held _ _ _ f (w .first)) (spelt-held _ _ _ g (w .second .1)) (w .fits) (w .second .1 .source) (w .first .target) (stored-first _ _ _ _ _ (c .before .before .before .before .before .before .before .before .before .join-body .ensures f g _ w) (c .before .before .before .before .before .before .n .given .1))
+returns-2 c = λ f g w. c .before .before .finish .ensures f g (spelt-held _ _ _ f (w .first)) (spelt-held _ _ _ g (w .second .1)) (w .fits) (w .first-low) (w .second-low) (w .second .1 .source) (w .first .target) (stored-first _ _ _ _ _ (c .before .before .before .before .before .before .before .before .before .join-body .ensures f g _ w) (c .before .before .before .before .before .before .n .given .1))
 
 pub join-fitting-spec : {M : Type 1} → statement M
 join-fitting-spec =

@@ -1,12 +1,12 @@
 use Prim.Native.Nat.{ℕ, _-_}
 use mathlib.Core.Path.{_≡_, refl, sym, _∙_}
-use mathlib.Core.List.{List}
 use native.Mathlib.Omega.{arith}
 use lib.ListN.{length}
 use borrow.Author.Needs.{needs}
 use borrow.Author.Tests.{not-true, not-false}
 use Rattle.language.specs.Language.{Language}
 use Rattle.reader.specs.Code.{Code}
+use Rattle.reader.specs.Typing.{Uses}
 use Rattle.score.specs.Linear.{Loads}
 use Rattle.score.specs.Inner.Terms.{TermAsks}
 use Rattle.loads.proofs.Places.{zeros-asked, row-out, row-back}
@@ -23,7 +23,7 @@ use Rattle.score.proofs.form.form_at.Reads as form-at-reads
 abbrev Inv-loop : tie.InvT-loop
 Inv-loop target index figures kind body at count joined₀ pos row end to₀ j₀ joined to j =
     (length joined ≡ length joined₀)
-    × ((l : Language) (given : List ℕ) (w : Loads) (u : Code) → TermAsks target index figures body kind at 16 l given w u → Figuring w u count joined₀ joined pos to j)
+    × ((l : Language) (given : Uses) (w : Loads) (u : Code) → TermAsks target index figures body kind at 16 l given w u → Figuring w u count joined₀ joined pos to j)
 
 abbrev μ-loop : tie.MeasureT-loop
 μ-loop target index figures kind body at count joined₀ pos row end to₀ j₀ joined to j = count - j

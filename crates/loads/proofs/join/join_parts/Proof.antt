@@ -1,38 +1,28 @@
-use mathlib.Core.Path.{refl}
-use mathlib.Core.List.{[]}
+use mathlib.Core.Path.{sym, _∙_}
 use borrow.Author.Tests.{not-true, not-false}
-use Rattle.score.proofs.Answering.{zeros-small}
-use Rattle.loads.proofs.Answering.{rising-target, table-broken, the-table, table-is, table-joined}
+use Rattle.loads.proofs.Answering.{numbers-unfit, numbers-plain}
 use borrow.Author.Needs.{needs}
 use Rattle.loads.proofs.join.join_parts.Statement.{statement}
 use Rattle.loads.proofs.join.join_parts.Tie as tie
 use Rattle.loads.proofs.join.join_parts.Reads as reads
 use Rattle.loads.proofs.join.join_parts.Lts as lts
 use Rattle.fields.proofs.outcome.refuse.Reads as refuse-reads
-use Rattle.loads.proofs.join.join_held.Reads as join-held-reads
-use Rattle.score.proofs.table.read_table.Reads as read-table-reads
+use Rattle.loads.proofs.join.join_plain.Reads as join-plain-reads
+use Rattle.plain.proofs.body.is_plain.Reads as is-plain-reads
 
-read-table-requires : tie.Need-read-table-requires
-read-table-requires c κs = (rising-target _ _ _ (c .before .before .before .before .before .before .pre .0) (c .before .before .before .before .before .before .pre .1), c .before .before .before .before .before .before .pre .1 .pieces .target-short, refl, zeros-small 1024)
+is-plain-requires : tie.Need-is-plain-requires
+is-plain-requires c κs = (c .before .before .before .before .before .pre .0 .body, c .before .before .before .before .before .pre .1 .pieces .body)
 
 returns : tie.Need-returns
-returns c = λ f z. table-broken f _ _ (c .before .before .before .read-table .ensures .0 (f .target) (z .pieces .target)) (not-true _ (c .before .if1 .taken)) (c .refuse .ensures)
+returns c = λ f z. numbers-unfit f _ _ (c .before .before .is-plain .ensures (f .body) (z .pieces .body)) (not-true _ (c .before .if1 .taken)) (c .refuse .ensures)
 
-join-held-requires : tie.Need-join-held-requires
-join-held-requires c κs = (c .before .before .before .before .before .before .before .before .before .before .before .pre .0, the-table (c .before .before .before .before .before .before .before .before .before .before .before .pre .0) _ [] (c .before .before .before .before .read-table .ensures .0 (c .before .before .before .before .before .before .before .before .before .before .before .pre .0 .target) (c .before .before .before .before .before .before .before .before .before .before .before .pre .1 .pieces .target)) (not-false _ (c .before .before .if1 .left)), c .before .before .before .before .before .before .before .before .before .before .before .pre .1, c .before .before .before .before .read-table .ensures .1 _ _ (c .before .before .before .before .before .before .before .before .before .before .before .pre .1 .pieces .target) (table-is (c .before .before .before .before .before .before .before .before .before .before .before .pre .0) _ [] (c .before .before .before .before .read-table .ensures .0 (c .before .before .before .before .before .before .before .before .before .before .before .pre .0 .target) (c .before .before .before .before .before .before .before .before .before .before .before .pre .1 .pieces .target)) (not-false _ (c .before .before .if1 .left))))
+join-plain-requires : tie.Need-join-plain-requires
+join-plain-requires c κs = (c .before .before .before .before .before .before .before .before .pre .0, c .before .before .before .before .before .before .before .before .pre .1, sym (c .before .before .is-plain .ensures (c .before .before .before .before .before .before .before .before .pre .0 .body) (c .before .before .before .before .before .before .before .before .pre .1 .pieces .body)) ∙ not-false _ (c .before .if1 .left))
 
 returns-2 : tie.Need-returns-2
-returns-2 c = λ f z. table-joined f _ _ (c .before .before .before .before .before .before .before .read-table .ensures .0 (f .target) (z .pieces .target)) (not-false _ (c .before .before .before .before .before .if1 .left)) (c .before .before .join-held .ensures f _ z (c .before .before .before .before .before .before .before .read-table .ensures .1 _ _ (z .pieces .target) (table-is f _ _ (c .before .before .before .before .before .before .before .read-table .ensures .0 (f .target) (z .pieces .target)) (not-false _ (c .before .before .before .before .before .if1 .left)))))
+returns-2 c = λ f z. numbers-plain f _ _ (c .before .before .before .before .before .is-plain .ensures (f .body) (z .pieces .body)) (not-false _ (c .before .before .before .before .if1 .left)) (c .before .before .join-plain .ensures f z (sym (c .before .before .before .before .before .is-plain .ensures (f .body) (z .pieces .body)) ∙ not-false _ (c .before .before .before .before .if1 .left)))
 
 pub join-parts-spec : {M : Type 1} → statement M
 join-parts-spec =
     tie.close
-    (tie.spec
-    (λ c. search needs)
-    read-table-requires
-    (λ c κs. search needs)
-    returns
-    (λ c. search needs)
-    join-held-requires
-    (λ c. search needs)
-    returns-2)
+    (tie.spec is-plain-requires (λ c κs. search needs) returns join-plain-requires (λ c. search needs) returns-2)

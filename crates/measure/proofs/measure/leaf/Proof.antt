@@ -7,7 +7,7 @@ use Rattle.measure.proofs.measure.leaf.Lts as lts
 use Rattle.measure.proofs.capped.add_share.Reads as add-share-reads
 
 returns : tie.Need-returns
-returns c = leaf-end _ _ _ (c .before .before .read .given .1) (c .add-share .ensures)
+returns c = leaf-end _ _ _ _ (c .before .before .read .given .1) (c .add-share .ensures)
 
 pub leaf-spec : {M : Type 1} → statement M
 leaf-spec =

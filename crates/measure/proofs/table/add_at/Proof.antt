@@ -1,5 +1,5 @@
 use borrow.Author.Needs.{needs}
-use Rattle.measure.proofs.Counts.{add-out, add-in}
+use Rattle.measure.proofs.Entries.{add-out, add-in}
 use Rattle.measure.proofs.table.add_at.Statement.{statement}
 use Rattle.measure.proofs.table.add_at.Tie as tie
 use Rattle.measure.proofs.table.add_at.Reads as reads

@@ -14,17 +14,17 @@ abbrev μ-loop : tie.MeasureT-loop
 loop-holds : tie.Need-loop-holds Inv-loop μ-loop
 loop-holds c = seek-start _ _ _ _ (c .before .pre)
 
-whole-key-requires : tie.Need-whole-key-requires Inv-loop μ-loop
-whole-key-requires c κs = key-here _ _ (c .before .loop .inv .from) (c .loop-test .taken)
+order-at-requires : tie.Need-order-at-requires Inv-loop μ-loop
+order-at-requires c κs = key-here _ _ (c .before .loop .inv .from) (c .loop-test .taken)
 
 whole-end-requires : tie.Need-whole-end-requires Inv-loop μ-loop
 whole-end-requires c κs = head-here _ _ (c .before .before .before .loop .inv .from) (c .before .before .loop-test .taken)
 
 returns : tie.Need-returns Inv-loop μ-loop
-returns c = seek-found _ _ _ _ _ (c .before .before .before .loop .inv) _ (c .before .whole-key .ensures .0) (c .before .before .loop-test .taken) (c .if1 .taken)
+returns c = seek-found _ _ _ _ _ (c .before .before .before .loop .inv) _ (c .before .order-at .ensures .0) (c .before .before .loop-test .taken) (c .if1 .taken)
 
 loop-again : tie.Need-loop-again Inv-loop μ-loop
-loop-again c = seek-on _ _ _ _ _ (c .before .before .before .before .loop .inv) _ (c .before .before .whole-key .ensures .0) (c .before .before .before .loop-test .taken) (c .before .if1 .left) _ (c .whole-end .ensures .is)
+loop-again c = seek-on _ _ _ _ _ (c .before .before .before .before .loop .inv) _ (c .before .before .order-at .ensures .0) (c .before .before .before .loop-test .taken) (c .before .if1 .left) _ (c .whole-end .ensures .is)
 
 returns-2 : tie.Need-returns-2 Inv-loop μ-loop
 returns-2 c = seek-end _ _ _ _ _ (c .before .loop .inv) (c .loop-test .left)
@@ -36,7 +36,7 @@ seek-spec =
     Inv-loop
     μ-loop
     loop-holds
-    whole-key-requires
+    order-at-requires
     returns
     whole-end-requires
     (λ c. search needs)

@@ -21,11 +21,11 @@ shared-requires c κs = (rest-start _ _ (c .before .before .before .pre .0) .fro
 loop-holds : tie.Need-loop-holds Inv-loop μ-loop
 loop-holds c = shared-merge _ _ _ _ (c .before .before .before .before .pre) (c .shared .ensures _) _
 
-whole-key-requires : tie.Need-whole-key-requires Inv-loop μ-loop
-whole-key-requires c κs = key-here _ _ (c .before .before .loop .inv .left .from) (c .before .loop-test .taken)
+order-at-requires : tie.Need-order-at-requires Inv-loop μ-loop
+order-at-requires c κs = key-here _ _ (c .before .before .loop .inv .left .from) (c .before .loop-test .taken)
 
-whole-key-requires-2 : tie.Need-whole-key-requires-2 Inv-loop μ-loop
-whole-key-requires-2 c κs = key-here _ _ (c .before .before .before .loop .inv .right .from) (c .before .if1 .left)
+order-at-requires-2 : tie.Need-order-at-requires-2 Inv-loop μ-loop
+order-at-requires-2 c κs = key-here _ _ (c .before .before .before .loop .inv .right .from) (c .before .if1 .left)
 
 seek-requires : tie.Need-seek-requires Inv-loop μ-loop
 seek-requires c κs = c .before .before .before .before .before .loop .inv .right .from
@@ -34,13 +34,13 @@ put-both-requires : tie.Need-put-both-requires Inv-loop μ-loop
 put-both-requires c κs = (merging-inside _ _ _ _ _ _ _ _ _ (c .before .before .before .before .before .before .before .loop .inv), (record { rise = c .before .seek .ensures .past; fits = c .before .seek .ensures .from .inside }, merging-room _ _ _ _ _ _ _ _ _ (c .before .before .before .before .before .before .before .loop .inv)))
 
 returns : tie.Need-returns Inv-loop μ-loop
-returns c = merging-full _ _ _ _ _ _ _ _ _ (c .before .before .before .before .before .before .before .before .before .before .before .before .loop .inv) (c .before .before .before .before .before .before .before .before .before .before .before .loop-test .taken) (c .before .before .before .before .before .before .before .before .before .before .if1 .left) _ _ (c .before .before .before .before .before .before .before .before .before .whole-key .ensures .0) (c .before .before .before .before .before .before .before .before .whole-key2 .ensures .0) (c .before .before .before .before .before .before .before .if2 .taken) _ (c .before .before .before .before .before .before .seek .ensures) _ _ (c .before .before .before .before .put-both .ensures) (c .enum-told .given .1)
+returns c = merging-full _ _ _ _ _ _ _ _ _ (c .before .before .before .before .before .before .before .before .before .before .before .before .loop .inv) (c .before .before .before .before .before .before .before .before .before .before .before .loop-test .taken) (c .before .before .before .before .before .before .before .before .before .before .if1 .left) _ _ (c .before .before .before .before .before .before .before .before .before .order-at .ensures .0) (c .before .before .before .before .before .before .before .before .order-at2 .ensures .0) (c .before .before .before .before .before .before .before .if2 .taken) _ (c .before .before .before .before .before .before .seek .ensures) _ _ (c .before .before .before .before .put-both .ensures) (c .enum-told .given .1)
 
 loop-less : tie.Need-loop-less Inv-loop μ-loop
-loop-less c = omega (arith, merging-moves _ _ _ _ _ _ _ _ _ (c .before .before .before .before .before .before .before .before .before .before .before .before .before .loop .inv) (c .before .before .before .before .before .before .before .before .before .before .before .before .loop-test .taken) (c .before .before .before .before .before .before .before .before .before .before .before .if1 .left) _ _ (c .before .before .before .before .before .before .before .before .before .before .whole-key .ensures .0) (c .before .before .before .before .before .before .before .before .before .whole-key2 .ensures .0) (c .before .before .before .before .before .before .before .before .if2 .taken) _ (c .before .before .before .before .before .before .before .seek .ensures), c .before .before .before .before .before .before .before .seek .ensures .from .inside)
+loop-less c = omega (arith, merging-moves _ _ _ _ _ _ _ _ _ (c .before .before .before .before .before .before .before .before .before .before .before .before .before .loop .inv) (c .before .before .before .before .before .before .before .before .before .before .before .before .loop-test .taken) (c .before .before .before .before .before .before .before .before .before .before .before .if1 .left) _ _ (c .before .before .before .before .before .before .before .before .before .before .order-at .ensures .0) (c .before .before .before .before .before .before .before .before .before .order-at2 .ensures .0) (c .before .before .before .before .before .before .before .before .if2 .taken) _ (c .before .before .before .before .before .before .before .seek .ensures), c .before .before .before .before .before .before .before .seek .ensures .from .inside)
 
 loop-again : tie.Need-loop-again Inv-loop μ-loop
-loop-again c = merging-high _ _ _ _ _ _ _ _ _ (c .before .before .before .before .before .before .before .before .before .before .before .before .before .loop .inv) (c .before .before .before .before .before .before .before .before .before .before .before .before .loop-test .taken) (c .before .before .before .before .before .before .before .before .before .before .before .if1 .left) _ _ (c .before .before .before .before .before .before .before .before .before .before .whole-key .ensures .0) (c .before .before .before .before .before .before .before .before .before .whole-key2 .ensures .0) (c .before .before .before .before .before .before .before .before .if2 .taken) _ (c .before .before .before .before .before .before .before .seek .ensures) _ _ (c .before .before .before .before .before .put-both .ensures) _ (c .before .m .given .1) (c .before .before .before .before .before .put-both .kept .1 .1 .1 .1 .1 .1 .0)
+loop-again c = merging-high _ _ _ _ _ _ _ _ _ (c .before .before .before .before .before .before .before .before .before .before .before .before .before .loop .inv) (c .before .before .before .before .before .before .before .before .before .before .before .before .loop-test .taken) (c .before .before .before .before .before .before .before .before .before .before .before .if1 .left) _ _ (c .before .before .before .before .before .before .before .before .before .before .order-at .ensures .0) (c .before .before .before .before .before .before .before .before .before .order-at2 .ensures .0) (c .before .before .before .before .before .before .before .before .if2 .taken) _ (c .before .before .before .before .before .before .before .seek .ensures) _ _ (c .before .before .before .before .before .put-both .ensures) _ (c .before .m .given .1) (c .before .before .before .before .before .put-both .kept .1 .1 .1 .1 .1 .1 .0)
 
 whole-end-requires : tie.Need-whole-end-requires Inv-loop μ-loop
 whole-end-requires c κs = head-here _ _ (c .before .before .before .before .before .before .loop .inv .left .from) (c .before .before .before .before .before .loop-test .taken)
@@ -52,7 +52,7 @@ loop-less-2 : tie.Need-loop-less-2 Inv-loop μ-loop
 loop-less-2 c = omega (arith, c .before .whole-end .ensures .past, c .whole-end2 .ensures .past)
 
 loop-again-2 : tie.Need-loop-again-2 Inv-loop μ-loop
-loop-again-2 c = merging-both _ _ _ _ _ _ _ _ _ (c .before .before .before .before .before .before .before .before .loop .inv) (c .before .before .before .before .before .before .before .loop-test .taken) (c .before .before .before .before .before .before .if1 .left) _ _ (c .before .before .before .before .before .whole-key .ensures .0) (c .before .before .before .before .whole-key2 .ensures .0) (c .before .before .if3 .taken) _ (c .before .whole-end .ensures .is) _ (c .whole-end2 .ensures .is)
+loop-again-2 c = merging-both _ _ _ _ _ _ _ _ _ (c .before .before .before .before .before .before .before .before .loop .inv) (c .before .before .before .before .before .before .before .loop-test .taken) (c .before .before .before .before .before .before .if1 .left) _ _ (c .before .before .before .before .before .order-at .ensures .0) (c .before .before .before .before .order-at2 .ensures .0) (c .before .before .if3 .taken) _ (c .before .whole-end .ensures .is) _ (c .whole-end2 .ensures .is)
 
 whole-end-requires-3 : tie.Need-whole-end-requires-3 Inv-loop μ-loop
 whole-end-requires-3 c κs = head-here _ _ (c .before .before .before .before .before .before .loop .inv .left .from) (c .before .before .before .before .before .loop-test .taken)
@@ -61,7 +61,7 @@ loop-less-3 : tie.Need-loop-less-3 Inv-loop μ-loop
 loop-less-3 c = omega (arith, c .whole-end3 .ensures .past)
 
 loop-again-3 : tie.Need-loop-again-3 Inv-loop μ-loop
-loop-again-3 c = merging-low _ _ _ _ _ _ _ _ _ (c .before .before .before .before .before .before .before .loop .inv) (c .before .before .before .before .before .before .loop-test .taken) (c .before .before .before .before .before .if1 .left) _ _ (c .before .before .before .before .whole-key .ensures .0) (c .before .before .before .whole-key2 .ensures .0) (c .before .before .if2 .left) (c .before .if3 .left) _ (c .whole-end3 .ensures .is)
+loop-again-3 c = merging-low _ _ _ _ _ _ _ _ _ (c .before .before .before .before .before .before .before .loop .inv) (c .before .before .before .before .before .before .loop-test .taken) (c .before .before .before .before .before .if1 .left) _ _ (c .before .before .before .before .order-at .ensures .0) (c .before .before .before .order-at2 .ensures .0) (c .before .before .if2 .left) (c .before .if3 .left) _ (c .whole-end3 .ensures .is)
 
 put-both-requires-2 : tie.Need-put-both-requires-2 Inv-loop μ-loop
 put-both-requires-2 c κs = (record { rise = omega (arith, c .before .before .loop .inv .rise, c .before .before .loop .inv .left .from .inside); fits = omega arith }, (record { rise = c .before .before .loop .inv .right .from .inside; fits = omega arith }, merging-room _ _ _ _ _ _ _ _ _ (c .before .before .loop .inv)))
@@ -77,8 +77,8 @@ merge-spec =
     μ-loop
     shared-requires
     loop-holds
-    whole-key-requires
-    whole-key-requires-2
+    order-at-requires
+    order-at-requires-2
     seek-requires
     put-both-requires
     (λ c. search needs)

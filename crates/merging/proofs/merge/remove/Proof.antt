@@ -21,8 +21,8 @@ shared-requires c κs = (rest-start _ _ (c .before .before .before .pre .0) .fro
 loop-holds : tie.Need-loop-holds Inv-loop μ-loop
 loop-holds c = shared-remove _ _ _ _ (c .before .before .before .before .pre) (c .shared .ensures _) _
 
-whole-key-requires : tie.Need-whole-key-requires Inv-loop μ-loop
-whole-key-requires c κs = key-here _ _ (c .before .loop .inv .left .from) (c .loop-test .taken)
+order-at-requires : tie.Need-order-at-requires Inv-loop μ-loop
+order-at-requires c κs = key-here _ _ (c .before .loop .inv .left .from) (c .loop-test .taken)
 
 whole-end-requires : tie.Need-whole-end-requires Inv-loop μ-loop
 whole-end-requires c κs = head-here _ _ (c .before .before .before .before .loop .inv .left .from) (c .before .before .before .loop-test .taken)
@@ -37,10 +37,10 @@ put-if-requires : tie.Need-put-if-requires Inv-loop μ-loop
 put-if-requires c κs = (field-inside _ _ _ (c .before .before .before .before .before .before .loop .inv .left) (c .before .before .before .before .before .loop-test .taken) _ (c .before .whole-end .ensures .is), going-room _ _ _ _ _ _ _ _ _ _ (c .before .before .before .before .before .before .loop .inv))
 
 returns : tie.Need-returns Inv-loop μ-loop
-returns c = progress-full _ _ _ _ _ (c .before .before .before .before .before .before .before .before .before .before .before .loop .inv .progress) _ _ (remove-turn (c .before .before .before .before .before .before .before .before .before .before .before .before .before .before .before .before .args .leading-tag) (c .before .before .before .before .before .before .before .before .before .before .before .before .before .before .before .before .args .a .now) (c .before .before .before .before .before .before .before .before .before .before .before .before .before .before .before .before .args .b .now) (c .before .before .before .before .before .before .before .before .before .before .before .loop .p) (c .before .before .before .before .before .before .before .before .before .before .before .loop .q) (c .before .before .before .before .before .before .before .before .before .before .before .loop .inv .left) (c .before .before .before .before .before .before .before .before .before .before .before .loop .inv .right) (c .before .before .before .before .before .before .before .before .before .before .loop-test .taken) _ (c .before .before .before .before .before .before .before .before .before .whole-key .ensures .0) _ (c .before .before .before .before .before .before .before .before .seek .ensures) _ (c .before .before .before .before .before .before .whole-end .ensures .is) _ (c .before .before .before .before .before .before .before .stands-at .ensures)) _ _ (c .before .before .before .before .put-if .ensures) (c .enum-told .given .1)
+returns c = progress-full _ _ _ _ _ (c .before .before .before .before .before .before .before .before .before .before .before .loop .inv .progress) _ _ (remove-turn (c .before .before .before .before .before .before .before .before .before .before .before .before .before .before .before .before .args .leading-tag) (c .before .before .before .before .before .before .before .before .before .before .before .before .before .before .before .before .args .a .now) (c .before .before .before .before .before .before .before .before .before .before .before .before .before .before .before .before .args .b .now) (c .before .before .before .before .before .before .before .before .before .before .before .loop .p) (c .before .before .before .before .before .before .before .before .before .before .before .loop .q) (c .before .before .before .before .before .before .before .before .before .before .before .loop .inv .left) (c .before .before .before .before .before .before .before .before .before .before .before .loop .inv .right) (c .before .before .before .before .before .before .before .before .before .before .loop-test .taken) _ (c .before .before .before .before .before .before .before .before .before .order-at .ensures .0) _ (c .before .before .before .before .before .before .before .before .seek .ensures) _ (c .before .before .before .before .before .before .whole-end .ensures .is) _ (c .before .before .before .before .before .before .before .stands-at .ensures)) _ _ (c .before .before .before .before .put-if .ensures) (c .enum-told .given .1)
 
 loop-again : tie.Need-loop-again Inv-loop μ-loop
-loop-again c = record { progress = progress-on _ _ _ _ _ (c .before .before .before .before .before .before .before .before .before .before .before .before .loop .inv .progress) _ _ (remove-turn (c .before .before .before .before .before .before .before .before .before .before .before .before .before .before .before .before .before .args .leading-tag) (c .before .before .before .before .before .before .before .before .before .before .before .before .before .before .before .before .before .args .a .now) (c .before .before .before .before .before .before .before .before .before .before .before .before .before .before .before .before .before .args .b .now) (c .before .before .before .before .before .before .before .before .before .before .before .before .loop .p) (c .before .before .before .before .before .before .before .before .before .before .before .before .loop .q) (c .before .before .before .before .before .before .before .before .before .before .before .before .loop .inv .left) (c .before .before .before .before .before .before .before .before .before .before .before .before .loop .inv .right) (c .before .before .before .before .before .before .before .before .before .before .before .loop-test .taken) _ (c .before .before .before .before .before .before .before .before .before .before .whole-key .ensures .0) _ (c .before .before .before .before .before .before .before .before .before .seek .ensures) _ (c .before .before .before .before .before .before .before .whole-end .ensures .is) _ (c .before .before .before .before .before .before .before .before .stands-at .ensures)) _ _ (c .before .before .before .before .before .put-if .ensures) _ (c .before .m .given .1) (c .before .before .before .before .before .put-if .kept .1 .1 .1 .1 .0); left = rest-next _ _ _ (c .before .before .before .before .before .before .before .before .before .before .before .before .loop .inv .left) (c .before .before .before .before .before .before .before .before .before .before .before .loop-test .taken) _ (c .before .before .before .before .before .before .before .whole-end .ensures .is); right = rest-sought _ _ _ _ _ (c .before .before .before .before .before .before .before .before .before .before .before .before .loop .inv .right) (c .before .before .before .before .before .before .before .before .before .seek .ensures) }
+loop-again c = record { progress = progress-on _ _ _ _ _ (c .before .before .before .before .before .before .before .before .before .before .before .before .loop .inv .progress) _ _ (remove-turn (c .before .before .before .before .before .before .before .before .before .before .before .before .before .before .before .before .before .args .leading-tag) (c .before .before .before .before .before .before .before .before .before .before .before .before .before .before .before .before .before .args .a .now) (c .before .before .before .before .before .before .before .before .before .before .before .before .before .before .before .before .before .args .b .now) (c .before .before .before .before .before .before .before .before .before .before .before .before .loop .p) (c .before .before .before .before .before .before .before .before .before .before .before .before .loop .q) (c .before .before .before .before .before .before .before .before .before .before .before .before .loop .inv .left) (c .before .before .before .before .before .before .before .before .before .before .before .before .loop .inv .right) (c .before .before .before .before .before .before .before .before .before .before .before .loop-test .taken) _ (c .before .before .before .before .before .before .before .before .before .before .order-at .ensures .0) _ (c .before .before .before .before .before .before .before .before .before .seek .ensures) _ (c .before .before .before .before .before .before .before .whole-end .ensures .is) _ (c .before .before .before .before .before .before .before .before .stands-at .ensures)) _ _ (c .before .before .before .before .before .put-if .ensures) _ (c .before .m .given .1) (c .before .before .before .before .before .put-if .kept .1 .1 .1 .1 .0); left = rest-next _ _ _ (c .before .before .before .before .before .before .before .before .before .before .before .before .loop .inv .left) (c .before .before .before .before .before .before .before .before .before .before .before .loop-test .taken) _ (c .before .before .before .before .before .before .before .whole-end .ensures .is); right = rest-sought _ _ _ _ _ (c .before .before .before .before .before .before .before .before .before .before .before .before .loop .inv .right) (c .before .before .before .before .before .before .before .before .before .seek .ensures) }
 
 returns-2 : tie.Need-returns-2 Inv-loop μ-loop
 returns-2 c = progress-done _ _ _ _ _ (c .before .loop .inv .progress) (remove-end (c .before .before .before .before .before .before .args .leading-tag) (c .before .before .before .before .before .before .args .a .now) (c .before .before .before .before .before .before .args .b .now) (c .before .loop .p) (c .before .loop .q) (c .loop-test .left))
@@ -53,7 +53,7 @@ remove-spec =
     μ-loop
     shared-requires
     loop-holds
-    whole-key-requires
+    order-at-requires
     seek-requires
     stands-at-requires
     whole-end-requires

@@ -11,7 +11,7 @@ use Rattle.merging.proofs.within.lies_within.Tie as tie
 use Rattle.merging.proofs.within.lies_within.Reads as reads
 use Rattle.merging.proofs.within.lies_within.Lts as lts
 use Rattle.fields.proofs.walk.whole_end.Reads as whole-end-reads
-use Rattle.fields.proofs.walk.whole_key.Reads as whole-key-reads
+use Rattle.fields.proofs.walk.order_at.Reads as order-at-reads
 use Rattle.merging.proofs.meet.lies_at.Reads as lies-at-reads
 use Rattle.merging.proofs.meet.seek.Reads as seek-reads
 use Rattle.merging.proofs.prefix.shared.Reads as shared-reads
@@ -28,23 +28,23 @@ shared-requires c κs = (rest-start _ _ (c .before .before .pre .0 .sorted) .fro
 loop-holds : tie.Need-loop-holds Inv-loop μ-loop
 loop-holds c = shared-within _ _ _ (c .before .before .before .pre) (c .shared .ensures _)
 
-whole-key-requires : tie.Need-whole-key-requires Inv-loop μ-loop
-whole-key-requires c κs = key-here _ _ (c .before .loop .inv .left .from) (c .loop-test .taken)
+order-at-requires : tie.Need-order-at-requires Inv-loop μ-loop
+order-at-requires c κs = key-here _ _ (c .before .loop .inv .left .from) (c .loop-test .taken)
 
 seek-requires : tie.Need-seek-requires Inv-loop μ-loop
 seek-requires c κs = c .before .before .loop .inv .right .from
 
 lies-at-requires : tie.Need-lies-at-requires Inv-loop μ-loop
-lies-at-requires c κs = containing-meets _ _ _ _ (c .before .before .before .loop .inv) (c .before .before .loop-test .taken) _ (c .before .whole-key .ensures .0) _ (c .seek .ensures)
+lies-at-requires c κs = containing-meets _ _ _ _ (c .before .before .before .loop .inv) (c .before .before .loop-test .taken) _ (c .before .order-at .ensures .0) _ (c .seek .ensures)
 
 returns : tie.Need-returns Inv-loop μ-loop
-returns c = containing-stop _ _ _ _ (c .before .before .before .before .before .loop .inv) (c .before .before .before .before .loop-test .taken) _ (c .before .before .before .whole-key .ensures .0) _ (c .before .before .seek .ensures) _ (c .before .lies-at .ensures) (not-true _ (c .if1 .taken))
+returns c = containing-stop _ _ _ _ (c .before .before .before .before .before .loop .inv) (c .before .before .before .before .loop-test .taken) _ (c .before .before .before .order-at .ensures .0) _ (c .before .before .seek .ensures) _ (c .before .lies-at .ensures) (not-true _ (c .if1 .taken))
 
 whole-end-requires : tie.Need-whole-end-requires Inv-loop μ-loop
 whole-end-requires c κs = head-here _ _ (c .before .before .before .before .before .loop .inv .left .from) (c .before .before .before .before .loop-test .taken)
 
 loop-again : tie.Need-loop-again Inv-loop μ-loop
-loop-again c = containing-on _ _ _ _ (c .before .before .before .before .before .before .loop .inv) (c .before .before .before .before .before .loop-test .taken) _ (c .before .before .before .before .whole-key .ensures .0) _ (c .before .before .before .seek .ensures) _ (c .before .before .lies-at .ensures) (not-false _ (c .before .if1 .left)) _ (c .whole-end .ensures .is)
+loop-again c = containing-on _ _ _ _ (c .before .before .before .before .before .before .loop .inv) (c .before .before .before .before .before .loop-test .taken) _ (c .before .before .before .before .order-at .ensures .0) _ (c .before .before .before .seek .ensures) _ (c .before .before .lies-at .ensures) (not-false _ (c .before .if1 .left)) _ (c .whole-end .ensures .is)
 
 returns-2 : tie.Need-returns-2 Inv-loop μ-loop
 returns-2 c = containing-end _ _ _ _ (c .before .loop .inv) (c .loop-test .left)
@@ -57,7 +57,7 @@ lies-within-spec =
     μ-loop
     shared-requires
     loop-holds
-    whole-key-requires
+    order-at-requires
     seek-requires
     lies-at-requires
     returns

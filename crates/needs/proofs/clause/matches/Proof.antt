@@ -1,5 +1,5 @@
 use borrow.Author.Needs.{needs}
-use Prim.Native.Nat.{ℕ, _-_, _≤_}
+use Prim.Native.Nat.{ℕ, _+_, _-_, _≤_, _<_}
 use mathlib.Core.Path.{sym, _∙_}
 use mathlib.Core.List.{List}
 use native.Mathlib.Omega.{arith}
@@ -12,8 +12,8 @@ use Rattle.needs.proofs.clause.matches.Statement.{statement}
 use Rattle.needs.proofs.clause.matches.Tie as tie
 use Rattle.needs.proofs.clause.matches.Reads as reads
 use Rattle.needs.proofs.clause.matches.Lts as lts
-use Rattle.emitter.proofs.table.body_at.Reads as body-at-reads
-use Rattle.emitter.proofs.table.clause_end.Reads as clause-end-reads
+use Rattle.tables.proofs.table.body_at.Reads as body-at-reads
+use Rattle.tables.proofs.table.clause_end.Reads as clause-end-reads
 use Rattle.needs.proofs.clause.step.Reads as step-reads
 use Rattle.needs.proofs.clause.width_of.Reads as width-of-reads
 
@@ -50,6 +50,9 @@ element-write-bound c = let q = c .before .before .before .before .before .befor
 returns-2 : tie.Need-returns-2 Inv-loop μ-loop
 returns-2 c = λ f k p ks g h. alone-matches _ _ _ _ _ _ _ _ _ f k p ks g h (c .before .before .before .if1 .left) (sym (c .before .before .body-at .ensures .0) ∙ c .before .if2 .taken) _ (c .body-at2 .ensures .0)
 
+add-clause-end : tie.Need-add-clause-end Inv-loop μ-loop
+add-clause-end c = let q = c .before .before .before .before .before .before .before .pre in let z = clause-starts _ _ _ _ _ _ _ _ _ (q .0) (q .1) (q .2) (q .3) (q .4) (q .5) in omega arith
+
 clause-end-requires : tie.Need-clause-end-requires Inv-loop μ-loop
 clause-end-requires c κs = let q = c .before .before .before .before .before .before .before .pre in (_, the-clause _ _ _ _ _ _ _ _ _ (q .0) (q .1) (q .2) (q .3) (q .4) (q .5))
 
@@ -57,7 +60,7 @@ add-c : tie.Need-add-c Inv-loop μ-loop
 add-c c = let q = c .before .before .before .before .before .before .before .before .pre in let z = the-clause _ _ _ _ _ _ _ _ _ (q .0) (q .1) (q .2) (q .3) (q .4) (q .5) .inside in omega arith
 
 loop-holds : tie.Need-loop-holds Inv-loop μ-loop
-loop-holds c = let q = c .before .before .before .before .before .before .before .before .pre in (going-inside _ _ _ _ _ _ _ _ _ (q .0) (q .1) (q .2) (q .3) (q .4) (q .5) _ _ _ _ (match-start _ _ _ _ _ _ _ _ _ (q .0) (q .1) (q .2) (q .3) (q .4) (q .5) (c .before .before .before .if1 .left) _ (c .clause-end .ensures)), λ f k p ks g h. match-start _ _ _ _ _ _ _ _ _ f k p ks g h (c .before .before .before .if1 .left) _ (c .clause-end .ensures))
+loop-holds c = let q = c .before .before .before .before .before .before .before .before .pre in (going-inside _ _ _ _ _ _ _ _ _ (q .0) (q .1) (q .2) (q .3) (q .4) (q .5) _ _ _ _ (match-start _ _ _ _ _ _ _ _ _ (q .0) (q .1) (q .2) (q .3) (q .4) (q .5) (c .before .before .before .if1 .left) _ (c .clause-end .ensures _ (the-clause _ _ _ _ _ _ _ _ _ (q .0) (q .1) (q .2) (q .3) (q .4) (q .5)))), λ f k p ks g h. match-start _ _ _ _ _ _ _ _ _ f k p ks g h (c .before .before .before .if1 .left) _ (c .clause-end .ensures _ (the-clause _ _ _ _ _ _ _ _ _ f k p ks g h)))
 
 step-requires : tie.Need-step-requires Inv-loop μ-loop
 step-requires c κs = let q = c .before .before .before .before .before .before .before .before .before .before .before .pre in (_, q .0, q .3, _, _, _, _, match-step _ _ _ _ _ _ _ _ _ (q .0) (q .1) (q .2) (q .3) (q .4) (q .5) _ _ _ _ (c .before .before .loop .inv .1 (q .0) (q .1) (q .2) (q .3) (q .4) (q .5)) (c .before .loop-test .taken))
@@ -95,6 +98,7 @@ matches-spec =
     mul-bound
     element-write-bound
     returns-2
+    add-clause-end
     clause-end-requires
     add-c
     loop-holds

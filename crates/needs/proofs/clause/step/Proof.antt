@@ -1,12 +1,13 @@
 use mathlib.Core.Path.{sym, _∙_}
-use Rattle.needs.proofs.Turns.{code-inside, next-inside, number-some, place-inside, argument-asks, argument-step, first-differs, name-step, token-inside, second-differs, token-step}
+use native.Mathlib.Omega.{arith}
+use Rattle.needs.proofs.Turns.{code-inside, next-inside, tree-inside, argument-next, number-some, place-inside, argument-asks, argument-step, first-differs, name-step, token-inside, second-differs, token-step}
 use borrow.Author.Needs.{needs}
 use Rattle.needs.proofs.clause.step.Statement.{statement}
 use Rattle.needs.proofs.clause.step.Tie as tie
 use Rattle.needs.proofs.clause.step.Reads as reads
 use Rattle.needs.proofs.clause.step.Lts as lts
-use Rattle.emitter.proofs.table.body_at.Reads as body-at-reads
-use Rattle.emitter.proofs.table.source_at.Reads as source-at-reads
+use Rattle.tables.proofs.table.body_at.Reads as body-at-reads
+use Rattle.tables.proofs.table.source_at.Reads as source-at-reads
 use Rattle.fields.proofs.bytes.byte_at.Reads as byte-at-reads
 use Rattle.fields.proofs.bytes.to_usize.Reads as to-usize-reads
 use Rattle.needs.proofs.clause.argument.Reads as argument-reads

@@ -1,9 +1,9 @@
 use borrow.Author.Needs.{needs}
 use Prim.Native.Nat.{suc, _+_, _-_, _*_, _≤_}
-use mathlib.Core.Path.{_≡_, refl, _∙_}
+use mathlib.Core.Path.{_≡_, refl, sym, _∙_}
 use mathlib.Core.List.{List}
 use native.Mathlib.Omega.{arith}
-use lib.ListN.{length, drop}
+use lib.ListN.{length, drop, getD}
 use borrow.Author.Tests.{not-true, not-false}
 use Rattle.translation.specs.Translation.{Translation}
 use Rattle.translation.specs.Running.{clausesOf}
@@ -24,9 +24,9 @@ use Rattle.needs.proofs.levels.+name_need+need+operands_need.Lts-need a
 use Rattle.needs.proofs.levels.operands_need.Reads as operands-need
 use Rattle.needs.proofs.levels.operands_need.Kinds as operands-need-kinds
 use Rattle.needs.proofs.levels.+name_need+need+operands_need.Lts-operands_need as operands-need-lts
-use Rattle.emitter.proofs.table.clause_at.Reads as clause-at-reads
-use Rattle.emitter.proofs.table.index_at.Reads as index-at-reads
-use Rattle.emitter.proofs.table.source_at.Reads as source-at-reads
+use Rattle.tables.proofs.table.clause_at.Reads as clause-at-reads
+use Rattle.tables.proofs.table.index_at.Reads as index-at-reads
+use Rattle.tables.proofs.table.source_at.Reads as source-at-reads
 use Rattle.reader.proofs.node.place_at.Reads as place-at-reads
 use Rattle.needs.proofs.clause.matches.Reads as matches-reads
 use Rattle.needs.proofs.levels.class_need.Reads as class-need-reads

@@ -1,5 +1,6 @@
 use mathlib.Core.Path.{ap, _∙_}
 use Rattle.language.specs.Language.{inRange}
+use Rattle.language.specs.Inner.Entries.{classRange}
 use Rattle.needs.proofs.Needing.{class-yes, class-no}
 use borrow.Author.Needs.{needs}
 use Rattle.needs.proofs.levels.class_need.Statement.{statement}

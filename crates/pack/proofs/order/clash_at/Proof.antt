@@ -1,3 +1,4 @@
+use Rattle.fields.specs.Inner.Places.{orderAt}
 use mathlib.Core.Path.{refl}
 use mathlib.Core.Bool.{false}
 use Rattle.pack.proofs.Passes.{entries-in, entries-rise, clash-other, clash-language}
@@ -9,6 +10,7 @@ returns : tie.Need-returns
 returns c = clash-other _ _ _ (c .before .before .before .pre .0 .is) _ refl false (c .if1 .taken)
 
 result-is-class-requires : tie.Need-result-is-class-requires
+unfolding orderAt
 result-is-class-requires c κs = record { whole = entries-in _ _ _ (c .before .before .before .before .pre .0 .is) _ refl (c .before .before .before .before .pre .1) (c .before .if1 .left); rises = entries-rise _ _ _ (c .before .before .before .before .pre .0 .is) _ refl (c .before .before .before .before .pre .2) (c .before .if1 .left) }
 
 returns-2 : tie.Need-returns-2

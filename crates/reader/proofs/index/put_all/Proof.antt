@@ -10,7 +10,7 @@ use Rattle.reader.proofs.index.put_all.Tie as tie
 use Rattle.reader.proofs.index.put_all.Reads as reads
 use Rattle.reader.proofs.index.put_all.Lts as lts
 use Rattle.fields.proofs.walk.field_end.Reads as field-end-reads
-use Rattle.fields.proofs.walk.key_at.Reads as key-at-reads
+use Rattle.fields.proofs.walk.slot_at.Reads as slot-at-reads
 use Rattle.reader.proofs.index.put.Reads as put-reads
 
 abbrev Inv-loop : tie.InvT-loop
@@ -23,7 +23,7 @@ loop-holds : tie.Need-loop-holds Inv-loop μ-loop
 loop-holds c = (refl, refl)
 
 loop-again : tie.Need-loop-again Inv-loop μ-loop
-loop-again c = (search needs, puts-next _ _ _ _ _ (c .before .before .before .before .before .before .before .loop .inv .1) _ _ _ _ (c .before .before .before .put .ensures) (c .before .before .before .before .key-at .ensures .0) refl (c .field-end .ensures .is) (c .before .before .before .before .before .before .loop-test .taken))
+loop-again c = (search needs, puts-next _ _ _ _ _ (c .before .before .before .before .before .before .before .loop .inv .1) _ _ _ _ (c .before .before .before .put .ensures) (c .before .before .before .before .slot-at .ensures .0) refl (c .field-end .ensures .is) (c .before .before .before .before .before .before .loop-test .taken))
 
 returns : tie.Need-returns Inv-loop μ-loop
 returns c = puts-done _ _ _ _ _ (c .before .loop .inv .1) (c .loop-test .left)

@@ -31,11 +31,11 @@ operands-below t =
     and 4 operands-kinds.ps (falls 4 operands-kinds.ps _<_ μ-operands t) operands.Pre
 
 abbrev operands-Inv-loop : operands-lts.InvT-loop
-operands-Inv-loop syntax language index arguments from stop bytes at levels q₀ end₀ to₀ left₀ q end to left =
-    (to ≤ length bytes) × (left ≤ levels) × KindsIn language q end × (operandsFrom (readAt syntax language index arguments bytes left) language (end - q) q to ≡ operandsFrom (readAt syntax language index arguments bytes levels) language (stop - from) from at)
+operands-Inv-loop syntax language index uses from stop bytes at levels q₀ end₀ to₀ left₀ q end to left =
+    (to ≤ length bytes) × (left ≤ levels) × KindsIn language q end × (operandsFrom (readAt syntax language index uses bytes left) language (end - q) q to ≡ operandsFrom (readAt syntax language index uses bytes levels) language (stop - from) from at)
 
 abbrev operands-μ-loop : operands-lts.MeasureT-loop
-operands-μ-loop syntax language index arguments from stop bytes at levels q₀ end₀ to₀ left₀ q end to left =
+operands-μ-loop syntax language index uses from stop bytes at levels q₀ end₀ to₀ left₀ q end to left =
     1025 * left + (end - q)
 
 abbrev operands-calls : ℕ → operands-lts.Claims
@@ -54,52 +54,52 @@ operands-production-place-requires : (t : ℕ) → operands-lts.Need-production-
 operands-production-place-requires t c κs = let b = c .before .before .before .loop .inv .2 _ (omega arith) (c .before .before .loop-test .taken) in (c .before .before .before .before .before .before .before .before .pre .1 .0 .long, b .1, c .before .before .before .loop .inv .0)
 
 operands-returns : (t : ℕ) → operands-lts.Need-returns (operands-calls t) (operands-at t) operands.Post operands-Inv-loop operands-μ-loop
-operands-returns t c = (sym (operands-deep _ _ _ _ _ (c .before .before .before .before .before .loop-test .taken) (read-past _ _ _ _ _ _ _ _ (c .if2 .taken) (named-past (c .before .before .before .before .before .before .before .before .before .before .before .args .syntax) (c .before .before .before .before .before .before .before .before .before .before .before .args .language .now) (c .before .before .before .before .before .before .before .before .before .before .before .args .index .now) (c .before .before .before .before .before .before .before .before .before .before .before .args .arguments .now) _ (c .before .before .before .before .before .before .before .before .before .before .before .args .bytes .now) _ (c .before .before .before .class-place .ensures) (c .before .before .production-place .ensures) (c .before .if1 .taken))) refl) ∙ c .before .before .before .before .before .before .loop .inv .3, tt)
+operands-returns t c = (sym (operands-deep _ _ _ _ _ (c .before .before .before .before .before .loop-test .taken) (read-past _ _ _ _ _ _ _ _ (c .if2 .taken) (named-past (c .before .before .before .before .before .before .before .before .before .before .before .args .syntax) (c .before .before .before .before .before .before .before .before .before .before .before .args .language .now) (c .before .before .before .before .before .before .before .before .before .before .before .args .index .now) (c .before .before .before .before .before .before .before .before .before .before .before .args .uses .now) _ (c .before .before .before .before .before .before .before .before .before .before .before .args .bytes .now) _ (c .before .before .before .class-place .ensures) (c .before .before .production-place .ensures) (c .before .if1 .taken))) refl) ∙ c .before .before .before .before .before .before .loop .inv .3, tt)
 
 operands-add-first : (t : ℕ) → operands-lts.Need-add-first (operands-calls t) (operands-at t) operands.Post operands-Inv-loop operands-μ-loop
-operands-add-first t c = let b = c .before .before .before .before .before .before .loop .inv .2 _ (omega arith) (c .before .before .before .before .before .loop-test .taken) in let w = named-in (c .before .before .before .before .before .before .before .before .before .before .before .args .syntax) (c .before .before .before .before .before .before .before .before .before .before .before .args .language .now) (c .before .before .before .before .before .before .before .before .before .before .before .args .index .now) (c .before .before .before .before .before .before .before .before .before .before .before .args .arguments .now) _ (c .before .before .before .before .before .before .before .before .before .before .before .args .bytes .now) _ (c .before .before .before .class-place .ensures) (c .before .before .production-place .ensures) (c .before .if1 .taken) (c .before .before .before .before .before .before .before .before .before .before .before .pre .1 .0) (b .1) (λ i. omega (arith, c .before .before .before .before .before .before .before .shared-slice-known4 .given i)) in omega (arith, w .0, w .1)
+operands-add-first t c = let b = c .before .before .before .before .before .before .loop .inv .2 _ (omega arith) (c .before .before .before .before .before .loop-test .taken) in let w = named-in (c .before .before .before .before .before .before .before .before .before .before .before .args .syntax) (c .before .before .before .before .before .before .before .before .before .before .before .args .language .now) (c .before .before .before .before .before .before .before .before .before .before .before .args .index .now) (c .before .before .before .before .before .before .before .before .before .before .before .args .uses .now) _ (c .before .before .before .before .before .before .before .before .before .before .before .args .bytes .now) _ (c .before .before .before .class-place .ensures) (c .before .before .production-place .ensures) (c .before .if1 .taken) (c .before .before .before .before .before .before .before .before .before .before .before .pre .1 .0) (b .1) (λ i. omega (arith, c .before .before .before .before .before .before .before .shared-slice-known4 .given i)) in omega (arith, w .0, w .1)
 
 operands-add-last : (t : ℕ) → operands-lts.Need-add-last (operands-calls t) (operands-at t) operands.Post operands-Inv-loop operands-μ-loop
-operands-add-last t c = let b = c .before .before .before .before .before .before .loop .inv .2 _ (omega arith) (c .before .before .before .before .before .loop-test .taken) in let w = named-in (c .before .before .before .before .before .before .before .before .before .before .before .args .syntax) (c .before .before .before .before .before .before .before .before .before .before .before .args .language .now) (c .before .before .before .before .before .before .before .before .before .before .before .args .index .now) (c .before .before .before .before .before .before .before .before .before .before .before .args .arguments .now) _ (c .before .before .before .before .before .before .before .before .before .before .before .args .bytes .now) _ (c .before .before .before .class-place .ensures) (c .before .before .production-place .ensures) (c .before .if1 .taken) (c .before .before .before .before .before .before .before .before .before .before .before .pre .1 .0) (b .1) (λ i. omega (arith, c .before .before .before .before .before .before .before .shared-slice-known4 .given i)) in omega (arith, w .0, w .1)
+operands-add-last t c = let b = c .before .before .before .before .before .before .loop .inv .2 _ (omega arith) (c .before .before .before .before .before .loop-test .taken) in let w = named-in (c .before .before .before .before .before .before .before .before .before .before .before .args .syntax) (c .before .before .before .before .before .before .before .before .before .before .before .args .language .now) (c .before .before .before .before .before .before .before .before .before .before .before .args .index .now) (c .before .before .before .before .before .before .before .before .before .before .before .args .uses .now) _ (c .before .before .before .before .before .before .before .before .before .before .before .args .bytes .now) _ (c .before .before .before .class-place .ensures) (c .before .before .production-place .ensures) (c .before .if1 .taken) (c .before .before .before .before .before .before .before .before .before .before .before .pre .1 .0) (b .1) (λ i. omega (arith, c .before .before .before .before .before .before .before .shared-slice-known4 .given i)) in omega (arith, w .0, w .1)
 
 operands-pair-in-requires : (t : ℕ) → operands-lts.Need-pair-in-requires (operands-calls t) (operands-at t) operands.Post operands-Inv-loop operands-μ-loop
-operands-pair-in-requires t c κs = let b = c .before .before .before .before .before .before .loop .inv .2 _ (omega arith) (c .before .before .before .before .before .loop-test .taken) in let w = named-in (c .before .before .before .before .before .before .before .before .before .before .before .args .syntax) (c .before .before .before .before .before .before .before .before .before .before .before .args .language .now) (c .before .before .before .before .before .before .before .before .before .before .before .args .index .now) (c .before .before .before .before .before .before .before .before .before .before .before .args .arguments .now) _ (c .before .before .before .before .before .before .before .before .before .before .before .args .bytes .now) _ (c .before .before .before .class-place .ensures) (c .before .before .production-place .ensures) (c .before .if1 .taken) (c .before .before .before .before .before .before .before .before .before .before .before .pre .1 .0) (b .1) (λ i. omega (arith, c .before .before .before .before .before .before .before .shared-slice-known4 .given i)) in omega (arith, w .0, w .1)
+operands-pair-in-requires t c κs = let b = c .before .before .before .before .before .before .loop .inv .2 _ (omega arith) (c .before .before .before .before .before .loop-test .taken) in let w = named-in (c .before .before .before .before .before .before .before .before .before .before .before .args .syntax) (c .before .before .before .before .before .before .before .before .before .before .before .args .language .now) (c .before .before .before .before .before .before .before .before .before .before .before .args .index .now) (c .before .before .before .before .before .before .before .before .before .before .before .args .uses .now) _ (c .before .before .before .before .before .before .before .before .before .before .before .args .bytes .now) _ (c .before .before .before .class-place .ensures) (c .before .before .production-place .ensures) (c .before .if1 .taken) (c .before .before .before .before .before .before .before .before .before .before .before .pre .1 .0) (b .1) (λ i. omega (arith, c .before .before .before .before .before .before .before .shared-slice-known4 .given i)) in omega (arith, w .0, w .1)
 
 operands-add-last-2 : (t : ℕ) → operands-lts.Need-add-last-2 (operands-calls t) (operands-at t) operands.Post operands-Inv-loop operands-μ-loop
-operands-add-last-2 t c = let b = c .before .before .before .before .before .before .before .loop .inv .2 _ (omega arith) (c .before .before .before .before .before .before .loop-test .taken) in let w = named-in (c .before .before .before .before .before .before .before .before .before .before .before .before .args .syntax) (c .before .before .before .before .before .before .before .before .before .before .before .before .args .language .now) (c .before .before .before .before .before .before .before .before .before .before .before .before .args .index .now) (c .before .before .before .before .before .before .before .before .before .before .before .before .args .arguments .now) _ (c .before .before .before .before .before .before .before .before .before .before .before .before .args .bytes .now) _ (c .before .before .before .before .class-place .ensures) (c .before .before .before .production-place .ensures) (c .before .before .if1 .taken) (c .before .before .before .before .before .before .before .before .before .before .before .before .pre .1 .0) (b .1) (λ i. omega (arith, c .before .before .before .before .before .before .before .before .shared-slice-known4 .given i)) in omega (arith, w .0, w .1, c .pair-in .ensures .1)
+operands-add-last-2 t c = let b = c .before .before .before .before .before .before .before .loop .inv .2 _ (omega arith) (c .before .before .before .before .before .before .loop-test .taken) in let w = named-in (c .before .before .before .before .before .before .before .before .before .before .before .before .args .syntax) (c .before .before .before .before .before .before .before .before .before .before .before .before .args .language .now) (c .before .before .before .before .before .before .before .before .before .before .before .before .args .index .now) (c .before .before .before .before .before .before .before .before .before .before .before .before .args .uses .now) _ (c .before .before .before .before .before .before .before .before .before .before .before .before .args .bytes .now) _ (c .before .before .before .before .class-place .ensures) (c .before .before .before .production-place .ensures) (c .before .before .if1 .taken) (c .before .before .before .before .before .before .before .before .before .before .before .before .pre .1 .0) (b .1) (λ i. omega (arith, c .before .before .before .before .before .before .before .before .shared-slice-known4 .given i)) in omega (arith, w .0, w .1, c .pair-in .ensures .1)
 
 operands-add-to : (t : ℕ) → operands-lts.Need-add-to (operands-calls t) (operands-at t) operands.Post operands-Inv-loop operands-μ-loop
-operands-add-to t c = let w = named-end (c .before .before .before .before .before .before .before .before .before .before .before .before .before .args .syntax) (c .before .before .before .before .before .before .before .before .before .before .before .before .before .args .language .now) (c .before .before .before .before .before .before .before .before .before .before .before .before .before .args .index .now) (c .before .before .before .before .before .before .before .before .before .before .before .before .before .args .arguments .now) _ (c .before .before .before .before .before .before .before .before .before .before .before .before .before .args .bytes .now) _ (c .before .before .before .before .before .class-place .ensures) (c .before .before .before .before .production-place .ensures) (c .before .before .before .if1 .taken) (c .name-length .ensures .0) in omega (arith, w, c .before .before .before .before .before .before .before .before .before .shared-slice-known4 .given 0)
+operands-add-to t c = let w = named-end (c .before .before .before .before .before .before .before .before .before .before .before .before .before .args .syntax) (c .before .before .before .before .before .before .before .before .before .before .before .before .before .args .language .now) (c .before .before .before .before .before .before .before .before .before .before .before .before .before .args .index .now) (c .before .before .before .before .before .before .before .before .before .before .before .before .before .args .uses .now) _ (c .before .before .before .before .before .before .before .before .before .before .before .before .before .args .bytes .now) _ (c .before .before .before .before .before .class-place .ensures) (c .before .before .before .before .production-place .ensures) (c .before .before .before .if1 .taken) (c .name-length .ensures .0) in omega (arith, w, c .before .before .before .before .before .before .before .before .before .shared-slice-known4 .given 0)
 
 operands-add-q : (t : ℕ) → operands-lts.Need-add-q (operands-calls t) (operands-at t) operands.Post operands-Inv-loop operands-μ-loop
 operands-add-q t c = let b = c .before .before .before .before .before .before .before .before .loop .inv .2 _ (omega arith) (c .before .before .before .before .before .before .before .loop-test .taken) in let z = c .before .before .before .before .before .before .before .before .before .before .before .before .before .pre .1 .0 in omega (arith, z .short, b .0)
 
 operands-loop-less : (t : ℕ) → operands-lts.Need-loop-less (operands-calls t) (operands-at t) operands.Post operands-Inv-loop operands-μ-loop
-operands-loop-less t c = let b = c .before .before .before .before .before .before .before .before .before .loop .inv .2 _ (omega arith) (c .before .before .before .before .before .before .before .before .loop-test .taken) in let ks = named-kinds (c .before .before .before .before .before .before .before .before .before .before .before .before .before .before .args .syntax) (c .before .before .before .before .before .before .before .before .before .before .before .before .before .before .args .language .now) (c .before .before .before .before .before .before .before .before .before .before .before .before .before .before .args .index .now) (c .before .before .before .before .before .before .before .before .before .before .before .before .before .before .args .arguments .now) _ (c .before .before .before .before .before .before .before .before .before .before .before .before .before .before .args .bytes .now) _ (c .before .before .before .before .before .before .class-place .ensures) (c .before .before .before .before .before .production-place .ensures) (c .before .before .before .before .if1 .taken) (c .before .before .before .before .before .before .before .before .before .before .before .before .before .before .pre .1 .0) (b .1) (λ i. omega (arith, c .before .before .before .before .before .before .before .before .before .before .shared-slice-known4 .given i)) (c .before .before .pair-in .ensures .0) in let z = c .before .before .before .before .before .before .before .before .before .before .before .before .before .before .pre .1 .0 in omega (arith, row-short (c .before .before .before .before .before .before .before .before .before .before .before .before .before .before .args .language .now) _ _ (z .short) ks, c .before .before .before .if2 .left)
+operands-loop-less t c = let b = c .before .before .before .before .before .before .before .before .before .loop .inv .2 _ (omega arith) (c .before .before .before .before .before .before .before .before .loop-test .taken) in let ks = named-kinds (c .before .before .before .before .before .before .before .before .before .before .before .before .before .before .args .syntax) (c .before .before .before .before .before .before .before .before .before .before .before .before .before .before .args .language .now) (c .before .before .before .before .before .before .before .before .before .before .before .before .before .before .args .index .now) (c .before .before .before .before .before .before .before .before .before .before .before .before .before .before .args .uses .now) _ (c .before .before .before .before .before .before .before .before .before .before .before .before .before .before .args .bytes .now) _ (c .before .before .before .before .before .before .class-place .ensures) (c .before .before .before .before .before .production-place .ensures) (c .before .before .before .before .if1 .taken) (c .before .before .before .before .before .before .before .before .before .before .before .before .before .before .pre .1 .0) (b .1) (λ i. omega (arith, c .before .before .before .before .before .before .before .before .before .before .shared-slice-known4 .given i)) (c .before .before .pair-in .ensures .0) in let z = c .before .before .before .before .before .before .before .before .before .before .before .before .before .before .pre .1 .0 in omega (arith, row-short (c .before .before .before .before .before .before .before .before .before .before .before .before .before .before .args .language .now) _ _ (z .short) ks, c .before .before .before .if2 .left)
 
 operands-loop-again : (t : ℕ) → operands-lts.Need-loop-again (operands-calls t) (operands-at t) operands.Post operands-Inv-loop operands-μ-loop
-operands-loop-again t c = let b = c .before .before .before .before .before .before .before .before .before .loop .inv .2 _ (omega arith) (c .before .before .before .before .before .before .before .before .loop-test .taken) in let ks = named-kinds (c .before .before .before .before .before .before .before .before .before .before .before .before .before .before .args .syntax) (c .before .before .before .before .before .before .before .before .before .before .before .before .before .before .args .language .now) (c .before .before .before .before .before .before .before .before .before .before .before .before .before .before .args .index .now) (c .before .before .before .before .before .before .before .before .before .before .before .before .before .before .args .arguments .now) _ (c .before .before .before .before .before .before .before .before .before .before .before .before .before .before .args .bytes .now) _ (c .before .before .before .before .before .before .class-place .ensures) (c .before .before .before .before .before .production-place .ensures) (c .before .before .before .before .if1 .taken) (c .before .before .before .before .before .before .before .before .before .before .before .before .before .before .pre .1 .0) (b .1) (λ i. omega (arith, c .before .before .before .before .before .before .before .before .before .before .shared-slice-known4 .given i)) (c .before .before .pair-in .ensures .0) in (named-end (c .before .before .before .before .before .before .before .before .before .before .before .before .before .before .args .syntax) (c .before .before .before .before .before .before .before .before .before .before .before .before .before .before .args .language .now) (c .before .before .before .before .before .before .before .before .before .before .before .before .before .before .args .index .now) (c .before .before .before .before .before .before .before .before .before .before .before .before .before .before .args .arguments .now) _ (c .before .before .before .before .before .before .before .before .before .before .before .before .before .before .args .bytes .now) _ (c .before .before .before .before .before .before .class-place .ensures) (c .before .before .before .before .before .production-place .ensures) (c .before .before .before .before .if1 .taken) (c .before .name-length .ensures .0), omega arith, ks, operands-last _ _ _ _ _ (c .if3 .taken) (read-operands _ _ _ _ _ _ _ _ (c .before .before .before .if2 .left) (named-node (c .before .before .before .before .before .before .before .before .before .before .before .before .before .before .args .syntax) (c .before .before .before .before .before .before .before .before .before .before .before .before .before .before .args .language .now) (c .before .before .before .before .before .before .before .before .before .before .before .before .before .before .args .index .now) (c .before .before .before .before .before .before .before .before .before .before .before .before .before .before .args .arguments .now) _ (c .before .before .before .before .before .before .before .before .before .before .before .before .before .before .args .bytes .now) _ (c .before .before .before .before .before .before .class-place .ensures) (c .before .before .before .before .before .production-place .ensures) (c .before .before .before .before .if1 .taken) (c .before .before .pair-in .ensures .0) (c .before .name-length .ensures .0)) refl) ∙ c .before .before .before .before .before .before .before .before .before .loop .inv .3)
+operands-loop-again t c = let b = c .before .before .before .before .before .before .before .before .before .loop .inv .2 _ (omega arith) (c .before .before .before .before .before .before .before .before .loop-test .taken) in let ks = named-kinds (c .before .before .before .before .before .before .before .before .before .before .before .before .before .before .args .syntax) (c .before .before .before .before .before .before .before .before .before .before .before .before .before .before .args .language .now) (c .before .before .before .before .before .before .before .before .before .before .before .before .before .before .args .index .now) (c .before .before .before .before .before .before .before .before .before .before .before .before .before .before .args .uses .now) _ (c .before .before .before .before .before .before .before .before .before .before .before .before .before .before .args .bytes .now) _ (c .before .before .before .before .before .before .class-place .ensures) (c .before .before .before .before .before .production-place .ensures) (c .before .before .before .before .if1 .taken) (c .before .before .before .before .before .before .before .before .before .before .before .before .before .before .pre .1 .0) (b .1) (λ i. omega (arith, c .before .before .before .before .before .before .before .before .before .before .shared-slice-known4 .given i)) (c .before .before .pair-in .ensures .0) in (named-end (c .before .before .before .before .before .before .before .before .before .before .before .before .before .before .args .syntax) (c .before .before .before .before .before .before .before .before .before .before .before .before .before .before .args .language .now) (c .before .before .before .before .before .before .before .before .before .before .before .before .before .before .args .index .now) (c .before .before .before .before .before .before .before .before .before .before .before .before .before .before .args .uses .now) _ (c .before .before .before .before .before .before .before .before .before .before .before .before .before .before .args .bytes .now) _ (c .before .before .before .before .before .before .class-place .ensures) (c .before .before .before .before .before .production-place .ensures) (c .before .before .before .before .if1 .taken) (c .before .name-length .ensures .0), omega arith, ks, operands-last _ _ _ _ _ (c .if3 .taken) (read-operands _ _ _ _ _ _ _ _ (c .before .before .before .if2 .left) (named-node (c .before .before .before .before .before .before .before .before .before .before .before .before .before .before .args .syntax) (c .before .before .before .before .before .before .before .before .before .before .before .before .before .before .args .language .now) (c .before .before .before .before .before .before .before .before .before .before .before .before .before .before .args .index .now) (c .before .before .before .before .before .before .before .before .before .before .before .before .before .before .args .uses .now) _ (c .before .before .before .before .before .before .before .before .before .before .before .before .before .before .args .bytes .now) _ (c .before .before .before .before .before .before .class-place .ensures) (c .before .before .before .before .before .production-place .ensures) (c .before .before .before .before .if1 .taken) (c .before .before .pair-in .ensures .0) (c .before .name-length .ensures .0)) refl) ∙ c .before .before .before .before .before .before .before .before .before .loop .inv .3)
 
 operands-operands-requires : (t : ℕ) → operands-lts.Need-operands-requires (operands-calls t) (operands-at t) operands.Post operands-Inv-loop operands-μ-loop
-operands-operands-requires t c κs = let b = c .before .before .before .before .before .before .before .before .before .before .loop .inv .2 _ (omega arith) (c .before .before .before .before .before .before .before .before .before .loop-test .taken) in let ks = named-kinds (c .before .before .before .before .before .before .before .before .before .before .before .before .before .before .before .args .syntax) (c .before .before .before .before .before .before .before .before .before .before .before .before .before .before .before .args .language .now) (c .before .before .before .before .before .before .before .before .before .before .before .before .before .before .before .args .index .now) (c .before .before .before .before .before .before .before .before .before .before .before .before .before .before .before .args .arguments .now) _ (c .before .before .before .before .before .before .before .before .before .before .before .before .before .before .before .args .bytes .now) _ (c .before .before .before .before .before .before .before .class-place .ensures) (c .before .before .before .before .before .before .production-place .ensures) (c .before .before .before .before .before .if1 .taken) (c .before .before .before .before .before .before .before .before .before .before .before .before .before .before .before .pre .1 .0) (b .1) (λ i. omega (arith, c .before .before .before .before .before .before .before .before .before .before .before .shared-slice-known4 .given i)) (c .before .before .before .pair-in .ensures .0) in (omega (arith, c .before .before .before .before .before .before .before .before .before .before .loop .inv .1, c .before .before .before .before .if2 .left), (c .before .before .before .before .before .before .before .before .before .before .before .before .before .before .before .pre .1 .0, ks, named-end (c .before .before .before .before .before .before .before .before .before .before .before .before .before .before .before .args .syntax) (c .before .before .before .before .before .before .before .before .before .before .before .before .before .before .before .args .language .now) (c .before .before .before .before .before .before .before .before .before .before .before .before .before .before .before .args .index .now) (c .before .before .before .before .before .before .before .before .before .before .before .before .before .before .before .args .arguments .now) _ (c .before .before .before .before .before .before .before .before .before .before .before .before .before .before .before .args .bytes .now) _ (c .before .before .before .before .before .before .before .class-place .ensures) (c .before .before .before .before .before .before .production-place .ensures) (c .before .before .before .before .before .if1 .taken) (c .before .before .name-length .ensures .0)))
+operands-operands-requires t c κs = let b = c .before .before .before .before .before .before .before .before .before .before .loop .inv .2 _ (omega arith) (c .before .before .before .before .before .before .before .before .before .loop-test .taken) in let ks = named-kinds (c .before .before .before .before .before .before .before .before .before .before .before .before .before .before .before .args .syntax) (c .before .before .before .before .before .before .before .before .before .before .before .before .before .before .before .args .language .now) (c .before .before .before .before .before .before .before .before .before .before .before .before .before .before .before .args .index .now) (c .before .before .before .before .before .before .before .before .before .before .before .before .before .before .before .args .uses .now) _ (c .before .before .before .before .before .before .before .before .before .before .before .before .before .before .before .args .bytes .now) _ (c .before .before .before .before .before .before .before .class-place .ensures) (c .before .before .before .before .before .before .production-place .ensures) (c .before .before .before .before .before .if1 .taken) (c .before .before .before .before .before .before .before .before .before .before .before .before .before .before .before .pre .1 .0) (b .1) (λ i. omega (arith, c .before .before .before .before .before .before .before .before .before .before .before .shared-slice-known4 .given i)) (c .before .before .before .pair-in .ensures .0) in (omega (arith, c .before .before .before .before .before .before .before .before .before .before .loop .inv .1, c .before .before .before .before .if2 .left), (c .before .before .before .before .before .before .before .before .before .before .before .before .before .before .before .pre .1 .0, ks, named-end (c .before .before .before .before .before .before .before .before .before .before .before .before .before .before .before .args .syntax) (c .before .before .before .before .before .before .before .before .before .before .before .before .before .before .before .args .language .now) (c .before .before .before .before .before .before .before .before .before .before .before .before .before .before .before .args .index .now) (c .before .before .before .before .before .before .before .before .before .before .before .before .before .before .before .args .uses .now) _ (c .before .before .before .before .before .before .before .before .before .before .before .before .before .before .before .args .bytes .now) _ (c .before .before .before .before .before .before .before .class-place .ensures) (c .before .before .before .before .before .before .production-place .ensures) (c .before .before .before .before .before .if1 .taken) (c .before .before .name-length .ensures .0)))
 
 operands-loop-less-2 : (t : ℕ) → operands-lts.Need-loop-less-2 (operands-calls t) (operands-at t) operands.Post operands-Inv-loop operands-μ-loop
 operands-loop-less-2 t c = let t = c .before .before .before .before .before .before .before .before .before .before .before .before .before .loop-test .taken in omega arith
 
 operands-loop-again-2 : (t : ℕ) → operands-lts.Need-loop-again-2 (operands-calls t) (operands-at t) operands.Post operands-Inv-loop operands-μ-loop
-operands-loop-again-2 t c = let w = c .before .before .before .operands .ensures .0 ∙ read-operands _ _ _ _ _ _ _ _ (c .before .before .before .before .before .before .before .before .if2 .left) (named-node (c .before .before .before .before .before .before .before .before .before .before .before .before .before .before .before .before .before .before .before .args .syntax) (c .before .before .before .before .before .before .before .before .before .before .before .before .before .before .before .before .before .before .before .args .language .now) (c .before .before .before .before .before .before .before .before .before .before .before .before .before .before .before .before .before .before .before .args .index .now) (c .before .before .before .before .before .before .before .before .before .before .before .before .before .before .before .before .before .before .before .args .arguments .now) _ (c .before .before .before .before .before .before .before .before .before .before .before .before .before .before .before .before .before .before .before .args .bytes .now) _ (c .before .before .before .before .before .before .before .before .before .before .before .class-place .ensures) (c .before .before .before .before .before .before .before .before .before .before .production-place .ensures) (c .before .before .before .before .before .before .before .before .before .if1 .taken) (c .before .before .before .before .before .before .before .pair-in .ensures .0) (c .before .before .before .before .before .before .name-length .ensures .0)) refl in (end-in _ (c .before .e .given .1) (c .before .before .before .operands .ensures .1), c .before .before .before .before .before .before .before .before .before .before .before .before .before .before .loop .inv .1, (λ x i j. c .before .before .before .before .before .before .before .before .before .before .before .before .before .before .loop .inv .2 x (omega arith) j), sym (operands-next _ _ _ _ _ (c .before .before .before .before .before .before .before .before .before .before .before .before .before .loop-test .taken) w (c .before .e .given .1)) ∙ c .before .before .before .before .before .before .before .before .before .before .before .before .before .before .loop .inv .3)
+operands-loop-again-2 t c = let w = c .before .before .before .operands .ensures .0 ∙ read-operands _ _ _ _ _ _ _ _ (c .before .before .before .before .before .before .before .before .if2 .left) (named-node (c .before .before .before .before .before .before .before .before .before .before .before .before .before .before .before .before .before .before .before .args .syntax) (c .before .before .before .before .before .before .before .before .before .before .before .before .before .before .before .before .before .before .before .args .language .now) (c .before .before .before .before .before .before .before .before .before .before .before .before .before .before .before .before .before .before .before .args .index .now) (c .before .before .before .before .before .before .before .before .before .before .before .before .before .before .before .before .before .before .before .args .uses .now) _ (c .before .before .before .before .before .before .before .before .before .before .before .before .before .before .before .before .before .before .before .args .bytes .now) _ (c .before .before .before .before .before .before .before .before .before .before .before .class-place .ensures) (c .before .before .before .before .before .before .before .before .before .before .production-place .ensures) (c .before .before .before .before .before .before .before .before .before .if1 .taken) (c .before .before .before .before .before .before .before .pair-in .ensures .0) (c .before .before .before .before .before .before .name-length .ensures .0)) refl in (end-in _ (c .before .e .given .1) (c .before .before .before .operands .ensures .1), c .before .before .before .before .before .before .before .before .before .before .before .before .before .before .loop .inv .1, (λ x i j. c .before .before .before .before .before .before .before .before .before .before .before .before .before .before .loop .inv .2 x (omega arith) j), sym (operands-next _ _ _ _ _ (c .before .before .before .before .before .before .before .before .before .before .before .before .before .loop-test .taken) w (c .before .e .given .1)) ∙ c .before .before .before .before .before .before .before .before .before .before .before .before .before .before .loop .inv .3)
 
 operands-returns-2 : (t : ℕ) → operands-lts.Need-returns-2 (operands-calls t) (operands-at t) operands.Post operands-Inv-loop operands-μ-loop
-operands-returns-2 t c = let w = c .before .before .operands .ensures .0 ∙ read-operands _ _ _ _ _ _ _ _ (c .before .before .before .before .before .before .before .if2 .left) (named-node (c .before .before .before .before .before .before .before .before .before .before .before .before .before .before .before .before .before .before .args .syntax) (c .before .before .before .before .before .before .before .before .before .before .before .before .before .before .before .before .before .before .args .language .now) (c .before .before .before .before .before .before .before .before .before .before .before .before .before .before .before .before .before .before .args .index .now) (c .before .before .before .before .before .before .before .before .before .before .before .before .before .before .before .before .before .before .args .arguments .now) _ (c .before .before .before .before .before .before .before .before .before .before .before .before .before .before .before .before .before .before .args .bytes .now) _ (c .before .before .before .before .before .before .before .before .before .before .class-place .ensures) (c .before .before .before .before .before .before .before .before .before .production-place .ensures) (c .before .before .before .before .before .before .before .before .if1 .taken) (c .before .before .before .before .before .before .pair-in .ensures .0) (c .before .before .before .before .before .name-length .ensures .0)) refl in (sym (operands-deep _ _ _ _ _ (c .before .before .before .before .before .before .before .before .before .before .before .before .loop-test .taken) w (c .enum-told .given .1)) ∙ c .before .before .before .before .before .before .before .before .before .before .before .before .before .loop .inv .3, tt)
+operands-returns-2 t c = let w = c .before .before .operands .ensures .0 ∙ read-operands _ _ _ _ _ _ _ _ (c .before .before .before .before .before .before .before .if2 .left) (named-node (c .before .before .before .before .before .before .before .before .before .before .before .before .before .before .before .before .before .before .args .syntax) (c .before .before .before .before .before .before .before .before .before .before .before .before .before .before .before .before .before .before .args .language .now) (c .before .before .before .before .before .before .before .before .before .before .before .before .before .before .before .before .before .before .args .index .now) (c .before .before .before .before .before .before .before .before .before .before .before .before .before .before .before .before .before .before .args .uses .now) _ (c .before .before .before .before .before .before .before .before .before .before .before .before .before .before .before .before .before .before .args .bytes .now) _ (c .before .before .before .before .before .before .before .before .before .before .class-place .ensures) (c .before .before .before .before .before .before .before .before .before .production-place .ensures) (c .before .before .before .before .before .before .before .before .if1 .taken) (c .before .before .before .before .before .before .pair-in .ensures .0) (c .before .before .before .before .before .name-length .ensures .0)) refl in (sym (operands-deep _ _ _ _ _ (c .before .before .before .before .before .before .before .before .before .before .before .before .loop-test .taken) w (c .enum-told .given .1)) ∙ c .before .before .before .before .before .before .before .before .before .before .before .before .before .loop .inv .3, tt)
 
 operands-returns-3 : (t : ℕ) → operands-lts.Need-returns-3 (operands-calls t) (operands-at t) operands.Post operands-Inv-loop operands-μ-loop
-operands-returns-3 t c = let w = c .before .before .operands .ensures .0 ∙ read-operands _ _ _ _ _ _ _ _ (c .before .before .before .before .before .before .before .if2 .left) (named-node (c .before .before .before .before .before .before .before .before .before .before .before .before .before .before .before .before .before .before .args .syntax) (c .before .before .before .before .before .before .before .before .before .before .before .before .before .before .before .before .before .before .args .language .now) (c .before .before .before .before .before .before .before .before .before .before .before .before .before .before .before .before .before .before .args .index .now) (c .before .before .before .before .before .before .before .before .before .before .before .before .before .before .before .before .before .before .args .arguments .now) _ (c .before .before .before .before .before .before .before .before .before .before .before .before .before .before .before .before .before .before .args .bytes .now) _ (c .before .before .before .before .before .before .before .before .before .before .class-place .ensures) (c .before .before .before .before .before .before .before .before .before .production-place .ensures) (c .before .before .before .before .before .before .before .before .if1 .taken) (c .before .before .before .before .before .before .pair-in .ensures .0) (c .before .before .before .before .before .name-length .ensures .0)) refl in (sym (operands-broken _ _ _ _ _ (c .before .before .before .before .before .before .before .before .before .before .before .before .loop-test .taken) w (c .enum-told2 .given .1)) ∙ c .before .before .before .before .before .before .before .before .before .before .before .before .before .loop .inv .3, tt)
+operands-returns-3 t c = let w = c .before .before .operands .ensures .0 ∙ read-operands _ _ _ _ _ _ _ _ (c .before .before .before .before .before .before .before .if2 .left) (named-node (c .before .before .before .before .before .before .before .before .before .before .before .before .before .before .before .before .before .before .args .syntax) (c .before .before .before .before .before .before .before .before .before .before .before .before .before .before .before .before .before .before .args .language .now) (c .before .before .before .before .before .before .before .before .before .before .before .before .before .before .before .before .before .before .args .index .now) (c .before .before .before .before .before .before .before .before .before .before .before .before .before .before .before .before .before .before .args .uses .now) _ (c .before .before .before .before .before .before .before .before .before .before .before .before .before .before .before .before .before .before .args .bytes .now) _ (c .before .before .before .before .before .before .before .before .before .before .class-place .ensures) (c .before .before .before .before .before .before .before .before .before .production-place .ensures) (c .before .before .before .before .before .before .before .before .if1 .taken) (c .before .before .before .before .before .before .pair-in .ensures .0) (c .before .before .before .before .before .name-length .ensures .0)) refl in (sym (operands-broken _ _ _ _ _ (c .before .before .before .before .before .before .before .before .before .before .before .before .loop-test .taken) w (c .enum-told2 .given .1)) ∙ c .before .before .before .before .before .before .before .before .before .before .before .before .before .loop .inv .3, tt)
 
 operands-loop-less-3 : (t : ℕ) → operands-lts.Need-loop-less-3 (operands-calls t) (operands-at t) operands.Post operands-Inv-loop operands-μ-loop
 operands-loop-less-3 t c = let t = c .before .before .before .before .before .before .before .before .before .loop-test .taken in omega arith
 
 operands-loop-again-3 : (t : ℕ) → operands-lts.Need-loop-again-3 (operands-calls t) (operands-at t) operands.Post operands-Inv-loop operands-μ-loop
-operands-loop-again-3 t c = (named-end (c .before .before .before .before .before .before .before .before .before .before .before .before .before .before .before .args .syntax) (c .before .before .before .before .before .before .before .before .before .before .before .before .before .before .before .args .language .now) (c .before .before .before .before .before .before .before .before .before .before .before .before .before .before .before .args .index .now) (c .before .before .before .before .before .before .before .before .before .before .before .before .before .before .before .args .arguments .now) _ (c .before .before .before .before .before .before .before .before .before .before .before .before .before .before .before .args .bytes .now) _ (c .before .before .before .before .before .before .before .class-place .ensures) (c .before .before .before .before .before .before .production-place .ensures) (c .before .before .before .before .before .if1 .taken) (c .before .before .name-length .ensures .0), c .before .before .before .before .before .before .before .before .before .before .loop .inv .1, (λ x i j. c .before .before .before .before .before .before .before .before .before .before .loop .inv .2 x (omega arith) j), sym (operands-next _ _ _ _ _ (c .before .before .before .before .before .before .before .before .before .loop-test .taken) (sym (operands-done _ _ _ _ _ (c .if4 .left)) ∙ read-operands _ _ _ _ _ _ _ _ (c .before .before .before .before .if2 .left) (named-node (c .before .before .before .before .before .before .before .before .before .before .before .before .before .before .before .args .syntax) (c .before .before .before .before .before .before .before .before .before .before .before .before .before .before .before .args .language .now) (c .before .before .before .before .before .before .before .before .before .before .before .before .before .before .before .args .index .now) (c .before .before .before .before .before .before .before .before .before .before .before .before .before .before .before .args .arguments .now) _ (c .before .before .before .before .before .before .before .before .before .before .before .before .before .before .before .args .bytes .now) _ (c .before .before .before .before .before .before .before .class-place .ensures) (c .before .before .before .before .before .before .production-place .ensures) (c .before .before .before .before .before .if1 .taken) (c .before .before .before .pair-in .ensures .0) (c .before .before .name-length .ensures .0)) refl) refl) ∙ c .before .before .before .before .before .before .before .before .before .before .loop .inv .3)
+operands-loop-again-3 t c = (named-end (c .before .before .before .before .before .before .before .before .before .before .before .before .before .before .before .args .syntax) (c .before .before .before .before .before .before .before .before .before .before .before .before .before .before .before .args .language .now) (c .before .before .before .before .before .before .before .before .before .before .before .before .before .before .before .args .index .now) (c .before .before .before .before .before .before .before .before .before .before .before .before .before .before .before .args .uses .now) _ (c .before .before .before .before .before .before .before .before .before .before .before .before .before .before .before .args .bytes .now) _ (c .before .before .before .before .before .before .before .class-place .ensures) (c .before .before .before .before .before .before .production-place .ensures) (c .before .before .before .before .before .if1 .taken) (c .before .before .name-length .ensures .0), c .before .before .before .before .before .before .before .before .before .before .loop .inv .1, (λ x i j. c .before .before .before .before .before .before .before .before .before .before .loop .inv .2 x (omega arith) j), sym (operands-next _ _ _ _ _ (c .before .before .before .before .before .before .before .before .before .loop-test .taken) (sym (operands-done _ _ _ _ _ (c .if4 .left)) ∙ read-operands _ _ _ _ _ _ _ _ (c .before .before .before .before .if2 .left) (named-node (c .before .before .before .before .before .before .before .before .before .before .before .before .before .before .before .args .syntax) (c .before .before .before .before .before .before .before .before .before .before .before .before .before .before .before .args .language .now) (c .before .before .before .before .before .before .before .before .before .before .before .before .before .before .before .args .index .now) (c .before .before .before .before .before .before .before .before .before .before .before .before .before .before .before .args .uses .now) _ (c .before .before .before .before .before .before .before .before .before .before .before .before .before .before .before .args .bytes .now) _ (c .before .before .before .before .before .before .before .class-place .ensures) (c .before .before .before .before .before .before .production-place .ensures) (c .before .before .before .before .before .if1 .taken) (c .before .before .before .pair-in .ensures .0) (c .before .before .name-length .ensures .0)) refl) refl) ∙ c .before .before .before .before .before .before .before .before .before .before .loop .inv .3)
 
 operands-token-requires : (t : ℕ) → operands-lts.Need-token-requires (operands-calls t) (operands-at t) operands.Post operands-Inv-loop operands-μ-loop
 operands-token-requires t c κs = let b = c .before .before .before .before .before .before .loop .inv .2 _ (omega arith) (c .before .before .before .before .before .loop-test .taken) in (c .before .before .before .before .before .before .loop .inv .0, λ h. class-at _ _ _ (c .before .before .before .before .before .before .before .before .before .before .before .pre .1 .0) (b .1) (c .before .before .before .class-place .ensures) (c .if5 .taken))

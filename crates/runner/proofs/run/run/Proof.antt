@@ -1,38 +1,43 @@
-use borrow.Author.Needs.{needs}
+use mathlib.Core.Logic.{inl, inr}
 use native.Mathlib.Omega.{arith}
 use Rattle.translation.proofs.Accepted.{accepts}
 use Rattle.runner.proofs.Laws.{parts-checked, run-refused, root-past, run-accepted}
+use borrow.Author.Needs.{needs}
+use borrow.Author.Needs.{needs}
 use Rattle.runner.proofs.run.run.Statement.{statement}
 use Rattle.runner.proofs.run.run.Tie as tie
 use Rattle.runner.proofs.run.run.Reads as reads
 use Rattle.runner.proofs.run.run.Lts as lts
+use Rattle.checks.proofs.translations.check_translation.Reads as check-translation-reads
 use Rattle.fields.proofs.outcome.refuse.Reads as refuse-reads
 use Rattle.runner.proofs.run.run_parts.Reads as run-parts-reads
-use Rattle.checks.proofs.translations.check_translation.Reads as check-translation-reads
 use Rattle.translation.proofs.parts.body_of.Reads as body-of-reads
 use Rattle.translation.proofs.parts.source_of.Reads as source-of-reads
 use Rattle.translation.proofs.parts.target_of.Reads as target-of-reads
 
 returns : tie.Need-returns
-returns c = run-refused _ _ _ _ _ _ _ (c .before .before .before .before .check-translation .ensures) (c .before .before .outcome .given .1) (c .refuse .ensures)
+returns c = run-refused _ _ _ _ _ _ _ _ (c .before .before .before .before .check-translation .ensures) (c .before .before .outcome .given .1) (c .refuse .ensures)
 
 returns-2 : tie.Need-returns-2
-returns-2 c = let a = accepts _ (c .before .before .before .before .check-translation .ensures) (c .before .before .enum-told .given .1) in root-past _ _ _ _ (a .translation) (a .is) _ (c .before .if1 .taken) (c .refuse2 .ensures)
-
-source-of-requires : tie.Need-source-of-requires
-source-of-requires c κs = let a = accepts _ (c .before .before .before .check-translation .ensures) (c .before .enum-told .given .1) in (a .translation, a .is)
-
-target-of-requires : tie.Need-target-of-requires
-target-of-requires c κs = let a = accepts _ (c .before .before .before .before .check-translation .ensures) (c .before .before .enum-told .given .1) in (a .translation, a .is)
-
-body-of-requires : tie.Need-body-of-requires
-body-of-requires c κs = let a = accepts _ (c .before .before .before .before .before .check-translation .ensures) (c .before .before .before .enum-told .given .1) in (a .translation, a .is)
-
-run-parts-requires : tie.Need-run-parts-requires
-run-parts-requires c κs = let a = accepts _ (c .before .before .before .before .before .before .before .check-translation .ensures) (c .before .before .before .before .before .enum-told .given .1) in (omega (arith, c .before .before .before .before .if1 .left), (a .translation, parts-checked _ (a .translation) (a .is) (c .before .before .before .source-of .ensures) (c .before .before .target-of .ensures) (c .before .body-of .ensures)))
+returns-2 c = let a = accepts _ (c .before .before .before .before .check-translation .ensures) (c .before .before .enum-told .given .1) in root-past _ _ _ _ _ (a .translation) (a .is) _ (inl (c .before .if1 .taken)) (c .refuse2 .ensures)
 
 returns-3 : tie.Need-returns-3
-returns-3 c = let a = accepts _ (c .before .before .before .before .before .before .before .before .before .before .check-translation .ensures) (c .before .before .before .before .before .before .before .before .enum-told .given .1) in run-accepted _ _ _ _ (a .translation) (a .is) _ _ (c .before .before .run-parts .ensures (a .translation) (parts-checked _ (a .translation) (a .is) (c .before .before .before .before .before .before .source-of .ensures) (c .before .before .before .before .before .target-of .ensures) (c .before .before .before .before .body-of .ensures)))
+returns-3 c = let a = accepts _ (c .before .before .before .before .before .check-translation .ensures) (c .before .before .before .enum-told .given .1) in root-past _ _ _ _ _ (a .translation) (a .is) _ (inr (c .before .if2 .taken)) (c .refuse3 .ensures)
+
+source-of-requires : tie.Need-source-of-requires
+source-of-requires c κs = let a = accepts _ (c .before .before .before .before .check-translation .ensures) (c .before .before .enum-told .given .1) in (a .translation, a .is)
+
+target-of-requires : tie.Need-target-of-requires
+target-of-requires c κs = let a = accepts _ (c .before .before .before .before .before .check-translation .ensures) (c .before .before .before .enum-told .given .1) in (a .translation, a .is)
+
+body-of-requires : tie.Need-body-of-requires
+body-of-requires c κs = let a = accepts _ (c .before .before .before .before .before .before .check-translation .ensures) (c .before .before .before .before .enum-told .given .1) in (a .translation, a .is)
+
+run-parts-requires : tie.Need-run-parts-requires
+run-parts-requires c κs = let a = accepts _ (c .before .before .before .before .before .before .before .before .check-translation .ensures) (c .before .before .before .before .before .before .enum-told .given .1) in (omega (arith, c .before .before .before .before .before .if1 .left), (a .translation, parts-checked _ (a .translation) (a .is) (c .before .before .before .source-of .ensures) (c .before .before .target-of .ensures) (c .before .body-of .ensures)))
+
+returns-4 : tie.Need-returns-4
+returns-4 c = let a = accepts _ (c .before .before .before .before .before .before .before .before .before .before .before .check-translation .ensures) (c .before .before .before .before .before .before .before .before .before .enum-told .given .1) in run-accepted _ _ _ _ _ (a .translation) (a .is) _ _ (c .before .before .run-parts .ensures (a .translation) (parts-checked _ (a .translation) (a .is) (c .before .before .before .before .before .before .source-of .ensures) (c .before .before .before .before .before .target-of .ensures) (c .before .before .before .before .body-of .ensures)))
 
 pub run-spec : {M : Type 1} → statement M
 run-spec =
@@ -45,10 +50,13 @@ run-spec =
     (λ c. search needs)
     (λ c κs. search needs)
     returns-2
+    (λ c κs. search needs)
+    returns-3
     source-of-requires
     target-of-requires
     body-of-requires
     (λ c. search needs)
+    (λ c. search needs)
     run-parts-requires
     (λ c. search needs)
-    returns-3)
+    returns-4)

@@ -1,26 +1,57 @@
-use borrow.Author.Needs.{needs}
+use mathlib.Core.Path.{refl, sym, _∙_}
+use borrow.Author.Tests.{not-true, not-false}
 use Rattle.reader.proofs.Lookup.{zeros}
+use Rattle.runner.proofs.Laws.{kind-out}
+use borrow.Author.Needs.{needs}
+use borrow.Author.Needs.{needs}
 use Rattle.runner.proofs.run.run_parts.Statement.{statement}
 use Rattle.runner.proofs.run.run_parts.Tie as tie
 use Rattle.runner.proofs.run.run_parts.Reads as reads
 use Rattle.runner.proofs.run.run_parts.Lts as lts
-use Rattle.runner.proofs.run.run_kept.Reads as run-kept-reads
+use Rattle.fields.proofs.outcome.refuse.Reads as refuse-reads
+use Rattle.runner.proofs.run.finish.Reads as finish-reads
+use Rattle.runner.proofs.run.has_number.Reads as has-number-reads
+use Rattle.runner.proofs.run.measured.Reads as measured-reads
+use Rattle.runner.proofs.run.top_over.Reads as top-over-reads
 
-run-kept-requires : tie.Need-run-kept-requires
-run-kept-requires c κs = (c .before .before .before .before .before .before .before .before .pre .0, zeros 2, c .before .before .before .before .before .before .before .before .pre .1)
+returns : tie.Need-returns
+returns c = λ f z. kind-out f _ _ _ _ _ (c .before .before .has-number .ensures _ f z) (not-true _ (c .before .if1 .taken)) (c .refuse .ensures)
 
-run-kept-requires-2 : tie.Need-run-kept-requires-2
-run-kept-requires-2 c κs = (c .before .before .before .before .before .before .before .before .pre .0, zeros 8192, c .before .before .before .before .before .before .before .before .pre .1)
+measured-requires : tie.Need-measured-requires
+measured-requires c κs = (c .before .before .before .before .before .before .before .before .before .before .before .pre .0, refl, zeros 29760, zeros 2, (_, c .before .before .before .before .before .before .before .before .before .before .before .pre .1 .0, c .before .before .before .before .before .before .before .before .before .before .before .pre .1 .1))
+
+finish-requires : tie.Need-finish-requires
+finish-requires c κs = (c .before .before .before .before .before .before .before .before .before .before .before .before .before .before .before .before .pre .0, (c .before .before .before .before .before .before .before .before .before .before .before .before .before .before .before .before .pre .1 .0, _, c .before .before .before .before .before .before .before .before .before .before .before .before .before .before .before .before .pre .1 .1, (sym (c .before .before .before .before .before .before .before .before .before .before .has-number .ensures _ (c .before .before .before .before .before .before .before .before .before .before .before .before .before .before .before .before .pre .1 .0) (c .before .before .before .before .before .before .before .before .before .before .before .before .before .before .before .before .pre .1 .1)) ∙ not-false _ (c .before .before .before .before .before .before .before .before .before .if1 .left)), c .before .before .before .before .before .before .before .before .top-over .ensures, c .before .before .before .before .measured .ensures _ (c .before .before .before .before .before .before .before .before .before .before .before .before .before .before .before .before .pre .1 .0) (c .before .before .before .before .before .before .before .before .before .before .before .before .before .before .before .before .pre .1 .1)))
+
+returns-2 : tie.Need-returns-2
+returns-2 c = λ f z. c .before .before .finish .ensures f _ z (sym (c .before .before .before .before .before .before .before .before .before .before .before .before .before .has-number .ensures _ f z) ∙ not-false _ (c .before .before .before .before .before .before .before .before .before .before .before .before .if1 .left)) (c .before .before .before .before .before .before .before .before .before .before .before .top-over .ensures) (c .before .before .before .before .before .before .before .measured .ensures _ f z)
+
+measured-requires-2 : tie.Need-measured-requires-2
+measured-requires-2 c κs = (c .before .before .before .before .before .before .before .before .before .before .before .pre .0, refl, zeros 29760, zeros 8192, (_, c .before .before .before .before .before .before .before .before .before .before .before .pre .1 .0, c .before .before .before .before .before .before .before .before .before .before .before .pre .1 .1))
+
+finish-requires-2 : tie.Need-finish-requires-2
+finish-requires-2 c κs = (c .before .before .before .before .before .before .before .before .before .before .before .before .before .before .before .before .pre .0, (c .before .before .before .before .before .before .before .before .before .before .before .before .before .before .before .before .pre .1 .0, _, c .before .before .before .before .before .before .before .before .before .before .before .before .before .before .before .before .pre .1 .1, (sym (c .before .before .before .before .before .before .before .before .before .before .has-number .ensures _ (c .before .before .before .before .before .before .before .before .before .before .before .before .before .before .before .before .pre .1 .0) (c .before .before .before .before .before .before .before .before .before .before .before .before .before .before .before .before .pre .1 .1)) ∙ not-false _ (c .before .before .before .before .before .before .before .before .before .if1 .left)), c .before .before .before .before .before .before .before .before .top-over .ensures, c .before .before .before .before .measured2 .ensures _ (c .before .before .before .before .before .before .before .before .before .before .before .before .before .before .before .before .pre .1 .0) (c .before .before .before .before .before .before .before .before .before .before .before .before .before .before .before .before .pre .1 .1)))
+
+returns-3 : tie.Need-returns-3
+returns-3 c = λ f z. c .before .before .finish2 .ensures f _ z (sym (c .before .before .before .before .before .before .before .before .before .before .before .before .before .has-number .ensures _ f z) ∙ not-false _ (c .before .before .before .before .before .before .before .before .before .before .before .before .if1 .left)) (c .before .before .before .before .before .before .before .before .before .before .before .top-over .ensures) (c .before .before .before .before .before .before .before .measured2 .ensures _ f z)
 
 pub run-parts-spec : {M : Type 1} → statement M
 run-parts-spec =
     tie.close
     (tie.spec
+    (λ c κs. search needs)
+    (λ c κs. search needs)
+    returns
+    (λ c κs. search needs)
     (λ c. search needs)
-    run-kept-requires
+    measured-requires
     (λ c. search needs)
+    finish-requires
     (λ c. search needs)
+    returns-2
     (λ c. search needs)
-    run-kept-requires-2
+    measured-requires-2
     (λ c. search needs)
-    (λ c. search needs))
+    finish-requires-2
+    (λ c. search needs)
+    returns-3)

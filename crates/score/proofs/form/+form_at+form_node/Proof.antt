@@ -9,6 +9,7 @@ use borrow.Author.Needs.{needs}
 use borrow.Author.Tests.{not-true, not-false}
 use Rattle.language.specs.Language.{Language}
 use Rattle.reader.specs.Code.{node, Codes}
+use Rattle.reader.specs.Typing.{Uses}
 use Rattle.score.specs.Linear.{Loads}
 use Rattle.score.specs.Inner.Terms.{allBytes, NodeAsks}
 use Rattle.score.proofs.Integers.{told}
@@ -90,7 +91,7 @@ form-at-returns-2 t c = λ l given w u a. node-adds a (c .before .before .before
 
 abbrev form-node-Inv-loop : form-node-lts.InvT-loop
 form-node-Inv-loop language index figures production bytes at left factor count sum stop row₀ q₀ to₀ row q to =
-    (l : Language) (given : List ℕ) (w : Loads) (k p : ℕ) (ts : Codes) (ks : List ℕ) → NodeAsks language index figures production bytes at left l given w k p ts ks
+    (l : Language) (given : Uses) (w : Loads) (k p : ℕ) (ts : Codes) (ks : List ℕ) → NodeAsks language index figures production bytes at left l given w k p ts ks
     → Walking language figures bytes l given w (node k p ts) ts stop (at + length (allBytes ts)) left count row q to
 
 abbrev form-node-μ-loop : form-node-lts.MeasureT-loop

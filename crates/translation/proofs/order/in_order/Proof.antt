@@ -1,3 +1,4 @@
+use Rattle.fields.specs.Inner.Places.{orderAt}
 use borrow.Author.Tests.{not-true, not-false}
 use Rattle.language.proofs.Holds.{holds-entries}
 use Rattle.translation.proofs.Items.{holds-items}
@@ -14,18 +15,21 @@ keys-rise-requires : tie.Need-keys-rise-requires
 keys-rise-requires c κs = entries-long _ (holds-entries _ _ (c .before .before .before .pre .1 .source) .whole)
 
 returns : tie.Need-returns
+unfolding orderAt
 returns c = λ f w. order-source _ _ _ f w _ (c .before .keys-rise .ensures) (not-true _ (c .if1 .taken))
 
 keys-rise-requires-2 : tie.Need-keys-rise-requires-2
 keys-rise-requires-2 c κs = entries-long _ (holds-entries _ _ (c .before .before .before .before .before .pre .1 .target) .whole)
 
 returns-2 : tie.Need-returns-2
+unfolding orderAt
 returns-2 c = λ f w. order-target _ _ _ f w _ (c .before .before .before .keys-rise .ensures) (not-false _ (c .before .before .if1 .left)) _ (c .before .keys-rise2 .ensures) (not-true _ (c .if2 .taken))
 
 keys-rise-requires-3 : tie.Need-keys-rise-requires-3
 keys-rise-requires-3 c κs = items-long _ (holds-items _ _ (c .before .before .before .before .before .before .before .pre .1 .body) .whole)
 
 returns-3 : tie.Need-returns-3
+unfolding orderAt
 returns-3 c = λ f w. order-body _ _ _ f w _ (c .before .before .before .before .keys-rise .ensures) (not-false _ (c .before .before .before .if1 .left)) _ (c .before .before .keys-rise2 .ensures) (not-false _ (c .before .if2 .left)) _ (c .keys-rise3 .ensures)
 
 pub in-order-spec : {M : Type 1} → statement M

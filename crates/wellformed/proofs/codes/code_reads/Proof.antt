@@ -1,4 +1,3 @@
-use native.Mathlib.Omega.{arith}
 use Rattle.wellformed.proofs.Coded.{code-read}
 use borrow.Author.Needs.{needs}
 use Rattle.wellformed.proofs.codes.code_reads.Statement.{statement}
@@ -18,9 +17,7 @@ code-reads-spec =
     (λ c. search needs)
     (λ c. search needs)
     (λ c. search needs)
-    (λ c. search needs)
     (λ c κs. search needs)
-    (λ c. search needs)
     (λ c. search needs)
     (λ c κs. search needs)
     returns)

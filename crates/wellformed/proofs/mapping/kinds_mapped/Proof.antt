@@ -1,5 +1,5 @@
-use borrow.Author.Tests.{not-true, not-false}
 use borrow.Author.Needs.{needs}
+use borrow.Author.Tests.{not-true, not-false}
 use Prim.Native.Nat.{_-_}
 use mathlib.Core.Path.{_≡_, refl}
 use Rattle.fields.specs.Lists.{all, countUp}
@@ -12,13 +12,16 @@ use Rattle.wellformed.proofs.mapping.kinds_mapped.Lts as lts
 use Rattle.wellformed.proofs.mapping.mapped_if.Reads as mapped-if-reads
 
 abbrev Inv-loop : tie.InvT-loop
-Inv-loop index kinds k₀ k = all (mappedIf index kinds) (countUp (32 - k) k) ≡ all (mappedIf index kinds) (countUp 32 0)
+Inv-loop uses kinds k₀ k = all (mappedIf uses kinds) (countUp (32 - k) k) ≡ all (mappedIf uses kinds) (countUp 32 0)
 
 abbrev μ-loop : tie.MeasureT-loop
-μ-loop index kinds k₀ k = 32 - k
+μ-loop uses kinds k₀ k = 32 - k
 
 loop-holds : tie.Need-loop-holds Inv-loop μ-loop
 loop-holds c = refl
+
+mapped-if-requires : tie.Need-mapped-if-requires Inv-loop μ-loop
+mapped-if-requires c κs = (c .loop-test .taken, c .before .before .before .before .pre .0, c .before .before .before .before .pre .1)
 
 returns : tie.Need-returns Inv-loop μ-loop
 returns c = count-stop _ _ _ (c .before .before .before .loop .inv) (c .before .before .loop-test .taken) _ (c .before .mapped-if .ensures) (not-true _ (c .if1 .taken))
@@ -36,7 +39,7 @@ kinds-mapped-spec =
     Inv-loop
     μ-loop
     loop-holds
-    (λ c κs. search needs)
+    mapped-if-requires
     returns
     (λ c. search needs)
     (λ c. search needs)

@@ -1,0 +1,2 @@
+// Translations with number 0 only.
+pub mod body;

@@ -1,0 +1,6 @@
+pub mod Clauses
+pub mod Finding
+pub mod Hinting
+pub mod Spans
+pub mod Standing
+pub mod Tables

@@ -1,0 +1,79 @@
+use borrow.Author.Needs.{needs}
+use native.Mathlib.Omega.{arith}
+use borrow.Author.Tests.{not-true, not-false}
+use Prim.Native.Nat.{_-_}
+use mathlib.Core.Path.{_≡_, refl, sym, _∙_}
+use mathlib.Core.Bool.{true}
+use lib.ListN.{length}
+use Rattle.fields.specs.Lists.{all}
+use Rattle.fields.specs.Inner.Places.{placesFrom, places}
+use Rattle.fields.proofs.Places.{every-done, every-stop, every-next}
+use Rattle.translation.specs.Inner.Items.{itemWhole}
+use Rattle.translation.proofs.Items.{holds-items}
+use Rattle.translation.proofs.Whole.{item-long, item-here, items-on}
+use Rattle.translation.proofs.Uses.{Front, front-start, front-next}
+use Rattle.wellformed.specs.Inner.Tests.{fitsAt}
+use Rattle.wellformed.proofs.Mappings.{mapping-at, fits-not, fits-kept, front-fits}
+use Rattle.wellformed.proofs.mapping.mappings_fit.Statement.{statement}
+use Rattle.wellformed.proofs.mapping.mappings_fit.Tie as tie
+use Rattle.wellformed.proofs.mapping.mappings_fit.Reads as reads
+use Rattle.wellformed.proofs.mapping.mappings_fit.Lts as lts
+use Rattle.fields.proofs.walk.whole_end.Reads as whole-end-reads
+use Rattle.translation.proofs.body.is_clause.Reads as is-clause-reads
+use Rattle.wellformed.proofs.mapping.kept_at.Reads as kept-at-reads
+use Rattle.wellformed.proofs.mapping.reaches_at.Reads as reaches-at-reads
+
+abbrev Inv-loop : tie.InvT-loop
+Inv-loop source sources target targets body marked reached p₀ p = Front body p × (all (itemWhole body) (placesFrom body p) ≡ true) × (all (fitsAt source sources target targets body marked reached) (placesFrom body p) ≡ all (fitsAt source sources target targets body marked reached) (places body))
+
+abbrev μ-loop : tie.MeasureT-loop
+μ-loop source sources target targets body marked reached p₀ p = length body - p
+
+loop-holds : tie.Need-loop-holds Inv-loop μ-loop
+loop-holds c = (front-start _ (c .before .before .before .before .before .before .before .pre .2 .0) (c .before .before .before .before .before .before .before .pre .2 .1), holds-items _ (c .before .before .before .before .before .before .before .pre .2 .0) (c .before .before .before .before .before .before .before .pre .2 .1) .whole, refl)
+
+shared-slice-read-is-clause : tie.Need-shared-slice-read-is-clause Inv-loop μ-loop
+shared-slice-read-is-clause c = c .before .loop-test .taken
+
+returns : tie.Need-returns Inv-loop μ-loop
+returns c = front-fits _ _ _ _ _ _ _ _ (c .before .before .before .before .loop .inv .0) (c .before .before .before .loop-test .taken) (sym (c .before .is-clause .ensures) ∙ c .if1 .taken) _ (c .before .before .before .before .loop .inv .2)
+
+whole-end-requires : tie.Need-whole-end-requires Inv-loop μ-loop
+whole-end-requires c κs = let k = item-long _ _ (item-here _ _ (c .before .before .before .before .loop .inv .1) _ refl (c .before .before .before .loop-test .taken)) in omega (arith, k)
+
+reaches-at-requires : tie.Need-reaches-at-requires Inv-loop μ-loop
+reaches-at-requires c κs = ((mapping-at _ _ (item-here _ _ (c .before .before .before .before .before .loop .inv .1) _ refl (c .before .before .before .before .loop-test .taken)) (sym (c .before .before .is-clause .ensures) ∙ c .before .if1 .left) .0), c .whole-end .ensures .is, c .before .before .before .before .before .before .before .before .before .before .before .before .before .pre .3, c .before .before .before .before .before .before .before .before .before .before .before .before .before .pre .4)
+
+returns-2 : tie.Need-returns-2 Inv-loop μ-loop
+returns-2 c = every-stop _ _ _ _ (c .before .before .before .before .before .before .before .loop .inv .2) _ (fits-not _ _ _ _ _ _ _ _ (sym (c .before .before .before .before .is-clause .ensures) ∙ c .before .before .before .if1 .left) _ (c .before .reaches-at .ensures) (not-true _ (c .if2 .taken))) _ (c .before .before .whole-end .ensures .is) (c .before .before .before .before .before .before .loop-test .taken) refl
+
+kept-at-requires : tie.Need-kept-at-requires Inv-loop μ-loop
+kept-at-requires c κs = (c .before .before .before .before .before .before .before .before .before .before .before .before .before .before .before .pre .0, c .before .before .before .before .before .before .before .before .before .before .before .before .before .before .before .pre .1, (mapping-at _ _ (item-here _ _ (c .before .before .before .before .before .before .before .loop .inv .1) _ refl (c .before .before .before .before .before .before .loop-test .taken)) (sym (c .before .before .before .before .is-clause .ensures) ∙ c .before .before .before .if1 .left) .0), c .before .before .whole-end .ensures .is)
+
+returns-3 : tie.Need-returns-3 Inv-loop μ-loop
+returns-3 c = every-stop _ _ _ _ (c .before .before .before .before .before .before .before .before .before .loop .inv .2) _ (fits-kept _ _ _ _ _ _ _ _ (sym (c .before .before .before .before .before .before .is-clause .ensures) ∙ c .before .before .before .before .before .if1 .left) _ (c .before .before .before .reaches-at .ensures) (not-false _ (c .before .before .if2 .left)) _ (c .before .kept-at .ensures)) _ (c .before .before .before .before .whole-end .ensures .is) (c .before .before .before .before .before .before .before .before .loop-test .taken) (not-true _ (c .if3 .taken))
+
+loop-again : tie.Need-loop-again Inv-loop μ-loop
+loop-again c = (front-next _ _ (c .before .before .before .before .before .before .before .before .before .loop .inv .0) (c .before .before .before .before .before .before .before .before .loop-test .taken) (sym (c .before .before .before .before .before .before .is-clause .ensures) ∙ c .before .before .before .before .before .if1 .left) _ (c .before .before .before .before .whole-end .ensures .is), items-on _ _ (c .before .before .before .before .before .before .before .before .before .loop .inv .1) _ (c .before .before .before .before .whole-end .ensures .is) (c .before .before .before .before .before .before .before .before .loop-test .taken), every-next _ _ _ _ (c .before .before .before .before .before .before .before .before .before .loop .inv .2) _ (fits-kept _ _ _ _ _ _ _ _ (sym (c .before .before .before .before .before .before .is-clause .ensures) ∙ c .before .before .before .before .before .if1 .left) _ (c .before .before .before .reaches-at .ensures) (not-false _ (c .before .before .if2 .left)) _ (c .before .kept-at .ensures)) _ (c .before .before .before .before .whole-end .ensures .is) (c .before .before .before .before .before .before .before .before .loop-test .taken) (not-false _ (c .if3 .left)))
+
+returns-4 : tie.Need-returns-4 Inv-loop μ-loop
+returns-4 c = every-done _ _ _ _ (c .before .loop .inv .2) (c .loop-test .left)
+
+pub mappings-fit-spec : {M : Type 1} → statement M
+mappings-fit-spec =
+    tie.close
+    (tie.spec
+    Inv-loop
+    μ-loop
+    loop-holds
+    shared-slice-read-is-clause
+    (λ c κs. search needs)
+    returns
+    whole-end-requires
+    reaches-at-requires
+    returns-2
+    kept-at-requires
+    returns-3
+    (λ c. search needs)
+    loop-again
+    returns-4)
