@@ -1,9 +1,10 @@
 /* Runs a translation on a tree and keeps the result: run TRANSLATION ROOT TREE OUTPUT [NUMBER]
  *
  * NUMBER is that of the root's mapping by which the tree is run, 0 unless it is given.
- * Prints `accepted LENGTH` and, on a second line, `cost CLAUSES`, or `refused NUMBER`. The status is 0 if accepted, and OUTPUT then holds
- * the whole result; 1 if refused; 2 for bad usage, a file that cannot be read or written, or too
- * little memory. OUTPUT is as it was unless the result is accepted and stands there whole. */
+ * Prints `accepted LENGTH` and, on a second line, `cost CLAUSES`, or `refused NUMBER`. The status
+ * is 0 if accepted, and OUTPUT then holds the whole result; 1 if refused; 2 for bad usage, a file
+ * that cannot be read or written, or too little memory. OUTPUT is as it was unless the result is
+ * accepted and stands there whole. */
 #define _POSIX_C_SOURCE 200809L
 #include <algebra.h>
 #include <errno.h>

@@ -12,9 +12,10 @@
  *   ask mask LANGUAGE ROOT CARD TREE           ask search TRANSLATION ROOT TREE LEVELS [OUTPUT-BYTES]
  *   ask bytes FILE                             writes the bytes themselves
  *
- * Prints `accepted LENGTH` (or a score, or `LEAST to GREATEST` of a loose plan), the bytes of a result on a second line, and the cost of a run, kind and start of a block or the index of an edited plan on
- * a third; or `refused NUMBER`. The text of an import is read, and that of an export printed, as it is. An INDEX that is not
- * named is built, and a CARD that is `-` shows every kind. */
+ * Prints `accepted LENGTH` (or a score, or `LEAST to GREATEST` of a loose plan), the bytes of a result on a second line, and
+ * the cost of a run, kind and start of a block or the index of an edited plan on a third; or `refused NUMBER`. The text of an
+ * import is read, and that of an export printed, as it is. An INDEX that is not named is built, and a CARD that is `-` shows
+ * every kind. */
 #include "algebra.h"
 #include <stdio.h>
 #include <stdlib.h>

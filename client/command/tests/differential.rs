@@ -664,7 +664,7 @@ fn search() {
         let input = run_case(random);
         let (translation, root) = (&input.translation, input.root);
         let run = algebra::run_to_vec(translation, root, 0, &input.tree, LIMIT);
-        let tree = run.unwrap_or(input.tree);
+        let tree = run.map_or(input.tree, |ran| ran.tree);
         let (levels, room) = (random.below(18) as u32, random.below(2 * tree.len() + 8));
         let (mut output, limit) = (vec![0; room], limit_options(room));
         let answer = algebra::search(translation, root, &tree, levels, &mut output);
@@ -676,7 +676,7 @@ fn search() {
         compare_explanation(&folder, case, "search", &operands, &options, answer, number);
         if let Ok(length) = answer {
             let again = algebra::run_to_vec(translation, root, 0, &output[..length], tree.len());
-            assert_eq!(again.as_ref(), Ok(&tree), "case {case}");
+            assert_eq!(again.map(|ran| ran.tree).as_ref(), Ok(&tree), "case {case}");
         }
         found += usize::from(answer.is_ok());
         none += usize::from(answer == Err(Refusal::NoSource));

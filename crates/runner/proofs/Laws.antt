@@ -56,7 +56,7 @@ use Rattle.tables.proofs.Clauses.{body-rises, fits}
 use Rattle.emitter.specs.Inner.Runs.{TermAsks}
 use Rattle.emitter.proofs.Skips.{no-kind}
 use Rattle.tables.proofs.Standing.{drop-stands, wrote-long}
-use Rattle.runner.specs.Operations.{largestCost, reported, clausesApplied, runCost}
+use Rattle.runner.specs.Operations.{largestCost, clausesApplied, runCost}
 use Rattle.runner.specs.Inner.Runs.{runOf, costOf, Answers, Ran, Reads, Measures}
 use Rattle.runner.proofs.Learning.{learnt-right}
 

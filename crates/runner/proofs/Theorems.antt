@@ -1,14 +1,12 @@
 -- A run reports at most the number of productions in its tree, where no clause uses an argument twice.
-use Prim.Native.Nat.{ℕ, min, _≤_}
-use mathlib.Core.Path.{_≡_, refl}
-use mathlib.Core.List.{List}
+use Prim.Native.Nat.{ℕ, _≤_}
 use native.Mathlib.Omega.{arith}
 use Rattle.fields.specs.Outcome.{Result, value, refused, _>>=_}
-use Rattle.measure.specs.Cost.{cost, productions}
-use Rattle.measure.proofs.Bound.{cost-bound}
 use Rattle.translation.specs.Running.{clausesOf}
 use Rattle.translation.specs.Operations.{runBytes}
-use Rattle.runner.specs.Operations.{largestCost, reported, clausesApplied, runCost}
+use Rattle.measure.specs.Cost.{cost}
+use Rattle.measure.proofs.Bound.{cost-bound}
+use Rattle.runner.specs.Operations.{reported, clausesApplied, runCost}
 use Rattle.runner.specs.Laws.{RunCostBound}
 
 -- What is reported is no more than the count, whether or not the run is refused.
