@@ -1,9 +1,10 @@
 /* Runs a translation on a tree and keeps the result: run TRANSLATION ROOT TREE OUTPUT [NUMBER]
  *
  * NUMBER is that of the root's mapping by which the tree is run, 0 unless it is given.
- * Prints `accepted LENGTH` or `refused NUMBER`. The status is 0 if accepted, and OUTPUT then holds
- * the whole result; 1 if refused; 2 for bad usage, a file that cannot be read or written, or too
- * little memory. OUTPUT is as it was unless the result is accepted and stands there whole. */
+ * Prints `accepted LENGTH` and, on a second line, `cost CLAUSES`, or `refused NUMBER`. The status
+ * is 0 if accepted, and OUTPUT then holds the whole result; 1 if refused; 2 for bad usage, a file
+ * that cannot be read or written, or too little memory. OUTPUT is as it was unless the result is
+ * accepted and stands there whole. */
 #define _POSIX_C_SOURCE 200809L
 #include <algebra.h>
 #include <errno.h>
@@ -19,6 +20,11 @@ enum status { ACCEPTED = 0, REFUSED = 1, TROUBLE = 2 };
 
 /* The first size of a buffer, the factor by which it grows, and the longest result that is kept. */
 enum { FIRST_BYTES = 4096, GROWTH = 2, LONGEST_RESULT = 1 << 30 };
+
+/* The number of an answer, and the cost of the run. */
+struct answer {
+    uint32_t number, cost;
+};
 
 /* Bytes in memory: so many are in use, and there is room for so many. */
 struct buffer {
@@ -83,17 +89,17 @@ static int read_number(const char *word, uint32_t *number)
 
 /* Runs with a larger output each time, until the result fits or the answer is another one. */
 static int run(const struct buffer *translation, uint32_t root, uint32_t by, const struct buffer *tree,
-               struct buffer *result, uint32_t *number)
+               struct buffer *result, struct answer *answer)
 {
     uint64_t length;
     do {
         if (!grow(result))
             return trouble("the result", "no memory for it");
-        *number = algebra_run(translation->bytes, translation->length, root, by, tree->bytes,
-                              tree->length, result->bytes, result->room, &length);
-    } while (*number == ALGEBRA_OUTPUT_TOO_SHORT && result->room < LONGEST_RESULT);
+        answer->number = algebra_run(translation->bytes, translation->length, root, by, tree->bytes,
+                                     tree->length, result->bytes, result->room, &length, &answer->cost);
+    } while (answer->number == ALGEBRA_OUTPUT_TOO_SHORT && result->room < LONGEST_RESULT);
     result->length = (size_t)length;
-    return *number == ALGEBRA_ACCEPTED ? ACCEPTED : REFUSED;
+    return answer->number == ALGEBRA_ACCEPTED ? ACCEPTED : REFUSED;
 }
 
 /* Writes all bytes to a new file; 0 if that fails. */
@@ -128,19 +134,19 @@ static int keep(const char *name, const struct buffer *buffer)
 }
 
 /* Prints the answer. */
-static int answer(uint32_t number, size_t length)
+static int print(const struct answer *answer, size_t length)
 {
-    if (number == ALGEBRA_ACCEPTED)
-        printf("accepted %zu\n", length);
+    if (answer->number == ALGEBRA_ACCEPTED)
+        printf("accepted %zu\ncost %" PRIu32 "\n", length, answer->cost);
     else
-        printf("refused %" PRIu32 "\n", number);
+        printf("refused %" PRIu32 "\n", answer->number);
     if (fflush(stdout) != 0)
         return trouble("standard output", strerror(errno));
-    return number == ALGEBRA_ACCEPTED ? ACCEPTED : REFUSED;
+    return answer->number == ALGEBRA_ACCEPTED ? ACCEPTED : REFUSED;
 }
 
 /* Reads the inputs, runs, and keeps the result. */
-static int work(char **words, struct buffer *inputs, struct buffer *result, uint32_t *number)
+static int work(char **words, struct buffer *inputs, struct buffer *result, struct answer *answer)
 {
     uint32_t root, by = 0;
     int status = read_number(words[2], &root);
@@ -151,21 +157,21 @@ static int work(char **words, struct buffer *inputs, struct buffer *result, uint
     if (status == ACCEPTED)
         status = load(words[3], &inputs[1]);
     if (status == ACCEPTED)
-        status = run(&inputs[0], root, by, &inputs[1], result, number);
+        status = run(&inputs[0], root, by, &inputs[1], result, answer);
     return status == ACCEPTED ? keep(words[4], result) : status;
 }
 
 int main(int count, char **words)
 {
     struct buffer inputs[2] = { { NULL, 0, 0 }, { NULL, 0, 0 } }, result = { NULL, 0, 0 };
-    uint32_t number = ALGEBRA_ACCEPTED;
+    struct answer answer = { ALGEBRA_ACCEPTED, 0 };
     if (count != 5 && count != 6) {
         fprintf(stderr, "usage: run TRANSLATION ROOT TREE OUTPUT [NUMBER]\n");
         return TROUBLE;
     }
-    int status = work(words, inputs, &result, &number);
+    int status = work(words, inputs, &result, &answer);
     if (status != TROUBLE)
-        status = answer(number, result.length);
+        status = print(&answer, result.length);
     free(inputs[0].bytes);
     free(inputs[1].bytes);
     free(result.bytes);

@@ -155,12 +155,14 @@ uint32_t algebra_reduce(const uint8_t *pack, size_t pack_length,
 
 /* Runs a translation on a tree of a root kind, by a number of that kind: 0 to 7, 14 to 17. A
  * number that the kind lacks is ALGEBRA_UNKNOWN_ROOT; every kind has number 0. A result may be
- * longer than any memory: ALGEBRA_OUTPUT_TOO_SHORT does not say how much longer. */
+ * longer than any memory: ALGEBRA_OUTPUT_TOO_SHORT does not say how much longer. The cost is the
+ * number of clauses applied, each use of an argument anew and unused arguments not at all, or
+ * UINT32_MAX if there are more. */
 uint32_t algebra_run(const uint8_t *translation, size_t translation_length,
                      uint32_t root, uint32_t number,
                      const uint8_t *tree, size_t tree_length,
                      uint8_t *output, size_t output_length,
-                     uint64_t *length);
+                     uint64_t *length, uint32_t *cost);
 
 /* Scores a tree by a load table of the language: 0 to 4, 14 to 16, 18, 19. */
 uint32_t algebra_score(const uint8_t *language, size_t language_length,

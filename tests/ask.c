@@ -12,9 +12,10 @@
  *   ask mask LANGUAGE ROOT CARD TREE           ask search TRANSLATION ROOT TREE LEVELS [OUTPUT-BYTES]
  *   ask bytes FILE                             writes the bytes themselves
  *
- * Prints `accepted LENGTH` (or a score, or `LEAST to GREATEST` of a loose plan), the bytes of a result on a second line, and kind and start of a block or the index of an edited plan on
- * a third; or `refused NUMBER`. The text of an import is read, and that of an export printed, as it is. An INDEX that is not
- * named is built, and a CARD that is `-` shows every kind. */
+ * Prints `accepted LENGTH` (or a score, or `LEAST to GREATEST` of a loose plan), the bytes of a result on a second line, and
+ * the cost of a run, kind and start of a block or the index of an edited plan on a third; or `refused NUMBER`. The text of an
+ * import is read, and that of an export printed, as it is. An INDEX that is not named is built, and a CARD that is `-` shows
+ * every kind. */
 #include "algebra.h"
 #include <stdio.h>
 #include <stdlib.h>
@@ -144,9 +145,12 @@ static void run(char **words)
     size_t output = number_or(words[4], LONGEST);
     uint8_t *result = room_for(output);
     uint64_t length;
+    uint32_t cost;
     uint32_t number = algebra_run(translation.at, translation.length, (uint32_t)number_or(words[1], 0),
-                                  (uint32_t)number_or(words[2], 0), tree.at, tree.length, result, output, &length);
+                                  (uint32_t)number_or(words[2], 0), tree.at, tree.length, result, output, &length, &cost);
     answer(number, length, result);
+    if (number == ALGEBRA_ACCEPTED)
+        printf("cost %u\n", (unsigned)cost);
 }
 
 /* Scores a tree. */

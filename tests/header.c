@@ -55,13 +55,15 @@ static uint32_t reduce(const uint8_t *p, size_t p_length, uint8_t *w, size_t w_l
     return number;
 }
 
-/* Calls run on the tree's root kind by a number; a refusal must store length 0. */
+/* Calls run on the tree's root kind by a number; a refusal must store length 0 and cost 0. */
 static uint32_t run_by(uint32_t by, const uint8_t *t, size_t t_length, const uint8_t *n, size_t n_length,
                        uint8_t *o, size_t o_length)
 {
     uint64_t length = UINT64_MAX;
-    uint32_t number = algebra_run(t, t_length, 1, by, n, n_length, o, o_length, &length);
+    uint32_t cost = UINT32_MAX;
+    uint32_t number = algebra_run(t, t_length, 1, by, n, n_length, o, o_length, &length, &cost);
     count("the length of a run", length == (number == 0 ? sizeof tree : 0));
+    count("the cost of a run", cost == (number == 0));
     return number;
 }
 

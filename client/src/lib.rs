@@ -41,8 +41,10 @@
 //!
 //! // Twice a row of 5 minutes is a sequence of two rows.
 //! let mut session = [0; 16];
-//! let length = algebra::run(&translation, 1, 0, &[4, 1, 0, 5], &mut session)?;
-//! assert_eq!(session[..length], [2, 1, 0, 5, 1, 0, 5]);
+//! let run = algebra::run(&translation, 1, 0, &[4, 1, 0, 5], &mut session)?;
+//! assert_eq!(session[..run.length], [2, 1, 0, 5, 1, 0, 5]);
+//! // Three clauses were applied: that of 1.4 once, and that of 1.1 twice.
+//! assert_eq!(run.cost, 3);
 //! # Ok::<(), algebra::Refusal>(())
 //! ```
 //!
@@ -196,8 +198,18 @@ pub fn reduce_to_vec(pack: &[u8]) -> Result<Vec<u8>, Refusal> {
     Ok(output)
 }
 
+/// What is told of an accepted run.
+#[derive(Clone, Copy, Debug, PartialEq, Eq)]
+pub struct Run {
+    /// The length of the result.
+    pub length: usize,
+    /// The number of clauses applied, each use of an argument anew and unused arguments not at all;
+    /// [`u32::MAX`] if there are more.
+    pub cost: u32,
+}
+
 /// Runs a translation on a tree of the root kind, by a number of that kind. The result is put at the
-/// start of the output; gives its length.
+/// start of the output; gives its length, and the cost of the run.
 ///
 /// Behind the result, and after a refusal, the output is as it was. A number that the root kind
 /// lacks is refused as a root that the language lacks is.
@@ -205,7 +217,7 @@ pub fn reduce_to_vec(pack: &[u8]) -> Result<Vec<u8>, Refusal> {
 /// Refusals: 1 to 7, 14 to 17.
 ///
 /// ```
-/// use algebra::{run, Refusal};
+/// use algebra::{run, Refusal, Run};
 ///
 /// // 1.4 (1) becomes 1.2 (1 1) with its argument used twice, and 1.5 stays itself.
 /// let translation = [
@@ -214,7 +226,7 @@ pub fn reduce_to_vec(pack: &[u8]) -> Result<Vec<u8>, Refusal> {
 ///     0x22, 0, 2, 1, 1, 0x23, 0, 8, 1, 4, 1, 2, 3, 1, 3, 1, 0x23, 0, 4, 1, 5, 1, 5,
 /// ];
 /// let mut output = [0xEE; 4];
-/// assert_eq!(run(&translation, 1, 0, &[4, 5], &mut output), Ok(3));
+/// assert_eq!(run(&translation, 1, 0, &[4, 5], &mut output), Ok(Run { length: 3, cost: 3 }));
 /// assert_eq!(output, [2, 5, 5, 0xEE]);
 /// assert_eq!(run(&translation, 1, 0, &[4, 4, 5], &mut output), Err(Refusal::OutputTooShort));
 /// // Kind 1 has no mapping of number 1.
@@ -229,8 +241,9 @@ pub fn reduce_to_vec(pack: &[u8]) -> Result<Vec<u8>, Refusal> {
 ///     0x22, 0, 2, 1, 1, 0x28, 0, 3, 1, 1, 1,
 ///     0x23, 0, 4, 1, 5, 1, 6, 0x29, 0, 5, 1, 5, 1, 1, 7,
 /// ];
-/// assert_eq!(algebra::run_to_vec(&translation, 1, 0, &[5], 1000), Ok(vec![6]));
-/// assert_eq!(algebra::run_to_vec(&translation, 1, 1, &[5], 1000), Ok(vec![7]));
+/// assert_eq!(algebra::run_to_vec(&translation, 1, 0, &[5], 1000)?.tree, [6]);
+/// assert_eq!(algebra::run_to_vec(&translation, 1, 1, &[5], 1000)?.tree, [7]);
+/// # Ok::<(), algebra::Refusal>(())
 /// ```
 pub fn run(
     translation: &[u8],
@@ -238,8 +251,18 @@ pub fn run(
     number: u32,
     tree: &[u8],
     output: &mut [u8],
-) -> Result<usize, Refusal> {
-    accepted_length(raw::run(translation, root, number, tree, output))
+) -> Result<Run, Refusal> {
+    let raw::RunAnswer { number, length, cost } = raw::run(translation, root, number, tree, output);
+    accepted_length(raw::Answer { number, length }).map(|length| Run { length, cost })
+}
+
+/// The result of a run, and its cost.
+#[derive(Clone, Debug, PartialEq, Eq)]
+pub struct Ran {
+    /// The result, a tree of the target.
+    pub tree: Vec<u8>,
+    /// The number of clauses applied, as in [`Run`].
+    pub cost: u32,
 }
 
 /// Runs a translation on a tree of the root kind, by a number of that kind, with an output that is
@@ -257,7 +280,8 @@ pub fn run(
 ///     0x20, 0, 5, 0x12, 0, 2, 1, 4, 0x21, 0, 5, 0x12, 0, 2, 1, 4,
 ///     0x22, 0, 2, 1, 1, 0x23, 0, 4, 1, 4, 1, 4,
 /// ];
-/// assert_eq!(algebra::run_to_vec(&translation, 1, 0, &[4], 1000), Ok(vec![4]));
+/// let ran = algebra::run_to_vec(&translation, 1, 0, &[4], 1000);
+/// assert_eq!(ran, Ok(algebra::Ran { tree: vec![4], cost: 1 }));
 /// ```
 pub fn run_to_vec(
     translation: &[u8],
@@ -265,17 +289,20 @@ pub fn run_to_vec(
     number: u32,
     tree: &[u8],
     limit: usize,
-) -> Result<Vec<u8>, Refusal> {
-    in_growing_output(tree.len(), limit, |output| run(translation, root, number, tree, output))
+) -> Result<Ran, Refusal> {
+    let call = |output: &mut [u8]| {
+        run(translation, root, number, tree, output).map(|run| (run.length, run.cost))
+    };
+    in_growing_output(tree.len(), limit, call).map(|(tree, cost)| Ran { tree, cost })
 }
 
 /// What a call puts into an output that is allocated, for a tree of so many bytes, and is made longer
-/// up to the limit as long as it is too short.
-fn in_growing_output(
+/// up to the limit as long as it is too short; the call gives a length and something besides.
+fn in_growing_output<T>(
     tree: usize,
     limit: usize,
-    call: impl Fn(&mut [u8]) -> Result<usize, Refusal>,
-) -> Result<Vec<u8>, Refusal> {
+    call: impl Fn(&mut [u8]) -> Result<(usize, T), Refusal>,
+) -> Result<(Vec<u8>, T), Refusal> {
     let mut room = tree.max(FIRST_OUTPUT).min(limit);
     loop {
         let mut output = output_of(room).ok_or(Refusal::OutputTooShort)?;
@@ -284,8 +311,9 @@ fn in_growing_output(
                 room = room.saturating_mul(OUTPUT_GROWTH).min(limit);
             }
             answer => {
-                output.truncate(answer?);
-                return Ok(output);
+                let (length, besides) = answer?;
+                output.truncate(length);
+                return Ok((output, besides));
             }
         }
     }

@@ -51,6 +51,7 @@ extern "C" {
         output: *mut u8,
         output_length: usize,
         length: *mut u64,
+        cost: *mut u32,
     ) -> u32;
 }
 
@@ -63,8 +64,21 @@ pub struct Answer {
     pub length: u64,
 }
 
+/// The answer of a run: a number, a length and the cost, how many clauses were applied.
+#[derive(Clone, Copy, Debug, PartialEq, Eq)]
+pub struct RunAnswer {
+    /// 0, or the number of the refusal.
+    pub number: u32,
+    /// The length of the result, 0 for a refusal.
+    pub length: u64,
+    /// The number of clauses applied, or the greatest number where there are more; 0 for a refusal.
+    pub cost: u32,
+}
+
 /// What the length is before a call, so that one that is not stored shows.
 const NOT_STORED: u64 = u64::MAX;
+/// What the cost is before a call: no cost that is easily met.
+const COST_NOT_STORED: u32 = u32::MAX - 1;
 
 /// Checks a language and gives the number.
 pub fn check_language(language: &[u8]) -> u32 {
@@ -109,8 +123,14 @@ pub fn reduce(pack: &[u8], workspace: &mut [u8], output: &mut [u8]) -> Answer {
 }
 
 /// Runs a translation on a tree by a number of the root; the result is at the start of the output.
-pub fn run(translation: &[u8], root: u32, number: u32, tree: &[u8], output: &mut [u8]) -> Answer {
-    let mut length = NOT_STORED;
+pub fn run(
+    translation: &[u8],
+    root: u32,
+    number: u32,
+    tree: &[u8],
+    output: &mut [u8],
+) -> RunAnswer {
+    let (mut length, mut cost) = (NOT_STORED, COST_NOT_STORED);
     // SAFETY: pointers and lengths are those of slices that are lent for the call; the
     // output is lent for writing and overlaps nothing.
     let number = unsafe {
@@ -124,7 +144,8 @@ pub fn run(translation: &[u8], root: u32, number: u32, tree: &[u8], output: &mut
             output.as_mut_ptr(),
             output.len(),
             &mut length,
+            &mut cost,
         )
     };
-    Answer { number, length }
+    RunAnswer { number, length, cost }
 }

@@ -63,5 +63,8 @@ pub fn search_to_vec(
     levels: u32,
     limit: usize,
 ) -> Result<Vec<u8>, Refusal> {
-    in_growing_output(tree.len(), limit, |output| search(translation, root, tree, levels, output))
+    let call = |output: &mut [u8]| {
+        search(translation, root, tree, levels, output).map(|length| (length, ()))
+    };
+    in_growing_output(tree.len(), limit, call).map(|(found, ())| found)
 }

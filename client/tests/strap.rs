@@ -1,6 +1,6 @@
 //! The functions on the strap's translation "twice": what they answer and what they leave alone.
 
-use algebra::{raw, Refusal, TRANSLATION_BYTES, WORKSPACE_BYTES};
+use algebra::{raw, Refusal, Run, TRANSLATION_BYTES, WORKSPACE_BYTES};
 
 /// The pack of the example: the sum of "twice" and the identity of the strap.
 const PACK: &[u8] = include_bytes!("../../examples/plan.pack");
@@ -21,7 +21,8 @@ fn nested(levels: usize) -> Vec<u8> {
 #[test]
 fn an_output_is_left_alone_behind_the_result() {
     let mut output = [MARK; 9];
-    assert_eq!(algebra::run(&twice(), 1, 0, &nested(1), &mut output), Ok(7));
+    let run = algebra::run(&twice(), 1, 0, &nested(1), &mut output);
+    assert_eq!(run, Ok(Run { length: 7, cost: 3 }));
     assert_eq!(output, [2, 1, 0, 5, 1, 0, 5, MARK, MARK]);
 }
 
@@ -37,7 +38,8 @@ fn a_refusal_leaves_the_output_alone() {
 fn a_long_result_is_allocated_up_to_the_limit() {
     let (tree, length) = (nested(12), 4 * (1 << 12) - 1);
     let run = |limit| algebra::run_to_vec(&twice(), 1, 0, &tree, limit);
-    assert_eq!(run(length).map(|result| result.len()), Ok(length));
+    assert_eq!(run(length).map(|result| result.tree.len()), Ok(length));
+    assert_eq!(run(length).map(|result| result.cost), Ok(2 * (1 << 12) - 1));
     assert_eq!(run(1 << 20), run(length));
     assert_eq!(run(length - 1), Err(Refusal::OutputTooShort));
     assert_eq!(run(0), Err(Refusal::OutputTooShort));
@@ -72,7 +74,7 @@ fn threads_call_at_the_same_time() {
             let translation = &translation;
             scope.spawn(move || {
                 let result = algebra::run_to_vec(translation, 1, 0, &nested(levels), 10_000);
-                assert_eq!(result.map(|result| result.len()), Ok(4 * (1 << levels) - 1));
+                assert_eq!(result.map(|result| result.tree.len()), Ok(4 * (1 << levels) - 1));
             });
         }
     });

@@ -5,7 +5,7 @@ use crate::generate::{MaskCase, ReduceCase, RunCase, ScoreCase, SearchCase, Tree
 use crate::outcome::Outcome;
 use crate::{block, check_language, check_translation, check_tree, edit, export, import, index};
 use crate::{
-    join_table, mask, reduce, run, score, score_loose, search, Block, Edit, LooseScore, Score,
+    join_table, mask, reduce, run, score, score_loose, search, Block, Edit, LooseScore, Run, Score,
 };
 #[cfg(feature = "library")]
 use algebra::raw as library;
@@ -41,8 +41,8 @@ pub struct Buffers {
 }
 
 /// What a call answered: the number and the length, and figures that are 0 where the operation
-/// has none: the length of an edited plan's index, start and kind of a block, the score, and the
-/// least and greatest score of a loose plan.
+/// has none: the length of an edited plan's index, start and kind of a block, the score, the least
+/// and greatest score of a loose plan, and the cost of a run.
 #[derive(Clone, Copy, Debug, Default, PartialEq, Eq)]
 pub struct Answer {
     pub number: u32,
@@ -52,6 +52,7 @@ pub struct Answer {
     pub kind: u32,
     pub score: i64,
     pub ends: [i64; 2],
+    pub cost: u32,
 }
 
 /// Lent buffers hold these bytes at the start.
@@ -62,6 +63,12 @@ impl From<Outcome> for Answer {
     fn from(outcome: Outcome) -> Answer {
         let (number, length) = (outcome.number(), outcome.length());
         Answer { number, length, ..Answer::default() }
+    }
+}
+
+impl From<Run> for Answer {
+    fn from(run: Run) -> Answer {
+        Answer { cost: run.cost, ..run.outcome.into() }
     }
 }
 
@@ -239,6 +246,14 @@ impl From<library::Answer> for Answer {
     fn from(answer: library::Answer) -> Answer {
         let library::Answer { number, length } = answer;
         Answer { number, length, ..Answer::default() }
+    }
+}
+
+#[cfg(feature = "library")]
+impl From<library::RunAnswer> for Answer {
+    fn from(answer: library::RunAnswer) -> Answer {
+        let library::RunAnswer { number, length, cost } = answer;
+        Answer { number, length, cost, ..Answer::default() }
     }
 }
 

@@ -200,6 +200,13 @@ fn split_arguments<'a>(
     (starts, rest)
 }
 
+/// What was run so far: the bytes, and how many clauses were applied.
+#[derive(Default)]
+struct Ran {
+    bytes: Vec<u8>,
+    clauses: u32,
+}
+
 /// Appends the run, by a number, of the first legal tree of a kind in the bytes; gives up beyond a
 /// length.
 fn put_run(
@@ -208,23 +215,24 @@ fn put_run(
     number: u8,
     tree: &[u8],
     most: usize,
-    output: &mut Vec<u8>,
+    output: &mut Ran,
 ) -> Option<()> {
     let source = &translation.source;
     if source.classes.iter().any(|class| class.kind == kind) {
-        output.extend_from_slice(&tree[..2]);
+        output.bytes.extend_from_slice(&tree[..2]);
         return Some(());
     }
+    output.clauses += 1;
     let production = production(source, kind, tree[0]).expect("a legal tree");
     let skip = |kind, rest| TODAY.tree(source, kind, rest).expect("a legal tree").1;
     let (starts, _) = split_arguments(production.arguments(), &tree[1..], skip);
     for symbol in symbols(clause_of(translation, &production, number).code) {
-        if output.len() > most {
+        if output.bytes.len() > most {
             return None;
         }
         match symbol {
-            Symbol::Production(name) => output.push(name),
-            Symbol::Token(value) => output.extend_from_slice(&value.to_be_bytes()),
+            Symbol::Production(name) => output.bytes.push(name),
+            Symbol::Token(value) => output.bytes.extend_from_slice(&value.to_be_bytes()),
             Symbol::Argument(argument, number) => {
                 let argument = argument as usize;
                 let (kind, start) = (production.arguments()[argument], starts[argument]);
@@ -348,17 +356,17 @@ fn translations_accepted_earlier_are_accepted() {
 }
 
 /// The result of a run by a rule, if it is accepted.
-fn ran(rule: Rule, case: &RunCase) -> Option<Vec<u8>> {
+fn ran(rule: Rule, case: &RunCase) -> Option<Ran> {
     let value = read_fields(&case.translation).ok()?;
     if !rule.accepts(&value) || !rule.accepts_tree(&value.source, case.root, &case.tree) {
         return None;
     }
-    let mut result = Vec::new();
+    let mut result = Ran::default();
     let kind = case.root as u8;
     let number = u8::try_from(case.number).ok()?;
     value.body.mapped(kind, number)?;
     put_run(&value, kind, number, &case.tree, case.output, &mut result)?;
-    (result.len() <= case.output).then_some(result)
+    (result.bytes.len() <= case.output).then_some(result)
 }
 
 #[test]
@@ -369,8 +377,9 @@ fn runs_accepted_earlier_give_the_same_bytes() {
         let outcome = run(&case.translation, case.root, case.number, &case.tree, &mut output);
         let [earlier, today] = [EARLIER, TODAY].map(|rule| ran(rule, &case));
         for result in [&earlier, &today].into_iter().flatten() {
-            assert_eq!(outcome.length(), result.len() as u64);
-            assert!(output.starts_with(result));
+            assert_eq!(outcome.length(), result.bytes.len() as u64);
+            assert!(output.starts_with(&result.bytes));
+            assert_eq!(outcome.cost, result.clauses);
         }
         let (earlier, today) = (earlier.is_some(), today.is_some());
         Some(Shown { earlier, today, number: outcome.number() })

@@ -145,6 +145,12 @@ fn accepted(what: &str, call: Call, bytes: &[u8]) -> Example {
     }
 }
 
+/// A run that is accepted, gives these bytes and applies so many clauses.
+fn ran(what: &str, call: Call, bytes: &[u8], cost: u32) -> Example {
+    let example = accepted(what, call, bytes);
+    Example { answer: Answer { cost, ..example.answer }, ..example }
+}
+
 /// A call that is refused with the number.
 fn refused(what: &str, call: Call, number: u32) -> Example {
     answered(what, call, Answer { number, ..Answer::default() })
@@ -171,11 +177,12 @@ fn accepted_runs() -> Vec<Example> {
     let row = [1, 0, 0xF0];
     let joined = reduced_with(&language_c(), &[1, 1, 3, 1]);
     vec![
-        accepted("twice", run_by(&sum, 1, &[4, 1, 0, 5], 1000), &twice),
-        accepted("twice, output of 7 bytes", run_by(&sum, 1, &[4, 1, 0, 5], 7), &twice),
-        accepted("the highest token", run_by(&sum, 1, &row, 9), &row),
-        accepted("10 times 04, exact output", run_by(&sum, 1, &chain(10), 4095), &doubled(10)),
-        accepted("the join", run_by(&joined, 1, &[4, 3, 0, 3], 1000), &[2, 1, 0, 3, 1, 0, 3]),
+        ran("twice", run_by(&sum, 1, &[4, 1, 0, 5], 1000), &twice, 3),
+        ran("twice, output of 7 bytes", run_by(&sum, 1, &[4, 1, 0, 5], 7), &twice, 3),
+        ran("the highest token", run_by(&sum, 1, &row, 9), &row, 1),
+        ran("10 times 04, exact output", run_by(&sum, 1, &chain(10), 4095), &doubled(10), 2047),
+        ran("the join", run_by(&joined, 1, &[4, 3, 0, 3], 1000), &[2, 1, 0, 3, 1, 0, 3], 3),
+        ran("a token alone", run_by(&sum, 2, &[0, 5], 2), &[0, 5], 0),
     ]
 }
 
@@ -228,13 +235,14 @@ fn wider_strap() -> Vec<Example> {
     let both = |term: &[u8]| reduction(pack(&[language_c(), language_w()], &[], term));
     vec![
         accepted("a wider strap", reduction(pack_with_wider_strap()), &joined),
-        accepted(
+        ran(
             "a wider strap, the club's highest",
             run_by(&joined, 1, &club, 7),
             &[2, 1, 0, 0xF0, 1, 0, 0xF0],
+            3,
         ),
         refused("a wider strap, above the club's", run_by(&joined, 1, &[3, 0, 0xF1], 7), 15),
-        accepted("600 on the strap itself", run_by(&strap, 1, &[3, 2, 0x58], 3), &[1, 2, 0x58]),
+        ran("600 on the strap itself", run_by(&strap, 1, &[3, 2, 0x58], 3), &[1, 2, 0x58], 1),
         refused("601 on the strap itself", run_by(&strap, 1, &[3, 2, 0x59], 3), 15),
         refused("a strap of 600 into one of 240", Call::CheckTranslation(narrower), 5),
         refused("a strap of 600 joined onto 240", both(&[0x54, 0x55, 0x40, 0, 0x55, 0x40, 1]), 13),
@@ -340,8 +348,8 @@ fn numbers() -> Vec<Example> {
         Call::JoinTable(JoinTableCase { translation: lists.clone(), table: vec![], output: 0 });
     vec![
         accepted("lists by number", Call::CheckTranslation(lists.clone()), &[]),
-        accepted("a list by number 0", by(0), &forwards),
-        accepted("a list by number 1", by(1), &backwards),
+        ran("a list by number 0", by(0), &forwards, 3),
+        ran("a list by number 1", by(1), &backwards, 3),
         refused("a list by number 2", by(2), 14),
         refused("a list by number 257", by(257), 14),
         refused("a block by number 1", run_by_number(&lists, (1, 1), &[], 9), 14),
@@ -352,10 +360,11 @@ fn numbers() -> Vec<Example> {
             both(&body_backwards(), &body_of_lists()),
             &joined_lists(&source),
         ),
-        accepted(
+        ran(
             "a list by number 17 of the join",
             run_by_number(&joined_lists(&source), (3, 17), &list, 11),
             &forwards,
+            3,
         ),
     ]
 }

@@ -50,7 +50,7 @@ pub use language::check_language;
 pub use loose::{score_loose, Ends, LooseScore};
 pub use outcome::{Outcome, Refusal};
 pub use reduce::reduce;
-pub use run::run;
+pub use run::{run, Run};
 pub use score::{join_table, score, Score};
 pub use search::search;
 pub use translation::check_translation;

@@ -1,4 +1,5 @@
 //! Running a translation on a tree, by a number of the root: check and measure in one pass, then write.
+//! Measured are the length of the result and the cost, how many clauses are applied.
 
 use crate::body::Body;
 use crate::code::{symbols, Symbol};
@@ -94,14 +95,58 @@ impl Shape {
     }
 }
 
-/// Adds up the length of the result where number 0 is the only one; a node's weight is how often its
-/// run is written.
+/// The most that a cost is said to be; a higher one is said to be this.
+const MOST_COST: u64 = u32::MAX as u64;
+
+/// What a run answers; a refused one has cost 0.
+#[derive(Clone, Copy, Debug, PartialEq, Eq)]
+pub struct Run {
+    pub outcome: Outcome,
+    pub cost: u32,
+}
+
+impl Run {
+    /// The number of the answer.
+    pub fn number(self) -> u32 {
+        self.outcome.number()
+    }
+
+    /// The length of the result, 0 for a refusal.
+    pub fn length(self) -> u64 {
+        self.outcome.length()
+    }
+}
+
+/// The length of a result, and how many clauses are applied for it, each use of an argument anew.
+#[derive(Clone, Copy, Debug, Default, PartialEq, Eq)]
+struct Measure {
+    length: u64,
+    clauses: u64,
+}
+
+impl Measure {
+    /// Adds so many bytes, so many times.
+    #[inline]
+    fn add_bytes(&mut self, bytes: u64, times: u64) {
+        self.length = self.length.saturating_add(bytes.saturating_mul(times));
+    }
+
+    /// Adds a clause that writes so many bytes itself, so many times.
+    #[inline]
+    fn add_clause(&mut self, bytes: u64, times: u64) {
+        self.add_bytes(bytes, times);
+        self.clauses = self.clauses.saturating_add(times);
+    }
+}
+
+/// Adds up length and clauses where number 0 is the only one; a node's weight is how often its run is
+/// written.
 ///
 /// The sum saturates. It is exact below that: a run is never empty, so a saturated weight
 /// always shows in the length.
 struct Length<'a> {
     program: &'a Program,
-    length: u64,
+    measure: Measure,
 }
 
 impl Tally for Length<'_> {
@@ -109,13 +154,12 @@ impl Tally for Length<'_> {
 
     #[inline]
     fn token(&mut self, _: u8, _: u16, weight: u64) {
-        self.length = self.length.saturating_add(weight.saturating_mul(2));
+        self.measure.add_bytes(2, weight);
     }
 
     #[inline]
     fn production(&mut self, place: usize, weight: u64) {
-        let own = self.program.clause(place, 0).own;
-        self.length = self.length.saturating_add(weight.saturating_mul(own));
+        self.measure.add_clause(self.program.clause(place, 0).own, weight);
     }
 
     #[inline]
@@ -124,24 +168,19 @@ impl Tally for Length<'_> {
     }
 }
 
-/// Adds up the length of the result where there are other numbers. A node has a weight for each rank
+/// Adds up length and clauses where there are other numbers. A node has a weight for each rank
 /// of its kind, how often its run by it is written; those of the nodes around it stand in a row.
 struct RankedLength<'a> {
     grammar: &'a Grammar<'a>,
     program: &'a Program,
     weights: Vec<u64>,
-    length: u64,
+    measure: Measure,
 }
 
 impl RankedLength<'_> {
     /// The weights of a node of a kind, which start at a place.
     fn weights(&self, kind: u8, start: usize) -> &[u64] {
         &self.weights[start..start + self.program.counts[kind as usize]]
-    }
-
-    /// Adds so many bytes, so many times.
-    fn add(&mut self, bytes: u64, times: u64) {
-        self.length = self.length.saturating_add(bytes.saturating_mul(times));
     }
 }
 
@@ -151,13 +190,14 @@ impl Tally for RankedLength<'_> {
 
     fn token(&mut self, kind: u8, _: u16, start: usize) {
         let times = self.weights(kind, start).iter().fold(0u64, |sum, &w| sum.saturating_add(w));
-        self.add(2, times);
+        self.measure.add_bytes(2, times);
     }
 
     fn production(&mut self, place: usize, start: usize) {
         let kind = self.grammar.production(place).result;
         for rank in 0..self.program.counts[kind as usize] {
-            self.add(self.program.clause(place, rank).own, self.weights[start + rank]);
+            let own = self.program.clause(place, rank).own;
+            self.measure.add_clause(own, self.weights[start + rank]);
         }
     }
 
@@ -190,16 +230,16 @@ struct Rooted<'a> {
 
 impl Rooted<'_> {
     /// Checks the tree and measures its run by the rank.
-    fn measure(&self) -> Result<u64, Refusal> {
+    fn measure(&self) -> Result<Measure, Refusal> {
         let Rooted { grammar, program, root, rank, tree } = *self;
         if program.counts.iter().all(|&count| count == 1) {
-            let tally = Length { program, length: 0 };
-            return Ok(read_tree(grammar, root, tree, tally, 1)?.length);
+            let tally = Length { program, measure: Measure::default() };
+            return Ok(read_tree(grammar, root, tree, tally, 1)?.measure);
         }
         let mut weights = vec![0; program.counts[root as usize]];
         weights[rank] = 1;
-        let tally = RankedLength { grammar, program, weights, length: 0 };
-        Ok(read_tree(grammar, root, tree, tally, 0)?.length)
+        let tally = RankedLength { grammar, program, weights, measure: Measure::default() };
+        Ok(read_tree(grammar, root, tree, tally, 0)?.measure)
     }
 }
 
@@ -295,8 +335,13 @@ impl Writer<'_> {
 }
 
 /// Runs a translation on a tree of the root kind, by one of its numbers.
-pub fn run(translation: &[u8], root: u32, number: u32, tree: &[u8], output: &mut [u8]) -> Outcome {
-    write_run(translation, root, number, tree, output).into()
+pub fn run(translation: &[u8], root: u32, number: u32, tree: &[u8], output: &mut [u8]) -> Run {
+    match write_run(translation, root, number, tree, output) {
+        Ok(Measure { length, clauses }) => {
+            Run { outcome: Outcome::Accepted(length), cost: clauses.min(MOST_COST) as u32 }
+        }
+        Err(reason) => Run { outcome: Outcome::Refused(reason), cost: 0 },
+    }
 }
 
 /// The length of the result of a well-formed translation by a number that the root has, if the tree is
@@ -304,7 +349,8 @@ pub fn run(translation: &[u8], root: u32, number: u32, tree: &[u8], output: &mut
 pub fn result_length(translation: &Translation, root: u8, number: u8, tree: &[u8]) -> Option<u64> {
     let (grammar, program) = (&Grammar::new(&translation.source), &Program::new(translation));
     let rank = translation.body.rank(root, number)?;
-    Rooted { grammar, program, root, rank, tree }.measure().ok()
+    let measure = Rooted { grammar, program, root, rank, tree }.measure();
+    measure.ok().map(|measure| measure.length)
 }
 
 /// The rank of a number among those of the root kind, or the refusal of one that it lacks.
@@ -320,15 +366,83 @@ fn write_run(
     number: u32,
     tree: &[u8],
     output: &mut [u8],
-) -> Result<u64, Refusal> {
+) -> Result<Measure, Refusal> {
     let translation = read_translation(translation)?;
     let root = root_kind(&translation.source, root)?;
     let rank = root_rank(&translation, root, number)?;
     let (grammar, program) = (&Grammar::new(&translation.source), &Program::new(&translation));
-    let length = Rooted { grammar, program, root, rank, tree }.measure()?;
-    require(length <= output.len() as u64, Refusal::Output)?;
+    let measure = Rooted { grammar, program, root, rank, tree }.measure()?;
+    require(measure.length <= output.len() as u64, Refusal::Output)?;
     let mut writer = Writer { grammar, program, tree, output, length: 0 };
     writer.write(root, 0, rank);
-    debug_assert_eq!(writer.length as u64, length);
-    Ok(length)
+    debug_assert_eq!(writer.length as u64, measure.length);
+    Ok(measure)
+}
+
+#[cfg(test)]
+mod tests {
+    use super::*;
+    use crate::files::{clause, mapping, production, translation};
+
+    /// What is said of so many clauses.
+    fn said(clauses: u64) -> u32 {
+        clauses.min(MOST_COST) as u32
+    }
+
+    /// Kind 1 to itself: a leaf 1.0, 1.1 (1), which doubles its argument, and 1.2 (1), which is it.
+    fn doubling() -> Vec<u8> {
+        let language =
+            [production(1, 0, &[]), production(1, 1, &[1]), production(1, 2, &[1])].concat();
+        let target = [production(1, 0, &[]), production(1, 3, &[1, 1])].concat();
+        let codes: [&[u8]; 3] = [&[1, 0], &[1, 3, 3, 1, 3, 1], &[3, 1]];
+        let clauses = (0..).zip(codes).flat_map(|(name, code)| clause(1, name, code));
+        translation(&language, &target, &[mapping(1, 1), clauses.collect()].concat())
+    }
+
+    /// What a run by number 0 from kind 1 would come to, without an output.
+    fn measured(file: &[u8], tree: &[u8]) -> Measure {
+        let value = read_translation(file).expect("a well-formed translation");
+        let (grammar, program) = (&Grammar::new(&value.source), &Program::new(&value));
+        let measure = Rooted { grammar, program, root: 1, rank: 0, tree }.measure();
+        measure.expect("a legal tree")
+    }
+
+    /// So many times a name, then a leaf.
+    fn chain(name: u8, links: usize) -> Vec<u8> {
+        [vec![name; links], vec![0]].concat()
+    }
+
+    #[test]
+    fn a_cost_is_said_up_to_the_most() {
+        let file = crate::generate::with_turns(&doubling(), 7);
+        for file in [doubling(), file] {
+            for links in 0..=61 {
+                let clauses = measured(&file, &chain(1, links)).clauses;
+                assert_eq!(clauses, (2u64 << links) - 1);
+                let around = measured(&file, &[&[2], &chain(1, links)[..]].concat()).clauses;
+                assert_eq!(around, 2u64 << links, "a code that is an argument counts too");
+                let lengths = (said(clauses), said(around));
+                match links {
+                    0..=30 => assert_eq!(lengths, ((2 << links) - 1, 2 << links)),
+                    _ => assert_eq!(lengths, (u32::MAX, u32::MAX)),
+                }
+            }
+            assert_eq!(
+                measured(&file, &chain(1, 63)),
+                Measure { length: u64::MAX, clauses: u64::MAX }
+            );
+        }
+        assert_eq!(said((2 << 31) - 1), u32::MAX, "31 links make the most exactly");
+        assert_eq!(said((2 << 31) - 2), u32::MAX - 1);
+    }
+
+    #[test]
+    fn a_run_that_is_too_long_has_cost_0() {
+        for links in [1, 31, 32, 63] {
+            let found = run(&doubling(), 1, 0, &chain(1, links), &mut [0; 2]);
+            assert_eq!((found.number(), found.length(), found.cost), (17, 0, 0));
+        }
+        let found = run(&doubling(), 1, 0, &chain(1, 1), &mut [0; 3]);
+        assert_eq!((found.number(), found.length(), found.cost), (0, 3, 3));
+    }
 }

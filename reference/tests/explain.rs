@@ -89,7 +89,7 @@ fn reductions() {
 /// What the operation answers to the input of a run.
 fn run_input(input: &RunCase) -> Outcome {
     let RunCase { translation, root, number, tree, output } = input;
-    run(translation, *root, *number, tree, &mut vec![0; *output])
+    run(translation, *root, *number, tree, &mut vec![0; *output]).outcome
 }
 
 /// The fault of the input of a run.

@@ -64,11 +64,11 @@ fn result(source: &Path) -> String {
     let (pack, root, number) = run_by_number(source);
     let tree = bytes(&source.with_extension(""));
     let mut output = vec![0; OUTPUT];
-    let outcome = run(&reduced(&pack), root, number, &tree, &mut output);
-    if outcome.number() != 0 {
-        return format!("refused {}\n", outcome.number());
+    let found = run(&reduced(&pack), root, number, &tree, &mut output);
+    match found.number() {
+        0 => format!("{}cost {}\n", accepted(&output[..found.length() as usize]), found.cost),
+        number => format!("refused {number}\n"),
     }
-    accepted(&output[..outcome.length() as usize])
 }
 
 /// What is written for a result: its length, and its bytes.

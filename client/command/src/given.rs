@@ -1,7 +1,7 @@
 //! What an accepted operation gives, and how it is printed and written.
 
 use crate::output::hexadecimal_lines;
-use algebra::{Block, Edited, LooseScore};
+use algebra::{Block, Edited, LooseScore, Ran};
 use std::fmt;
 
 /// What an accepted operation gives.
@@ -18,6 +18,8 @@ pub enum Given {
     Block { kind: u32, start: usize, bytes: Vec<u8> },
     /// A plan that was edited, with its index.
     Edited(Edited),
+    /// The result of a run, with its cost.
+    Ran(Ran),
 }
 
 /// What stands behind the word 'accepted'.
@@ -62,6 +64,7 @@ impl Given {
         match self {
             Given::Block { kind, start, .. } => format!("kind {kind}, start {start}\n"),
             Given::Edited(edited) => format!("index {}\n", edited.index.len()),
+            Given::Ran(ran) => format!("cost {}\n", ran.cost),
             _ => String::new(),
         }
     }
@@ -95,6 +98,7 @@ impl Given {
         match self {
             Given::Bytes(bytes) | Given::Text(bytes) | Given::Block { bytes, .. } => bytes,
             Given::Edited(edited) => &edited.plan,
+            Given::Ran(ran) => &ran.tree,
             Given::Score(_) | Given::Scores(_) => &[],
         }
     }

@@ -103,7 +103,8 @@ Refusals: 1 to 13, 26.
         Verb::Run => {
             "\
 A pack is reduced first; it is told from a translation by its first byte. ROOT is the number of
-a kind. The result is printed in hexadecimal digits below the first line.
+a kind. On the second line stands the cost of the run: how many clauses were applied, each use of
+an argument anew. The result is printed in hexadecimal digits below it.
   --number N     run by the mapping of that number, which ROOT must have; without it, 0
   -o FILE        write it to the file instead, as bytes, or as text with --hex. The file is
                  written whole or not at all. With - the result alone goes to the standard

@@ -10,7 +10,7 @@ use crate::search_job::Search;
 use crate::tree_job::TreeJob;
 use crate::{Failure, Streams};
 use algebra::{
-    Refusal, LANGUAGE_BYTES, PACK_BYTES, TABLE_BYTES, TRANSLATION_BYTES, WORKSPACE_BYTES,
+    Ran, Refusal, LANGUAGE_BYTES, PACK_BYTES, TABLE_BYTES, TRANSLATION_BYTES, WORKSPACE_BYTES,
 };
 use reference::explain;
 use std::borrow::Cow;
@@ -143,7 +143,7 @@ impl Job {
             Job::CheckLanguage(file) => algebra::check_language(file).map(nothing),
             Job::CheckTranslation(file) => algebra::check_translation(file).map(nothing),
             Job::Reduce { pack, limit } => reduced(pack, *limit).map(Given::Bytes),
-            Job::Run(run) => run.answer().map(Given::Bytes),
+            Job::Run(run) => run.answer().map(Given::Ran),
             Job::Search(search) => search.answer().map(Given::Bytes),
             Job::JoinTable { translation, table, limit } => {
                 joined(translation, table, *limit).map(Given::Bytes)
@@ -230,7 +230,7 @@ impl Run {
     }
 
     /// What the library answers.
-    fn answer(&self) -> Result<Vec<u8>, Refusal> {
+    fn answer(&self) -> Result<Ran, Refusal> {
         let translation = self.translator.translation()?;
         algebra::run_to_vec(&translation, self.root, self.number, &self.tree, self.limit)
     }

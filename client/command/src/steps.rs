@@ -130,7 +130,7 @@ fn run_in_turn(steps: &[Step], start: Rooted, format: Format, lines: &mut String
 
 /// Runs a translation on a tree by a number.
 fn run(translation: &[u8], start: &Rooted, number: u32, limit: usize) -> Result<Rooted, Refusal> {
-    let tree = algebra::run_to_vec(translation, start.kind, number, &start.tree, limit)?;
+    let tree = algebra::run_to_vec(translation, start.kind, number, &start.tree, limit)?.tree;
     let kind = mapped_kind(translation, start.kind, number).ok_or(Refusal::UnknownRoot)?;
     Ok(Rooted { kind, tree })
 }

@@ -241,16 +241,30 @@ fn compare_result(
     options: &[String],
     answer: Result<&[u8], Refusal>,
 ) {
+    compare_with_figures(folder, case, verb, operands, options, answer, "");
+}
+
+/// The same, where these lines stand between the first line and the result.
+fn compare_with_figures(
+    folder: &Folder,
+    case: u64,
+    verb: &str,
+    operands: &[Operand],
+    options: &[String],
+    answer: Result<&[u8], Refusal>,
+    figures: &str,
+) {
     let random = &mut Random::new(case);
-    if random.percent(WRITTEN) {
-        let options = [folder.output_options(), options.to_vec()].concat();
-        let printed = folder.call(random, &[verb], operands, &options);
-        printed.compare(case, &answer, |result| result.len());
+    let written = random.percent(WRITTEN);
+    let output = if written { folder.output_options() } else { vec![] };
+    let printed = folder.call(random, &[verb], operands, &[output, options.to_vec()].concat());
+    printed.compare(case, &answer, |result| result.len());
+    let (_, rest) = printed.text().split_once('\n').expect("a first line");
+    let digits = rest.strip_prefix(figures).expect("the figures");
+    if written {
         assert_eq!(folder.written(&printed), answer.unwrap_or(OLD), "case {case}");
+        assert_eq!(digits, "", "case {case}");
     } else {
-        let printed = folder.call(random, &[verb], operands, options);
-        printed.compare(case, &answer, |result| result.len());
-        let (_, digits) = printed.text().split_once('\n').expect("a first line");
         assert_eq!(decoded(digits).as_deref(), Some(answer.unwrap_or_default()), "case {case}");
     }
 }
@@ -335,10 +349,12 @@ fn compare_run(folder: &Folder, case: u64, input: &RunCase) {
     let by = vec!["--number".to_string(), number.to_string()];
     let options = [limit, kind, if number == 0 { vec![] } else { by }].concat();
     let operands = [File(translation), Root(root), File(tree)];
-    let result = answer.map(|length| &output[..length]);
-    compare_result(folder, case, "run", &operands, &options, result);
+    let result = answer.map(|run| &output[..run.length]);
+    let cost = answer.map_or(String::new(), |run| format!("cost {}\n", run.cost));
+    compare_with_figures(folder, case, "run", &operands, &options, result, &cost);
     let second = reference::run(translation, root, number, tree, &mut vec![0; room]).number();
-    compare_explanation(folder, case, "run", &operands, &options, answer, second);
+    let length = answer.map(|run| run.length);
+    compare_explanation(folder, case, "run", &operands, &options, length, second);
 }
 
 #[test]
@@ -648,7 +664,7 @@ fn search() {
         let input = run_case(random);
         let (translation, root) = (&input.translation, input.root);
         let run = algebra::run_to_vec(translation, root, 0, &input.tree, LIMIT);
-        let tree = run.unwrap_or(input.tree);
+        let tree = run.map_or(input.tree, |ran| ran.tree);
         let (levels, room) = (random.below(18) as u32, random.below(2 * tree.len() + 8));
         let (mut output, limit) = (vec![0; room], limit_options(room));
         let answer = algebra::search(translation, root, &tree, levels, &mut output);
@@ -660,7 +676,7 @@ fn search() {
         compare_explanation(&folder, case, "search", &operands, &options, answer, number);
         if let Ok(length) = answer {
             let again = algebra::run_to_vec(translation, root, 0, &output[..length], tree.len());
-            assert_eq!(again.as_ref(), Ok(&tree), "case {case}");
+            assert_eq!(again.map(|ran| ran.tree).as_ref(), Ok(&tree), "case {case}");
         }
         found += usize::from(answer.is_ok());
         none += usize::from(answer == Err(Refusal::NoSource));
@@ -686,6 +702,7 @@ fn run_of_packs_and_steps() {
         let options = options.concat().into_iter().map(str::to_string);
         let options: Vec<String> = options.take(if number == 0 { 2 } else { 4 }).collect();
         let answer = reduced.and_then(|of| algebra::run_to_vec(&of, root, number, &tree, LIMIT));
+        let answer = answer.map(|ran| ran.tree);
         folder.call(random, &["run"], &operands, &options).compare(case, &answer, Vec::len);
         let xml = random.percent(50).then(|| "--xml".to_string());
         let options: Vec<String> = options.into_iter().chain(xml).collect();

@@ -1,9 +1,11 @@
 // The C interface: each operation answers with its number. A slice is a pointer and a length.
 ghost use mathlib.Core.Path.{_≡_};
+ghost use lib.ListN.{length as size};
 ghost use Rattle.fields.specs.Outcome.{numberOf, lengthOf};
 ghost use Rattle.language.specs.Operations.{checkLanguage};
 ghost use Rattle.reader.specs.Operations.{checkTree};
 ghost use Rattle.translation.specs.Operations.{checkTranslation, runTree};
+ghost use Rattle.runner.specs.Operations.{runCost};
 ghost use Rattle.reducer.specs.Operations as Reducing;
 ghost use Rattle.block.specs.Operations.{showBlock};
 ghost use Rattle.block.specs.Parts.{Told};
@@ -76,7 +78,8 @@ pub extern "C" fn algebra_check_tree(language: &[u8], root: u32, tree: &[u8]) ->
     number_of(check_tree(language, root, tree))
 }
 
-// Run a translation by a number on a tree of the root kind; the length of the result is put into `length`.
+// Run a translation by a number on a tree of the root kind; the length of the result is put into `length`, how many clauses were
+// applied into `cost`.
 #[no_mangle]
 pub extern "C" fn algebra_run(
     translation: &[u8],
@@ -85,12 +88,14 @@ pub extern "C" fn algebra_run(
     tree: &[u8],
     output: &mut [u8],
     length: &mut u64,
+    cost: &mut u32,
 ) -> u32
     ensures { λ r. ⌜ (r ≡ numberOf (runTree (now (translation .entry)) root number (now (tree .entry)) (now (output .entry)) .outcome))
         × (now (length .exit) ≡ lengthOf (runTree (now (translation .entry)) root number (now (tree .entry)) (now (output .entry)) .outcome))
-        × (now (output .exit) ≡ runTree (now (translation .entry)) root number (now (tree .entry)) (now (output .entry)) .output) ⌝ }
+        × (now (output .exit) ≡ runTree (now (translation .entry)) root number (now (tree .entry)) (now (output .entry)) .output)
+        × (now (cost .exit) ≡ runCost (now (translation .entry)) root number (now (tree .entry)) (size (now (output .entry)))) ⌝ }
 {
-    let answer = run(translation, root, number, tree, output);
+    let answer = run(translation, root, number, tree, output, cost);
     hand_over(answer, length)
 }
 

@@ -1,5 +1,5 @@
 -- What a run relies on, and a law for each return of `write_tree`, `run_parts` and `run`.
-use Prim.Native.Nat.{ℕ, zero, suc, _+_, _*_, _<_, _≤_}
+use Prim.Native.Nat.{ℕ, zero, suc, min, _+_, _*_, _<_, _≤_}
 use mathlib.Core.Path.{_≡_, refl, sym, ap, _∙_}
 use mathlib.Core.Logic.{_⊎_, ⊎-elim}
 use mathlib.Core.Bool.{Bool, true, false, not, _&&_}
@@ -56,7 +56,8 @@ use Rattle.tables.proofs.Clauses.{body-rises, fits}
 use Rattle.emitter.specs.Inner.Runs.{TermAsks}
 use Rattle.emitter.proofs.Skips.{no-kind}
 use Rattle.tables.proofs.Standing.{drop-stands, wrote-long}
-use Rattle.runner.specs.Inner.Runs.{runOf, Answers, Reads, Measures}
+use Rattle.runner.specs.Operations.{largestCost, clausesApplied, runCost}
+use Rattle.runner.specs.Inner.Runs.{runOf, costOf, Answers, Ran, Reads, Measures}
 use Rattle.runner.proofs.Learning.{learnt-right}
 
 -- A mapping in a file is of a kind and by a byte.
@@ -159,11 +160,17 @@ answer-refused {o = o} e h = record { answer = h ∙ sym (ap written e); left = 
 answer-same : {x y : Result (List ℕ)} {o after : List ℕ} {out : Outcome} → x ≡ y → Answers y o after out → Answers x o after out
 answer-same {o = o} e h = record { answer = h .answer ∙ sym (ap written e); left = h .left ∙ sym (ap (outputAfter o) e) }
 
+-- A run that is refused costs 0.
+ran-refused : (f : Translation) (k j : ℕ) (b o : List ℕ) {out : Outcome} {r : Reason} {paid : ℕ}
+    → runOf f k j b (length o) ≡ refused r → out ≡ Refused r → paid ≡ 0 → Ran f k j b o o paid out
+unfolding costOf
+ran-refused f k j b o e h i = record { answers = answer-refused e h; costs = i ∙ rw e refl }
+
 -- run_parts: the kind lacks the number.
-pub kind-out : (f : Translation) (k j room : ℕ) (b o : List ℕ) {r : Bool} → r ≡ isSome (mappingOf (f .body) k j)
-    → {out : Outcome} → r ≡ false → out ≡ Refused Why.UnknownRoot → Answers (runOf f k j b room) o o out
+pub kind-out : (f : Translation) (k j : ℕ) (b o : List ℕ) {r : Bool} → r ≡ isSome (mappingOf (f .body) k j)
+    → {out : Outcome} {paid : ℕ} → r ≡ false → out ≡ Refused Why.UnknownRoot → paid ≡ 0 → Ran f k j b o o paid out
 unfolding runOf
-kind-out f k j room b o er h i = answer-refused (rw (← er, h) refl) i
+kind-out f k j b o er h i free = ran-refused f k j b o (rw (← er, h) refl) i free
 
 -- finish
 module _ {s t x : List ℕ} {f : Translation} (z : Checked s t x f) (k j top : ℕ) (b o table ends : List ℕ) (has : isSome (mappingOf (f .body) k j) ≡ true) (m : Measured)
@@ -181,25 +188,25 @@ module _ {s t x : List ℕ} {f : Translation} (z : Checked s t x f) (k j top : �
   em : sizedAt b m ≡ sizedOf top f j (treeRead f k b)
   em = let u = some-is (mappingOf (f .body) k j) has in w .is (u .0) (u .1)
 
-  pub tree-deep : {out : Outcome} → m ≡ Deep → out ≡ Refused Why.TooDeep → Answers (runOf f k j b (length o)) o o out
+  pub tree-deep : {out : Outcome} {paid : ℕ} → m ≡ Deep → out ≡ Refused Why.TooDeep → paid ≡ 0 → Ran f k j b o o paid out
   unfolding room
-  tree-deep y i = answer-refused (by-read (sized-deep f top j (treeRead f k b) (sym em ∙ ap (sizedAt b) y))) i
+  tree-deep y i free = ran-refused f k j b o (by-read (sized-deep f top j (treeRead f k b) (sym em ∙ ap (sizedAt b) y))) i free
 
-  pub tree-broken : {out : Outcome} → m ≡ Broken → out ≡ Refused Why.IllegalTree → Answers (runOf f k j b (length o)) o o out
+  pub tree-broken : {out : Outcome} {paid : ℕ} → m ≡ Broken → out ≡ Refused Why.IllegalTree → paid ≡ 0 → Ran f k j b o o paid out
   unfolding room
-  tree-broken y i = answer-refused (by-read (sized-broken f top j (treeRead f k b) (sym em ∙ ap (sizedAt b) y))) i
+  tree-broken y i free = ran-refused f k j b o (by-read (sized-broken f top j (treeRead f k b) (sym em ∙ ap (sizedAt b) y))) i free
 
   module _ (e n c : ℕ) (y : m ≡ End e n c) where
     read-done : (a : Code) × (treeRead f k b ≡ Meant.done a (drop e b)) × (n ≡ capped top (size (transform f j a))) × (c ≡ capped top (cost (clausesOf f) j a))
     read-done = sized-done f top j (treeRead f k b) (drop e b) n c (sym em ∙ ap (sizedAt b) y)
 
-    pub tree-more : {out : Outcome} → (e ≡ length b → ⊥) → out ≡ Refused Why.IllegalTree → Answers (runOf f k j b (length o)) o o out
+    pub tree-more : {out : Outcome} {paid : ℕ} → (e ≡ length b → ⊥) → out ≡ Refused Why.IllegalTree → paid ≡ 0 → Ran f k j b o o paid out
     unfolding room
-    tree-more h i =
+    tree-more h i free =
         let v : EndsIn (length b) top (End e n c) = rw y at (w .within) in
         let l = v .0 in
         let g : e < length b = omega arith in
-        answer-refused (by-read (read-done .1 ∙ ap (Meant.done (read-done .0)) (front b e g))) i
+        ran-refused f k j b o (by-read (read-done .1 ∙ ap (Meant.done (read-done .0)) (front b e g))) i free
 
     module _ (all : e ≡ length b) where
       read-all : treeRead f k b ≡ Meant.done (read-done .0) []
@@ -213,19 +220,35 @@ module _ {s t x : List ℕ} {f : Translation} (z : Checked s t x f) (k j top : �
       unfolding room
       fitted-is d h = sym (over-room room top (size (transform f j (read-done .0))) over) ∙ (ap (ltb room) (sym (read-done .2)) ∙ h)
 
-      pub tree-long : {out : Outcome} → length o < n → out ≡ Refused Why.OutputTooShort → Answers (runOf f k j b (length o)) o o out
+      pub tree-long : {out : Outcome} {paid : ℕ} → length o < n → out ≡ Refused Why.OutputTooShort → paid ≡ 0 → Ran f k j b o o paid out
       unfolding room
-      tree-long h i = answer-refused (by-read read-all ∙ rw (fitted-is true (lt-ltb room n h)) refl) i
+      tree-long h i free = ran-refused f k j b o (by-read read-all ∙ rw (fitted-is true (lt-ltb room n h)) refl) i free
 
-      pub tree-fits : {out : Outcome} {after : List ℕ} → n ≤ length o
-          → ((t : Code) → Reads f k j ends b t → length (runBy f j t) ≤ length o → Answers (value (runBy f j t)) o after out)
-          → Answers (runOf f k j b (length o)) o after out
+      -- The run of the tree that was read, where it fits, and its cost: a count up to the top is reported as the whole count is.
+      tree-run : n ≤ length o → runOf f k j b (length o) ≡ value (runBy f j (read-done .0))
       unfolding room
-      tree-fits h g =
+      tree-run h = by-read read-all ∙ rw (fitted-is false (le-ltb room n h)) refl
+
+      tree-is : treeOf (f .source) k b ≡ value (read-done .0)
+      unfolding treeOf
+      tree-is = rw (there, read-all) refl
+
+      tree-costs : {paid : ℕ} → n ≤ length o → largestCost ≤ top → paid ≡ min c largestCost → paid ≡ costOf f k j b (length o)
+      unfolding costOf
+      tree-costs h l i =
+          let q = read-done .3 in
+          let y : min c largestCost ≡ min (cost (clausesOf f) j (read-done .0)) largestCost = omega arith in
+          i ∙ (y ∙ rw (tree-run h, tree-is) refl)
+
+      pub tree-fits : {out : Outcome} {after : List ℕ} {paid : ℕ} → n ≤ length o → largestCost ≤ top → paid ≡ min c largestCost
+          → ((t : Code) → Reads f k j ends b t → length (runBy f j t) ≤ length o → Answers (value (runBy f j t)) o after out)
+          → Ran f k j b o after paid out
+      unfolding room
+      tree-fits h most i g =
           let q = read-done .2 in
           let l = within-room room top (size (transform f j (read-done .0))) over (omega arith) in
           let y : Reads f k j ends b (read-done .0) = record { has = has; is = read-all; kept = w .kept } in
-          answer-same (by-read read-all ∙ rw (fitted-is false (le-ltb room n h)) refl) (g (read-done .0) y (omega arith))
+          record { answers = answer-same (tree-run h) (g (read-done .0) y (omega arith)); costs = tree-costs h most i }
 
 -- run: the parts that are lent.
 pub parts-checked : (s : List ℕ) (f : Translation) → translationOf s ≡ value f → {x y z : List ℕ} → x ≡ sourceIn s → y ≡ targetIn s → z ≡ bodyIn s
@@ -233,19 +256,28 @@ pub parts-checked : (s : List ℕ) (f : Translation) → translationOf s ≡ val
 parts-checked s f e ex ey ez =
     rw (ex, ey, ez) (record { pieces = pieces-in s f e; short = body-in-short s f e; file = s; accepted = e })
 
--- The outcome and the output are those of the operation.
-abbrev pub AsRun : List ℕ → (root number : ℕ) → List ℕ → List ℕ → List ℕ → Outcome → Type 0
-AsRun s root j b o after out = (out ≡ runTree s root j b o .outcome) × (after ≡ runTree s root j b o .output)
+-- The outcome, the output and the cost are those of the operation.
+abbrev pub AsRun : List ℕ → (root number : ℕ) → List ℕ → List ℕ → List ℕ → ℕ → Outcome → Type 0
+AsRun s root j b o after paid out =
+    (out ≡ runTree s root j b o .outcome) × (after ≡ runTree s root j b o .output) × (paid ≡ runCost s root j b (length o))
 
 module _ (s : List ℕ) (root j : ℕ) (b o : List ℕ) where
-  run-is : (out : Outcome) (after : List ℕ) → Answers (runBytes s root j b (length o)) o after out → AsRun s root j b o after out
+  run-is : (out : Outcome) (after : List ℕ) (paid : ℕ) → Answers (runBytes s root j b (length o)) o after out → paid ≡ runCost s root j b (length o)
+      → AsRun s root j b o after paid out
   unfolding runTree
-  run-is out after h = (h .answer, h .left)
+  run-is out after paid h i = (h .answer, h .left, i)
 
   module _ (f : Translation) (e : translationOf s ≡ value f) (out : Outcome) where
-    pub run-accepted : (after : List ℕ) → Answers (runOf f root j b (length o)) o after out → AsRun s root j b o after out
+    run-same : runBytes s root j b (length o) ≡ runOf f root j b (length o)
     unfolding runBytes runOf
-    run-accepted after h = run-is out after (answer-same (rw e) h)
+    run-same = rw e
+
+    cost-same : runCost s root j b (length o) ≡ costOf f root j b (length o)
+    unfolding runCost clausesApplied costOf
+    cost-same = rw (run-same, e) refl
+
+    pub run-accepted : (after : List ℕ) (paid : ℕ) → Ran f root j b o after paid out → AsRun s root j b o after paid out
+    run-accepted after paid h = run-is out after paid (answer-same run-same (h .answers)) (h .costs ∙ sym cost-same)
 
     mapped-whole : (u : ℕ) → mappingOf (f .body) root j ≡ some u → (root < 32) × (j < 256)
     mapped-whole u q =
@@ -254,15 +286,17 @@ module _ (s : List ℕ) (root j : ℕ) (b o : List ℕ) where
         let x = all-mem itemWhole (f .body) (w .1 .body) (mapping root j u) v in
         item-below root j u x
 
-    pub root-past : (31 < root) ⊎ (255 < j) → out ≡ Refused Why.UnknownRoot → AsRun s root j b o o out
-    root-past h i =
-        run-accepted o (by-test (isSome (mappingOf (f .body) root j))
+    pub root-past : {paid : ℕ} → (31 < root) ⊎ (255 < j) → out ≡ Refused Why.UnknownRoot → paid ≡ 0 → AsRun s root j b o o paid out
+    root-past {paid} h i free =
+        run-accepted o paid (by-test (isSome (mappingOf (f .body) root j))
         (λ q. let u = some-is (mappingOf (f .body) root j) q in let l = mapped-whole (u .0) (u .1) in ⊎-elim (λ g. absurd (omega arith)) (λ g. absurd (omega arith)) h)
-        (λ q. kind-out f root j (length o) b o refl q i))
+        (λ q. kind-out f root j b o refl q i free))
 
-  pub run-refused : (c out : Outcome) (r : Reason) → c ≡ checkTranslation s → c ≡ Refused r → out ≡ Refused r → AsRun s root j b o o out
-  unfolding checkTranslation runBytes
-  run-refused c out r ec h i = run-is out o (answer-refused (go (translationOf s) refl (sym ec ∙ h)) i)
+  pub run-refused : (c out : Outcome) (r : Reason) {paid : ℕ} → c ≡ checkTranslation s → c ≡ Refused r → out ≡ Refused r → paid ≡ 0 → AsRun s root j b o o paid out
+  unfolding checkTranslation runBytes runCost clausesApplied
+  run-refused c out r {paid} ec h i free =
+      let y = go (translationOf s) refl (sym ec ∙ h) in
+      run-is out o paid (answer-refused y i) (free ∙ rw y refl)
     where
       go : (q : Result Translation) → translationOf s ≡ q → checked q ≡ Refused r → runBytes s root j b (length o) ≡ refused r
       go (value f) e d = refused-not {n = 0} {r = r} (sym d)

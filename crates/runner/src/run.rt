@@ -24,7 +24,7 @@ ghost use mathlib.Core.Bool.{true};
 ghost use mathlib.Core.Option.{some};
 ghost use mathlib.Core.List.{List};
 ghost use mathlib.Core.Logic.{_⊎_};
-ghost use Prim.Native.Nat.{ℕ, _*_, _<_, _≤_};
+ghost use Prim.Native.Nat.{ℕ, min, _*_, _<_, _≤_};
 ghost use lib.ListN.{length, getD};
 ghost use Rattle.fields.specs.Outcome.{value};
 ghost use Rattle.language.specs.LanguageFile.{entriesOf};
@@ -41,7 +41,8 @@ ghost use Rattle.measure.specs.Inner.Counting.{widthOf};
 ghost use Rattle.reader.specs.Inner.Index.{Indexed, tableLength};
 ghost use Rattle.tables.specs.Inner.Table.{Checked};
 ghost use Rattle.tables.specs.Inner.Filling.{Begun};
-ghost use Rattle.runner.specs.Inner.Runs.{runOf, Answers, Reads, Measures};
+ghost use Rattle.runner.specs.Operations.{largestCost, runCost};
+ghost use Rattle.runner.specs.Inner.Runs.{Answers, Ran, Reads, Measures};
 
 // The largest number of a mapping.
 const LAST_NUMBER: u32 = 255;
@@ -52,8 +53,11 @@ const ENTRIES: usize = 7168;
 // Weights for every number, and for the levels of a tree.
 const WEIGHTS: usize = 16896;
 
-// Lengths are counted up to here at least.
+// Lengths and costs are counted up to here at least.
 const LEAST_TOP: usize = 4294967296;
+
+// The largest cost that is reported.
+const LARGEST_COST: u32 = 4294967295;
 
 // Whether a kind has a number: it is mapped by it. Exactly the kinds in the source have number 0.
 fn has_number(source: &[u8], body: &[u8], kind: u8, number: u8) -> bool
@@ -206,7 +210,18 @@ fn write_tree(
     accept(p)
 }
 
-// What a run answers by what measuring came to: 15, 16, 17, or the run written.
+// A count of clauses as it is reported: no more than the largest cost.
+fn reported(count: usize) -> u32
+    ensures { λ r. ⌜ r ≡ min count largestCost ⌝ }
+{
+    if LARGEST_COST as usize <= count {
+        return LARGEST_COST;
+    }
+    count as u32
+}
+
+// What a run answers by what measuring came to: 15, 16, 17, or the run written. Its cost, which is 0 before, is put where the
+// caller wants it.
 fn finish(
     result: Measured,
     source: &[u8],
@@ -218,22 +233,24 @@ fn finish(
     tree: &[u8],
     ends: &[u32],
     output: &mut [u8],
+    cost: &mut u32,
 ) -> Answer
-    requires { ⌜ (kind < 32) × ((f : Translation) × (top : ℕ) × Checked (now source) (now target) (now body) f × (isSome (mappingOf (f .body) kind number) ≡ true) × (length (now output) < top)
+    requires { ⌜ (kind < 32) × (now cost ≡ 0) × ((f : Translation) × (top : ℕ) × Checked (now source) (now target) (now body) f × (isSome (mappingOf (f .body) kind number) ≡ true) × (length (now output) < top)
         × Measures (now source) (now table) (now ends) f kind number (now tree) top result) ⌝ }
-    ensures { λ r. ⌜ ((f : Translation) (top : ℕ) → Checked (now (source .entry)) (now (target .entry)) (now (body .entry)) f → isSome (mappingOf (f .body) kind number) ≡ true → length (now (output .entry)) < top
+    ensures { λ r. ⌜ ((f : Translation) (top : ℕ) → Checked (now (source .entry)) (now (target .entry)) (now (body .entry)) f → isSome (mappingOf (f .body) kind number) ≡ true → length (now (output .entry)) < top → largestCost ≤ top
         → Measures (now (source .entry)) (now (table .entry)) (now (ends .entry)) f kind number (now (tree .entry)) top result
-        → Answers (runOf f kind number (now (tree .entry)) (length (now (output .entry)))) (now (output .entry)) (now (output .exit)) (r .outcome)) ⌝ }
+        → Ran f kind number (now (tree .entry)) (now (output .entry)) (now (output .exit)) (now (cost .exit)) (r .outcome)) ⌝ }
 {
     let room = output.len();
     match result {
-        Measured::End(e, n, cost) => {
+        Measured::End(e, n, count) => {
             if e != tree.len() {
                 return refuse(Reason::IllegalTree);
             }
             if room < n {
                 return refuse(Reason::OutputTooShort);
             }
+            *cost = reported(count);
             write_tree(
                 source,
                 target,
@@ -251,10 +268,10 @@ fn finish(
     }
 }
 
-// A top that is above the room.
+// A top that is above the room and not below the largest cost.
 fn top_over(room: usize) -> usize
     requires { ⌜ room < 9223372036854775808 ⌝ }
-    ensures { λ r. ⌜ room < r ⌝ }
+    ensures { λ r. ⌜ (room < r) × (largestCost ≤ r) ⌝ }
 {
     if room < LEAST_TOP {
         return LEAST_TOP;
@@ -263,7 +280,7 @@ fn top_over(room: usize) -> usize
 }
 
 // The run of a tree of a kind by a number, through a translation that was accepted: 14 to 17. Where long subtrees of a long tree
-// end is kept in a table.
+// end is kept in a table. The cost is 0 before.
 fn run_parts(
     source: &[u8],
     target: &[u8],
@@ -272,10 +289,11 @@ fn run_parts(
     number: u8,
     tree: &[u8],
     output: &mut [u8],
+    cost: &mut u32,
 ) -> Answer
-    requires { ⌜ (kind < 32) × ((f : Translation) × Checked (now source) (now target) (now body) f) ⌝ }
+    requires { ⌜ (kind < 32) × (now cost ≡ 0) × ((f : Translation) × Checked (now source) (now target) (now body) f) ⌝ }
     ensures { λ r. ⌜ ((f : Translation) → Checked (now (source .entry)) (now (target .entry)) (now (body .entry)) f
-        → Answers (runOf f kind number (now (tree .entry)) (length (now (output .entry)))) (now (output .entry)) (now (output .exit)) (r .outcome)) ⌝ }
+        → Ran f kind number (now (tree .entry)) (now (output .entry)) (now (output .exit)) (now (cost .exit)) (r .outcome)) ⌝ }
 {
     if !has_number(source, body, kind, number) {
         return refuse(Reason::UnknownRoot);
@@ -296,6 +314,7 @@ fn run_parts(
             tree,
             &ends,
             output,
+            cost,
         );
     }
     let mut ends = [0u32; 8192];
@@ -311,15 +330,25 @@ fn run_parts(
         tree,
         &ends,
         output,
+        cost,
     )
 }
 
 // Run by a number: 1 to 7 for the translation, 14 for the root and the number, 15 and 16 for the tree against its source, 17 where
-// the result is longer than the output.
-pub fn run(translation: &[u8], root: u32, number: u32, tree: &[u8], output: &mut [u8]) -> Answer
+// the result is longer than the output. How many clauses it applies is put into `cost`, and 0 where it is refused.
+pub fn run(
+    translation: &[u8],
+    root: u32,
+    number: u32,
+    tree: &[u8],
+    output: &mut [u8],
+    cost: &mut u32,
+) -> Answer
     ensures { λ r. ⌜ (r .outcome ≡ runTree (now (translation .entry)) root number (now (tree .entry)) (now (output .entry)) .outcome)
-        × (now (output .exit) ≡ runTree (now (translation .entry)) root number (now (tree .entry)) (now (output .entry)) .output) ⌝ }
+        × (now (output .exit) ≡ runTree (now (translation .entry)) root number (now (tree .entry)) (now (output .entry)) .output)
+        × (now (cost .exit) ≡ runCost (now (translation .entry)) root number (now (tree .entry)) (length (now (output .entry)))) ⌝ }
 {
+    *cost = 0;
     let answer = check_translation(translation);
     let outcome = answer.outcome;
     if let Outcome::Refused(reason) = outcome {
@@ -339,5 +368,6 @@ pub fn run(translation: &[u8], root: u32, number: u32, tree: &[u8], output: &mut
         number as u8,
         tree,
         output,
+        cost,
     )
 }

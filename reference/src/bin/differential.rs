@@ -40,6 +40,8 @@ const NUMBERS: usize = 27;
 struct Answer {
     number: u32,
     length: u64,
+    /// The cost of a run, 0 for other operations.
+    cost: u32,
     output: Vec<u8>,
     workspace: Vec<u8>,
 }
@@ -209,7 +211,7 @@ fn answer_label(number: usize) -> String {
 impl Answer {
     /// The answer of a check, which has no buffers.
     fn of_check(number: u32) -> Answer {
-        Answer { number, length: 0, output: vec![], workspace: vec![] }
+        Answer { number, length: 0, cost: 0, output: vec![], workspace: vec![] }
     }
 }
 
@@ -266,16 +268,16 @@ fn compare_run(random: &mut Random) -> Comparison {
     let found = library::run(translation, *root, *number, tree, &mut library_output);
     Comparison {
         library: Answer {
-            number: found.number,
             length: found.length,
+            cost: found.cost,
             output: library_output,
-            workspace: vec![],
+            ..Answer::of_check(found.number)
         },
         reference: Answer {
-            number: expected.number(),
             length: expected.length(),
+            cost: expected.cost,
             output,
-            workspace: vec![],
+            ..Answer::of_check(expected.number())
         },
         inputs: vec![
             ("translation", Input::Bytes(case.translation)),
@@ -297,16 +299,16 @@ fn compare_reduce(random: &mut Random) -> Comparison {
     let found = library::reduce(&case.pack, &mut library_workspace, &mut library_output);
     Comparison {
         library: Answer {
-            number: found.number,
             length: found.length,
             output: library_output,
             workspace: library_workspace,
+            ..Answer::of_check(found.number)
         },
         reference: Answer {
-            number: expected.number(),
             length: expected.length(),
             output,
             workspace,
+            ..Answer::of_check(expected.number())
         },
         inputs: vec![
             ("pack", Input::Bytes(case.pack)),
@@ -484,6 +486,9 @@ impl Comparison {
             format!("  library:   number {} length {}", library.number, library.length),
             format!("  reference: number {} length {}", reference.number, reference.length),
         ];
+        if library.cost != reference.cost {
+            lines.push(format!("  costs: library {}, reference {}", library.cost, reference.cost));
+        }
         if let Some(place) = first_difference(&library.output, &reference.output) {
             lines.push(format!("  outputs differ first at byte {place}"));
             lines.push(format!("  library output:   {}", output_shown(&library.output, place)));

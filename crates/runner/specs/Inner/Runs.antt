@@ -5,7 +5,7 @@ use mathlib.Core.Bool.{true, not}
 use mathlib.Core.List.{List, []}
 use mathlib.Core.Option.{some}
 use lib.ListN.{length}
-use Rattle.fields.specs.Outcome.{Result, refuseIf, _>>=_, written, outputAfter}
+use Rattle.fields.specs.Outcome.{Result, value, refuseIf, _>>=_, written, outputAfter}
 use Rattle.fields.specs.declared.outcome.Outcome.{Outcome}
 use Rattle.fields.specs.declared.outcome.Reason.the-variants.{UnknownRoot}
 use Rattle.fields.specs.Lists.{isSome}
@@ -14,12 +14,14 @@ use Rattle.reader.specs.Syntax.{read, done, write, tree}
 use Rattle.reader.specs.Operations.{treeOf}
 use Rattle.reader.specs.declared.node.Syntax.the-variants.{Tree}
 use Rattle.translation.specs.Translation.{Translation, mappingOf}
-use Rattle.translation.specs.Running.{transform}
+use Rattle.translation.specs.Running.{clausesOf, transform}
 use Rattle.translation.specs.Operations.{fitted}
+use Rattle.measure.specs.Cost.{cost}
 use Rattle.measure.specs.declared.measure.Measured.{Measured}
 use Rattle.measure.specs.Inner.Measuring.{EndsIn, sizedAt, sizedOf}
 use Rattle.tables.specs.Inner.Filling.{Begun}
 use Rattle.emitter.specs.Inner.Runs.{Right}
+use Rattle.runner.specs.Operations.{reported}
 
 -- What the run of a tree through f by a number comes to, with so much room: 14 to 17, the last links of the chain of `runBytes`.
 unfoldable pub runOf : Translation → (root number : ℕ) → List ℕ → ℕ → Result (List ℕ)
@@ -27,10 +29,20 @@ runOf f root number bytes room =
     refuseIf (not (isSome (mappingOf (f .body) root number))) UnknownRoot
     (treeOf (f .source) root bytes >>= λ t. fitted room (write tree (transform f number t)))
 
+-- What that run reports as its cost: `runCost` of a translation that was accepted.
+unfoldable pub costOf : Translation → (root number : ℕ) → List ℕ → ℕ → ℕ
+costOf f root number bytes room =
+    reported (runOf f root number bytes room >>= λ result. treeOf (f .source) root bytes >>= λ t. value (cost (clausesOf f) number t))
+
 -- What is answered, and the output that is left, are those of a result.
 pub record Answers (result : Result (List ℕ)) (before after : List ℕ) (outcome : Outcome) : Type 0 where
   pub answer : outcome ≡ written result
   pub left : after ≡ outputAfter before result
+
+-- What is answered, the output that is left and the cost that is reported are those of the run of a tree through f.
+pub record Ran (f : Translation) (root number : ℕ) (bytes before after : List ℕ) (paid : ℕ) (outcome : Outcome) : Type 0 where
+  pub answers : Answers (runOf f root number bytes (length before)) before after outcome
+  pub costs : paid ≡ costOf f root number bytes (length before)
 
 -- The bytes are the tree t of a kind that has the number, and what is kept of where its parts end is right.
 pub record Reads (f : Translation) (kind number : ℕ) (ends bytes : List ℕ) (t : Code) : Type 0 where

@@ -134,6 +134,7 @@ mod run {
         let mut library_output = vec![0; output.len()];
         let found = library::run(translation, 1, number, tree, &mut library_output);
         assert_eq!((found.number, found.length), (0, expected.length()));
+        assert_eq!(found.cost, expected.cost);
         assert_eq!(output, library_output);
         let timing = compare(
             || library::run(translation, 1, number, black_box(tree), &mut library_output),

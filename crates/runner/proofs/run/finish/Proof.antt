@@ -9,22 +9,22 @@ use Rattle.fields.proofs.outcome.refuse.Reads as refuse-reads
 use Rattle.runner.proofs.run.write_tree.Reads as write-tree-reads
 
 returns : tie.Need-returns
-returns c = λ f top z h o w. tree-more z _ _ _ _ _ _ _ h _ o w _ _ _ (c .before .before .before .result .given .1) (c .before .if1 .taken) (c .refuse .ensures)
+returns c = λ f top z h o most w. tree-more z _ _ _ _ _ _ _ h _ o w _ _ _ (c .before .before .before .result .given .1) (c .before .if1 .taken) (c .refuse .ensures) (c .before .before .before .before .before .before .before .before .before .before .before .pre .1)
 
 returns-2 : tie.Need-returns-2
-returns-2 c = λ f top z h o w. tree-long z _ _ _ _ _ _ _ h _ o w _ _ _ (c .before .before .before .before .result .given .1) (c .before .before .if1 .left) (c .before .if2 .taken) (c .refuse2 .ensures)
+returns-2 c = λ f top z h o most w. tree-long z _ _ _ _ _ _ _ h _ o w _ _ _ (c .before .before .before .before .result .given .1) (c .before .before .if1 .left) (c .before .if2 .taken) (c .refuse2 .ensures) (c .before .before .before .before .before .before .before .before .before .before .before .before .pre .1)
 
 write-tree-requires : tie.Need-write-tree-requires
-write-tree-requires c κs = let p = c .before .before .before .before .before .before .before .before .before .before .before .before .before .pre .1 in let y = tree-whole (p .2) _ _ _ _ (c .before .before .before .before .before .before .before .before .before .before .before .before .before .args .output .now) _ _ (p .3) _ (p .4) (p .5) _ _ _ (c .before .before .before .before .before .result .given .1) (c .before .before .before .if1 .left) in (c .before .before .before .before .before .before .before .before .before .before .before .before .before .pre .0, p .5 .begun, (p .0, y .0, p .2, y .1))
+write-tree-requires c κs = let p = c .before .before .before .before .before .before .before .before .before .before .before .before .before .before .pre .2 in let y = tree-whole (p .2) _ _ _ _ (c .before .before .before .before .before .before .before .before .before .before .before .before .before .before .args .output .now) _ _ (p .3) _ (p .4) (p .5) _ _ _ (c .before .before .before .before .before .before .result .given .1) (c .before .before .before .before .if1 .left) in (c .before .before .before .before .before .before .before .before .before .before .before .before .before .before .pre .0, p .5 .begun, (p .0, y .0, p .2, y .1))
 
 returns-3 : tie.Need-returns-3
-returns-3 c = λ f top z h o w. tree-fits z _ _ _ _ _ _ _ h _ o w _ _ _ (c .before .before .before .before .before .before .before .before .result .given .1) (c .before .before .before .before .before .before .if1 .left) (c .before .before .before .before .before .if2 .left) (λ t q l. c .before .before .write-tree .ensures f t z q l)
+returns-3 c = λ f top z h o most w. tree-fits z _ _ _ _ _ _ _ h _ o w _ _ _ (c .before .before .before .before .before .before .before .before .before .result .given .1) (c .before .before .before .before .before .before .before .if1 .left) (c .before .before .before .before .before .before .if2 .left) most (c .before .before .before .before .before .reported .ensures) (λ t q l. c .before .before .write-tree .ensures f t z q l)
 
 returns-4 : tie.Need-returns-4
-returns-4 c = λ f top z h o w. tree-deep z _ _ _ _ _ _ _ h _ o w (c .before .enum-told .given .1) (c .refuse3 .ensures)
+returns-4 c = λ f top z h o most w. tree-deep z _ _ _ _ _ _ _ h _ o w (c .before .enum-told .given .1) (c .refuse3 .ensures) (c .before .before .before .before .before .before .before .before .before .pre .1)
 
 returns-5 : tie.Need-returns-5
-returns-5 c = λ f top z h o w. tree-broken z _ _ _ _ _ _ _ h _ o w (c .before .enum-told2 .given .1) (c .refuse4 .ensures)
+returns-5 c = λ f top z h o most w. tree-broken z _ _ _ _ _ _ _ h _ o w (c .before .enum-told2 .given .1) (c .refuse4 .ensures) (c .before .before .before .before .before .before .before .before .before .pre .1)
 
 pub finish-spec : {M : Type 1} → statement M
 finish-spec =
@@ -35,6 +35,7 @@ finish-spec =
     returns
     (λ c κs. search needs)
     returns-2
+    (λ c κs. search needs)
     write-tree-requires
     (λ c. search needs)
     (λ c κs. search needs)

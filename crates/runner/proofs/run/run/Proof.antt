@@ -1,3 +1,4 @@
+use mathlib.Core.Path.{refl}
 use mathlib.Core.Logic.{inl, inr}
 use native.Mathlib.Omega.{arith}
 use Rattle.translation.proofs.Accepted.{accepts}
@@ -16,13 +17,13 @@ use Rattle.translation.proofs.parts.source_of.Reads as source-of-reads
 use Rattle.translation.proofs.parts.target_of.Reads as target-of-reads
 
 returns : tie.Need-returns
-returns c = run-refused _ _ _ _ _ _ _ _ (c .before .before .before .before .check-translation .ensures) (c .before .before .outcome .given .1) (c .refuse .ensures)
+returns c = run-refused _ _ _ _ _ _ _ _ (c .before .before .before .before .check-translation .ensures) (c .before .before .outcome .given .1) (c .refuse .ensures) refl
 
 returns-2 : tie.Need-returns-2
-returns-2 c = let a = accepts _ (c .before .before .before .before .check-translation .ensures) (c .before .before .enum-told .given .1) in root-past _ _ _ _ _ (a .translation) (a .is) _ (inl (c .before .if1 .taken)) (c .refuse2 .ensures)
+returns-2 c = let a = accepts _ (c .before .before .before .before .check-translation .ensures) (c .before .before .enum-told .given .1) in root-past _ _ _ _ _ (a .translation) (a .is) _ (inl (c .before .if1 .taken)) (c .refuse2 .ensures) refl
 
 returns-3 : tie.Need-returns-3
-returns-3 c = let a = accepts _ (c .before .before .before .before .before .check-translation .ensures) (c .before .before .before .enum-told .given .1) in root-past _ _ _ _ _ (a .translation) (a .is) _ (inr (c .before .if2 .taken)) (c .refuse3 .ensures)
+returns-3 c = let a = accepts _ (c .before .before .before .before .before .check-translation .ensures) (c .before .before .before .enum-told .given .1) in root-past _ _ _ _ _ (a .translation) (a .is) _ (inr (c .before .if2 .taken)) (c .refuse3 .ensures) refl
 
 source-of-requires : tie.Need-source-of-requires
 source-of-requires c κs = let a = accepts _ (c .before .before .before .before .check-translation .ensures) (c .before .before .enum-told .given .1) in (a .translation, a .is)
@@ -34,10 +35,10 @@ body-of-requires : tie.Need-body-of-requires
 body-of-requires c κs = let a = accepts _ (c .before .before .before .before .before .before .check-translation .ensures) (c .before .before .before .before .enum-told .given .1) in (a .translation, a .is)
 
 run-parts-requires : tie.Need-run-parts-requires
-run-parts-requires c κs = let a = accepts _ (c .before .before .before .before .before .before .before .before .check-translation .ensures) (c .before .before .before .before .before .before .enum-told .given .1) in (omega (arith, c .before .before .before .before .before .if1 .left), (a .translation, parts-checked _ (a .translation) (a .is) (c .before .before .before .source-of .ensures) (c .before .before .target-of .ensures) (c .before .body-of .ensures)))
+run-parts-requires c κs = let a = accepts _ (c .before .before .before .before .before .before .before .before .before .check-translation .ensures) (c .before .before .before .before .before .before .before .enum-told .given .1) in (omega (arith, c .before .before .before .before .before .before .if1 .left), refl, (a .translation, parts-checked _ (a .translation) (a .is) (c .before .before .before .before .source-of .ensures) (c .before .before .before .target-of .ensures) (c .before .before .body-of .ensures)))
 
 returns-4 : tie.Need-returns-4
-returns-4 c = let a = accepts _ (c .before .before .before .before .before .before .before .before .before .before .before .check-translation .ensures) (c .before .before .before .before .before .before .before .before .before .enum-told .given .1) in run-accepted _ _ _ _ _ (a .translation) (a .is) _ _ (c .before .before .run-parts .ensures (a .translation) (parts-checked _ (a .translation) (a .is) (c .before .before .before .before .before .before .source-of .ensures) (c .before .before .before .before .before .target-of .ensures) (c .before .before .before .before .body-of .ensures)))
+returns-4 c = let a = accepts _ (c .before .before .before .before .before .before .before .before .before .before .before .before .check-translation .ensures) (c .before .before .before .before .before .before .before .before .before .before .enum-told .given .1) in run-accepted _ _ _ _ _ (a .translation) (a .is) _ _ _ (c .before .before .run-parts .ensures (a .translation) (parts-checked _ (a .translation) (a .is) (c .before .before .before .before .before .before .before .source-of .ensures) (c .before .before .before .before .before .before .target-of .ensures) (c .before .before .before .before .before .body-of .ensures)))
 
 pub run-spec : {M : Type 1} → statement M
 run-spec =
