@@ -4,3 +4,4 @@ pub mod Earlier
 pub mod Runs
 pub mod Sums
 pub mod Examples
+pub mod Laws
