@@ -2,6 +2,7 @@ pub mod Levels
 pub mod Reductions
 pub mod Runs
 pub mod Earlier
+pub mod Comparing
 pub mod Subsets
 pub mod Sums
 pub mod Examples

@@ -5,3 +5,4 @@ pub mod Runs
 pub mod Sums
 pub mod Examples
 pub mod Laws
+pub mod Cases
