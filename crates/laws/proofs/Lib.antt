@@ -4,5 +4,7 @@ pub mod Runs
 pub mod Earlier
 pub mod Subsets
 pub mod Sums
+pub mod Signs
+pub mod JoinedSums
 pub mod Examples
 pub mod Values
