@@ -6,5 +6,6 @@ pub mod Subsets
 pub mod Sums
 pub mod Signs
 pub mod JoinedSums
+pub mod Identities
 pub mod Examples
 pub mod Values
