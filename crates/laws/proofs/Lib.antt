@@ -5,5 +5,8 @@ pub mod Earlier
 pub mod Comparing
 pub mod Subsets
 pub mod Sums
+pub mod Signs
+pub mod JoinedSums
+pub mod Identities
 pub mod Examples
 pub mod Values
