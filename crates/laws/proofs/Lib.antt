@@ -4,5 +4,7 @@ pub mod Runs
 pub mod Earlier
 pub mod Subsets
 pub mod Sums
+pub mod Joins
+pub mod JoinsWithout
 pub mod Examples
 pub mod Values
