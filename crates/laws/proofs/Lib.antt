@@ -6,5 +6,6 @@ pub mod Subsets
 pub mod Sums
 pub mod Joins
 pub mod JoinsWithout
+pub mod Groupings
 pub mod Examples
 pub mod Values
