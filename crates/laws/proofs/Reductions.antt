@@ -118,6 +118,13 @@ reduction fields t w o bytes e =
 pub reduction-good : {fields : List Field} {t : Term translations} {bytes : List ℕ} (r : Reduction fields t bytes) → GoodConstants (constantsOf (r .pack))
 reduction-good {fields} {t} r = let g = pack-good (packed fields t) (r .pack) (r .opens) in record { languages = g .0; bodies = g .1 }
 
+-- Packs that differ only in field 32 have the same constants.
+pub same-constants : {fields : List Field} {t u : Term translations} {x y : List ℕ} (r : Reduction fields t x) (s : Reduction fields u y)
+    → constantsOf (r .pack) ≡ constantsOf (s .pack)
+same-constants {fields} {t} {u} r s =
+    let q = pack-term fields (writeTerm t) (writeTerm u) (r .pack) (r .opens) (pack-short (packed fields u) (s .pack) (s .opens)) in
+    ap constantsOf (value-inj (sym (q .1) ∙ s .opens))
+
 -- The same pack with another term, which is within the limits and in scope, reduces to what that term comes to.
 pub reduce-other : (fields : List Field) (t u : Term translations) (p : Pack) (w o : ℕ) (f : Translation) → packOf (packed fields t) ≡ value p
     → length (packed fields u) ≤ packLimit → termLevels u ≤ termLimit → scoped (length (p .languages)) (length (p .bodies)) u ≡ true

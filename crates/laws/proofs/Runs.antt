@@ -35,14 +35,13 @@ use Rattle.operators.specs.Operators.{numbersLow, joinFits, joined, translation
 use Rattle.operators.specs.Limits.{translationExceeds}
 use Rattle.signs.specs.Evaluation.{Constants, constantsOf, nothingBound, limited, evaluate}
 use Rattle.reducer.specs.Operations.{reduceBytes, reduce}
-use Rattle.pack.proofs.PackCodec.{pack-term, pack-short}
 use Rattle.operators.proofs.Proper.{Sound, GoodTranslation, good-back}
 use Rattle.operators.proofs.JoinSound.{target-larger, join-lies, join-mapped, join-chained, join-runs}
 use Rattle.evaluator.proofs.Evaluated.{step-value, value-inj, limited-value, translation-join, within, nothing-good, evaluate-good}
 use Rattle.laws.specs.Packed.{packed, putOut}
 use Rattle.laws.specs.Runs.{Legal, mapsTo, targetIn, ReducesTo, OfTree, of-root, of-bytes, of-levels, SameRun, RunsOfJoin, LawOfRuns, hasNumber}
 use Rattle.laws.proofs.Levels.{law-of-levels}
-use Rattle.laws.proofs.Reductions.{accepted-value, put-out, Reduction, reduction, reduction-good}
+use Rattle.laws.proofs.Reductions.{accepted-value, put-out, Reduction, reduction, reduction-good, same-constants}
 
 -- A transformation of a typed tree is typed.
 transform-typed : (f : Translation) → Sound f → (t : Code) (k j u : ℕ) → mappingOf (f .body) k j ≡ some u → Typed (f .source) [] t k → Typed (f .target) [] (transform f j t) u
@@ -189,13 +188,6 @@ reduces fields t w o bytes e =
     let v = accepted-value r (e .0) in
     let q : v .0 ≡ bytes = sym (put-out o r (v .0) (v .1)) ∙ e .1 in
     reduction fields t (length w) (length o) bytes (v .1 ∙ ap value q) .0
-
--- Packs that differ only in field 32 have the same constants.
-same-constants : {fields : List Field} {t u : Term translations} {x y : List ℕ} (r : Reduction fields t x) (s : Reduction fields u y)
-    → constantsOf (r .pack) ≡ constantsOf (s .pack)
-same-constants {fields} {t} {u} r s =
-    let q = pack-term fields (writeTerm t) (writeTerm u) (r .pack) (r .opens) (pack-short (packed fields u) (s .pack) (s .opens)) in
-    ap constantsOf (value-inj (sym (q .1) ∙ s .opens))
 
 -- The value of the same term, under the constants of another pack.
 value-under : {fields : List Field} {t u : Term translations} {x y : List ℕ} (r : Reduction fields t x) (s : Reduction fields u y) (f : Translation)

@@ -4,22 +4,18 @@ use mathlib.Core.Path.{_≡_, refl, ap, sym, subst, _∙_}
 use mathlib.Core.Logic.{inl, inr, ⊎-elim}
 use mathlib.Core.Bool.{true, false}
 use mathlib.Core.List.{List}
-use lib.ListN.{length}
-use Rattle.fields.specs.Outcome.{Result, value, lengthOf, written}
-use Rattle.fields.specs.Fields.{Field}
+use Rattle.fields.specs.Outcome.{value}
 use Rattle.fields.proofs.Truth.{and-both, both-and, mem-append, append-cases}
 use Rattle.translation.specs.Translation.{Translation}
 use Rattle.pack.specs.Terms.{Term, translations, sum, scoped}
 use Rattle.operators.specs.Operators.{translationsFit, translationUnion, translationSum}
 use Rattle.operators.specs.Limits.{translationExceeds}
-use Rattle.signs.specs.Evaluation.{Constants, constantsOf, nothingBound, limited, evaluate}
-use Rattle.reducer.specs.Operations.{reduceBytes, reduce}
+use Rattle.signs.specs.Evaluation.{Constants, nothingBound, limited, evaluate}
 use Rattle.operators.proofs.Proper.{GoodTranslation}
 use Rattle.operators.proofs.SumSound.{fit-translations, translations-fit, sound-union}
 use Rattle.evaluator.proofs.Evaluated.{step-value, value-inj, limited-value, translation-sum, GoodConstants, nothing-good, evaluate-good}
-use Rattle.laws.specs.Packed.{packed}
-use Rattle.laws.specs.Sums.{Sum, alone, plus, asTerm, builtFrom, In, SumOver, WithinLimits, LawOfSums}
-use Rattle.laws.proofs.Reductions.{accepted-value, value-accepted, put-out, reduction, reduction-good, reduce-other}
+use Rattle.laws.specs.Sums.{Sum, alone, plus, asTerm, builtFrom, In, SumOver, LawOfSums}
+use Rattle.laws.proofs.Comparing.{ScopedToo, ValueToo, accepted-alike}
 use Rattle.laws.proofs.Subsets.{Lies, lies-itself, lies-further, lies-within, lie-fit, sum-lies, lies-sum, lies-equal}
 
 module _ (c : Constants) (good : GoodConstants c) where
@@ -106,30 +102,14 @@ built-scoped l b (plus x y) h =
     (built-scoped l b x (λ t m. h t (mem-append t (builtFrom x) (builtFrom y) (inl m))))
     (built-scoped l b y (λ t m. h t (mem-append t (builtFrom x) (builtFrom y) (inr m))))
 
--- Where one sum is accepted, so is another over the same set, with the same bytes.
-accepted-too : (fields : List Field) (set : List (Term translations)) (a b : Sum) → SumOver set a → SumOver set b → WithinLimits fields b → (w o : ℕ) (bytes : List ℕ)
-    → reduceBytes (packed fields (asTerm a)) w o ≡ value bytes → reduceBytes (packed fields (asTerm b)) w o ≡ value bytes
-accepted-too fields set a b p q limits w o bytes e =
-    let r = reduction fields (asTerm a) w o bytes e in
-    let pack = r .0 .pack in
-    let f : (t : Term translations) → In t (builtFrom b) → In t (builtFrom a) = λ t m. p .each t (q .only t m) in
-    let g : (t : Term translations) → In t (builtFrom a) → In t (builtFrom b) = λ t m. q .each t (p .only t m) in
-    let s = built-scoped (length (pack .languages)) (length (pack .bodies)) b (λ t m. scoped-built _ _ a (r .0 .inScope) t (f t m)) in
-    let v = same-value (constantsOf pack) (reduction-good (r .0)) a b f g (r .0 .result) (r .0 .evaluates) in
-    reduce-other fields (asTerm a) (asTerm b) pack w o (r .0 .result) (r .0 .opens) (limits .short) (limits .levels) s (r .1) v ∙ ap value (r .0 .encodes)
+-- A sum is in scope, and comes to a value, where another over the same set is and does.
+scoped-too : (set : List (Term translations)) (a b : Sum) → SumOver set a → SumOver set b → ScopedToo (asTerm a) (asTerm b)
+scoped-too set a b p q l n s = built-scoped l n b (λ t m. scoped-built l n a s t (p .each t (q .only t m)))
+
+value-too : (set : List (Term translations)) (a b : Sum) → SumOver set a → SumOver set b → ValueToo (asTerm a) (asTerm b)
+value-too set a b p q c good v e = same-value c good a b (λ t m. p .each t (q .only t m)) (λ t m. q .each t (p .only t m)) v e
 
 -- The law of sums.
 pub law-of-sums : LawOfSums
-unfolding reduce
-law-of-sums fields set a b p q la lb w w′ o o′ ew eo =
-    let x = reduceBytes (packed fields (asTerm a)) (length w) (length o) in
-    let y = reduceBytes (packed fields (asTerm b)) (length w′) (length o′) in
-    let same : reduceBytes (packed fields (asTerm b)) (length w) (length o) ≡ y = λ i. reduceBytes (packed fields (asTerm b)) (sym ew i) (sym eo i) in
-    let onward : (bytes : List ℕ) → x ≡ value bytes → y ≡ value bytes = λ bytes e. sym same ∙ accepted-too fields set a b p q lb (length w) (length o) bytes e in
-    let back : (bytes : List ℕ) → y ≡ value bytes → x ≡ value bytes = λ bytes e. accepted-too fields set b a q p la (length w) (length o) bytes (same ∙ e) in
-    record {
-      left = λ e. let v = accepted-value x e in value-accepted y (v .0) (onward (v .0) (v .1));
-      right = λ e. let v = accepted-value y e in value-accepted x (v .0) (back (v .0) (v .1));
-      lengths = λ e. let v = accepted-value x e in ap (λ (r : Result (List ℕ)). lengthOf (written r)) (v .1 ∙ sym (onward (v .0) (v .1)));
-      bytes = λ e. let v = accepted-value x e in put-out o x (v .0) (v .1) ∙ sym (put-out o′ y (v .0) (onward (v .0) (v .1)));
-    }
+law-of-sums set a b p q =
+    accepted-alike (asTerm a) (asTerm b) (scoped-too set a b p q) (scoped-too set b a q p) (value-too set a b p q) (value-too set b a q p)

@@ -1,0 +1,119 @@
+-- What an accepted sum, join or identity was made of, and how one is made.
+use mathlib.Core.Path.{_≡_, ap, _∙_}
+use mathlib.Core.Bool.{true, false}
+use Rattle.fields.specs.Outcome.{value}
+use Rattle.language.specs.Language.{Language}
+use Rattle.translation.specs.Translation.{Translation}
+use Rattle.pack.specs.Terms.{Sort, Term, languages, translations, sum, join, identity}
+use Rattle.operators.specs.Operators.{languagesFit, languageUnion, languageSum, translationsFit, translationUnion, translationSum, numbersLow, joinFits, joined, translationJoin, identityOf}
+use Rattle.operators.specs.Limits.{languageExceeds, translationExceeds}
+use Rattle.signs.specs.Evaluation.{Constants, Value, nothingBound, limited, sumOf, evaluate}
+use Rattle.operators.proofs.Proper.{GoodTranslation}
+use Rattle.operators.proofs.SumSound.{translations-fit}
+use Rattle.evaluator.proofs.Evaluated.{step-value, limited-value, language-sum, translation-sum, translation-join, Good, GoodConstants, nothing-good, evaluate-good}
+use Rattle.laws.proofs.Subsets.{Lies, InEither, good-within, lie-fit, sum-whole}
+
+module _ (c : Constants) where
+  -- The value of a sum of either sort, taken apart.
+  sum-made : {s : Sort} (a b : Term s) (v : Value s) → evaluate c nothingBound (sum a b) ≡ value v
+      → (x y : Value s) × (evaluate c nothingBound a ≡ value x) × (evaluate c nothingBound b ≡ value y) × (sumOf s x y ≡ value v)
+  unfolding evaluate
+  sum-made {s} a b v e =
+      let p = step-value (evaluate c nothingBound a) _ e in
+      let q = step-value (evaluate c nothingBound b) _ (p .2) in
+      let r = step-value (sumOf s (p .0) (q .0)) (limited s) (q .2) in
+      (p .0, q .0, p .1, q .1, r .1 ∙ ap value (limited-value s (r .0) v (r .2) .1))
+
+  -- The value of a sum of translations, taken apart.
+  pub sum-value : (a b : Term translations) (v : Translation) → evaluate c nothingBound (sum a b) ≡ value v
+      → (x y : Translation) × (evaluate c nothingBound a ≡ value x) × (evaluate c nothingBound b ≡ value y) × (translationsFit x y ≡ true) × (translationUnion x y ≡ v)
+  sum-value a b v e =
+      let r = sum-made a b v e in
+      let s = translation-sum (r .0) (r .1) v (r .4) in
+      (r .0, r .1, r .2, r .3, s .0, s .1)
+
+  -- And put together.
+  pub value-sum : (a b : Term translations) (x y : Translation) → evaluate c nothingBound a ≡ value x → evaluate c nothingBound b ≡ value y
+      → translationsFit x y ≡ true → translationExceeds (translationUnion x y) ≡ false → evaluate c nothingBound (sum a b) ≡ value (translationUnion x y)
+  unfolding evaluate translationSum
+  value-sum a b x y p q f l = rw (p, q, f, l)
+
+  -- The value of a sum of languages, taken apart.
+  pub languages-value : (a b : Term languages) (v : Language) → evaluate c nothingBound (sum a b) ≡ value v
+      → (x y : Language) × (evaluate c nothingBound a ≡ value x) × (evaluate c nothingBound b ≡ value y) × (languagesFit x y ≡ true) × (languageUnion x y ≡ v)
+  languages-value a b v e =
+      let r = sum-made a b v e in
+      let s = language-sum (r .0) (r .1) v (r .4) in
+      (r .0, r .1, r .2, r .3, s .0, s .1)
+
+  -- And put together.
+  pub value-languages : (a b : Term languages) (x y : Language) → evaluate c nothingBound a ≡ value x → evaluate c nothingBound b ≡ value y
+      → languagesFit x y ≡ true → languageExceeds (languageUnion x y) ≡ false → evaluate c nothingBound (sum a b) ≡ value (languageUnion x y)
+  unfolding evaluate languageSum
+  value-languages a b x y p q f l = rw (p, q, f, l)
+
+  -- What the value of a join of a after b was made of.
+  pub record JoinMade (a b : Term translations) (v : Translation) : Type 0 where
+    pub first : Translation
+    pub second : Translation
+    pub first-value : evaluate c nothingBound a ≡ value first
+    pub second-value : evaluate c nothingBound b ≡ value second
+    pub fits : joinFits first second ≡ true
+    pub first-low : numbersLow first ≡ true
+    pub second-low : numbersLow second ≡ true
+    pub is : joined first second ≡ v
+
+  -- The value of a join, taken apart.
+  pub join-value : (a b : Term translations) (v : Translation) → evaluate c nothingBound (join a b) ≡ value v → JoinMade a b v
+  unfolding evaluate
+  join-value a b v e =
+      let p = step-value (evaluate c nothingBound a) _ e in
+      let q = step-value (evaluate c nothingBound b) _ (p .2) in
+      let r = step-value (translationJoin (p .0) (q .0)) (limited translations) (q .2) in
+      let s = translation-join (p .0) (q .0) (r .0) (r .1) in
+      record {
+        first = p .0;
+        second = q .0;
+        first-value = p .1;
+        second-value = q .1;
+        fits = s .0;
+        first-low = s .2;
+        second-low = s .3;
+        is = s .1 ∙ limited-value translations (r .0) v (r .2) .1;
+      }
+
+  -- And put together.
+  pub value-join : (a b : Term translations) (x y : Translation) → evaluate c nothingBound a ≡ value x → evaluate c nothingBound b ≡ value y
+      → joinFits x y ≡ true → numbersLow x ≡ true → numbersLow y ≡ true → translationExceeds (joined x y) ≡ false
+      → evaluate c nothingBound (join a b) ≡ value (joined x y)
+  unfolding evaluate translationJoin
+  value-join a b x y p q f m n l = rw (p, q, f, m, n, l)
+
+  -- The value of an identity, taken apart.
+  pub identity-value : (a : Term languages) (v : Translation) → evaluate c nothingBound (identity a) ≡ value v
+      → (l : Language) × (evaluate c nothingBound a ≡ value l) × (identityOf l ≡ v)
+  unfolding evaluate
+  identity-value a v e =
+      let p = step-value (evaluate c nothingBound a) _ e in
+      (p .0, p .1, limited-value translations (identityOf (p .0)) v (p .2) .1)
+
+  -- And put together.
+  pub value-identity : (a : Term languages) (l : Language) → evaluate c nothingBound a ≡ value l → translationExceeds (identityOf l) ≡ false
+      → evaluate c nothingBound (identity a) ≡ value (identityOf l)
+  unfolding evaluate
+  value-identity a l p q = rw (p, q)
+
+module _ (c : Constants) (good : GoodConstants c) where
+  -- Every value is good.
+  pub value-good : {s : Sort} (t : Term s) (x : Value s) → evaluate c nothingBound t ≡ value x → Good s x
+  value-good t x e = evaluate-good c good nothingBound nothing-good t x e
+
+  -- Two terms whose values lie in a good translation, and hold all of it, have it as their sum.
+  pub value-whole : (a b : Term translations) (x y v : Translation) → evaluate c nothingBound a ≡ value x → evaluate c nothingBound b ≡ value y
+      → GoodTranslation v → Lies x v → Lies y v → InEither x y v → evaluate c nothingBound (sum a b) ≡ value v
+  value-whole a b x y v p q g lx ly w =
+      let s = value-good a x p .sound in
+      let t = value-good b y q .sound in
+      let f = lie-fit x y v s t (g .sound) lx ly in
+      let e = sum-whole x y v s t (g .sound) lx ly w in
+      value-sum c a b x y p q (translations-fit x y f) (ap translationExceeds e ∙ good-within v g) ∙ ap value e
