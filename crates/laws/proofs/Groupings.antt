@@ -31,7 +31,7 @@ use Rattle.operators.proofs.Proper.{proper-apart, Sound}
 use Rattle.operators.proofs.JoinRises.{mem-join, join-cases, low-is, joined-rises}
 use Rattle.operators.proofs.JoinSound.{target-larger, join-lies, join-mapped, join-chained}
 use Rattle.evaluator.proofs.Evaluated.{GoodConstants}
-use Rattle.laws.proofs.Joins.{Joins, term-good, operands-join, join-value}
+use Rattle.laws.proofs.Signs.{Joins, operands-join, join-value, value-good}
 
 -- A use that is typed is by a number that a mapping has: where that is 0 only, so are all uses.
 module _ {m : Language} {u : Uses} (only : (i j k : ℕ) → kindAt u i j ≡ some k → j ≡ 0) where
@@ -315,22 +315,21 @@ pub regrouped : (c : Constants) → GoodConstants c → (f g h : Term translatio
     → u ≡ v
 regrouped c good f g h u v e d =
     let p = join-value c (join f g) h u e in
-    let q = join-value c f g (p .0) (p .2) in
+    let q = join-value c f g (p .first) (p .first-value) in
     let r = join-value c f (join g h) v d in
-    let x = q .0 in
-    let y = q .1 in
-    let z = p .1 in
-    let xy = q .4 in
-    let yz = operands-join c g h y z (r .1) (q .3) (p .3) (r .3) in
-    let outer = operands-join c f (join g h) x (r .1) v (q .2) (r .3) d in
-    let sx = term-good c good f x (q .2) .sound in
-    let sy = term-good c good g y (q .3) .sound in
-    let sz = term-good c good h z (p .3) .sound in
-    let left = sound-value x y (p .0) sx sy (term-good c good (join f g) (p .0) (p .2) .sound) xy in
-    let right = sound-value y z (r .1) sy sz (term-good c good (join g h) (r .1) (r .3) .sound) yz in
-    let low : numbersLow (joined x y) ≡ true = ap numbersLow (xy .is) ∙ p .4 .low-first in
+    let x = q .first in
+    let y = q .second in
+    let z = p .second in
+    let yz = operands-join c g h y z (r .second) (q .second-value) (p .second-value) (r .second-value) in
+    let outer = operands-join c f (join g h) x (r .second) v (q .first-value) (r .second-value) d in
+    let sx = value-good c good f x (q .first-value) .sound in
+    let sy = value-good c good g y (q .second-value) .sound in
+    let sz = value-good c good h z (p .second-value) .sound in
+    let left = sound-value x y (p .first) sx sy (value-good c good (join f g) (p .first) (p .first-value) .sound) (q .says) in
+    let right = sound-value y z (r .second) sy sz (value-good c good (join g h) (r .second) (r .second-value) .sound) yz in
+    let low : numbersLow (joined x y) ≡ true = ap numbersLow (q .says .is) ∙ p .says .low-first in
     let low-last : numbersLow (joined y z) ≡ true = ap numbersLow (yz .is) ∙ outer .low-second in
-    sym (p .4 .is)
-    ∙ (ap (λ (t : Translation). joined t z) (sym (xy .is))
+    sym (p .says .is)
+    ∙ (ap (λ (t : Translation). joined t z) (sym (q .says .is))
     ∙ (groupings x y z left right low-last low
     ∙ (ap (joined x) (yz .is) ∙ outer .is)))

@@ -29,7 +29,7 @@ use Rattle.operators.proofs.JoinSound.{sound-join}
 use Rattle.signs.specs.Evaluation.{Constants, nothingBound, evaluate}
 use Rattle.evaluator.proofs.Evaluated.{GoodConstants}
 use Rattle.laws.proofs.Subsets.{Subset, Lies, InEither, lies-within, lies-sum, either-sum}
-use Rattle.laws.proofs.Signs.{sum-value, join-value, value-join, value-good, value-whole}
+use Rattle.laws.proofs.Signs.{Joins, sum-value, join-value, value-join, value-good, value-whole}
 
 -- Where the join after a translation fits, so does the join after one that lies in it.
 part-fits : (f g v : Translation) → Lies g v → joinFits f v ≡ true → joinFits f g ≡ true
@@ -180,16 +180,15 @@ module _ (c : Constants) (good : GoodConstants c) where
       (x, y, p .2, p .3, subst (Lies x) (p .5) (both .0), subst (Lies y) (p .5) (both .1), subst (InEither x y) (p .5) (either-sum x y))
 
   -- Where joining f after w is accepted, so is joining it after a term whose value lies in w.
-  join-part : (f g : Term translations) (x y w : Translation) → evaluate c nothingBound f ≡ value x → evaluate c nothingBound g ≡ value y
-      → Sound w → Lies y w → GoodTranslation (joined x w) → joinFits x w ≡ true → numbersLow x ≡ true → numbersLow w ≡ true
-      → evaluate c nothingBound (join f g) ≡ value (joined x y)
-  join-part f g x y w p q sw l j fits first second =
+  join-part : (f g : Term translations) (x y w v : Translation) → evaluate c nothingBound f ≡ value x → evaluate c nothingBound g ≡ value y
+      → Sound w → Lies y w → GoodTranslation (joined x w) → Joins x w v → evaluate c nothingBound (join f g) ≡ value (joined x y)
+  join-part f g x y w v p q sw l j says =
       let sx = value-good c good f x p .sound in
       let sy = value-good c good g y q .sound in
-      let h = part-fits x y w l fits in
-      let low = part-low y w l second in
-      let s = part-sound y w sy sw l x sx (j .sound) h first low in
-      value-join c f g x y p q h first low (lies-within (joined x y) (joined x w) s j (joined-lies y w sy sw l x))
+      let h = part-fits x y w l (says .fits) in
+      let low = part-low y w l (says .low-second) in
+      let s = part-sound y w sy sw l x sx (j .sound) h (says .low-first) low in
+      value-join c f g x y p q h (says .low-first) low (lies-within (joined x y) (joined x w) s j (joined-lies y w sy sw l x))
 
   -- If joining f after the sum of g and h is accepted, so is the sum of the two joins, with the same value.
   pub joined-sum : (f g h : Term translations) (v : Translation)
@@ -202,9 +201,9 @@ module _ (c : Constants) (good : GoodConstants c) where
       let sw = value-good c good (sum g h) w (p .second-value) .sound in
       let sy = value-good c good g (q .0) (q .2) .sound in
       let sz = value-good c good h (q .1) (q .3) .sound in
-      let j = subst GoodTranslation (sym (p .is)) (value-good c good (join f (sum g h)) v e) in
-      let a = join-part f g x (q .0) w (p .first-value) (q .2) sw (q .4) j (p .fits) (p .first-low) (p .second-low) in
-      let b = join-part f h x (q .1) w (p .first-value) (q .3) sw (q .5) j (p .fits) (p .first-low) (p .second-low) in
+      let j = subst GoodTranslation (sym (p .says .is)) (value-good c good (join f (sum g h)) v e) in
+      let a = join-part f g x (q .0) w v (p .first-value) (q .2) sw (q .4) j (p .says) in
+      let b = join-part f h x (q .1) w v (p .first-value) (q .3) sw (q .5) j (p .says) in
       value-whole c good (join f g) (join f h) (joined x (q .0)) (joined x (q .1)) (joined x w) a b j
       (joined-lies (q .0) w sy sw (q .4) x) (joined-lies (q .1) w sz sw (q .5) x)
-      (joined-either x (q .0) (q .1) w sy sz sw (q .4) (q .5) (q .6)) ∙ ap value (p .is)
+      (joined-either x (q .0) (q .1) w sy sz sw (q .4) (q .5) (q .6)) ∙ ap value (p .says .is)

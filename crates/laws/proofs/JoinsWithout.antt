@@ -26,7 +26,7 @@ use Rattle.operators.proofs.SumSound.{Part, part-mapped, sound-without}
 use Rattle.operators.proofs.JoinRises.{join-item}
 use Rattle.evaluator.proofs.Evaluated.{GoodConstants}
 use Rattle.laws.proofs.Subsets.{Lies, lies-within}
-use Rattle.laws.proofs.Joins.{term-good, join-value, value-join, without-value, value-without}
+use Rattle.laws.proofs.Signs.{join-value, value-join, without-value, value-without, value-good}
 
 -- A translation that lies in another joins its items as the other does.
 module _ (x y : Translation) (sx : Sound x) (sy : Sound y) (h : Lies x y) where
@@ -172,12 +172,12 @@ joined-without c good f g l v e =
     let w = without-value c (join f g) l v e in
     let m = w .1 in
     let j = join-value c f g (w .0) (w .2) in
-    let x = j .0 in
-    let y = j .1 in
+    let x = j .first in
+    let y = j .second in
     let z = translationWithout y m in
-    let gy = term-good c good g y (j .3) in
-    let p = value-without c g l y m (j .3) (w .3) (lies-within z y (sound-without y m (gy .sound)) gy (lies-without y m)) in
-    let same : joined x z ≡ v = joined-left y m x (gy .sound) ∙ (ap (λ (t : Translation). translationWithout t m) (j .4 .is) ∙ w .4 .is) in
-    value-join c f (without g l) x z (j .2) p (fits-without y m x (j .4 .fits)) (j .4 .low-first) (low-without y m (j .4 .low-second))
+    let gy = value-good c good g y (j .second-value) in
+    let p = value-without c g l y m (j .second-value) (w .3) (lies-within z y (sound-without y m (gy .sound)) gy (lies-without y m)) in
+    let same : joined x z ≡ v = joined-left y m x (gy .sound) ∙ (ap (λ (t : Translation). translationWithout t m) (j .says .is) ∙ w .4 .is) in
+    value-join c f (without g l) x z (j .first-value) p (fits-without y m x (j .says .fits)) (j .says .low-first) (low-without y m (j .says .low-second))
     (subst (λ (t : Translation). translationExceeds t ≡ false) (sym same) (w .4 .within))
     ∙ ap value same

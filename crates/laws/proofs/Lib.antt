@@ -8,7 +8,6 @@ pub mod Signs
 pub mod Sums
 pub mod JoinedSums
 pub mod Identities
-pub mod Joins
 pub mod JoinsWithout
 pub mod Groupings
 pub mod Laws

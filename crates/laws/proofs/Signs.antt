@@ -1,17 +1,36 @@
--- What an accepted sum, join or identity was made of, and how one is made.
-use mathlib.Core.Path.{_≡_, ap, _∙_}
+-- What an accepted sum, join, identity or translation without a language was made of, and how one is made.
+use mathlib.Core.Path.{_≡_, ap, subst, _∙_}
 use mathlib.Core.Bool.{true, false}
-use Rattle.fields.specs.Outcome.{value}
+use Rattle.fields.specs.Outcome.{value, _>>=_}
 use Rattle.language.specs.Language.{Language}
 use Rattle.translation.specs.Translation.{Translation}
-use Rattle.pack.specs.Terms.{Sort, Term, languages, translations, sum, join, identity}
-use Rattle.operators.specs.Operators.{languagesFit, languageUnion, languageSum, translationsFit, translationUnion, translationSum, numbersLow, joinFits, joined, translationJoin, identityOf}
+use Rattle.pack.specs.Terms.{Sort, Term, languages, translations, sum, join, identity, without}
+use Rattle.operators.specs.Operators.{languagesFit, languageUnion, languageSum, translationsFit, translationUnion, translationSum, numbersLow, joinFits, joined, translationJoin, identityOf, translationWithout}
 use Rattle.operators.specs.Limits.{languageExceeds, translationExceeds}
 use Rattle.signs.specs.Evaluation.{Constants, Value, nothingBound, limited, sumOf, evaluate}
 use Rattle.operators.proofs.Proper.{GoodTranslation}
 use Rattle.operators.proofs.SumSound.{translations-fit}
 use Rattle.evaluator.proofs.Evaluated.{step-value, limited-value, language-sum, translation-sum, translation-join, Good, GoodConstants, nothing-good, evaluate-good}
 use Rattle.laws.proofs.Subsets.{Lies, InEither, good-within, lie-fit, sum-whole}
+
+-- What was tested of a join of x after y, and what it comes to.
+pub record Joins (x y v : Translation) : Type 0 where
+  pub fits : joinFits x y ≡ true
+  pub low-first : numbersLow x ≡ true
+  pub low-second : numbersLow y ≡ true
+  pub is : joined x y ≡ v
+
+-- What x without a language comes to, which is within the limits.
+pub record Leaves (x : Translation) (m : Language) (v : Translation) : Type 0 where
+  pub is : translationWithout x m ≡ v
+  pub within : translationExceeds v ≡ false
+
+-- What a join of two values with a value says.
+join-says : (x y v : Translation) → (translationJoin x y >>= limited translations) ≡ value v → Joins x y v
+join-says x y v e =
+    let r = step-value (translationJoin x y) (limited translations) e in
+    let s = translation-join x y (r .0) (r .1) in
+    record { fits = s .0; low-first = s .2; low-second = s .3; is = s .1 ∙ limited-value translations (r .0) v (r .2) .1 }
 
 module _ (c : Constants) where
   -- The value of a sum of either sort, taken apart.
@@ -58,10 +77,7 @@ module _ (c : Constants) where
     pub second : Translation
     pub first-value : evaluate c nothingBound a ≡ value first
     pub second-value : evaluate c nothingBound b ≡ value second
-    pub fits : joinFits first second ≡ true
-    pub first-low : numbersLow first ≡ true
-    pub second-low : numbersLow second ≡ true
-    pub is : joined first second ≡ v
+    pub says : Joins first second v
 
   -- The value of a join, taken apart.
   pub join-value : (a b : Term translations) (v : Translation) → evaluate c nothingBound (join a b) ≡ value v → JoinMade a b v
@@ -69,18 +85,13 @@ module _ (c : Constants) where
   join-value a b v e =
       let p = step-value (evaluate c nothingBound a) _ e in
       let q = step-value (evaluate c nothingBound b) _ (p .2) in
-      let r = step-value (translationJoin (p .0) (q .0)) (limited translations) (q .2) in
-      let s = translation-join (p .0) (q .0) (r .0) (r .1) in
-      record {
-        first = p .0;
-        second = q .0;
-        first-value = p .1;
-        second-value = q .1;
-        fits = s .0;
-        first-low = s .2;
-        second-low = s .3;
-        is = s .1 ∙ limited-value translations (r .0) v (r .2) .1;
-      }
+      record { first = p .0; second = q .0; first-value = p .1; second-value = q .1; says = join-says (p .0) (q .0) v (q .2) }
+
+  -- The value of a join whose operands have these values.
+  pub operands-join : (a b : Term translations) (x y v : Translation) → evaluate c nothingBound a ≡ value x → evaluate c nothingBound b ≡ value y
+      → evaluate c nothingBound (join a b) ≡ value v → Joins x y v
+  unfolding evaluate
+  operands-join a b x y v p q e = join-says x y v (rw (p, q) at e)
 
   -- And put together.
   pub value-join : (a b : Term translations) (x y : Translation) → evaluate c nothingBound a ≡ value x → evaluate c nothingBound b ≡ value y
@@ -102,6 +113,22 @@ module _ (c : Constants) where
       → evaluate c nothingBound (identity a) ≡ value (identityOf l)
   unfolding evaluate
   value-identity a l p q = rw (p, q)
+
+  -- The value of a translation without a language, taken apart.
+  pub without-value : (a : Term translations) (l : Term languages) (v : Translation) → evaluate c nothingBound (without a l) ≡ value v
+      → (x : Translation) × (m : Language) × (evaluate c nothingBound a ≡ value x) × (evaluate c nothingBound l ≡ value m) × Leaves x m v
+  unfolding evaluate
+  without-value a l v e =
+      let p = step-value (evaluate c nothingBound a) _ e in
+      let q = step-value (evaluate c nothingBound l) _ (p .2) in
+      let r = limited-value translations (translationWithout (p .0) (q .0)) v (q .2) in
+      (p .0, q .0, p .1, q .1, record { is = r .1; within = subst (λ (z : Translation). translationExceeds z ≡ false) (r .1) (r .0) })
+
+  -- And put together.
+  pub value-without : (a : Term translations) (l : Term languages) (x : Translation) (m : Language) → evaluate c nothingBound a ≡ value x → evaluate c nothingBound l ≡ value m
+      → translationExceeds (translationWithout x m) ≡ false → evaluate c nothingBound (without a l) ≡ value (translationWithout x m)
+  unfolding evaluate
+  value-without a l x m p q h = rw (p, q, h)
 
 module _ (c : Constants) (good : GoodConstants c) where
   -- Every value is good.
