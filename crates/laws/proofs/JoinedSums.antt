@@ -22,14 +22,14 @@ use Rattle.operators.specs.Operators.{entryWithin, lowNumber, numbersLow, joinF
 use Rattle.operators.specs.Limits.{isDeep, codeIsDeep}
 use Rattle.operators.specs.Inner.Paired.{reached, pairedItem}
 use Rattle.operators.proofs.Proper.{Sound, GoodTranslation}
-use Rattle.operators.proofs.SumSound.{Part, part-mapped, part-code, fit-translations}
+use Rattle.operators.proofs.SumSound.{Part, part-mapped, part-code}
 use Rattle.operators.proofs.ItemParts.{mapping-parts, clause-parts, mapping-clause}
 use Rattle.operators.proofs.JoinRises.{mem-join, join-cases, joined-rises}
 use Rattle.operators.proofs.JoinSound.{sound-join}
 use Rattle.signs.specs.Evaluation.{Constants, nothingBound, evaluate}
 use Rattle.evaluator.proofs.Evaluated.{GoodConstants}
-use Rattle.laws.proofs.Subsets.{Subset, Lies, InEither, lies-within, lies-sum, either-sum}
-use Rattle.laws.proofs.Signs.{Joins, sum-value, join-value, value-join, value-good, value-whole}
+use Rattle.laws.proofs.Subsets.{Subset, Lies, InEither, lies-within}
+use Rattle.laws.proofs.Signs.{Joins, join-value, value-join, value-good, sum-parts, value-whole}
 
 -- Where the join after a translation fits, so does the join after one that lies in it.
 part-fits : (f g v : Translation) → Lies g v → joinFits f v ≡ true → joinFits f g ≡ true
@@ -169,16 +169,6 @@ joined-either f x y w sx sy sw lx ly h = record {
 }
 
 module _ (c : Constants) (good : GoodConstants c) where
-  -- What a sum is made of lies in its value, and all of that is in one or the other.
-  sum-parts : (a b : Term translations) (w : Translation) → evaluate c nothingBound (sum a b) ≡ value w
-      → (x y : Translation) × (evaluate c nothingBound a ≡ value x) × (evaluate c nothingBound b ≡ value y) × Lies x w × Lies y w × InEither x y w
-  sum-parts a b w e =
-      let p = sum-value c a b w e in
-      let x = p .0 in
-      let y = p .1 in
-      let both = lies-sum x y (value-good c good a x (p .2) .sound) (value-good c good b y (p .3) .sound) (fit-translations x y (p .4)) in
-      (x, y, p .2, p .3, subst (Lies x) (p .5) (both .0), subst (Lies y) (p .5) (both .1), subst (InEither x y) (p .5) (either-sum x y))
-
   -- Where joining f after w is accepted, so is joining it after a term whose value lies in w.
   join-part : (f g : Term translations) (x y w v : Translation) → evaluate c nothingBound f ≡ value x → evaluate c nothingBound g ≡ value y
       → Sound w → Lies y w → GoodTranslation (joined x w) → Joins x w v → evaluate c nothingBound (join f g) ≡ value (joined x y)
@@ -197,7 +187,7 @@ module _ (c : Constants) (good : GoodConstants c) where
       let p = join-value c f (sum g h) v e in
       let x = p .first in
       let w = p .second in
-      let q = sum-parts g h w (p .second-value) in
+      let q = sum-parts c good g h w (p .second-value) in
       let sw = value-good c good (sum g h) w (p .second-value) .sound in
       let sy = value-good c good g (q .0) (q .2) .sound in
       let sz = value-good c good h (q .1) (q .3) .sound in

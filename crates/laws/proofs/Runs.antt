@@ -30,7 +30,7 @@ use Rattle.translation.specs.TranslationFile.{encodeTranslation, translationOf}
 use Rattle.translation.specs.Operations.{fitted, runBytes, runTree}
 use Rattle.translation.proofs.Preserved.{kept-tree, typed-run}
 use Rattle.translation.proofs.Fitting.{refuse-value, fit-carries}
-use Rattle.pack.specs.Terms.{Term, translations, join, writeTerm}
+use Rattle.pack.specs.Terms.{Term, translations, join}
 use Rattle.operators.specs.Operators.{numbersLow, joinFits, joined, translationJoin}
 use Rattle.operators.specs.Limits.{translationExceeds}
 use Rattle.signs.specs.Evaluation.{Constants, constantsOf, nothingBound, limited, evaluate}

@@ -9,9 +9,9 @@ use Rattle.operators.specs.Operators.{languagesFit, languageUnion, languageSum,
 use Rattle.operators.specs.Limits.{languageExceeds, translationExceeds}
 use Rattle.signs.specs.Evaluation.{Constants, Value, nothingBound, limited, sumOf, evaluate}
 use Rattle.operators.proofs.Proper.{GoodTranslation}
-use Rattle.operators.proofs.SumSound.{translations-fit}
+use Rattle.operators.proofs.SumSound.{fit-translations, translations-fit, sound-union}
 use Rattle.evaluator.proofs.Evaluated.{step-value, limited-value, language-sum, translation-sum, translation-join, Good, GoodConstants, nothing-good, evaluate-good}
-use Rattle.laws.proofs.Subsets.{Lies, InEither, good-within, lie-fit, sum-whole}
+use Rattle.laws.proofs.Subsets.{Lies, InEither, lies-within, lie-fit, sum-lies, lies-sum, either-sum, sum-whole}
 
 -- What was tested of a join of x after y, and what it comes to.
 pub record Joins (x y v : Translation) : Type 0 where
@@ -135,12 +135,28 @@ module _ (c : Constants) (good : GoodConstants c) where
   pub value-good : {s : Sort} (t : Term s) (x : Value s) → evaluate c nothingBound t ≡ value x → Good s x
   value-good t x e = evaluate-good c good nothingBound nothing-good t x e
 
-  -- Two terms whose values lie in a good translation, and hold all of it, have it as their sum.
-  pub value-whole : (a b : Term translations) (x y v : Translation) → evaluate c nothingBound a ≡ value x → evaluate c nothingBound b ≡ value y
-      → GoodTranslation v → Lies x v → Lies y v → InEither x y v → evaluate c nothingBound (sum a b) ≡ value v
-  value-whole a b x y v p q g lx ly w =
+  -- What a sum is made of lies in its value, and all of that is in one or the other.
+  pub sum-parts : (a b : Term translations) (w : Translation) → evaluate c nothingBound (sum a b) ≡ value w
+      → (x y : Translation) × (evaluate c nothingBound a ≡ value x) × (evaluate c nothingBound b ≡ value y) × Lies x w × Lies y w × InEither x y w
+  sum-parts a b w e =
+      let p = sum-value c a b w e in
+      let x = p .0 in
+      let y = p .1 in
+      let both = lies-sum x y (value-good a x (p .2) .sound) (value-good b y (p .3) .sound) (fit-translations x y (p .4)) in
+      (x, y, p .2, p .3, subst (Lies x) (p .5) (both .0), subst (Lies y) (p .5) (both .1), subst (InEither x y) (p .5) (either-sum x y))
+
+  -- Two terms whose values lie in a good translation have a sum, and it lies there too.
+  pub value-part : (a b : Term translations) (x y v : Translation) → evaluate c nothingBound a ≡ value x → evaluate c nothingBound b ≡ value y
+      → GoodTranslation v → Lies x v → Lies y v → (evaluate c nothingBound (sum a b) ≡ value (translationUnion x y)) × Lies (translationUnion x y) v
+  value-part a b x y v p q g lx ly =
       let s = value-good a x p .sound in
       let t = value-good b y q .sound in
       let f = lie-fit x y v s t (g .sound) lx ly in
-      let e = sum-whole x y v s t (g .sound) lx ly w in
-      value-sum c a b x y p q (translations-fit x y f) (ap translationExceeds e ∙ good-within v g) ∙ ap value e
+      let l = sum-lies x y v lx ly f s in
+      (value-sum c a b x y p q (translations-fit x y f) (lies-within (translationUnion x y) v (sound-union x y s t f) g l), l)
+
+  -- Where they hold all of it, it is their sum.
+  pub value-whole : (a b : Term translations) (x y v : Translation) → evaluate c nothingBound a ≡ value x → evaluate c nothingBound b ≡ value y
+      → GoodTranslation v → Lies x v → Lies y v → InEither x y v → evaluate c nothingBound (sum a b) ≡ value v
+  value-whole a b x y v p q g lx ly w =
+      value-part a b x y v p q g lx ly .0 ∙ ap value (sum-whole x y v (value-good a x p .sound) (value-good b y q .sound) (g .sound) lx ly w)
