@@ -4,6 +4,7 @@ pub mod Runs
 pub mod Earlier
 pub mod Comparing
 pub mod Subsets
+pub mod Alike
 pub mod Signs
 pub mod Sums
 pub mod JoinedSums

@@ -180,6 +180,10 @@ module _ (f g : Translation) (sf : Sound f) (sg : Sound g) (h : joinFits f g ≡
               written = rw (z .0, z .1) (z .3);
             }
 
+    -- It is of a production of the second.
+    pub clause-source : (r p n : ℕ) (c : List ℕ) → Mem (clause r p n c) (joined f g .body) → (ks : List ℕ) × Mem (production r p ks) (g .source)
+    clause-source r p n c m = let x = composed-clause r p n c m in (x .arguments, x .entry)
+
     clause-joined : (r p i : ℕ) (d : List ℕ) (u j t : ℕ) → Mem (clause r p i d) (g .body) → Mem (mapping r i u) (g .body) → Mem (mapping u j t) (f .body)
         → Mem (clause r p (paired i j) (write code (run (clausesOf f) j (clausesOf g r p i)))) (joined f g .body)
     clause-joined r p i d u j t m q n =
