@@ -1,11 +1,12 @@
 pub mod Levels
 pub mod Reductions
-pub mod Runs
 pub mod Earlier
 pub mod Comparing
 pub mod Subsets
 pub mod Alike
 pub mod Signs
+pub mod Joined
+pub mod Runs
 pub mod Sums
 pub mod JoinedSums
 pub mod Identities
