@@ -1,17 +1,38 @@
 -- What an accepted sum, join, identity or translation without a language was made of, and how one is made.
 use mathlib.Core.Path.{_≡_, ap, subst, _∙_}
-use mathlib.Core.Bool.{true, false}
+use mathlib.Core.Bool.{Bool, true, false}
 use Rattle.fields.specs.Outcome.{value, _>>=_}
 use Rattle.language.specs.Language.{Language}
 use Rattle.translation.specs.Translation.{Translation}
 use Rattle.pack.specs.Terms.{Sort, Term, languages, translations, sum, join, identity, without}
 use Rattle.operators.specs.Operators.{languagesFit, languageUnion, languageSum, translationsFit, translationUnion, translationSum, numbersLow, joinFits, joined, translationJoin, identityOf, translationWithout}
-use Rattle.operators.specs.Limits.{languageExceeds, translationExceeds}
-use Rattle.signs.specs.Evaluation.{Constants, Value, nothingBound, limited, sumOf, evaluate}
+use Rattle.operators.specs.Limits.{translationExceeds}
+use Rattle.signs.specs.Evaluation.{Constants, Value, nothingBound, exceeds, limited, sumOf, evaluate}
 use Rattle.operators.proofs.Proper.{GoodTranslation}
 use Rattle.operators.proofs.SumSound.{fit-translations, translations-fit, sound-union}
 use Rattle.evaluator.proofs.Evaluated.{step-value, limited-value, language-sum, translation-sum, translation-join, Good, GoodConstants, nothing-good, evaluate-good}
 use Rattle.laws.proofs.Subsets.{Lies, InEither, lies-within, lie-fit, sum-lies, lies-sum, either-sum, sum-whole}
+
+-- Whether two values of either sort fit.
+abbrev pub fit : (s : Sort) → Value s → Value s → Bool
+fit languages l m = languagesFit l m
+fit translations f g = translationsFit f g
+
+-- Their union.
+abbrev pub unionOf : (s : Sort) → Value s → Value s → Value s
+unionOf languages l m = languageUnion l m
+unionOf translations f g = translationUnion f g
+
+-- A sum that has a value is of values that fit, and is their union.
+sum-union : (s : Sort) (x y v : Value s) → sumOf s x y ≡ value v → (fit s x y ≡ true) × (unionOf s x y ≡ v)
+sum-union languages = language-sum
+sum-union translations = translation-sum
+
+-- And values that fit have that sum.
+union-sum : (s : Sort) (x y : Value s) → fit s x y ≡ true → sumOf s x y ≡ value (unionOf s x y)
+unfolding languageSum translationSum
+union-sum languages x y f = rw f
+union-sum translations x y f = rw f
 
 -- What was tested of a join of x after y, and what it comes to.
 pub record Joins (x y v : Translation) : Type 0 where
@@ -34,42 +55,21 @@ join-says x y v e =
 
 module _ (c : Constants) where
   -- The value of a sum of either sort, taken apart.
-  sum-made : {s : Sort} (a b : Term s) (v : Value s) → evaluate c nothingBound (sum a b) ≡ value v
-      → (x y : Value s) × (evaluate c nothingBound a ≡ value x) × (evaluate c nothingBound b ≡ value y) × (sumOf s x y ≡ value v)
+  pub sum-value : {s : Sort} (a b : Term s) (v : Value s) → evaluate c nothingBound (sum a b) ≡ value v
+      → (x y : Value s) × (evaluate c nothingBound a ≡ value x) × (evaluate c nothingBound b ≡ value y) × (fit s x y ≡ true) × (unionOf s x y ≡ v)
   unfolding evaluate
-  sum-made {s} a b v e =
+  sum-value {s} a b v e =
       let p = step-value (evaluate c nothingBound a) _ e in
       let q = step-value (evaluate c nothingBound b) _ (p .2) in
       let r = step-value (sumOf s (p .0) (q .0)) (limited s) (q .2) in
-      (p .0, q .0, p .1, q .1, r .1 ∙ ap value (limited-value s (r .0) v (r .2) .1))
-
-  -- The value of a sum of translations, taken apart.
-  pub sum-value : (a b : Term translations) (v : Translation) → evaluate c nothingBound (sum a b) ≡ value v
-      → (x y : Translation) × (evaluate c nothingBound a ≡ value x) × (evaluate c nothingBound b ≡ value y) × (translationsFit x y ≡ true) × (translationUnion x y ≡ v)
-  sum-value a b v e =
-      let r = sum-made a b v e in
-      let s = translation-sum (r .0) (r .1) v (r .4) in
-      (r .0, r .1, r .2, r .3, s .0, s .1)
+      let u = sum-union s (p .0) (q .0) (r .0) (r .1) in
+      (p .0, q .0, p .1, q .1, u .0, u .1 ∙ limited-value s (r .0) v (r .2) .1)
 
   -- And put together.
-  pub value-sum : (a b : Term translations) (x y : Translation) → evaluate c nothingBound a ≡ value x → evaluate c nothingBound b ≡ value y
-      → translationsFit x y ≡ true → translationExceeds (translationUnion x y) ≡ false → evaluate c nothingBound (sum a b) ≡ value (translationUnion x y)
-  unfolding evaluate translationSum
-  value-sum a b x y p q f l = rw (p, q, f, l)
-
-  -- The value of a sum of languages, taken apart.
-  pub languages-value : (a b : Term languages) (v : Language) → evaluate c nothingBound (sum a b) ≡ value v
-      → (x y : Language) × (evaluate c nothingBound a ≡ value x) × (evaluate c nothingBound b ≡ value y) × (languagesFit x y ≡ true) × (languageUnion x y ≡ v)
-  languages-value a b v e =
-      let r = sum-made a b v e in
-      let s = language-sum (r .0) (r .1) v (r .4) in
-      (r .0, r .1, r .2, r .3, s .0, s .1)
-
-  -- And put together.
-  pub value-languages : (a b : Term languages) (x y : Language) → evaluate c nothingBound a ≡ value x → evaluate c nothingBound b ≡ value y
-      → languagesFit x y ≡ true → languageExceeds (languageUnion x y) ≡ false → evaluate c nothingBound (sum a b) ≡ value (languageUnion x y)
-  unfolding evaluate languageSum
-  value-languages a b x y p q f l = rw (p, q, f, l)
+  pub value-sum : {s : Sort} (a b : Term s) (x y : Value s) → evaluate c nothingBound a ≡ value x → evaluate c nothingBound b ≡ value y
+      → fit s x y ≡ true → exceeds s (unionOf s x y) ≡ false → evaluate c nothingBound (sum a b) ≡ value (unionOf s x y)
+  unfolding evaluate
+  value-sum {s} a b x y p q f l = rw (p, q, union-sum s x y f, l)
 
   -- What the value of a join of a after b was made of.
   pub record JoinMade (a b : Term translations) (v : Translation) : Type 0 where
