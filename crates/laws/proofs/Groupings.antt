@@ -38,6 +38,7 @@ module _ {m : Language} {u : Uses} (only : (i j k : ℕ) → kindAt u i j ≡ so
     typed-zero (typed-token e h) = tt
     typed-zero (typed-argument {i = i} {j = j} {k = k} e) = only i j k e
 
+    -- The same of a list of codes.
     typed-zeroAll : {t : Codes} {ks : List ℕ} → TypedAll m u t ks → ByZeroAll t
     typed-zeroAll typed-nil = tt
     typed-zeroAll (typed-cons h hs) = (typed-zero h, typed-zeroAll hs)

@@ -116,6 +116,7 @@ reduction fields t w o bytes e =
 pub constants-good : (bytes : List ℕ) (p : Pack) → packOf bytes ≡ value p → GoodConstants (constantsOf p)
 constants-good bytes p e = let g = pack-good bytes p e in record { languages = g .0; bodies = g .1 }
 
+-- So are those of a pack whose reduction was accepted.
 pub reduction-good : {fields : List Field} {t : Term translations} {bytes : List ℕ} (r : Reduction fields t bytes) → GoodConstants (constantsOf (r .pack))
 reduction-good {fields} {t} r = constants-good (packed fields t) (r .pack) (r .opens)
 

@@ -71,6 +71,12 @@ module _ (c : Constants) where
   unfolding evaluate
   value-sum {s} a b x y p q f l = rw (p, q, union-sum s x y f, l)
 
+  -- What the value of a join says of operands that have these values.
+  pub operands-join : (a b : Term translations) (x y v : Translation) → evaluate c nothingBound a ≡ value x → evaluate c nothingBound b ≡ value y
+      → evaluate c nothingBound (join a b) ≡ value v → Joins x y v
+  unfolding evaluate
+  operands-join a b x y v p q e = join-says x y v (rw (p, q) at e)
+
   -- What the value of a join of a after b was made of.
   pub record JoinMade (a b : Term translations) (v : Translation) : Type 0 where
     pub first : Translation
@@ -86,12 +92,6 @@ module _ (c : Constants) where
       let p = step-value (evaluate c nothingBound a) _ e in
       let q = step-value (evaluate c nothingBound b) _ (p .2) in
       record { first = p .0; second = q .0; first-value = p .1; second-value = q .1; says = join-says (p .0) (q .0) v (q .2) }
-
-  -- The value of a join whose operands have these values.
-  pub operands-join : (a b : Term translations) (x y v : Translation) → evaluate c nothingBound a ≡ value x → evaluate c nothingBound b ≡ value y
-      → evaluate c nothingBound (join a b) ≡ value v → Joins x y v
-  unfolding evaluate
-  operands-join a b x y v p q e = join-says x y v (rw (p, q) at e)
 
   -- And put together.
   pub value-join : (a b : Term translations) (x y : Translation) → evaluate c nothingBound a ≡ value x → evaluate c nothingBound b ≡ value y
