@@ -13,7 +13,7 @@ use Rattle.signs.specs.Evaluation.{Constants, constantsOf, nothingBound, evalua
 use Rattle.reducer.specs.Operations.{reduceBytes, reduce}
 use Rattle.evaluator.proofs.Evaluated.{GoodConstants}
 use Rattle.laws.specs.Packed.{packed, putOut, WithinLimits, AcceptedToo, AcceptedAlike, EqualWhereAccepted, Compared}
-use Rattle.laws.proofs.Reductions.{accepted-value, value-accepted, put-out, reduction, reduction-good, reduce-other, same-constants}
+use Rattle.laws.proofs.Reductions.{accepted-value, value-accepted, put-out, reduction, reduction-good, reduce-other, value-under}
 
 -- A term that is in scope leaves another in scope.
 abbrev pub ScopedToo : Term translations → Term translations → Type 0
@@ -73,8 +73,7 @@ equal-bytes : (a b : Term translations)
 equal-bytes a b h fields w o w′ o′ x y e d =
     let r = reduction fields a w o x e .0 in
     let s = reduction fields b w′ o′ y d .0 in
-    let under = ap (λ (c : Constants). evaluate c nothingBound b) (same-constants r s) ∙ s .evaluates in
-    let same = h (constantsOf (r .pack)) (reduction-good r) (r .result) (s .result) (r .evaluates) under in
+    let same = h (constantsOf (r .pack)) (reduction-good r) (r .result) (s .result) (r .evaluates) (value-under r s) in
     sym (s .encodes) ∙ (ap encodeTranslation (sym same) ∙ r .encodes)
 
 pub equal-where-accepted : (a b : Term translations)

@@ -21,7 +21,7 @@ use Rattle.operators.proofs.IdentitySound.{sound-identity}
 use Rattle.signs.specs.Evaluation.{Constants, nothingBound, evaluate}
 use Rattle.evaluator.proofs.Evaluated.{GoodConstants}
 use Rattle.laws.proofs.Subsets.{Subset, Lies, InEither, short-language, lies-within, good-within, sum-whole}
-use Rattle.laws.proofs.Signs.{sum-value, languages-value, value-languages, identity-value, value-identity, value-good, value-whole}
+use Rattle.laws.proofs.Signs.{sum-value, value-sum, identity-value, value-identity, value-good, value-whole}
 
 -- The mapping of a kind to itself by number 0.
 abbrev itself : ℕ → Item
@@ -129,7 +129,7 @@ module _ (c : Constants) (good : GoodConstants c) where
       → evaluate c nothingBound (identity (sum l m)) ≡ value v → evaluate c nothingBound (sum (identity l) (identity m)) ≡ value v
   identity-sum l m v e =
       let p = identity-value c (sum l m) v e in
-      let q = languages-value c l m (p .0) (p .1) in
+      let q = sum-value c l m (p .0) (p .1) in
       let x = q .0 in
       let y = q .1 in
       let u = languageUnion x y in
@@ -164,5 +164,5 @@ module _ (c : Constants) (good : GoodConstants c) where
       (sound-identity x px) (sound-identity y py) (sound-identity u (proper-union x y px py fits)) (left-lies x y px fits) (right-lies x y px fits) (identity-either x y) in
       let z : identityOf u ≡ v = sym same ∙ ((λ i. translationUnion (p .2 i) (q .2 i)) ∙ r .5) in
       let g = subst GoodTranslation (sym z) (value-good c good (sum (identity l) (identity m)) v e) in
-      let s = value-languages c l m x y (p .1) (q .1) (languages-fit x y fits) (short-language u (g .source-short)) in
+      let s = value-sum c l m x y (p .1) (q .1) (languages-fit x y fits) (short-language u (g .source-short)) in
       value-identity c (sum l m) u s (good-within (identityOf u) g) ∙ ap value z

@@ -3,156 +3,82 @@ use Prim.Native.Nat.{ℕ}
 use mathlib.Core.Path.{_≡_, refl, ap, sym, subst, _∙_}
 use mathlib.Core.Logic.{inl, inr, ⊎-elim}
 use mathlib.Core.Bool.{true, false}
-use mathlib.Core.List.{List}
-use mathlib.Core.Option.{Option, Option·getD}
 use Rattle.fields.specs.Outcome.{value}
-use Rattle.fields.specs.Keyed.{holds, within}
-use Rattle.fields.proofs.Truth.{Mem, all-mem, mem-all}
-use Rattle.language.specs.Language.{production, isIn}
-use Rattle.language.proofs.Lookup.{in-larger, result-in, argument-in, mem-arguments}
-use Rattle.reader.specs.Code.{Code}
-use Rattle.reader.specs.Syntax.{write, code}
-use Rattle.reader.proofs.Larger.{larger}
-use Rattle.translation.specs.Translation.{Item, mapping, clause, Translation, mappingOf, mapped, numbersOf}
-use Rattle.translation.specs.Running.{paired, run, clausesOf}
-use Rattle.translation.proofs.Lookup.{mem-mapped}
-use Rattle.translation.proofs.Fitting.{clause-code, clause-alike}
+use Rattle.fields.proofs.Truth.{Mem}
+use Rattle.language.specs.Language.{isIn}
+use Rattle.translation.specs.Translation.{Item, mapping, clause, Translation, numbersOf}
 use Rattle.pack.specs.Terms.{Term, translations, sum, join}
-use Rattle.operators.specs.Operators.{entryWithin, lowNumber, numbersLow, joinFits, joined}
+use Rattle.operators.specs.Operators.{numbersLow, joinFits, joined}
 use Rattle.operators.specs.Limits.{isDeep, codeIsDeep}
 use Rattle.operators.specs.Inner.Paired.{reached, pairedItem}
 use Rattle.operators.proofs.Proper.{Sound, GoodTranslation}
-use Rattle.operators.proofs.SumSound.{Part, part-mapped, part-code, fit-translations}
-use Rattle.operators.proofs.ItemParts.{mapping-parts, clause-parts, mapping-clause}
+use Rattle.operators.proofs.SumSound.{Part, part-code}
+use Rattle.operators.proofs.ItemParts.{mapping-parts, mapping-clause}
 use Rattle.operators.proofs.JoinRises.{mem-join, join-cases, joined-rises}
-use Rattle.operators.proofs.JoinSound.{sound-join}
+use Rattle.operators.proofs.JoinSound.{clause-source, sound-join}
 use Rattle.signs.specs.Evaluation.{Constants, nothingBound, evaluate}
 use Rattle.evaluator.proofs.Evaluated.{GoodConstants}
-use Rattle.laws.proofs.Subsets.{Subset, Lies, InEither, lies-within, lies-sum, either-sum}
-use Rattle.laws.proofs.Signs.{sum-value, join-value, value-join, value-good, value-whole}
+use Rattle.laws.proofs.Subsets.{Subset, Lies, InEither, lies-within}
+use Rattle.laws.proofs.Alike.{part-fits, part-low, reached-alike, paired-alike}
+use Rattle.laws.proofs.Signs.{Joins, join-value, value-join, value-good, sum-parts, value-whole}
 
--- Where the join after a translation fits, so does the join after one that lies in it.
-part-fits : (f g v : Translation) → Lies g v → joinFits f v ≡ true → joinFits f g ≡ true
-unfolding joinFits within
-part-fits f g v l h = mem-all (holds entryWithin (f .source)) (g .target) (λ a m. all-mem (holds entryWithin (f .source)) (v .target) h a (l .target a m))
+-- A translation g lies in another, v, both sound: the join of f after g lies in the join of f after v.
+module _ (g v : Translation) (sg : Sound g) (sv : Sound v) (l : Lies g v) (f : Translation) where
+  -- Each item of the join after g is one of the join after v.
+  joined-onward : Subset (joined f g .body) (joined f v .body)
+  joined-onward x m =
+      let q = join-cases f g x m in
+      let n = subst (λ (k : ℕ). Mem (q .1) (numbersOf (f .body) k)) (reached-alike g v sg sv l (q .0) (q .2)) (q .3) in
+      subst (λ (z : Item). Mem z (joined f v .body)) (sym (q .4 ∙ paired-alike g v sg sv l f (q .0) (q .2) (q .1))) (mem-join f v (q .0) (q .1) (l .body _ (q .2)) n)
 
--- Where no number of a translation is above 15, none is in one that lies in it.
-part-low : (g v : Translation) → Lies g v → numbersLow v ≡ true → numbersLow g ≡ true
-unfolding numbersLow
-part-low g v l h = mem-all lowNumber (g .body) (λ a m. all-mem lowNumber (v .body) h a (l .body a m))
+  -- What comes of an item of g in the join after v is in the join after g.
+  joined-back : (a : Item) (j : ℕ) → Mem a (g .body) → Mem j (numbersOf (f .body) (reached v a)) → Mem (pairedItem f v a j) (joined f g .body)
+  joined-back a j m n =
+      subst (λ (z : Item). Mem z (joined f g .body)) (paired-alike g v sg sv l f a m j)
+      (mem-join f g a j m (subst (λ (k : ℕ). Mem j (numbersOf (f .body) k)) (sym (reached-alike g v sg sv l a m)) n))
 
--- A translation g lies in another, v, both sound.
-module _ (g v : Translation) (sg : Sound g) (sv : Sound v) (l : Lies g v) where
-  -- What is known of one that lies in another.
-  lies-part : Part g v
-  lies-part = record {
-    source-rises = sg .source .rises;
-    whole-rises = sv .source .rises;
-    body-rises = sg .rises;
-    whole-body-rises = sv .rises;
-    target = l .target;
-    target-rises = sv .target .rises;
-    mappings = λ k j t i m. l .body _ m;
-    numbers = l .numbers;
-  }
+  -- A kind of g has in the join after g all numbers that it has in the join after v.
+  joined-numbers : (k n t : ℕ) → isIn (g .source) k ≡ true → Mem (mapping k n t) (joined f v .body) → Mem (mapping k n t) (joined f g .body)
+  joined-numbers k n t i m = let q = join-cases f v (mapping k n t) m in go (q .0) (q .1) (q .2) (q .3) (q .4)
+    where
+      go : (a : Item) (j : ℕ) → Mem a (v .body) → Mem j (numbersOf (f .body) (reached v a)) → mapping k n t ≡ pairedItem f v a j → Mem (mapping k n t) (joined f g .body)
+      go (mapping s y u) j a b e =
+          let here = subst (λ (z : ℕ). isIn (g .source) z ≡ true) (mapping-parts e .0) i in
+          subst (λ (z : Item). Mem z (joined f g .body)) (sym e) (joined-back (mapping s y u) j (l .numbers s y u here a) b)
+      go (clause r p y d) j a b e = mapping-clause e
 
-  -- The kinds of g are mapped alike in v.
-  kind-alike : (k : ℕ) → isIn (g .source) k ≡ true → (j : ℕ) → mappingOf (g .body) k j ≡ mappingOf (v .body) k j
-  kind-alike k i j = part-mapped g v (sg .fits) lies-part k i (in-larger (g .source) (v .source) (l .source) k i) j
+  -- So the one join lies in the other.
+  joined-lies : Lies (joined f g) (joined f v)
+  unfolding joined
+  joined-lies = record { source = l .source; target = λ a m. m; body = joined-onward; numbers = joined-numbers }
 
-  -- The clauses of g have the same codes in v.
-  code-alike : (r p i : ℕ) (d : List ℕ) → Mem (clause r p i d) (g .body) → clausesOf g r p i ≡ clausesOf v r p i
-  unfolding mapped
-  code-alike r p i d m =
-      let x = sg .fits .clausesOnly r p i d m .0 in
-      let ks = x .0 in
-      let a = sg .fits .codes r p i d m in
-      let there = clause-alike g v (larger (g .target) (v .target) (sv .target .rises) (l .target)) r p i ks
-      (mem-arguments (g .source) (sg .source .rises) r p ks (x .1)) (mem-arguments (v .source) (sv .source .rises) r p ks (l .source _ (x .1)))
-      (ap (λ (o : Option ℕ). Option·getD o 0) (kind-alike r (result-in (g .source) r p ks (x .1)) i))
-      (λ k n. kind-alike k (argument-in (g .source) r p ks (x .1) k n)) d (a .0) (a .1) in
-      clause-code g (sg .rises) r p i d (a .0) m (a .1) ∙ sym (clause-code v (sv .rises) r p i d (a .0) (l .body _ m) there)
-
-  -- The items of g reach the same kinds in v.
-  reached-alike : (a : Item) → Mem a (g .body) → reached g a ≡ reached v a
-  reached-alike (mapping s i t) m = refl
-  reached-alike (clause r p i d) m =
-      let t = sg .fits .clausesOnly r p i d m .1 in
-      mem-mapped (g .body) (sg .rises) r i (t .0) (t .1) ∙ sym (mem-mapped (v .body) (sv .rises) r i (t .0) (l .body _ (t .1)))
-
-  -- The join of f after g lies in the join of f after v.
-  module _ (f : Translation) where
-    -- What comes of an item of g is the same in both.
-    paired-alike : (a : Item) → Mem a (g .body) → (j : ℕ) → pairedItem f g a j ≡ pairedItem f v a j
-    paired-alike (mapping s i t) m j = refl
-    paired-alike (clause r p i d) m j = ap (λ (x : Code). clause r p (paired i j) (write code (run (clausesOf f) j x))) (code-alike r p i d m)
-
-    -- Each item of the join after g is one of the join after v.
-    joined-onward : Subset (joined f g .body) (joined f v .body)
-    joined-onward x m =
-        let q = join-cases f g x m in
-        let n = subst (λ (k : ℕ). Mem (q .1) (numbersOf (f .body) k)) (reached-alike (q .0) (q .2)) (q .3) in
-        subst (λ (z : Item). Mem z (joined f v .body)) (sym (q .4 ∙ paired-alike (q .0) (q .2) (q .1))) (mem-join f v (q .0) (q .1) (l .body _ (q .2)) n)
-
-    -- What comes of an item of g in the join after v is in the join after g.
-    joined-back : (a : Item) (j : ℕ) → Mem a (g .body) → Mem j (numbersOf (f .body) (reached v a)) → Mem (pairedItem f v a j) (joined f g .body)
-    joined-back a j m n =
-        subst (λ (z : Item). Mem z (joined f g .body)) (paired-alike a m j)
-        (mem-join f g a j m (subst (λ (k : ℕ). Mem j (numbersOf (f .body) k)) (sym (reached-alike a m)) n))
-
-    -- A kind of g has in the join after g all numbers that it has in the join after v.
-    joined-numbers : (k n t : ℕ) → isIn (g .source) k ≡ true → Mem (mapping k n t) (joined f v .body) → Mem (mapping k n t) (joined f g .body)
-    joined-numbers k n t i m = let q = join-cases f v (mapping k n t) m in go (q .0) (q .1) (q .2) (q .3) (q .4)
-      where
-        go : (a : Item) (j : ℕ) → Mem a (v .body) → Mem j (numbersOf (f .body) (reached v a)) → mapping k n t ≡ pairedItem f v a j → Mem (mapping k n t) (joined f g .body)
-        go (mapping s y u) j a b e =
-            let here = subst (λ (z : ℕ). isIn (g .source) z ≡ true) (mapping-parts e .0) i in
-            subst (λ (z : Item). Mem z (joined f g .body)) (sym e) (joined-back (mapping s y u) j (l .numbers s y u here a) b)
-        go (clause r p y d) j a b e = mapping-clause e
-
-    -- So the one join lies in the other.
-    joined-lies : Lies (joined f g) (joined f v)
+  -- The join after g is sound where the join after v is.
+  module _ (sf : Sound f) (sj : Sound (joined f v)) (fits : joinFits f g ≡ true) (first : numbersLow f ≡ true) (second : numbersLow g ≡ true) where
+    -- The join after g has the target of the join after v, and maps the kinds of g as that does.
+    back-part : Part (joined f v) (joined f g)
     unfolding joined
-    joined-lies = record { source = l .source; target = λ a m. m; body = joined-onward; numbers = joined-numbers }
+    back-part = record {
+      source-rises = sv .source .rises;
+      whole-rises = sg .source .rises;
+      body-rises = sj .rises;
+      whole-body-rises = joined-rises f g (sf .rises) first (sg .rises) second;
+      target = λ a m. m;
+      target-rises = sf .target .rises;
+      mappings = λ k j t i m. joined-numbers k j t i m;
+      numbers = λ k j t i m. joined-onward _ m;
+    }
 
-    -- The join after g is sound where the join after v is.
-    module _ (sf : Sound f) (sj : Sound (joined f v)) (fits : joinFits f g ≡ true) (first : numbersLow f ≡ true) (second : numbersLow g ≡ true) where
-      -- The join after g has the target of the join after v, and maps the kinds of g as that does.
-      back-part : Part (joined f v) (joined f g)
-      unfolding joined
-      back-part = record {
-        source-rises = sv .source .rises;
-        whole-rises = sg .source .rises;
-        body-rises = sj .rises;
-        whole-body-rises = joined-rises f g (sf .rises) first (sg .rises) second;
-        target = λ a m. m;
-        target-rises = sf .target .rises;
-        mappings = λ k j t i m. joined-numbers k j t i m;
-        numbers = λ k j t i m. joined-onward _ m;
-      }
+    -- No code of the join after g is too deep: it is read as in the join after v.
+    joined-shallow : (a : Item) → Mem a (joined f g .body) → codeIsDeep (joined f g) a ≡ false
+    unfolding codeIsDeep joined
+    joined-shallow (mapping s j t) m = refl
+    joined-shallow (clause r p n d) m =
+        let x = clause-source f g sf sg fits first second r p n d m in
+        ap isDeep (part-code (joined f v) (joined f g) (sj .fits) back-part r p n (x .0) d (l .source _ (x .1)) (x .1) (joined-onward _ m))
 
-      -- A clause of the join after g is that of a production of g.
-      clause-source : (r p n : ℕ) (d : List ℕ) → Mem (clause r p n d) (joined f g .body) → (ks : List ℕ) × Mem (production r p ks) (g .source)
-      clause-source r p n d m = let q = join-cases f g (clause r p n d) m in go (q .0) (q .1) (q .2) (q .4)
-        where
-          go : (a : Item) (j : ℕ) → Mem a (g .body) → clause r p n d ≡ pairedItem f g a j → (ks : List ℕ) × Mem (production r p ks) (g .source)
-          go (mapping s i u) j a e = mapping-clause (sym e)
-          go (clause s q i b) j a e =
-              let z = clause-parts e in
-              let x = sg .fits .clausesOnly s q i b a .0 in
-              (x .0, rw (z .0, z .1) (x .1))
-
-      -- No code of the join after g is too deep: it is read as in the join after v.
-      joined-shallow : (a : Item) → Mem a (joined f g .body) → codeIsDeep (joined f g) a ≡ false
-      unfolding codeIsDeep joined
-      joined-shallow (mapping s j t) m = refl
-      joined-shallow (clause r p n d) m =
-          let x = clause-source r p n d m in
-          ap isDeep (part-code (joined f v) (joined f g) (sj .fits) back-part r p n (x .0) d (l .source _ (x .1)) (x .1) (joined-onward _ m) .1)
-
-      -- So it is sound.
-      part-sound : Sound (joined f g)
-      part-sound = sound-join f g sf sg fits first second joined-shallow
+    -- So it is sound.
+    part-sound : Sound (joined f g)
+    part-sound = sound-join f g sf sg fits first second joined-shallow
 
 -- Where all of w is in x or y, all of the join after w is in the join after x or the one after y.
 joined-either : (f x y w : Translation) → Sound x → Sound y → Sound w → Lies x w → Lies y w → InEither x y w → InEither (joined f x) (joined f y) (joined f w)
@@ -169,27 +95,16 @@ joined-either f x y w sx sy sw lx ly h = record {
 }
 
 module _ (c : Constants) (good : GoodConstants c) where
-  -- What a sum is made of lies in its value, and all of that is in one or the other.
-  sum-parts : (a b : Term translations) (w : Translation) → evaluate c nothingBound (sum a b) ≡ value w
-      → (x y : Translation) × (evaluate c nothingBound a ≡ value x) × (evaluate c nothingBound b ≡ value y) × Lies x w × Lies y w × InEither x y w
-  sum-parts a b w e =
-      let p = sum-value c a b w e in
-      let x = p .0 in
-      let y = p .1 in
-      let both = lies-sum x y (value-good c good a x (p .2) .sound) (value-good c good b y (p .3) .sound) (fit-translations x y (p .4)) in
-      (x, y, p .2, p .3, subst (Lies x) (p .5) (both .0), subst (Lies y) (p .5) (both .1), subst (InEither x y) (p .5) (either-sum x y))
-
   -- Where joining f after w is accepted, so is joining it after a term whose value lies in w.
-  join-part : (f g : Term translations) (x y w : Translation) → evaluate c nothingBound f ≡ value x → evaluate c nothingBound g ≡ value y
-      → Sound w → Lies y w → GoodTranslation (joined x w) → joinFits x w ≡ true → numbersLow x ≡ true → numbersLow w ≡ true
-      → evaluate c nothingBound (join f g) ≡ value (joined x y)
-  join-part f g x y w p q sw l j fits first second =
+  join-part : (f g : Term translations) (x y w v : Translation) → evaluate c nothingBound f ≡ value x → evaluate c nothingBound g ≡ value y
+      → Sound w → Lies y w → GoodTranslation (joined x w) → Joins x w v → evaluate c nothingBound (join f g) ≡ value (joined x y)
+  join-part f g x y w v p q sw l j says =
       let sx = value-good c good f x p .sound in
       let sy = value-good c good g y q .sound in
-      let h = part-fits x y w l fits in
-      let low = part-low y w l second in
-      let s = part-sound y w sy sw l x sx (j .sound) h first low in
-      value-join c f g x y p q h first low (lies-within (joined x y) (joined x w) s j (joined-lies y w sy sw l x))
+      let h = part-fits x y w l (says .fits) in
+      let low = part-low y w l (says .low-second) in
+      let s = part-sound y w sy sw l x sx (j .sound) h (says .low-first) low in
+      value-join c f g x y p q h (says .low-first) low (lies-within (joined x y) (joined x w) s j (joined-lies y w sy sw l x))
 
   -- If joining f after the sum of g and h is accepted, so is the sum of the two joins, with the same value.
   pub joined-sum : (f g h : Term translations) (v : Translation)
@@ -198,13 +113,13 @@ module _ (c : Constants) (good : GoodConstants c) where
       let p = join-value c f (sum g h) v e in
       let x = p .first in
       let w = p .second in
-      let q = sum-parts g h w (p .second-value) in
+      let q = sum-parts c good g h w (p .second-value) in
       let sw = value-good c good (sum g h) w (p .second-value) .sound in
       let sy = value-good c good g (q .0) (q .2) .sound in
       let sz = value-good c good h (q .1) (q .3) .sound in
-      let j = subst GoodTranslation (sym (p .is)) (value-good c good (join f (sum g h)) v e) in
-      let a = join-part f g x (q .0) w (p .first-value) (q .2) sw (q .4) j (p .fits) (p .first-low) (p .second-low) in
-      let b = join-part f h x (q .1) w (p .first-value) (q .3) sw (q .5) j (p .fits) (p .first-low) (p .second-low) in
+      let j = subst GoodTranslation (sym (p .says .is)) (value-good c good (join f (sum g h)) v e) in
+      let a = join-part f g x (q .0) w v (p .first-value) (q .2) sw (q .4) j (p .says) in
+      let b = join-part f h x (q .1) w v (p .first-value) (q .3) sw (q .5) j (p .says) in
       value-whole c good (join f g) (join f h) (joined x (q .0)) (joined x (q .1)) (joined x w) a b j
       (joined-lies (q .0) w sy sw (q .4) x) (joined-lies (q .1) w sz sw (q .5) x)
-      (joined-either x (q .0) (q .1) w sy sz sw (q .4) (q .5) (q .6)) ∙ ap value (p .is)
+      (joined-either x (q .0) (q .1) w sy sz sw (q .4) (q .5) (q .6)) ∙ ap value (p .says .is)

@@ -6,77 +6,21 @@ use mathlib.Core.Bool.{Bool, true, false, cond}
 use mathlib.Core.List.{List, [], _∷_, _++_, map}
 use Rattle.fields.specs.Outcome.{value}
 use Rattle.fields.specs.Lists.{keep, concatMap}
-use Rattle.fields.proofs.Truth.{Mem, by-test, all-mem, mem-all, keep-cases, mem-keep}
-use Rattle.language.specs.Language.{Language, isIn}
-use Rattle.language.proofs.Lookup.{in-larger, argument-in, mem-arguments}
-use Rattle.reader.specs.Code.{Code}
-use Rattle.reader.specs.Syntax.{done, write, code}
-use Rattle.reader.proofs.Larger.{larger}
-use Rattle.translation.specs.Translation.{Item, mapping, clause, Translation, mappingOf, mapped, numbersOf}
-use Rattle.translation.specs.Running.{paired, run, readClause, clausesOf}
-use Rattle.translation.proofs.Lookup.{mem-mapped}
-use Rattle.translation.proofs.Fitting.{clause-code, clause-alike}
+use Rattle.fields.proofs.Truth.{Mem, by-test, keep-cases, mem-keep}
+use Rattle.language.specs.Language.{Language}
+use Rattle.translation.specs.Translation.{Item, mapping, clause, Translation, numbersOf}
 use Rattle.pack.specs.Terms.{Term, languages, translations, join, without}
-use Rattle.operators.specs.Operators.{languageWithout, isOf, translationWithout, joinFits, lowNumber, numbersLow, joinItem, joined}
+use Rattle.operators.specs.Operators.{languageWithout, isOf, translationWithout, joinItem, joined}
 use Rattle.operators.specs.Limits.{translationExceeds}
 use Rattle.operators.specs.Inner.Paired.{reached, pairedItem}
 use Rattle.signs.specs.Evaluation.{Constants, nothingBound, evaluate}
 use Rattle.operators.proofs.Proper.{Sound}
-use Rattle.operators.proofs.SumSound.{Part, part-mapped, sound-without}
+use Rattle.operators.proofs.SumSound.{sound-without}
 use Rattle.operators.proofs.JoinRises.{join-item}
 use Rattle.evaluator.proofs.Evaluated.{GoodConstants}
 use Rattle.laws.proofs.Subsets.{Lies, lies-within}
-use Rattle.laws.proofs.Joins.{term-good, join-value, value-join, without-value, value-without}
-
--- A translation that lies in another joins its items as the other does.
-module _ (x y : Translation) (sx : Sound x) (sy : Sound y) (h : Lies x y) where
-  -- It is a part of the other.
-  lies-part : Part x y
-  lies-part = record {
-    source-rises = sx .source .rises;
-    whole-rises = sy .source .rises;
-    body-rises = sx .rises;
-    whole-body-rises = sy .rises;
-    target = h .target;
-    target-rises = sy .target .rises;
-    mappings = λ k j t e m. h .body _ m;
-    numbers = λ k j t e m. h .numbers k j t e m;
-  }
-
-  -- The result of a clause is mapped alike.
-  pub result-alike : (r p i : ℕ) (c : List ℕ) → Mem (clause r p i c) (x .body) → mapped (x .body) r i ≡ mapped (y .body) r i
-  result-alike r p i c m =
-      let t = sx .fits .clausesOnly r p i c m .1 in
-      mem-mapped (x .body) (sx .rises) r i (t .0) (t .1) ∙ sym (mem-mapped (y .body) (sy .rises) r i (t .0) (h .body _ (t .1)))
-
-  -- A kind of it is mapped alike by every number.
-  kind-alike : (k : ℕ) → isIn (x .source) k ≡ true → (j : ℕ) → mappingOf (x .body) k j ≡ mappingOf (y .body) k j
-  kind-alike k e j = part-mapped x y (sx .fits) lies-part k e (in-larger (x .source) (y .source) (h .source) k e) j
-
-  -- The bytes of a clause are read alike.
-  read-alike : (r p i : ℕ) (c : List ℕ) → Mem (clause r p i c) (x .body) → (a : Code) → readClause x r p i c ≡ done a [] → readClause y r p i c ≡ done a []
-  read-alike r p i c m a e =
-      let ks = sx .fits .clausesOnly r p i c m .0 in
-      clause-alike x y (larger (x .target) (y .target) (sy .target .rises) (h .target)) r p i (ks .0)
-      (mem-arguments (x .source) (sx .source .rises) r p (ks .0) (ks .1))
-      (mem-arguments (y .source) (sy .source .rises) r p (ks .0) (h .source _ (ks .1)))
-      (result-alike r p i c m)
-      (λ k n. kind-alike k (argument-in (x .source) r p (ks .0) (ks .1) k n))
-      c a e
-
-  -- So its code is the same.
-  pub code-alike : (r p i : ℕ) (c : List ℕ) → Mem (clause r p i c) (x .body) → clausesOf x r p i ≡ clausesOf y r p i
-  code-alike r p i c m =
-      let a = sx .fits .codes r p i c m in
-      clause-code x (sx .rises) r p i c (a .0) m (a .1)
-      ∙ sym (clause-code y (sy .rises) r p i c (a .0) (h .body _ m) (read-alike r p i c m (a .0) (a .1)))
-
-  -- An item of it is joined alike.
-  pub item-alike : (f : Translation) (a : Item) → Mem a (x .body) → joinItem f x a ≡ joinItem f y a
-  unfolding joinItem
-  item-alike f (mapping s i t) m = refl
-  item-alike f (clause r p i c) m = λ z.
-      map (λ j. clause r p (paired i j) (write code (run (clausesOf f) j (code-alike r p i c m z)))) (numbersOf (f .body) (result-alike r p i c m z))
+use Rattle.laws.proofs.Alike.{part-fits, part-low, item-alike}
+use Rattle.laws.proofs.Signs.{join-value, value-join, without-value, value-without, value-good}
 
 -- All of a mapped list is kept, or nothing of it.
 keep-map : {A B : Type 0} (test : B → Bool) (to : A → B) (t : Bool) → ((a : A) → test (to a) ≡ t) → (l : List A) → keep test (map to l) ≡ cond t (map to l) []
@@ -126,43 +70,32 @@ module _ (g : Translation) (l : Language) where
     numbers = λ k j t i m. mem-keep (isOf (languageWithout (g .source) l)) (mapping k j t) (g .body) m i;
   }
 
-  -- It has no other numbers.
-  low-without : numbersLow g ≡ true → numbersLow (translationWithout g l) ≡ true
-  unfolding numbersLow
-  low-without e = mem-all lowNumber (translationWithout g l .body) (λ a m. all-mem lowNumber (g .body) e a (lies-without .body a m))
+  module _ (f : Translation) (s : Sound g) where
+    -- The source that is left.
+    left : Language
+    left = languageWithout (g .source) l
 
-  module _ (f : Translation) where
-    -- Its target stays, so it fits as before.
-    fits-without : joinFits f g ≡ true → joinFits f (translationWithout g l) ≡ true
-    unfolding joinFits translationWithout
-    fits-without e = e
+    -- What is joined of an item goes with the item, and is the same where the item stays.
+    item-kept : (a : Item) → Mem a (g .body) → keep (isOf left) (joinItem f g a) ≡ cond (isOf left a) (joinItem f (translationWithout g l) a) []
+    unfolding translationWithout left
+    item-kept a m =
+        ap (keep (isOf left)) (join-item f g a)
+        ∙ (keep-map (isOf left) (pairedItem f g a) (isOf left a) (paired-of left f g a) (numbersOf (f .body) (reached g a))
+        ∙ by-test (isOf left a)
+        (λ e.
+        rw e
+        (sym (join-item f g a)
+        ∙ sym (item-alike (translationWithout g l) g (sound-without g l s) s lies-without f a (mem-keep (isOf left) a (g .body) m e))))
+        (λ e. rw e))
 
-    module _ (s : Sound g) where
-      -- The source that is left.
-      left : Language
-      left = languageWithout (g .source) l
-
-      -- What is joined of an item goes with the item, and is the same where the item stays.
-      item-kept : (a : Item) → Mem a (g .body) → keep (isOf left) (joinItem f g a) ≡ cond (isOf left a) (joinItem f (translationWithout g l) a) []
-      unfolding translationWithout left
-      item-kept a m =
-          ap (keep (isOf left)) (join-item f g a)
-          ∙ (keep-map (isOf left) (pairedItem f g a) (isOf left a) (paired-of left f g a) (numbersOf (f .body) (reached g a))
-          ∙ by-test (isOf left a)
-          (λ e.
-          rw e
-          (sym (join-item f g a)
-          ∙ sym (item-alike (translationWithout g l) g (sound-without g l s) s lies-without f a (mem-keep (isOf left) a (g .body) m e))))
-          (λ e. rw e))
-
-      -- A join after what is left is what is left of the join.
-      pub joined-left : joined f (translationWithout g l) ≡ translationWithout (joined f g) l
-      unfolding joined translationWithout left
-      joined-left = λ i. record {
-        source = left;
-        target = f .target;
-        body = sym (keep-concat (isOf left) (isOf left) (joinItem f g) (joinItem f (translationWithout g l)) (g .body) item-kept) i;
-      }
+    -- A join after what is left is what is left of the join.
+    pub joined-left : joined f (translationWithout g l) ≡ translationWithout (joined f g) l
+    unfolding joined translationWithout left
+    joined-left = λ i. record {
+      source = left;
+      target = f .target;
+      body = sym (keep-concat (isOf left) (isOf left) (joinItem f g) (joinItem f (translationWithout g l)) (g .body) item-kept) i;
+    }
 
 -- If a join without a language has a value, so has the join whose second operand had it removed, and it is the same.
 pub joined-without : (c : Constants) → GoodConstants c → (f g : Term translations) (l : Term languages) (v : Translation)
@@ -172,12 +105,13 @@ joined-without c good f g l v e =
     let w = without-value c (join f g) l v e in
     let m = w .1 in
     let j = join-value c f g (w .0) (w .2) in
-    let x = j .0 in
-    let y = j .1 in
+    let x = j .first in
+    let y = j .second in
     let z = translationWithout y m in
-    let gy = term-good c good g y (j .3) in
-    let p = value-without c g l y m (j .3) (w .3) (lies-within z y (sound-without y m (gy .sound)) gy (lies-without y m)) in
-    let same : joined x z ≡ v = joined-left y m x (gy .sound) ∙ (ap (λ (t : Translation). translationWithout t m) (j .4 .is) ∙ w .4 .is) in
-    value-join c f (without g l) x z (j .2) p (fits-without y m x (j .4 .fits)) (j .4 .low-first) (low-without y m (j .4 .low-second))
+    let lies = lies-without y m in
+    let gy = value-good c good g y (j .second-value) in
+    let p = value-without c g l y m (j .second-value) (w .3) (lies-within z y (sound-without y m (gy .sound)) gy lies) in
+    let same : joined x z ≡ v = joined-left y m x (gy .sound) ∙ (ap (λ (t : Translation). translationWithout t m) (j .says .is) ∙ w .4 .is) in
+    value-join c f (without g l) x z (j .first-value) p (part-fits x z y lies (j .says .fits)) (j .says .low-first) (part-low z y lies (j .says .low-second))
     (subst (λ (t : Translation). translationExceeds t ≡ false) (sym same) (w .4 .within))
     ∙ ap value same

@@ -1,7 +1,5 @@
 -- The four laws of paper 02, 2026-11, hold.
-use mathlib.Core.Path.{_≡_}
-use mathlib.Core.Bool.{true, _&&_}
-use Prim.Native.Nat.{ℕ}
+use mathlib.Core.Bool.{_&&_}
 use Rattle.fields.proofs.Truth.{and-both, both-and}
 use Rattle.pack.specs.Terms.{Term, languages, translations, join, identity, without, sum, scoped}
 use Rattle.laws.specs.Laws.{LawOfJoinedSums, LawOfJoinsWithout, LawOfIdentities, LawOfGroupings}

@@ -1,14 +1,15 @@
 pub mod Levels
 pub mod Reductions
-pub mod Runs
 pub mod Earlier
 pub mod Comparing
 pub mod Subsets
+pub mod Alike
 pub mod Signs
+pub mod Joined
+pub mod Runs
 pub mod Sums
 pub mod JoinedSums
 pub mod Identities
-pub mod Joins
 pub mod JoinsWithout
 pub mod Groupings
 pub mod Laws
