@@ -1,11 +1,12 @@
-//! The law of runs and the law of sums, for the operations of any implementation.
+//! The law of runs, the law of sums and four laws of joins and identities, for the operations of any
+//! implementation.
 
 pub mod edits;
 pub mod loose;
 pub mod masks;
 pub mod search;
 
-use crate::generate::{legal_tree, pack_with_term, LawPack, Random};
+use crate::generate::{law_body, law_language, legal_tree, pack_with_term, LawPack, Random};
 use crate::translation::{read_translation, Translation};
 use crate::tree::is_legal_tree;
 
@@ -46,10 +47,24 @@ pub enum Said {
     NumberedRuns,
     /// Two sums with other numbers than 0 were accepted and equal.
     NumberedSums,
+    /// A join after a sum was accepted, and so was the sum of the joins.
+    JoinedSums,
+    /// The same with other numbers than 0.
+    NumberedJoinedSums,
+    /// A join without a language was accepted, and so was the join whose second operand was without it.
+    JoinsWithout,
+    /// The same with other numbers than 0.
+    NumberedJoinsWithout,
+    /// The identity of a sum and the sum of the identities were accepted and equal.
+    IdentitiesAccepted,
+    /// The identity of a sum and the sum of the identities were refused.
+    IdentitiesRefused,
+    /// Two groupings of three joins were accepted and equal.
+    RegroupedJoins,
 }
 
 /// What stands for each thing said, in the order of `Said`.
-pub const SAID: [&str; 7] = [
+pub const SAID: [&str; 14] = [
     "sums accepted",
     "sums refused",
     "joins accepted",
@@ -57,6 +72,13 @@ pub const SAID: [&str; 7] = [
     "runs too long",
     "runs by other numbers than 0 accepted",
     "sums with other numbers than 0 accepted",
+    "joins after a sum accepted",
+    "joins after a sum with other numbers than 0 accepted",
+    "joins without a language accepted",
+    "joins without a language with other numbers than 0 accepted",
+    "identities of sums accepted",
+    "identities of sums refused",
+    "regrouped joins accepted",
 ];
 
 /// How a law was broken, and the inputs with which it was.
@@ -69,6 +91,13 @@ pub struct Broken {
 /// The output of a run that is to hold every result but a very long one.
 const ROOM: usize = 20_000;
 
+/// The signs of which the laws speak.
+const LANGUAGE_SUM: u8 = 0x43;
+const WITHOUT: u8 = 0x52;
+const SUM: u8 = 0x53;
+const JOIN: u8 = 0x54;
+const IDENTITY: u8 = 0x55;
+
 /// So many trees are run through each join.
 const TREES: usize = 3;
 
@@ -77,6 +106,11 @@ impl Answer {
     pub fn new(number: u32, length: u64, mut output: Vec<u8>) -> Answer {
         output.truncate(usize::try_from(length).unwrap_or(usize::MAX));
         Answer { number, length, bytes: output }
+    }
+
+    /// Whether the result is a translation with other numbers than 0.
+    fn is_numbered(&self) -> bool {
+        read_translation(&self.bytes).is_ok_and(|value| !value.body.is_plain())
     }
 
     /// Number and length as text.
@@ -94,7 +128,7 @@ fn sum_over(random: &mut Random, terms: &[Vec<u8>]) -> Vec<u8> {
     while parts.len() > 1 {
         let left = parts.swap_remove(random.below(parts.len()));
         let right = parts.swap_remove(random.below(parts.len()));
-        parts.push([vec![0x53], left, right].concat());
+        parts.push(sign(SUM, &[&left, &right]));
     }
     parts.remove(0)
 }
@@ -105,22 +139,154 @@ pub fn law_of_sums(
     random: &mut Random,
     pack: &LawPack,
 ) -> Result<Said, Broken> {
-    let mut sum = || pack_with_term(pack, &sum_over(random, &pack.terms));
-    let (left, right) = (sum(), sum());
-    let (one, other) = ((operations.reduce)(&left), (operations.reduce)(&right));
-    let alike = (one.number == 0) == (other.number == 0);
-    if alike && (one.length, &one.bytes) == (other.length, &other.bytes) {
-        let numbered = read_translation(&one.bytes).is_ok_and(|value| !value.body.is_plain());
-        return Ok(match one.number {
-            0 if numbered => Said::NumberedSums,
-            0 => Said::SumsAccepted,
-            _ => Said::SumsRefused,
-        });
+    let (left, right) = (sum_over(random, &pack.terms), sum_over(random, &pack.terms));
+    let both = Both::new(operations, pack, [&left, &right]);
+    both.expect("law of sums", both.accepted_together() && both.equal())?;
+    Ok(match both.one.number {
+        0 if both.one.is_numbered() => Said::NumberedSums,
+        0 => Said::SumsAccepted,
+        _ => Said::SumsRefused,
+    })
+}
+
+/// Two terms as field 32 of one pack, and what the packs reduce to.
+struct Both {
+    packs: [Vec<u8>; 2],
+    one: Answer,
+    other: Answer,
+}
+
+impl Both {
+    /// Reduces the pack with each of the terms.
+    fn new(operations: &Operations, pack: &LawPack, terms: [&[u8]; 2]) -> Both {
+        let packs = terms.map(|term| pack_with_term(pack, term));
+        let [one, other] = packs.each_ref().map(|pack| (operations.reduce)(pack));
+        Both { packs, one, other }
     }
-    let what = format!("law of sums: one sum {}, other sum {}", one.text(), other.text());
-    let inputs =
-        vec![("one pack", left), ("other pack", right), ("one", one.bytes), ("other", other.bytes)];
-    Err(Broken { what, inputs })
+
+    /// Whether both are accepted or both refused.
+    fn accepted_together(&self) -> bool {
+        (self.one.number == 0) == (self.other.number == 0)
+    }
+
+    /// Whether lengths and bytes are equal.
+    fn equal(&self) -> bool {
+        (self.one.length, &self.one.bytes) == (self.other.length, &self.other.bytes)
+    }
+
+    /// The law as it was broken, unless it holds.
+    fn expect(&self, law: &str, holds: bool) -> Result<(), Broken> {
+        if holds {
+            return Ok(());
+        }
+        let what = format!("{law}: one {}, other {}", self.one.text(), self.other.text());
+        let [one, other] = self.packs.clone();
+        let inputs = vec![
+            ("one pack", one),
+            ("other pack", other),
+            ("one", self.one.bytes.clone()),
+            ("other", self.other.bytes.clone()),
+        ];
+        Err(Broken { what, inputs })
+    }
+}
+
+/// A sign before terms.
+fn sign(sign: u8, operands: &[&[u8]]) -> Vec<u8> {
+    [&[sign], operands.concat().as_slice()].concat()
+}
+
+/// A term of the pack, or the term of one of its bodies.
+fn operand(random: &mut Random, pack: &LawPack) -> Vec<u8> {
+    if random.percent(50) {
+        return law_body(random, pack);
+    }
+    pack.terms[random.below(pack.terms.len())].clone()
+}
+
+/// If joining f after the sum of g and h is accepted, so is the sum of the two joins, with equal bytes.
+pub fn law_of_joined_sums(
+    operations: &Operations,
+    random: &mut Random,
+    pack: &LawPack,
+) -> Result<Option<Said>, Broken> {
+    let [f, g, h] = [(); 3].map(|()| operand(random, pack));
+    let one = sign(JOIN, &[&f, &sign(SUM, &[&g, &h])]);
+    let other = sign(SUM, &[&sign(JOIN, &[&f, &g]), &sign(JOIN, &[&f, &h])]);
+    let both = Both::new(operations, pack, [&one, &other]);
+    if both.one.number != 0 {
+        return Ok(None);
+    }
+    both.expect("law of joined sums", both.accepted_together() && both.equal())?;
+    let numbered = both.one.is_numbered();
+    Ok(Some(if numbered { Said::NumberedJoinedSums } else { Said::JoinedSums }))
+}
+
+/// If a join without a language is accepted, so is the join whose second operand had it removed, with
+/// equal bytes.
+pub fn law_of_joins_without(
+    operations: &Operations,
+    random: &mut Random,
+    pack: &LawPack,
+) -> Result<Option<Said>, Broken> {
+    let [f, g] = [(); 2].map(|()| operand(random, pack));
+    let language = law_language(random, pack);
+    let one = sign(WITHOUT, &[&sign(JOIN, &[&f, &g]), &language]);
+    let other = sign(JOIN, &[&f, &sign(WITHOUT, &[&g, &language])]);
+    let both = Both::new(operations, pack, [&one, &other]);
+    if both.one.number != 0 {
+        return Ok(None);
+    }
+    both.expect("law of joins without", both.accepted_together() && both.equal())?;
+    let numbered = both.one.is_numbered();
+    Ok(Some(if numbered { Said::NumberedJoinsWithout } else { Said::JoinsWithout }))
+}
+
+/// The identity of a sum of languages and the sum of their identities are accepted together and equal.
+pub fn law_of_identities(
+    operations: &Operations,
+    random: &mut Random,
+    pack: &LawPack,
+) -> Result<Said, Broken> {
+    let [one, other] = [(); 2].map(|()| law_language(random, pack));
+    let of_sum = sign(IDENTITY, &[&sign(LANGUAGE_SUM, &[&one, &other])]);
+    let sum = sign(SUM, &[&sign(IDENTITY, &[&one]), &sign(IDENTITY, &[&other])]);
+    let both = Both::new(operations, pack, [&of_sum, &sum]);
+    both.expect("law of identities", both.accepted_together() && both.equal())?;
+    let accepted = both.one.number == 0;
+    Ok(if accepted { Said::IdentitiesAccepted } else { Said::IdentitiesRefused })
+}
+
+/// Two groupings of three joins, where both are accepted, are equal.
+pub fn law_of_regrouped_joins(
+    operations: &Operations,
+    random: &mut Random,
+    pack: &LawPack,
+) -> Result<Option<Said>, Broken> {
+    let [f, g, h] = [(); 3].map(|()| operand(random, pack));
+    let one = sign(JOIN, &[&sign(JOIN, &[&f, &g]), &h]);
+    let other = sign(JOIN, &[&f, &sign(JOIN, &[&g, &h])]);
+    let both = Both::new(operations, pack, [&one, &other]);
+    if (both.one.number, both.other.number) != (0, 0) {
+        return Ok(None);
+    }
+    both.expect("law of regrouped joins", both.equal())?;
+    Ok(Some(Said::RegroupedJoins))
+}
+
+/// What the four laws of joins and identities say of a pack.
+pub fn laws_of_joins(
+    operations: &Operations,
+    random: &mut Random,
+    pack: &LawPack,
+) -> Result<Vec<Said>, Broken> {
+    let said = [
+        law_of_joined_sums(operations, random, pack)?,
+        law_of_joins_without(operations, random, pack)?,
+        Some(law_of_identities(operations, random, pack)?),
+        law_of_regrouped_joins(operations, random, pack)?,
+    ];
+    Ok(said.into_iter().flatten().collect())
 }
 
 /// A pack, what it reduces to, and the same decoded.
@@ -165,7 +331,7 @@ fn reduced_join(
 ) -> Result<Option<Join>, Broken> {
     let outer = &pack.terms[random.below(pack.terms.len())];
     let inner = &pack.terms[random.below(pack.terms.len())];
-    let join = reduced(operations, pack, &[&[0x54], &outer[..], inner].concat())?;
+    let join = reduced(operations, pack, &sign(JOIN, &[outer, inner]))?;
     let (second, first) = (reduced(operations, pack, outer)?, reduced(operations, pack, inner)?);
     let (Some(join), Some(first), Some(second)) = (join, first, second) else {
         return Ok(None);

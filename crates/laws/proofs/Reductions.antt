@@ -12,11 +12,12 @@ use Rattle.fields.specs.Outcome.{Result, value, refused, reasonNumber, numberOf
 use Rattle.fields.specs.Fields.{Field}
 use Rattle.fields.specs.declared.outcome.Reason.{Reason}
 use Rattle.fields.specs.declared.outcome.Reason.the-variants.{TooLong, BrokenField, OutOfOrder, ClassIsResult, WrongMapping, WrongClauses, IllegalCode, IllegalTerm as TermRefused, BuffersTooShort, UnboundVariable, ValueTooLarge, SumUnfit, JoinUnfit, UnknownRoot, IllegalTree, TooDeep, OutputTooShort, BrokenTable, ScoreOutOfRange, NotAnExport, NoBlock, NotIndexed, NoSource, LimitOutOfRange, Hidden, NumberUnfit}
+use Rattle.fields.proofs.Truth.{some-inj}
 use Rattle.translation.specs.Translation.{Translation}
 use Rattle.translation.specs.TranslationFile.{encodeTranslation}
 use Rattle.pack.specs.Terms.{Sort, translations, Term, writeTerm, termLevels, readTerm, scoped}
 use Rattle.pack.specs.Pack.{Pack, packOf, packLimit, termLimit, termOf}
-use Rattle.signs.specs.Evaluation.{constantsOf, nothingBound, evaluate}
+use Rattle.signs.specs.Evaluation.{Constants, constantsOf, nothingBound, evaluate}
 use Rattle.reducer.specs.Operations.{ready, work, reduceBytes}
 use Rattle.pack.proofs.TermCodec.{read-write, read-sound}
 use Rattle.pack.proofs.PackCodec.{pack-term, pack-short, pack-good}
@@ -71,11 +72,8 @@ term-unique n t u r e =
     let same : writeTerm t ++ [] ≡ writeTerm u ++ [] = append-nil (writeTerm t) ∙ read-sound n (writeTerm t) [] u e .0 in
     let a = read-write t (termLevels t + termLevels u) [] (omega arith) in
     let b = read-write u (termLevels t + termLevels u) [] (omega arith) in
-    pair-first (some-same (sym b ∙ (ap (readTerm (termLevels t + termLevels u) _) (sym same) ∙ a)))
+    pair-first (some-inj (sym b ∙ (ap (readTerm (termLevels t + termLevels u) _) (sym same) ∙ a)))
   where
-    some-same : {A : Type 0} {x y : A} → some x ≡ some y → x ≡ y
-    some-same q = cc
-
     pair-first : {A : Type 0} {x y : A} {p q : List ℕ} → _≡_ {A = A × List ℕ} (x, p) (y, q) → x ≡ y
     pair-first q = ap (λ (z : _ × List ℕ). z .0) q
 
@@ -115,8 +113,24 @@ reduction fields t w o bytes e =
     )
 
 -- The constants of an accepted pack are good.
+pub constants-good : (bytes : List ℕ) (p : Pack) → packOf bytes ≡ value p → GoodConstants (constantsOf p)
+constants-good bytes p e = let g = pack-good bytes p e in record { languages = g .0; bodies = g .1 }
+
+-- So are those of a pack whose reduction was accepted.
 pub reduction-good : {fields : List Field} {t : Term translations} {bytes : List ℕ} (r : Reduction fields t bytes) → GoodConstants (constantsOf (r .pack))
-reduction-good {fields} {t} r = let g = pack-good (packed fields t) (r .pack) (r .opens) in record { languages = g .0; bodies = g .1 }
+reduction-good {fields} {t} r = constants-good (packed fields t) (r .pack) (r .opens)
+
+-- Packs that differ only in field 32 have the same constants.
+same-constants : {fields : List Field} {t u : Term translations} {x y : List ℕ} (r : Reduction fields t x) (s : Reduction fields u y)
+    → constantsOf (r .pack) ≡ constantsOf (s .pack)
+same-constants {fields} {t} {u} r s =
+    let q = pack-term fields (writeTerm t) (writeTerm u) (r .pack) (r .opens) (pack-short (packed fields u) (s .pack) (s .opens)) in
+    ap constantsOf (value-inj (sym (q .1) ∙ s .opens))
+
+-- The value of a reduced term, under the constants of a pack with another term.
+pub value-under : {fields : List Field} {t u : Term translations} {x y : List ℕ} (r : Reduction fields t x) (s : Reduction fields u y)
+    → evaluate (constantsOf (r .pack)) nothingBound u ≡ value (s .result)
+value-under {u = u} r s = ap (λ (c : Constants). evaluate c nothingBound u) (same-constants r s) ∙ s .evaluates
 
 -- The same pack with another term, which is within the limits and in scope, reduces to what that term comes to.
 pub reduce-other : (fields : List Field) (t u : Term translations) (p : Pack) (w o : ℕ) (f : Translation) → packOf (packed fields t) ≡ value p

@@ -16,6 +16,7 @@ use Rattle.fields.specs.declared.outcome.Reason.{Reason}
 use Rattle.fields.specs.declared.outcome.Reason.the-variants.{UnknownRoot, IllegalTree, TooDeep, OutputTooShort}
 use Rattle.fields.specs.declared.outcome.Outcome.the-variants.{Accepted, Refused}
 use Rattle.fields.proofs.Truth.{by-test, false-true, none-some, some-inj, some-is}
+use Rattle.fields.proofs.Codec.{refused-value}
 use Rattle.language.specs.Language.{Language, isIn, clashes}
 use Rattle.language.proofs.Lookup.{none-clashes}
 use Rattle.reader.specs.Code.{Code, levels}
@@ -24,25 +25,25 @@ use Rattle.reader.specs.Syntax.{done, deep, read, write, tree}
 use Rattle.reader.specs.Operations.{treeLevels, treeOf}
 use Rattle.reader.proofs.Larger.{typed-larger}
 use Rattle.checks.proofs.Legal.{tree-right, tree-of}
-use Rattle.translation.specs.Translation.{Body, Translation, mappingOf, mapped}
+use Rattle.translation.specs.Translation.{Translation, mappingOf, mapped}
 use Rattle.translation.specs.Running.{paired, transform}
 use Rattle.translation.specs.TranslationFile.{encodeTranslation, translationOf}
 use Rattle.translation.specs.Operations.{fitted, runBytes, runTree}
 use Rattle.translation.proofs.Preserved.{kept-tree, typed-run}
 use Rattle.translation.proofs.Fitting.{refuse-value, fit-carries}
-use Rattle.pack.specs.Terms.{Term, translations, join, writeTerm}
-use Rattle.operators.specs.Operators.{numbersLow, joinFits, joined, translationJoin}
-use Rattle.operators.specs.Limits.{translationExceeds}
-use Rattle.signs.specs.Evaluation.{Constants, constantsOf, nothingBound, limited, evaluate}
+use Rattle.pack.specs.Terms.{Term, translations, join}
+use Rattle.operators.specs.Operators.{joined}
+use Rattle.signs.specs.Evaluation.{constantsOf}
 use Rattle.reducer.specs.Operations.{reduceBytes, reduce}
-use Rattle.pack.proofs.PackCodec.{pack-term, pack-short}
 use Rattle.operators.proofs.Proper.{Sound, GoodTranslation, good-back}
-use Rattle.operators.proofs.JoinSound.{target-larger, join-lies, join-mapped, join-chained, join-runs}
-use Rattle.evaluator.proofs.Evaluated.{step-value, value-inj, limited-value, translation-join, within, nothing-good, evaluate-good}
+use Rattle.operators.proofs.JoinSound.{target-larger, join-lies}
+use Rattle.evaluator.proofs.Evaluated.{step-value, value-inj}
 use Rattle.laws.specs.Packed.{packed, putOut}
 use Rattle.laws.specs.Runs.{Legal, mapsTo, targetIn, ReducesTo, OfTree, of-root, of-bytes, of-levels, SameRun, RunsOfJoin, LawOfRuns, hasNumber}
 use Rattle.laws.proofs.Levels.{law-of-levels}
-use Rattle.laws.proofs.Reductions.{accepted-value, put-out, Reduction, reduction, reduction-good}
+use Rattle.laws.proofs.Reductions.{accepted-value, put-out, Reduction, reduction, reduction-good, value-under}
+use Rattle.laws.proofs.Signs.{operands-join, value-good}
+use Rattle.laws.proofs.Joined.{mapped-to, SoundJoin, sound-value, mapped-pair, pair-mapped, tree-runs}
 
 -- A transformation of a typed tree is typed.
 transform-typed : (f : Translation) → Sound f → (t : Code) (k j u : ℕ) → mappingOf (f .body) k j ≡ some u → Typed (f .source) [] t k → Typed (f .target) [] (transform f j t) u
@@ -61,14 +62,6 @@ by-option (some a) f g = g a refl
 is-none : {A : Type 0} (o : Option A) → isSome o ≡ false → o ≡ none
 is-none none e = refl
 is-none (some a) e = false-true (sym e)
-
-refused-value : {r : Reason} {bytes : List ℕ} {A : Type 0} → refused r ≡ value bytes → A
-refused-value e = let z : _≡_ {A = ℕ} 0 1 = cc in absurd (omega arith)
-
--- The kind that a kind with this number maps to.
-mapped-to : (b : Body) (k j u : ℕ) → mappingOf b k j ≡ some u → mapped b k j ≡ u
-unfolding mapped
-mapped-to b k j u e = rw e
 
 -- A written tree is read back, or is too deep to be handed in.
 written-tree : (l : Language) (k : ℕ) (t : Code) → clashes l l ≡ false → isIn l k ≡ true → Typed l [] t k
@@ -190,79 +183,32 @@ reduces fields t w o bytes e =
     let q : v .0 ≡ bytes = sym (put-out o r (v .0) (v .1)) ∙ e .1 in
     reduction fields t (length w) (length o) bytes (v .1 ∙ ap value q) .0
 
--- Packs that differ only in field 32 have the same constants.
-same-constants : {fields : List Field} {t u : Term translations} {x y : List ℕ} (r : Reduction fields t x) (s : Reduction fields u y)
-    → constantsOf (r .pack) ≡ constantsOf (s .pack)
-same-constants {fields} {t} {u} r s =
-    let q = pack-term fields (writeTerm t) (writeTerm u) (r .pack) (r .opens) (pack-short (packed fields u) (s .pack) (s .opens)) in
-    ap constantsOf (value-inj (sym (q .1) ∙ s .opens))
-
--- The value of the same term, under the constants of another pack.
-value-under : {fields : List Field} {t u : Term translations} {x y : List ℕ} (r : Reduction fields t x) (s : Reduction fields u y) (f : Translation)
-    → evaluate (constantsOf (r .pack)) nothingBound u ≡ value f → f ≡ s .result
-value-under {u = u} r s f e = value-inj (sym e ∙ (ap (λ (c : Constants). evaluate c nothingBound u) (same-constants r s) ∙ s .evaluates))
-
+-- The value of a reduced term, as a run sees it.
 operand : {fields : List Field} {t : Term translations} {x : List ℕ} (r : Reduction fields t x) → Operand (r .result) x
 operand {t = t} r = record {
-  good = evaluate-good (constantsOf (r .pack)) (reduction-good r) nothingBound nothing-good t (r .result) (r .evaluates);
+  good = value-good (constantsOf (r .pack)) (reduction-good r) t (r .result) (r .evaluates);
   encodes = r .encodes;
 }
 
--- The join that was reduced is the join of its operands, which have low numbers and fit, and whose codes are not too deep.
-record Joins (f g j : Translation) : Type 0 where
-  low-first : numbersLow f ≡ true
-  low-second : numbersLow g ≡ true
-  fits : joinFits f g ≡ true
-  exceeds : translationExceeds (joined f g) ≡ false
-  is : joined f g ≡ j
-
-join-value : {fields : List Field} {f g : Term translations} {J F G : List ℕ} (rj : Reduction fields (join f g) J) (rf : Reduction fields f F) (rg : Reduction fields g G)
-    → Joins (rf .result) (rg .result) (rj .result)
-unfolding evaluate
-join-value {f = f} {g = g} rj rf rg =
-    let c = constantsOf (rj .pack) in
-    let a = step-value (evaluate c nothingBound f) _ (rj .evaluates) in
-    let b = step-value (evaluate c nothingBound g) _ (a .2) in
-    let h = step-value (translationJoin (a .0) (b .0)) (limited translations) (b .2) in
-    let l = limited-value translations (h .0) (rj .result) (h .2) in
-    let j = translation-join (a .0) (b .0) (h .0) (h .1) in
-    let p : a .0 ≡ rf .result = value-under rj rf (a .0) (a .1) in
-    let q : b .0 ≡ rg .result = value-under rj rg (b .0) (b .1) in
-    subst (λ (x : Translation). Joins x (rg .result) (rj .result)) p
-    (subst (λ (y : Translation). Joins (a .0) y (rj .result)) q
-    (record { low-first = j .2; low-second = j .3; fits = j .0; exceeds = ap translationExceeds (j .1) ∙ l .0; is = j .1 ∙ l .1 }))
-
+-- A join has the source of its second.
 source-is : (f g : Translation) → joined f g .source ≡ g .source
 unfolding joined
 source-is f g = refl
 
 -- The law, of the translations that the three files hold.
 module _ (f g : Translation) (F G J : List ℕ) (pf : Operand f F) (pg : Operand g G) (pj : Operand (joined f g) J)
-    (w : Joins f g (joined f g)) (root i j : ℕ) (low : j < 16) where
-  sf : Sound f
-  sf = pf .good .sound
-
-  sg : Sound g
-  sg = pg .good .sound
-
-  n : ℕ
+    (s : SoundJoin f g) (root i j : ℕ) (low : j < 16) where
+  -- The two numbers paired.
+  abbrev n : ℕ
   n = paired i j
 
-  -- The root has the paired number in the join where it has i in the second and the kind reached has j in the first.
-  chain : (u t : ℕ) → mappingOf (g .body) root i ≡ some u → mappingOf (f .body) u j ≡ some t → mappingOf (joined f g .body) root n ≡ some t
-  unfolding n
-  chain u t = join-mapped f g sf sg (w .fits) (w .low-first) (w .low-second) root i u j t
-
-  unchain : (t : ℕ) → mappingOf (joined f g .body) root n ≡ some t → (u : ℕ) × (mappingOf (g .body) root i ≡ some u) × (mappingOf (f .body) u j ≡ some t)
-  unfolding n
-  unchain t e = join-chained f g sf sg (w .fits) (w .low-first) (w .low-second) root i j t low e
-
+  -- The root lacks the paired number in the join where the kind that it reaches by i in the second lacks j in the first.
   unmapped : (u : ℕ) → mappingOf (g .body) root i ≡ some u → mappingOf (f .body) u j ≡ none → mappingOf (joined f g .body) root n ≡ none
   unmapped u e d =
       by-option (mappingOf (joined f g .body) root n)
       (λ q. q)
       (λ t q.
-      let c = unchain t q in
+      let c = pair-mapped f g s root i j t low q in
       let z : u ≡ c .0 = some-inj (sym e ∙ c .1) in
       none-some (sym d ∙ (ap (λ (x : ℕ). mappingOf (f .body) x j) z ∙ c .2)))
 
@@ -290,18 +236,17 @@ module _ (f g : Translation) (F G J : List ℕ) (pf : Operand f F) (pg : Operand
         ∙ sym (operand-lacks f F pf u j middle space q)
 
     having : (t : ℕ) → mappingOf (f .body) u j ≡ some t → (runBytes F u j middle space ≡ refused TooDeep → ⊥) → runBytes J root n bytes space ≡ runBytes F u j middle space
-    unfolding n
     having t q shallow =
         let a = step-value (treeOf (g .source) root bytes) (λ x. fitted room (write tree (transform g i x))) (sym (operand-has g G pg root i bytes room u reaches) ∙ e) in
         let x = a .0 in
         let h = tree-typed (g .source) root bytes x (a .1) in
         let m : write tree (transform g i x) ≡ middle = fitted-value room (write tree (transform g i x)) middle (a .2) in
-        let y = transform-typed g sg x root i u reaches (h .0) in
+        let y = transform-typed g (s .second) x root i u reaches (h .0) in
         let join-run : runBytes J root n bytes space ≡ fitted space (write tree (transform f j (transform g i x)))
-        = join-reads t (chain u t reaches q) bytes space
+        = join-reads t (mapped-pair f g s root i u j t reaches q) bytes space
         ∙ (ap (λ (o : Result Code). o >>= λ z. fitted space (write tree (transform (joined f g) n z))) (a .1)
         ∙ ap (λ (z : Code). fitted space (write tree z))
-        (join-runs f g sf sg (w .fits) (w .low-first) (w .low-second) (within (joined f g) (w .exceeds) .codes) i u j t (h .0) reaches q)) in
+        (tree-runs f g s i u j t (h .0) reaches q)) in
         let second-run : (o : Result Code) → treeOf (f .source) u (write tree (transform g i x)) ≡ o
         → runBytes F u j middle space ≡ (o >>= λ z. fitted space (write tree (transform f j z)))
         = λ o d.
@@ -311,8 +256,8 @@ module _ (f g : Translation) (F G J : List ℕ) (pf : Operand f F) (pg : Operand
         ⊎-elim
         (λ d. absurd (shallow (second-run (refused TooDeep) d)))
         (λ d. join-run ∙ sym (second-run (value (transform g i x)) d))
-        (written-tree (f .source) u (transform g i x) (none-clashes (f .source) (f .source) (sf .source .apart))
-        (join-lies f g sf sg (w .fits) root i u reaches) (typed-larger (target-larger f g sf sg (w .fits)) y))
+        (written-tree (f .source) u (transform g i x) (none-clashes (f .source) (f .source) (s .first .source .apart))
+        (join-lies f g (s .first) (s .second) (s .says .fits) root i u reaches) (typed-larger (target-larger f g (s .first) (s .second) (s .says .fits)) y))
 
     join-same : (runBytes F (mapped (g .body) root i) j middle space ≡ refused TooDeep → ⊥)
         → runBytes J root n bytes space ≡ runBytes F (mapped (g .body) root i) j middle space
@@ -338,7 +283,7 @@ module _ (f g : Translation) (F G J : List ℕ) (pf : Operand f F) (pg : Operand
         lacks = λ z. refused-written whole UnknownRoot (operand-lacks (joined f g) J pj root n bytes (length c) (is-none (mappingOf (joined f g .body) root n) z));
         refused = λ z r k d.
             let t = some-is (mappingOf (joined f g .body) root n) z in
-            let u = unchain (t .0) (t .1) in
+            let u = pair-mapped f g s root i j (t .0) low (t .1) in
             refused-written whole r
             (join-reads (t .0) (t .1) bytes (length c)
             ∙ run-refused g G pg root i (u .0) (u .1) bytes (length a) r k (written-refused one r d) (λ x. fitted (length c) (write tree (transform (joined f g) n x))));
@@ -351,14 +296,13 @@ module _ (f g : Translation) (F G J : List ℕ) (pf : Operand f F) (pg : Operand
 
 -- The law of runs.
 pub law-of-runs : LawOfRuns
-unfolding n
 law-of-runs fields f g w w₁ w₂ o o₁ o₂ J G F hj hg hf root i j low bytes a b c =
     let rj = reduces fields (join f g) w o J hj in
     let rg = reduces fields g w₁ o₁ G hg in
     let rf = reduces fields f w₂ o₂ F hf in
-    let v = join-value rj rf rg in
+    let v = operands-join (constantsOf (rj .pack)) f g (rf .result) (rg .result) (rj .result) (value-under rj rf) (value-under rj rg) (rj .evaluates) in
     let pj : Operand (joined (rf .result) (rg .result)) J = subst (λ (x : Translation). Operand x J) (sym (v .is)) (operand rj) in
-    let u : Joins (rf .result) (rg .result) (joined (rf .result) (rg .result)) = record { low-first = v .low-first; low-second = v .low-second; fits = v .fits; exceeds = v .exceeds; is = refl } in
+    let s = sound-value (rf .result) (rg .result) (rj .result) (operand rf .good .sound) (operand rg .good .sound) (operand rj .good .sound) v in
     let n = paired i j in
     let one = runTree G root i bytes a in
     let middle = putOut (one .outcome) (one .output) in
@@ -366,4 +310,4 @@ law-of-runs fields f g w w₁ w₂ o o₁ o₂ J G F hj hg hf root i j low bytes
     (sym (operand-opens (rg .result) G (operand rg)))
     (subst (λ (x : Result Translation). RunsOfJoin one (runTree F (mapped (rg .result .body) root i) j middle b) (runTree J root n bytes c) b c (targetIn x) (mapsTo x root n) (hasNumber x root n))
     (sym (operand-opens (joined (rf .result) (rg .result)) J pj))
-    (runs-of-join (rf .result) (rg .result) F G J (operand rf) (operand rg) pj u root i j low bytes a b c))
+    (runs-of-join (rf .result) (rg .result) F G J (operand rf) (operand rg) pj s root i j low bytes a b c))

@@ -10,19 +10,19 @@ use borrow.Author.Tests.{le-ltb}
 use Rattle.fields.specs.Fields.{Field, field, encodeFields}
 use Rattle.fields.specs.Keyed.{union}
 use Rattle.fields.proofs.Truth.{Mem, false-any}
-use Rattle.fields.proofs.Keyed.{Rising, From, Agree, from-mem, from-agree, rising-ext, union-cases}
+use Rattle.fields.proofs.Keyed.{Rising, From, Agree, from-mem, from-agree, rising-ext, union-cases, union-mem}
 use Rattle.fields.proofs.Codec.{contentsOf, encode-length}
-use Rattle.language.specs.Language.{Language, entryKey, isIn}
+use Rattle.language.specs.Language.{Entry, Language, entryKey, isIn}
 use Rattle.language.specs.LanguageFile.{entryField, encodeLanguage, languageLimit}
 use Rattle.language.proofs.Lookup.{in-larger, in-union}
-use Rattle.translation.specs.Translation.{mapping, Translation, itemKey}
+use Rattle.translation.specs.Translation.{Item, mapping, Translation, itemKey}
 use Rattle.translation.specs.TranslationFile.{itemField, translationFields, encodeTranslation, translationLimit}
 use Rattle.translation.proofs.Lookup.{mem-mapping}
 use Rattle.operators.specs.Operators.{languageUnion, translationUnion}
 use Rattle.operators.specs.Limits.{codeIsDeep, languageExceeds, translationExceeds}
 use Rattle.operators.proofs.Accepted.{code-shallow}
 use Rattle.operators.proofs.Proper.{Proper, Sound, GoodTranslation}
-use Rattle.operators.proofs.SumSound.{LanguagesFit, NumbersKept, TranslationsFit, shared-mapping, union-covers}
+use Rattle.operators.proofs.SumSound.{LanguagesFit, NumbersKept, TranslationsFit, shared-mapping, union-covers, sound-union}
 
 -- All members of one list are members of another.
 abbrev pub Subset : {A : Type 0} → List A → List A → Type 0
@@ -111,11 +111,12 @@ translation-shorter x v p q h =
       subset-shorter itemKey itemField (x .body) (v .body) (p .rises) (q .rises) (h .body),
     )
 
--- A sound translation that lies in a good one exceeds no limit.
-short-language : (l : Language) → length (encodeLanguage l) ≤ languageLimit → languageExceeds l ≡ false
+-- A language of no more bytes than the limit does not exceed it.
+pub short-language : (l : Language) → length (encodeLanguage l) ≤ languageLimit → languageExceeds l ≡ false
 unfolding languageExceeds
 short-language l h = le-ltb languageLimit (length (encodeLanguage l)) h
 
+-- A sound translation that lies in a good one exceeds no limit.
 pub lies-within : (x v : Translation) → Sound x → GoodTranslation v → Lies x v → translationExceeds x ≡ false
 unfolding translationExceeds
 lies-within x v s g h =
@@ -124,6 +125,10 @@ lies-within x v s g h =
     let c : length (encodeTranslation x) ≤ translationLimit = omega (arith, translation-shorter x v s (g .sound) h, g .short) in
     rw (short-language (x .source) a, short-language (x .target) b, le-ltb translationLimit (length (encodeTranslation x)) c)
     (false-any (codeIsDeep x) (x .body) (code-shallow x s))
+
+-- A good translation exceeds no limit.
+pub good-within : (v : Translation) → GoodTranslation v → translationExceeds v ≡ false
+good-within v g = lies-within v v (g .sound) g (lies-itself v)
 
 -- Two translations that lie in a sound one fit.
 languages-fit : (l m v : Language) → Proper v → Subset l v → Subset m v → LanguagesFit l m
@@ -196,3 +201,32 @@ lies-equal x y s t p q = λ i. record {
   target = rising-ext entryKey 0 0 (x .target) (y .target) (s .target .rises) (t .target .rises) (p .target) (q .target) i;
   body = rising-ext itemKey 0 0 (x .body) (y .body) (s .rises) (t .rises) (p .body) (q .body) i;
 }
+
+-- All of a translation is in one of two others.
+pub record InEither (x y v : Translation) : Type 0 where
+  pub source : (a : Entry) → Mem a (v .source) → Mem a (x .source) ⊎ Mem a (y .source)
+  pub target : (a : Entry) → Mem a (v .target) → Mem a (x .target) ⊎ Mem a (y .target)
+  pub body : (a : Item) → Mem a (v .body) → Mem a (x .body) ⊎ Mem a (y .body)
+
+-- All of a sum is in what it is made of.
+pub either-sum : (x y : Translation) → InEither x y (translationUnion x y)
+unfolding translationUnion languageUnion
+either-sum x y = record {
+  source = λ a m. union-cases entryKey a (x .source) (y .source) m;
+  target = λ a m. union-cases entryKey a (x .target) (y .target) m;
+  body = λ a m. union-cases itemKey a (x .body) (y .body) m;
+}
+
+-- Two translations that lie in a third, with all of it in one or the other, have it as their sum.
+pub sum-whole : (x y v : Translation) → Sound x → Sound y → Sound v → Lies x v → Lies y v → InEither x y v → translationUnion x y ≡ v
+unfolding translationUnion languageUnion
+sum-whole x y v sx sy s p q w =
+    let h = lie-fit x y v sx sy s p q in
+    let l = sum-lies x y v p q h sx in
+    lies-equal (translationUnion x y) v (sound-union x y sx sy h) s l
+    (record {
+      source = λ a m. union-mem entryKey a (x .source) (y .source) (sx .source .rises) (h .source .agrees) (w .source a m);
+      target = λ a m. union-mem entryKey a (x .target) (y .target) (sx .target .rises) (h .target .agrees) (w .target a m);
+      body = λ a m. union-mem itemKey a (x .body) (y .body) (sx .rises) (h .body) (w .body a m);
+      numbers = λ k j t i m. l .body _ m;
+    })

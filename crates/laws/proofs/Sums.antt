@@ -2,63 +2,35 @@
 use Prim.Native.Nat.{ℕ}
 use mathlib.Core.Path.{_≡_, refl, ap, sym, subst, _∙_}
 use mathlib.Core.Logic.{inl, inr, ⊎-elim}
-use mathlib.Core.Bool.{true, false}
+use mathlib.Core.Bool.{true}
 use mathlib.Core.List.{List}
-use lib.ListN.{length}
-use Rattle.fields.specs.Outcome.{Result, value, lengthOf, written}
-use Rattle.fields.specs.Fields.{Field}
+use Rattle.fields.specs.Outcome.{value}
 use Rattle.fields.proofs.Truth.{and-both, both-and, mem-append, append-cases}
 use Rattle.translation.specs.Translation.{Translation}
-use Rattle.pack.specs.Terms.{Term, translations, sum, scoped}
-use Rattle.operators.specs.Operators.{translationsFit, translationUnion, translationSum}
-use Rattle.operators.specs.Limits.{translationExceeds}
-use Rattle.signs.specs.Evaluation.{Constants, constantsOf, nothingBound, limited, evaluate}
-use Rattle.reducer.specs.Operations.{reduceBytes, reduce}
+use Rattle.pack.specs.Terms.{Term, translations, scoped}
+use Rattle.operators.specs.Operators.{translationUnion}
+use Rattle.signs.specs.Evaluation.{Constants, nothingBound, evaluate}
 use Rattle.operators.proofs.Proper.{GoodTranslation}
-use Rattle.operators.proofs.SumSound.{fit-translations, translations-fit, sound-union}
-use Rattle.evaluator.proofs.Evaluated.{step-value, value-inj, limited-value, translation-sum, GoodConstants, nothing-good, evaluate-good}
-use Rattle.laws.specs.Packed.{packed}
-use Rattle.laws.specs.Sums.{Sum, alone, plus, asTerm, builtFrom, In, SumOver, WithinLimits, LawOfSums}
-use Rattle.laws.proofs.Reductions.{accepted-value, value-accepted, put-out, reduction, reduction-good, reduce-other}
-use Rattle.laws.proofs.Subsets.{Lies, lies-itself, lies-further, lies-within, lie-fit, sum-lies, lies-sum, lies-equal}
+use Rattle.evaluator.proofs.Evaluated.{value-inj, GoodConstants}
+use Rattle.laws.specs.Sums.{Sum, alone, plus, asTerm, builtFrom, In, SumOver, LawOfSums}
+use Rattle.laws.proofs.Comparing.{ScopedToo, ValueToo, accepted-alike}
+use Rattle.laws.proofs.Subsets.{Lies, lies-itself, lies-further, lies-equal}
+use Rattle.laws.proofs.Signs.{value-good, sum-parts, value-part}
 
 module _ (c : Constants) (good : GoodConstants c) where
   -- A term has a value that lies in v.
   abbrev ValueIn : Translation → Term translations → Type 0
   ValueIn v t = (x : Translation) × (evaluate c nothingBound t ≡ value x) × Lies x v
 
-  value-good : (t : Term translations) (x : Translation) → evaluate c nothingBound t ≡ value x → GoodTranslation x
-  value-good t x e = evaluate-good c good nothingBound nothing-good t x e
-
-  -- The value of a sum, taken apart.
-  sum-value : (a b : Term translations) (v : Translation) → evaluate c nothingBound (sum a b) ≡ value v
-      → (x y : Translation) × (evaluate c nothingBound a ≡ value x) × (evaluate c nothingBound b ≡ value y) × (translationsFit x y ≡ true) × (translationUnion x y ≡ v)
-  unfolding evaluate
-  sum-value a b v e =
-      let p = step-value (evaluate c nothingBound a) _ e in
-      let q = step-value (evaluate c nothingBound b) _ (p .2) in
-      let r = step-value (translationSum (p .0) (q .0)) (limited translations) (q .2) in
-      let s = translation-sum (p .0) (q .0) (r .0) (r .1) in
-      (p .0, q .0, p .1, q .1, s .0, s .1 ∙ limited-value translations (r .0) v (r .2) .1)
-
-  -- And put together.
-  value-sum : (a b : Term translations) (x y : Translation) → evaluate c nothingBound a ≡ value x → evaluate c nothingBound b ≡ value y
-      → translationsFit x y ≡ true → translationExceeds (translationUnion x y) ≡ false → evaluate c nothingBound (sum a b) ≡ value (translationUnion x y)
-  unfolding evaluate translationSum
-  value-sum a b x y p q f l = rw (p, q, f, l)
-
   -- What a sum is built from has values, and they lie in its value.
   built-lies : (s : Sum) (v : Translation) → evaluate c nothingBound (asTerm s) ≡ value v → (t : Term translations) → In t (builtFrom s) → ValueIn v t
   unfolding asTerm builtFrom
   built-lies (alone u) v e t (inl q) = (v, ap (evaluate c nothingBound) q ∙ e, lies-itself v)
   built-lies (plus a b) v e t m =
-      let p = sum-value (asTerm a) (asTerm b) v e in
-      let x = p .0 in
-      let y = p .1 in
-      let both = subst (λ (z : Translation). Lies x z × Lies y z) (p .5) (lies-sum x y (value-good (asTerm a) x (p .2) .sound) (value-good (asTerm b) y (p .3) .sound) (fit-translations x y (p .4))) in
+      let p = sum-parts c good (asTerm a) (asTerm b) v e in
       ⊎-elim
-      (λ n. let r = built-lies a x (p .2) t n in (r .0, r .1, lies-further (r .2) (both .0)))
-      (λ n. let r = built-lies b y (p .3) t n in (r .0, r .1, lies-further (r .2) (both .1)))
+      (λ n. let r = built-lies a (p .0) (p .2) t n in (r .0, r .1, lies-further (r .2) (p .4)))
+      (λ n. let r = built-lies b (p .1) (p .3) t n in (r .0, r .1, lies-further (r .2) (p .5)))
       (append-cases t (builtFrom a) (builtFrom b) m)
 
   -- A sum built from terms whose values lie in a good translation has a value that lies in it.
@@ -68,24 +40,17 @@ module _ (c : Constants) (good : GoodConstants c) where
   lies-built (plus a b) v g h =
       let p = lies-built a v g (λ t m. h t (mem-append t (builtFrom a) (builtFrom b) (inl m))) in
       let q = lies-built b v g (λ t m. h t (mem-append t (builtFrom a) (builtFrom b) (inr m))) in
-      let x = value-good (asTerm a) (p .0) (p .1) .sound in
-      let y = value-good (asTerm b) (q .0) (q .1) .sound in
-      let f = lie-fit (p .0) (q .0) v x y (g .sound) (p .2) (q .2) in
-      let l = sum-lies (p .0) (q .0) v (p .2) (q .2) f x in
-      let s = sound-union (p .0) (q .0) x y f in (
-        translationUnion (p .0) (q .0),
-        value-sum (asTerm a) (asTerm b) (p .0) (q .0) (p .1) (q .1) (translations-fit (p .0) (q .0) f) (lies-within (translationUnion (p .0) (q .0)) v s g l),
-        l,
-      )
+      let r = value-part c good (asTerm a) (asTerm b) (p .0) (q .0) v (p .1) (q .1) g (p .2) (q .2) in
+      (translationUnion (p .0) (q .0), r .0, r .1)
 
   -- Two sums of the same terms have the same value.
   same-value : (a b : Sum) → ((t : Term translations) → In t (builtFrom b) → In t (builtFrom a)) → ((t : Term translations) → In t (builtFrom a) → In t (builtFrom b))
       → (v : Translation) → evaluate c nothingBound (asTerm a) ≡ value v → evaluate c nothingBound (asTerm b) ≡ value v
   same-value a b f g v e =
-      let gv = value-good (asTerm a) v e in
+      let gv = value-good c good (asTerm a) v e in
       let p = lies-built b v gv (λ t m. built-lies a v e t (f t m)) in
       let w = p .0 in
-      let gw = value-good (asTerm b) w (p .1) in
+      let gw = value-good c good (asTerm b) w (p .1) in
       let q = lies-built a w gw (λ t m. built-lies b w (p .1) t (g t m)) in
       let z : q .0 ≡ v = value-inj (sym (q .1) ∙ e) in
       p .1 ∙ ap value (lies-equal w v (gw .sound) (gv .sound) (p .2) (subst (λ (x : Translation). Lies x w) z (q .2)))
@@ -106,30 +71,14 @@ built-scoped l b (plus x y) h =
     (built-scoped l b x (λ t m. h t (mem-append t (builtFrom x) (builtFrom y) (inl m))))
     (built-scoped l b y (λ t m. h t (mem-append t (builtFrom x) (builtFrom y) (inr m))))
 
--- Where one sum is accepted, so is another over the same set, with the same bytes.
-accepted-too : (fields : List Field) (set : List (Term translations)) (a b : Sum) → SumOver set a → SumOver set b → WithinLimits fields b → (w o : ℕ) (bytes : List ℕ)
-    → reduceBytes (packed fields (asTerm a)) w o ≡ value bytes → reduceBytes (packed fields (asTerm b)) w o ≡ value bytes
-accepted-too fields set a b p q limits w o bytes e =
-    let r = reduction fields (asTerm a) w o bytes e in
-    let pack = r .0 .pack in
-    let f : (t : Term translations) → In t (builtFrom b) → In t (builtFrom a) = λ t m. p .each t (q .only t m) in
-    let g : (t : Term translations) → In t (builtFrom a) → In t (builtFrom b) = λ t m. q .each t (p .only t m) in
-    let s = built-scoped (length (pack .languages)) (length (pack .bodies)) b (λ t m. scoped-built _ _ a (r .0 .inScope) t (f t m)) in
-    let v = same-value (constantsOf pack) (reduction-good (r .0)) a b f g (r .0 .result) (r .0 .evaluates) in
-    reduce-other fields (asTerm a) (asTerm b) pack w o (r .0 .result) (r .0 .opens) (limits .short) (limits .levels) s (r .1) v ∙ ap value (r .0 .encodes)
+-- A sum is in scope, and comes to a value, where another over the same set is and does.
+scoped-too : (set : List (Term translations)) (a b : Sum) → SumOver set a → SumOver set b → ScopedToo (asTerm a) (asTerm b)
+scoped-too set a b p q l n s = built-scoped l n b (λ t m. scoped-built l n a s t (p .each t (q .only t m)))
+
+value-too : (set : List (Term translations)) (a b : Sum) → SumOver set a → SumOver set b → ValueToo (asTerm a) (asTerm b)
+value-too set a b p q c good v e = same-value c good a b (λ t m. p .each t (q .only t m)) (λ t m. q .each t (p .only t m)) v e
 
 -- The law of sums.
 pub law-of-sums : LawOfSums
-unfolding reduce
-law-of-sums fields set a b p q la lb w w′ o o′ ew eo =
-    let x = reduceBytes (packed fields (asTerm a)) (length w) (length o) in
-    let y = reduceBytes (packed fields (asTerm b)) (length w′) (length o′) in
-    let same : reduceBytes (packed fields (asTerm b)) (length w) (length o) ≡ y = λ i. reduceBytes (packed fields (asTerm b)) (sym ew i) (sym eo i) in
-    let onward : (bytes : List ℕ) → x ≡ value bytes → y ≡ value bytes = λ bytes e. sym same ∙ accepted-too fields set a b p q lb (length w) (length o) bytes e in
-    let back : (bytes : List ℕ) → y ≡ value bytes → x ≡ value bytes = λ bytes e. accepted-too fields set b a q p la (length w) (length o) bytes (same ∙ e) in
-    record {
-      left = λ e. let v = accepted-value x e in value-accepted y (v .0) (onward (v .0) (v .1));
-      right = λ e. let v = accepted-value y e in value-accepted x (v .0) (back (v .0) (v .1));
-      lengths = λ e. let v = accepted-value x e in ap (λ (r : Result (List ℕ)). lengthOf (written r)) (v .1 ∙ sym (onward (v .0) (v .1)));
-      bytes = λ e. let v = accepted-value x e in put-out o x (v .0) (v .1) ∙ sym (put-out o′ y (v .0) (onward (v .0) (v .1)));
-    }
+law-of-sums set a b p q =
+    accepted-alike (asTerm a) (asTerm b) (scoped-too set a b p q) (scoped-too set b a q p) (value-too set a b p q) (value-too set b a q p)

@@ -9,9 +9,10 @@ use Rattle.translation.specs.Operations.{checkTranslation}
 use Rattle.operators.proofs.Proper.{good-back}
 use Rattle.signs.specs.Evaluation.{constantsOf, nothingBound, evaluate}
 use Rattle.reducer.specs.Operations.{ready, work, reduceBytes}
-use Rattle.pack.proofs.PackCodec.{pack-good}
-use Rattle.evaluator.proofs.Evaluated.{step-value, value-inj, GoodConstants, nothing-good, evaluate-good}
+use Rattle.evaluator.proofs.Evaluated.{step-value, value-inj}
 use Rattle.reducer.proofs.Operation.{ready-value}
+use Rattle.laws.proofs.Reductions.{constants-good}
+use Rattle.laws.proofs.Signs.{value-good}
 
 pub reduced-checked : (pack : List ℕ) (workspace output : ℕ) (bytes : List ℕ) → reduceBytes pack workspace output ≡ value bytes
     → checkTranslation bytes ≡ Accepted 0
@@ -20,7 +21,5 @@ reduced-checked pack workspace output bytes e =
     let a = step-value (ready pack workspace output) work e in
     let r = ready-value pack workspace output (a .0) (a .1) in
     let b = step-value (evaluate (constantsOf (a .0 .pack)) nothingBound (a .0 .term)) (λ f. value (encodeTranslation f)) (a .2) in
-    let p = pack-good pack (a .0 .pack) (r .0) in
-    let constants : GoodConstants (constantsOf (a .0 .pack)) = record { languages = p .0; bodies = p .1 } in
-    let good = evaluate-good (constantsOf (a .0 .pack)) constants nothingBound nothing-good (a .0 .term) (b .0) (b .1) in
+    let good = value-good (constantsOf (a .0 .pack)) (constants-good pack (a .0 .pack) (r .0)) (a .0 .term) (b .0) (b .1) in
     ap checked (ap translationOf (sym (value-inj (b .2))) ∙ good-back (b .0) good)

@@ -31,14 +31,14 @@ holds (ran pack root tree room number bytes) =
     comesTo (reduceBytes (encodeFields pack) 65536 4096 >>= λ f. runBytes f root 0 tree room) number bytes
 
 -- C: class 2 of 1 to 240; productions 1.1 (2), 1.2 (1 1), 1.3 (2).
-abbrev c : Field
+abbrev pub c : Field
 c =
     field 0x30 (
     0x11 ∷ 0 ∷ 5 ∷ 2 ∷ 0 ∷ 1 ∷ 0 ∷ 240 ∷ 0x12 ∷ 0 ∷ 3 ∷ 1 ∷ 1 ∷ 2 ∷ 0x12 ∷ 0 ∷ 4 ∷ 1 ∷ 2 ∷ 1 ∷ 1 ∷ 0x12 ∷ 0 ∷ 3 ∷ 1 ∷ 3 ∷ 2 ∷ []
     )
 
 -- K: production 1.4 (1).
-abbrev k : Field
+abbrev pub k : Field
 k = field 0x30 (0x12 ∷ 0 ∷ 3 ∷ 1 ∷ 4 ∷ 1 ∷ [])
 
 -- A language with production 1.4 (2).
@@ -46,11 +46,11 @@ abbrev other : Field
 other = field 0x30 (0x12 ∷ 0 ∷ 3 ∷ 1 ∷ 4 ∷ 2 ∷ [])
 
 -- The body from K to C: 1 to 1; 1.4 is 01 02 03 01 03 01.
-abbrev twice : Field
+abbrev pub twice : Field
 twice = field 0x31 (0x22 ∷ 0 ∷ 2 ∷ 1 ∷ 1 ∷ 0x23 ∷ 0 ∷ 8 ∷ 1 ∷ 4 ∷ 1 ∷ 2 ∷ 3 ∷ 1 ∷ 3 ∷ 1 ∷ [])
 
 -- From C to C: 1.3 is 01 01 03 01, others identity.
-abbrev rest : Field
+abbrev pub rest : Field
 rest =
     field 0x31 (
     0x22 ∷ 0 ∷ 2 ∷ 1 ∷ 1 ∷ 0x22 ∷ 0 ∷ 2 ∷ 2 ∷ 2 ∷ 0x23 ∷ 0 ∷ 6 ∷ 1 ∷ 1 ∷ 1 ∷ 1 ∷ 3 ∷ 1

@@ -4,3 +4,5 @@ pub mod Earlier
 pub mod Runs
 pub mod Sums
 pub mod Examples
+pub mod Laws
+pub mod Cases

@@ -16,7 +16,7 @@ use Rattle.language.specs.LanguageFile.{isKind}
 use Rattle.language.proofs.Lookup.{same-equal, range-mem, arguments-mem, mem-range, mem-arguments, in-mem, mem-in}
 use Rattle.language.proofs.Ranges.{within-both}
 use Rattle.reader.specs.Code.{Code, token, levels}
-use Rattle.reader.specs.Typing.{kindAt, Typed}
+use Rattle.reader.specs.Typing.{Uses, kindAt, Typed}
 use Rattle.reader.specs.Syntax.{Read, done, write, code}
 use Rattle.reader.proofs.RoundTrip.{round, as-code}
 use Rattle.reader.proofs.Sound.{more-levels, More, read-done}
@@ -25,7 +25,7 @@ use Rattle.translation.specs.Translation.{Item, mapping, clause, Translation, n
 use Rattle.translation.specs.Running.{paired, run, usesOf, readClause, wholeCode, clausesOf, transform, codeLevels}
 use Rattle.translation.proofs.Codec.{itemWhole}
 use Rattle.translation.proofs.Lookup.{mapping-mem, mem-mapping, mem-mapped, number-mem, mem-number}
-use Rattle.translation.proofs.Running.{Small, chained, pair-first, pair-second, run-pair}
+use Rattle.translation.proofs.Running.{Small, ByZero, chained, pair-first, pair-second, run-pair}
 use Rattle.translation.proofs.Preserved.{Kept, use-kind, kind-use, typed-run, typed-small, typed-tree, run-alike}
 use Rattle.translation.proofs.Fitting.{Fitting, whole-done, clause-code, uses-are, fit-carries}
 use Rattle.operators.specs.Operators.{entryWithin, numbersLow, joinFits, joined}
@@ -180,6 +180,10 @@ module _ (f g : Translation) (sf : Sound f) (sg : Sound g) (h : joinFits f g ≡
               written = rw (z .0, z .1) (z .3);
             }
 
+    -- It is of a production of the second.
+    pub clause-source : (r p n : ℕ) (c : List ℕ) → Mem (clause r p n c) (joined f g .body) → (ks : List ℕ) × Mem (production r p ks) (g .source)
+    clause-source r p n c m = let x = composed-clause r p n c m in (x .arguments, x .entry)
+
     clause-joined : (r p i : ℕ) (d : List ℕ) (u j t : ℕ) → Mem (clause r p i d) (g .body) → Mem (mapping r i u) (g .body) → Mem (mapping u j t) (f .body)
         → Mem (clause r p (paired i j) (write code (run (clausesOf f) j (clausesOf g r p i)))) (joined f g .body)
     clause-joined r p i d u j t m q n =
@@ -276,7 +280,7 @@ module _ (f g : Translation) (sf : Sound f) (sg : Sound g) (h : joinFits f g ≡
       sound-join = record { source = sg .source; target = sf .target; whole = join-whole; rises = body-rises; fits = join-fits }
 
       -- Its clauses are those of the second run through the first.
-      join-clauses : (k p n t : ℕ) (ks : List ℕ) → argumentsOf (g .source) k p ≡ some ks → mappingOf (joined f g .body) k n ≡ some t
+      pub join-clauses : (k p n t : ℕ) (ks : List ℕ) → argumentsOf (g .source) k p ≡ some ks → mappingOf (joined f g .body) k n ≡ some t
           → chained (clausesOf f) (clausesOf g) k p n ≡ clausesOf (joined f g) k p n
       unfolding joined
       join-clauses k p n t ks e q =
@@ -308,10 +312,16 @@ module _ (f g : Translation) (sf : Sound f) (sg : Sound g) (h : joinFits f g ≡
               let d = read-done code (f .target) (usesOf f k p) codeLevels (mapped (f .body) k j) bytes a [] (whole-done (readClause f k p j bytes) a e) in
               typed-small uses-low (d .0)
 
-      -- The run of a join by two numbers paired is the run of the second and then that of the first.
+      -- A code that uses by number 0 only, run through the join by two numbers paired, is run through the second and then the first.
+      pub join-codes : {uses : Uses} {a : Code} {k : ℕ} (i u j t : ℕ) → Typed (g .source) uses a k → ByZero a → mappingOf (g .body) k i ≡ some u → mappingOf (f .body) u j ≡ some t
+          → run (clausesOf (joined f g)) (paired i j) a ≡ run (clausesOf f) j (run (clausesOf g) i a)
+      unfolding joined
+      join-codes {a = a} {k = k} i u j t y z e d =
+          sym (run-alike (fit-carries (joined f g) body-rises join-fits) join-clauses (paired i j) t y (join-mapped k i u j t e d))
+          ∙ run-pair (clausesOf f) (clausesOf g) first-small a i j z (first-low u j t (mapping-mem (f .body) u j t d))
+
+      -- So is a tree.
       pub join-runs : {a : Code} {k : ℕ} (i u j t : ℕ) → Typed (g .source) [] a k → mappingOf (g .body) k i ≡ some u → mappingOf (f .body) u j ≡ some t
           → transform (joined f g) (paired i j) a ≡ transform f j (transform g i a)
-      unfolding transform joined
-      join-runs {a} {k} i u j t y e d =
-          sym (run-alike (fit-carries (joined f g) body-rises join-fits) join-clauses (paired i j) t y (join-mapped k i u j t e d))
-          ∙ run-pair (clausesOf f) (clausesOf g) first-small a i j (typed-tree y) (first-low u j t (mapping-mem (f .body) u j t d))
+      unfolding transform
+      join-runs i u j t y e d = join-codes i u j t y (typed-tree y) e d

@@ -12,7 +12,6 @@ use Rattle.fields.proofs.Keyed.{Rising, Agree, agree-sym, union-cases, union-me
 use Rattle.language.specs.Language.{Entry, class, production, Language, entryKey, sameEntry, Range, isIn, argumentsOf, clashes}
 use Rattle.language.proofs.Lookup.{same-equal, equal-same, in-larger, in-union, class-in, result-in, argument-in, range-mem, mem-range, arguments-mem, mem-arguments, NoClash, clashes-none, none-clashes}
 use Rattle.language.proofs.Ranges.{within-both}
-use Rattle.reader.specs.Code.{Code}
 use Rattle.reader.specs.Syntax.{done}
 use Rattle.reader.proofs.Larger.{Larger, larger}
 use Rattle.translation.specs.Translation.{Item, mapping, clause, Translation, plainKey, numberOf, itemKey, sameItem, mappingOf, mapped}
@@ -114,16 +113,15 @@ module _ (f u : Translation) (w : Fitting f) (h : Part f u) where
       → (c : List ℕ) × Mem (clause r p j c) (f .body)
   part-clause r p j t ks m n = w .clauses r p j t ks m (h .numbers r j t (result-in (f .source) r p ks m) n)
 
+  -- A clause of f whose production u has is read there as the same code.
   pub part-code : (r p j : ℕ) (ks : List ℕ) (c : List ℕ) → Mem (production r p ks) (f .source) → Mem (production r p ks) (u .source)
-      → Mem (clause r p j c) (f .body) → (a : Code) × (readClause u r p j c ≡ done a [])
+      → (q : Mem (clause r p j c) (f .body)) → readClause u r p j c ≡ done (w .codes r p j c q .0) []
   unfolding mapped
   part-code r p j ks c m n q =
-      let x = w .codes r p j c q in (
-        x .0,
-        clause-alike f u part-larger r p j ks (mem-arguments (f .source) (h .source-rises) r p ks m) (mem-arguments (u .source) (h .whole-rises) r p ks n)
-            (ap (λ (o : Option ℕ). Option·getD o 0) (part-mapped r (result-in (f .source) r p ks m) (result-in (u .source) r p ks n) j))
-            (λ i z. part-mapped i (argument-in (f .source) r p ks m i z) (argument-in (u .source) r p ks n i z)) c (x .0) (x .1),
-      )
+      let x = w .codes r p j c q in
+      clause-alike f u part-larger r p j ks (mem-arguments (f .source) (h .source-rises) r p ks m) (mem-arguments (u .source) (h .whole-rises) r p ks n)
+      (ap (λ (o : Option ℕ). Option·getD o 0) (part-mapped r (result-in (f .source) r p ks m) (result-in (u .source) r p ks n) j))
+      (λ i z. part-mapped i (argument-in (f .source) r p ks m i z) (argument-in (u .source) r p ks n i z)) c (x .0) (x .1)
 
 -- A kind of the second has there each number that it has in the first (paper 02, 2026-13).
 abbrev pub NumbersKept : Translation → Translation → Type 0
@@ -210,8 +208,8 @@ module _ (f g u : Translation) (sf : Fitting f) (sg : Fitting g) (pf : Part f u)
         (bodies .only _ m);
     codes = λ r p j c m.
         ⊎-elim
-        (λ d. let x = sf .clausesOnly r p j c d .0 in part-code f u sf pf r p j (x .0) c (x .1) (sources .left _ (x .1)) d)
-        (λ d. let x = sg .clausesOnly r p j c d .0 in part-code g u sg pg r p j (x .0) c (x .1) (sources .right _ (x .1)) d)
+        (λ d. let x = sf .clausesOnly r p j c d .0 in (_, part-code f u sf pf r p j (x .0) c (x .1) (sources .left _ (x .1)) d))
+        (λ d. let x = sg .clausesOnly r p j c d .0 in (_, part-code g u sg pg r p j (x .0) c (x .1) (sources .right _ (x .1)) d))
         (bodies .only _ m);
   }
 
@@ -300,7 +298,7 @@ module _ (f : Translation) (l : Language) (s : Sound f) where
         let k = keep-cases (isOf left-source) (clause r p j c) (f .body) m in
         let x = some-is (argumentsOf left-source r p) (k .1) in
         let n = arguments-mem left-source r p (x .0) (x .1) in
-        part-code f (translationWithout f l) (s .fits) left-part r p j (x .0) c (left-mem _ n) n (k .0);
+        (_, part-code f (translationWithout f l) (s .fits) left-part r p j (x .0) c (left-mem _ n) n (k .0));
   }
 
   pub sound-without : Sound (translationWithout f l)

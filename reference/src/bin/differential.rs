@@ -1,5 +1,5 @@
-//! Compares the library with the reference on seeded random cases, and tests the laws of
-//! runs and of sums on the library alone.
+//! Compares the library with the reference on seeded random cases, and tests the laws of runs, of
+//! sums, and of joins and identities on the library alone.
 //!
 //! Usage: differential OPERATION... [--cases N] [--seed N] [--first N] [--trace]
 
@@ -173,7 +173,7 @@ const OPERATIONS: &[Operation] = &[
     },
     Operation {
         name: "laws",
-        possible: &[0, 1, 2, 3, 4, 5, 6],
+        possible: &[0, 1, 2, 3, 4, 5, 6, 7, 8, 9, 10, 11, 12, 13],
         label: |number| reference::laws::SAID[number].to_string(),
         find: laws::find,
     },
@@ -321,7 +321,7 @@ fn compare_reduce(random: &mut Random) -> Comparison {
 mod laws {
     use super::*;
     use reference::generate::law_pack;
-    use reference::laws::{law_of_runs, law_of_sums, Answer, Operations, Said};
+    use reference::laws::{law_of_runs, law_of_sums, laws_of_joins, Answer, Operations, Said};
 
     /// The operations of the library, with the least room to reduce.
     const LIBRARY: Operations = Operations { reduce: &reduce, run: &run };
@@ -340,15 +340,16 @@ mod laws {
         Answer::new(answer.number, answer.length, output)
     }
 
-    /// What both laws say of one pack.
+    /// What all laws say of one pack.
     fn said(random: &mut Random) -> Result<Vec<Said>, Broken> {
         let pack = law_pack(random);
         let mut said = law_of_runs(&LIBRARY, random, &pack)?;
         said.push(law_of_sums(&LIBRARY, random, &pack)?);
+        said.extend(laws_of_joins(&LIBRARY, random, &pack)?);
         Ok(said)
     }
 
-    /// Tests both laws on one pack.
+    /// Tests all laws on one pack.
     pub fn find(random: &mut Random) -> Finding {
         let said = said(random);
         Finding::of_laws(said.map(|said| said.into_iter().map(|said| said as usize).collect()))

@@ -35,7 +35,9 @@ pub use long::{long_run_case, LongRunCase, LONG_TREE};
 pub use long_trees::long_tree_case;
 pub use loose::{doubled, loose_case, settled, Settling};
 pub use numbers::{has_numbers, with_turns, with_twin};
-pub use packs::{law_pack, pack_with_term, reduce_case, LawPack, ReduceCase};
+pub use packs::{
+    law_body, law_language, law_pack, pack_with_term, reduce_case, LawPack, ReduceCase,
+};
 pub use random::Random;
 pub use searches::{search_case, small_search_case, SearchCase};
 pub use sheets::{sheet_case, SheetCase};

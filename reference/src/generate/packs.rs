@@ -711,6 +711,21 @@ pub fn law_pack(random: &mut Random) -> LawPack {
     LawPack { constants, terms }
 }
 
+/// A language term over the constants of a pack, of at most three levels.
+pub fn law_language(random: &mut Random, pack: &LawPack) -> Vec<u8> {
+    let names = pack.constants.names();
+    let mut term = Vec::new();
+    let levels = random.pick(&[1, 1, 1, 2, 3]);
+    TermWriter::new(&names).language(random, levels, &mut term);
+    term
+}
+
+/// The term of one of the translations that the constants of a pack hold.
+pub fn law_body(random: &mut Random, pack: &LawPack) -> Vec<u8> {
+    let (source, target, body) = random.pick(&pack.constants.triples);
+    vec![0x50, 0x40, source, 0x40, target, body]
+}
+
 /// The pack with that term as its field 32.
 pub fn pack_with_term(pack: &LawPack, term: &[u8]) -> Vec<u8> {
     pack.constants.pack(term)
