@@ -30,6 +30,7 @@ use reference::generate::{
 use reference::laws::Broken;
 use std::fmt::Write as _;
 use std::process::ExitCode;
+use std::thread::{available_parallelism, scope};
 use std::time::Instant;
 
 /// Answers are counted by number, and so is what the laws say.
@@ -510,38 +511,95 @@ fn report(operation: &Operation, seed: u64, case: u64, lines: &[String]) {
 }
 
 /// Differences are printed in full up to this number for each operation.
-const SHOWN: u64 = 5;
+const SHOWN: usize = 5;
+
+/// What was found on some cases: how often each number was reached, on long trees and on files with
+/// other numbers too, and the differences by their cases.
+struct Found {
+    reached: [u64; NUMBERS],
+    reached_long: [u64; NUMBERS],
+    reached_numbered: [u64; NUMBERS],
+    differences: Vec<(u64, Vec<String>)>,
+}
+
+impl Found {
+    /// Nothing yet.
+    fn nothing() -> Found {
+        let none = [0; NUMBERS];
+        Found { reached: none, reached_long: none, reached_numbered: none, differences: vec![] }
+    }
+
+    /// Adds what one case found.
+    fn add(&mut self, case: u64, finding: Finding) {
+        for &number in &finding.reached {
+            self.reached[number] += 1;
+            self.reached_long[number] += u64::from(finding.long);
+            self.reached_numbered[number] += u64::from(finding.numbered);
+        }
+        self.differences.extend(finding.difference.map(|lines| (case, lines)));
+    }
+
+    /// Adds what other cases found.
+    fn unite(&mut self, other: Found) {
+        for number in 0..NUMBERS {
+            self.reached[number] += other.reached[number];
+            self.reached_long[number] += other.reached_long[number];
+            self.reached_numbered[number] += other.reached_numbered[number];
+        }
+        self.differences.extend(other.differences);
+    }
+}
+
+/// Compares one operation on every `step`th case from a first one on.
+fn compare_some(
+    operation: &Operation,
+    first: u64,
+    end: u64,
+    step: usize,
+    request: &Request,
+) -> Found {
+    let mut found = Found::nothing();
+    for case in (first..end).step_by(step) {
+        if request.trace {
+            eprintln!("{}, seed {}, case {case}", operation.name, request.seed);
+        }
+        let mut random = Random::new(case_seed(request.seed, operation, case));
+        found.add(case, (operation.find)(&mut random));
+    }
+    found
+}
+
+/// Compares one operation on all cases, on as many threads as the machine runs at once; on one where
+/// the cases are told one by one.
+fn compare_each(operation: &Operation, cases: u64, request: &Request) -> Found {
+    let threads = if request.trace { 1 } else { available_parallelism().map_or(1, usize::from) };
+    let (first, end) = (request.first, request.first + cases);
+    let share = |place: usize| compare_some(operation, first + place as u64, end, threads, request);
+    let mut found = Found::nothing();
+    scope(|scope| {
+        let started: Vec<_> = (0..threads).map(|place| scope.spawn(move || share(place))).collect();
+        for thread in started {
+            found.unite(thread.join().expect("a thread of cases ends"));
+        }
+    });
+    found.differences.sort();
+    found
+}
 
 /// Compares one operation on all cases; gives the number of differences and missing answers.
 fn compare_all(operation: &Operation, cases: u64, request: &Request) -> (u64, u64) {
     let (seed, start) = (request.seed, Instant::now());
-    let (mut reached, mut reached_long) = ([0u64; NUMBERS], [0u64; NUMBERS]);
-    let mut reached_numbered = [0u64; NUMBERS];
-    let mut differences = 0;
-    for case in request.first..request.first + cases {
-        if request.trace {
-            eprintln!("{}, seed {seed}, case {case}", operation.name);
-        }
-        let mut random = Random::new(case_seed(seed, operation, case));
-        let finding = (operation.find)(&mut random);
-        for &number in &finding.reached {
-            reached[number] += 1;
-            reached_long[number] += u64::from(finding.long);
-            reached_numbered[number] += u64::from(finding.numbered);
-        }
-        if let Some(lines) = finding.difference {
-            differences += 1;
-            if differences <= SHOWN {
-                report(operation, seed, case, &lines);
-            }
-        }
+    let found = compare_each(operation, cases, request);
+    for (case, lines) in found.differences.iter().take(SHOWN) {
+        report(operation, seed, *case, lines);
     }
     let seconds = start.elapsed().as_secs_f64();
     println!("{}: {cases} cases, seed {seed}, {seconds:.1} s", operation.name);
-    let missing = print_reached(operation, &reached);
-    print_some(operation, &format!("trees or texts of {LONG_TREE} bytes or more"), &reached_long);
-    print_some(operation, "files with other numbers than 0", &reached_numbered);
-    (differences, missing)
+    let missing = print_reached(operation, &found.reached);
+    let long = format!("trees or texts of {LONG_TREE} bytes or more");
+    print_some(operation, &long, &found.reached_long);
+    print_some(operation, "files with other numbers than 0", &found.reached_numbered);
+    (found.differences.len() as u64, missing)
 }
 
 /// Prints how many cases are of some sort and how often each number was reached on them, if any.
