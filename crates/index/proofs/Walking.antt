@@ -35,7 +35,7 @@ unfolding spans
 shape-spans (production e) a = refl
 shape-spans value a = refl
 
-shape-front : {l : Language} {k : ℕ} {t : Code} {ts : Codes} {ks : List ℕ} {f : ℕ} → Shape l k t ts ks f → 0 < f
+pub shape-front : {l : Language} {k : ℕ} {t : Code} {ts : Codes} {ks : List ℕ} {f : ℕ} → Shape l k t ts ks f → 0 < f
 shape-front (production e) = omega arith
 shape-front value = omega arith
 

@@ -1,7 +1,12 @@
 // The operation that builds the index of a tree, and the test of an index that is handed in.
+use crate::compare::compare_row;
+use crate::entries::ENTRY;
+use crate::entries::starts_at;
+use crate::operands::operands_at;
 use crate::walk::Marked;
 use crate::walk::mark_at;
 use checks::trees::check_indexed;
+use fields::bytes::pair_in;
 use fields::outcome::Answer;
 use fields::outcome::Outcome;
 use fields::outcome::Reason;
@@ -55,22 +60,22 @@ pub fn is_own(language: &[u8], places: &[u16], kind: u8, tree: &[u8], index: &[u
     ensures { λ r. ⌜ ((l : Language) (t : Code) → There (now (places .entry)) (now (language .entry)) (now (tree .entry)) 0 kind l t
         → r ≡ sameNumbers (now (index .entry)) (indexOf t)) ⌝ }
 {
-    let mut nowhere = [0u8; 1];
-    match mark_at(
+    if !starts_at(index, 0, 0) {
+        return false;
+    }
+    let operands = operands_at(language, places, kind, tree, 0);
+    let end = compare_row(
         language,
         places,
-        kind,
+        operands.first,
+        operands.last,
         tree,
-        0,
-        0,
-        true,
+        operands.to,
+        pair_in(index, 2),
         index,
-        &mut nowhere,
-        0,
-    ) {
-        Marked::To(e, m) => m == index.len(),
-        Marked::Differs => false,
-    }
+        ENTRY,
+    );
+    end == index.len()
 }
 
 // The index of a legal tree: 17 where it is longer than the output.

@@ -4,9 +4,9 @@ use fields::bytes::pair_in;
 ghost use mathlib.Core.Path.{_≡_};
 ghost use mathlib.Core.Bool.{true, false};
 ghost use mathlib.Core.List.{List};
-ghost use Prim.Native.Nat.{_+_, _<_, _≤_};
+ghost use Prim.Native.Nat.{ℕ, _+_, _<_, _≤_};
 ghost use lib.ListN.{length};
-ghost use Rattle.fields.specs.Fields.{twoBytes};
+ghost use Rattle.fields.specs.Fields.{pairAt, twoBytes};
 ghost use Rattle.fields.specs.Inner.Writing.{spliced};
 ghost use Rattle.index.specs.Spans.{Span, span, entry, entries};
 ghost use Rattle.index.specs.Inner.Marking.{Has, Marks};
@@ -34,6 +34,18 @@ pub fn put_entry(start: usize, size: usize, out: &mut [u8], n: usize)
     }
     put_pair(start, out, n);
     put_pair(size, out, n + 2);
+}
+
+// Whether an entry with a start stands in an index.
+pub fn starts_at(index: &[u8], n: usize, start: usize) -> bool
+    requires { ⌜ n ≤ length (now index) ⌝ }
+    ensures { λ r. ⌜ (r ≡ true → (n + 4 ≤ length (now (index .entry))) × (pairAt (now (index .entry)) n ≡ start))
+        × (r ≡ false → (size : ℕ) → Has (now (index .entry)) n (entry (span start size)) → ⊥) ⌝ }
+{
+    if index.len() < n + ENTRY {
+        return false;
+    }
+    pair_in(index, n) == start
 }
 
 // Whether an entry stands in an index.
