@@ -15,7 +15,7 @@ use Rattle.fields.specs.declared.outcome.Outcome.{Outcome}
 use Rattle.fields.specs.declared.outcome.Outcome.the-variants.{Accepted, Refused}
 use Rattle.fields.specs.declared.outcome.Reason.{Reason}
 use Rattle.fields.specs.declared.outcome.Reason.the-variants.{OutputTooShort, NotIndexed}
-use Rattle.fields.proofs.Truth.{false-true, refuted, same-truth, numbers-equal, equal-numbers}
+use Rattle.fields.proofs.Truth.{refuted, same-truth, numbers-equal, equal-numbers}
 use Rattle.fields.proofs.Splices.{opened}
 use Rattle.language.specs.Language.{Language}
 use Rattle.reader.specs.Code.{Code}
@@ -26,26 +26,35 @@ use Rattle.checks.proofs.Legal.{Checked, refused-tree}
 use Rattle.index.specs.Spans.{span, size, spans, spansAll, entry, entries, indexOf}
 use Rattle.index.specs.Operations.{longest, isLong, indexBytes, indexTree}
 use Rattle.index.specs.Inner.Lying.{Opens}
-use Rattle.index.specs.Inner.Marking.{Has, Walks}
+use Rattle.index.specs.Inner.Marking.{Has, Writes}
 use Rattle.index.specs.Inner.Comparing.{Claims, Compares}
-use Rattle.index.specs.declared.walk.Marked.{Marked}
-use Rattle.index.specs.declared.walk.Marked.the-variants.{To, Differs}
+use Rattle.index.specs.declared.walk.Ends.{Ends}
+use Rattle.index.proofs.Lying.{past-inside}
 use Rattle.index.proofs.Checking.{checked-tree}
-use Rattle.index.proofs.Pairs.{entry-length, entry-read}
-use Rattle.index.proofs.Walking.{shape-size, shape-spans, entries-cons, has-front, has-back, has-both}
+use Rattle.index.proofs.Pairs.{entry-length, entry-read, entry-has}
+use Rattle.index.proofs.Walking.{shape-size, shape-spans, entries-cons, has-front, has-back, has-both, puts-entry, puts-before}
 use Rattle.index.proofs.Starts.{own-span}
-use Rattle.index.proofs.Comparing.{entry-has}
 
 -- write_index
-module _ (i o o′ : List ℕ) (base n e : ℕ) (t : Code) (r : Marked) (w : Walks false i (entries (spans (base + 0) t)) o o′ n e r) where
-  pub index-written : (d m : ℕ) → r ≡ To d m → (m ≡ n + length (entries (spans base t))) × (m ≤ length o → o′ ≡ spliced o n (entries (spans base t)))
-  index-written d m q =
-      let z : base + 0 ≡ base = omega arith in
-      let x = w .done d m q .1 in
-      rw (← z) (x .end, x .put refl)
+module _ (x s b : List ℕ) (k : ℕ) (l : Language) (t : Code) (f e to : ℕ) (p : Opens x s b 0 k l t f e to) (base n : ℕ) (o o₁ : List ℕ) (r : Ends)
+    (w : Writes (entries (spansAll (base + to) (p .operands))) o o₁ (n + 4) (to + length (writeAll tree (p .operands))) r) where
+  tree-end : r .trees ≡ size t
+  tree-end = let y = shape-size (p .shape) in omega (arith, p .past, w .trees)
 
-  pub not-compared : {A : Type 0} → r ≡ Differs → A
-  not-compared q = false-true (w .differs q .compared)
+  pub tree-inside : r .trees ≤ length b
+  tree-inside = let h = past-inside b to (writeAll tree (p .operands)) (p .row .lie .rest) (p .row .lie .inside) (p .row .lie .is) in omega (arith, w .trees)
+
+  pub index-written : (o₂ : List ℕ) → (n + 4 ≤ length o₁ → o₂ ≡ spliced o₁ n (entry (span base (r .trees)))) → length o₁ ≡ length o
+      → (r .entries ≡ n + length (entries (spans base t))) × (r .entries ≤ length o → o₂ ≡ spliced o n (entries (spans base t)))
+  index-written o₂ h same =
+      let inner = entries (spansAll (base + to) (p .operands)) in
+      let z : base + p .front ≡ base + to = omega (arith, p .past) in
+      let own = puts-entry o₁ o₂ n base (r .trees) base (size t) h refl tree-end in
+      let v = puts-before (entry (span base (size t))) inner o o₁ o₂ n (n + 4) (r .entries) (w .puts) own same in
+      let are : entries (spans base t) ≡ entry (span base (size t)) ++ inner =
+      ap entries (shape-spans (p .shape) base ∙ ap (λ (j : ℕ). span base (size t) ∷ spansAll j (p .operands)) z)
+      ∙ entries-cons (span base (size t)) (spansAll (base + to) (p .operands)) in
+      rw are (v .end, v .put)
 
 -- is_own
 above : (r : ℕ) → (r ≡ 0 → ⊥) → 0 < r

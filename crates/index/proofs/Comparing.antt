@@ -5,28 +5,18 @@ use mathlib.Core.List.{List, [], _∷_, _++_, append-assoc}
 use native.Mathlib.Omega.{arith}
 use lib.ListN.{length, getD, drop, length-append}
 use Rattle.fields.specs.Fields.{pairAt}
-use Rattle.fields.specs.Lists.{concatMap}
 use Rattle.language.specs.Language.{Language}
-use Rattle.reader.specs.Code.{Code, Codes, nil, cons}
-use Rattle.reader.specs.Syntax.{write, writeAll, tree}
+use Rattle.reader.specs.Code.{Code, Codes, nil}
+use Rattle.reader.specs.Syntax.{writeAll, tree}
 use Rattle.reader.specs.Inner.Positions.{KindsIn}
-use Rattle.index.specs.Spans.{Span, span, size, spans, spansAll, entry, entries}
+use Rattle.index.specs.Spans.{Span, span, size, spansAll, entry, entries}
 use Rattle.index.specs.Inner.Lying.{Row, Opens}
 use Rattle.index.specs.Inner.Marking.{Has}
 use Rattle.index.specs.Inner.Comparing.{Claims, Compares}
 use Rattle.index.proofs.Rows.{kinds-end, Turn, turn, none-left}
-use Rattle.index.proofs.Pairs.{entry-length, entry-front, entry-read}
-use Rattle.index.proofs.Walking.{shape-size, shape-spans, shape-front, entries-append, entries-cons, has-front, has-back, has-both}
+use Rattle.index.proofs.Pairs.{entry-length, entry-read, entry-has}
+use Rattle.index.proofs.Walking.{entries-cons, has-front, has-back, has-both, no-trees, turn-long, turn-spans, turn-ahead, turn-end, turn-are}
 use Rattle.index.proofs.Starts.{own-span}
-
--- What the entry at m says, where it starts as it should.
-pub entry-has : (i : List ℕ) (m to z : ℕ) → m + 4 ≤ length i → ((j : ℕ) → getD i j 0 < 256) → pairAt i m ≡ to → pairAt i (m + 2) ≡ z → Has i m (entry (span to z))
-entry-has i m to z h b a c = record { rest = drop (m + 4) i; is = entry-front i m h b ∙ rw (a, c) refl }
-
--- Where no trees are left.
-no-trees : (to : ℕ) (ts : Codes) → ts ≡ nil → (entries (spansAll to ts) ≡ []) × (length (writeAll tree ts) ≡ 0)
-unfolding spans write entries concatMap
-no-trees to ts e = rw e (refl, refl)
 
 -- Where the loop stands: the trees that are still to be compared. The index has the entries of all exactly if it has theirs.
 pub record Comparing (x s b i : List ℕ) (n at : ℕ) (ts : Codes) (stop q end to m : ℕ) (l : Language) : Type 0 where
@@ -76,24 +66,19 @@ module _ (x s b i : List ℕ) (n at : ℕ) (ts : Codes) (stop : ℕ) (l : Langua
       tail = compare-turn .tail
 
       others-long : length (writeAll tree (w .others)) ≡ size head + length (writeAll tree tail)
-      unfolding write
-      others-long = ap (λ (c : Codes). length (writeAll tree c)) (compare-turn .is) ∙ length-append (write tree head) (writeAll tree tail)
-
-      others-are : entries (spansAll to (w .others)) ≡ entries (spans to head) ++ entries (spansAll (to + size head) tail)
-      unfolding spans
-      others-are = ap (λ (c : Codes). entries (spansAll to c)) (compare-turn .is) ∙ entries-append (spans to head) (spansAll (to + size head) tail)
+      others-long = turn-long x s b to q end l (w .others) compare-turn
 
       -- An entry that starts elsewhere.
       pub start-other : ((z : ℕ) → Has i m (entry (span to z)) → ⊥) → Compares i n at ts stop 0
       start-other h = differs λ c.
           let o = own-span to head in
-          let rest = entries (o .0) ++ entries (spansAll (to + size head) tail) in
-          let v : entries (spansAll to (w .others)) ≡ entry (span to (size head)) ++ rest =
-          others-are
-          ∙ (ap (λ (z : List Span). entries z ++ entries (spansAll (to + size head) tail)) (o .1)
-          ∙ (ap (λ (z : List ℕ). z ++ entries (spansAll (to + size head) tail)) (entries-cons (span to (size head)) (o .0))
-          ∙ append-assoc (entry (span to (size head))) (entries (o .0)) (entries (spansAll (to + size head) tail)))) in
-          h (size head) (has-front i m (entry (span to (size head))) rest (rw v at (w .back c .has)))
+          let behind = entries (spansAll (to + size head) tail) in
+          let v : entries (spansAll to (w .others)) ≡ entry (span to (size head)) ++ (entries (o .0) ++ behind) =
+          turn-spans x s b to q end l (w .others) compare-turn to
+          ∙ (ap (λ (z : List Span). entries z ++ behind) (o .1)
+          ∙ (ap (λ (z : List ℕ). z ++ behind) (entries-cons (span to (size head)) (o .0))
+          ∙ append-assoc (entry (span to (size head))) (entries (o .0)) behind)) in
+          h (size head) (has-front i m (entry (span to (size head))) (entries (o .0) ++ behind) (rw v at (w .back c .has)))
 
       module _ (f e t : ℕ) (p : Opens x s b to (getD s q 0) l head f e t) where
         abbrev own : List ℕ
@@ -106,17 +91,13 @@ module _ (x s b i : List ℕ) (n at : ℕ) (ts : Codes) (stop : ℕ) (l : Langua
         behind = entries (spansAll (to + size head) tail)
 
         pub opens-ahead : (to < t) × (t ≤ length b)
-        opens-ahead = let y = shape-front (p .shape) in (omega (arith, p .past), p .row .lie .inside)
+        opens-ahead = turn-ahead x s b to q end l (w .others) compare-turn (getD s q 0) f e t p
 
         node-end : to + size head ≡ t + length (writeAll tree (p .operands))
-        node-end = let y = shape-size (p .shape) in omega (arith, p .past)
+        node-end = turn-end x s b to q end l (w .others) compare-turn (getD s q 0) f e t p
 
         all-are : entries (spansAll to (w .others)) ≡ own ++ (inner ++ behind)
-        all-are =
-            others-are
-            ∙ (ap (λ (z : List Span). entries z ++ behind) (shape-spans (p .shape) to ∙ ap (λ (z : ℕ). span to (size head) ∷ spansAll z (p .operands)) (sym (p .past)))
-            ∙ (ap (λ (z : List ℕ). z ++ behind) (entries-cons (span to (size head)) (spansAll t (p .operands)))
-            ∙ append-assoc own inner behind))
+        all-are = turn-are x s b to q end l (w .others) compare-turn (getD s q 0) f e t p 0 to t (to + size head) (omega arith) (omega arith) (omega arith)
 
         all-long : length (entries (spansAll to (w .others))) ≡ 4 + (length inner + length behind)
         all-long = let a = entry-length to (size head) in ap length all-are ∙ (length-append own (inner ++ behind) ∙ omega (arith, length-append inner behind))

@@ -1,10 +1,10 @@
 // The operation that builds the index of a tree, and the test of an index that is handed in.
 use crate::compare::compare_row;
 use crate::entries::ENTRY;
+use crate::entries::put_entry;
 use crate::entries::starts_at;
 use crate::operands::operands_at;
-use crate::walk::Marked;
-use crate::walk::mark_at;
+use crate::walk::write_row;
 use checks::trees::check_indexed;
 use fields::bytes::pair_in;
 use fields::outcome::Answer;
@@ -48,10 +48,20 @@ pub fn write_index(
     ensures { λ r. ⌜ ((l : Language) (t : Code) → There (now (places .entry)) (now (language .entry)) (now (tree .entry)) 0 kind l t
         → (r ≡ n + length (entries (spans base t))) × (r ≤ length (now (out .entry)) → now (out .exit) ≡ spliced (now (out .entry)) n (entries (spans base t)))) ⌝ }
 {
-    match mark_at(language, places, kind, tree, 0, base, false, &[], out, n) {
-        Marked::To(e, m) => m,
-        Marked::Differs => n,
-    }
+    let operands = operands_at(language, places, kind, tree, 0);
+    let ends = write_row(
+        language,
+        places,
+        operands.first,
+        operands.last,
+        tree,
+        operands.to,
+        base,
+        out,
+        n + ENTRY,
+    );
+    put_entry(base, ends.trees, out, n);
+    ends.entries
 }
 
 // Whether an index is the own one of the legal tree of a kind.

@@ -9,7 +9,7 @@ ghost use lib.ListN.{length};
 ghost use Rattle.fields.specs.Fields.{pairAt, twoBytes};
 ghost use Rattle.fields.specs.Inner.Writing.{spliced};
 ghost use Rattle.index.specs.Spans.{Span, span, entry, entries};
-ghost use Rattle.index.specs.Inner.Marking.{Has, Marks};
+ghost use Rattle.index.specs.Inner.Marking.{Has};
 ghost use Rattle.index.specs.Inner.Starts.{Splits};
 
 // How many bytes an entry has.
@@ -46,39 +46,6 @@ pub fn starts_at(index: &[u8], n: usize, start: usize) -> bool
         return false;
     }
     pair_in(index, n) == start
-}
-
-// Whether an entry stands in an index.
-fn entry_is(index: &[u8], n: usize, start: usize, size: usize) -> bool
-    requires { ⌜ (start < 65536) × (size < 65536) × (n < 1000000) ⌝ }
-    ensures { λ r. ⌜ (r ≡ true → Has (now (index .entry)) n (entry (span start size))) × (r ≡ false → Has (now (index .entry)) n (entry (span start size)) → ⊥) ⌝ }
-{
-    if index.len() < n + ENTRY {
-        return false;
-    }
-    if pair_in(index, n) != start {
-        return false;
-    }
-    pair_in(index, n + 2) == size
-}
-
-// Compares an entry with the one of an index, or puts it where there is room for it. The answer is whether it may be so.
-pub fn mark(
-    start: usize,
-    size: usize,
-    compare: bool,
-    index: &[u8],
-    out: &mut [u8],
-    n: usize,
-) -> bool
-    requires { ⌜ (start < 65536) × (size < 65536) × (n < 1000000) ⌝ }
-    ensures { λ r. ⌜ Marks compare (now (index .entry)) (entry (span start size)) (now (out .entry)) (now (out .exit)) n r ⌝ }
-{
-    if compare {
-        return entry_is(index, n, start, size);
-    }
-    put_entry(start, size, out, n);
-    true
 }
 
 // Where in an index, from an entry on, the first entry stands whose start is not before a position.
