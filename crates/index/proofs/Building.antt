@@ -1,5 +1,5 @@
 -- The operation that builds an index, and the test of one: a law for each return of the functions of build.rt.
-use Prim.Native.Nat.{ℕ, _+_, _<_, _≤_}
+use Prim.Native.Nat.{ℕ, _+_, _*_, _<_, _≤_}
 use mathlib.Core.Path.{_≡_, refl, sym, ap, _∙_}
 use mathlib.Core.Bool.{true, false}
 use mathlib.Core.List.{List, [], _∷_, _++_, append-nil}
@@ -19,20 +19,20 @@ use Rattle.fields.proofs.Truth.{refuted, same-truth, numbers-equal, equal-numbe
 use Rattle.fields.proofs.Splices.{opened}
 use Rattle.language.specs.Language.{Language}
 use Rattle.reader.specs.Code.{Code}
-use Rattle.reader.specs.Syntax.{writeAll, tree}
+use Rattle.reader.specs.Syntax.{write, writeAll, tree}
 use Rattle.reader.specs.Operations.{checkTree}
 use Rattle.translation.specs.Operations.{fitted}
 use Rattle.checks.proofs.Legal.{Checked, refused-tree}
 use Rattle.index.specs.Spans.{span, size, spans, spansAll, entry, entries, indexOf}
 use Rattle.index.specs.Operations.{longest, isLong, indexBytes, indexTree}
-use Rattle.index.specs.Inner.Lying.{Opens}
+use Rattle.index.specs.Inner.Lying.{There, Opens}
 use Rattle.index.specs.Inner.Marking.{Has, Writes}
 use Rattle.index.specs.Inner.Comparing.{Claims, Compares}
 use Rattle.index.specs.declared.walk.Ends.{Ends}
 use Rattle.index.proofs.Lying.{past-inside}
 use Rattle.index.proofs.Checking.{checked-tree}
 use Rattle.index.proofs.Pairs.{entry-length, entry-read, entry-has}
-use Rattle.index.proofs.Walking.{shape-size, shape-spans, entries-cons, has-front, has-back, has-both, puts-entry, puts-before}
+use Rattle.index.proofs.Walking.{shape-size, shape-spans, entries-cons, entries-few, has-front, has-back, has-both, puts-entry, puts-before}
 use Rattle.index.proofs.Starts.{own-span}
 
 -- write_index
@@ -137,6 +137,11 @@ pub put-first : (o v : List ℕ) → spliced o 0 v ≡ v ++ drop (length v) o
 put-first o v = let z : 0 + length v ≡ length v = omega arith in opened o 0 v ∙ ap (λ (j : ℕ). v ++ drop j o) z
 
 -- index_legal
+pub legal-room : (x s b : List ℕ) (k : ℕ) (l : Language) (t : Code) → There x s b 0 k l t → (o : List ℕ) (n : ℕ) → n ≡ 0 + length (entries (spans 0 t)) → length b * 4 ≤ length o → n ≤ length o
+legal-room x s b k l t h o n en room =
+    let y = past-inside b 0 (write tree t) (h .lies .rest) (h .lies .inside) (h .lies .is) in
+    omega (arith, entries-few t 0)
+
 module _ (t : Code) (o : List ℕ) (n : ℕ) (en : n ≡ 0 + length (entries (spans 0 t))) where
   pub legal-short : length o < n → (x : Outcome) → x ≡ Refused OutputTooShort
       → (x ≡ written (fitted (length o) (indexOf t))) × (o ≡ outputAfter o (fitted (length o) (indexOf t)))

@@ -88,13 +88,18 @@ pub fn is_own(language: &[u8], places: &[u16], kind: u8, tree: &[u8], index: &[u
     end == index.len()
 }
 
-// The index of a legal tree: 17 where it is longer than the output.
+// The index of a legal tree: 17 where it is longer than the output. It has no more entries than the tree has bytes; an output
+// with room for so many is written at once, for another the length is counted first.
 fn index_legal(language: &[u8], places: &[u16], kind: u8, tree: &[u8], output: &mut [u8]) -> Answer
     requires { ⌜ (length (now tree) ≤ longest) × ((l : Language) × (t : Code) × There (now places) (now language) (now tree) 0 kind l t) ⌝ }
     ensures { λ r. ⌜ ((l : Language) (t : Code) → There (now (places .entry)) (now (language .entry)) (now (tree .entry)) 0 kind l t
         → (r .outcome ≡ written (fitted (length (now (output .entry))) (indexOf t)))
         × (now (output .exit) ≡ outputAfter (now (output .entry)) (fitted (length (now (output .entry))) (indexOf t)))) ⌝ }
 {
+    if tree.len() * ENTRY <= output.len() {
+        let length = write_index(language, places, kind, tree, 0, output, 0);
+        return accept(length);
+    }
     let mut nowhere = [0u8; 1];
     let length = write_index(language, places, kind, tree, 0, &mut nowhere, 0);
     if output.len() < length {
