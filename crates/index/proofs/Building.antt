@@ -57,6 +57,7 @@ module _ (x s b : List ℕ) (k : ℕ) (l : Language) (t : Code) (f e to : ℕ) (
       rw are (v .end, v .put)
 
 -- is_own
+-- A number that is not 0 is above it.
 above : (r : ℕ) → (r ≡ 0 → ⊥) → 0 < r
 above r h = omega arith
 
@@ -137,7 +138,8 @@ pub put-first : (o v : List ℕ) → spliced o 0 v ≡ v ++ drop (length v) o
 put-first o v = let z : 0 + length v ≡ length v = omega arith in opened o 0 v ∙ ap (λ (j : ℕ). v ++ drop j o) z
 
 -- index_legal
-pub legal-room : (x s b : List ℕ) (k : ℕ) (l : Language) (t : Code) → There x s b 0 k l t → (o : List ℕ) (n : ℕ) → n ≡ 0 + length (entries (spans 0 t)) → length b * 4 ≤ length o → n ≤ length o
+pub legal-room : (x s b : List ℕ) (k : ℕ) (l : Language) (t : Code) → There x s b 0 k l t → (o : List ℕ) (n : ℕ)
+    → n ≡ 0 + length (entries (spans 0 t)) → length b * 4 ≤ length o → n ≤ length o
 legal-room x s b k l t h o n en room =
     let y = past-inside b 0 (write tree t) (h .lies .rest) (h .lies .inside) (h .lies .is) in
     omega (arith, entries-few t 0)

@@ -11,9 +11,8 @@ ghost use Rattle.reader.specs.Inner.Positions.{KindsIn};
 ghost use Rattle.index.specs.Inner.Lying.{Row};
 ghost use Rattle.index.specs.Inner.Comparing.{Compares};
 
-// Where the entries of operands end that the index has from n on; 0 where it has others, or the operands do not end at `stop`.
-// They start at a position, and their kinds stand in the language from `first` up to `last`. The operands of the last one are
-// compared here, those of another one call deeper.
+// Where in an index the entries of operands end, whose kinds stand in the language from `first` up to `last`; 0 where it has
+// others from n on, or they do not end at `stop`. Operands of the last are compared here, those of another one call deeper.
 pub fn compare_row(
     language: &[u8],
     places: &[u16],

@@ -18,9 +18,8 @@ pub struct Ends {
     pub entries: usize,
 }
 
-// Writes the entries of operands from n on, where there is room for them. The operands start at a position, and their kinds
-// stand in the language from `first` up to `last`; starts are counted from `base`. An operand that has operands of its own
-// is dealt with one call deeper, its own entry last.
+// Writes the entries of operands, whose kinds stand in the language from `first` up to `last`, from n on, where there is room.
+// Starts are counted from `base`. An operand that has operands is dealt with one call deeper, its own entry last.
 pub fn write_row(
     language: &[u8],
     places: &[u16],
