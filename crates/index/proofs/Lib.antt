@@ -4,6 +4,7 @@ pub mod Shapes
 pub mod Pairs
 pub mod Walking
 pub mod Checking
-pub mod Building
 pub mod Starts
+pub mod Comparing
+pub mod Building
 pub mod Owning

@@ -1,20 +1,16 @@
 -- Entries in bytes: what stands in an index, and a law for each return of the functions of entries.rt.
 use Prim.Native.Nat.{ℕ, suc, _+_, _-_, _*_, _/_, _%_, _<_, _≤_}
 use mathlib.Core.Path.{_≡_, refl, sym, ap, _∙_}
-use mathlib.Core.Bool.{Bool, true, false}
 use mathlib.Core.List.{List, [], _∷_, _++_, append-assoc}
 use native.Mathlib.Omega.{arith}
 use lib.ListN.{length, getD, drop, take, set, length-drop}
 use lib.Seq.{sets-eq, drop-drop}
-use lib.Dec.{eqb}
-use borrow.Author.Tests.{eqb-true, eqb-false}
 use Rattle.fields.specs.Fields.{pairAt, twoBytes}
 use Rattle.fields.specs.Inner.Writing.{spliced}
 use Rattle.fields.proofs.Split.{front, pair-drop}
 use Rattle.fields.proofs.Splices.{splice-splice}
-use Rattle.fields.proofs.Truth.{not-both}
 use Rattle.index.specs.Spans.{span, entry}
-use Rattle.index.specs.Inner.Marking.{Has, Marks}
+use Rattle.index.specs.Inner.Marking.{Has}
 
 pub entry-length : (s z : ℕ) → length (entry (span s z)) ≡ 4
 unfolding entry
@@ -74,7 +70,7 @@ entry-read i n s z rest e =
       others = sym (drop-drop 4 n i) ∙ ap (drop 4) e;
     }
 
--- entry_is
+-- starts_at
 module _ (i : List ℕ) (n s z : ℕ) where
   pub too-short : length i < n + 4 → Has i n (entry (span s z)) → ⊥
   too-short h w = let r = entry-read i n s z (w .rest) (w .is) in omega (arith, r .inside)
@@ -82,27 +78,6 @@ module _ (i : List ℕ) (n s z : ℕ) where
   pub other-start : (x : ℕ) → x ≡ pairAt i n → (x ≡ s → ⊥) → Has i n (entry (span s z)) → ⊥
   other-start x e h w = h (e ∙ entry-read i n s z (w .rest) (w .is) .start)
 
-  module _ (y : ℕ) (ey : y ≡ pairAt i (n + 2)) where
-    pub same-entry : n + 4 ≤ length i → ((j : ℕ) → getD i j 0 < 256) → (x : ℕ) → x ≡ pairAt i n → x ≡ s → eqb y z ≡ true → Has i n (entry (span s z))
-    same-entry h b x ex q t =
-        let a : pairAt i n ≡ s = sym ex ∙ q in
-        let c : pairAt i (n + 2) ≡ z = sym ey ∙ eqb-true y z t in
-        record { rest = drop (n + 4) i; is = entry-front i n h b ∙ rw (a, c) refl }
-
-    pub other-size : eqb y z ≡ false → Has i n (entry (span s z)) → ⊥
-    other-size t w = eqb-false y z t (ey ∙ entry-read i n s z (w .rest) (w .is) .long)
-
--- mark
-module _ (compare : Bool) (i o : List ℕ) (n s z : ℕ) where
-  pub mark-compared : compare ≡ true → (r : Bool) → (r ≡ true → Has i n (entry (span s z))) → (r ≡ false → Has i n (entry (span s z)) → ⊥)
-      → Marks compare i (entry (span s z)) o o n r
-  mark-compared c r f g = record {
-    done = λ q. record { end = refl; same = λ y. f q; put = λ y. not-both c y };
-    differs = λ q. record { compared = c; unlike = g q };
-  }
-
-  pub mark-written : compare ≡ false → (o′ : List ℕ) → (n + 4 ≤ length o → o′ ≡ spliced o n (entry (span s z))) → Marks compare i (entry (span s z)) o o′ n true
-  mark-written c o′ f = record {
-    done = λ q. record { end = refl; same = λ y. not-both y c; put = λ y h. f (let e = entry-length s z in omega arith) };
-    differs = λ q. not-both refl q;
-  }
+  -- What the entry at n says.
+  pub entry-has : n + 4 ≤ length i → ((j : ℕ) → getD i j 0 < 256) → pairAt i n ≡ s → pairAt i (n + 2) ≡ z → Has i n (entry (span s z))
+  entry-has h b a c = record { rest = drop (n + 4) i; is = entry-front i n h b ∙ rw (a, c) refl }

@@ -75,12 +75,6 @@ module _ (index s b : List ℕ) (at k : ℕ) (l : Language) (x : Index index s l
   }
   leaf-opens u (typed-argument {i = i} {j = j} e) h c = no-argument i j e
 
-  leaf-token : (u : Code) → Typed l [] u k → (getD index k 0 ≡ 0 → ⊥) → (v : ℕ) × (u ≡ token v)
-  leaf-token u (typed-node {p = p} {ks = ks} e w) c =
-      absurd (c (no-class s (getD index k 0) (sym (x .indexed .range k kind) ∙ apart l (x .apart) k p ks e)))
-  leaf-token u (typed-token {v = v} e w) c = (v, refl)
-  leaf-token u (typed-argument {i = i} {j = j} e) c = no-argument i j e
-
   module _ (bytes : (i : ℕ) → getD b i 0 < 256) (class : getD index k 0 ≡ 0) where
     abbrev spot : ℕ
     spot = getD index (productionKey k (getD b at 0)) 0
@@ -127,10 +121,6 @@ module _ (index s b : List ℕ) (at k : ℕ) (l : Language) (t : Code) (h : Ther
 
   class-is : c ≡ getD index k 0
   class-is = ec ∙ ap (λ (i : ℕ). getD index i 0) ej
-
-  -- mark_at: an operand of a class is a token.
-  pub is-token : (c ≡ 0 → ⊥) → (v : ℕ) × (t ≡ token v)
-  is-token n = leaf-token index s b at k l (h .index-of) small t (h .lies .typed) (λ z. n (class-is ∙ z))
 
   pub at-token : (c ≡ 0 → ⊥) → Opens index s b at k l t 0 0 (at + 2)
   at-token n = leaf-opens index s b at k l (h .index-of) small t (h .lies .typed) (h .lies) (λ z. n (class-is ∙ z))

@@ -1,7 +1,6 @@
--- The walk that deals with the entries of a tree: a law for each return and turn of `mark_at`.
+-- The walk that writes the entries of trees in a row: a law for each return and turn of `write_row`.
 use Prim.Native.Nat.{ℕ, zero, suc, _+_, _-_, _*_, _<_, _≤_}
 use mathlib.Core.Path.{_≡_, refl, sym, ap, _∙_}
-use mathlib.Core.Bool.{Bool, true, false}
 use mathlib.Core.List.{List, [], _∷_, _++_, append-assoc, append-nil}
 use native.Mathlib.Omega.{arith}
 use lib.ListN.{length, getD, drop, take, length-append}
@@ -16,12 +15,10 @@ use Rattle.reader.specs.Syntax.{write, writeAll, tree}
 use Rattle.reader.specs.Inner.Positions.{KindsIn}
 use Rattle.index.specs.Spans.{Span, span, size, spans, spansAll, entry, entries}
 use Rattle.index.specs.Inner.Lying.{Row, Shape, production, value, Opens}
-use Rattle.index.specs.Inner.Marking.{lastPlace, Has, Deals, Unlike, Marks, Walks}
-use Rattle.index.specs.declared.walk.Marked.{Marked}
-use Rattle.index.specs.declared.walk.Marked.the-variants.{To, Differs}
+use Rattle.index.specs.Inner.Marking.{lastPlace, Has, Puts, Writes}
+use Rattle.index.specs.declared.walk.Ends.{Ends}
 use Rattle.index.proofs.Rows.{kinds-end, Turn, turn, none-left}
 use Rattle.index.proofs.Pairs.{entry-length}
-use Rattle.index.proofs.Shapes.{is-token}
 
 -- A tree by its shape.
 pub shape-size : {l : Language} {k : ℕ} {t : Code} {ts : Codes} {ks : List ℕ} {f : ℕ} → Shape l k t ts ks f → size t ≡ f + length (writeAll tree ts)
@@ -35,7 +32,7 @@ unfolding spans
 shape-spans (production e) a = refl
 shape-spans value a = refl
 
-shape-front : {l : Language} {k : ℕ} {t : Code} {ts : Codes} {ks : List ℕ} {f : ℕ} → Shape l k t ts ks f → 0 < f
+pub shape-front : {l : Language} {k : ℕ} {t : Code} {ts : Codes} {ks : List ℕ} {f : ℕ} → Shape l k t ts ks f → 0 < f
 shape-front (production e) = omega arith
 shape-front value = omega arith
 
@@ -70,16 +67,11 @@ mutual
       let e = ap length (entries-cons (span a 2) []) ∙ length-append (entry (span a 2)) (entries []) in
       omega (arith, e, entry-length a 2, entries-none)
 
-  entries-few-all : (ts : Codes) (a : ℕ) → length (entries (spansAll a ts)) ≤ 4 * length (writeAll tree ts)
+  pub entries-few-all : (ts : Codes) (a : ℕ) → length (entries (spansAll a ts)) ≤ 4 * length (writeAll tree ts)
   entries-few-all nil a = omega (arith, entries-none)
   entries-few-all (cons t ts) a =
       let e = ap length (entries-append (spans a t) (spansAll (a + size t) ts)) ∙ length-append (entries (spans a t)) (entries (spansAll (a + size t) ts)) in
       omega (arith, e, length-append (write tree t) (writeAll tree ts), entries-few t a, entries-few-all ts (a + size t))
-
--- The entry of a token.
-token-entries : (t : Code) (v a : ℕ) → t ≡ token v → (entries (spans a t) ≡ entry (span a 2)) × (size t ≡ 2)
-unfolding spans write entries concatMap
-token-entries t v a e = rw e (append-nil (entry (span a 2)), refl)
 
 -- What stands in an index, one part behind another.
 module _ (i : List ℕ) (n : ℕ) (v u : List ℕ) where
@@ -107,189 +99,143 @@ splice-before o n m e v q h =
     let c : m + length v ≡ n + length (e ++ v) = omega (arith, length-append e v) in
     rw (opened o m v, opened (take m o ++ (v ++ rest)) n e, a, b, opened o n (e ++ v), ← c, append-assoc e v rest) refl
 
--- One part dealt with behind another, or in front of it.
-module _ (compare : Bool) (i v u o o₁ o₂ : List ℕ) where
-  pub deals-then : (n m k : ℕ) → Deals compare i v o o₁ n m → Deals compare i u o₁ o₂ m k → length o₁ ≡ length o → Deals compare i (v ++ u) o o₂ n k
-  deals-then n m k a b l = record {
+-- One part written behind another, or in front of it.
+module _ (v u o o₁ o₂ : List ℕ) where
+  pub puts-then : (n m k : ℕ) → Puts v o o₁ n m → Puts u o₁ o₂ m k → length o₁ ≡ length o → Puts (v ++ u) o o₂ n k
+  puts-then n m k a b l = record {
     end = omega (arith, length-append v u, a .end, b .end);
-    same = λ c. has-both i n v u (a .same c) m (a .end) (b .same c);
-    put = λ c h.
+    put = λ h.
         let be = b .end in
         let f : n + length v ≤ length o = omega (arith, a .end) in
-        b .put c (omega arith) ∙ (ap (λ (p : List ℕ). spliced p m u) (a .put c (omega arith)) ∙ (ap (λ (j : ℕ). spliced (spliced o n v) j u) (a .end) ∙ splice-splice o n v f u));
+        b .put (omega arith) ∙ (ap (λ (p : List ℕ). spliced p m u) (a .put (omega arith)) ∙ (ap (λ (j : ℕ). spliced (spliced o n v) j u) (a .end) ∙ splice-splice o n v f u));
   }
 
-  pub deals-before : (n m k : ℕ) → Deals compare i u o o₁ m k → Deals compare i v o₁ o₂ n m → length o₁ ≡ length o → Deals compare i (v ++ u) o o₂ n k
-  deals-before n m k a b l = record {
+  pub puts-before : (n m k : ℕ) → Puts u o o₁ m k → Puts v o₁ o₂ n m → length o₁ ≡ length o → Puts (v ++ u) o o₂ n k
+  puts-before n m k a b l = record {
     end = omega (arith, length-append v u, a .end, b .end);
-    same = λ c. has-both i n v u (b .same c) m (b .end) (a .same c);
-    put = λ c h.
+    put = λ h.
         let ae = a .end in
-        b .put c (omega arith) ∙ (ap (λ (p : List ℕ). spliced p n v) (a .put c h) ∙ splice-before o n m v u (b .end) (omega arith));
+        b .put (omega arith) ∙ (ap (λ (p : List ℕ). spliced p n v) (a .put h) ∙ splice-before o n m v u (b .end) (omega arith));
   }
 
-  pub unlike-front : (n : ℕ) → Unlike compare i v n → Unlike compare i (v ++ u) n
-  unlike-front n a = record { compared = a .compared; unlike = λ h. a .unlike (has-front i n v u h) }
+pub puts-nothing : (o : List ℕ) (n : ℕ) → Puts [] o o n n
+puts-nothing o n = record { end = omega arith; put = λ h. nothing-spliced o n }
 
-  pub unlike-back : (n m : ℕ) → m ≡ n + length v → Unlike compare i u m → Unlike compare i (v ++ u) n
-  unlike-back n m e a = record { compared = a .compared; unlike = λ h. a .unlike (has-back i n v u h m e) }
+-- An entry that was put, where its span is told by other numbers.
+pub puts-entry : (o o′ : List ℕ) (n s z t y : ℕ) → (n + 4 ≤ length o → o′ ≡ spliced o n (entry (span s z))) → s ≡ t → z ≡ y → Puts (entry (span t y)) o o′ n (n + 4)
+puts-entry o o′ n s z t y f e g = rw (← e, ← g) (record { end = omega (arith, entry-length s z); put = f })
 
--- Answers.
-differs-to : {d m : ℕ} {A : Type 0} → Differs ≡ To d m → A
-differs-to e = let z : _≡_ {A = ℕ} 0 1 = cc in absurd (omega arith)
+-- Where no trees are left.
+pub no-trees : (a : ℕ) (ts : Codes) → ts ≡ nil → (entries (spansAll a ts) ≡ []) × (length (writeAll tree ts) ≡ 0)
+unfolding spans write entries concatMap
+no-trees a ts e = rw e (refl, refl)
 
-module _ {compare : Bool} {i v o o′ : List ℕ} {n e : ℕ} where
-  walks-differs : Unlike compare i v n → Walks compare i v o o′ n e Differs
-  walks-differs h = record { done = λ d m q. differs-to q; differs = λ q. h }
+-- The first of trees in a row, by its operands, and the others.
+module _ (x s b : List ℕ) (to q last : ℕ) (l : Language) (ts : Codes) (v : Turn x s b to q last l ts) where
+  pub turn-long : length (writeAll tree ts) ≡ size (v .head) + length (writeAll tree (v .tail))
+  unfolding write
+  turn-long = ap (λ (c : Codes). length (writeAll tree c)) (v .is) ∙ length-append (write tree (v .head)) (writeAll tree (v .tail))
 
-  walks-to : {d m : ℕ} → d ≡ e → Deals compare i v o o′ n m → Walks compare i v o o′ n e (To d m)
-  walks-to {d} {m} h w = record {
-    done = λ c k q. let x : d ≡ c = cc in let y : m ≡ k = cc in (sym x ∙ h, rw (← y) w);
-    differs = λ q. differs-to (sym q);
-  }
+  pub turn-spans : (a : ℕ) → entries (spansAll a ts) ≡ entries (spans a (v .head)) ++ entries (spansAll (a + size (v .head)) (v .tail))
+  unfolding spans
+  turn-spans a = ap (λ (c : Codes). entries (spansAll a c)) (v .is) ∙ entries-append (spans a (v .head)) (spansAll (a + size (v .head)) (v .tail))
 
--- Where the loop stands: the operands that are still to be dealt with, and the entries of those before them.
-pub record Walking (x s b : List ℕ) (at base : ℕ) (compare : Bool) (i o o′ : List ℕ) (n first last q to m : ℕ) (l : Language) (t : Code) : Type 0 where
+  module _ (k f e t : ℕ) (p : Opens x s b to k l (v .head) f e t) where
+    pub turn-ahead : (to < t) × (t ≤ length b)
+    turn-ahead = let y = shape-front (p .shape) in (omega (arith, p .past), p .row .lie .inside)
+
+    pub turn-end : to + size (v .head) ≡ t + length (writeAll tree (p .operands))
+    turn-end = let y = shape-size (p .shape) in omega (arith, p .past)
+
+    module _ (base a c d : ℕ) (ea : a ≡ base + to) (ec : c ≡ base + t) (ed : d ≡ base + (to + size (v .head))) where
+      pub turn-are : entries (spansAll a ts) ≡ entry (span a (size (v .head))) ++ (entries (spansAll c (p .operands)) ++ entries (spansAll d (v .tail)))
+      turn-are =
+          let y : a + p .front ≡ c = omega (arith, p .past) in
+          let z : a + size (v .head) ≡ d = omega arith in
+          turn-spans a
+          ∙ (ap (λ (j : ℕ). entries (spans a (v .head)) ++ entries (spansAll j (v .tail))) z
+          ∙ (ap (λ (g : List Span). entries g ++ entries (spansAll d (v .tail))) (shape-spans (p .shape) a ∙ ap (λ (j : ℕ). span a (size (v .head)) ∷ spansAll j (p .operands)) y)
+          ∙ (ap (λ (g : List ℕ). g ++ entries (spansAll d (v .tail))) (entries-cons (span a (size (v .head))) (spansAll c (p .operands)))
+          ∙ append-assoc (entry (span a (size (v .head)))) (entries (spansAll c (p .operands))) (entries (spansAll d (v .tail))))))
+
+-- Where the loop stands: the trees whose entries are still to be written, and the entries of those before them.
+pub record Walking (x s b : List ℕ) (base : ℕ) (o o′ : List ℕ) (n at : ℕ) (ts : Codes) (q last to m : ℕ) (l : Language) : Type 0 where
   pub others : Codes
   pub dealt : List ℕ
   pub row : Row x s b to q last l others
-  pub deals : Deals compare i dealt o o′ (n + 4) m
-  pub all : entries (spans (base + at) t) ≡ entry (span (base + at) (size t)) ++ (dealt ++ entries (spansAll (base + to) others))
-  pub ends : to + length (writeAll tree others) ≡ at + size t
-  pub ahead : at < to
+  pub kinds : KindsIn s q last
+  pub puts : Puts dealt o o′ n m
+  pub all : entries (spansAll (base + at) ts) ≡ dealt ++ entries (spansAll (base + to) others)
+  pub ends : to + length (writeAll tree others) ≡ at + length (writeAll tree ts)
   pub few : m + 4 * (length b - to) ≤ lastPlace
-  pub kinds : KindsIn s first last
-  pub from : first ≤ q
 
-module _ (x s b : List ℕ) (at base k : ℕ) (compare : Bool) (i o : List ℕ) (n first last to : ℕ) (l : Language) (t : Code) where
-  pub walk-begin : Opens x s b at k l t first last to → n + 4 * (length b - at) ≤ lastPlace → Walking x s b at base compare i o o n first last first to (n + 4) l t
-  walk-begin p h =
-      let f = shape-front (p .shape) in
-      let y = p .past in
-      let inside = p .row .lie .inside in
-      let a : base + at + p .front ≡ base + to = omega arith in
-      record {
-        others = p .operands;
-        dealt = [];
-        row = p .row;
-        deals = record { end = omega arith; same = λ c. record { rest = drop (n + 4) i; is = refl }; put = λ c j. nothing-spliced o (n + 4) };
-        all =
-            ap entries (shape-spans (p .shape) (base + at) ∙ ap (λ (z : ℕ). span (base + at) (size t) ∷ spansAll z (p .operands)) a)
-            ∙ entries-cons (span (base + at) (size t)) (spansAll (base + to) (p .operands));
-        ends = omega (arith, shape-size (p .shape));
-        ahead = omega arith;
-        few = omega arith;
-        kinds = p .kinds;
-        from = omega arith;
-      }
+module _ (x s b : List ℕ) (base : ℕ) (o : List ℕ) (n at : ℕ) (ts : Codes) (l : Language) where
+  pub walk-begin : (first last : ℕ) → KindsIn s first last → Row x s b at first last l ts → n + 4 * (length b - at) ≤ lastPlace → Walking x s b base o o n at ts first last at n l
+  walk-begin first last k r h = record { others = ts; dealt = []; row = r; kinds = k; puts = puts-nothing o n; all = refl; ends = refl; few = h }
 
-module _ (x s b : List ℕ) (at base : ℕ) (compare : Bool) (i o o′ : List ℕ) (n first last q to m : ℕ) (l : Language) (t : Code)
-    (w : Walking x s b at base compare i o o′ n first last q to m l t) where
-  -- What is known of the positions.
-  pub walk-inside : (at < length b) × (to ≤ length b) × (at < to)
-  walk-inside = let p = w .row .lie .inside in let a = w .ahead in (omega arith, p, a)
+  module _ (o′ : List ℕ) (q last to m : ℕ) (w : Walking x s b base o o′ n at ts q last to m l) where
+    pub walk-done : last ≤ q → (r : Ends) → r .trees ≡ to → r .entries ≡ m → Writes (entries (spansAll (base + at) ts)) o o′ n (at + length (writeAll tree ts)) r
+    walk-done done r et em =
+        let z = no-trees (base + to) (w .others) (none-left x s b to q last l (w .others) (w .row) done) in
+        let a : entries (spansAll (base + at) ts) ≡ w .dealt = w .all ∙ (ap (λ (v : List ℕ). w .dealt ++ v) (z .0) ∙ append-nil (w .dealt)) in
+        record { trees = omega (arith, w .ends, z .1); puts = rw (a, em) (w .puts) }
 
-  module _ (here : q < last) where
-    pub walk-turn : Turn x s b to q last l (w .others)
-    walk-turn = turn x s b to q last l (w .others) (w .row) here (kinds-end s first last q (w .kinds) (w .from) here)
+    module _ (here : q < last) where
+      pub walk-turn : Turn x s b to q last l (w .others)
+      walk-turn = turn x s b to q last l (w .others) (w .row) here (kinds-end s q last q (w .kinds) (omega arith) here)
 
-    pub walk-kind : q < length s
-    walk-kind = w .kinds q (w .from) here .0
+      pub walk-kind : q < length s
+      walk-kind = w .kinds q (omega arith) here .0
 
-    -- An operand of a class, whose place in the language's index is c, is a token.
-    module _ (k j c : ℕ) (ek : k ≡ getD s q 0) (ej : j ≡ k) (ec : c ≡ getD x j 0) (some : c ≡ 0 → ⊥) where
-      head-token : (v : ℕ) × (walk-turn .head ≡ token v)
-      head-token = is-token x s b to (getD s q 0) l (walk-turn .head) (walk-turn .there) j c (ej ∙ ek) ec some
+      module _ (f e t : ℕ) (p : Opens x s b to (getD s q 0) l (walk-turn .head) f e t) where
+        abbrev inner : List ℕ
+        inner = entries (spansAll (base + t) (p .operands))
 
-      head-entries : (entries (spans (base + to) (walk-turn .head)) ≡ entry (span (base + to) 2)) × (size (walk-turn .head) ≡ 2)
-      head-entries = token-entries (walk-turn .head) (head-token .0) (base + to) (head-token .1)
+        -- What is known of the numbers.
+        pub walk-ahead : (to < t) × (t ≤ length b)
+        walk-ahead = turn-ahead x s b to q last l (w .others) walk-turn (getD s q 0) f e t p
 
-      pub value-inside : to + 2 ≤ length b
-      value-inside = let p = walk-turn .row .lie .inside in omega (arith, head-entries .1)
+        pub walk-few : m + 4 + 4 * (length b - t) ≤ lastPlace
+        walk-few = omega (arith, w .few, walk-ahead .0, walk-ahead .1)
 
-      module _ (o″ : List ℕ) (r : Bool) (er : Marks compare i (entry (span (base + to) 2)) o′ o″ m r) where
-        pub value-differs : r ≡ false → Walks compare i (entries (spans (base + to) (walk-turn .head))) o′ o″ m (to + size (walk-turn .head)) Differs
-        value-differs e = rw (head-entries .0) (walks-differs (er .differs e))
+        -- The operands end in the bytes.
+        pub walk-inside : t + length (writeAll tree (p .operands)) ≤ length b
+        walk-inside =
+            let y = turn-end x s b to q last l (w .others) walk-turn (getD s q 0) f e t p in
+            omega (arith, walk-turn .row .lie .inside)
 
-        pub value-walks : r ≡ true → Walks compare i (entries (spans (base + to) (walk-turn .head))) o′ o″ m (to + size (walk-turn .head)) (To (to + 2) (m + 4))
-        value-walks e =
-            let four : m + length (entry (span (base + to) 2)) ≡ m + 4 = ap (λ (n : ℕ). m + n) (entry-length (base + to) 2) in
-            rw (head-entries .0) (walks-to (ap (λ (n : ℕ). to + n) (sym (head-entries .1))) (rw four at (er .done e)))
+        -- The operands' entries are written, then the node's own.
+        module _ (o₁ o₂ : List ℕ) (k end a z : ℕ) (pi : Puts inner o′ o₁ (m + 4) k) (ee : end ≡ t + length (writeAll tree (p .operands)))
+            (ea : a ≡ base + to) (ez : z ≡ end - to) (ep : m + 4 ≤ length o₁ → o₂ ≡ spliced o₁ m (entry (span a z))) where
+          pub walk-next : length o′ ≡ length o → length o₁ ≡ length o′ → Walking x s b base o o₂ n at ts (q + 1) last end k l
+          walk-next long same =
+              let y : end ≡ to + size (walk-turn .head) = ee ∙ sym (turn-end x s b to q last l (w .others) walk-turn (getD s q 0) f e t p) in
+              let own = puts-entry o₁ o₂ m a z (base + to) (size (walk-turn .head)) ep ea (omega arith) in
+              let both = puts-before (entry (span (base + to) (size (walk-turn .head)))) inner o′ o₁ o₂ m (m + 4) k pi own same in
+              let v = entry (span (base + to) (size (walk-turn .head))) ++ inner in
+              let are = turn-are x s b to q last l (w .others) walk-turn (getD s q 0) f e t p base (base + to) (base + t) (base + end) refl refl (omega arith) in
+              let behind = entries (spansAll (base + end) (walk-turn .tail)) in
+              let len = turn-long x s b to q last l (w .others) walk-turn in
+              let small = entries-few-all (p .operands) (base + t) in
+              record {
+                others = walk-turn .tail;
+                dealt = w .dealt ++ v;
+                row = rw y (walk-turn .row);
+                kinds = λ j c d. w .kinds j (omega arith) d;
+                puts = puts-then (w .dealt) v o o′ o₂ n m k (w .puts) both long;
+                all = w .all
+                    ∙ (ap (λ (g : List ℕ). w .dealt ++ g) (are ∙ sym (append-assoc (entry (span (base + to) (size (walk-turn .head)))) inner behind))
+                    ∙ sym (append-assoc (w .dealt) v behind));
+                ends = omega (arith, w .ends);
+                few = omega (arith, w .few, pi .end, walk-ahead .0, walk-ahead .1, walk-inside);
+              }
 
-    others-are : entries (spansAll (base + to) (w .others)) ≡ entries (spans (base + to) (walk-turn .head)) ++ entries (spansAll (base + (to + size (walk-turn .head))) (walk-turn .tail))
-    unfolding spans
-    others-are =
-        let z : base + to + size (walk-turn .head) ≡ base + (to + size (walk-turn .head)) = omega arith in
-        ap (λ (c : Codes). entries (spansAll (base + to) c)) (walk-turn .is)
-        ∙ (entries-append (spans (base + to) (walk-turn .head)) (spansAll (base + to + size (walk-turn .head)) (walk-turn .tail))
-        ∙ ap (λ (j : ℕ). entries (spans (base + to) (walk-turn .head)) ++ entries (spansAll j (walk-turn .tail))) z)
+        -- A node that has no operands.
+        module _ (none : e ≤ f) where
+          none-inner : (inner ≡ []) × (length (writeAll tree (p .operands)) ≡ 0)
+          none-inner = no-trees (base + t) (p .operands) (none-left x s b t f e l (p .operands) (p .row) none)
 
-    module _ (o″ : List ℕ) (r : Marked) (er : Walks compare i (entries (spans (base + to) (walk-turn .head))) o′ o″ m (to + size (walk-turn .head)) r) where
-      pub walk-differs : r ≡ Differs → Walks compare i (entries (spans (base + at) t)) o o″ n (at + size t) Differs
-      walk-differs e =
-          let u = er .differs e in
-          let own = entry (span (base + at) (size t)) in
-          let rest = entries (spansAll (base + (to + size (walk-turn .head))) (walk-turn .tail)) in
-          let four : n + 4 ≡ n + length own = omega (arith, entry-length (base + at) (size t)) in
-          let v : Unlike compare i (entries (spans (base + at) t)) n =
-          rw (w .all, others-are)
-          (unlike-back compare i own (w .dealt ++ (entries (spans (base + to) (walk-turn .head)) ++ rest)) o o′ o″ n (n + 4) four
-          (unlike-back compare i (w .dealt) (entries (spans (base + to) (walk-turn .head)) ++ rest) o o′ o″ (n + 4) m (w .deals .end)
-          (unlike-front compare i (entries (spans (base + to) (walk-turn .head))) rest o o′ o″ m u))) in
-          walks-differs v
-
-      pub walk-next : length o′ ≡ length o → (e k : ℕ) → r ≡ To e k → Walking x s b at base compare i o o″ n first last (q + 1) e k l t
-      unfolding write
-      walk-next long e k y =
-          let d = er .done e k y in
-          let f = w .few in
-          let g = w .from in
-          let a = w .ahead in
-          let ends = w .ends in
-          let few = entries-few (walk-turn .head) (base + to) in
-          let inside = walk-turn .row .lie .inside in
-          let len : length (writeAll tree (w .others)) ≡ size (walk-turn .head) + length (writeAll tree (walk-turn .tail)) =
-          ap (λ (c : Codes). length (writeAll tree c)) (walk-turn .is) ∙ length-append (write tree (walk-turn .head)) (writeAll tree (walk-turn .tail)) in
-          rw (d .0) (record {
-            others = walk-turn .tail;
-            dealt = w .dealt ++ entries (spans (base + to) (walk-turn .head));
-            row = walk-turn .row;
-            deals = deals-then compare i (w .dealt) (entries (spans (base + to) (walk-turn .head))) o o′ o″ (n + 4) m k (w .deals) (d .1) long;
-            all = w .all ∙ ap (λ (z : List ℕ). entry (span (base + at) (size t)) ++ z)
-                (ap (λ (z : List ℕ). w .dealt ++ z) others-are
-                ∙ sym (append-assoc (w .dealt) (entries (spans (base + to) (walk-turn .head))) (entries (spansAll (base + (to + size (walk-turn .head))) (walk-turn .tail)))));
-            ends = omega arith;
-            ahead = omega arith;
-            few = omega (arith, d .1 .end);
-            kinds = w .kinds;
-            from = omega arith;
-          })
-
-  module _ (done : last ≤ q) where
-    nothing-left : w .others ≡ nil
-    nothing-left = none-left x s b to q last l (w .others) (w .row) done
-
-    pub walk-size : to ≡ at + size t
-    unfolding write
-    walk-size =
-        let z : length (writeAll tree (w .others)) ≡ 0 = ap (λ (c : Codes). length (writeAll tree c)) nothing-left in
-        omega (arith, w .ends)
-
-    all-dealt : entries (spans (base + at) t) ≡ entry (span (base + at) (size t)) ++ w .dealt
-    unfolding spans entries concatMap
-    all-dealt =
-        w .all ∙ ap (λ (z : List ℕ). entry (span (base + at) (size t)) ++ z)
-        (ap (λ (c : Codes). w .dealt ++ entries (spansAll (base + to) c)) nothing-left ∙ append-nil (w .dealt))
-
-    module _ (o″ : List ℕ) (z : ℕ) (ez : z ≡ to - at) (r : Bool) (er : Marks compare i (entry (span (base + at) z)) o′ o″ n r) where
-      own-marks : Marks compare i (entry (span (base + at) (size t))) o′ o″ n r
-      own-marks = let y : z ≡ size t = omega (arith, walk-size) in rw y at er
-
-      pub own-differs : r ≡ false → Walks compare i (entries (spans (base + at) t)) o o″ n (at + size t) Differs
-      own-differs e = rw all-dealt (walks-differs (unlike-front compare i (entry (span (base + at) (size t))) (w .dealt) o o′ o″ n (own-marks .differs e)))
-
-      pub walk-done : r ≡ true → length o′ ≡ length o → Walks compare i (entries (spans (base + at) t)) o o″ n (at + size t) (To to m)
-      walk-done e long =
-          let four : n + length (entry (span (base + at) (size t))) ≡ n + 4 = ap (λ (j : ℕ). n + j) (entry-length (base + at) (size t)) in
-          let d : Deals compare i (entry (span (base + at) (size t))) o′ o″ n (n + 4) = rw four at (own-marks .done e) in
-          rw all-dealt (walks-to walk-size (deals-before compare i (entry (span (base + at) (size t))) (w .dealt) o o′ o″ n (n + 4) m (w .deals) d long))
+          pub leaf-next : (o₂ : List ℕ) (a z : ℕ) → a ≡ base + to → z ≡ t - to → (m + 4 ≤ length o′ → o₂ ≡ spliced o′ m (entry (span a z)))
+              → length o′ ≡ length o → Walking x s b base o o₂ n at ts (q + 1) last t (m + 4) l
+          leaf-next o₂ a z ea ez ep long =
+              walk-next o′ o₂ (m + 4) t a z (rw (none-inner .0) (puts-nothing o′ (m + 4))) (omega (arith, none-inner .1)) ea ez ep long refl

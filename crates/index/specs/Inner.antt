@@ -1,3 +1,4 @@
 pub mod Lying
 pub mod Marking
+pub mod Comparing
 pub mod Starts

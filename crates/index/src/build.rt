@@ -1,7 +1,12 @@
 // The operation that builds the index of a tree, and the test of an index that is handed in.
-use crate::walk::Marked;
-use crate::walk::mark_at;
+use crate::compare::compare_row;
+use crate::entries::ENTRY;
+use crate::entries::put_entry;
+use crate::entries::starts_at;
+use crate::operands::operands_at;
+use crate::walk::write_row;
 use checks::trees::check_indexed;
+use fields::bytes::pair_in;
 use fields::outcome::Answer;
 use fields::outcome::Outcome;
 use fields::outcome::Reason;
@@ -43,10 +48,20 @@ pub fn write_index(
     ensures { λ r. ⌜ ((l : Language) (t : Code) → There (now (places .entry)) (now (language .entry)) (now (tree .entry)) 0 kind l t
         → (r ≡ n + length (entries (spans base t))) × (r ≤ length (now (out .entry)) → now (out .exit) ≡ spliced (now (out .entry)) n (entries (spans base t)))) ⌝ }
 {
-    match mark_at(language, places, kind, tree, 0, base, false, &[], out, n) {
-        Marked::To(e, m) => m,
-        Marked::Differs => n,
-    }
+    let operands = operands_at(language, places, kind, tree, 0);
+    let ends = write_row(
+        language,
+        places,
+        operands.first,
+        operands.last,
+        tree,
+        operands.to,
+        base,
+        out,
+        n + ENTRY,
+    );
+    put_entry(base, ends.trees, out, n);
+    ends.entries
 }
 
 // Whether an index is the own one of the legal tree of a kind.
@@ -55,31 +70,36 @@ pub fn is_own(language: &[u8], places: &[u16], kind: u8, tree: &[u8], index: &[u
     ensures { λ r. ⌜ ((l : Language) (t : Code) → There (now (places .entry)) (now (language .entry)) (now (tree .entry)) 0 kind l t
         → r ≡ sameNumbers (now (index .entry)) (indexOf t)) ⌝ }
 {
-    let mut nowhere = [0u8; 1];
-    match mark_at(
+    if !starts_at(index, 0, 0) {
+        return false;
+    }
+    let operands = operands_at(language, places, kind, tree, 0);
+    let end = compare_row(
         language,
         places,
-        kind,
+        operands.first,
+        operands.last,
         tree,
-        0,
-        0,
-        true,
+        operands.to,
+        pair_in(index, 2),
         index,
-        &mut nowhere,
-        0,
-    ) {
-        Marked::To(e, m) => m == index.len(),
-        Marked::Differs => false,
-    }
+        ENTRY,
+    );
+    end == index.len()
 }
 
-// The index of a legal tree: 17 where it is longer than the output.
+// The index of a legal tree: 17 where it is longer than the output. It has no more entries than the tree has bytes; an output
+// with room for so many is written at once, for another the length is counted first.
 fn index_legal(language: &[u8], places: &[u16], kind: u8, tree: &[u8], output: &mut [u8]) -> Answer
     requires { ⌜ (length (now tree) ≤ longest) × ((l : Language) × (t : Code) × There (now places) (now language) (now tree) 0 kind l t) ⌝ }
     ensures { λ r. ⌜ ((l : Language) (t : Code) → There (now (places .entry)) (now (language .entry)) (now (tree .entry)) 0 kind l t
         → (r .outcome ≡ written (fitted (length (now (output .entry))) (indexOf t)))
         × (now (output .exit) ≡ outputAfter (now (output .entry)) (fitted (length (now (output .entry))) (indexOf t)))) ⌝ }
 {
+    if tree.len() * ENTRY <= output.len() {
+        let length = write_index(language, places, kind, tree, 0, output, 0);
+        return accept(length);
+    }
     let mut nowhere = [0u8; 1];
     let length = write_index(language, places, kind, tree, 0, &mut nowhere, 0);
     if output.len() < length {

@@ -4,12 +4,12 @@ use fields::bytes::pair_in;
 ghost use mathlib.Core.Path.{_≡_};
 ghost use mathlib.Core.Bool.{true, false};
 ghost use mathlib.Core.List.{List};
-ghost use Prim.Native.Nat.{_+_, _<_, _≤_};
+ghost use Prim.Native.Nat.{ℕ, _+_, _<_, _≤_};
 ghost use lib.ListN.{length};
-ghost use Rattle.fields.specs.Fields.{twoBytes};
+ghost use Rattle.fields.specs.Fields.{pairAt, twoBytes};
 ghost use Rattle.fields.specs.Inner.Writing.{spliced};
 ghost use Rattle.index.specs.Spans.{Span, span, entry, entries};
-ghost use Rattle.index.specs.Inner.Marking.{Has, Marks};
+ghost use Rattle.index.specs.Inner.Marking.{Has};
 ghost use Rattle.index.specs.Inner.Starts.{Splits};
 
 // How many bytes an entry has.
@@ -36,37 +36,16 @@ pub fn put_entry(start: usize, size: usize, out: &mut [u8], n: usize)
     put_pair(size, out, n + 2);
 }
 
-// Whether an entry stands in an index.
-fn entry_is(index: &[u8], n: usize, start: usize, size: usize) -> bool
-    requires { ⌜ (start < 65536) × (size < 65536) × (n < 1000000) ⌝ }
-    ensures { λ r. ⌜ (r ≡ true → Has (now (index .entry)) n (entry (span start size))) × (r ≡ false → Has (now (index .entry)) n (entry (span start size)) → ⊥) ⌝ }
+// Whether an entry with a start stands in an index.
+pub fn starts_at(index: &[u8], n: usize, start: usize) -> bool
+    requires { ⌜ n ≤ length (now index) ⌝ }
+    ensures { λ r. ⌜ (r ≡ true → (n + 4 ≤ length (now (index .entry))) × (pairAt (now (index .entry)) n ≡ start))
+        × (r ≡ false → (size : ℕ) → Has (now (index .entry)) n (entry (span start size)) → ⊥) ⌝ }
 {
     if index.len() < n + ENTRY {
         return false;
     }
-    if pair_in(index, n) != start {
-        return false;
-    }
-    pair_in(index, n + 2) == size
-}
-
-// Compares an entry with the one of an index, or puts it where there is room for it. The answer is whether it may be so.
-pub fn mark(
-    start: usize,
-    size: usize,
-    compare: bool,
-    index: &[u8],
-    out: &mut [u8],
-    n: usize,
-) -> bool
-    requires { ⌜ (start < 65536) × (size < 65536) × (n < 1000000) ⌝ }
-    ensures { λ r. ⌜ Marks compare (now (index .entry)) (entry (span start size)) (now (out .entry)) (now (out .exit)) n r ⌝ }
-{
-    if compare {
-        return entry_is(index, n, start, size);
-    }
-    put_entry(start, size, out, n);
-    true
+    pair_in(index, n) == start
 }
 
 // Where in an index, from an entry on, the first entry stands whose start is not before a position.

@@ -1,69 +1,70 @@
-// The walk over the nodes of a legal tree, in which the entries of its index are written or compared.
+// The walk over the nodes of a legal tree, in which the entries of its index are written.
 use crate::entries::ENTRY;
-use crate::entries::mark;
+use crate::entries::put_entry;
 use crate::operands::operands_at;
-use fields::bytes::to_usize;
-use reader::node::place_at;
 ghost use Prim.Native.Nat.{_+_};
+ghost use lib.ListN.{length};
 ghost use Rattle.language.specs.Language.{Language};
-ghost use Rattle.reader.specs.Code.{Code};
-ghost use Rattle.index.specs.Spans.{size, spans, entries};
-ghost use Rattle.index.specs.Inner.Lying.{There};
-ghost use Rattle.index.specs.Inner.Marking.{Small, Walks};
+ghost use Rattle.reader.specs.Code.{Codes};
+ghost use Rattle.reader.specs.Syntax.{writeAll, tree as treeSyntax};
+ghost use Rattle.reader.specs.Inner.Positions.{KindsIn};
+ghost use Rattle.index.specs.Spans.{spansAll, entries};
+ghost use Rattle.index.specs.Inner.Lying.{Row};
+ghost use Rattle.index.specs.Inner.Marking.{Small, Writes};
 
-// Where a tree ended and where its entries did, or that an entry differs from that of the index.
-pub enum Marked {
-    To(usize, usize),
-    Differs,
+// Where trees end, and where their entries do.
+pub struct Ends {
+    pub trees: usize,
+    pub entries: usize,
 }
 
-// How many bytes a token has.
-const TOKEN: usize = 2;
-
-// Deals with the entries of the tree of a kind that starts at a position. Starts are counted from `base`. Tokens among the
-// operands are dealt with here, productions one call deeper.
-pub fn mark_at(
+// Writes the entries of operands, whose kinds stand in the language from `first` up to `last`, from n on, where there is room.
+// Starts are counted from `base`. An operand that has operands is dealt with one call deeper, its own entry last.
+pub fn write_row(
     language: &[u8],
     places: &[u16],
-    kind: u8,
+    first: usize,
+    last: usize,
     tree: &[u8],
     at: usize,
     base: usize,
-    compare: bool,
-    index: &[u8],
     out: &mut [u8],
     n: usize,
-) -> Marked
-    requires { ⌜ Small (now tree) base at n × ((l : Language) × (t : Code) × There (now places) (now language) (now tree) at kind l t) ⌝ }
-    ensures { λ r. ⌜ ((l : Language) (t : Code) → There (now (places .entry)) (now (language .entry)) (now (tree .entry)) at kind l t
-        → Walks compare (now (index .entry)) (entries (spans (base + at) t)) (now (out .entry)) (now (out .exit)) n (at + size t) r) ⌝ }
+) -> Ends
+    requires { ⌜ Small (now tree) base at n × KindsIn (now language) first last
+        × ((l : Language) × (ts : Codes) × Row (now places) (now language) (now tree) at first last l ts) ⌝ }
+    ensures { λ r. ⌜ ((l : Language) (ts : Codes) → Row (now (places .entry)) (now (language .entry)) (now (tree .entry)) at first last l ts
+        → Writes (entries (spansAll (base + at) ts)) (now (out .entry)) (now (out .exit)) n (at + length (writeAll treeSyntax ts)) r) ⌝ }
 {
-    let operands = operands_at(language, places, kind, tree, at);
-    let last = operands.last;
-    let mut q = operands.first;
-    let mut to = operands.to;
-    let mut m = n + ENTRY;
+    let mut q = first;
+    let mut to = at;
+    let mut m = n;
     while q < last {
-        let of = language[q];
-        if place_at(places, to_usize(of)) != 0 {
-            if !mark(base + to, TOKEN, compare, index, out, m) {
-                return Marked::Differs;
-            }
-            to += TOKEN;
-            m += ENTRY;
-            q += 1;
-            continue;
-        }
-        let Marked::To(e, k) = mark_at(language, places, of, tree, to, base, compare, index, out, m)
-        else {
-            return Marked::Differs;
-        };
-        to = e;
-        m = k;
+        let operands = operands_at(language, places, language[q], tree, to);
         q += 1;
+        if operands.last <= operands.first {
+            put_entry(base + to, operands.to - to, out, m);
+            to = operands.to;
+            m += ENTRY;
+        } else {
+            let ends = write_row(
+                language,
+                places,
+                operands.first,
+                operands.last,
+                tree,
+                operands.to,
+                base,
+                out,
+                m + ENTRY,
+            );
+            put_entry(base + to, ends.trees - to, out, m);
+            to = ends.trees;
+            m = ends.entries;
+        }
     }
-    if !mark(base + at, to - at, compare, index, out, n) {
-        return Marked::Differs;
+    Ends {
+        trees: to,
+        entries: m,
     }
-    Marked::To(to, m)
 }

@@ -1,22 +1,35 @@
 use native.Mathlib.Omega.{arith}
-use Rattle.index.proofs.Building.{own-compared, own-unlike}
+use borrow.Author.Tests.{not-true, not-false}
+use Rattle.index.proofs.Building.{own-start, own-compared}
 use borrow.Author.Needs.{needs}
 use Rattle.index.proofs.build.is_own.Statement.{statement}
 use Rattle.index.proofs.build.is_own.Tie as tie
 use Rattle.index.proofs.build.is_own.Reads as reads
 use Rattle.index.proofs.build.is_own.Lts as lts
-use Rattle.index.proofs.walk.mark_at.Reads as mark-at-reads
-
-mark-at-requires : tie.Need-mark-at-requires
-mark-at-requires c κs = let p = (c .before .before .before .before .before .pre) in (record { short = omega (arith, p .0); few = omega (arith, p .0) }, p .1)
+use Rattle.fields.proofs.bytes.pair_in.Reads as pair-in-reads
+use Rattle.index.proofs.compare.compare_row.Reads as compare-row-reads
+use Rattle.index.proofs.entries.starts_at.Reads as starts-at-reads
+use Rattle.index.proofs.operands.operands_at.Reads as operands-at-reads
 
 returns : tie.Need-returns
-returns c = λ l t h. own-compared _ _ _ _ t _ (c .before .before .before .before .mark-at .ensures l t h) _ _ (c .before .e .given .1)
+returns c = λ l t h. own-start _ t (c .before .starts-at .ensures .1 (not-true _ (c .if1 .taken)))
+
+pair-in-requires : tie.Need-pair-in-requires
+pair-in-requires c κs = let y = (c .before .before .starts-at .ensures .0 (not-false _ (c .before .if1 .left))) .0 in omega arith
+
+compare-row-requires : tie.Need-compare-row-requires
+compare-row-requires c κs = let p = c .before .operands-at .ensures (c .before .before .before .before .before .before .before .before .pre .1 .0) (c .before .before .before .before .before .before .before .before .pre .1 .1) (c .before .before .before .before .before .before .before .before .pre .1 .2) in let y = (c .before .before .before .starts-at .ensures .0 (not-false _ (c .before .before .if1 .left))) .0 in (omega arith, omega arith, p .kinds, (c .before .before .before .before .before .before .before .before .pre .1 .0, p .operands, p .row))
 
 returns-2 : tie.Need-returns-2
-returns-2 c = λ l t h. own-unlike _ _ _ _ t _ (c .before .before .before .mark-at .ensures l t h) (c .enum-told .given .1)
+returns-2 c = λ l t h. let p = c .before .before .operands-at .ensures l t h in own-compared _ t _ _ _ _ l _ _ _ p _ (c .before .pair-in .ensures .0) _ (c .compare-row .ensures .1 l (p .operands) (p .row)) ((c .before .before .before .before .starts-at .ensures .0 (not-false _ (c .before .before .before .if1 .left))) .0) (λ i. omega (arith, c .before .before .before .before .before .shared-slice-known4 .given i)) ((c .before .before .before .before .starts-at .ensures .0 (not-false _ (c .before .before .before .if1 .left))) .1)
 
 pub is-own-spec : {M : Type 1} → statement M
 is-own-spec =
     tie.close
-    (tie.spec (λ c. search needs) mark-at-requires (λ c. search needs) (λ c. search needs) returns returns-2)
+    (tie.spec
+    (λ c κs. search needs)
+    returns
+    (λ c κs. search needs)
+    pair-in-requires
+    compare-row-requires
+    returns-2)
