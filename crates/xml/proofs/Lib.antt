@@ -7,5 +7,7 @@ pub mod Exports
 pub mod Answers
 pub mod Scans
 pub mod Imports
+pub mod Takes
+pub mod Held
 pub mod Whole
 pub mod Examples

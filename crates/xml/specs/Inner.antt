@@ -3,3 +3,4 @@ pub mod Exporting
 pub mod Answering
 pub mod Scanning
 pub mod Importing
+pub mod Contents

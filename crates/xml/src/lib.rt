@@ -1,4 +1,5 @@
 // Trees as XML: export and import.
+pub mod contents;
 pub mod export;
 pub mod import;
 pub mod operations;

@@ -1,4 +1,5 @@
 // The operations export and import.
+use crate::contents::write_contents;
 use crate::export::export_at;
 use crate::import::Text;
 use crate::import::text_at;
@@ -59,8 +60,7 @@ fn import_text(language: &[u8], index: &[u16], kind: u8, text: &[u8], output: &m
     requires { ⌜ Ready (now index) (now language) kind (now text) 0 ⌝ }
     ensures { λ r. ⌜ GivesWhole (now (language .entry)) (now (index .entry)) kind (now (text .entry)) (now (output .entry)) (now (output .exit)) (r .outcome) ⌝ }
 {
-    let mut nowhere = [0u8; 1];
-    match text_at(language, index, kind, text, 0, LEVELS, &mut nowhere, 0) {
+    match text_at(language, index, kind, text, 0, LEVELS, 0) {
         Text::End(e, length) => {
             if e != text.len() {
                 return refuse(Reason::NotAnExport);
@@ -68,7 +68,7 @@ fn import_text(language: &[u8], index: &[u16], kind: u8, text: &[u8], output: &m
             if output.len() < length {
                 return refuse(Reason::OutputTooShort);
             }
-            text_at(language, index, kind, text, 0, LEVELS, output, 0);
+            write_contents(text, output);
             accept(length)
         }
         Text::Deep => refuse(Reason::TooDeep),
