@@ -4,6 +4,7 @@ pub mod Inverse
 pub mod Puts
 pub mod Reading
 pub mod Exports
+pub mod Measures
 pub mod Answers
 pub mod Scans
 pub mod Imports

@@ -28,7 +28,7 @@ fn write_digit(digit: usize, out: &mut [u8], n: usize) -> usize
 }
 
 // How many digits a number has in decimal.
-fn width(number: usize) -> usize
+pub fn width(number: usize) -> usize
     requires { ⌜ number < 65536 ⌝ }
     ensures { λ r. ⌜ (r ≡ length (decimal number)) × (r ≤ 5) ⌝ }
 {
