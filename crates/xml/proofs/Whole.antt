@@ -35,14 +35,9 @@ use Rattle.xml.specs.Inner.Importing.{Inside, ImportsTree}
 use Rattle.xml.specs.Inner.Contents.{Contents}
 use Rattle.putting.specs.Inner.Answering.{Gives}
 use Rattle.xml.specs.Inner.Answering.{GivesWhole, GivesImport}
+use Rattle.xml.proofs.Answers.{gives-refused, gives-same}
 use Rattle.xml.proofs.Held.{held-whole}
 use Rattle.putting.proofs.Answering.{gives-long, gives-fit}
-
-gives-refused : (x : Result (List ℕ)) (o : List ℕ) {out : Outcome} (r : Reason) → x ≡ refused r → out ≡ Refused r → Gives x o o out
-gives-refused x o r e h = (h ∙ sym (ap written e), sym (ap (outputAfter o) e))
-
-gives-same : (x y : Result (List ℕ)) (o o′ : List ℕ) {out : Outcome} → x ≡ y → Gives y o o′ out → Gives x o o′ out
-gives-same x y o o′ e h = rw e h
 
 -- What a reading comes to, with so much room.
 abbrev result : ℕ → Read Code → Result (List ℕ)
