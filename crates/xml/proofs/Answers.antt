@@ -27,20 +27,16 @@ use Rattle.reader.proofs.Members.{in-below}
 use Rattle.translation.specs.Operations.{fitted}
 use Rattle.translation.proofs.Accepted.{refused-not}
 use Rattle.checks.proofs.TreeChain.{accepts}
-use Rattle.putting.specs.declared.put.Step.{Step}
-use Rattle.putting.specs.declared.put.Step.the-variants.{To, Full}
 use Rattle.putting.specs.Inner.Answering.{Gives}
-use Rattle.putting.specs.Inner.Passing.{Steps}
 use Rattle.putting.proofs.Reading.{same-done, deep-not, broken-not, then-done}
 use Rattle.putting.proofs.Answering.{gives-long, gives-fit}
 use Rattle.xml.specs.Text.{export, exportAll}
 use Rattle.xml.specs.Operations.{exportText, exportTree}
 use Rattle.xml.specs.declared.measure.Measured.{Measured}
 use Rattle.xml.specs.declared.measure.Measured.the-variants.{End, Deep, Broken}
-use Rattle.xml.specs.Inner.Exporting.{ExportsTree}
-use Rattle.xml.specs.Inner.Measuring.{most, Within, Measures, MeasuresTree, MeasuresTrees}
+use Rattle.xml.specs.Inner.Exporting.{TreesAsk, Exported}
+use Rattle.xml.specs.Inner.Measuring.{most, Within, MeasuresTrees}
 use Rattle.xml.specs.Inner.Answering.{GivesTree, GivesExport}
-use Rattle.xml.proofs.Measures.{sum-same}
 
 pub gives-refused : (x : Result (List ℕ)) (o : List ℕ) {out : Outcome} (r : Reason) → x ≡ refused r → out ≡ Refused r → Gives x o o out
 gives-refused x o r e h = (h ∙ sym (ap written e), sym (ap (outputAfter o) e))
@@ -48,11 +44,11 @@ gives-refused x o r e h = (h ∙ sym (ap written e), sym (ap (outputAfter o) e))
 pub gives-same : (x y : Result (List ℕ)) (o o′ : List ℕ) {out : Outcome} → x ≡ y → Gives y o o′ out → Gives x o o′ out
 gives-same x y o o′ e h = rw e h
 
--- One tree, read and measured as the only one of some.
-module _ (s index : List ℕ) (k : ℕ) (b : List ℕ) (levels : ℕ) {x : Measured} (first : MeasuresTrees (k ∷ []) s index 0 1 b 0 levels 0 x) where
-  one-text : (l : Language) (a : Code) → length (exportAll l (k ∷ []) (cons a nil)) ≡ length (export l k a)
+-- One tree, read as the only one of some.
+module _ (l : Language) (k : ℕ) (b : List ℕ) (levels : ℕ) where
+  one-text : (a : Code) → exportAll l (k ∷ []) (cons a nil) ≡ export l k a
   unfolding exportAll
-  one-text l a = ap length (append-nil (export l k a))
+  one-text a = append-nil (export l k a)
 
   one-deep : (p : Read Code) → (andThen p λ a r. done (cons a nil) r) ≡ deep → p ≡ deep
   one-deep (done a r) e = deep-not (sym e)
@@ -64,73 +60,76 @@ module _ (s index : List ℕ) (k : ℕ) (b : List ℕ) (levels : ℕ) {x : Measu
   one-broken deep e = deep-not {a = tt} {r = []} (let z : _≡_ {A = Read (Unit {0})} deep (done tt []) = cc in z)
   one-broken broken e = refl
 
-  one-read : (l : Language) → readAll (read tree l [] levels) (k ∷ []) b ≡ (andThen (read tree l [] levels k b) λ a r. done (cons a nil) r)
+  one-read : readAll (read tree l [] levels) (k ∷ []) b ≡ (andThen (read tree l [] levels k b) λ a r. done (cons a nil) r)
   unfolding readAll
-  one-read l = refl
+  one-read = refl
 
-  pub only : MeasuresTree s index k b 0 levels 0 x
-  only l z =
-      let w = first l z in
-      record {
-        found = λ e m q.
-            let f = w .found e m q in
-            let d = then-done (read tree l [] levels k b) (λ a r. done (cons a nil) r) (f .0) (drop e b) (sym (one-read l) ∙ f .1) in
-            let v = same-done (cons (d .0) nil) (f .0) (d .1) (drop e b) (d .3) in
-            (
-              d .0,
-              d .2 ∙ ap (done (d .0)) (v .1),
-              sum-same (ap (λ (t : Codes). length (exportAll l (k ∷ []) t)) (sym (v .0)) ∙ one-text l (d .0)) (f .2),
-            );
-        deep = λ q. one-deep (read tree l [] levels k b) (sym (one-read l) ∙ w .deep q);
-        broken = λ q. one-broken (read tree l [] levels k b) (sym (one-read l) ∙ w .broken q);
-      }
+  one-done : (t : Codes) (r : List ℕ) → readAll (read tree l [] levels) (k ∷ []) b ≡ done t r
+      → (a : Code) × (read tree l [] levels k b ≡ done a r) × (exportAll l (k ∷ []) t ≡ export l k a)
+  one-done t r e =
+      let d = then-done (read tree l [] levels k b) (λ a r. done (cons a nil) r) t r (sym one-read ∙ e) in
+      let v = same-done (cons (d .0) nil) t (d .1) r (d .3) in
+      (d .0, d .2 ∙ ap (done (d .0)) (v .1), ap (exportAll l (k ∷ [])) (sym (v .0)) ∙ one-text (d .0))
 
 -- What a reading comes to, with so much room.
 abbrev result : Language → ℕ → ℕ → Read Code → Result (List ℕ)
 result l k room p = wholeTree p >>= λ t. fitted room (export l k t)
 
 -- export_tree
-module _ (s index : List ℕ) (k : ℕ) (b o : List ℕ) {x : Measured} (first : MeasuresTree s index k b 0 treeLevels 0 x) where
+module _ (s index : List ℕ) (k : ℕ) (b o : List ℕ) {x : Measured} (first : MeasuresTrees (k ∷ []) s index 0 1 b 0 treeLevels 0 x) where
   pub tree-deep : {out : Outcome} → x ≡ Deep → out ≡ Refused Why.TooDeep → GivesTree s index k b o o out
-  tree-deep h i l z = gives-refused _ o Why.TooDeep (ap (result l k (length o)) (first l z .deep h)) i
+  tree-deep h i l z =
+      let e = one-deep l k b treeLevels (read tree l [] treeLevels k b) (sym (one-read l k b treeLevels) ∙ first l z .deep h) in
+      gives-refused _ o Why.TooDeep (ap (result l k (length o)) e) i
 
   pub tree-broken : {out : Outcome} → x ≡ Broken → out ≡ Refused Why.IllegalTree → GivesTree s index k b o o out
-  tree-broken h i l z = gives-refused _ o Why.IllegalTree (ap (result l k (length o)) (first l z .broken h)) i
+  tree-broken h i l z =
+      let e = one-broken l k b treeLevels (read tree l [] treeLevels k b) (sym (one-read l k b treeLevels) ∙ first l z .broken h) in
+      gives-refused _ o Why.IllegalTree (ap (result l k (length o)) e) i
 
   module _ {e m : ℕ} (ex : x ≡ End e m) (inside : Within b x) where
+    found : (l : Language) (z : Indexed index s l)
+        → (a : Code) × (read tree l [] treeLevels k b ≡ done a (drop e b)) × (exportAll l (k ∷ []) (first l z .found e m ex .0) ≡ export l k a)
+    found l z = one-done l k b treeLevels (first l z .found e m ex .0) (drop e b) (first l z .found e m ex .1)
+
     pub tree-left : {out : Outcome} → (e ≡ length b → ⊥) → out ≡ Refused Why.IllegalTree → GivesTree s index k b o o out
     tree-left h i l z =
-        let f = first l z .found e m ex in
+        let f = found l z in
         let j = inside e m ex in
         let g : e < length b = omega arith in
         gives-refused _ o Why.IllegalTree (ap (result l k (length o)) (f .1 ∙ ap (done (f .0)) (front b e g))) i
 
     module _ (all : e ≡ length b) (short : length o ≤ most) where
-      whole : (l : Language) (z : Indexed index s l) → read tree l [] treeLevels k b ≡ done (first l z .found e m ex .0) []
-      whole l z = let f = first l z .found e m ex in f .1 ∙ ap (done (f .0)) (drop-of-length-le b {i = e} (omega arith))
+      whole : (l : Language) (z : Indexed index s l) → read tree l [] treeLevels k b ≡ done (found l z .0) []
+      whole l z = found l z .1 ∙ ap (done (found l z .0)) (drop-of-length-le b {i = e} (omega arith))
 
       pub tree-long : {out : Outcome} → length o < m → out ≡ Refused Why.OutputTooShort → GivesTree s index k b o o out
       tree-long h i l z =
-          let f = first l z .found e m ex in
-          let n : length o < length (export l k (f .0)) =
+          let f = first l z .found e m ex .2 in
+          let g = ap length (found l z .2) in
+          let n : length o < length (export l k (found l z .0)) =
           by-test (leb m most)
-          (λ t. let w = f .2 .is (leb-true _ _ t) in omega arith)
-          (λ t. let w = f .2 .long (leb-false _ _ t) in omega arith) in
-          gives-same _ _ o o (ap (result l k (length o)) (whole l z)) (gives-long (export l k (f .0)) o n i)
+          (λ t. let w = f .is (leb-true _ _ t) in omega arith)
+          (λ t. let w = f .long (leb-false _ _ t) in omega arith) in
+          gives-same _ _ o o (ap (result l k (length o)) (whole l z)) (gives-long (export l k (found l z .0)) o n i)
 
-      module _ {o′ : List ℕ} {r : Step} (put : ExportsTree true s index k b 0 treeLevels o o′ 0 r) (fits : m ≤ length o) where
-        by-step : (v : List ℕ) → length v ≤ length o → (l : Language) (a : Code) → Indexed index s l → read tree l [] treeLevels k b ≡ done a []
-            → export l k a ≡ v → (y : Step) → r ≡ y → o′ ≡ spliced o 0 v
-        by-step v h l a z e f (To d n) q = put l a [] z e .put d n q .bytes refl ∙ ap (spliced o 0) f
-        by-step v h l a z e f Full q = let w = put l a [] z e .full q in let u = ap length f in absurd (omega arith)
-
-        pub tree-done : {out : Outcome} → out ≡ Accepted m → GivesTree s index k b o o′ out
-        tree-done i l z =
+      module _ (fits : m ≤ length o) where
+        pub tree-asks : (l : Language) (z : Indexed index s l) → TreesAsk (k ∷ []) s index 0 1 b 0 treeLevels (length o) 0 l (first l z .found e m ex .0) (drop e b)
+        tree-asks l z =
             let f = first l z .found e m ex in
-            let n : m ≡ length (export l k (f .0)) = let w = f .2 .is (omega arith) in omega arith in
-            let j : length (export l k (f .0)) ≤ length o = omega arith in
+            record { indexed = z; reads = f .1; fits = let w = f .2 .is (omega arith) in omega arith }
+
+        pub tree-done : {o′ : List ℕ} {d h : ℕ} {out : Outcome}
+            → ((l : Language) (t : Codes) (rest : List ℕ) → TreesAsk (k ∷ []) s index 0 1 b 0 treeLevels (length o) 0 l t rest → Exported (exportAll l (k ∷ []) t) b rest o o′ 0 d h)
+            → out ≡ Accepted m → GivesTree s index k b o o′ out
+        tree-done {o′} put i l z =
+            let f = first l z .found e m ex in
+            let v = export l k (found l z .0) in
+            let g = ap length (found l z .2) in
+            let n : m ≡ length v = let w = f .2 .is (omega arith) in omega arith in
+            let w = put l (f .0) (drop e b) (tree-asks l z) .put .bytes in
             gives-same _ _ o o′ (ap (result l k (length o)) (whole l z))
-            (gives-fit (export l k (f .0)) o o′ j (i ∙ ap Accepted n) (by-step (export l k (f .0)) j l (f .0) z (whole l z) refl r refl))
+            (gives-fit v o o′ (omega arith) (i ∙ ap Accepted n) (w ∙ ap (spliced o 0) (found l z .2)))
 
 -- export_kind
 module _ (s : List ℕ) (k : ℕ) (b o : List ℕ) {x : Bool} (ex : (l : Language) → entriesOf s ≡ some l → x ≡ isIn l k) {out : Outcome} where

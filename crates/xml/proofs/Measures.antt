@@ -123,9 +123,11 @@ module _ (k : ℕ) (c : Range) (b : List ℕ) (at n : ℕ) where
     token-end {j} {a} {d} {m} h ej ea ed s =
         let w = token-length k v in
         let i : length (decimal j) ≡ length (decimal k) = ap (λ (i : ℕ). length (decimal i)) ej in
-        let z : 7 + 2 * a + d ≡ length (tokenTag openToken k ++ (decimal v ++ tokenTag closeToken k)) = omega arith in
-        (within-end b (at + 2) m (omega arith), λ l. measures-end (token v)
-        (let w = two b at there in let y = token-value in let i : inRange c v ≡ true = sym ex ∙ h in cc) (sum-same z s))
+        let z : 7 + 2 * a + d ≡ length (tokenTag openToken k ++ (decimal v ++ tokenTag closeToken k)) = omega arith in (
+          within-end b (at + 2) m (omega arith),
+          λ l. measures-end (token v)
+              (let w = two b at there in let y = token-value in let i : inRange c v ≡ true = sym ex ∙ h in cc) (sum-same z s),
+        )
 
 -- plus_tags
 pub tags-sum : {n k p i j a d m : ℕ} → i ≡ k → j ≡ p → a ≡ length (decimal i) → d ≡ length (decimal j) → Sum n (9 + 2 * (a + d)) m

@@ -71,7 +71,10 @@ fn measure_token(
 fn plus_tags(n: usize, kind: u8, name: u8) -> usize
     ensures { λ r. ⌜ Sum n (length (nodeTag openNode kind name) + length (nodeTag closeNode kind name)) r ⌝ }
 {
-    plus(n, PRODUCTION + 2 * (width(to_usize(kind)) + width(to_usize(name))))
+    plus(
+        n,
+        PRODUCTION + 2 * (width(to_usize(kind)) + width(to_usize(name))),
+    )
 }
 
 // The tree of a kind at a position. It calls itself on the arguments, one level fewer.

@@ -1,6 +1,6 @@
 // The operations export and import.
 use crate::contents::write_contents;
-use crate::export::export_at;
+use crate::export::export_all;
 use crate::import::Text;
 use crate::import::text_at;
 use crate::measure::Measured;
@@ -20,7 +20,7 @@ ghost use Prim.Native.Nat.{_<_, _≤_};
 ghost use lib.ListN.{length};
 ghost use Rattle.language.specs.Language.{Language};
 ghost use Rattle.language.specs.LanguageFile.{entriesOf};
-ghost use Rattle.reader.specs.Inner.Index.{Ready};
+ghost use Rattle.reader.specs.Inner.Index.{Ready, Indexed};
 ghost use Rattle.xml.specs.Operations.{exportTree, importTree};
 ghost use Rattle.xml.specs.Inner.Answering.{GivesTree, GivesExport, GivesImport, GivesWhole};
 
@@ -30,7 +30,7 @@ const LEVELS: usize = 64;
 // The export of the tree of a kind: 15 and 16 in reading order, 17 where it is longer than the output. It is measured while the
 // tree is read, and only then written.
 fn export_tree(language: &[u8], index: &[u16], kind: u8, tree: &[u8], output: &mut [u8]) -> Answer
-    requires { ⌜ Ready (now index) (now language) kind (now tree) 0 ⌝ }
+    requires { ⌜ Ready (now index) (now language) kind (now tree) 0 × ((l : Language) × Indexed (now index) (now language) l) ⌝ }
     ensures { λ r. ⌜ GivesTree (now (language .entry)) (now (index .entry)) kind (now (tree .entry)) (now (output .entry)) (now (output .exit)) (r .outcome) ⌝ }
 {
     let kinds = [kind];
@@ -42,7 +42,7 @@ fn export_tree(language: &[u8], index: &[u16], kind: u8, tree: &[u8], output: &m
             if output.len() < length {
                 return refuse(Reason::OutputTooShort);
             }
-            export_at(language, index, kind, tree, 0, LEVELS, true, output, 0);
+            export_all(&kinds, language, index, 0, 1, tree, 0, LEVELS, output, 0);
             accept(length)
         }
         Measured::Deep => refuse(Reason::TooDeep),

@@ -53,484 +53,108 @@ measure-all-Inv-loop kinds language index from stop tree at levels n q₀ to₀ 
 abbrev measure-all-μ-loop : measure-all-lts.MeasureT-loop
 measure-all-μ-loop kinds language index from stop tree at levels n q₀ to₀ m₀ q to m = stop - q
 
--- src/measure.rt:139:5
-measure-all-loop-holds : (t : ℕ) → measure-all-lts.Need-loop-holds (
-  measure-at-below t,
-  measure-at.Post,
-) (measure-all-at t) measure-all.Post measure-all-Inv-loop measure-all-μ-loop
+abbrev measure-all-calls : ℕ → measure-all-lts.Claims
+measure-all-calls t = (measure-at-below t, measure-at.Post)
+
+abbrev measure-at-calls : ℕ → measure-at-lts.Claims
+measure-at-calls t = (to-usize-reads.Asked, to-usize-reads.Learnt, place-at-reads.Asked, place-at-reads.Learnt, measure-token-reads.Asked, measure-token-reads.Learnt, production-place-reads.Asked, production-place-reads.Learnt, plus-tags-reads.Asked, plus-tags-reads.Learnt, pair-in-reads.Asked, pair-in-reads.Learnt, measure-all-below t, measure-all.Post)
+
+measure-all-loop-holds : (t : ℕ) → measure-all-lts.Need-loop-holds (measure-all-calls t) (measure-all-at t) measure-all.Post measure-all-Inv-loop measure-all-μ-loop
 measure-all-loop-holds t c = let p = c .before .before .before .before .pre .1 in (p .2, p .1, goes-start _ _ _ _ _ _ _ _ _)
 
--- src/measure.rt:140:43
 measure-all-shared-slice-read-measure-at :
-    (t : ℕ) → measure-all-lts.Need-shared-slice-read-measure-at (
-      measure-at-below t,
-      measure-at.Post,
-    ) (measure-all-at t) measure-all.Post measure-all-Inv-loop measure-all-μ-loop
+    (t : ℕ) → measure-all-lts.Need-shared-slice-read-measure-at (measure-all-calls t) (measure-all-at t) measure-all.Post measure-all-Inv-loop measure-all-μ-loop
 measure-all-shared-slice-read-measure-at t c = let b = c .before .before .loop .inv .1 _ (omega arith) (c .before .loop-test .taken) in omega arith
 
--- src/measure.rt:140:15
-measure-all-measure-at-requires : (t : ℕ) → measure-all-lts.Need-measure-at-requires (
-  measure-at-below t,
-  measure-at.Post,
-) (measure-all-at t) measure-all.Post measure-all-Inv-loop measure-all-μ-loop
+measure-all-measure-at-requires : (t : ℕ) → measure-all-lts.Need-measure-at-requires (measure-all-calls t) (measure-all-at t) measure-all.Post measure-all-Inv-loop measure-all-μ-loop
 measure-all-measure-at-requires t c κs = let b = c .before .before .loop .inv .1 _ (omega arith) (c .before .loop-test .taken) in (omega arith, record { sound = c .before .before .before .before .before .before .before .pre .1 .0; kind = b .1; inside = c .before .before .loop .inv .0 })
 
--- src/measure.rt:141:27
-measure-all-enum-known-e : (t : ℕ) → measure-all-lts.Need-enum-known-e (
-  measure-at-below t,
-  measure-at.Post,
-) (measure-all-at t) measure-all.Post measure-all-Inv-loop measure-all-μ-loop
-measure-all-enum-known-e t c = search needs
-
--- src/measure.rt:144:17
 measure-all-add-q :
     (t : ℕ) →
-    measure-all-lts.Need-add-q
-    (measure-at-below t, measure-at.Post)
+    measure-all-lts.Need-add-q (measure-all-calls t)
     (measure-all-at t)
     measure-all.Post
     measure-all-Inv-loop
     measure-all-μ-loop
 measure-all-add-q t c = let b = c .before .before .before .before .before .before .loop .inv .1 _ (omega arith) (c .before .before .before .before .before .loop-test .taken) in omega (arith, b .0)
 
--- src/measure.rt:139:5
-measure-all-loop-less : (t : ℕ) → measure-all-lts.Need-loop-less (
-  measure-at-below t,
-  measure-at.Post,
-) (measure-all-at t) measure-all.Post measure-all-Inv-loop measure-all-μ-loop
+measure-all-loop-less : (t : ℕ) → measure-all-lts.Need-loop-less (measure-all-calls t) (measure-all-at t) measure-all.Post measure-all-Inv-loop measure-all-μ-loop
 measure-all-loop-less t c = let b = c .before .before .before .before .before .loop-test .taken in omega arith
 
--- src/measure.rt:139:5
-measure-all-loop-again : (t : ℕ) → measure-all-lts.Need-loop-again (
-  measure-at-below t,
-  measure-at.Post,
-) (measure-all-at t) measure-all.Post measure-all-Inv-loop measure-all-μ-loop
+measure-all-loop-again : (t : ℕ) → measure-all-lts.Need-loop-again (measure-all-calls t) (measure-all-at t) measure-all.Post measure-all-Inv-loop measure-all-μ-loop
 measure-all-loop-again t c = let b = c .before .before .before .before .before .before .loop .inv .1 (c .before .before .before .before .before .before .before .before .before .before .before .args .stop - 1) (omega (arith, c .before .before .before .before .before .loop-test .taken)) (omega (arith, c .before .before .before .before .before .loop-test .taken)) in (c .before .before .before .measure-at .ensures .0 _ _ (c .before .e .given .1), (λ x i j. c .before .before .before .before .before .before .loop .inv .1 x (omega arith) j), goes-next (c .before .before .before .before .before .before .before .before .before .before .before .args .kinds .now) (c .before .before .before .before .before .before .before .before .before .before .before .args .language .now) (c .before .before .before .before .before .before .before .before .before .before .before .args .index .now) _ _ (c .before .before .before .before .before .before .before .before .before .before .before .args .tree .now) (c .before .before .before .before .before .before .before .before .before .before .before .args .at) (c .before .before .before .before .before .before .before .before .before .before .before .args .levels) (c .before .before .before .before .before .before .before .before .before .before .before .args .n) (c .before .before .before .before .before .before .loop .inv .2) refl (c .before .before .before .before .before .loop-test .taken) (omega (arith, b .0, c .before .before .before .before .before .loop-test .taken)) (c .before .before .before .measure-at .ensures .1) (c .before .e .given .1))
 
--- src/measure.rt:147:17
-measure-all-enum-told : (t : ℕ) → measure-all-lts.Need-enum-told (
-  measure-at-below t,
-  measure-at.Post,
-) (measure-all-at t) measure-all.Post measure-all-Inv-loop measure-all-μ-loop
-measure-all-enum-told t c = search needs
-
--- src/measure.rt:147:17
 measure-all-returns :
     (t : ℕ) →
-    measure-all-lts.Need-returns
-    (measure-at-below t, measure-at.Post)
+    measure-all-lts.Need-returns (measure-all-calls t)
     (measure-all-at t)
     measure-all.Post
     measure-all-Inv-loop
     measure-all-μ-loop
 measure-all-returns t c = let b = c .before .before .before .before .before .loop .inv .1 (c .before .before .before .before .before .before .before .before .before .before .args .stop - 1) (omega (arith, c .before .before .before .before .loop-test .taken)) (omega (arith, c .before .before .before .before .loop-test .taken)) in (within-deep (c .before .before .before .before .before .before .before .before .before .before .args .tree .now), goes-deep (c .before .before .before .before .before .before .before .before .before .before .args .kinds .now) (c .before .before .before .before .before .before .before .before .before .before .args .language .now) (c .before .before .before .before .before .before .before .before .before .before .args .index .now) _ _ (c .before .before .before .before .before .before .before .before .before .before .args .tree .now) (c .before .before .before .before .before .before .before .before .before .before .args .at) (c .before .before .before .before .before .before .before .before .before .before .args .levels) (c .before .before .before .before .before .before .before .before .before .before .args .n) (c .before .before .before .before .before .loop .inv .2) refl (c .before .before .before .before .loop-test .taken) (omega (arith, b .0, c .before .before .before .before .loop-test .taken)) (c .before .before .measure-at .ensures .1) (c .enum-told .given .1))
 
--- src/measure.rt:150:17
-measure-all-enum-told-2 : (t : ℕ) → measure-all-lts.Need-enum-told-2 (
-  measure-at-below t,
-  measure-at.Post,
-) (measure-all-at t) measure-all.Post measure-all-Inv-loop measure-all-μ-loop
-measure-all-enum-told-2 t c = search needs
-
--- src/measure.rt:150:17
-measure-all-returns-2 : (t : ℕ) → measure-all-lts.Need-returns-2 (
-  measure-at-below t,
-  measure-at.Post,
-) (measure-all-at t) measure-all.Post measure-all-Inv-loop measure-all-μ-loop
+measure-all-returns-2 : (t : ℕ) → measure-all-lts.Need-returns-2 (measure-all-calls t) (measure-all-at t) measure-all.Post measure-all-Inv-loop measure-all-μ-loop
 measure-all-returns-2 t c = let b = c .before .before .before .before .before .loop .inv .1 (c .before .before .before .before .before .before .before .before .before .before .args .stop - 1) (omega (arith, c .before .before .before .before .loop-test .taken)) (omega (arith, c .before .before .before .before .loop-test .taken)) in (within-broken (c .before .before .before .before .before .before .before .before .before .before .args .tree .now), goes-broken (c .before .before .before .before .before .before .before .before .before .before .args .kinds .now) (c .before .before .before .before .before .before .before .before .before .before .args .language .now) (c .before .before .before .before .before .before .before .before .before .before .args .index .now) _ _ (c .before .before .before .before .before .before .before .before .before .before .args .tree .now) (c .before .before .before .before .before .before .before .before .before .before .args .at) (c .before .before .before .before .before .before .before .before .before .before .args .levels) (c .before .before .before .before .before .before .before .before .before .before .args .n) (c .before .before .before .before .before .loop .inv .2) refl (c .before .before .before .before .loop-test .taken) (omega (arith, b .0, c .before .before .before .before .loop-test .taken)) (c .before .before .measure-at .ensures .1) (c .enum-told2 .given .1))
 
--- src/measure.rt:121:1
-measure-all-returns-3 : (t : ℕ) → measure-all-lts.Need-returns-3 (
-  measure-at-below t,
-  measure-at.Post,
-) (measure-all-at t) measure-all.Post measure-all-Inv-loop measure-all-μ-loop
+measure-all-returns-3 : (t : ℕ) → measure-all-lts.Need-returns-3 (measure-all-calls t) (measure-all-at t) measure-all.Post measure-all-Inv-loop measure-all-μ-loop
 measure-all-returns-3 t c = (within-end (c .before .before .before .before .before .before .args .tree .now) _ _ (c .before .loop .inv .0), goes-done (c .before .before .before .before .before .before .args .kinds .now) (c .before .before .before .before .before .before .args .language .now) (c .before .before .before .before .before .before .args .index .now) _ _ (c .before .before .before .before .before .before .args .tree .now) (c .before .before .before .before .before .before .args .at) (c .before .before .before .before .before .before .args .levels) (c .before .before .before .before .before .before .args .n) (c .before .loop .inv .2) (c .loop-test .left))
 
--- src/measure.rt:91:33
-measure-at-to-usize-requires : (t : ℕ) → measure-at-lts.Need-to-usize-requires (
-  to-usize-reads.Asked,
-  to-usize-reads.Learnt,
-  place-at-reads.Asked,
-  place-at-reads.Learnt,
-  measure-token-reads.Asked,
-  measure-token-reads.Learnt,
-  production-place-reads.Asked,
-  production-place-reads.Learnt,
-  plus-tags-reads.Asked,
-  plus-tags-reads.Learnt,
-  pair-in-reads.Asked,
-  pair-in-reads.Learnt,
-  measure-all-below t,
-  measure-all.Post,
-) (measure-at-at t) measure-at.Post
-measure-at-to-usize-requires t c κs = search needs
-
--- src/measure.rt:91:9
-measure-at-place-at-requires : (t : ℕ) → measure-at-lts.Need-place-at-requires (
-  to-usize-reads.Asked,
-  to-usize-reads.Learnt,
-  place-at-reads.Asked,
-  place-at-reads.Learnt,
-  measure-token-reads.Asked,
-  measure-token-reads.Learnt,
-  production-place-reads.Asked,
-  production-place-reads.Learnt,
-  plus-tags-reads.Asked,
-  plus-tags-reads.Learnt,
-  pair-in-reads.Asked,
-  pair-in-reads.Learnt,
-  measure-all-below t,
-  measure-all.Post,
-) (measure-at-at t) measure-at.Post
+measure-at-place-at-requires : (t : ℕ) → measure-at-lts.Need-place-at-requires (measure-at-calls t) (measure-at-at t) measure-at.Post
 measure-at-place-at-requires t c κs = omega (arith, c .before .before .before .before .pre .1 .sound .long, c .before .before .before .before .pre .1 .kind, c .to-usize .ensures .0)
 
--- src/measure.rt:93:9
-measure-at-measure-token-requires : (t : ℕ) → measure-at-lts.Need-measure-token-requires (
-  to-usize-reads.Asked,
-  to-usize-reads.Learnt,
-  place-at-reads.Asked,
-  place-at-reads.Learnt,
-  measure-token-reads.Asked,
-  measure-token-reads.Learnt,
-  production-place-reads.Asked,
-  production-place-reads.Learnt,
-  plus-tags-reads.Asked,
-  plus-tags-reads.Learnt,
-  pair-in-reads.Asked,
-  pair-in-reads.Learnt,
-  measure-all-below t,
-  measure-all.Post,
-) (measure-at-at t) measure-at.Post
+measure-at-measure-token-requires : (t : ℕ) → measure-at-lts.Need-measure-token-requires (measure-at-calls t) (measure-at-at t) measure-at.Post
 measure-at-measure-token-requires t c κs = let z : 0 < c .before .place-at .result = omega (arith, c .if1 .taken) in (z, class-in _ _ (c .before .before .before .before .before .before .pre .1 .sound) (c .before .before .to-usize .ensures .0) (c .before .before .before .before .before .before .pre .1 .kind) (c .before .place-at .ensures) z, c .before .before .before .before .before .before .pre .1 .inside)
 
--- src/measure.rt:93:9
-measure-at-returns : (t : ℕ) → measure-at-lts.Need-returns (
-  to-usize-reads.Asked,
-  to-usize-reads.Learnt,
-  place-at-reads.Asked,
-  place-at-reads.Learnt,
-  measure-token-reads.Asked,
-  measure-token-reads.Learnt,
-  production-place-reads.Asked,
-  production-place-reads.Learnt,
-  plus-tags-reads.Asked,
-  plus-tags-reads.Learnt,
-  pair-in-reads.Asked,
-  pair-in-reads.Learnt,
-  measure-all-below t,
-  measure-all.Post,
-) (measure-at-at t) measure-at.Post
+measure-at-returns : (t : ℕ) → measure-at-lts.Need-returns (measure-at-calls t) (measure-at-at t) measure-at.Post
 measure-at-returns t c = at-class (c .before .before .before .before .before .before .before .args .language .now) (c .before .before .before .before .before .before .before .args .index .now) (c .before .before .before .before .before .before .before .args .tree .now) (c .before .before .before .before .before .before .before .args .kind) (c .before .before .before .before .before .before .before .args .at) (c .before .before .before .before .before .before .before .args .levels) (c .before .before .before .before .before .before .before .args .n) (c .before .before .before .before .before .before .before .pre .1 .kind) (λ i. omega (arith, c .before .before .before .before .shared-slice-known3 .given i)) (c .before .before .before .to-usize .ensures .0) (c .before .before .place-at .ensures) _ (c .before .if1 .taken) (c .measure-token .ensures)
 
--- src/measure.rt:96:9
-measure-at-returns-2 : (t : ℕ) → measure-at-lts.Need-returns-2 (
-  to-usize-reads.Asked,
-  to-usize-reads.Learnt,
-  place-at-reads.Asked,
-  place-at-reads.Learnt,
-  measure-token-reads.Asked,
-  measure-token-reads.Learnt,
-  production-place-reads.Asked,
-  production-place-reads.Learnt,
-  plus-tags-reads.Asked,
-  plus-tags-reads.Learnt,
-  pair-in-reads.Asked,
-  pair-in-reads.Learnt,
-  measure-all-below t,
-  measure-all.Post,
-) (measure-at-at t) measure-at.Post
+measure-at-returns-2 : (t : ℕ) → measure-at-lts.Need-returns-2 (measure-at-calls t) (measure-at-at t) measure-at.Post
 measure-at-returns-2 t c = at-deep (c .before .before .before .before .before .before .before .args .language .now) (c .before .before .before .before .before .before .before .args .index .now) (c .before .before .before .before .before .before .before .args .tree .now) (c .before .before .before .before .before .before .before .args .kind) (c .before .before .before .before .before .before .before .args .at) (c .before .before .before .before .before .before .before .args .levels) (c .before .before .before .before .before .before .before .args .n) (c .before .before .before .before .before .before .before .pre .1 .kind) (λ i. omega (arith, c .before .before .before .before .shared-slice-known3 .given i)) (c .before .before .before .to-usize .ensures .0) (c .before .before .place-at .ensures) (c .before .if1 .left) (c .if2 .taken)
 
--- src/measure.rt:98:9
-measure-at-production-place-requires : (t : ℕ) → measure-at-lts.Need-production-place-requires (
-  to-usize-reads.Asked,
-  to-usize-reads.Learnt,
-  place-at-reads.Asked,
-  place-at-reads.Learnt,
-  measure-token-reads.Asked,
-  measure-token-reads.Learnt,
-  production-place-reads.Asked,
-  production-place-reads.Learnt,
-  plus-tags-reads.Asked,
-  plus-tags-reads.Learnt,
-  pair-in-reads.Asked,
-  pair-in-reads.Learnt,
-  measure-all-below t,
-  measure-all.Post,
-) (measure-at-at t) measure-at.Post
+measure-at-production-place-requires : (t : ℕ) → measure-at-lts.Need-production-place-requires (measure-at-calls t) (measure-at-at t) measure-at.Post
 measure-at-production-place-requires t c κs = (c .before .before .before .before .before .before .before .pre .1 .sound .long, c .before .before .before .before .before .before .before .pre .1 .kind, c .before .before .before .before .before .before .before .pre .1 .inside)
 
--- src/measure.rt:100:9
-measure-at-returns-3 : (t : ℕ) → measure-at-lts.Need-returns-3 (
-  to-usize-reads.Asked,
-  to-usize-reads.Learnt,
-  place-at-reads.Asked,
-  place-at-reads.Learnt,
-  measure-token-reads.Asked,
-  measure-token-reads.Learnt,
-  production-place-reads.Asked,
-  production-place-reads.Learnt,
-  plus-tags-reads.Asked,
-  plus-tags-reads.Learnt,
-  pair-in-reads.Asked,
-  pair-in-reads.Learnt,
-  measure-all-below t,
-  measure-all.Post,
-) (measure-at-at t) measure-at.Post
+measure-at-returns-3 : (t : ℕ) → measure-at-lts.Need-returns-3 (measure-at-calls t) (measure-at-at t) measure-at.Post
 measure-at-returns-3 t c = at-broken (c .before .before .before .before .before .before .before .before .before .args .language .now) (c .before .before .before .before .before .before .before .before .before .args .index .now) (c .before .before .before .before .before .before .before .before .before .args .tree .now) (c .before .before .before .before .before .before .before .before .before .args .kind) (c .before .before .before .before .before .before .before .before .before .args .at) (c .before .before .before .before .before .before .before .before .before .args .levels) (c .before .before .before .before .before .before .before .before .before .args .n) (c .before .before .before .before .before .before .before .before .before .pre .1 .kind) (λ i. omega (arith, c .before .before .before .before .before .before .shared-slice-known3 .given i)) (c .before .before .before .before .before .to-usize .ensures .0) (c .before .before .before .before .place-at .ensures) (c .before .before .before .if1 .left) (c .before .before .if2 .left) (c .before .production-place .ensures) (c .if3 .taken)
 
--- src/measure.rt:102:32
-measure-at-shared-slice-read-plus-tags : (t : ℕ) → measure-at-lts.Need-shared-slice-read-plus-tags (
-  to-usize-reads.Asked,
-  to-usize-reads.Learnt,
-  place-at-reads.Asked,
-  place-at-reads.Learnt,
-  measure-token-reads.Asked,
-  measure-token-reads.Learnt,
-  production-place-reads.Asked,
-  production-place-reads.Learnt,
-  plus-tags-reads.Asked,
-  plus-tags-reads.Learnt,
-  pair-in-reads.Asked,
-  pair-in-reads.Learnt,
-  measure-all-below t,
-  measure-all.Post,
-) (measure-at-at t) measure-at.Post
+measure-at-shared-slice-read-plus-tags : (t : ℕ) → measure-at-lts.Need-shared-slice-read-plus-tags (measure-at-calls t) (measure-at-at t) measure-at.Post
 measure-at-shared-slice-read-plus-tags t c = at-name (c .before .before .before .before .before .before .before .before .before .before .args .language .now) (c .before .before .before .before .before .before .before .before .before .before .args .index .now) (c .before .before .before .before .before .before .before .before .before .before .args .tree .now) (c .before .before .before .before .before .before .before .before .before .before .args .kind) (c .before .before .before .before .before .before .before .before .before .before .args .at) (c .before .before .before .before .before .before .before .before .before .before .args .levels) (c .before .before .before .before .before .before .before .before .before .before .args .n) (c .before .before .before .before .before .before .before .before .before .before .pre .1 .kind) (λ i. omega (arith, c .before .before .before .before .before .before .before .shared-slice-known3 .given i)) (c .before .before .before .before .before .before .to-usize .ensures .0) (c .before .before .before .before .before .place-at .ensures) (c .before .before .before .before .if1 .left) (c .before .before .before .if2 .left) (c .before .before .production-place .ensures) (c .before .if3 .left)
 
--- src/measure.rt:102:9
-measure-at-plus-tags-requires : (t : ℕ) → measure-at-lts.Need-plus-tags-requires (
-  to-usize-reads.Asked,
-  to-usize-reads.Learnt,
-  place-at-reads.Asked,
-  place-at-reads.Learnt,
-  measure-token-reads.Asked,
-  measure-token-reads.Learnt,
-  production-place-reads.Asked,
-  production-place-reads.Learnt,
-  plus-tags-reads.Asked,
-  plus-tags-reads.Learnt,
-  pair-in-reads.Asked,
-  pair-in-reads.Learnt,
-  measure-all-below t,
-  measure-all.Post,
-) (measure-at-at t) measure-at.Post
-measure-at-plus-tags-requires t c κs = search needs
-
--- src/measure.rt:103:16
-measure-at-add-stop : (t : ℕ) → measure-at-lts.Need-add-stop (
-  to-usize-reads.Asked,
-  to-usize-reads.Learnt,
-  place-at-reads.Asked,
-  place-at-reads.Learnt,
-  measure-token-reads.Asked,
-  measure-token-reads.Learnt,
-  production-place-reads.Asked,
-  production-place-reads.Learnt,
-  plus-tags-reads.Asked,
-  plus-tags-reads.Learnt,
-  pair-in-reads.Asked,
-  pair-in-reads.Learnt,
-  measure-all-below t,
-  measure-all.Post,
-) (measure-at-at t) measure-at.Post
+measure-at-add-stop : (t : ℕ) → measure-at-lts.Need-add-stop (measure-at-calls t) (measure-at-at t) measure-at.Post
 measure-at-add-stop t c = let w = at-place (c .before .before .before .before .before .before .before .before .before .before .before .args .language .now) (c .before .before .before .before .before .before .before .before .before .before .before .args .index .now) (c .before .before .before .before .before .before .before .before .before .before .before .args .tree .now) (c .before .before .before .before .before .before .before .before .before .before .before .args .kind) (c .before .before .before .before .before .before .before .before .before .before .before .args .at) (c .before .before .before .before .before .before .before .before .before .before .before .args .levels) (c .before .before .before .before .before .before .before .before .before .before .before .args .n) (c .before .before .before .before .before .before .before .before .before .before .before .pre .1 .kind) (λ i. omega (arith, c .before .before .before .before .before .before .before .before .shared-slice-known3 .given i)) (c .before .before .before .before .before .before .before .to-usize .ensures .0) (c .before .before .before .before .before .before .place-at .ensures) (c .before .before .before .before .before .if1 .left) (c .before .before .before .before .if2 .left) (c .before .before .before .production-place .ensures) (c .before .before .if3 .left) (c .before .before .before .before .before .before .before .before .before .before .before .pre .1 .sound) in omega (arith, w .0, w .1)
 
--- src/measure.rt:103:28
-measure-at-pair-in-requires : (t : ℕ) → measure-at-lts.Need-pair-in-requires (
-  to-usize-reads.Asked,
-  to-usize-reads.Learnt,
-  place-at-reads.Asked,
-  place-at-reads.Learnt,
-  measure-token-reads.Asked,
-  measure-token-reads.Learnt,
-  production-place-reads.Asked,
-  production-place-reads.Learnt,
-  plus-tags-reads.Asked,
-  plus-tags-reads.Learnt,
-  pair-in-reads.Asked,
-  pair-in-reads.Learnt,
-  measure-all-below t,
-  measure-all.Post,
-) (measure-at-at t) measure-at.Post
+measure-at-pair-in-requires : (t : ℕ) → measure-at-lts.Need-pair-in-requires (measure-at-calls t) (measure-at-at t) measure-at.Post
 measure-at-pair-in-requires t c κs = let w = at-place (c .before .before .before .before .before .before .before .before .before .before .before .args .language .now) (c .before .before .before .before .before .before .before .before .before .before .before .args .index .now) (c .before .before .before .before .before .before .before .before .before .before .before .args .tree .now) (c .before .before .before .before .before .before .before .before .before .before .before .args .kind) (c .before .before .before .before .before .before .before .before .before .before .before .args .at) (c .before .before .before .before .before .before .before .before .before .before .before .args .levels) (c .before .before .before .before .before .before .before .before .before .before .before .args .n) (c .before .before .before .before .before .before .before .before .before .before .before .pre .1 .kind) (λ i. omega (arith, c .before .before .before .before .before .before .before .before .shared-slice-known3 .given i)) (c .before .before .before .before .before .before .before .to-usize .ensures .0) (c .before .before .before .before .before .before .place-at .ensures) (c .before .before .before .before .before .if1 .left) (c .before .before .before .before .if2 .left) (c .before .before .before .production-place .ensures) (c .before .before .if3 .left) (c .before .before .before .before .before .before .before .before .before .before .before .pre .1 .sound) in omega (arith, w .0)
 
--- src/measure.rt:103:16
-measure-at-add-stop-2 : (t : ℕ) → measure-at-lts.Need-add-stop-2 (
-  to-usize-reads.Asked,
-  to-usize-reads.Learnt,
-  place-at-reads.Asked,
-  place-at-reads.Learnt,
-  measure-token-reads.Asked,
-  measure-token-reads.Learnt,
-  production-place-reads.Asked,
-  production-place-reads.Learnt,
-  plus-tags-reads.Asked,
-  plus-tags-reads.Learnt,
-  pair-in-reads.Asked,
-  pair-in-reads.Learnt,
-  measure-all-below t,
-  measure-all.Post,
-) (measure-at-at t) measure-at.Post
+measure-at-add-stop-2 : (t : ℕ) → measure-at-lts.Need-add-stop-2 (measure-at-calls t) (measure-at-at t) measure-at.Post
 measure-at-add-stop-2 t c = let w = at-place (c .before .before .before .before .before .before .before .before .before .before .before .before .args .language .now) (c .before .before .before .before .before .before .before .before .before .before .before .before .args .index .now) (c .before .before .before .before .before .before .before .before .before .before .before .before .args .tree .now) (c .before .before .before .before .before .before .before .before .before .before .before .before .args .kind) (c .before .before .before .before .before .before .before .before .before .before .before .before .args .at) (c .before .before .before .before .before .before .before .before .before .before .before .before .args .levels) (c .before .before .before .before .before .before .before .before .before .before .before .before .args .n) (c .before .before .before .before .before .before .before .before .before .before .before .before .pre .1 .kind) (λ i. omega (arith, c .before .before .before .before .before .before .before .before .before .shared-slice-known3 .given i)) (c .before .before .before .before .before .before .before .before .to-usize .ensures .0) (c .before .before .before .before .before .before .before .place-at .ensures) (c .before .before .before .before .before .before .if1 .left) (c .before .before .before .before .before .if2 .left) (c .before .before .before .before .production-place .ensures) (c .before .before .before .if3 .left) (c .before .before .before .before .before .before .before .before .before .before .before .before .pre .1 .sound) in omega (arith, w .0, w .1, c .pair-in .ensures .1)
 
--- src/measure.rt:104:16
-measure-at-add-if4 : (t : ℕ) → measure-at-lts.Need-add-if4 (
-  to-usize-reads.Asked,
-  to-usize-reads.Learnt,
-  place-at-reads.Asked,
-  place-at-reads.Learnt,
-  measure-token-reads.Asked,
-  measure-token-reads.Learnt,
-  production-place-reads.Asked,
-  production-place-reads.Learnt,
-  plus-tags-reads.Asked,
-  plus-tags-reads.Learnt,
-  pair-in-reads.Asked,
-  pair-in-reads.Learnt,
-  measure-all-below t,
-  measure-all.Post,
-) (measure-at-at t) measure-at.Post
+measure-at-add-if4 : (t : ℕ) → measure-at-lts.Need-add-if4 (measure-at-calls t) (measure-at-at t) measure-at.Post
 measure-at-add-if4 t c = let w = at-place (c .before .before .before .before .before .before .before .before .before .before .before .before .args .language .now) (c .before .before .before .before .before .before .before .before .before .before .before .before .args .index .now) (c .before .before .before .before .before .before .before .before .before .before .before .before .args .tree .now) (c .before .before .before .before .before .before .before .before .before .before .before .before .args .kind) (c .before .before .before .before .before .before .before .before .before .before .before .before .args .at) (c .before .before .before .before .before .before .before .before .before .before .before .before .args .levels) (c .before .before .before .before .before .before .before .before .before .before .before .before .args .n) (c .before .before .before .before .before .before .before .before .before .before .before .before .pre .1 .kind) (λ i. omega (arith, c .before .before .before .before .before .before .before .before .before .shared-slice-known3 .given i)) (c .before .before .before .before .before .before .before .before .to-usize .ensures .0) (c .before .before .before .before .before .before .before .place-at .ensures) (c .before .before .before .before .before .before .if1 .left) (c .before .before .before .before .before .if2 .left) (c .before .before .before .before .production-place .ensures) (c .before .before .before .if3 .left) (c .before .before .before .before .before .before .before .before .before .before .before .before .pre .1 .sound) in omega (arith, w .0, w .1)
 
--- src/measure.rt:105:30
-measure-at-add-t18 : (t : ℕ) → measure-at-lts.Need-add-t18 (
-  to-usize-reads.Asked,
-  to-usize-reads.Learnt,
-  place-at-reads.Asked,
-  place-at-reads.Learnt,
-  measure-token-reads.Asked,
-  measure-token-reads.Learnt,
-  production-place-reads.Asked,
-  production-place-reads.Learnt,
-  plus-tags-reads.Asked,
-  plus-tags-reads.Learnt,
-  pair-in-reads.Asked,
-  pair-in-reads.Learnt,
-  measure-all-below t,
-  measure-all.Post,
-) (measure-at-at t) measure-at.Post
+measure-at-add-t18 : (t : ℕ) → measure-at-lts.Need-add-t18 (measure-at-calls t) (measure-at-at t) measure-at.Post
 measure-at-add-t18 t c = let w = at-name (c .before .before .before .before .before .before .before .before .before .before .before .before .before .args .language .now) (c .before .before .before .before .before .before .before .before .before .before .before .before .before .args .index .now) (c .before .before .before .before .before .before .before .before .before .before .before .before .before .args .tree .now) (c .before .before .before .before .before .before .before .before .before .before .before .before .before .args .kind) (c .before .before .before .before .before .before .before .before .before .before .before .before .before .args .at) (c .before .before .before .before .before .before .before .before .before .before .before .before .before .args .levels) (c .before .before .before .before .before .before .before .before .before .before .before .before .before .args .n) (c .before .before .before .before .before .before .before .before .before .before .before .before .before .pre .1 .kind) (λ i. omega (arith, c .before .before .before .before .before .before .before .before .before .before .shared-slice-known3 .given i)) (c .before .before .before .before .before .before .before .before .before .to-usize .ensures .0) (c .before .before .before .before .before .before .before .before .place-at .ensures) (c .before .before .before .before .before .before .before .if1 .left) (c .before .before .before .before .before .before .if2 .left) (c .before .before .before .before .before .production-place .ensures) (c .before .before .before .before .if3 .left) in omega (arith, w)
 
--- src/measure.rt:105:9
-measure-at-returns-4 : (t : ℕ) → measure-at-lts.Need-returns-4 (
-  to-usize-reads.Asked,
-  to-usize-reads.Learnt,
-  place-at-reads.Asked,
-  place-at-reads.Learnt,
-  measure-token-reads.Asked,
-  measure-token-reads.Learnt,
-  production-place-reads.Asked,
-  production-place-reads.Learnt,
-  plus-tags-reads.Asked,
-  plus-tags-reads.Learnt,
-  pair-in-reads.Asked,
-  pair-in-reads.Learnt,
-  measure-all-below t,
-  measure-all.Post,
-) (measure-at-at t) measure-at.Post
+measure-at-returns-4 : (t : ℕ) → measure-at-lts.Need-returns-4 (measure-at-calls t) (measure-at-at t) measure-at.Post
 measure-at-returns-4 t c = let w = at-name (c .before .before .before .before .before .before .before .before .before .before .before .before .before .args .language .now) (c .before .before .before .before .before .before .before .before .before .before .before .before .before .args .index .now) (c .before .before .before .before .before .before .before .before .before .before .before .before .before .args .tree .now) (c .before .before .before .before .before .before .before .before .before .before .before .before .before .args .kind) (c .before .before .before .before .before .before .before .before .before .before .before .before .before .args .at) (c .before .before .before .before .before .before .before .before .before .before .before .before .before .args .levels) (c .before .before .before .before .before .before .before .before .before .before .before .before .before .args .n) (c .before .before .before .before .before .before .before .before .before .before .before .before .before .pre .1 .kind) (λ i. omega (arith, c .before .before .before .before .before .before .before .before .before .before .shared-slice-known3 .given i)) (c .before .before .before .before .before .before .before .before .before .to-usize .ensures .0) (c .before .before .before .before .before .before .before .before .place-at .ensures) (c .before .before .before .before .before .before .before .if1 .left) (c .before .before .before .before .before .before .if2 .left) (c .before .before .before .before .before .production-place .ensures) (c .before .before .before .before .if3 .left) in at-operands (c .before .before .before .before .before .before .before .before .before .before .before .before .before .args .language .now) (c .before .before .before .before .before .before .before .before .before .before .before .before .before .args .index .now) (c .before .before .before .before .before .before .before .before .before .before .before .before .before .args .tree .now) (c .before .before .before .before .before .before .before .before .before .before .before .before .before .args .kind) (c .before .before .before .before .before .before .before .before .before .before .before .before .before .args .at) (c .before .before .before .before .before .before .before .before .before .before .before .before .before .args .levels) (c .before .before .before .before .before .before .before .before .before .before .before .before .before .args .n) (c .before .before .before .before .before .before .before .before .before .before .before .before .before .pre .1 .kind) (λ i. omega (arith, c .before .before .before .before .before .before .before .before .before .before .shared-slice-known3 .given i)) (c .before .before .before .before .before .before .before .before .before .to-usize .ensures .0) (c .before .before .before .before .before .before .before .before .place-at .ensures) (c .before .before .before .before .before .before .before .if1 .left) (c .before .before .before .before .before .before .if2 .left) (c .before .before .before .before .before .production-place .ensures) (c .before .before .before .before .if3 .left) (c .before .pair-in .ensures .0) (c .before .before .plus-tags .ensures) (within-end (c .before .before .before .before .before .before .before .before .before .before .before .before .before .args .tree .now) (c .before .before .before .before .before .before .before .before .before .before .before .before .before .args .at + 1) _ (omega (arith, w))) (goes-done (c .before .before .before .before .before .before .before .before .before .before .before .before .before .args .language .now) (c .before .before .before .before .before .before .before .before .before .before .before .before .before .args .language .now) (c .before .before .before .before .before .before .before .before .before .before .before .before .before .args .index .now) _ _ (c .before .before .before .before .before .before .before .before .before .before .before .before .before .args .tree .now) _ _ _ (goes-start _ _ _ _ _ _ _ _ _) (c .if4 .taken))
 
--- src/measure.rt:111:9
-measure-at-add-measure-all : (t : ℕ) → measure-at-lts.Need-add-measure-all (
-  to-usize-reads.Asked,
-  to-usize-reads.Learnt,
-  place-at-reads.Asked,
-  place-at-reads.Learnt,
-  measure-token-reads.Asked,
-  measure-token-reads.Learnt,
-  production-place-reads.Asked,
-  production-place-reads.Learnt,
-  plus-tags-reads.Asked,
-  plus-tags-reads.Learnt,
-  pair-in-reads.Asked,
-  pair-in-reads.Learnt,
-  measure-all-below t,
-  measure-all.Post,
-) (measure-at-at t) measure-at.Post
+measure-at-add-measure-all : (t : ℕ) → measure-at-lts.Need-add-measure-all (measure-at-calls t) (measure-at-at t) measure-at.Post
 measure-at-add-measure-all t c = let w = at-place (c .before .before .before .before .before .before .before .before .before .before .before .before .before .args .language .now) (c .before .before .before .before .before .before .before .before .before .before .before .before .before .args .index .now) (c .before .before .before .before .before .before .before .before .before .before .before .before .before .args .tree .now) (c .before .before .before .before .before .before .before .before .before .before .before .before .before .args .kind) (c .before .before .before .before .before .before .before .before .before .before .before .before .before .args .at) (c .before .before .before .before .before .before .before .before .before .before .before .before .before .args .levels) (c .before .before .before .before .before .before .before .before .before .before .before .before .before .args .n) (c .before .before .before .before .before .before .before .before .before .before .before .before .before .pre .1 .kind) (λ i. omega (arith, c .before .before .before .before .before .before .before .before .before .before .shared-slice-known3 .given i)) (c .before .before .before .before .before .before .before .before .before .to-usize .ensures .0) (c .before .before .before .before .before .before .before .before .place-at .ensures) (c .before .before .before .before .before .before .before .if1 .left) (c .before .before .before .before .before .before .if2 .left) (c .before .before .before .before .before .production-place .ensures) (c .before .before .before .before .if3 .left) (c .before .before .before .before .before .before .before .before .before .before .before .before .before .pre .1 .sound) in omega (arith, w .0, w .1)
 
--- src/measure.rt:114:9
-measure-at-add-measure-all-2 : (t : ℕ) → measure-at-lts.Need-add-measure-all-2 (
-  to-usize-reads.Asked,
-  to-usize-reads.Learnt,
-  place-at-reads.Asked,
-  place-at-reads.Learnt,
-  measure-token-reads.Asked,
-  measure-token-reads.Learnt,
-  production-place-reads.Asked,
-  production-place-reads.Learnt,
-  plus-tags-reads.Asked,
-  plus-tags-reads.Learnt,
-  pair-in-reads.Asked,
-  pair-in-reads.Learnt,
-  measure-all-below t,
-  measure-all.Post,
-) (measure-at-at t) measure-at.Post
+measure-at-add-measure-all-2 : (t : ℕ) → measure-at-lts.Need-add-measure-all-2 (measure-at-calls t) (measure-at-at t) measure-at.Post
 measure-at-add-measure-all-2 t c = let w = at-name (c .before .before .before .before .before .before .before .before .before .before .before .before .before .args .language .now) (c .before .before .before .before .before .before .before .before .before .before .before .before .before .args .index .now) (c .before .before .before .before .before .before .before .before .before .before .before .before .before .args .tree .now) (c .before .before .before .before .before .before .before .before .before .before .before .before .before .args .kind) (c .before .before .before .before .before .before .before .before .before .before .before .before .before .args .at) (c .before .before .before .before .before .before .before .before .before .before .before .before .before .args .levels) (c .before .before .before .before .before .before .before .before .before .before .before .before .before .args .n) (c .before .before .before .before .before .before .before .before .before .before .before .before .before .pre .1 .kind) (λ i. omega (arith, c .before .before .before .before .before .before .before .before .before .before .shared-slice-known3 .given i)) (c .before .before .before .before .before .before .before .before .before .to-usize .ensures .0) (c .before .before .before .before .before .before .before .before .place-at .ensures) (c .before .before .before .before .before .before .before .if1 .left) (c .before .before .before .before .before .before .if2 .left) (c .before .before .before .before .before .production-place .ensures) (c .before .before .before .before .if3 .left) in omega (arith, w)
 
--- src/measure.rt:115:9
-measure-at-sub-measure-all : (t : ℕ) → measure-at-lts.Need-sub-measure-all (
-  to-usize-reads.Asked,
-  to-usize-reads.Learnt,
-  place-at-reads.Asked,
-  place-at-reads.Learnt,
-  measure-token-reads.Asked,
-  measure-token-reads.Learnt,
-  production-place-reads.Asked,
-  production-place-reads.Learnt,
-  plus-tags-reads.Asked,
-  plus-tags-reads.Learnt,
-  pair-in-reads.Asked,
-  pair-in-reads.Learnt,
-  measure-all-below t,
-  measure-all.Post,
-) (measure-at-at t) measure-at.Post
+measure-at-sub-measure-all : (t : ℕ) → measure-at-lts.Need-sub-measure-all (measure-at-calls t) (measure-at-at t) measure-at.Post
 measure-at-sub-measure-all t c = let w = c .before .before .before .before .before .before .if2 .left in omega arith
 
--- src/measure.rt:107:5
-measure-at-measure-all-requires : (t : ℕ) → measure-at-lts.Need-measure-all-requires (
-  to-usize-reads.Asked,
-  to-usize-reads.Learnt,
-  place-at-reads.Asked,
-  place-at-reads.Learnt,
-  measure-token-reads.Asked,
-  measure-token-reads.Learnt,
-  production-place-reads.Asked,
-  production-place-reads.Learnt,
-  plus-tags-reads.Asked,
-  plus-tags-reads.Learnt,
-  pair-in-reads.Asked,
-  pair-in-reads.Learnt,
-  measure-all-below t,
-  measure-all.Post,
-) (measure-at-at t) measure-at.Post
+measure-at-measure-all-requires : (t : ℕ) → measure-at-lts.Need-measure-all-requires (measure-at-calls t) (measure-at-at t) measure-at.Post
 measure-at-measure-all-requires t c κs = let w = at-name (c .before .before .before .before .before .before .before .before .before .before .before .before .before .args .language .now) (c .before .before .before .before .before .before .before .before .before .before .before .before .before .args .index .now) (c .before .before .before .before .before .before .before .before .before .before .before .before .before .args .tree .now) (c .before .before .before .before .before .before .before .before .before .before .before .before .before .args .kind) (c .before .before .before .before .before .before .before .before .before .before .before .before .before .args .at) (c .before .before .before .before .before .before .before .before .before .before .before .before .before .args .levels) (c .before .before .before .before .before .before .before .before .before .before .before .before .before .args .n) (c .before .before .before .before .before .before .before .before .before .before .before .before .before .pre .1 .kind) (λ i. omega (arith, c .before .before .before .before .before .before .before .before .before .before .shared-slice-known3 .given i)) (c .before .before .before .before .before .before .before .before .before .to-usize .ensures .0) (c .before .before .before .before .before .before .before .before .place-at .ensures) (c .before .before .before .before .before .before .before .if1 .left) (c .before .before .before .before .before .before .if2 .left) (c .before .before .before .before .before .production-place .ensures) (c .before .before .before .before .if3 .left) in (omega (arith, c .before .before .before .before .before .before .if2 .left), (c .before .before .before .before .before .before .before .before .before .before .before .before .before .pre .1 .sound, at-kinds (c .before .before .before .before .before .before .before .before .before .before .before .before .before .args .language .now) (c .before .before .before .before .before .before .before .before .before .before .before .before .before .args .index .now) (c .before .before .before .before .before .before .before .before .before .before .before .before .before .args .tree .now) (c .before .before .before .before .before .before .before .before .before .before .before .before .before .args .kind) (c .before .before .before .before .before .before .before .before .before .before .before .before .before .args .at) (c .before .before .before .before .before .before .before .before .before .before .before .before .before .args .levels) (c .before .before .before .before .before .before .before .before .before .before .before .before .before .args .n) (c .before .before .before .before .before .before .before .before .before .before .before .before .before .pre .1 .kind) (λ i. omega (arith, c .before .before .before .before .before .before .before .before .before .before .shared-slice-known3 .given i)) (c .before .before .before .before .before .before .before .before .before .to-usize .ensures .0) (c .before .before .before .before .before .before .before .before .place-at .ensures) (c .before .before .before .before .before .before .before .if1 .left) (c .before .before .before .before .before .before .if2 .left) (c .before .before .before .before .before .production-place .ensures) (c .before .before .before .before .if3 .left) (c .before .before .before .before .before .before .before .before .before .before .before .before .before .pre .1 .sound) (c .before .pair-in .ensures .0), omega (arith, w)))
 
--- src/measure.rt:78:1
-measure-at-returns-5 : (t : ℕ) → measure-at-lts.Need-returns-5 (
-  to-usize-reads.Asked,
-  to-usize-reads.Learnt,
-  place-at-reads.Asked,
-  place-at-reads.Learnt,
-  measure-token-reads.Asked,
-  measure-token-reads.Learnt,
-  production-place-reads.Asked,
-  production-place-reads.Learnt,
-  plus-tags-reads.Asked,
-  plus-tags-reads.Learnt,
-  pair-in-reads.Asked,
-  pair-in-reads.Learnt,
-  measure-all-below t,
-  measure-all.Post,
-) (measure-at-at t) measure-at.Post
+measure-at-returns-5 : (t : ℕ) → measure-at-lts.Need-returns-5 (measure-at-calls t) (measure-at-at t) measure-at.Post
 measure-at-returns-5 t c = at-operands (c .before .before .before .before .before .before .before .before .before .before .before .before .before .before .args .language .now) (c .before .before .before .before .before .before .before .before .before .before .before .before .before .before .args .index .now) (c .before .before .before .before .before .before .before .before .before .before .before .before .before .before .args .tree .now) (c .before .before .before .before .before .before .before .before .before .before .before .before .before .before .args .kind) (c .before .before .before .before .before .before .before .before .before .before .before .before .before .before .args .at) (c .before .before .before .before .before .before .before .before .before .before .before .before .before .before .args .levels) (c .before .before .before .before .before .before .before .before .before .before .before .before .before .before .args .n) (c .before .before .before .before .before .before .before .before .before .before .before .before .before .before .pre .1 .kind) (λ i. omega (arith, c .before .before .before .before .before .before .before .before .before .before .before .shared-slice-known3 .given i)) (c .before .before .before .before .before .before .before .before .before .before .to-usize .ensures .0) (c .before .before .before .before .before .before .before .before .before .place-at .ensures) (c .before .before .before .before .before .before .before .before .if1 .left) (c .before .before .before .before .before .before .before .if2 .left) (c .before .before .before .before .before .before .production-place .ensures) (c .before .before .before .before .before .if3 .left) (c .before .before .pair-in .ensures .0) (c .before .before .before .plus-tags .ensures) (c .measure-all .ensures .0) (c .measure-all .ensures .1)
 
 pub +measure-all+measure-at-spec : {M : Type 1} → statement M
-+measure-all+measure-at-spec = close μ-measure-all μ-measure-at (λ t. measure-all-lts.spec (
-  measure-at-below t,
-  measure-at.Post,
-)
++measure-all+measure-at-spec = close μ-measure-all μ-measure-at (λ t. measure-all-lts.spec (measure-all-calls t)
     (measure-all-at t)
     measure-all.Post
     measure-all-Inv-loop
@@ -538,34 +162,19 @@ pub +measure-all+measure-at-spec : {M : Type 1} → statement M
     (measure-all-loop-holds t)
     (measure-all-shared-slice-read-measure-at t)
     (measure-all-measure-at-requires t)
-    (measure-all-enum-known-e t)
+    (λ c. search needs)
     (measure-all-add-q t)
     (measure-all-loop-less t)
     (measure-all-loop-again t)
-    (measure-all-enum-told t)
+    (λ c. search needs)
     (measure-all-returns t)
-    (measure-all-enum-told-2 t)
+    (λ c. search needs)
     (measure-all-returns-2 t)
     (measure-all-returns-3 t))
-    λ t. measure-at-lts.spec (
-      to-usize-reads.Asked,
-      to-usize-reads.Learnt,
-      place-at-reads.Asked,
-      place-at-reads.Learnt,
-      measure-token-reads.Asked,
-      measure-token-reads.Learnt,
-      production-place-reads.Asked,
-      production-place-reads.Learnt,
-      plus-tags-reads.Asked,
-      plus-tags-reads.Learnt,
-      pair-in-reads.Asked,
-      pair-in-reads.Learnt,
-      measure-all-below t,
-      measure-all.Post,
-    )
+    λ t. measure-at-lts.spec (measure-at-calls t)
     (measure-at-at t)
     measure-at.Post
-    (measure-at-to-usize-requires t)
+    (λ c κs. search needs)
     (measure-at-place-at-requires t)
     (measure-at-measure-token-requires t)
     (measure-at-returns t)
@@ -573,7 +182,7 @@ pub +measure-all+measure-at-spec : {M : Type 1} → statement M
     (measure-at-production-place-requires t)
     (measure-at-returns-3 t)
     (measure-at-shared-slice-read-plus-tags t)
-    (measure-at-plus-tags-requires t)
+    (λ c κs. search needs)
     (measure-at-add-stop t)
     (measure-at-pair-in-requires t)
     (measure-at-add-stop-2 t)

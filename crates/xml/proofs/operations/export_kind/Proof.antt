@@ -20,7 +20,7 @@ build-requires : tie.Need-build-requires
 build-requires c κs = (c .before .before .before .before .before .before .pre .0, refl, zeros 8224)
 
 export-tree-requires : tie.Need-export-tree-requires
-export-tree-requires c κs = record { sound = c .before .before .before .build .ensures _ (c .before .before .before .before .before .before .before .before .before .before .pre .2 .1) .sound; kind = c .before .before .before .before .before .before .before .before .before .before .pre .1; inside = omega arith }
+export-tree-requires c κs = (record { sound = c .before .before .before .build .ensures _ (c .before .before .before .before .before .before .before .before .before .before .pre .2 .1) .sound; kind = c .before .before .before .before .before .before .before .before .before .before .pre .1; inside = omega arith }, (c .before .before .before .before .before .before .before .before .before .before .pre .2 .0, c .before .before .before .build .ensures _ (c .before .before .before .before .before .before .before .before .before .before .pre .2 .1)))
 
 returns-2 : tie.Need-returns-2
 returns-2 c = kind-in _ _ _ (c .before .before .before .before .before .before .before .before .before .before .before .before .before .args .output .now) (c .before .before .before .before .before .before .before .before .before .is-in .ensures) _ _ (not-false _ (c .before .before .before .before .before .before .before .before .if1 .left)) (c .before .before .before .before .before .before .build .ensures) (c .before .before .export-tree .ensures)
