@@ -14,16 +14,19 @@ use Rattle.tables.proofs.Standing.{wrote-long}
 use Rattle.emitter.proofs.Rows.{RowHeld, asked, going-start, going-end, going-full, next-below, next-two, next-narrow, token-three, argument-some, argument-asks, argument-turn, named-some, named-room, named-asks, inner-turn, token-room, token-turn, NodeGoing, node-some, node-going, root-narrow, root-room, root-going, going-as, node-wrote, last-asks, node-end, find-asks, placed, placed-gives, found-place, found-below, found-some, found-asks, found-gives, leaf-room, leaf-low, leaf-gives}
 use Rattle.emitter.proofs.run.run_argument.Reads as run-argument
 use Rattle.emitter.proofs.run.run_argument.Kinds as run-argument-kinds
-use Rattle.emitter.proofs.run.+run_argument+run_clause+run_codes+run_node.Lts-run_argument as run-argument-lts
+use Rattle.emitter.proofs.run.+run_argument+run_clause+run_codes+run_node+run_use.Lts-run_argument as run-argument-lts
 use Rattle.emitter.proofs.run.run_clause.Reads as run-clause
 use Rattle.emitter.proofs.run.run_clause.Kinds as run-clause-kinds
-use Rattle.emitter.proofs.run.+run_argument+run_clause+run_codes+run_node.Lts-run_clause as run-clause-lts
+use Rattle.emitter.proofs.run.+run_argument+run_clause+run_codes+run_node+run_use.Lts-run_clause as run-clause-lts
 use Rattle.emitter.proofs.run.run_codes.Reads as run-codes
 use Rattle.emitter.proofs.run.run_codes.Kinds as run-codes-kinds
-use Rattle.emitter.proofs.run.+run_argument+run_clause+run_codes+run_node.Lts-run_codes as run-codes-lts
+use Rattle.emitter.proofs.run.+run_argument+run_clause+run_codes+run_node+run_use.Lts-run_codes as run-codes-lts
 use Rattle.emitter.proofs.run.run_node.Reads as run-node
 use Rattle.emitter.proofs.run.run_node.Kinds as run-node-kinds
-use Rattle.emitter.proofs.run.+run_argument+run_clause+run_codes+run_node.Lts-run_node as run-node-lts
+use Rattle.emitter.proofs.run.+run_argument+run_clause+run_codes+run_node+run_use.Lts-run_node as run-node-lts
+use Rattle.emitter.proofs.run.run_use.Reads as run-use
+use Rattle.emitter.proofs.run.run_use.Kinds as run-use-kinds
+use Rattle.emitter.proofs.run.+run_argument+run_clause+run_codes+run_node+run_use.Lts-run_use as run-use-lts
 use Rattle.emitter.proofs.put.put_name.Reads as put-name-reads
 use Rattle.emitter.proofs.put.put_token.Reads as put-token-reads
 use Rattle.emitter.proofs.run.put_argument.Reads as put-argument-reads
@@ -35,8 +38,8 @@ use Rattle.tables.proofs.table.body_at.Reads as body-at-reads
 use Rattle.tables.proofs.table.clause_end.Reads as clause-end-reads
 use Rattle.tables.proofs.table.source_at.Reads as source-at-reads
 use Rattle.tables.proofs.table.span_at.Reads as span-at-reads
-use Rattle.emitter.proofs.run.+run_argument+run_clause+run_codes+run_node.{statement}
-use Rattle.emitter.proofs.run.+run_argument+run_clause+run_codes+run_node.Tie.{close}
+use Rattle.emitter.proofs.run.+run_argument+run_clause+run_codes+run_node+run_use.{statement}
+use Rattle.emitter.proofs.run.+run_argument+run_clause+run_codes+run_node+run_use.Tie.{close}
 
 -- The levels left fall at each call.
 abbrev μ-run-argument : Measures 5 run-argument-kinds.ps ℕ
@@ -50,6 +53,9 @@ abbrev μ-run-codes : Measures 5 run-codes-kinds.ps ℕ
 
 abbrev μ-run-node : Measures 5 run-node-kinds.ps ℕ
 μ-run-node κs a = a .1 .1 .1 .1 .1 .1 .1 .1 .0
+
+abbrev μ-run-use : Measures 5 run-use-kinds.ps ℕ
+μ-run-use κs a = a .1 .1 .1 .1 .1 .1 .0
 
 abbrev run-argument-at : ℕ → In 5 run-argument-kinds.ps
 run-argument-at t =
@@ -85,6 +91,18 @@ abbrev run-node-below : ℕ → In 5 run-node-kinds.ps
 run-node-below t =
     and 5 run-node-kinds.ps (falls 5 run-node-kinds.ps _<_ μ-run-node t) run-node.Pre
 
+abbrev run-use-at : ℕ → In 5 run-use-kinds.ps
+run-use-at t =
+    and 5 run-use-kinds.ps (is 5 run-use-kinds.ps μ-run-use t) run-use.Pre
+
+abbrev run-use-below : ℕ → In 5 run-use-kinds.ps
+run-use-below t =
+    and
+    5
+    run-use-kinds.ps
+    (falls 5 run-use-kinds.ps _<_ μ-run-use t)
+    run-use.Pre
+
 abbrev run-argument-calls : ℕ → run-argument-lts.Claims
 run-argument-calls t = (source-at-reads.Asked, source-at-reads.Learnt, is-leaf-reads.Asked, is-leaf-reads.Learnt, put-argument-reads.Asked, put-argument-reads.Learnt, run-node-below t, run-node.Post)
 
@@ -92,10 +110,13 @@ abbrev run-clause-calls : ℕ → run-clause-lts.Claims
 run-clause-calls t = (body-at-reads.Asked, body-at-reads.Learnt, start-of-reads.Asked, start-of-reads.Learnt, run-argument-below t, run-argument.Post, put-name-reads.Asked, put-name-reads.Learnt, span-at-reads.Asked, span-at-reads.Learnt, run-codes-below t, run-codes.Post, put-token-reads.Asked, put-token-reads.Learnt)
 
 abbrev run-codes-calls : ℕ → run-codes-lts.Claims
-run-codes-calls t = (body-at-reads.Asked, body-at-reads.Learnt, start-of-reads.Asked, start-of-reads.Learnt, run-argument-below t, run-argument.Post, put-name-reads.Asked, put-name-reads.Learnt, span-at-reads.Asked, span-at-reads.Learnt, run-codes-below t, run-codes.Post, put-token-reads.Asked, put-token-reads.Learnt)
+run-codes-calls t = (body-at-reads.Asked, body-at-reads.Learnt, start-of-reads.Asked, start-of-reads.Learnt, run-use-below t, run-use.Post, put-name-reads.Asked, put-name-reads.Learnt, span-at-reads.Asked, span-at-reads.Learnt, run-codes-below t, run-codes.Post, put-token-reads.Asked, put-token-reads.Learnt)
 
 abbrev run-node-calls : ℕ → run-node-lts.Claims
 run-node-calls t = (start-node-reads.Asked, start-node-reads.Learnt, clause-end-reads.Asked, clause-end-reads.Learnt, body-at-reads.Asked, body-at-reads.Learnt, put-name-reads.Asked, put-name-reads.Learnt, run-clause-below t, run-clause.Post, last-end-reads.Asked, last-end-reads.Learnt)
+
+abbrev run-use-calls : ℕ → run-use-lts.Claims
+run-use-calls t = (source-at-reads.Asked, source-at-reads.Learnt, is-leaf-reads.Asked, is-leaf-reads.Learnt, put-argument-reads.Asked, put-argument-reads.Learnt, run-node-below t, run-node.Post)
 
 run-argument-add-source-at : (t : ℕ) → run-argument-lts.Need-add-source-at (run-argument-calls t) (run-argument-at t) run-argument.Post
 run-argument-add-source-at t c = omega (arith, found-place (c .before .before .before .before .pre .1 .1 .4) .1)
@@ -234,11 +255,11 @@ run-codes-sub-j t c = omega (arith, (argument-asks (asked (c .before .before .be
 run-codes-start-of-requires : (t : ℕ) → run-codes-lts.Need-start-of-requires (run-codes-calls t) (run-codes-at t) run-codes.Post run-codes-Inv-loop run-codes-μ-loop
 run-codes-start-of-requires t c κs = (c .before .before .before .before .before .before .before .before .before .before .pre .1 .0, c .before .before .before .before .before .before .before .before .before .before .pre .1 .1, c .before .before .before .before .before .before .before .before .before .before .pre .1 .2, c .before .before .before .before .before .before .before .before .before .before .pre .1 .3, find-asks (c .before .body-at2 .ensures .0) (argument-asks (asked (c .before .before .before .before .before .before .loop .inv .1) (c .before .before .before .before .before .before .before .before .before .before .pre .1)) (c .before .before .before .before .before .loop-test .taken) (c .before .before .before .body-at .ensures .0) (c .before .before .if2 .taken)))
 
-run-codes-sub-run-argument : (t : ℕ) → run-codes-lts.Need-sub-run-argument (run-codes-calls t) (run-codes-at t) run-codes.Post run-codes-Inv-loop run-codes-μ-loop
-run-codes-sub-run-argument t c = omega (arith, argument-some (asked (c .before .before .before .before .before .before .before .before .loop .inv .1) (c .before .before .before .before .before .before .before .before .before .before .before .before .pre .1)) (c .before .before .before .before .before .before .before .loop-test .taken) (c .before .before .before .before .before .body-at .ensures .0) (c .before .before .before .before .if2 .taken))
+run-codes-sub-run-use : (t : ℕ) → run-codes-lts.Need-sub-run-use (run-codes-calls t) (run-codes-at t) run-codes.Post run-codes-Inv-loop run-codes-μ-loop
+run-codes-sub-run-use t c = omega (arith, argument-some (asked (c .before .before .before .before .before .before .before .before .loop .inv .1) (c .before .before .before .before .before .before .before .before .before .before .before .before .pre .1)) (c .before .before .before .before .before .before .before .loop-test .taken) (c .before .before .before .before .before .body-at .ensures .0) (c .before .before .before .before .if2 .taken))
 
-run-codes-run-argument-requires : (t : ℕ) → run-codes-lts.Need-run-argument-requires (run-codes-calls t) (run-codes-at t) run-codes.Post run-codes-Inv-loop run-codes-μ-loop
-run-codes-run-argument-requires t c κs = (omega (arith, c .before .before .before .before .before .before .before .before .before .before .before .before .before .pre .0, argument-some (asked (c .before .before .before .before .before .before .before .before .before .loop .inv .1) (c .before .before .before .before .before .before .before .before .before .before .before .before .before .pre .1)) (c .before .before .before .before .before .before .before .before .loop-test .taken) (c .before .before .before .before .before .before .body-at .ensures .0) (c .before .before .before .before .before .if2 .taken)), (c .before .before .before .before .before .before .before .if1 .left, (c .before .before .before .before .before .before .before .before .before .before .before .before .before .pre .1 .0, c .before .before .before .before .before .before .before .before .before .before .before .before .before .pre .1 .1, c .before .before .before .before .before .before .before .before .before .before .before .before .before .pre .1 .2, c .before .before .before .before .before .before .before .before .before .before .before .before .before .pre .1 .3, placed (c .before .before .before .before .body-at2 .ensures .0) (argument-asks (asked (c .before .before .before .before .before .before .before .before .before .loop .inv .1) (c .before .before .before .before .before .before .before .before .before .before .before .before .before .pre .1)) (c .before .before .before .before .before .before .before .before .loop-test .taken) (c .before .before .before .before .before .before .body-at .ensures .0) (c .before .before .before .before .before .if2 .taken)) (c .before .before .start-of .ensures))))
+run-codes-run-use-requires : (t : ℕ) → run-codes-lts.Need-run-use-requires (run-codes-calls t) (run-codes-at t) run-codes.Post run-codes-Inv-loop run-codes-μ-loop
+run-codes-run-use-requires t c κs = (omega (arith, c .before .before .before .before .before .before .before .before .before .before .before .before .before .pre .0, argument-some (asked (c .before .before .before .before .before .before .before .before .before .loop .inv .1) (c .before .before .before .before .before .before .before .before .before .before .before .before .before .pre .1)) (c .before .before .before .before .before .before .before .before .loop-test .taken) (c .before .before .before .before .before .before .body-at .ensures .0) (c .before .before .before .before .before .if2 .taken)), (c .before .before .before .before .before .before .before .if1 .left, (c .before .before .before .before .before .before .before .before .before .before .before .before .before .pre .1 .0, c .before .before .before .before .before .before .before .before .before .before .before .before .before .pre .1 .1, c .before .before .before .before .before .before .before .before .before .before .before .before .before .pre .1 .2, c .before .before .before .before .before .before .before .before .before .before .before .before .before .pre .1 .3, placed (c .before .before .before .before .body-at2 .ensures .0) (argument-asks (asked (c .before .before .before .before .before .before .before .before .before .loop .inv .1) (c .before .before .before .before .before .before .before .before .before .before .before .before .before .pre .1)) (c .before .before .before .before .before .before .before .before .loop-test .taken) (c .before .before .before .before .before .before .body-at .ensures .0) (c .before .before .before .before .before .if2 .taken)) (c .before .before .start-of .ensures))))
 
 run-codes-sub-c : (t : ℕ) → run-codes-lts.Need-sub-c (run-codes-calls t) (run-codes-at t) run-codes.Post run-codes-Inv-loop run-codes-μ-loop
 run-codes-sub-c t c = omega (arith, c .before .before .before .before .before .before .before .before .if2 .taken)
@@ -250,7 +271,7 @@ run-codes-loop-less : (t : ℕ) → run-codes-lts.Need-loop-less (run-codes-call
 run-codes-loop-less t c = omega (arith, c .before .before .before .before .before .before .before .before .if2 .taken, c .before .before .before .before .before .before .before .before .before .before .before .loop-test .taken)
 
 run-codes-loop-again : (t : ℕ) → run-codes-lts.Need-loop-again (run-codes-calls t) (run-codes-at t) run-codes.Post run-codes-Inv-loop run-codes-μ-loop
-run-codes-loop-again t c = (c .before .out .given ∙ c .before .before .before .before .before .before .before .before .before .before .before .before .loop .inv .0, λ f given ts ks cs js a. argument-turn (c .before .before .before .before .before .before .before .before .before .before .before .before .loop .inv .1 f given ts ks cs js a) (c .before .before .before .before .before .before .before .before .before .before .before .loop-test .taken) (c .before .before .before .before .before .before .before .before .before .body-at .ensures .0) (c .before .before .before .before .before .before .before .before .if2 .taken) (placed-gives (c .before .before .before .before .before .before .before .body-at2 .ensures .0) (c .before .before .before .before .before .start-of .ensures) (c .before .before .run-argument .ensures)))
+run-codes-loop-again t c = (c .before .out .given ∙ c .before .before .before .before .before .before .before .before .before .before .before .before .loop .inv .0, λ f given ts ks cs js a. argument-turn (c .before .before .before .before .before .before .before .before .before .before .before .before .loop .inv .1 f given ts ks cs js a) (c .before .before .before .before .before .before .before .before .before .before .before .loop-test .taken) (c .before .before .before .before .before .before .before .before .before .body-at .ensures .0) (c .before .before .before .before .before .before .before .before .if2 .taken) (placed-gives (c .before .before .before .before .before .before .before .body-at2 .ensures .0) (c .before .before .before .before .before .start-of .ensures) (c .before .before .run-use .ensures)))
 
 run-codes-body-at-requires-3 : (t : ℕ) → run-codes-lts.Need-body-at-requires-3 (run-codes-calls t) (run-codes-at t) run-codes.Post run-codes-Inv-loop run-codes-μ-loop
 run-codes-body-at-requires-3 t c κs = next-below (asked (c .before .before .before .before .before .loop .inv .1) (c .before .before .before .before .before .before .before .before .before .pre .1)) (c .before .before .before .before .loop-test .taken)
@@ -349,9 +370,33 @@ run-node-same-length t c = wrote-long _ _ _ _ _ (node-wrote (c .before .before .
 run-node-returns : (t : ℕ) → run-node-lts.Need-returns (run-node-calls t) (run-node-at t) run-node.Post
 run-node-returns t c = λ f given u a. (node-wrote a (c .before .before .before .before .before .before .before .before .before .before .start-node .ensures f given u (a .there)) (c .before .before .before .before .before .before .before .before .before .clause-end .ensures ((c .before .before .before .before .before .before .before .before .before .before .start-node .ensures f given u (a .there)) .body) ((c .before .before .before .before .before .before .before .before .before .before .start-node .ensures f given u (a .there)) .clause)) (run-node-going t (c .before .before .before .before .before .before .before) f given u a) (c .before .before .before .before .run-clause .ensures), ap (λ (e : ℕ). set (c .before .before .before .before .before .before .before .before .before .before .before .before .before .before .before .args .above .now) (c .before .before .before .before .before .before .before .before .before .before .before .before .before .before .before .args .j + 1) e) (node-end a (c .before .before .before .before .before .before .before .before .before .before .start-node .ensures f given u (a .there)) (c .before .before .before .before .before .before .before .before .before .clause-end .ensures ((c .before .before .before .before .before .before .before .before .before .before .start-node .ensures f given u (a .there)) .body) ((c .before .before .before .before .before .before .before .before .before .before .start-node .ensures f given u (a .there)) .clause)) (run-node-going t (c .before .before .before .before .before .before .before) f given u a) (c .before .before .before .before .run-clause .ensures) (c .last-end .ensures f given _ _ (last-asks a (c .before .before .before .before .before .before .before .before .before .before .start-node .ensures f given u (a .there)) (c .before .before .before .before .before .before .before .before .before .clause-end .ensures ((c .before .before .before .before .before .before .before .before .before .before .start-node .ensures f given u (a .there)) .body) ((c .before .before .before .before .before .before .before .before .before .before .start-node .ensures f given u (a .there)) .clause)) (run-node-going t (c .before .before .before .before .before .before .before) f given u a) (c .before .before .before .before .run-clause .ensures)))))
 
-pub +run-argument+run-clause+run-codes+run-node-spec : {M : Type 1} → statement M
-+run-argument+run-clause+run-codes+run-node-spec =
-    close μ-run-argument μ-run-clause μ-run-codes μ-run-node (λ t. run-argument-lts.spec (run-argument-calls t)
+run-use-add-source-at : (t : ℕ) → run-use-lts.Need-add-source-at (run-use-calls t) (run-use-at t) run-use.Post
+run-use-add-source-at t c = omega (arith, found-place (c .before .before .before .before .pre .1 .1 .4) .1)
+
+run-use-source-at-requires : (t : ℕ) → run-use-lts.Need-source-at-requires (run-use-calls t) (run-use-at t) run-use.Post
+run-use-source-at-requires t c κs = found-place (c .before .before .before .before .pre .1 .1 .4) .1
+
+run-use-is-leaf-requires : (t : ℕ) → run-use-lts.Need-is-leaf-requires (run-use-calls t) (run-use-at t) run-use.Post
+run-use-is-leaf-requires t c κs = found-below (c .before .before .before .before .before .pre .1 .1 .4) (c .source-at .ensures .0)
+
+run-use-put-argument-requires : (t : ℕ) → run-use-lts.Need-put-argument-requires (run-use-calls t) (run-use-at t) run-use.Post
+run-use-put-argument-requires t c κs = (leaf-room (c .before .before .before .before .before .before .before .before .before .pre .1 .1 .4) (c .before .before .before .before .source-at .ensures .0) (sym (c .before .before .before .is-leaf .ensures) ∙ c .before .before .if1 .taken), (c .before .before .before .before .before .before .before .before .before .pre .1 .1 .4) .asks .room, leaf-low (c .before .before .before .before .before .before .before .before .before .pre .1 .1 .4) (c .before .before .before .before .source-at .ensures .0) (sym (c .before .before .before .is-leaf .ensures) ∙ c .before .before .if1 .taken), found-place (c .before .before .before .before .before .before .before .before .before .pre .1 .1 .4) .0, c .before .before .before .before .before .before .before .before .before .pre .1 .0)
+
+run-use-returns : (t : ℕ) → run-use-lts.Need-returns (run-use-calls t) (run-use-at t) run-use.Post
+run-use-returns t c = λ f given ts ks a. leaf-gives a (c .before .before .before .before .before .before .before .source-at .ensures .0) (sym (c .before .before .before .before .before .before .is-leaf .ensures) ∙ c .before .before .before .before .before .if1 .taken) (c .before .before .put-argument .ensures .0) (c .before .before .put-argument .ensures .1)
+
+run-use-sub-run-node : (t : ℕ) → run-use-lts.Need-sub-run-node (run-use-calls t) (run-use-at t) run-use.Post
+run-use-sub-run-node t c = omega (arith, found-some (c .before .before .before .before .before .before .before .before .pre .1 .1 .4) (c .before .before .before .source-at .ensures .0) (sym (c .before .before .is-leaf .ensures) ∙ c .before .if1 .left))
+
+run-use-run-node-requires : (t : ℕ) → run-use-lts.Need-run-node-requires (run-use-calls t) (run-use-at t) run-use.Post
+run-use-run-node-requires t c κs = (omega (arith, c .before .before .before .before .before .before .before .before .before .pre .0, found-some (c .before .before .before .before .before .before .before .before .before .pre .1 .1 .4) (c .before .before .before .before .source-at .ensures .0) (sym (c .before .before .before .is-leaf .ensures) ∙ c .before .before .if1 .left)), (c .before .before .before .before .before .before .before .before .before .pre .1 .0, found-place (c .before .before .before .before .before .before .before .before .before .pre .1 .1 .4) .0, (c .before .before .before .before .before .before .before .before .before .pre .1 .1 .4) .asks .room, (c .before .before .before .before .before .before .before .before .before .pre .1 .1 .0, c .before .before .before .before .before .before .before .before .before .pre .1 .1 .1, _, found-asks (c .before .before .before .before .before .before .before .before .before .pre .1 .1 .4) (c .before .before .before .before .source-at .ensures .0) (sym (c .before .before .before .is-leaf .ensures) ∙ c .before .before .if1 .left))))
+
+run-use-returns-2 : (t : ℕ) → run-use-lts.Need-returns-2 (run-use-calls t) (run-use-at t) run-use.Post
+run-use-returns-2 t c = λ f given ts ks a. found-gives a (c .before .before .before .before .before .before .before .source-at .ensures .0) (sym (c .before .before .before .before .before .before .is-leaf .ensures) ∙ c .before .before .before .before .before .if1 .left) (c .before .before .run-node .ensures)
+
+pub +run-argument+run-clause+run-codes+run-node+run-use-spec : {M : Type 1} → statement M
++run-argument+run-clause+run-codes+run-node+run-use-spec =
+    close μ-run-argument μ-run-clause μ-run-codes μ-run-node μ-run-use (λ t. run-argument-lts.spec (run-argument-calls t)
     (run-argument-at t)
     run-argument.Post
     (λ c. search needs)
@@ -419,8 +464,8 @@ pub +run-argument+run-clause+run-codes+run-node-spec : {M : Type 1} → statemen
     (run-codes-body-at-requires-2 t)
     (run-codes-sub-j t)
     (run-codes-start-of-requires t)
-    (run-codes-sub-run-argument t)
-    (run-codes-run-argument-requires t)
+    (run-codes-sub-run-use t)
+    (run-codes-run-use-requires t)
     (run-codes-sub-c t)
     (run-codes-add-c t)
     (run-codes-loop-less t)
@@ -447,7 +492,7 @@ pub +run-argument+run-clause+run-codes+run-node-spec : {M : Type 1} → statemen
     (run-codes-loop-again-3 t)
     (λ c. search needs)
     (run-codes-returns-2 t))
-    λ t. run-node-lts.spec (run-node-calls t)
+    (λ t. run-node-lts.spec (run-node-calls t)
     (run-node-at t)
     run-node.Post
     (run-node-start-node-requires t)
@@ -465,4 +510,18 @@ pub +run-argument+run-clause+run-codes+run-node-spec : {M : Type 1} → statemen
     (λ c. search needs)
     (λ c. search needs)
     (run-node-same-length t)
-    (run-node-returns t)
+    (run-node-returns t))
+    λ t. run-use-lts.spec (run-use-calls t)
+    (run-use-at t)
+    run-use.Post
+    (λ c. search needs)
+    (run-use-add-source-at t)
+    (run-use-source-at-requires t)
+    (run-use-is-leaf-requires t)
+    (run-use-put-argument-requires t)
+    (λ c. search needs)
+    (run-use-returns t)
+    (run-use-sub-run-node t)
+    (run-use-run-node-requires t)
+    (λ c. search needs)
+    (run-use-returns-2 t)
