@@ -213,6 +213,47 @@ fn run_argument(
     )
 }
 
+// The same, where the use stands in inner codes: a function of its own, since the compiler merges one that has a single caller
+// into it.
+fn run_use(
+    table: &[u16; TABLE],
+    input: &[u8],
+    ends: &[u32],
+    output: &mut [u8],
+    pos: usize,
+    at: usize,
+    left: usize,
+    node: &mut [usize; 10],
+    j: usize,
+    used: usize,
+    syntax: Syntax,
+) -> usize
+    requires { ⌜ (pos ≤ length (now output)) × ((f : Translation) × (given : Uses) × (ts : Codes) × (ks : List ℕ) × PlacedAsks syntax (now table) (now input) (now ends) (now node) left j at used f given ts ks) ⌝ }
+    ensures { λ r. ⌜ ((f : Translation) (given : Uses) (ts : Codes) (ks : List ℕ) → PlacedAsks syntax (now (table .entry)) (now (input .entry)) (now (ends .entry)) (now (node .entry)) left j at used f given ts ks
+        → Wrote (bytesOf syntax (runOperand (clausesOf f) ts (usedPlace (now (table .entry)) used) (usedNumber (now (table .entry)) used))) (now (output .entry)) (now (output .exit)) pos r
+        × Node syntax (now (table .entry)) (now (input .entry)) (now (node .exit)) (f .source) given ts ks
+        × Same (now (node .entry)) (now (node .exit))) ⌝ }
+{
+    let kind = source_at(table, node[9] + j);
+    if is_leaf(syntax, table, kind, input, at) {
+        return put_argument(syntax, table, input, at, used, output, pos, node, j);
+    }
+    run_node(
+        table,
+        input,
+        ends,
+        output,
+        pos,
+        at,
+        kind,
+        used,
+        left - 1,
+        node,
+        j,
+        syntax,
+    )
+}
+
 // The codes of a clause in a row, but for the name of the root, each use replaced by the run of that argument.
 fn run_clause(
     table: &[u16; TABLE],
@@ -288,7 +329,7 @@ fn run_codes(
         if 2 < sign {
             let j = body_at(table, c + 1) - 1;
             let a = start_of(syntax, table, input, ends, node, j);
-            p = run_argument(table, input, ends, out, p, a, left - 1, node, j, c, syntax);
+            p = run_use(table, input, ends, out, p, a, left - 1, node, j, c, syntax);
             c += sign - 1;
         } else if sign == 1 {
             p = put_name(syntax, body_at(table, c + 1) as u8, out, p);

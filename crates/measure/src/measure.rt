@@ -43,7 +43,7 @@ pub enum Step {
 }
 
 // Whether a tree of the kind is one level too many: no level is left, and the kind is no class.
-fn out_of_levels(index: &[u16; TABLE], kind: u8, left: usize) -> bool
+pub fn out_of_levels(index: &[u16; TABLE], kind: u8, left: usize) -> bool
     requires { ⌜ kind < 32 ⌝ }
     ensures { λ r. ⌜ r ≡ outOfLevels (now (index .entry)) kind left ⌝ }
 {
@@ -54,7 +54,7 @@ fn out_of_levels(index: &[u16; TABLE], kind: u8, left: usize) -> bool
 }
 
 // A leaf of a tree is a token, which a run keeps: two bytes.
-fn leaf(read: Read, total: usize, sum: usize, cost: usize, top: usize) -> Step
+pub fn leaf(read: Read, total: usize, sum: usize, cost: usize, top: usize) -> Step
     requires { ⌜ sum ≤ top ⌝ }
     ensures { λ r. ⌜ r ≡ leafStep top total sum cost read ⌝ }
 {

@@ -1,7 +1,7 @@
 -- The index of the source as the front of the table of a run.
 use Prim.Native.Nat.{ℕ, _+_, _≤_, _<_}
-use mathlib.Core.Path.{_≡_}
-use mathlib.Core.List.{List, _++_}
+use mathlib.Core.Path.{_≡_, refl, ap}
+use mathlib.Core.List.{List, [], _∷_, _++_}
 use native.Mathlib.Omega.{arith}
 use lib.ListN.{length, getD, take, drop, length-append, List·getD-append}
 use Rattle.fields.specs.Inner.Places.{places}
@@ -48,3 +48,11 @@ module _ (s o index : List ℕ) (long : length o ≡ 29760) (put : index ≡ put
 
   pub front-long : 8224 ≤ length (index ++ drop 8224 o)
   front-long = rw (length-append index (drop 8224 o)) (omega (arith, index-long))
+
+-- measure_single: no entries are lent.
+no-entries : (l : List ℕ) → length l ≡ 0 → l ≡ []
+no-entries [] e = refl
+no-entries (x ∷ t) e = absurd (omega arith)
+
+pub counted-none : (counts entries index : List ℕ) (f : Translation) → length entries ≡ 0 → Counted (counts, entries) 1 index f → Counted (counts, []) 1 index f
+counted-none counts entries index f e z = rw (no-entries entries e) at z

@@ -134,6 +134,27 @@ fn measure_with(
     )
 }
 
+// The same by number 0, where the body has no other number and nothing is lent for others.
+fn measure_single(
+    source: &[u8],
+    body: &[u8],
+    table: &mut [u16; TABLE],
+    kind: u8,
+    tree: &[u8],
+    top: usize,
+    ends: &mut [u32],
+) -> Measured
+    requires { ⌜ (kind < 32) × (length (now table) ≡ tableLength) × ((j : ℕ) → getD (now table) j 0 ≡ 0) × (1 ≡ widthOf (now body)) × (0 < top) × ((j : ℕ) → getD (now ends) j 0 ≡ 0)
+        × ((t : List ℕ) × (f : Translation) × Checked (now source) t (now body) f) ⌝ }
+    ensures { λ r. ⌜ ((number : ℕ) (t : List ℕ) (f : Translation) → Checked (now (source .entry)) t (now (body .entry)) f
+        → Measures (now (source .entry)) (now (table .exit)) (now (ends .exit)) f kind number (now (tree .entry)) top r) ⌝ }
+{
+    let mut counts = [0u16; 1024];
+    let mut entries = [0u16; 0];
+    begin(source, body, table, &mut counts, &mut entries, 1);
+    single::walk::measure(source, table, &counts, kind, tree, 0, 64, top, ends)
+}
+
 // The same, with tables for the numbers that the body has.
 fn measured(
     source: &[u8],
@@ -152,21 +173,9 @@ fn measured(
 {
     let width = width_of(body);
     if width == 1 {
-        let mut entries = [0u16; 1];
-        let mut weights = [0usize; 66];
-        return measure_with(
-            source,
-            body,
-            table,
-            kind,
-            number,
-            tree,
-            top,
-            &mut entries,
-            &mut weights,
-            width,
-            ends,
-        );
+        if 0 < top {
+            return measure_single(source, body, table, kind, tree, top, ends);
+        }
     }
     let mut entries = [0u16; ENTRIES];
     let mut weights = [0usize; WEIGHTS];

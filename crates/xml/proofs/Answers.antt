@@ -1,109 +1,172 @@
--- What the operations answer: a law for each return of `export_legal` and `export`.
-use Prim.Native.Nat.{ℕ, _<_, _≤_}
-use mathlib.Core.Path.{_≡_, refl, sym, _∙_}
-use mathlib.Core.Bool.{true, false, not}
-use mathlib.Core.List.{List, []}
+-- What export answers: a law for each return of `export_tree`, `export_kind` and `export`.
+use Prim.Native.Nat.{ℕ, _+_, _<_, _≤_}
+use mathlib.Core.Path.{_≡_, refl, sym, ap, _∙_}
+use mathlib.Core.Bool.{Bool, true, false, not}
+use mathlib.Core.List.{List, [], _∷_, _++_, append-nil}
 use mathlib.Core.Option.{some}
-use lib.ListN.{length}
-use lib.Dec.{ltb}
-use borrow.Author.Tests.{ltb-false}
-use Rattle.fields.specs.Outcome.{Result, value, refused, _>>=_, checked}
+use native.Mathlib.Omega.{arith}
+use lib.ListN.{length, drop, drop-of-length-le}
+use lib.Dec.{leb}
+use borrow.Author.Tests.{leb-true, leb-false}
+use Rattle.fields.specs.Outcome.{Result, value, refused, _>>=_, checked, written, outputAfter}
+use Rattle.fields.specs.Inner.Writing.{spliced}
 use Rattle.fields.specs.declared.outcome.Outcome.{Outcome}
 use Rattle.fields.specs.declared.outcome.Outcome.the-variants.{Accepted, Refused}
 use Rattle.fields.specs.declared.outcome.Reason.{Reason}
 use Rattle.fields.specs.declared.outcome.Reason.the-variants as Why
-use Rattle.fields.proofs.Truth.{true-not}
+use Rattle.fields.proofs.Truth.{by-test}
+use Rattle.fields.proofs.Split.{front}
 use Rattle.language.specs.Language.{Language, isIn}
-use Rattle.language.specs.LanguageFile.{languageOf, languageLimit, entriesOf}
-use Rattle.language.proofs.Codec.{language-good}
-use Rattle.reader.specs.Code.{Code}
-use Rattle.reader.specs.Syntax.{done, read, tree}
-use Rattle.reader.specs.Operations.{treeLevels, wholeTree, treeOf, checkTree}
+use Rattle.language.specs.LanguageFile.{languageOf, entriesOf}
+use Rattle.language.specs.Operations.{checkLanguage}
+use Rattle.reader.specs.Code.{Code, Codes, nil, cons}
+use Rattle.reader.specs.Syntax.{Read, done, deep, broken, andThen, read, readAll, tree}
+use Rattle.reader.specs.Operations.{treeLevels, wholeTree, treeOf}
 use Rattle.reader.specs.Inner.Index.{Indexed}
 use Rattle.reader.proofs.Members.{in-below}
-use Rattle.translation.proofs.Fitting.{refuse-value}
+use Rattle.translation.specs.Operations.{fitted}
 use Rattle.translation.proofs.Accepted.{refused-not}
-use Rattle.xml.specs.Text.{export}
+use Rattle.checks.proofs.TreeChain.{accepts}
+use Rattle.putting.specs.Inner.Answering.{Gives}
+use Rattle.putting.proofs.Reading.{same-done, deep-not, broken-not, then-done}
+use Rattle.putting.proofs.Answering.{gives-long, gives-fit}
+use Rattle.xml.specs.Text.{export, exportAll}
 use Rattle.xml.specs.Operations.{exportText, exportTree}
-use Rattle.putting.specs.declared.put.Step.{Step}
-use Rattle.putting.specs.declared.put.Step.the-variants.{To, Full}
-use Rattle.putting.specs.Inner.Passing.{Steps}
-use Rattle.putting.proofs.Answering.{answers-full, answers-done}
-use Rattle.xml.specs.Inner.Exporting.{ExportsTree}
-use Rattle.xml.specs.Inner.Answering.{GivesExport}
-use Rattle.xml.proofs.Inverse.{tree-done}
+use Rattle.xml.specs.declared.measure.Measured.{Measured}
+use Rattle.xml.specs.declared.measure.Measured.the-variants.{End, Deep, Broken}
+use Rattle.xml.specs.Inner.Exporting.{TreesAsk, Exported}
+use Rattle.xml.specs.Inner.Measuring.{most, Within, MeasuresTrees}
+use Rattle.xml.specs.Inner.Answering.{GivesTree, GivesExport}
 
--- export_legal
-module _ (s index : List ℕ) (k : ℕ) (b o o₁ : List ℕ) {x : Step} (first : ExportsTree false s index k b 0 treeLevels o o₁ 0 x) (steps : Steps false b o o₁ x) where
-  pub legal-full : {out : Outcome} → x ≡ Full → out ≡ Refused Why.OutputTooShort → GivesExport s index k b o o₁ out
-  legal-full e h l a z f = answers-full (export l k a) b o o₁ (first l a [] z f) steps e h
+pub gives-refused : (x : Result (List ℕ)) (o : List ℕ) {out : Outcome} (r : Reason) → x ≡ refused r → out ≡ Refused r → Gives x o o out
+gives-refused x o r e h = (h ∙ sym (ap written e), sym (ap (outputAfter o) e))
 
-  module _ {e m : ℕ} (ex : x ≡ To e m) {o₂ : List ℕ} {r : Step} (second : ExportsTree true s index k b 0 treeLevels o₁ o₂ 0 r) where
-    pub legal-done : {out : Outcome} → out ≡ Accepted m → GivesExport s index k b o o₂ out
-    legal-done h l a z f = answers-done (export l k a) b o o₁ (first l a [] z f) steps ex (second l a [] z f) h
+pub gives-same : (x y : Result (List ℕ)) (o o′ : List ℕ) {out : Outcome} → x ≡ y → Gives y o o′ out → Gives x o o′ out
+gives-same x y o o′ e h = rw e h
 
--- export: what a tree that was accepted is.
-pub record Legal (s : List ℕ) (root : ℕ) (b : List ℕ) : Type 0 where
-  pub language : Language
-  pub term : Code
-  pub is : languageOf s ≡ value language
-  pub entries : entriesOf s ≡ some language
-  pub short : length s ≤ 1024
-  pub small : root < 32
-  pub reads : read tree language [] treeLevels root b ≡ done term []
-  pub legal : treeOf language root b ≡ value term
+-- One tree, read as the only one of some.
+module _ (l : Language) (k : ℕ) (b : List ℕ) (levels : ℕ) where
+  one-text : (a : Code) → exportAll l (k ∷ []) (cons a nil) ≡ export l k a
+  unfolding exportAll
+  one-text a = append-nil (export l k a)
 
-language-short : (s : List ℕ) (l : Language) → languageOf s ≡ value l → length s ≤ 1024
-unfolding languageOf
-language-short s l e = ltb-false 1024 (length s) (refuse-value (ltb languageLimit (length s)) Why.TooLong _ e .0)
+  one-deep : (p : Read Code) → (andThen p λ a r. done (cons a nil) r) ≡ deep → p ≡ deep
+  one-deep (done a r) e = deep-not (sym e)
+  one-deep deep e = refl
+  one-deep broken e = deep-not {a = tt} {r = []} (let z : _≡_ {A = Read (Unit {0})} deep (done tt []) = cc in z)
 
-module _ (s : List ℕ) (root : ℕ) (b : List ℕ) where
-  legal-tree : (l : Language) (t : Code) → languageOf s ≡ value l → treeOf l root b ≡ value t → Legal s root b
+  one-broken : (p : Read Code) → (andThen p λ a r. done (cons a nil) r) ≡ broken → p ≡ broken
+  one-broken (done a r) e = broken-not (sym e)
+  one-broken deep e = deep-not {a = tt} {r = []} (let z : _≡_ {A = Read (Unit {0})} deep (done tt []) = cc in z)
+  one-broken broken e = refl
+
+  one-read : readAll (read tree l [] levels) (k ∷ []) b ≡ (andThen (read tree l [] levels k b) λ a r. done (cons a nil) r)
+  unfolding readAll
+  one-read = refl
+
+  one-done : (t : Codes) (r : List ℕ) → readAll (read tree l [] levels) (k ∷ []) b ≡ done t r
+      → (a : Code) × (read tree l [] levels k b ≡ done a r) × (exportAll l (k ∷ []) t ≡ export l k a)
+  one-done t r e =
+      let d = then-done (read tree l [] levels k b) (λ a r. done (cons a nil) r) t r (sym one-read ∙ e) in
+      let v = same-done (cons (d .0) nil) t (d .1) r (d .3) in
+      (d .0, d .2 ∙ ap (done (d .0)) (v .1), ap (exportAll l (k ∷ [])) (sym (v .0)) ∙ one-text (d .0))
+
+-- What a reading comes to, with so much room.
+abbrev result : Language → ℕ → ℕ → Read Code → Result (List ℕ)
+result l k room p = wholeTree p >>= λ t. fitted room (export l k t)
+
+-- export_tree
+module _ (s index : List ℕ) (k : ℕ) (b o : List ℕ) {x : Measured} (first : MeasuresTrees (k ∷ []) s index 0 1 b 0 treeLevels 0 x) where
+  pub tree-deep : {out : Outcome} → x ≡ Deep → out ≡ Refused Why.TooDeep → GivesTree s index k b o o out
+  tree-deep h i l z =
+      let e = one-deep l k b treeLevels (read tree l [] treeLevels k b) (sym (one-read l k b treeLevels) ∙ first l z .deep h) in
+      gives-refused _ o Why.TooDeep (ap (result l k (length o)) e) i
+
+  pub tree-broken : {out : Outcome} → x ≡ Broken → out ≡ Refused Why.IllegalTree → GivesTree s index k b o o out
+  tree-broken h i l z =
+      let e = one-broken l k b treeLevels (read tree l [] treeLevels k b) (sym (one-read l k b treeLevels) ∙ first l z .broken h) in
+      gives-refused _ o Why.IllegalTree (ap (result l k (length o)) e) i
+
+  module _ {e m : ℕ} (ex : x ≡ End e m) (inside : Within b x) where
+    found : (l : Language) (z : Indexed index s l)
+        → (a : Code) × (read tree l [] treeLevels k b ≡ done a (drop e b)) × (exportAll l (k ∷ []) (first l z .found e m ex .0) ≡ export l k a)
+    found l z = one-done l k b treeLevels (first l z .found e m ex .0) (drop e b) (first l z .found e m ex .1)
+
+    pub tree-left : {out : Outcome} → (e ≡ length b → ⊥) → out ≡ Refused Why.IllegalTree → GivesTree s index k b o o out
+    tree-left h i l z =
+        let f = found l z in
+        let j = inside e m ex in
+        let g : e < length b = omega arith in
+        gives-refused _ o Why.IllegalTree (ap (result l k (length o)) (f .1 ∙ ap (done (f .0)) (front b e g))) i
+
+    module _ (all : e ≡ length b) (short : length o ≤ most) where
+      whole : (l : Language) (z : Indexed index s l) → read tree l [] treeLevels k b ≡ done (found l z .0) []
+      whole l z = found l z .1 ∙ ap (done (found l z .0)) (drop-of-length-le b {i = e} (omega arith))
+
+      pub tree-long : {out : Outcome} → length o < m → out ≡ Refused Why.OutputTooShort → GivesTree s index k b o o out
+      tree-long h i l z =
+          let f = first l z .found e m ex .2 in
+          let g = ap length (found l z .2) in
+          let n : length o < length (export l k (found l z .0)) =
+          by-test (leb m most)
+          (λ t. let w = f .is (leb-true _ _ t) in omega arith)
+          (λ t. let w = f .long (leb-false _ _ t) in omega arith) in
+          gives-same _ _ o o (ap (result l k (length o)) (whole l z)) (gives-long (export l k (found l z .0)) o n i)
+
+      module _ (fits : m ≤ length o) where
+        pub tree-asks : (l : Language) (z : Indexed index s l) → TreesAsk (k ∷ []) s index 0 1 b 0 treeLevels (length o) 0 l (first l z .found e m ex .0) (drop e b)
+        tree-asks l z =
+            let f = first l z .found e m ex in
+            record { indexed = z; reads = f .1; fits = let w = f .2 .is (omega arith) in omega arith }
+
+        pub tree-done : {o′ : List ℕ} {d h : ℕ} {out : Outcome}
+            → ((l : Language) (t : Codes) (rest : List ℕ) → TreesAsk (k ∷ []) s index 0 1 b 0 treeLevels (length o) 0 l t rest → Exported (exportAll l (k ∷ []) t) b rest o o′ 0 d h)
+            → out ≡ Accepted m → GivesTree s index k b o o′ out
+        tree-done {o′} put i l z =
+            let f = first l z .found e m ex in
+            let v = export l k (found l z .0) in
+            let g = ap length (found l z .2) in
+            let n : m ≡ length v = let w = f .2 .is (omega arith) in omega arith in
+            let w = put l (f .0) (drop e b) (tree-asks l z) .put .bytes in
+            gives-same _ _ o o′ (ap (result l k (length o)) (whole l z))
+            (gives-fit v o o′ (omega arith) (i ∙ ap Accepted n) (w ∙ ap (spliced o 0) (found l z .2)))
+
+-- export_kind
+module _ (s : List ℕ) (k : ℕ) (b o : List ℕ) {x : Bool} (ex : (l : Language) → entriesOf s ≡ some l → x ≡ isIn l k) {out : Outcome} where
+  pub kind-out : x ≡ false → out ≡ Refused Why.UnknownRoot → GivesExport s k b o o out
   unfolding treeOf
-  legal-tree l t e f =
-      let d = language-good s l e .0 in
-      let r = refuse-value (not (isIn l root)) Why.UnknownRoot (wholeTree (read tree l [] treeLevels root b)) f in
-      record {
-        language = l;
-        term = t;
-        is = e;
-        entries = d;
-        short = language-short s l e;
-        small = in-below s root l d (true-not (isIn l root) (r .0));
-        reads = tree-done _ t (r .1);
-        legal = f;
-      }
+  kind-out h i l e =
+      let j : isIn l k ≡ false = sym (ex l e) ∙ h in
+      gives-refused (treeOf l k b >>= λ t. fitted (length o) (export l k t)) o Why.UnknownRoot (rw j refl) i
 
-  module _ {c : Outcome} (ec : c ≡ checkTree s root b) where
-    pub accepted : {n : ℕ} → c ≡ Accepted n → Legal s root b
-    unfolding checkTree
-    accepted {n} h = go (languageOf s) refl (sym ec ∙ h)
-      where
-        tree-of : (l : Language) → languageOf s ≡ value l → (q : Result Code) → treeOf l root b ≡ q → checked q ≡ Accepted n → Legal s root b
-        tree-of l e (value t) f g = legal-tree l t e f
-        tree-of l e (refused r) f g = refused-not {n = n} {r = r} g
+  pub kind-in : (index o′ : List ℕ) → x ≡ true → ((l : Language) → entriesOf s ≡ some l → Indexed index s l) → GivesTree s index k b o o′ out → GivesExport s k b o o′ out
+  unfolding treeOf
+  kind-in index o′ h built g l e =
+      let j : isIn l k ≡ true = sym (ex l e) ∙ h in
+      gives-same (treeOf l k b >>= λ t. fitted (length o) (export l k t)) (result l k (length o) (read tree l [] treeLevels k b)) o o′ (rw j refl) (g l (built l e))
 
-        go : (m : Result Language) → languageOf s ≡ m → checked (m >>= λ l. treeOf l root b) ≡ Accepted n → Legal s root b
-        go (value l) e g = tree-of l e (treeOf l root b) refl g
-        go (refused r) e g = refused-not {n = n} {r = r} g
+-- export
+-- The outcome and the output are those of the operation.
+abbrev pub AsExport : List ℕ → ℕ → List ℕ → List ℕ → List ℕ → Outcome → Type 0
+AsExport s root b o o′ out = (out ≡ exportTree s root b o .outcome) × (o′ ≡ exportTree s root b o .output)
 
-    module _ (o : List ℕ) where
-      pub export-refused : {r : Reason} {out : Outcome} → c ≡ Refused r → out ≡ Refused r
-          → (out ≡ exportTree s root b o .outcome) × (o ≡ exportTree s root b o .output)
-      unfolding checkTree exportTree exportText
-      export-refused {r} {out} h i = go (languageOf s) refl (sym ec ∙ h)
-        where
-          tree-of : (l : Language) → languageOf s ≡ value l → (q : Result Code) → treeOf l root b ≡ q → checked q ≡ Refused r
-              → (out ≡ exportTree s root b o .outcome) × (o ≡ exportTree s root b o .output)
-          tree-of l e (value t) f g = refused-not {n = 0} {r = r} (sym g)
-          tree-of l e (refused x) f g = rw (e, f) (i ∙ sym g, refl)
-
-          go : (m : Result Language) → languageOf s ≡ m → checked (m >>= λ l. treeOf l root b) ≡ Refused r
-              → (out ≡ exportTree s root b o .outcome) × (o ≡ exportTree s root b o .output)
-          go (value l) e g = tree-of l e (treeOf l root b) refl g
-          go (refused x) e g = rw e (i ∙ sym g, refl)
-
-    pub export-done : (index o o′ : List ℕ) {out : Outcome} (w : Legal s root b) → Indexed index s (w .language) → GivesExport s index root b o o′ out
-        → (out ≡ exportTree s root b o .outcome) × (o′ ≡ exportTree s root b o .output)
+module _ (s : List ℕ) (root : ℕ) (b o : List ℕ) {c : Outcome} (ec : c ≡ checkLanguage s) {out : Outcome} where
+  module _ {n : ℕ} (accepted : c ≡ Accepted n) where
+    pub export-done : (o′ : List ℕ) → GivesExport s root b o o′ out → AsExport s root b o o′ out
     unfolding exportTree exportText
-    export-done index o o′ w z g = rw (w .is, w .legal) (g (w .language) (w .term) z (w .reads))
+    export-done o′ g = let a = accepts s ec accepted in rw (a .is) (g (a .language) (a .entries))
+
+    pub export-past : 31 < root → out ≡ Refused Why.UnknownRoot → AsExport s root b o o out
+    unfolding treeOf
+    export-past h i =
+        export-done o (λ l e. by-test (isIn l root)
+        (λ j. let b = in-below s root l e j in absurd (omega arith))
+        (λ j. gives-refused (treeOf l root b >>= λ t. fitted (length o) (export l root t)) o Why.UnknownRoot (rw j refl) i))
+
+  pub export-refused : {r : Reason} → c ≡ Refused r → out ≡ Refused r → AsExport s root b o o out
+  unfolding checkLanguage exportTree exportText
+  export-refused {r} h i = go (languageOf s) refl (sym ec ∙ h)
+    where
+      go : (m : Result Language) → languageOf s ≡ m → checked m ≡ Refused r → AsExport s root b o o out
+      go (value l) e g = refused-not {n = 0} {r = r} (sym g)
+      go (refused q) e g = rw e (i ∙ sym g, refl)

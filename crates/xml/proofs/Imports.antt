@@ -5,17 +5,15 @@ use mathlib.Core.Bool.{Bool, true, false, cond, _&&_}
 use mathlib.Core.List.{List, [], _∷_, _++_, map, append-assoc, append-nil}
 use mathlib.Core.Option.{Option, none, some}
 use native.Mathlib.Omega.{arith}
-use lib.ListN.{length, getD, drop, take, set, length-append}
+use lib.ListN.{length, getD, drop, length-append}
 use lib.Seq.{slice}
 use lib.Dec.{ltb, eqb}
 use borrow.Author.Tests.{lt-ltb, le-ltb, ltb-true, ltb-false, eqb-true}
-use Rattle.fields.specs.Fields.{pairAt, twoBytes}
-use Rattle.fields.specs.Inner.Writing.{spliced}
+use Rattle.fields.specs.Fields.{pairAt}
 use Rattle.fields.specs.Inner.Places.{places}
 use Rattle.fields.specs.Lists.{first}
 use Rattle.fields.proofs.Truth.{by-test, and-both, none-some, first-mem, map-cases}
 use Rattle.fields.proofs.Lists.{part-done, part-next}
-use Rattle.fields.proofs.Splices.{splice-splice, nothing-spliced}
 use Rattle.language.specs.Language.{Language, Entry, Range, rangeOf, argumentsAt, argumentsOf, productionKey}
 use Rattle.language.specs.LanguageFile.{entriesOf}
 use Rattle.language.specs.Inner.Entries.{entryAt, classRange}
@@ -31,11 +29,10 @@ use Rattle.xml.specs.declared.scan.Number.the-variants as N
 use Rattle.xml.specs.declared.import.Text.{Text}
 use Rattle.xml.specs.declared.import.Text.the-variants.{End, Deep, Broken}
 use Rattle.xml.specs.Inner.Scanning.{Stands, Numbers, Tokens}
-use Rattle.xml.specs.Inner.Importing.{Stored, Inside, Imports, ImportsTree, ImportsTrees, placeOf}
+use Rattle.xml.specs.Inner.Importing.{Inside, Imports, ImportsTree, ImportsTrees, placeOf}
 use Rattle.xml.proofs.Round.{class-text, no-class}
 use Rattle.putting.proofs.Reading.{class-known, class-none, production-none, production-known}
 use Rattle.xml.proofs.Scans.{no-number, number-at}
-use Rattle.xml.proofs.Puts.{set-stored}
 
 -- Answers.
 not-end : {e m : ℕ} {A : Type 0} → Deep ≡ End e m → A
@@ -59,61 +56,39 @@ inside-broken text e m h = broken-end h
 pub inside-end : (text : List ℕ) (e m : ℕ) → e ≤ length text → m ≤ e → Inside text (End e m)
 inside-end text e m h i d k q = let w = end-same q in (omega (arith, w .0), omega (arith, w .0, w .1))
 
-module _ {A : Type 0} {bytes : A → List ℕ} {p : Read A} {text o o′ : List ℕ} {n : ℕ} where
-  pub imports-deep : p ≡ deep → Imports bytes p text o o′ n Deep
+module _ {A : Type 0} {bytes : A → List ℕ} {p : Read A} {text : List ℕ} {n : ℕ} where
+  pub imports-deep : p ≡ deep → Imports bytes p text n Deep
   imports-deep h = record { found = λ e m q. not-end q; deep = λ q. h; broken = λ q. deep-broken q }
 
-  pub imports-broken : p ≡ broken → Imports bytes p text o o′ n Broken
+  pub imports-broken : p ≡ broken → Imports bytes p text n Broken
   imports-broken h = record { found = λ e m q. broken-end q; deep = λ q. deep-broken (sym q); broken = λ q. h }
 
-  pub imports-end : {e m : ℕ} (a : A) → p ≡ done a (drop e text) → Stored (bytes a) o o′ n m → Imports bytes p text o o′ n (End e m)
+  pub imports-end : {e m : ℕ} (a : A) → p ≡ done a (drop e text) → m ≡ n + length (bytes a) → Imports bytes p text n (End e m)
   imports-end {e} {m} a h s = record {
     found = λ d k q. let w = end-same q in rw (← w .0, ← w .1) (a, h, s);
     deep = λ q. not-end (sym q);
     broken = λ q. broken-end (sym q);
   }
 
-  pub imports-same : {q : Read A} {r : Text} → p ≡ q → Imports bytes p text o o′ n r → Imports bytes q text o o′ n r
+  pub imports-same : {q : Read A} {r : Text} → p ≡ q → Imports bytes p text n r → Imports bytes q text n r
   imports-same e w = rw (← e) w
 
--- One part stored behind another.
-pub stored-then : (v u o o₁ o₂ : List ℕ) (n m k : ℕ) → Stored v o o₁ n m → Stored u o₁ o₂ m k → length o₁ ≡ length o → Stored (v ++ u) o o₂ n k
-stored-then v u o o₁ o₂ n m k a b l = record {
-  end = omega (arith, length-append v u, a .end, b .end);
-  bytes = λ h.
-      let be = b .end in
-      let i : m ≤ length o = omega arith in
-      let f : n + length v ≤ length o = omega (arith, a .end) in
-      let j : k ≤ length o₁ = omega arith in
-      b .bytes j ∙ (ap (λ (p : List ℕ). spliced p m u) (a .bytes i) ∙ (ap (λ (j : ℕ). spliced (spliced o n v) j u) (a .end) ∙ splice-splice o n v f u));
-}
-
--- store and store_value
-pub store-two : (o : List ℕ) (n a b v : ℕ) → 2 ≤ length o - n → n < length o → a ≡ v / 256 → b ≡ v % 256 → set (set o n a) (n + 1) b ≡ spliced o n (twoBytes v)
-store-two o n a b v h i ea eb =
-    let z : n + 1 ≡ suc n = omega arith in
-    ap (λ (m : ℕ). set (set o n a) m b) z ∙ (set-stored o n (a ∷ b ∷ []) (omega arith) ∙ rw (ea, eb) refl)
-
 -- text_token
-module _ (k : ℕ) (c : Range) (text : List ℕ) (at : ℕ) (o : List ℕ) (n : ℕ) {j : ℕ} (ej : j ≡ k) {x : Number} (token-is : Tokens (readToken j c (drop at text)) text (at + 2) x) where
+module _ (k : ℕ) (c : Range) (text : List ℕ) (at n : ℕ) {j : ℕ} (ej : j ≡ k) {x : Number} (token-is : Tokens (readToken j c (drop at text)) text (at + 2) x) where
   same-kind : Tokens (readToken k c (drop at text)) text (at + 2) x
   same-kind = rw (← ej) token-is
 
-  pub token-broken : x ≡ N.Nothing → Inside text Broken × Imports (write tree) (readToken k c (drop at text)) text o o n Broken
+  pub token-broken : x ≡ N.Nothing → Inside text Broken × Imports (write tree) (readToken k c (drop at text)) text n Broken
   token-broken h = (inside-broken text, imports-broken (same-kind .nothing h))
-
-  pub token-small : {v e : ℕ} → x ≡ N.Is v e → v < 65536
-  token-small {v} {e} h = token-is .small v e h
 
   pub token-past : {v e : ℕ} → x ≡ N.Is v e → (at + 2 ≤ e) × (e ≤ length text)
   token-past {v} {e} h = let w = token-is .reached v e h in (w .past, w .inside)
 
-  pub token-end : {v e : ℕ} {o′ : List ℕ} → x ≡ N.Is v e → n ≤ at → (n + 2 ≤ length o → o′ ≡ spliced o n (twoBytes v))
-      → Inside text (End e (n + 2)) × Imports (write tree) (readToken k c (drop at text)) text o o′ n (End e (n + 2))
+  pub token-end : {v e : ℕ} → x ≡ N.Is v e → n ≤ at → Inside text (End e (n + 2)) × Imports (write tree) (readToken k c (drop at text)) text n (End e (n + 2))
   unfolding write
-  token-end {v} {e} h i s =
+  token-end {v} {e} h i =
       let w = token-past h in
-      (inside-end text e (n + 2) (w .1) (omega (arith, w .0)), imports-end (token v) (same-kind .found v e h) (record { end = refl; bytes = s }))
+      (inside-end text e (n + 2) (w .1) (omega (arith, w .0)), imports-end (token v) (same-kind .found v e h) refl)
 
 -- place_of
 pub place-large : (index : List ℕ) (k p : ℕ) → 255 < p → 0 ≡ placeOf index k p
@@ -154,17 +129,17 @@ unfolding readText
 text-past l k u e = cc
 
 -- text_at
-module _ (s index text : List ℕ) (k at levels : ℕ) (o : List ℕ) (n : ℕ) (kind : k < 32) (bytes : (i : ℕ) → getD s i 0 < 256) {j class : ℕ} (ej : j ≡ k) (ec : class ≡ getD index j 0) where
+module _ (s index text : List ℕ) (k at levels n : ℕ) (kind : k < 32) (bytes : (i : ℕ) → getD s i 0 < 256) {j class : ℕ} (ej : j ≡ k) (ec : class ≡ getD index j 0) where
   class-is : class ≡ getD index k 0
   class-is = ec ∙ ap (λ (i : ℕ). getD index i 0) ej
 
-  pub at-class : (o′ : List ℕ) (r : Text) → (class ≡ 0 → ⊥) → Inside text r × Imports (write tree) (readToken k (classRange s (class - 1)) (drop at text)) text o o′ n r
-      → Inside text r × ImportsTree s index k text at levels o o′ n r
-  at-class o′ r h w =
+  pub at-class : (r : Text) → (class ≡ 0 → ⊥) → Inside text r × Imports (write tree) (readToken k (classRange s (class - 1)) (drop at text)) text n r
+      → Inside text r × ImportsTree s index k text at levels n r
+  at-class r h w =
       (w .0, λ l z. imports-same (sym (class-text l levels k (classRange s (class - 1)) (drop at text) (class-known s index l z k kind class class-is h))) (w .1))
 
   module _ (no : class ≡ 0) where
-    pub at-deep : levels ≡ 0 → Inside text Deep × ImportsTree s index k text at levels o o n Deep
+    pub at-deep : levels ≡ 0 → Inside text Deep × ImportsTree s index k text at levels n Deep
     at-deep h =
         (inside-deep text, λ l z. imports-deep (ap (λ (i : ℕ). readText l i k (drop at text)) h ∙ text-past l k (drop at text) (class-none s index l z k kind class class-is no)))
 
@@ -182,7 +157,7 @@ module _ (s index text : List ℕ) (k at levels : ℕ) (o : List ℕ) (n : ℕ) 
         unfolding readOperands
         unknown l p r e = ap (λ (q : Option (List ℕ)). readOperands (readText l (levels - 1)) k p q r) e
 
-        pub at-no-opening : x ≡ N.Nothing → Inside text Broken × ImportsTree s index k text at levels o o n Broken
+        pub at-no-opening : x ≡ N.Nothing → Inside text Broken × ImportsTree s index k text at levels n Broken
         unfolding readElement
         at-no-opening h = (
           inside-broken text,
@@ -199,7 +174,7 @@ module _ (s index text : List ℕ) (k at levels : ℕ) (o : List ℕ) (n : ℕ) 
           pub opened-past : (at + 2 ≤ a) × (a ≤ length text)
           opened-past = let w = opened .reached p a ex in (w .past, w .inside)
 
-          pub at-unknown : place ≡ 0 → Inside text Broken × ImportsTree s index k text at levels o o n Broken
+          pub at-unknown : place ≡ 0 → Inside text Broken × ImportsTree s index k text at levels n Broken
           unfolding placeOf
           at-unknown h = (inside-broken text, λ l z. imports-broken (operands l z ∙ unknown l p (drop a text) (none-at l z)))
             where
@@ -220,8 +195,8 @@ module _ (s index text : List ℕ) (k at levels : ℕ) (o : List ℕ) (n : ℕ) 
                 (λ t. absurd (pos (cc)))
                 (λ t. let g = ltb-false 255 p t in (omega arith, cc))
 
-            module _ {size : ℕ} (es : size ≡ pairAt s place) {o₁ : List ℕ} (put : n < length o → o₁ ≡ spliced o n (p ∷ [])) (long : length o₁ ≡ length o) {o₂ : List ℕ} {y : Text}
-                (inside : Inside text y) (all : ImportsTrees s index (place + 4) (place + 2 + size) text a (levels - 1) o₁ o₂ (n + 1) y) where
+            module _ {size : ℕ} (es : size ≡ pairAt s place) {y : Text}
+                (inside : Inside text y) (all : ImportsTrees s index (place + 4) (place + 2 + size) text a (levels - 1) (n + 1) y) where
               abbrev closes : (l : Language) → Codes → List ℕ → Read Code
               closes l t r = andThen (readClosing k p r) λ u r. done (node k p t) r
 
@@ -233,10 +208,10 @@ module _ (s index text : List ℕ) (k at levels : ℕ) (o : List ℕ) (n : ℕ) 
                   ∙ ap (λ (q : Option (List ℕ)). readOperands (readText l (levels - 1)) k p q (drop a text))
                   (production-known s index l z k kind p (found-name .0) place (found-name .1) pos es)
 
-              pub at-operands-deep : y ≡ Deep → Inside text Deep × ImportsTree s index k text at levels o o₂ n Deep
+              pub at-operands-deep : y ≡ Deep → Inside text Deep × ImportsTree s index k text at levels n Deep
               at-operands-deep h = (inside-deep text, λ l z. imports-deep (goes l z ∙ ap (λ (q : Read Codes). andThen q (closes l)) (all l z .deep h)))
 
-              pub at-operands-broken : y ≡ Broken → Inside text Broken × ImportsTree s index k text at levels o o₂ n Broken
+              pub at-operands-broken : y ≡ Broken → Inside text Broken × ImportsTree s index k text at levels n Broken
               at-operands-broken h = (inside-broken text, λ l z. imports-broken (goes l z ∙ ap (λ (q : Read Codes). andThen q (closes l)) (all l z .broken h)))
 
               module _ {b m : ℕ} (ey : y ≡ End b m) {g : ℕ} (eg : g ≡ k) {c : Place} (close : Stands (readClosing g p (drop b text)) text b c) where
@@ -246,17 +221,14 @@ module _ (s index text : List ℕ) (k at levels : ℕ) (o : List ℕ) (n : ℕ) 
                 so-far : (l : Language) (z : Indexed index s l) → readText l levels k (drop at text) ≡ closes l (all l z .found b m ey .0) (drop b text)
                 so-far l z = goes l z ∙ ap (λ (q : Read Codes). andThen q (closes l)) (all l z .found b m ey .1)
 
-                pub at-closing-broken : c ≡ Nothing → Inside text Broken × ImportsTree s index k text at levels o o₂ n Broken
+                pub at-closing-broken : c ≡ Nothing → Inside text Broken × ImportsTree s index k text at levels n Broken
                 at-closing-broken h = (
                   inside-broken text,
                   λ l z. imports-broken (so-far l z
                       ∙ ap (λ (q : Read (Unit {0})). andThen q (λ u r. done (node k p (all l z .found b m ey .0)) r)) (closed .nothing h)),
                 )
 
-                first-stored : Stored (p ∷ []) o o₁ n (n + 1)
-                first-stored = record { end = refl; bytes = λ h. put (omega arith) }
-
-                pub at-done : {e : ℕ} → c ≡ At e → Inside text (End e m) × ImportsTree s index k text at levels o o₂ n (End e m)
+                pub at-done : {e : ℕ} → c ≡ At e → Inside text (End e m) × ImportsTree s index k text at levels n (End e m)
                 unfolding write
                 at-done {e} h =
                     let w = closed .reached e h in
@@ -266,17 +238,17 @@ module _ (s index text : List ℕ) (k at levels : ℕ) (o : List ℕ) (n : ℕ) 
                           let f = all l z .found b m ey in
                           imports-end (node k p (f .0))
                           (so-far l z ∙ ap (λ (q : Read (Unit {0})). andThen q (λ u r. done (node k p (f .0)) r)) (closed .found e h))
-                          (stored-then (p ∷ []) (writeAll tree (f .0)) o o₁ o₂ n (n + 1) m first-stored (f .2) long),
+                          (let c = f .2 in omega arith),
                     )
 
 -- texts_at, a turn at a time: `before` puts what was read in front of what is left to read.
-pub record Going (s text : List ℕ) (from stop at levels : ℕ) (o o₁ : List ℕ) (n q to m : ℕ) (l : Language) : Type 0 where
+pub record Going (s text : List ℕ) (from stop at levels n q to m : ℕ) (l : Language) : Type 0 where
   pub before : Codes → Codes
   pub text-of : List ℕ
   pub reads : readAll (readText l levels) (slice from stop s) (drop at text)
       ≡ (andThen (readAll (readText l levels) (slice q stop s) (drop to text)) λ t r. done (before t) r)
   pub bytes : (t : Codes) → writeAll tree (before t) ≡ text-of ++ writeAll tree t
-  pub stored : Stored text-of o o₁ n m
+  pub count : m ≡ n + length text-of
 
 then-id : {A : Type 0} (p : Read A) → p ≡ (andThen p λ a r. done a r)
 then-id (done a r) = refl
@@ -288,21 +260,21 @@ then-made (done a r) f g = refl
 then-made deep f g = refl
 then-made broken f g = refl
 
-abbrev pub Goes : List ℕ → List ℕ → ℕ → ℕ → List ℕ → ℕ → ℕ → List ℕ → List ℕ → ℕ → ℕ → ℕ → ℕ → Type 0
-Goes s index from stop text at levels o o₁ n q to m = (l : Language) → Indexed index s l → Going s text from stop at levels o o₁ n q to m l
+abbrev pub Goes : List ℕ → List ℕ → ℕ → ℕ → List ℕ → ℕ → ℕ → ℕ → ℕ → ℕ → ℕ → Type 0
+Goes s index from stop text at levels n q to m = (l : Language) → Indexed index s l → Going s text from stop at levels n q to m l
 
-module _ (s index : List ℕ) (from stop : ℕ) (text : List ℕ) (at levels : ℕ) (o : List ℕ) (n : ℕ) where
-  pub goes-start : Goes s index from stop text at levels o o n from at n
+module _ (s index : List ℕ) (from stop : ℕ) (text : List ℕ) (at levels n : ℕ) where
+  pub goes-start : Goes s index from stop text at levels n from at n
   goes-start l z = record {
     before = λ t. t;
     text-of = [];
     reads = then-id (readAll (readText l levels) (slice from stop s) (drop at text));
     bytes = λ t. refl;
-    stored = record { end = omega arith; bytes = λ h. nothing-spliced o n };
+    count = omega arith;
   }
 
-  module _ {o₁ : List ℕ} {q to m : ℕ} (goes : Goes s index from stop text at levels o o₁ n q to m) where
-    pub goes-done : stop ≤ q → ImportsTrees s index from stop text at levels o o₁ n (End to m)
+  module _ {q to m : ℕ} (goes : Goes s index from stop text at levels n q to m) where
+    pub goes-done : stop ≤ q → ImportsTrees s index from stop text at levels n (End to m)
     unfolding readAll writeAll
     goes-done h l z =
         let g = goes l z in
@@ -310,10 +282,10 @@ module _ (s index : List ℕ) (from stop : ℕ) (text : List ℕ) (at levels : �
         let v : g .text-of ≡ writeAll tree (g .before nil) = sym (g .bytes nil ∙ append-nil (g .text-of)) in
         imports-end (g .before nil)
         (g .reads ∙ ap (λ (ks : List ℕ). andThen (readAll (readText l levels) ks (drop to text)) λ t r. done (g .before t) r) no)
-        (rw (← v) (g .stored))
+        (rw (← v) (g .count))
 
-    module _ {k : ℕ} (ek : k ≡ getD s q 0) (more : q < stop) (there : stop ≤ length s) (long : length o₁ ≡ length o) {o₂ : List ℕ} {y : Text}
-        (step : ImportsTree s index k text to levels o₁ o₂ m y) where
+    module _ {k : ℕ} (ek : k ≡ getD s q 0) (more : q < stop) (there : stop ≤ length s) {y : Text}
+        (step : ImportsTree s index k text to levels m y) where
       next-is : slice q stop s ≡ k ∷ slice (q + 1) stop s
       next-is = sym (part-next (λ u. u) s q stop (slice q stop s) refl more there) ∙ ap (λ (j : ℕ). j ∷ slice (q + 1) stop s) (sym ek)
 
@@ -329,13 +301,13 @@ module _ (s index : List ℕ) (from stop : ℕ) (text : List ℕ) (at levels : �
           ≡ (andThen (andThen p (rest l)) λ t r. done (goes l z .before t) r)
       with-first l z e = turn l z ∙ ap (λ (p : Read Code). andThen (andThen p (rest l)) λ t r. done (goes l z .before t) r) e
 
-      pub goes-deep : y ≡ Deep → ImportsTrees s index from stop text at levels o o₂ n Deep
+      pub goes-deep : y ≡ Deep → ImportsTrees s index from stop text at levels n Deep
       goes-deep h l z = imports-deep (with-first l z (step l z .deep h))
 
-      pub goes-broken : y ≡ Broken → ImportsTrees s index from stop text at levels o o₂ n Broken
+      pub goes-broken : y ≡ Broken → ImportsTrees s index from stop text at levels n Broken
       goes-broken h l z = imports-broken (with-first l z (step l z .broken h))
 
-      pub goes-next : {e h : ℕ} → y ≡ End e h → Goes s index from stop text at levels o o₂ n (q + 1) e h
+      pub goes-next : {e h : ℕ} → y ≡ End e h → Goes s index from stop text at levels n (q + 1) e h
       unfolding writeAll
       goes-next {e} {h} ey l z =
           let g = goes l z in
@@ -345,5 +317,5 @@ module _ (s index : List ℕ) (from stop : ℕ) (text : List ℕ) (at levels : �
             text-of = g .text-of ++ write tree (f .0);
             reads = with-first l z (f .1) ∙ then-made (readAll (readText l levels) (slice (q + 1) stop s) (drop e text)) (cons (f .0)) (g .before);
             bytes = λ t. g .bytes (cons (f .0) t) ∙ sym (append-assoc (g .text-of) (write tree (f .0)) (writeAll tree t));
-            stored = stored-then (g .text-of) (write tree (f .0)) o o₁ o₂ n m h (g .stored) (f .2) long;
+            count = omega (arith, g .count, f .2, length-append (g .text-of) (write tree (f .0)));
           }

@@ -4,8 +4,11 @@ pub mod Inverse
 pub mod Puts
 pub mod Reading
 pub mod Exports
+pub mod Measures
 pub mod Answers
 pub mod Scans
 pub mod Imports
+pub mod Takes
+pub mod Held
 pub mod Whole
 pub mod Examples

@@ -1,28 +1,14 @@
--- Texts written one behind the other, decimals, and a law for each return of the functions of put.rt.
+-- Texts written one behind the other, tags and decimals.
 use Prim.Native.Nat.{ℕ, suc, _+_, _*_, _/_, _%_, _-_, _<_, _≤_}
 use mathlib.Core.Path.{_≡_, refl, sym, ap, _∙_}
-use mathlib.Core.Bool.{Bool, true, false}
 use mathlib.Core.List.{List, [], _∷_, _++_, append-assoc}
 use native.Mathlib.Omega.{arith}
 use lib.ListN.{length, take, drop, set, length-append}
 use lib.Seq.{sets, sets-eq}
-use Rattle.fields.specs.declared.copy.Stored.{Stored}
-use Rattle.fields.specs.declared.copy.Stored.the-variants.{To, Full}
 use Rattle.fields.specs.Inner.Writing.{spliced, Written}
-use Rattle.fields.proofs.Truth.{not-both}
 use Rattle.fields.proofs.Splices.{splice-splice}
 use Rattle.xml.specs.Text.{decimal, nodeTag, tokenTag, openNode, closeNode, openToken, closeToken, point, tagEnd}
-use Rattle.putting.specs.Inner.Putting.{Puts}
 use Rattle.xml.proofs.Decimal.{decimal-small, decimal-large}
-
-not-full : {m : ℕ} {A : Type 0} → Full ≡ To m → A
-not-full e = let z : _≡_ {A = ℕ} 0 1 = cc in absurd (omega arith)
-
-not-to : {m : ℕ} {A : Type 0} → To m ≡ Full → A
-not-to e = not-full (sym e)
-
-to-same : {m k : ℕ} → To m ≡ To k → m ≡ k
-to-same e = cc
 
 -- Bytes set one behind the other.
 pub set-stored : (o : List ℕ) (n : ℕ) (v : List ℕ) → n + length v ≤ length o → sets o n v ≡ spliced o n v
@@ -48,25 +34,6 @@ written-then {v} {u} {o} {o₁} {o₂} {n} {m} {k} a l b =
 
 pub written-same : {v u o o′ : List ℕ} {n m : ℕ} → v ≡ u → Written v o o′ n m → Written u o o′ n m
 written-same e w = rw (← e) w
-
--- put_opening, put_closing and put_token
-module _ (store : Bool) (v o : List ℕ) (n : ℕ) {size : ℕ} (es : size ≡ length v) where
-  pub text-full : length o - n < size → n ≤ length o → Puts store v o o n Full
-  text-full h i = record { done = λ m e. not-full e; full = λ e. omega arith; kept = λ e. refl }
-
-  pub text-measured : store ≡ false → size ≤ length o - n → n ≤ length o → Puts store v o o n (To (n + size))
-  text-measured h i j = record {
-    done = λ m e. let z : n + size ≡ m = to-same e in record { end = omega arith; fits = omega arith; bytes = λ q. not-both q h };
-    full = λ e. not-to e;
-    kept = λ e. refl;
-  }
-
-pub text-stored : (store : Bool) (v o : List ℕ) (n : ℕ) {o′ : List ℕ} {m : ℕ} → store ≡ true → Written v o o′ n m → Puts store v o o′ n (To m)
-text-stored store v o n {o′} {m} h w = record {
-  done = λ k e. let z : m ≡ k = to-same e in rw (← z) (record { end = w .end; fits = w .fits; bytes = λ q. w .bytes });
-  full = λ e. not-to e;
-  kept = λ q. not-both h q;
-}
 
 -- Lengths of tags.
 pub node-length : (w : List ℕ) (k p : ℕ) → length (nodeTag w k p) ≡ length w + (length (decimal k) + (1 + (length (decimal p) + 1)))
@@ -101,16 +68,6 @@ pub token-is : (k v : ℕ)
     ≡ tokenTag openToken k ++ (decimal v ++ tokenTag closeToken k)
 unfolding tokenTag
 token-is k v = refl
-
-pub opening-size : (k p : ℕ) {a b : ℕ} → a ≡ length (decimal k) → b ≡ length (decimal p) → 4 + a + b ≡ length (nodeTag openNode k p)
-opening-size k p e f = omega (arith, node-length openNode k p)
-
-pub closing-size : (k p : ℕ) {a b : ℕ} → a ≡ length (decimal k) → b ≡ length (decimal p) → 5 + a + b ≡ length (nodeTag closeNode k p)
-closing-size k p e f = omega (arith, node-length closeNode k p)
-
-pub token-size : (k v : ℕ) {a b : ℕ} → a ≡ length (decimal k) → b ≡ length (decimal v)
-    → 7 + 2 * a + b ≡ length (tokenTag openToken k ++ (decimal v ++ tokenTag closeToken k))
-token-size k v e f = omega (arith, token-length k v)
 
 -- Where what was written ends.
 pub byte-after : {v o o₁ : List ℕ} {n a : ℕ} → Written v o o₁ n a → length o₁ ≡ length o → n + length v < length o → a < length o₁

@@ -16,11 +16,11 @@ use Rattle.xml.specs.Import.{isDigit, readWord, readNumber, readNamed, r
 use Rattle.xml.proofs.Decimal.{Stops, same-done, deep-not, broken-not, then-done, number-round, number-sound, word-round, word-sound, named-round, named-sound}
 
 -- Tags, with what stands behind them.
-node-tag : (w : List ℕ) (k p : ℕ) (s : List ℕ) → nodeTag w k p ++ s ≡ w ++ (decimal k ++ (46 ∷ (decimal p ++ (62 ∷ s))))
+pub node-tag : (w : List ℕ) (k p : ℕ) (s : List ℕ) → nodeTag w k p ++ s ≡ w ++ (decimal k ++ (46 ∷ (decimal p ++ (62 ∷ s))))
 unfolding nodeTag
 node-tag w k p s = simp append-assoc
 
-token-tag : (w : List ℕ) (k : ℕ) (s : List ℕ) → tokenTag w k ++ s ≡ w ++ (decimal k ++ (62 ∷ s))
+pub token-tag : (w : List ℕ) (k : ℕ) (s : List ℕ) → tokenTag w k ++ s ≡ w ++ (decimal k ++ (62 ∷ s))
 unfolding tokenTag
 token-tag w k s = simp append-assoc
 
@@ -29,7 +29,7 @@ stop-point : (s : List ℕ) → Stops (46 ∷ s)
 unfolding isDigit
 stop-point s = refl
 
-stop-end : (s : List ℕ) → Stops (62 ∷ s)
+pub stop-end : (s : List ℕ) → Stops (62 ∷ s)
 unfolding isDigit
 stop-end s = refl
 
@@ -63,7 +63,7 @@ unfolding readTokenTag
 tag-round w k s = rw (token-tag w k s, named-round w k (62 ∷ s) (stop-end s), word-round tagEnd s)
 
 -- What follows a value is no digit.
-stop-tag : (k : ℕ) (s : List ℕ) → Stops (tokenTag closeToken k ++ s)
+pub stop-tag : (k : ℕ) (s : List ℕ) → Stops (tokenTag closeToken k ++ s)
 unfolding tokenTag isDigit
 stop-tag k s = refl
 
@@ -78,7 +78,7 @@ kinds-known : (l : Language) (k p : ℕ) (ks : List ℕ) → argumentsOf l k p �
 unfolding kindsOf
 kinds-known l k p ks e = rw e
 
-no-kind : (i j : ℕ) {k : ℕ} {A : Type 0} → kindAt [] i j ≡ some k → A
+pub no-kind : (i j : ℕ) {k : ℕ} {A : Type 0} → kindAt [] i j ≡ some k → A
 no-kind zero j e = none-some e
 no-kind (suc i) j e = none-some e
 
@@ -103,7 +103,7 @@ module _ (l : Language) where
   element-text n k p ks t s r d e h =
       no-class n k _ d ∙ rw (opening-round k p (s ++ (nodeTag closeNode k p ++ r)), e, h, closing-round k p r)
 
-  node-parts : (j k p : ℕ) (t : Codes) (ks r : List ℕ) → argumentsOf l k p ≡ some ks
+  pub node-parts : (j k p : ℕ) (t : Codes) (ks r : List ℕ) → argumentsOf l k p ≡ some ks
       → export l j (node k p t) ++ r ≡ nodeTag openNode k p ++ (exportAll l ks t ++ (nodeTag closeNode k p ++ r))
   unfolding export
   node-parts j k p t ks r e = rw (kinds-known l k p ks e, append-assoc, append-assoc)

@@ -31,24 +31,20 @@ use Rattle.xml.specs.Import.{readText}
 use Rattle.xml.specs.Operations.{wholeText, importOf, importBytes, importTree}
 use Rattle.xml.specs.declared.import.Text.{Text}
 use Rattle.xml.specs.declared.import.Text.the-variants.{End, Deep, Broken}
-use Rattle.xml.specs.Inner.Importing.{Stored, Inside, Imports, ImportsTree}
+use Rattle.xml.specs.Inner.Importing.{Inside, ImportsTree}
+use Rattle.xml.specs.Inner.Contents.{Contents}
 use Rattle.putting.specs.Inner.Answering.{Gives}
 use Rattle.xml.specs.Inner.Answering.{GivesWhole, GivesImport}
-use Rattle.xml.proofs.Decimal.{same-done, deep-not, broken-not}
+use Rattle.xml.proofs.Answers.{gives-refused, gives-same}
+use Rattle.xml.proofs.Held.{held-whole}
 use Rattle.putting.proofs.Answering.{gives-long, gives-fit}
-
-gives-refused : (x : Result (List ℕ)) (o : List ℕ) {out : Outcome} (r : Reason) → x ≡ refused r → out ≡ Refused r → Gives x o o out
-gives-refused x o r e h = (h ∙ sym (ap written e), sym (ap (outputAfter o) e))
-
-gives-same : (x y : Result (List ℕ)) (o o′ : List ℕ) {out : Outcome} → x ≡ y → Gives y o o′ out → Gives x o o′ out
-gives-same x y o o′ e h = rw e h
 
 -- What a reading comes to, with so much room.
 abbrev result : ℕ → Read Code → Result (List ℕ)
 result room p = wholeText p >>= λ t. fitted room (write tree t)
 
 -- import_text
-module _ (s index : List ℕ) (k : ℕ) (text o w w′ : List ℕ) {x : Text} (first : ImportsTree s index k text 0 treeLevels w w′ 0 x) where
+module _ (s index : List ℕ) (k : ℕ) (text o : List ℕ) {x : Text} (first : ImportsTree s index k text 0 treeLevels 0 x) where
   pub text-deep : {out : Outcome} → x ≡ Deep → out ≡ Refused Why.TooDeep → GivesWhole s index k text o o out
   text-deep h i l z = gives-refused _ o Why.TooDeep (ap (result (length o)) (first l z .deep h)) i
 
@@ -68,32 +64,21 @@ module _ (s index : List ℕ) (k : ℕ) (text o w w′ : List ℕ) {x : Text} (f
       whole l z = let f = first l z .found e m ex in f .1 ∙ ap (done (f .0)) (drop-of-length-le text {i = e} (omega arith))
 
       size : (l : Language) (z : Indexed index s l) → m ≡ length (write tree (first l z .found e m ex .0))
-      size l z = let f = first l z .found e m ex .2 .end in omega arith
+      size l z = let f = first l z .found e m ex .2 in omega arith
 
       pub text-long : {out : Outcome} → length o < m → out ≡ Refused Why.OutputTooShort → GivesWhole s index k text o o out
       text-long h i l z =
           let n = size l z in
           gives-same _ _ o o (ap (result (length o)) (whole l z)) (gives-long (write tree (first l z .found e m ex .0)) o (omega arith) i)
 
-      module _ {o′ : List ℕ} {r : Text} (second : ImportsTree s index k text 0 treeLevels o o′ 0 r) (fits : m ≤ length o) where
-        by-text : (l : Language) (z : Indexed index s l) (t : Code) → readText l treeLevels k text ≡ done t [] → length (write tree t) ≤ length o → (y : Text) → r ≡ y
-            → o′ ≡ spliced o 0 (write tree t)
-        by-text l z t g h (End d n) q =
-            let f = second l z .found d n q in
-            let c = same-done (f .0) t (drop d text) [] (sym (f .1) ∙ g) .0 in
-            let u = f .2 in
-            let ue = u .end in
-            let lc = ap (λ (a : Code). length (write tree a)) c in
-            u .bytes (omega arith) ∙ ap (λ (a : Code). spliced o 0 (write tree a)) c
-        by-text l z t g h Deep q = deep-not (sym (second l z .deep q) ∙ g)
-        by-text l z t g h Broken q = broken-not (sym (second l z .broken q) ∙ g)
-
+      module _ {o′ : List ℕ} (bytes : (i : ℕ) → getD s i 0 < 256) (put : (v : List ℕ) → Contents text v → length v ≤ length o → o′ ≡ spliced o 0 v) (fits : m ≤ length o) where
         pub text-done : {out : Outcome} → out ≡ Accepted m → GivesWhole s index k text o o′ out
         text-done i l z =
             let n = size l z in
             let t = first l z .found e m ex .0 in
+            let c = held-whole s l (z .entries) bytes treeLevels k text t (whole l z) in
             gives-same _ _ o o′ (ap (result (length o)) (whole l z))
-            (gives-fit (write tree t) o o′ (omega arith) (i ∙ ap Accepted n) (by-text l z t (whole l z) (omega arith) r refl))
+            (gives-fit (write tree t) o o′ (omega arith) (i ∙ ap Accepted n) (put (write tree t) c (omega arith)))
 
 -- import_kind
 module _ (s : List ℕ) (k : ℕ) (text o : List ℕ) {x : Bool} (ex : (l : Language) → entriesOf s ≡ some l → x ≡ isIn l k) {out : Outcome} where

@@ -1,4 +1,4 @@
-// The tree that a text is the export of. What does not fit into the output is counted and not stored.
+// The tree that a text is the export of: the text is read, and the bytes of the tree are counted.
 use crate::scan::Number;
 use crate::scan::Place;
 use crate::scan::closing_at;
@@ -8,11 +8,8 @@ use fields::bytes::pair_in;
 use fields::bytes::to_usize;
 use reader::node::place_at;
 ghost use mathlib.Core.Path.{_≡_};
-ghost use mathlib.Core.List.{[], _∷_};
 ghost use Prim.Native.Nat.{_+_, _-_, _<_, _≤_};
 ghost use lib.ListN.{length, drop};
-ghost use Rattle.fields.specs.Fields.{twoBytes};
-ghost use Rattle.fields.specs.Inner.Writing.{spliced};
 ghost use Rattle.language.specs.Inner.Entries.{IsClass, classRange};
 ghost use Rattle.reader.specs.Syntax.{write, tree as inTrees};
 ghost use Rattle.reader.specs.Inner.Index.{Sound, Ready, indexLength};
@@ -27,49 +24,16 @@ pub enum Text {
     Broken,
 }
 
-// Stores a byte where there is room.
-fn store(byte: u8, out: &mut [u8], n: usize)
-    ensures { λ r. ⌜ (n < length (now (out .entry)) → now (out .exit) ≡ spliced (now (out .entry)) n (byte ∷ [])) ⌝ }
-{
-    if n < out.len() {
-        out[n] = byte;
-    }
-}
-
-// Stores the two bytes of a value where there is room.
-fn store_value(value: usize, out: &mut [u8], n: usize)
-    requires { ⌜ value < 65536 ⌝ }
-    ensures { λ r. ⌜ (n + 2 ≤ length (now (out .entry)) → now (out .exit) ≡ spliced (now (out .entry)) n (twoBytes value)) ⌝ }
-{
-    if out.len() <= n {
-        return;
-    }
-    if out.len() - n < 2 {
-        return;
-    }
-    out[n] = (value / 256) as u8;
-    out[n + 1] = (value % 256) as u8;
-}
-
 // The token of a kind, by the place of its class.
-fn text_token(
-    language: &[u8],
-    class: usize,
-    kind: u8,
-    text: &[u8],
-    at: usize,
-    out: &mut [u8],
-    n: usize,
-) -> Text
+fn text_token(language: &[u8], class: usize, kind: u8, text: &[u8], at: usize, n: usize) -> Text
     requires { ⌜ (0 < class) × IsClass (now language) (class - 1) × (at ≤ length (now text)) × (n ≤ at) ⌝ }
     ensures { λ r. ⌜ Inside (now (text .entry)) r
         × Imports (write inTrees) (readToken kind (classRange (now (language .entry)) (class - 1)) (drop at (now (text .entry))))
-        (now (text .entry)) (now (out .entry)) (now (out .exit)) n r ⌝ }
+        (now (text .entry)) n r ⌝ }
 {
     let Number::Is(value, e) = token_at(language, class - 1, to_usize(kind), text, at) else {
         return Text::Broken;
     };
-    store_value(value, out, n);
     Text::End(e, n + 2)
 }
 
@@ -92,16 +56,15 @@ pub fn text_at(
     text: &[u8],
     at: usize,
     levels: usize,
-    out: &mut [u8],
     n: usize,
 ) -> Text
     requires { ⌜ Ready (now index) (now language) kind (now text) at × (n ≤ at) ⌝ }
     ensures { λ r. ⌜ Inside (now (text .entry)) r
-        × ImportsTree (now (language .entry)) (now (index .entry)) kind (now (text .entry)) at levels (now (out .entry)) (now (out .exit)) n r ⌝ }
+        × ImportsTree (now (language .entry)) (now (index .entry)) kind (now (text .entry)) at levels n r ⌝ }
 {
     let class = place_at(index, to_usize(kind));
     if class != 0 {
-        return text_token(language, class, kind, text, at, out, n);
+        return text_token(language, class, kind, text, at, n);
     }
     if levels == 0 {
         return Text::Deep;
@@ -113,19 +76,8 @@ pub fn text_at(
     if place == 0 {
         return Text::Broken;
     }
-    store(name as u8, out, n);
     let stop = place + 2 + pair_in(language, place);
-    match texts_at(
-        language,
-        index,
-        place + 4,
-        stop,
-        text,
-        a,
-        levels - 1,
-        out,
-        n + 1,
-    ) {
+    match texts_at(language, index, place + 4, stop, text, a, levels - 1, n + 1) {
         Text::End(b, m) => match closing_at(to_usize(kind), name, text, b) {
             Place::At(e) => Text::End(e, m),
             Place::Nothing => Text::Broken,
@@ -144,18 +96,17 @@ fn texts_at(
     text: &[u8],
     at: usize,
     levels: usize,
-    out: &mut [u8],
     n: usize,
 ) -> Text
     requires { ⌜ Sound (now index) (now language) × KindsIn (now language) from stop × (at ≤ length (now text)) × (n ≤ at) ⌝ }
     ensures { λ r. ⌜ Inside (now (text .entry)) r
-        × ImportsTrees (now (language .entry)) (now (index .entry)) from stop (now (text .entry)) at levels (now (out .entry)) (now (out .exit)) n r ⌝ }
+        × ImportsTrees (now (language .entry)) (now (index .entry)) from stop (now (text .entry)) at levels n r ⌝ }
 {
     let mut q = from;
     let mut to = at;
     let mut m = n;
     while q < stop {
-        match text_at(language, index, language[q], text, to, levels, out, m) {
+        match text_at(language, index, language[q], text, to, levels, m) {
             Text::End(e, k) => {
                 to = e;
                 m = k;

@@ -1,15 +1,16 @@
 // The operations export and import.
-use crate::export::export_at;
+use crate::contents::write_contents;
+use crate::export::export_all;
 use crate::import::Text;
 use crate::import::text_at;
-use checks::trees::check_tree;
+use crate::measure::Measured;
+use crate::measure::measure_all;
 use fields::outcome::Answer;
 use fields::outcome::Outcome;
 use fields::outcome::Reason;
 use fields::outcome::accept;
 use fields::outcome::refuse;
 use language::check::check_language;
-use putting::put::Step;
 use reader::index::INDEX;
 use reader::index::build;
 use reader::kinds::is_in;
@@ -19,39 +20,63 @@ ghost use Prim.Native.Nat.{_<_, _≤_};
 ghost use lib.ListN.{length};
 ghost use Rattle.language.specs.Language.{Language};
 ghost use Rattle.language.specs.LanguageFile.{entriesOf};
-ghost use Rattle.reader.specs.Inner.Index.{Ready};
+ghost use Rattle.reader.specs.Inner.Index.{Ready, Indexed};
 ghost use Rattle.xml.specs.Operations.{exportTree, importTree};
-ghost use Rattle.xml.specs.Inner.Answering.{GivesExport, GivesImport, GivesWhole};
+ghost use Rattle.xml.specs.Inner.Answering.{GivesTree, GivesExport, GivesImport, GivesWhole};
 
 // Trees handed in have at most 64 levels.
 const LEVELS: usize = 64;
 
-// The export of a legal tree: 17 where it is longer than the output.
-fn export_legal(language: &[u8], index: &[u16], kind: u8, tree: &[u8], output: &mut [u8]) -> Answer
-    requires { ⌜ Ready (now index) (now language) kind (now tree) 0 ⌝ }
-    ensures { λ r. ⌜ GivesExport (now (language .entry)) (now (index .entry)) kind (now (tree .entry)) (now (output .entry)) (now (output .exit)) (r .outcome) ⌝ }
+// The export of the tree of a kind: 15 and 16 in reading order, 17 where it is longer than the output. It is measured while the
+// tree is read, and only then written.
+fn export_tree(language: &[u8], index: &[u16], kind: u8, tree: &[u8], output: &mut [u8]) -> Answer
+    requires { ⌜ Ready (now index) (now language) kind (now tree) 0 × ((l : Language) × Indexed (now index) (now language) l) ⌝ }
+    ensures { λ r. ⌜ GivesTree (now (language .entry)) (now (index .entry)) kind (now (tree .entry)) (now (output .entry)) (now (output .exit)) (r .outcome) ⌝ }
 {
-    let Step::To(end, length) = export_at(language, index, kind, tree, 0, LEVELS, false, output, 0)
-    else {
-        return refuse(Reason::OutputTooShort);
-    };
-    export_at(language, index, kind, tree, 0, LEVELS, true, output, 0);
-    accept(length)
+    let kinds = [kind];
+    match measure_all(&kinds, language, index, 0, 1, tree, 0, LEVELS, 0) {
+        Measured::End(e, length) => {
+            if e != tree.len() {
+                return refuse(Reason::IllegalTree);
+            }
+            if output.len() < length {
+                return refuse(Reason::OutputTooShort);
+            }
+            export_all(&kinds, language, index, 0, 1, tree, 0, LEVELS, output, 0);
+            accept(length)
+        }
+        Measured::Deep => refuse(Reason::TooDeep),
+        Measured::Broken => refuse(Reason::IllegalTree),
+    }
 }
 
-// Export: 1 to 4 for the language, 14 to 16 for the tree, 17 where the text is longer than the output.
+// The same, of a language that is whole: 14 to 17.
+fn export_kind(language: &[u8], kind: u8, tree: &[u8], output: &mut [u8]) -> Answer
+    requires { ⌜ (length (now language) ≤ 1024) × (kind < 32) × ((l : Language) × (entriesOf (now language) ≡ some l)) ⌝ }
+    ensures { λ r. ⌜ GivesExport (now (language .entry)) kind (now (tree .entry)) (now (output .entry)) (now (output .exit)) (r .outcome) ⌝ }
+{
+    if !is_in(language, kind) {
+        return refuse(Reason::UnknownRoot);
+    }
+    let mut index = [0u16; INDEX];
+    build(language, &mut index);
+    export_tree(language, &index, kind, tree, output)
+}
+
+// Export: 1 to 4 for the language, 14 for the root, 15 and 16 for the tree, 17 where the text is longer than the output.
 pub fn export(language: &[u8], root: u32, tree: &[u8], output: &mut [u8]) -> Answer
     ensures { λ r. ⌜ (r .outcome ≡ exportTree (now (language .entry)) root (now (tree .entry)) (now (output .entry)) .outcome)
         × (now (output .exit) ≡ exportTree (now (language .entry)) root (now (tree .entry)) (now (output .entry)) .output) ⌝ }
 {
-    let answer = check_tree(language, root, tree);
+    let answer = check_language(language);
     let outcome = answer.outcome;
     if let Outcome::Refused(reason) = outcome {
         return refuse(reason);
     }
-    let mut index = [0u16; INDEX];
-    build(language, &mut index);
-    export_legal(language, &index, root as u8, tree, output)
+    if 31 < root {
+        return refuse(Reason::UnknownRoot);
+    }
+    export_kind(language, root as u8, tree, output)
 }
 
 // The tree of a kind whose export the text is: 16 and 20 in reading order, 17 where it is longer than the output.
@@ -59,8 +84,7 @@ fn import_text(language: &[u8], index: &[u16], kind: u8, text: &[u8], output: &m
     requires { ⌜ Ready (now index) (now language) kind (now text) 0 ⌝ }
     ensures { λ r. ⌜ GivesWhole (now (language .entry)) (now (index .entry)) kind (now (text .entry)) (now (output .entry)) (now (output .exit)) (r .outcome) ⌝ }
 {
-    let mut nowhere = [0u8; 1];
-    match text_at(language, index, kind, text, 0, LEVELS, &mut nowhere, 0) {
+    match text_at(language, index, kind, text, 0, LEVELS, 0) {
         Text::End(e, length) => {
             if e != text.len() {
                 return refuse(Reason::NotAnExport);
@@ -68,7 +92,7 @@ fn import_text(language: &[u8], index: &[u16], kind: u8, text: &[u8], output: &m
             if output.len() < length {
                 return refuse(Reason::OutputTooShort);
             }
-            text_at(language, index, kind, text, 0, LEVELS, output, 0);
+            write_contents(text, output);
             accept(length)
         }
         Text::Deep => refuse(Reason::TooDeep),

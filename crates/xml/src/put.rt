@@ -1,13 +1,10 @@
-// Texts that are put into an output, or only measured against it. They are measured by arithmetic; what has room is
-// written byte by byte, with no loop.
-use fields::copy::Stored;
+// Tags and tokens, written byte by byte into an output that has room for them.
 ghost use mathlib.Core.Path.{_≡_};
 ghost use mathlib.Core.List.{[], _∷_, _++_};
 ghost use Prim.Native.Nat.{_+_, _*_, _<_, _≤_};
 ghost use lib.ListN.{length};
 ghost use Rattle.fields.specs.Inner.Writing.{Written};
 ghost use Rattle.xml.specs.Text.{decimal, nodeTag, tokenTag, openNode, closeNode, openToken, closeToken, point, tagEnd};
-ghost use Rattle.putting.specs.Inner.Putting.{Puts};
 
 // Writes a byte.
 fn write_byte(byte: u8, out: &mut [u8], n: usize) -> usize
@@ -28,7 +25,7 @@ fn write_digit(digit: usize, out: &mut [u8], n: usize) -> usize
 }
 
 // How many digits a number has in decimal.
-fn width(number: usize) -> usize
+pub fn width(number: usize) -> usize
     requires { ⌜ number < 65536 ⌝ }
     ensures { λ r. ⌜ (r ≡ length (decimal number)) × (r ≤ 5) ⌝ }
 {
@@ -75,80 +72,74 @@ fn write_long(number: usize, out: &mut [u8], n: usize) -> usize
     write_digit(number % 10, out, c)
 }
 
-// Writes a number in decimal.
-fn write_number(number: usize, out: &mut [u8], n: usize) -> usize
-    requires { ⌜ (number < 65536) × (n + length (decimal number) ≤ length (now out)) ⌝ }
+// Writes a number of at most three digits.
+fn write_small(number: usize, out: &mut [u8], n: usize) -> usize
+    requires { ⌜ (number < 1000) × (n + length (decimal number) ≤ length (now out)) ⌝ }
     ensures { λ r. ⌜ Written (decimal number) (now (out .entry)) (now (out .exit)) n r ⌝ }
 {
     if number < 100 {
         return write_short(number, out, n);
     }
+    let a = write_short(number / 10, out, n);
+    write_digit(number % 10, out, a)
+}
+
+// Writes a number in decimal.
+fn write_number(number: usize, out: &mut [u8], n: usize) -> usize
+    requires { ⌜ (number < 65536) × (n + length (decimal number) ≤ length (now out)) ⌝ }
+    ensures { λ r. ⌜ Written (decimal number) (now (out .entry)) (now (out .exit)) n r ⌝ }
+{
     if number < 1000 {
-        let a = write_short(number / 10, out, n);
-        return write_digit(number % 10, out, a);
+        return write_small(number, out, n);
     }
     write_long(number, out, n)
 }
 
 // Writes what the tags of a production end with.
 fn write_name(kind: usize, name: usize, out: &mut [u8], n: usize) -> usize
-    requires { ⌜ (kind < 65536) × (name < 65536) × (n + length (decimal kind) + length (decimal name) + 2 ≤ length (now out)) ⌝ }
+    requires { ⌜ (kind < 100) × (name < 1000) × (n + length (decimal kind) + length (decimal name) + 2 ≤ length (now out)) ⌝ }
     ensures { λ r. ⌜ Written (decimal kind ++ (point ++ (decimal name ++ tagEnd))) (now (out .entry)) (now (out .exit)) n r ⌝ }
 {
-    let a = write_number(kind, out, n);
+    let a = write_short(kind, out, n);
     let b = write_byte(46, out, a);
-    let c = write_number(name, out, b);
+    let c = write_small(name, out, b);
     write_byte(62, out, c)
 }
 
-// Puts the opening tag of a production, if it is to be stored.
-pub fn put_opening(kind: usize, name: usize, store: bool, out: &mut [u8], n: usize) -> Stored
-    requires { ⌜ (kind < 65536) × (name < 65536) × (n ≤ length (now out)) ⌝ }
-    ensures { λ r. ⌜ Puts store (nodeTag openNode kind name) (now (out .entry)) (now (out .exit)) n r ⌝ }
+// Writes the opening tag of a production.
+pub fn write_opening(kind: usize, name: usize, out: &mut [u8], n: usize) -> usize
+    requires { ⌜ (kind < 100) × (name < 1000) × (n + (4 + length (decimal kind) + length (decimal name)) ≤ length (now out)) ⌝ }
+    ensures { λ r. ⌜ Written (nodeTag openNode kind name) (now (out .entry)) (now (out .exit)) n r ⌝ }
 {
-    let size = 4 + width(kind) + width(name);
-    if out.len() - n < size {
-        return Stored::Full;
-    }
-    if !store {
-        return Stored::To(n + size);
-    }
     let a = write_byte(60, out, n);
     let b = write_byte(120, out, a);
-    Stored::To(write_name(kind, name, out, b))
+    write_name(kind, name, out, b)
 }
 
-// Puts the closing tag of a production, if it is to be stored.
-pub fn put_closing(kind: usize, name: usize, store: bool, out: &mut [u8], n: usize) -> Stored
-    requires { ⌜ (kind < 65536) × (name < 65536) × (n ≤ length (now out)) ⌝ }
-    ensures { λ r. ⌜ Puts store (nodeTag closeNode kind name) (now (out .entry)) (now (out .exit)) n r ⌝ }
+// Writes the closing tag of a production.
+pub fn write_closing(kind: usize, name: usize, out: &mut [u8], n: usize) -> usize
+    requires { ⌜ (kind < 100) × (name < 1000) × (n + (5 + length (decimal kind) + length (decimal name)) ≤ length (now out)) ⌝ }
+    ensures { λ r. ⌜ Written (nodeTag closeNode kind name) (now (out .entry)) (now (out .exit)) n r ⌝ }
 {
-    let size = 5 + width(kind) + width(name);
-    if out.len() - n < size {
-        return Stored::Full;
-    }
-    if !store {
-        return Stored::To(n + size);
-    }
     let a = write_byte(60, out, n);
     let b = write_byte(47, out, a);
     let c = write_byte(120, out, b);
-    Stored::To(write_name(kind, name, out, c))
+    write_name(kind, name, out, c)
 }
 
 // Writes what the tags of a token end with.
 fn write_kind(kind: usize, out: &mut [u8], n: usize) -> usize
-    requires { ⌜ (kind < 65536) × (n + length (decimal kind) + 2 ≤ length (now out)) ⌝ }
+    requires { ⌜ (kind < 100) × (n + length (decimal kind) + 2 ≤ length (now out)) ⌝ }
     ensures { λ r. ⌜ Written (116 ∷ (decimal kind ++ tagEnd)) (now (out .entry)) (now (out .exit)) n r ⌝ }
 {
     let a = write_byte(116, out, n);
-    let b = write_number(kind, out, a);
+    let b = write_short(kind, out, a);
     write_byte(62, out, b)
 }
 
 // Writes a token with its tags.
-fn write_token(kind: usize, value: usize, out: &mut [u8], n: usize) -> usize
-    requires { ⌜ (kind < 65536) × (value < 65536)
+pub fn write_token(kind: usize, value: usize, out: &mut [u8], n: usize) -> usize
+    requires { ⌜ (kind < 100) × (value < 65536)
         × (n + (7 + 2 * length (decimal kind) + length (decimal value)) ≤ length (now out)) ⌝ }
     ensures { λ r. ⌜ Written (tokenTag openToken kind ++ (decimal value ++ tokenTag closeToken kind)) (now (out .entry)) (now (out .exit)) n r ⌝ }
 {
@@ -158,19 +149,4 @@ fn write_token(kind: usize, value: usize, out: &mut [u8], n: usize) -> usize
     let d = write_byte(60, out, c);
     let e = write_byte(47, out, d);
     write_kind(kind, out, e)
-}
-
-// Puts a token with its tags, if it is to be stored.
-pub fn put_token(kind: usize, value: usize, store: bool, out: &mut [u8], n: usize) -> Stored
-    requires { ⌜ (kind < 65536) × (value < 65536) × (n ≤ length (now out)) ⌝ }
-    ensures { λ r. ⌜ Puts store (tokenTag openToken kind ++ (decimal value ++ tokenTag closeToken kind)) (now (out .entry)) (now (out .exit)) n r ⌝ }
-{
-    let size = 7 + 2 * width(kind) + width(value);
-    if out.len() - n < size {
-        return Stored::Full;
-    }
-    if !store {
-        return Stored::To(n + size);
-    }
-    Stored::To(write_token(kind, value, out, n))
 }

@@ -55,7 +55,7 @@ fn is_digit(byte: u8) -> bool
 }
 
 // A number, without leading zeros.
-fn number_at(text: &[u8], at: usize) -> Number
+pub fn number_at(text: &[u8], at: usize) -> Number
     requires { ⌜ at ≤ length (now text) ⌝ }
     ensures { λ r. ⌜ Numbers (readNumber (drop at (now (text .entry)))) (now (text .entry)) at r ⌝ }
 {

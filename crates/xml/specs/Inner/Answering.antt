@@ -7,10 +7,9 @@ use mathlib.Core.Option.{some}
 use Rattle.fields.specs.Outcome.{_>>=_}
 use Rattle.fields.specs.declared.outcome.Outcome.{Outcome}
 use Rattle.language.specs.Language.{Language}
-use Rattle.reader.specs.Code.{Code}
 use Rattle.language.specs.LanguageFile.{entriesOf}
-use Rattle.reader.specs.Syntax.{done, read, write, tree}
-use Rattle.reader.specs.Operations.{treeLevels}
+use Rattle.reader.specs.Syntax.{read, write, tree}
+use Rattle.reader.specs.Operations.{treeLevels, wholeTree, treeOf}
 use Rattle.reader.specs.Inner.Index.{Indexed}
 use Rattle.translation.specs.Operations.{fitted}
 use Rattle.putting.specs.Inner.Answering.{Gives}
@@ -18,11 +17,17 @@ use Rattle.xml.specs.Text.{export}
 use Rattle.xml.specs.Import.{readText}
 use Rattle.xml.specs.Operations.{wholeText, importOf}
 
--- The outcome, and the output that is left, are those of the export of the tree of kind k that the bytes b are.
-abbrev pub GivesExport : List ℕ → List ℕ → ℕ → List ℕ → List ℕ → List ℕ → Outcome → Type 0
-GivesExport s index k b before after outcome =
-    (l : Language) (a : Code) → Indexed index s l → read tree l [] treeLevels k b ≡ done a []
-    → Gives (fitted (length before) (export l k a)) before after outcome
+-- The outcome, and the output that is left, are those of the export of the tree of kind k that the bytes b are, with nothing
+-- after it.
+abbrev pub GivesTree : List ℕ → List ℕ → ℕ → List ℕ → List ℕ → List ℕ → Outcome → Type 0
+GivesTree s index k b before after outcome =
+    (l : Language) → Indexed index s l
+    → Gives (wholeTree (read tree l [] treeLevels k b) >>= λ t. fitted (length before) (export l k t)) before after outcome
+
+-- The same, where it is looked whether the kind is in the language.
+abbrev pub GivesExport : List ℕ → ℕ → List ℕ → List ℕ → List ℕ → Outcome → Type 0
+GivesExport s k b before after outcome =
+    (l : Language) → entriesOf s ≡ some l → Gives (treeOf l k b >>= λ t. fitted (length before) (export l k t)) before after outcome
 
 -- They are those of the tree of kind k whose export the text is, with nothing after it.
 abbrev pub GivesWhole : List ℕ → List ℕ → ℕ → List ℕ → List ℕ → List ℕ → Outcome → Type 0

@@ -1,26 +1,30 @@
--- The export of what stands in bytes, put into an output or only measured against it.
-use Prim.Native.Nat.{ℕ}
+-- The export of what stands in bytes, written into an output that has room for it.
+use Prim.Native.Nat.{ℕ, _+_, _≤_}
 use mathlib.Core.Path.{_≡_}
-use mathlib.Core.Bool.{Bool}
 use mathlib.Core.List.{List, []}
-use lib.ListN.{drop}
+use lib.ListN.{length, drop}
 use lib.Seq.{slice}
+use Rattle.fields.specs.Inner.Writing.{Written}
 use Rattle.language.specs.Language.{Language}
 use Rattle.reader.specs.Code.{Code, Codes}
 use Rattle.reader.specs.Syntax.{done, read, readAll, tree}
 use Rattle.reader.specs.Inner.Index.{Indexed}
 use Rattle.xml.specs.Text.{export, exportAll}
-use Rattle.putting.specs.declared.put.Step.{Step}
-use Rattle.putting.specs.Inner.Passing.{Passes}
 
--- The export of the tree of kind k that stands at `at`, with so many levels left.
-abbrev pub ExportsTree : Bool → List ℕ → List ℕ → ℕ → List ℕ → ℕ → ℕ → List ℕ → List ℕ → ℕ → Step → Type 0
-ExportsTree store s index k b at levels o o′ n r =
-    (l : Language) (a : Code) (rest : List ℕ) → Indexed index s l → read tree l [] levels k (drop at b) ≡ done a rest
-    → Passes store (export l k a) b rest o o′ n r
+-- The tree a of kind k stands at `at`, before `rest`, and its export has room from n on.
+pub record TreeAsks (s index : List ℕ) (k : ℕ) (b : List ℕ) (at levels room n : ℕ) (l : Language) (a : Code) (rest : List ℕ) : Type 0 where
+  pub indexed : Indexed index s l
+  pub reads : read tree l [] levels k (drop at b) ≡ done a rest
+  pub fits : n + length (export l k a) ≤ room
 
--- The exports of the trees that stand at `at`, whose kinds stand in s from q up to e.
-abbrev pub ExportsTrees : Bool → List ℕ → List ℕ → ℕ → ℕ → List ℕ → ℕ → ℕ → List ℕ → List ℕ → ℕ → Step → Type 0
-ExportsTrees store s index q e b at levels o o′ n r =
-    (l : Language) (t : Codes) (rest : List ℕ) → Indexed index s l → readAll (read tree l [] levels) (slice q e s) (drop at b) ≡ done t rest
-    → Passes store (exportAll l (slice q e s) t) b rest o o′ n r
+-- The trees t stand at `at`, before `rest`; their kinds stand in `kinds` from q up to e. Their exports have room from n on.
+pub record TreesAsk (kinds s index : List ℕ) (q e : ℕ) (b : List ℕ) (at levels room n : ℕ) (l : Language) (t : Codes) (rest : List ℕ) : Type 0 where
+  pub indexed : Indexed index s l
+  pub reads : readAll (read tree l [] levels) (slice q e kinds) (drop at b) ≡ done t rest
+  pub fits : n + length (exportAll l (slice q e kinds) t) ≤ room
+
+-- The text v, of what stands in b before `rest`, was written over the output o from n up to m; `rest` stands from e on.
+pub record Exported (v b rest o o′ : List ℕ) (n e m : ℕ) : Type 0 where
+  pub left : drop e b ≡ rest
+  pub inside : e ≤ length b
+  pub put : Written v o o′ n m

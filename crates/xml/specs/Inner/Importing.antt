@@ -1,4 +1,4 @@
--- The tree that a text is the export of, measured and stored where there is room.
+-- The tree that a text is the export of, and how many bytes it has.
 use Prim.Native.Nat.{ℕ, _+_, _<_, _≤_}
 use mathlib.Core.Path.{_≡_}
 use mathlib.Core.Bool.{cond}
@@ -6,7 +6,6 @@ use mathlib.Core.List.{List}
 use lib.ListN.{length, drop, getD}
 use lib.Seq.{slice}
 use lib.Dec.{ltb}
-use Rattle.fields.specs.Inner.Writing.{spliced}
 use Rattle.language.specs.Language.{Language, productionKey}
 use Rattle.reader.specs.Code.{Code, Codes}
 use Rattle.reader.specs.Syntax.{Read, done, deep, broken, readAll, write, writeAll, tree}
@@ -15,30 +14,25 @@ use Rattle.xml.specs.Import.{readText}
 use Rattle.xml.specs.declared.import.Text.{Text}
 use Rattle.xml.specs.declared.import.Text.the-variants.{End, Deep, Broken}
 
--- The bytes v, counted from n up to m, stand in the output where they have room.
-pub record Stored (v o o′ : List ℕ) (n m : ℕ) : Type 0 where
-  pub end : m ≡ n + length v
-  pub bytes : m ≤ length o → o′ ≡ spliced o n v
-
 -- A position that was reached lies in the text, and no more bytes are counted than were read.
 abbrev pub Inside : List ℕ → Text → Type 0
 Inside text r = (e m : ℕ) → r ≡ End e m → (e ≤ length text) × (m ≤ e)
 
--- The answer r says what the reading p comes to; the bytes of what was read are stored from n on.
-pub record Imports {A : Type 0} (bytes : A → List ℕ) (p : Read A) (text o o′ : List ℕ) (n : ℕ) (r : Text) : Type 0 where
-  pub found : (e m : ℕ) → r ≡ End e m → (a : A) × (p ≡ done a (drop e text)) × Stored (bytes a) o o′ n m
+-- The answer r says what the reading p comes to; the bytes of what was read are counted from n on.
+pub record Imports {A : Type 0} (bytes : A → List ℕ) (p : Read A) (text : List ℕ) (n : ℕ) (r : Text) : Type 0 where
+  pub found : (e m : ℕ) → r ≡ End e m → (a : A) × (p ≡ done a (drop e text)) × (m ≡ n + length (bytes a))
   pub deep : r ≡ Deep → p ≡ deep
   pub broken : r ≡ Broken → p ≡ broken
 
 -- The tree of kind k at `at`, with so many levels left.
-abbrev pub ImportsTree : List ℕ → List ℕ → ℕ → List ℕ → ℕ → ℕ → List ℕ → List ℕ → ℕ → Text → Type 0
-ImportsTree s index k text at levels o o′ n r =
-    (l : Language) → Indexed index s l → Imports (write tree) (readText l levels k (drop at text)) text o o′ n r
+abbrev pub ImportsTree : List ℕ → List ℕ → ℕ → List ℕ → ℕ → ℕ → ℕ → Text → Type 0
+ImportsTree s index k text at levels n r =
+    (l : Language) → Indexed index s l → Imports (write tree) (readText l levels k (drop at text)) text n r
 
 -- The trees at `at`, whose kinds stand in s from q up to e.
-abbrev pub ImportsTrees : List ℕ → List ℕ → ℕ → ℕ → List ℕ → ℕ → ℕ → List ℕ → List ℕ → ℕ → Text → Type 0
-ImportsTrees s index q e text at levels o o′ n r =
-    (l : Language) → Indexed index s l → Imports (writeAll tree) (readAll (readText l levels) (slice q e s) (drop at text)) text o o′ n r
+abbrev pub ImportsTrees : List ℕ → List ℕ → ℕ → ℕ → List ℕ → ℕ → ℕ → ℕ → Text → Type 0
+ImportsTrees s index q e text at levels n r =
+    (l : Language) → Indexed index s l → Imports (writeAll tree) (readAll (readText l levels) (slice q e s) (drop at text)) text n r
 
 -- The place of production k.p in the index; there is none whose name is no byte.
 unfoldable pub placeOf : List ℕ → ℕ → ℕ → ℕ

@@ -1,21 +1,17 @@
-use Rattle.xml.proofs.Imports.{token-broken, token-small, token-end}
+use Rattle.xml.proofs.Imports.{token-broken, token-end}
 use borrow.Author.Needs.{needs}
 use Rattle.xml.proofs.import.text_token.Statement.{statement}
 use Rattle.xml.proofs.import.text_token.Tie as tie
 use Rattle.xml.proofs.import.text_token.Reads as reads
 use Rattle.xml.proofs.import.text_token.Lts as lts
 use Rattle.fields.proofs.bytes.to_usize.Reads as to-usize-reads
-use Rattle.xml.proofs.import.store_value.Reads as store-value-reads
 use Rattle.xml.proofs.scan.token_at.Reads as token-at-reads
 
 returns : tie.Need-returns
-returns c = token-broken _ _ _ _ _ _ (c .before .before .before .to-usize .ensures .0) (c .before .before .token-at .ensures) (c .enum-told .given .1)
-
-store-value-requires : tie.Need-store-value-requires
-store-value-requires c κs = token-small _ _ (c .before .before .before .before .before .before .before .before .before .args .text .now) (c .before .before .before .before .before .before .before .before .before .args .at) (c .before .before .before .before .before .before .before .before .before .args .out .now) (c .before .before .before .before .before .before .before .before .before .args .n) (c .before .before .before .before .before .to-usize .ensures .0) (c .before .before .before .before .token-at .ensures) (c .before .before .value .given .1)
+returns c = token-broken _ _ _ _ _ (c .before .before .before .to-usize .ensures .0) (c .before .before .token-at .ensures) (c .enum-told .given .1)
 
 returns-2 : tie.Need-returns-2
-returns-2 c = token-end _ _ _ _ _ _ (c .before .before .before .before .before .before .before .before .to-usize .ensures .0) (c .before .before .before .before .before .before .before .token-at .ensures) (c .before .before .before .before .before .value .given .1) (c .before .before .before .before .before .before .before .before .before .before .before .before .pre .3) (c .before .before .store-value .ensures)
+returns-2 c = token-end _ _ _ _ _ (c .before .before .before .before .to-usize .ensures .0) (c .before .before .before .token-at .ensures) (c .before .value .given .1) (c .before .before .before .before .before .before .before .pre .3)
 
 pub text-token-spec : {M : Type 1} → statement M
 text-token-spec =
@@ -27,7 +23,5 @@ text-token-spec =
     (λ c. search needs)
     (λ c. search needs)
     returns
-    store-value-requires
-    (λ c. search needs)
     (λ c. search needs)
     returns-2)

@@ -1,31 +1,26 @@
-use mathlib.Core.Path.{refl}
 use native.Mathlib.Omega.{arith}
-use Rattle.reader.proofs.Lookup.{zeros}
-use Rattle.xml.proofs.Answers.{export-refused, accepted, export-done}
+use Rattle.checks.proofs.TreeChain.{accepts}
+use Rattle.xml.proofs.Answers.{export-refused, export-past, export-done}
 use borrow.Author.Needs.{needs}
 use Rattle.xml.proofs.operations.export.Statement.{statement}
 use Rattle.xml.proofs.operations.export.Tie as tie
 use Rattle.xml.proofs.operations.export.Reads as reads
 use Rattle.xml.proofs.operations.export.Lts as lts
-use Rattle.checks.proofs.trees.check_tree.Reads as check-tree-reads
 use Rattle.fields.proofs.outcome.refuse.Reads as refuse-reads
-use Rattle.reader.proofs.index.build.Reads as build-reads
-use Rattle.xml.proofs.operations.export_legal.Reads as export-legal-reads
+use Rattle.language.proofs.check.check_language.Reads as check-language-reads
+use Rattle.xml.proofs.operations.export_kind.Reads as export-kind-reads
 
 returns : tie.Need-returns
-returns c = export-refused _ _ _ (c .before .before .before .before .check-tree .ensures) _ (c .before .before .outcome .given .1) (c .refuse .ensures)
-
-build-requires : tie.Need-build-requires
-build-requires c κs = let w = accepted _ _ _ (c .before .before .before .check-tree .ensures) (c .before .enum-told .given .1) in (w .short, refl, zeros 8224)
-
-cast-export-legal : tie.Need-cast-export-legal
-cast-export-legal c = let w = accepted _ _ _ (c .before .before .before .before .before .before .check-tree .ensures) (c .before .before .before .before .enum-told .given .1) .small in omega arith
-
-export-legal-requires : tie.Need-export-legal-requires
-export-legal-requires c κs = let w = accepted _ _ _ (c .before .before .before .before .before .before .before .check-tree .ensures) (c .before .before .before .before .before .enum-told .given .1) in record { sound = c .before .before .before .build .ensures _ (w .entries) .sound; kind = w .small; inside = omega arith }
+returns c = export-refused _ _ _ _ (c .before .before .before .before .check-language .ensures) (c .before .before .outcome .given .1) (c .refuse .ensures)
 
 returns-2 : tie.Need-returns-2
-returns-2 c = let w = accepted _ _ _ (c .before .before .before .before .before .before .before .before .before .before .check-tree .ensures) (c .before .before .before .before .before .before .before .before .enum-told .given .1) in export-done _ _ _ (c .before .before .before .before .before .before .before .before .before .before .check-tree .ensures) _ _ _ w (c .before .before .before .before .before .before .build .ensures _ (w .entries)) (c .before .before .export-legal .ensures)
+returns-2 c = export-past _ _ _ _ (c .before .before .before .before .check-language .ensures) (c .before .before .enum-told .given .1) (c .before .if1 .taken) (c .refuse2 .ensures)
+
+export-kind-requires : tie.Need-export-kind-requires
+export-kind-requires c κs = let a = accepts _ (c .before .before .before .before .check-language .ensures) (c .before .before .enum-told .given .1) in (a .short, omega (arith, c .before .if1 .left), (a .language, a .entries))
+
+returns-3 : tie.Need-returns-3
+returns-3 c = export-done _ _ _ _ (c .before .before .before .before .before .before .before .check-language .ensures) (c .before .before .before .before .before .enum-told .given .1) _ (c .before .before .export-kind .ensures)
 
 pub export-spec : {M : Type 1} → statement M
 export-spec =
@@ -36,10 +31,9 @@ export-spec =
     (λ c κs. search needs)
     returns
     (λ c. search needs)
+    (λ c κs. search needs)
+    returns-2
     (λ c. search needs)
-    build-requires
+    export-kind-requires
     (λ c. search needs)
-    cast-export-legal
-    export-legal-requires
-    (λ c. search needs)
-    returns-2)
+    returns-3)

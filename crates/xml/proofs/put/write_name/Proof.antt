@@ -5,10 +5,11 @@ use Rattle.xml.proofs.put.write_name.Tie as tie
 use Rattle.xml.proofs.put.write_name.Reads as reads
 use Rattle.xml.proofs.put.write_name.Lts as lts
 use Rattle.xml.proofs.put.write_byte.Reads as write-byte-reads
-use Rattle.xml.proofs.put.write_number.Reads as write-number-reads
+use Rattle.xml.proofs.put.write_short.Reads as write-short-reads
+use Rattle.xml.proofs.put.write_small.Reads as write-small-reads
 
 returns : tie.Need-returns
-returns c = written-then (c .before .before .before .before .before .before .before .before .before .before .before .before .before .before .write-number .ensures) (c .before .before .before .before .before .before .before .before .before .before .before .before .before .before .write-number .kept .1 .0) (written-then (c .before .before .before .before .before .before .before .before .before .before .write-byte .ensures) (c .before .before .before .before .before .before .before .before .before .before .write-byte .kept .1 .0) (written-then (c .before .before .before .before .before .before .write-number2 .ensures) (c .before .before .before .before .before .before .write-number2 .kept .1 .0) (c .before .before .write-byte2 .ensures)))
+returns c = written-then (c .before .before .before .before .before .before .before .before .before .before .before .before .before .before .write-short .ensures) (c .before .before .before .before .before .before .before .before .before .before .before .before .before .before .write-short .kept .1 .0) (written-then (c .before .before .before .before .before .before .before .before .before .before .write-byte .ensures) (c .before .before .before .before .before .before .before .before .before .before .write-byte .kept .1 .0) (written-then (c .before .before .before .before .before .before .write-small .ensures) (c .before .before .before .before .before .before .write-small .kept .1 .0) (c .before .before .write-byte2 .ensures)))
 
 pub write-name-spec : {M : Type 1} → statement M
 write-name-spec =

@@ -1,0 +1,42 @@
+use mathlib.Core.Path.{refl}
+use native.Mathlib.Omega.{arith}
+use Rattle.xml.proofs.Scans.{is-inside}
+use Rattle.xml.proofs.Takes.{name-full, name-nothing, name-done}
+use borrow.Author.Needs.{needs}
+use Rattle.xml.proofs.contents.take_name.Statement.{statement}
+use Rattle.xml.proofs.contents.take_name.Tie as tie
+use Rattle.xml.proofs.contents.take_name.Reads as reads
+use Rattle.xml.proofs.contents.take_name.Lts as lts
+use Rattle.xml.proofs.contents.behind.Reads as behind-reads
+use Rattle.xml.proofs.scan.number_at.Reads as number-at-reads
+
+returns : tie.Need-returns
+returns c = name-full _ _ _ _ (c .before .before .before .pre .1) (c .before .before .before .pre .2) (c .if1 .taken)
+
+returns-2 : tie.Need-returns-2
+returns-2 c = name-nothing _ _ _ _ (c .before .before .before .before .before .before .before .pre .1) (c .before .before .before .behind .ensures) (c .before .before .number-at .ensures) (c .enum-told .given .1)
+
+behind-requires-2 : tie.Need-behind-requires-2
+behind-requires-2 c κs = is-inside (c .before .before .before .number-at .ensures) (c .before .name .given .1)
+
+returns-3 : tie.Need-returns-3
+returns-3 c = name-done _ _ _ _ (c .before .before .before .before .before .before .before .before .before .pre .1) (c .before .before .before .before .before .behind .ensures) (c .before .before .before .before .number-at .ensures) (c .before .before .name .given .1) (c .behind2 .ensures) (omega (arith, c .before .before .before .before .before .before .if1 .left)) refl
+
+pub take-name-spec : {M : Type 1} → statement M
+take-name-spec =
+    tie.close
+    (tie.spec
+    (λ c. search needs)
+    returns
+    (λ c. search needs)
+    (λ c κs. search needs)
+    (λ c κs. search needs)
+    (λ c. search needs)
+    (λ c. search needs)
+    returns-2
+    behind-requires-2
+    (λ c. search needs)
+    (λ c. search needs)
+    (λ c. search needs)
+    (λ c. search needs)
+    returns-3)

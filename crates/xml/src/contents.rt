@@ -1,0 +1,106 @@
+// The tree that a text is the export of, written in the order of its tags. The text is known to be an export.
+use crate::scan::Number;
+use crate::scan::number_at;
+use putting::put::Step;
+ghost use mathlib.Core.Path.{_≡_};
+ghost use mathlib.Core.List.{List};
+ghost use Prim.Native.Nat.{ℕ, _+_, _<_, _≤_};
+ghost use lib.ListN.{length, getD};
+ghost use Rattle.fields.specs.Inner.Writing.{spliced};
+ghost use Rattle.xml.specs.Inner.Contents.{Contents, Behind, Takes};
+
+// No tag is shorter than this.
+const SHORTEST: usize = 4;
+
+// The second byte of a closing tag, and of the opening tag of a production.
+const SLASH: u8 = 47;
+
+const NODE: u8 = 120;
+
+// What stands behind the kind and behind the name in the tags of a production.
+const POINT: u8 = 46;
+
+const END: u8 = 62;
+
+// The position behind the first such byte.
+fn behind(byte: u8, text: &[u8], at: usize) -> usize
+    requires { ⌜ at ≤ length (now text) ⌝ }
+    ensures { λ r. ⌜ Behind byte (now (text .entry)) at r ⌝ }
+{
+    let mut to = at;
+    while to < text.len() {
+        if text[to] == byte {
+            return to + 1;
+        }
+        to += 1;
+    }
+    to
+}
+
+// Writes the name in the opening tag of a production.
+fn take_name(text: &[u8], at: usize, out: &mut [u8], n: usize) -> Step
+    requires { ⌜ (at + 4 ≤ length (now text)) × (getD (now text) (at + 1) 0 ≡ 120) × (n ≤ length (now out)) ⌝ }
+    ensures { λ r. ⌜ Takes (now (text .entry)) at (now (out .entry)) (now (out .exit)) n r ⌝ }
+{
+    if out.len() - n < 1 {
+        return Step::Full;
+    }
+    let a = behind(POINT, text, at + 3);
+    let Number::Is(name, b) = number_at(text, a) else {
+        return Step::Full;
+    };
+    let e = behind(END, text, b);
+    out[n] = (name % 256) as u8;
+    Step::To(e, n + 1)
+}
+
+// Writes the value of a token and passes both its tags.
+fn take_value(text: &[u8], at: usize, out: &mut [u8], n: usize) -> Step
+    requires { ⌜ (at + 4 ≤ length (now text)) × (getD (now text) (at + 1) 0 ≡ 47 → ⊥) × (getD (now text) (at + 1) 0 ≡ 120 → ⊥) × (n ≤ length (now out)) ⌝ }
+    ensures { λ r. ⌜ Takes (now (text .entry)) at (now (out .entry)) (now (out .exit)) n r ⌝ }
+{
+    if out.len() - n < 2 {
+        return Step::Full;
+    }
+    let a = behind(END, text, at + 3);
+    let Number::Is(value, b) = number_at(text, a) else {
+        return Step::Full;
+    };
+    let e = behind(END, text, b);
+    out[n] = (value / 256) as u8;
+    out[n + 1] = (value % 256) as u8;
+    Step::To(e, n + 2)
+}
+
+// Passes a closing tag, or writes what stands at a position.
+fn take(text: &[u8], at: usize, out: &mut [u8], n: usize) -> Step
+    requires { ⌜ (at < length (now text)) × (n ≤ length (now out)) ⌝ }
+    ensures { λ r. ⌜ Takes (now (text .entry)) at (now (out .entry)) (now (out .exit)) n r ⌝ }
+{
+    if text.len() - at < SHORTEST {
+        return Step::Full;
+    }
+    let sign = text[at + 1];
+    if sign == SLASH {
+        return Step::To(behind(END, text, at + 4), n);
+    }
+    if sign == NODE {
+        return take_name(text, at, out, n);
+    }
+    take_value(text, at, out, n)
+}
+
+// Writes the bytes that a text holds, if they have room.
+pub fn write_contents(text: &[u8], out: &mut [u8])
+    ensures { λ r. ⌜ ((v : List ℕ) → Contents (now (text .entry)) v → length v ≤ length (now (out .entry)) → now (out .exit) ≡ spliced (now (out .entry)) 0 v) ⌝ }
+{
+    let mut at = 0;
+    let mut n = 0;
+    while at < text.len() {
+        let Step::To(e, m) = take(text, at, out, n) else {
+            return;
+        };
+        at = e;
+        n = m;
+    }
+}
