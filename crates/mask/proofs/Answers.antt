@@ -1,11 +1,14 @@
 -- What the operation answers: a law for each return of `mask_legal` and `mask`.
-use Prim.Native.Nat.{ℕ, _<_}
-use mathlib.Core.Path.{_≡_, refl, sym, _∙_}
-use mathlib.Core.Bool.{true, false, not}
+use Prim.Native.Nat.{ℕ, _<_, _≤_}
+use mathlib.Core.Path.{_≡_, refl, sym, ap, _∙_}
+use mathlib.Core.Bool.{Bool, true, false, not}
 use mathlib.Core.List.{List, []}
 use mathlib.Core.Option.{some}
 use native.Mathlib.Omega.{arith}
 use lib.ListN.{length}
+use lib.Dec.{leb}
+use borrow.Author.Tests.{leb-true, leb-false}
+use Rattle.fields.proofs.Truth.{false-true}
 use Rattle.fields.specs.Outcome.{value, refused, checked}
 use Rattle.fields.specs.declared.outcome.Outcome.{Outcome}
 use Rattle.fields.specs.declared.outcome.Outcome.the-variants.{Accepted, Refused}
@@ -25,22 +28,33 @@ use Rattle.card.specs.Card.{Card, cardOf}
 use Rattle.card.specs.Inner.Sets.{Holds, lowestOf}
 use Rattle.card.proofs.Trees.{tree-high}
 use Rattle.card.proofs.Refusals.{lowest-accepted, accepted-card, together-refused}
-use Rattle.putting.specs.declared.put.Step.{Step}
-use Rattle.putting.specs.declared.put.Step.the-variants.{To, Full}
-use Rattle.putting.specs.Inner.Passing.{Steps}
-use Rattle.putting.proofs.Answering.{answers-full, answers-done}
+use Rattle.putting.proofs.Answering.{gives-long, gives-fit}
 use Rattle.mask.specs.Mask.{masked}
 use Rattle.mask.specs.Operations.{maskBytes, maskTree}
-use Rattle.mask.specs.Inner.Masking.{MasksTree, GivesMasked}
+use Rattle.mask.specs.Inner.Masking.{MasksWhole, Fits, GivesMasked}
+
+-- has_room
+pub fits-tree : (s index : List ℕ) (kinds k : ℕ) (b : List ℕ) (room : ℕ) → length b ≤ room → Fits s index kinds k b room true
+fits-tree s index kinds k b room h l card a z c f = (λ e i. omega arith, λ e. false-true (sym e))
+
+pub fits-measured : (s index : List ℕ) (kinds k : ℕ) (b : List ℕ) (room : ℕ) {o o₁ : List ℕ} {n : ℕ} → MasksWhole s index kinds k b o o₁ n
+    → Fits s index kinds k b room (leb n room)
+fits-measured s index kinds k b room {n = n} w l card a z c f =
+    let e = w l card a z c f .0 .end in
+    (λ h q. let i = leb-true n room h in omega arith, λ h. let i = leb-false n room h in omega arith)
 
 -- mask_legal
-module _ (s index : List ℕ) (kinds k : ℕ) (b o o₁ : List ℕ) {x : Step} (first : MasksTree false s index kinds k b 0 treeLevels o o₁ 0 x) (steps : Steps false b o o₁ x) where
-  pub legal-full : {out : Outcome} → x ≡ Full → out ≡ Refused Why.OutputTooShort → GivesMasked s index kinds k b o o₁ out
-  legal-full e h l card a z c f = answers-full (masked l card k a) b o o₁ (first l card a [] z c f) steps e h
+module _ (s index : List ℕ) (kinds k : ℕ) (b o : List ℕ) {x : Bool} (room : Fits s index kinds k b (length o) x) where
+  pub legal-long : {out : Outcome} → x ≡ false → out ≡ Refused Why.OutputTooShort → GivesMasked s index kinds k b o o out
+  legal-long e h l card a z c f = gives-long (masked l card k a) o (room l card a z c f .1 e) h
 
-  pub legal-done : {e m : ℕ} → x ≡ To e m → {o₂ : List ℕ} {r : Step} → MasksTree true s index kinds k b 0 treeLevels o₁ o₂ 0 r
-      → {out : Outcome} → out ≡ Accepted m → GivesMasked s index kinds k b o o₂ out
-  legal-done ex second h l card a z c f = answers-done (masked l card k a) b o o₁ (first l card a [] z c f) steps ex (second l card a [] z c f) h
+  pub legal-done : {o′ : List ℕ} {n : ℕ} {out : Outcome} → x ≡ true → MasksWhole s index kinds k b o o′ n → out ≡ Accepted n → GivesMasked s index kinds k b o o′ out
+  legal-done {o′} {n} e w h l card a z c f =
+      let v = masked l card k a in
+      let y = w l card a z c f .0 in
+      let m : n ≡ length v = omega (arith, y .end) in
+      let i : length v ≤ length o = room l card a z c f .0 e (omega (arith, w l card a z c f .1)) in
+      gives-fit v o o′ i (h ∙ ap Accepted m) (y .bytes (omega arith))
 
 -- mask
 module _ (s : List ℕ) (root : ℕ) (c b : List ℕ) where

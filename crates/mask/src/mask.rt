@@ -1,5 +1,5 @@
 // The operation that masks a tree for the holder of a card.
-use crate::walk::mask_at;
+use crate::walk::mask_tree;
 use card::lowest::lowest;
 use card::read::read_card;
 use checks::trees::check_indexed;
@@ -8,15 +8,24 @@ use fields::outcome::Outcome;
 use fields::outcome::Reason;
 use fields::outcome::accept;
 use fields::outcome::refuse;
-use putting::put::Step;
 use reader::index::INDEX;
 ghost use mathlib.Core.Path.{_≡_};
 ghost use Rattle.reader.specs.Inner.Index.{Ready};
 ghost use Rattle.mask.specs.Operations.{maskTree};
-ghost use Rattle.mask.specs.Inner.Masking.{GivesMasked};
+ghost use Rattle.mask.specs.Inner.Masking.{Fits, GivesMasked};
 
-// Trees handed in have at most 64 levels.
-const LEVELS: usize = 64;
+// The masked form of a legal tree has room: it is no longer than the tree, and measured where the tree itself has none.
+fn has_room(language: &[u8], index: &[u16], seen: u32, kind: u8, tree: &[u8], room: usize) -> bool
+    requires { ⌜ Ready (now index) (now language) kind (now tree) 0 ⌝ }
+    ensures { λ r. ⌜ Fits (now (language .entry)) (now (index .entry)) seen kind (now (tree .entry)) room r ⌝ }
+{
+    if tree.len() <= room {
+        return true;
+    }
+    let mut nothing = [0u8; 1];
+    let length = mask_tree(language, index, seen, kind, tree, &mut nothing);
+    length <= room
+}
 
 // The masked form of a legal tree: 17 where it is longer than the output. It is measured before a byte is written.
 fn mask_legal(
@@ -30,33 +39,10 @@ fn mask_legal(
     requires { ⌜ Ready (now index) (now language) kind (now tree) 0 ⌝ }
     ensures { λ r. ⌜ GivesMasked (now (language .entry)) (now (index .entry)) seen kind (now (tree .entry)) (now (output .entry)) (now (output .exit)) (r .outcome) ⌝ }
 {
-    let Step::To(end, length) = mask_at(
-        language,
-        index,
-        seen,
-        kind,
-        tree,
-        0,
-        LEVELS,
-        false,
-        output,
-        0,
-    ) else {
+    if !has_room(language, index, seen, kind, tree, output.len()) {
         return refuse(Reason::OutputTooShort);
-    };
-    mask_at(
-        language,
-        index,
-        seen,
-        kind,
-        tree,
-        0,
-        LEVELS,
-        true,
-        output,
-        0,
-    );
-    accept(length)
+    }
+    accept(mask_tree(language, index, seen, kind, tree, output))
 }
 
 // Mask: the lowest of 1 to 4 for the language and the card, 14 to 16 for the tree, 17 where the masked tree is longer
