@@ -201,11 +201,11 @@ module _ (s index b : List ℕ) (kinds k at : ℕ) (o : List ℕ) (n levels : �
             record { left = y .left; put = puts-same (sym (ap (masked l card k) (d .is) ∙ v)) (puts-then w (y .put)) }
 
 -- Trees one behind the other.
-all-cons : (l : Language) (card : Card) (k : ℕ) (ks : List ℕ) (a : Code) (t : Codes) → maskedAll l card (k ∷ ks) (cons a t) ≡ masked l card k a ++ maskedAll l card ks t
+pub all-cons : (l : Language) (card : Card) (k : ℕ) (ks : List ℕ) (a : Code) (t : Codes) → maskedAll l card (k ∷ ks) (cons a t) ≡ masked l card k a ++ maskedAll l card ks t
 unfolding maskedAll
 all-cons l card k ks a t = refl
 
-all-nil : (l : Language) (card : Card) (ks : List ℕ) → maskedAll l card ks nil ≡ []
+pub all-nil : (l : Language) (card : Card) (ks : List ℕ) → maskedAll l card ks nil ≡ []
 unfolding maskedAll
 all-nil l card ks = refl
 
@@ -276,13 +276,12 @@ Goes s index kinds from stop b at levels o n q end to left o₁ m =
 
 -- mask_tree
 module _ (s index b : List ℕ) (kinds k : ℕ) (o : List ℕ) where
-  pub whole-hidden : {o′ : List ℕ} → ((i : ℕ) → getD b i 0 < 256) → inSet kinds k ≡ false → Puts hiddenBlock o o′ 0 1 → MasksWhole s index kinds k b o o′ 1
-  whole-hidden bytes h w l card a z c f =
-      (puts-same (sym (masked-hidden l card k a (sym (c k) ∙ h))) w, omega (arith, read-some l treeLevels k b a [] bytes f))
+  pub whole-hidden : {o′ : List ℕ} → inSet kinds k ≡ false → Puts hiddenBlock o o′ 0 1 → MasksWhole s index kinds k b o o′ 1
+  whole-hidden h w l card a z c f = puts-same (sym (masked-hidden l card k a (sym (c k) ∙ h))) w
 
   pub whole-not : {o′ : List ℕ} {m : ℕ} → ((l : Language) (a : Code) (rest : List ℕ) → Indexed index s l → read tree l [] treeLevels k b ≡ done a rest → ⊥)
       → MasksWhole s index kinds k b o o′ m
   whole-not none l card a z c f = absurd (none l a [] z f)
 
-  pub whole-is : {o′ : List ℕ} {e m : ℕ} → m ≤ length b → MasksTree s index kinds k b 0 treeLevels o o′ 0 e m → MasksWhole s index kinds k b o o′ m
-  whole-is h w l card a z c f = (w l card a [] z c f .put, h)
+  pub whole-is : {o′ : List ℕ} {e m : ℕ} → MasksTree s index kinds k b 0 treeLevels o o′ 0 e m → MasksWhole s index kinds k b o o′ m
+  whole-is w l card a z c f = w l card a [] z c f .put

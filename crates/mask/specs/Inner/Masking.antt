@@ -1,16 +1,18 @@
 -- The masked form of what stands in bytes, put into an output as far as it has room.
-use Prim.Native.Nat.{ℕ, _+_, _<_, _≤_}
+use Prim.Native.Nat.{ℕ, _+_, _≤_}
 use mathlib.Core.Path.{_≡_}
-use mathlib.Core.Bool.{Bool, true, false}
 use mathlib.Core.List.{List, []}
+use mathlib.Core.Option.{some}
 use lib.ListN.{length, drop}
 use lib.Seq.{slice}
+use Rattle.fields.specs.Outcome.{_>>=_}
 use Rattle.fields.specs.Inner.Writing.{spliced}
 use Rattle.fields.specs.declared.outcome.Outcome.{Outcome}
 use Rattle.language.specs.Language.{Language}
+use Rattle.language.specs.LanguageFile.{entriesOf}
 use Rattle.reader.specs.Code.{Code, Codes}
 use Rattle.reader.specs.Syntax.{done, read, readAll, tree}
-use Rattle.reader.specs.Operations.{treeLevels}
+use Rattle.reader.specs.Operations.{treeLevels, wholeTree, treeOf}
 use Rattle.reader.specs.Inner.Index.{Indexed}
 use Rattle.translation.specs.Operations.{fitted}
 use Rattle.card.specs.Card.{Card}
@@ -46,20 +48,21 @@ MasksTrees s index kinds q p b at levels o o′ n e m =
     → readAll (read tree l [] levels) (slice q p s) (drop at b) ≡ done t rest
     → Masks (maskedAll l card (slice q p s) t) b rest o o′ n e m
 
--- The masked form of the tree of kind k that the bytes b are; it is no longer than they are.
+-- The masked form of the tree of kind k that the bytes b are.
 abbrev pub MasksWhole : List ℕ → List ℕ → ℕ → ℕ → List ℕ → List ℕ → List ℕ → ℕ → Type 0
 MasksWhole s index kinds k b o o′ m =
     (l : Language) (card : Card) (a : Code) → Indexed index s l → Holds kinds card → read tree l [] treeLevels k b ≡ done a []
-    → Puts (masked l card k a) o o′ 0 m × (m ≤ length b)
+    → Puts (masked l card k a) o o′ 0 m
 
--- Whether the masked form of the tree of kind k that the bytes b are has room, where it is no longer than they are.
-abbrev pub Fits : List ℕ → List ℕ → ℕ → ℕ → List ℕ → ℕ → Bool → Type 0
-Fits s index kinds k b room r =
-    (l : Language) (card : Card) (a : Code) → Indexed index s l → Holds kinds card → read tree l [] treeLevels k b ≡ done a []
-    → (r ≡ true → length (masked l card k a) ≤ length b → length (masked l card k a) ≤ room) × (r ≡ false → room < length (masked l card k a))
+-- The outcome, and the output that is left, are those of the masked form of the tree of kind k that the bytes b are, with nothing
+-- after it.
+abbrev pub GivesTree : List ℕ → List ℕ → ℕ → ℕ → List ℕ → List ℕ → List ℕ → Outcome → Type 0
+GivesTree s index kinds k b before after outcome =
+    (l : Language) (card : Card) → Indexed index s l → Holds kinds card
+    → Gives (wholeTree (read tree l [] treeLevels k b) >>= λ t. fitted (length before) (masked l card k t)) before after outcome
 
--- The outcome, and the output that is left, are those of the masked form of the tree of kind k that the bytes b are.
-abbrev pub GivesMasked : List ℕ → List ℕ → ℕ → ℕ → List ℕ → List ℕ → List ℕ → Outcome → Type 0
-GivesMasked s index kinds k b before after outcome =
-    (l : Language) (card : Card) (a : Code) → Indexed index s l → Holds kinds card → read tree l [] treeLevels k b ≡ done a []
-    → Gives (fitted (length before) (masked l card k a)) before after outcome
+-- The same, where it is looked whether the kind is in the language.
+abbrev pub GivesKind : List ℕ → ℕ → ℕ → List ℕ → List ℕ → List ℕ → Outcome → Type 0
+GivesKind s kinds k b before after outcome =
+    (l : Language) (card : Card) → entriesOf s ≡ some l → Holds kinds card
+    → Gives (treeOf l k b >>= λ t. fitted (length before) (masked l card k t)) before after outcome
