@@ -32,7 +32,7 @@ use Rattle.putting.proofs.Reading.{class-known, class-none, production-none, pr
 use Rattle.mask.specs.Mask.{hiddenBlock, masked, maskedAll}
 use Rattle.mask.specs.declared.measure.Measured.{Measured}
 use Rattle.mask.specs.declared.measure.Measured.the-variants.{End, Deep, Broken}
-use Rattle.mask.specs.Inner.Measuring.{Within, Measures, MeasuresToken, MeasuresHidden, MeasuresTree, MeasuresTrees}
+use Rattle.mask.specs.Inner.Measuring.{Within, Measures, MeasuresToken, MeasuresHidden, MeasuresTree, MeasuresTrees, Goes}
 use Rattle.mask.proofs.Masks.{masked-hidden, masked-token, masked-node, read-some, all-cons, all-nil}
 
 -- Answers.
@@ -277,10 +277,10 @@ all-last s index kinds q stop b to levels n ek last there (End e m) step =
 all-last s index kinds q stop b to levels n ek last there Deep step = all-deep s index kinds q stop b to levels n ek (omega arith) there step refl
 all-last s index kinds q stop b to levels n ek last there Broken step = all-broken s index kinds q stop b to levels n ek (omega arith) there step refl
 
--- measure_all, a turn at a time: what the trees that are left come to is what all come to.
-abbrev pub Goes : List ℕ → List ℕ → ℕ → ℕ → ℕ → List ℕ → ℕ → ℕ → ℕ → ℕ → ℕ → ℕ → ℕ → ℕ → Type 0
-Goes s index kinds from stop b at levels n q end to left m =
-    (r : Measured) → MeasuresTrees s index kinds q end b to left m r → MeasuresTrees s index kinds from stop b at levels n r
+-- Nothing is left.
+pub goes-done : (s index : List ℕ) (kinds from stop : ℕ) (b : List ℕ) (at levels n q to m : ℕ) → Goes s index kinds from stop b at levels n q stop to levels m → stop ≤ q
+    → MeasuresTrees s index kinds from stop b at levels n (End to m)
+goes-done s index kinds from stop b at levels n q to m g h = g (End to m) (all-done s index kinds q stop b to levels m h)
 
 -- The class of a kind stands in the language.
 pub class-there : (index s : List ℕ) → Sound index s → {j k class : ℕ} → j ≡ k → k < 32 → class ≡ getD index j 0 → (class ≡ 0 → ⊥) → (0 < class) × IsClass s (class - 1)
