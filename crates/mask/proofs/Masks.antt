@@ -13,8 +13,8 @@ use Rattle.fields.specs.Fields.{pairAt, twoBytes}
 use Rattle.fields.specs.Inner.Writing.{spliced}
 use Rattle.fields.proofs.Truth.{by-test}
 use Rattle.fields.proofs.Lists.{part-done, part-next}
-use Rattle.fields.proofs.Codec.{Bytes, bytes-from}
-use Rattle.fields.proofs.Splices.{opened, splice-splice, length-spliced, nothing-spliced}
+use Rattle.fields.proofs.Codec.{bytes-from}
+use Rattle.fields.proofs.Splices.{splice-splice, length-spliced, nothing-spliced}
 use Rattle.language.specs.Language.{Language, argumentsOf}
 use Rattle.reader.specs.Code.{Code, node, token, argument, Codes, nil, cons}
 use Rattle.reader.specs.Syntax.{done, tree, write, readAll, read}
@@ -29,10 +29,10 @@ use Rattle.reader.proofs.Laws.{name-in, kinds-in}
 use Rattle.reader.proofs.Sound.{read-done}
 use Rattle.checks.proofs.TreeChain.{no-uses}
 use Rattle.card.specs.Card.{Card, sees}
-use Rattle.card.specs.Inner.Sets.{inSet, Holds}
-use Rattle.putting.proofs.Reading.{ReadNode, two, read-token, read-deep, read-production, found-name, same-done, then-done}
+use Rattle.card.specs.Inner.Sets.{inSet}
+use Rattle.putting.proofs.Reading.{two, read-token, read-deep, read-production, found-name, same-done, then-done}
 use Rattle.mask.specs.Mask.{hiddenBlock, masked, maskedAll}
-use Rattle.mask.specs.Inner.Masking.{Puts, EndsTree, Masks, MasksTree, MasksTrees, Goes, MasksWhole}
+use Rattle.mask.specs.Inner.Masking.{Puts, EndsTree, MasksTree, MasksTrees, Goes, MasksWhole}
 
 -- Texts put one behind the other, and the same text said in another way.
 pub puts-same : {v u o o′ : List ℕ} {n m : ℕ} → v ≡ u → Puts v o o′ n m → Puts u o o′ n m

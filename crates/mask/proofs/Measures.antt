@@ -2,14 +2,14 @@
 use Prim.Native.Nat.{ℕ, suc, _+_, _*_, _-_, _<_, _≤_}
 use mathlib.Core.Path.{_≡_, refl, sym, ap, _∙_}
 use mathlib.Core.Bool.{Bool, true, false, cond}
-use mathlib.Core.List.{List, [], _∷_, _++_}
+use mathlib.Core.List.{List, [], _∷_}
 use mathlib.Core.Option.{Option, some}
 use native.Mathlib.Omega.{arith}
 use lib.ListN.{length, getD, drop, length-append, length-drop, drop-of-length-le}
 use lib.Seq.{slice, getD-drop}
 use lib.Dec.{leb, eqb}
 use borrow.Author.Tests.{leb-true, leb-false, eq-eqb}
-use Rattle.fields.specs.Fields.{pairAt, twoBytes}
+use Rattle.fields.specs.Fields.{pairAt}
 use Rattle.fields.proofs.Truth.{by-test}
 use Rattle.fields.proofs.Lists.{part-done, part-next}
 use Rattle.fields.proofs.Split.{front}
@@ -26,10 +26,10 @@ use Rattle.reader.specs.declared.node.Syntax.the-variants.{Tree}
 use Rattle.reader.proofs.Laws.{name-in, kinds-in, class-in}
 use Rattle.reader.proofs.Meaning.{done-of, deep-of, broken-of}
 use Rattle.checks.proofs.TreeChain.{no-uses}
-use Rattle.card.specs.Card.{Card, sees}
-use Rattle.card.specs.Inner.Sets.{inSet, Holds}
+use Rattle.card.specs.Card.{Card}
+use Rattle.card.specs.Inner.Sets.{inSet}
 use Rattle.putting.proofs.Reading.{class-known, class-none, production-none, production-known, found-name, two, read-class, read-node, read-past, token-cut}
-use Rattle.mask.specs.Mask.{hiddenBlock, masked, maskedAll}
+use Rattle.mask.specs.Mask.{masked, maskedAll}
 use Rattle.mask.specs.declared.measure.Measured.{Measured}
 use Rattle.mask.specs.declared.measure.Measured.the-variants.{End, Deep, Broken}
 use Rattle.mask.specs.Inner.Measuring.{Within, Measures, MeasuresToken, MeasuresHidden, MeasuresTree, MeasuresTrees, Goes}
