@@ -8,12 +8,13 @@ use native.Mathlib.Omega.{arith}
 use lib.ListN.{length, getD, set, take, drop, length-append, length-drop}
 use lib.Seq.{slice, sets, sets-eq, getD-drop}
 use lib.Dec.{eqb}
+use borrow.Author.Tests.{ne-eqb}
 use Rattle.fields.specs.Fields.{pairAt, twoBytes}
 use Rattle.fields.specs.Inner.Writing.{spliced}
 use Rattle.fields.proofs.Truth.{by-test}
 use Rattle.fields.proofs.Lists.{part-done, part-next}
-use Rattle.fields.proofs.Codec.{Bytes, bytes-from}
-use Rattle.fields.proofs.Splices.{opened, splice-splice, length-spliced, nothing-spliced}
+use Rattle.fields.proofs.Codec.{bytes-from}
+use Rattle.fields.proofs.Splices.{splice-splice, length-spliced, nothing-spliced}
 use Rattle.language.specs.Language.{Language, argumentsOf}
 use Rattle.reader.specs.Code.{Code, node, token, argument, Codes, nil, cons}
 use Rattle.reader.specs.Syntax.{done, tree, write, readAll, read}
@@ -28,10 +29,10 @@ use Rattle.reader.proofs.Laws.{name-in, kinds-in}
 use Rattle.reader.proofs.Sound.{read-done}
 use Rattle.checks.proofs.TreeChain.{no-uses}
 use Rattle.card.specs.Card.{Card, sees}
-use Rattle.card.specs.Inner.Sets.{inSet, Holds}
-use Rattle.putting.proofs.Reading.{ReadNode, two, read-token, read-deep, read-production, found-name, same-done, then-done}
+use Rattle.card.specs.Inner.Sets.{inSet}
+use Rattle.putting.proofs.Reading.{two, read-token, read-deep, read-production, found-name, same-done, then-done}
 use Rattle.mask.specs.Mask.{hiddenBlock, masked, maskedAll}
-use Rattle.mask.specs.Inner.Masking.{Puts, EndsTree, Masks, MasksTree, MasksTrees, MasksWhole}
+use Rattle.mask.specs.Inner.Masking.{Puts, EndsTree, MasksTree, MasksTrees, Goes, MasksWhole}
 
 -- Texts put one behind the other, and the same text said in another way.
 pub puts-same : {v u o o′ : List ℕ} {n m : ℕ} → v ≡ u → Puts v o o′ n m → Puts u o o′ n m
@@ -200,6 +201,10 @@ module _ (s index b : List ℕ) (kinds k at : ℕ) (o : List ℕ) (n levels : �
             let y = all l card (d .operands) rest z c (d .reads) in
             record { left = y .left; put = puts-same (sym (ap (masked l card k) (d .is) ∙ v)) (puts-then w (y .put)) }
 
+-- A class has no production.
+pub no-place : (class x : ℕ) → (class ≡ 0 → ⊥) → 0 ≡ cond (eqb class 0) x 0
+no-place class x h = ap (λ (y : Bool). cond y x 0) (sym (ne-eqb class 0 h))
+
 -- Trees one behind the other.
 pub all-cons : (l : Language) (card : Card) (k : ℕ) (ks : List ℕ) (a : Code) (t : Codes) → maskedAll l card (k ∷ ks) (cons a t) ≡ masked l card k a ++ maskedAll l card ks t
 unfolding maskedAll
@@ -269,10 +274,10 @@ pub all-last : (s index : List ℕ) (kinds q stop : ℕ) (b : List ℕ) (to leve
 all-last s index kinds q stop b to levels o n ek last there {o₁} {e} {m} step =
     all-next s index kinds q stop b to levels o n ek (omega arith) there step (all-done s index kinds (q + 1) stop b e levels o₁ m (omega arith))
 
--- mask_all, a turn at a time: what is put for the trees that are left completes what is put for all.
-abbrev pub Goes : List ℕ → List ℕ → ℕ → ℕ → ℕ → List ℕ → ℕ → ℕ → List ℕ → ℕ → ℕ → ℕ → ℕ → ℕ → List ℕ → ℕ → Type 0
-Goes s index kinds from stop b at levels o n q end to left o₁ m =
-    (o₂ : List ℕ) (e h : ℕ) → MasksTrees s index kinds q end b to left o₁ o₂ m e h → MasksTrees s index kinds from stop b at levels o o₂ n e h
+-- Nothing is left.
+pub goes-done : (s index : List ℕ) (kinds from stop : ℕ) (b : List ℕ) (at levels : ℕ) (o : List ℕ) (n q to : ℕ) (o₁ : List ℕ) (m : ℕ)
+    → Goes s index kinds from stop b at levels o n q stop to levels o₁ m → stop ≤ q → MasksTrees s index kinds from stop b at levels o o₁ n to m
+goes-done s index kinds from stop b at levels o n q to o₁ m g h = g o₁ to m (all-done s index kinds q stop b to levels o₁ m h)
 
 -- mask_tree
 module _ (s index b : List ℕ) (kinds k : ℕ) (o : List ℕ) where

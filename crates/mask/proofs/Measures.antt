@@ -2,14 +2,14 @@
 use Prim.Native.Nat.{ℕ, suc, _+_, _*_, _-_, _<_, _≤_}
 use mathlib.Core.Path.{_≡_, refl, sym, ap, _∙_}
 use mathlib.Core.Bool.{Bool, true, false, cond}
-use mathlib.Core.List.{List, [], _∷_, _++_}
+use mathlib.Core.List.{List, [], _∷_}
 use mathlib.Core.Option.{Option, some}
 use native.Mathlib.Omega.{arith}
 use lib.ListN.{length, getD, drop, length-append, length-drop, drop-of-length-le}
 use lib.Seq.{slice, getD-drop}
 use lib.Dec.{leb, eqb}
 use borrow.Author.Tests.{leb-true, leb-false, eq-eqb}
-use Rattle.fields.specs.Fields.{pairAt, twoBytes}
+use Rattle.fields.specs.Fields.{pairAt}
 use Rattle.fields.proofs.Truth.{by-test}
 use Rattle.fields.proofs.Lists.{part-done, part-next}
 use Rattle.fields.proofs.Split.{front}
@@ -26,13 +26,13 @@ use Rattle.reader.specs.declared.node.Syntax.the-variants.{Tree}
 use Rattle.reader.proofs.Laws.{name-in, kinds-in, class-in}
 use Rattle.reader.proofs.Meaning.{done-of, deep-of, broken-of}
 use Rattle.checks.proofs.TreeChain.{no-uses}
-use Rattle.card.specs.Card.{Card, sees}
-use Rattle.card.specs.Inner.Sets.{inSet, Holds}
+use Rattle.card.specs.Card.{Card}
+use Rattle.card.specs.Inner.Sets.{inSet}
 use Rattle.putting.proofs.Reading.{class-known, class-none, production-none, production-known, found-name, two, read-class, read-node, read-past, token-cut}
-use Rattle.mask.specs.Mask.{hiddenBlock, masked, maskedAll}
+use Rattle.mask.specs.Mask.{masked, maskedAll}
 use Rattle.mask.specs.declared.measure.Measured.{Measured}
 use Rattle.mask.specs.declared.measure.Measured.the-variants.{End, Deep, Broken}
-use Rattle.mask.specs.Inner.Measuring.{Within, Measures, MeasuresToken, MeasuresHidden, MeasuresTree, MeasuresTrees}
+use Rattle.mask.specs.Inner.Measuring.{Within, Measures, MeasuresToken, MeasuresHidden, MeasuresTree, MeasuresTrees, Goes}
 use Rattle.mask.proofs.Masks.{masked-hidden, masked-token, masked-node, read-some, all-cons, all-nil}
 
 -- Answers.
@@ -277,10 +277,10 @@ all-last s index kinds q stop b to levels n ek last there (End e m) step =
 all-last s index kinds q stop b to levels n ek last there Deep step = all-deep s index kinds q stop b to levels n ek (omega arith) there step refl
 all-last s index kinds q stop b to levels n ek last there Broken step = all-broken s index kinds q stop b to levels n ek (omega arith) there step refl
 
--- measure_all, a turn at a time: what the trees that are left come to is what all come to.
-abbrev pub Goes : List ℕ → List ℕ → ℕ → ℕ → ℕ → List ℕ → ℕ → ℕ → ℕ → ℕ → ℕ → ℕ → ℕ → ℕ → Type 0
-Goes s index kinds from stop b at levels n q end to left m =
-    (r : Measured) → MeasuresTrees s index kinds q end b to left m r → MeasuresTrees s index kinds from stop b at levels n r
+-- Nothing is left.
+pub goes-done : (s index : List ℕ) (kinds from stop : ℕ) (b : List ℕ) (at levels n q to m : ℕ) → Goes s index kinds from stop b at levels n q stop to levels m → stop ≤ q
+    → MeasuresTrees s index kinds from stop b at levels n (End to m)
+goes-done s index kinds from stop b at levels n q to m g h = g (End to m) (all-done s index kinds q stop b to levels m h)
 
 -- The class of a kind stands in the language.
 pub class-there : (index s : List ℕ) → Sound index s → {j k class : ℕ} → j ≡ k → k < 32 → class ≡ getD index j 0 → (class ≡ 0 → ⊥) → (0 < class) × IsClass s (class - 1)

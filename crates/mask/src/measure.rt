@@ -10,19 +10,27 @@ use reader::node::place_at;
 use reader::node::production_place;
 use reader::read::read;
 ghost use mathlib.Core.Option.{some};
-ghost use Prim.Native.Nat.{_-_, _<_, _≤_};
+ghost use Prim.Native.Nat.{ℕ, _-_, _<_, _≤_};
 ghost use lib.ListN.{length, drop};
 ghost use Rattle.language.specs.Inner.Entries.{IsClass, classRange};
 ghost use Rattle.reader.specs.Syntax.{readToken};
 ghost use Rattle.reader.specs.Inner.Index.{Sound, Ready};
 ghost use Rattle.reader.specs.Inner.Positions.{KindsIn};
-ghost use Rattle.mask.specs.Inner.Measuring.{Within, MeasuresToken, MeasuresHidden, MeasuresTree, MeasuresTrees};
+ghost use Rattle.mask.specs.Inner.Measuring.{Within, MeasuresToken, MeasuresHidden, MeasuresTree, MeasuresTrees, Goes};
 
 // The position behind trees and the length of their masked forms; one level too many; or bytes that are no tree.
 pub enum Measured {
     End(usize, usize),
     Deep,
     Broken,
+}
+
+// How far a row of trees is measured: where the next kind stands in the language, where its tree starts, and the length so
+// far.
+pub struct Passed {
+    pub kind: usize,
+    pub tree: usize,
+    pub text: usize,
 }
 
 // The levels of a tree, and those below its root.
@@ -81,8 +89,57 @@ fn measure_hidden(
     }
 }
 
+// Measures the tokens that a row of trees starts with, whose kinds stand in the language from `from` up to `stop`.
+fn measure_tokens(
+    language: &[u8],
+    index: &[u16],
+    seen: u32,
+    from: usize,
+    stop: usize,
+    tree: &[u8],
+    at: usize,
+    n: usize,
+) -> Passed
+    requires { ⌜ Sound (now index) (now language) × KindsIn (now language) from stop × (at ≤ length (now tree)) × (n ≤ at) ⌝ }
+    ensures { λ r. ⌜ (from ≤ r .kind) × (r .tree ≤ length (now (tree .entry))) × (r .text ≤ r .tree)
+        × ((levels : ℕ) → Goes (now (language .entry)) (now (index .entry)) seen from stop (now (tree .entry)) at levels n (r .kind) stop (r .tree) levels (r .text))
+        × (stop ≤ r .kind → (levels : ℕ) → MeasuresTrees (now (language .entry)) (now (index .entry)) seen from stop (now (tree .entry)) at levels n (Measured.End (r .tree) (r .text))) ⌝ }
+{
+    let mut q = from;
+    let mut to = at;
+    let mut m = n;
+    while q < stop {
+        let kind = language[q];
+        let class = place_at(index, to_usize(kind));
+        if class == 0 {
+            return Passed {
+                kind: q,
+                tree: to,
+                text: m,
+            };
+        }
+        let Measured::End(e, k) = measure_token(language, class, in_set(seen, kind), tree, to, m)
+        else {
+            return Passed {
+                kind: q,
+                tree: to,
+                text: m,
+            };
+        };
+        to = e;
+        m = k;
+        q += 1;
+    }
+    Passed {
+        kind: q,
+        tree: to,
+        text: m,
+    }
+}
+
 // The trees whose kinds stand in the language from `from` up to `stop`, one after the other. Tokens are measured here,
-// other trees one call deeper; behind the last one nothing is left to do, so its arguments are measured here.
+// and those that the arguments of another tree start with; its other arguments one call deeper. Behind the last tree nothing
+// is left to do, so its arguments are measured here.
 fn measure_all(
     language: &[u8],
     index: &[u16],
@@ -151,16 +208,31 @@ fn measure_all(
                 end = last;
                 left -= 1;
             } else if first < last {
-                match measure_all(language, index, seen, first, last, tree, to, left - 1, m) {
-                    Measured::End(e, k) => {
-                        to = e;
-                        m = k;
-                    }
-                    Measured::Deep => {
-                        return Measured::Deep;
-                    }
-                    Measured::Broken => {
-                        return Measured::Broken;
+                let row = measure_tokens(language, index, seen, first, last, tree, to, m);
+                to = row.tree;
+                m = row.text;
+                if row.kind < last {
+                    match measure_all(
+                        language,
+                        index,
+                        seen,
+                        row.kind,
+                        last,
+                        tree,
+                        to,
+                        left - 1,
+                        m,
+                    ) {
+                        Measured::End(e, k) => {
+                            to = e;
+                            m = k;
+                        }
+                        Measured::Deep => {
+                            return Measured::Deep;
+                        }
+                        Measured::Broken => {
+                            return Measured::Broken;
+                        }
                     }
                 }
             }

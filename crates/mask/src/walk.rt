@@ -10,12 +10,12 @@ use reader::node::production_place;
 use reader::read::read;
 ghost use mathlib.Core.Bool.{cond};
 ghost use mathlib.Core.List.{[], _∷_};
-ghost use Prim.Native.Nat.{_+_, _≤_};
+ghost use Prim.Native.Nat.{ℕ, _+_, _≤_};
 ghost use lib.ListN.{length, drop, take};
 ghost use Rattle.reader.specs.Inner.Index.{Sound, Ready};
 ghost use Rattle.reader.specs.Inner.Positions.{KindsIn};
 ghost use Rattle.mask.specs.Mask.{hiddenBlock};
-ghost use Rattle.mask.specs.Inner.Masking.{Puts, EndsTree, MasksTrees, MasksWhole};
+ghost use Rattle.mask.specs.Inner.Masking.{Puts, EndsTree, MasksTrees, Goes, MasksWhole};
 
 // The byte that stands for a hidden block.
 const HIDDEN: u8 = 0xFF;
@@ -25,6 +25,14 @@ const BELOW: usize = 63;
 
 // Where trees end, and where their masked forms do.
 pub struct Ends {
+    pub tree: usize,
+    pub text: usize,
+}
+
+// How far a row of trees is put: where the next kind stands in the language, where its tree starts, and where its masked
+// form will.
+pub struct Reached {
+    pub kind: usize,
     pub tree: usize,
     pub text: usize,
 }
@@ -68,9 +76,56 @@ fn put_token(seen: bool, tree: &[u8], at: usize, out: &mut [u8], n: usize) -> us
     n + 2
 }
 
+// Puts the tokens that a row of trees starts with, whose kinds stand in the language from `from` up to `stop`.
+fn put_tokens(
+    language: &[u8],
+    index: &[u16],
+    seen: u32,
+    from: usize,
+    stop: usize,
+    tree: &[u8],
+    at: usize,
+    out: &mut [u8],
+    n: usize,
+) -> Reached
+    requires { ⌜ Sound (now index) (now language) × KindsIn (now language) from stop × (at ≤ length (now tree)) × (n ≤ at) ⌝ }
+    ensures { λ r. ⌜ (from ≤ r .kind) × (r .tree ≤ length (now (tree .entry))) × (r .text ≤ r .tree)
+        × ((levels : ℕ) → Goes (now (language .entry)) (now (index .entry)) seen from stop (now (tree .entry)) at levels (now (out .entry)) n (r .kind) stop (r .tree) levels (now (out .exit)) (r .text))
+        × (stop ≤ r .kind → (levels : ℕ) → MasksTrees (now (language .entry)) (now (index .entry)) seen from stop (now (tree .entry)) at levels (now (out .entry)) (now (out .exit)) n (r .tree) (r .text)) ⌝ }
+{
+    let mut q = from;
+    let mut to = at;
+    let mut m = n;
+    while q < stop {
+        let kind = language[q];
+        if place_at(index, to_usize(kind)) == 0 {
+            return Reached {
+                kind: q,
+                tree: to,
+                text: m,
+            };
+        }
+        if tree.len() - to < 2 {
+            return Reached {
+                kind: q,
+                tree: to,
+                text: m,
+            };
+        }
+        m = put_token(in_set(seen, kind), tree, to, out, m);
+        to += 2;
+        q += 1;
+    }
+    Reached {
+        kind: q,
+        tree: to,
+        text: m,
+    }
+}
+
 // Puts the masked forms of the trees whose kinds stand in the language from `from` up to `stop`, one after the other.
-// Tokens are put here, other trees one call deeper; behind the last one nothing is left to do, so its arguments are put
-// here.
+// Tokens are put here, and those that the arguments of another tree start with; its other arguments one call deeper. Behind
+// the last tree nothing is left to do, so its arguments are put here.
 fn mask_all(
     language: &[u8],
     index: &[u16],
@@ -127,20 +182,25 @@ fn mask_all(
                 end = last;
                 left -= 1;
             } else if first < last {
-                let inner = mask_all(
-                    language,
-                    index,
-                    seen,
-                    first,
-                    last,
-                    tree,
-                    to,
-                    left - 1,
-                    out,
-                    m,
-                );
-                to = inner.tree;
-                m = inner.text;
+                let row = put_tokens(language, index, seen, first, last, tree, to, out, m);
+                to = row.tree;
+                m = row.text;
+                if row.kind < last {
+                    let inner = mask_all(
+                        language,
+                        index,
+                        seen,
+                        row.kind,
+                        last,
+                        tree,
+                        to,
+                        left - 1,
+                        out,
+                        m,
+                    );
+                    to = inner.tree;
+                    m = inner.text;
+                }
             }
         }
     }

@@ -48,6 +48,11 @@ MasksTrees s index kinds q p b at levels o o′ n e m =
     → readAll (read tree l [] levels) (slice q p s) (drop at b) ≡ done t rest
     → Masks (maskedAll l card (slice q p s) t) b rest o o′ n e m
 
+-- What is put for the trees that are left, whose kinds stand from q up to p, completes what is put for all.
+abbrev pub Goes : List ℕ → List ℕ → ℕ → ℕ → ℕ → List ℕ → ℕ → ℕ → List ℕ → ℕ → ℕ → ℕ → ℕ → ℕ → List ℕ → ℕ → Type 0
+Goes s index kinds from stop b at levels o n q p to left o₁ m =
+    (o₂ : List ℕ) (e h : ℕ) → MasksTrees s index kinds q p b to left o₁ o₂ m e h → MasksTrees s index kinds from stop b at levels o o₂ n e h
+
 -- The masked form of the tree of kind k that the bytes b are.
 abbrev pub MasksWhole : List ℕ → List ℕ → ℕ → ℕ → List ℕ → List ℕ → List ℕ → ℕ → Type 0
 MasksWhole s index kinds k b o o′ m =

@@ -44,3 +44,8 @@ abbrev pub MeasuresTrees : List ℕ → List ℕ → ℕ → ℕ → ℕ → Lis
 MeasuresTrees s index kinds q p b at levels n r =
     (l : Language) (card : Card) → Indexed index s l → Holds kinds card
     → Measures (maskedAll l card (slice q p s)) (readAll (read tree l [] levels) (slice q p s) (drop at b)) b n r
+
+-- What the trees that are left come to, whose kinds stand from q up to p, is what all come to.
+abbrev pub Goes : List ℕ → List ℕ → ℕ → ℕ → ℕ → List ℕ → ℕ → ℕ → ℕ → ℕ → ℕ → ℕ → ℕ → ℕ → Type 0
+Goes s index kinds from stop b at levels n q p to left m =
+    (r : Measured) → MeasuresTrees s index kinds q p b to left m r → MeasuresTrees s index kinds from stop b at levels n r
