@@ -19,76 +19,83 @@ use Rattle.language.specs.LanguageFile.{entriesOf}
 use Rattle.language.specs.Inner.Entries.{entryAt, classRange}
 use Rattle.language.proofs.Holds.{holds-entries}
 use Rattle.reader.specs.Code.{Code, node, token, Codes, nil, cons}
-use Rattle.reader.specs.Syntax.{Read, done, deep, broken, andThen, readAll, write, writeAll, tree}
-use Rattle.reader.specs.Inner.Index.{Indexed}
-use Rattle.xml.specs.Import.{readOpening, readClosing, readToken, readOperands, readElement, readText}
+use Rattle.reader.specs.Syntax.{Read, done, deep, broken, andThen, readAll}
+use Rattle.reader.specs.Inner.Index.{Sound, Indexed}
+use Rattle.reader.specs.Inner.Positions.{KindsIn}
+use Rattle.reader.proofs.Laws.{name-in, kinds-in}
+use Rattle.xml.specs.Text.{decimal, closeNode, nodeTag}
+use Rattle.xml.specs.Import.{readWord, readOpening, readClosing, readToken, readOperands, readElement, readText}
 use Rattle.xml.specs.declared.scan.Place.{Place}
 use Rattle.xml.specs.declared.scan.Place.the-variants.{At, Nothing}
 use Rattle.xml.specs.declared.scan.Number.{Number}
 use Rattle.xml.specs.declared.scan.Number.the-variants as N
 use Rattle.xml.specs.declared.import.Text.{Text}
 use Rattle.xml.specs.declared.import.Text.the-variants.{End, Deep, Broken}
-use Rattle.xml.specs.Inner.Scanning.{Stands, Numbers, Tokens}
-use Rattle.xml.specs.Inner.Importing.{Inside, Imports, ImportsTree, ImportsTrees, placeOf}
-use Rattle.xml.proofs.Round.{class-text, no-class}
+use Rattle.xml.specs.Inner.Scanning.{closes, Stands, Numbers, Tokens}
+use Rattle.xml.specs.Inner.Importing.{Inside, Imports, Closed, ImportsTree, ImportsTrees, placeOf}
+use Rattle.xml.proofs.Round.{class-text, no-class, opening-sound}
+use Rattle.xml.proofs.Words.{closing-word}
 use Rattle.putting.proofs.Reading.{class-known, class-none, production-none, production-known}
-use Rattle.xml.proofs.Scans.{no-number, number-at}
+use Rattle.xml.proofs.Scans.{no-number, number-at, closes-tag}
 
 -- Answers.
-not-end : {e m : ℕ} {A : Type 0} → Deep ≡ End e m → A
+not-end : {e : ℕ} {A : Type 0} → Deep ≡ End e → A
 not-end h = let z : _≡_ {A = ℕ} 0 1 = cc in absurd (omega arith)
 
-broken-end : {e m : ℕ} {A : Type 0} → Broken ≡ End e m → A
+broken-end : {e : ℕ} {A : Type 0} → Broken ≡ End e → A
 broken-end h = let z : _≡_ {A = ℕ} 0 1 = cc in absurd (omega arith)
 
 deep-broken : {A : Type 0} → Deep ≡ Broken → A
 deep-broken h = let z : _≡_ {A = ℕ} 0 1 = cc in absurd (omega arith)
 
-end-same : {e m d k : ℕ} → End e m ≡ End d k → (e ≡ d) × (m ≡ k)
-end-same h = (cc, cc)
+end-same : {e d : ℕ} → End e ≡ End d → e ≡ d
+end-same h = cc
 
 pub inside-deep : (text : List ℕ) → Inside text Deep
-inside-deep text e m h = not-end h
+inside-deep text e h = not-end h
 
 pub inside-broken : (text : List ℕ) → Inside text Broken
-inside-broken text e m h = broken-end h
+inside-broken text e h = broken-end h
 
-pub inside-end : (text : List ℕ) (e m : ℕ) → e ≤ length text → m ≤ e → Inside text (End e m)
-inside-end text e m h i d k q = let w = end-same q in (omega (arith, w .0), omega (arith, w .0, w .1))
+pub inside-end : (text : List ℕ) (e : ℕ) → e ≤ length text → Inside text (End e)
+inside-end text e h d q = let w = end-same q in omega arith
 
-module _ {A : Type 0} {bytes : A → List ℕ} {p : Read A} {text : List ℕ} {n : ℕ} where
-  pub imports-deep : p ≡ deep → Imports bytes p text n Deep
-  imports-deep h = record { found = λ e m q. not-end q; deep = λ q. h; broken = λ q. deep-broken q }
+module _ {A : Type 0} {p : Read A} {text : List ℕ} where
+  pub imports-deep : p ≡ deep → Imports p text Deep
+  imports-deep h = record { found = λ e q. not-end q; deep = λ q. h; broken = λ q. deep-broken q }
 
-  pub imports-broken : p ≡ broken → Imports bytes p text n Broken
-  imports-broken h = record { found = λ e m q. broken-end q; deep = λ q. deep-broken (sym q); broken = λ q. h }
+  pub imports-broken : p ≡ broken → Imports p text Broken
+  imports-broken h = record { found = λ e q. broken-end q; deep = λ q. deep-broken (sym q); broken = λ q. h }
 
-  pub imports-end : {e m : ℕ} (a : A) → p ≡ done a (drop e text) → m ≡ n + length (bytes a) → Imports bytes p text n (End e m)
-  imports-end {e} {m} a h s = record {
-    found = λ d k q. let w = end-same q in rw (← w .0, ← w .1) (a, h, s);
+  pub imports-end : {e : ℕ} (a : A) → p ≡ done a (drop e text) → Imports p text (End e)
+  imports-end {e} a h = record {
+    found = λ d q. let w = end-same q in (a, h ∙ ap (λ (n : ℕ). done a (drop n text)) w);
     deep = λ q. not-end (sym q);
     broken = λ q. broken-end (sym q);
   }
 
-  pub imports-same : {q : Read A} {r : Text} → p ≡ q → Imports bytes p text n r → Imports bytes q text n r
+  pub imports-same : {q : Read A} {r : Text} → p ≡ q → Imports p text r → Imports q text r
   imports-same e w = rw (← e) w
 
 -- text_token
-module _ (k : ℕ) (c : Range) (text : List ℕ) (at n : ℕ) {j : ℕ} (ej : j ≡ k) {x : Number} (token-is : Tokens (readToken j c (drop at text)) text (at + 2) x) where
-  same-kind : Tokens (readToken k c (drop at text)) text (at + 2) x
-  same-kind = rw (← ej) token-is
+module _ (k : ℕ) (c : Range) (text : List ℕ) (at : ℕ) {x : Number} (token-is : Tokens (readToken k c (drop at text)) text (at + 2) x) where
+  pub token-broken : x ≡ N.Nothing → Inside text Broken × Imports (readToken k c (drop at text)) text Broken
+  token-broken h = (inside-broken text, imports-broken (token-is .nothing h))
 
-  pub token-broken : x ≡ N.Nothing → Inside text Broken × Imports (write tree) (readToken k c (drop at text)) text n Broken
-  token-broken h = (inside-broken text, imports-broken (same-kind .nothing h))
+  pub token-end : {v e : ℕ} → x ≡ N.Is v e → Inside text (End e) × Imports (readToken k c (drop at text)) text (End e)
+  token-end {v} {e} h = (inside-end text e (token-is .reached v e h .inside), imports-end (token v) (token-is .found v e h))
 
-  pub token-past : {v e : ℕ} → x ≡ N.Is v e → (at + 2 ≤ e) × (e ≤ length text)
-  token-past {v} {e} h = let w = token-is .reached v e h in (w .past, w .inside)
+-- text_end
+module _ {p : Read (Unit {0})} {text : List ℕ} {at : ℕ} {x : Place} (w : Stands p text at x) where
+  pub end-broken : x ≡ Nothing → Closed p text Broken
+  end-broken h = record { found = λ e q. broken-end q; shallow = λ q. deep-broken (sym q); broken = λ q. w .nothing h }
 
-  pub token-end : {v e : ℕ} → x ≡ N.Is v e → n ≤ at → Inside text (End e (n + 2)) × Imports (write tree) (readToken k c (drop at text)) text n (End e (n + 2))
-  unfolding write
-  token-end {v} {e} h i =
-      let w = token-past h in
-      (inside-end text e (n + 2) (w .1) (omega (arith, w .0)), imports-end (token v) (same-kind .found v e h) refl)
+  pub end-done : {e : ℕ} → x ≡ At e → Closed p text (End e)
+  end-done {e} h = record {
+    found = λ d q. let z = end-same q in rw (← z) (w .found e h, w .reached e h .inside);
+    shallow = λ q. not-end (sym q);
+    broken = λ q. broken-end (sym q);
+  }
 
 -- place_of
 pub place-large : (index : List ℕ) (k p : ℕ) → 255 < p → 0 ≡ placeOf index k p
@@ -124,22 +131,86 @@ module _ (s : List ℕ) (l : Language) (e : entriesOf s ≡ some l) (bytes : (i 
       go none f = refl
       go (some ks) f = let w = name-small k p ks f in absurd (omega arith)
 
+-- texts_at, a turn at a time: `before` puts what was read in front of what is left to read.
+pub record Going (kinds text : List ℕ) (from stop at levels q to : ℕ) (l : Language) : Type 0 where
+  pub before : Codes → Codes
+  pub reads : readAll (readText l levels) (slice from stop kinds) (drop at text)
+      ≡ (andThen (readAll (readText l levels) (slice q stop kinds) (drop to text)) λ t r. done (before t) r)
+
+then-id : {A : Type 0} (p : Read A) → p ≡ (andThen p λ a r. done a r)
+then-id (done a r) = refl
+then-id deep = refl
+then-id broken = refl
+
+then-made : {A B C : Type 0} (p : Read A) (f : A → B) (g : B → C) → (andThen (andThen p λ a r. done (f a) r) λ b r. done (g b) r) ≡ (andThen p λ a r. done (g (f a)) r)
+then-made (done a r) f g = refl
+then-made deep f g = refl
+then-made broken f g = refl
+
+abbrev pub Goes : List ℕ → List ℕ → List ℕ → ℕ → ℕ → List ℕ → ℕ → ℕ → ℕ → ℕ → Type 0
+Goes kinds s index from stop text at levels q to = (l : Language) → Indexed index s l → Going kinds text from stop at levels q to l
+
+module _ (kinds s index : List ℕ) (from stop : ℕ) (text : List ℕ) (at levels : ℕ) where
+  pub goes-start : Goes kinds s index from stop text at levels from at
+  goes-start l z = record { before = λ t. t; reads = then-id (readAll (readText l levels) (slice from stop kinds) (drop at text)) }
+
+  module _ {q to : ℕ} (goes : Goes kinds s index from stop text at levels q to) where
+    pub goes-done : stop ≤ q → ImportsTrees kinds s index from stop text at levels (End to)
+    unfolding readAll
+    goes-done h l z =
+        let g = goes l z in
+        let no : slice q stop kinds ≡ [] = sym (part-done (λ u. u) kinds q stop (slice q stop kinds) refl h) in
+        imports-end (g .before nil)
+        (g .reads ∙ ap (λ (ks : List ℕ). andThen (readAll (readText l levels) ks (drop to text)) λ t r. done (g .before t) r) no)
+
+    module _ {k : ℕ} (ek : k ≡ getD kinds q 0) (more : q < stop) (there : stop ≤ length kinds) {y : Text}
+        (step : ImportsTree s index k text to levels y) where
+      next-is : slice q stop kinds ≡ k ∷ slice (q + 1) stop kinds
+      next-is = sym (part-next (λ u. u) kinds q stop (slice q stop kinds) refl more there) ∙ ap (λ (j : ℕ). j ∷ slice (q + 1) stop kinds) (sym ek)
+
+      abbrev rest : (l : Language) → Code → List ℕ → Read Codes
+      rest l a r = andThen (readAll (readText l levels) (slice (q + 1) stop kinds) r) λ t u. done (cons a t) u
+
+      turn : (l : Language) (z : Indexed index s l) → readAll (readText l levels) (slice from stop kinds) (drop at text)
+          ≡ (andThen (andThen (readText l levels k (drop to text)) (rest l)) λ t r. done (goes l z .before t) r)
+      unfolding readAll
+      turn l z = goes l z .reads ∙ ap (λ (ks : List ℕ). andThen (readAll (readText l levels) ks (drop to text)) λ t r. done (goes l z .before t) r) next-is
+
+      with-first : (l : Language) (z : Indexed index s l) {p : Read Code} → readText l levels k (drop to text) ≡ p → readAll (readText l levels) (slice from stop kinds) (drop at text)
+          ≡ (andThen (andThen p (rest l)) λ t r. done (goes l z .before t) r)
+      with-first l z e = turn l z ∙ ap (λ (p : Read Code). andThen (andThen p (rest l)) λ t r. done (goes l z .before t) r) e
+
+      pub goes-deep : y ≡ Deep → ImportsTrees kinds s index from stop text at levels Deep
+      goes-deep h l z = imports-deep (with-first l z (step l z .deep h))
+
+      pub goes-broken : y ≡ Broken → ImportsTrees kinds s index from stop text at levels Broken
+      goes-broken h l z = imports-broken (with-first l z (step l z .broken h))
+
+      pub goes-next : {e : ℕ} → y ≡ End e → Goes kinds s index from stop text at levels (q + 1) e
+      goes-next {e} ey l z =
+          let g = goes l z in
+          let f = step l z .found e ey in
+          record {
+            before = λ t. g .before (cons (f .0) t);
+            reads = with-first l z (f .1) ∙ then-made (readAll (readText l levels) (slice (q + 1) stop kinds) (drop e text)) (cons (f .0)) (g .before);
+          }
+
 text-past : (l : Language) (k : ℕ) (u : List ℕ) → rangeOf l k ≡ none → readText l 0 k u ≡ deep
 unfolding readText
 text-past l k u e = cc
 
 -- text_at
-module _ (s index text : List ℕ) (k at levels n : ℕ) (kind : k < 32) (bytes : (i : ℕ) → getD s i 0 < 256) {j class : ℕ} (ej : j ≡ k) (ec : class ≡ getD index j 0) where
+module _ (s index text : List ℕ) (k at levels : ℕ) (kind : k < 32) (bytes : (i : ℕ) → getD s i 0 < 256) {j class : ℕ} (ej : j ≡ k) (ec : class ≡ getD index j 0) where
   class-is : class ≡ getD index k 0
   class-is = ec ∙ ap (λ (i : ℕ). getD index i 0) ej
 
-  pub at-class : (r : Text) → (class ≡ 0 → ⊥) → Inside text r × Imports (write tree) (readToken k (classRange s (class - 1)) (drop at text)) text n r
-      → Inside text r × ImportsTree s index k text at levels n r
+  pub at-class : (r : Text) → (class ≡ 0 → ⊥) → Inside text r × Imports (readToken k (classRange s (class - 1)) (drop at text)) text r
+      → Inside text r × ImportsTree s index k text at levels r
   at-class r h w =
       (w .0, λ l z. imports-same (sym (class-text l levels k (classRange s (class - 1)) (drop at text) (class-known s index l z k kind class class-is h))) (w .1))
 
   module _ (no : class ≡ 0) where
-    pub at-deep : levels ≡ 0 → Inside text Deep × ImportsTree s index k text at levels n Deep
+    pub at-deep : levels ≡ 0 → Inside text Deep × ImportsTree s index k text at levels Deep
     at-deep h =
         (inside-deep text, λ l z. imports-deep (ap (λ (i : ℕ). readText l i k (drop at text)) h ∙ text-past l k (drop at text) (class-none s index l z k kind class class-is no)))
 
@@ -149,15 +220,12 @@ module _ (s index text : List ℕ) (k at levels n : ℕ) (kind : k < 32) (bytes 
           let m : levels ≡ suc (levels - 1) = omega arith in
           ap (λ (i : ℕ). readText l i k (drop at text)) m ∙ no-class l (levels - 1) k (drop at text) (class-none s index l z k kind class class-is no)
 
-      module _ {i : ℕ} (ei : i ≡ k) {x : Number} (opens : Numbers (readOpening i (drop at text)) text (at + 2) x) where
-        opened : Numbers (readOpening k (drop at text)) text (at + 2) x
-        opened = rw (← ei) opens
-
+      module _ {x : Number} (opened : Numbers (readOpening k (drop at text)) text (at + 2) x) where
         unknown : (l : Language) (p : ℕ) (r : List ℕ) → argumentsOf l k p ≡ none → readOperands (readText l (levels - 1)) k p (argumentsOf l k p) r ≡ broken
         unfolding readOperands
         unknown l p r e = ap (λ (q : Option (List ℕ)). readOperands (readText l (levels - 1)) k p q r) e
 
-        pub at-no-opening : x ≡ N.Nothing → Inside text Broken × ImportsTree s index k text at levels n Broken
+        pub at-no-opening : x ≡ N.Nothing → Inside text Broken × ImportsTree s index k text at levels Broken
         unfolding readElement
         at-no-opening h = (
           inside-broken text,
@@ -174,7 +242,7 @@ module _ (s index text : List ℕ) (k at levels n : ℕ) (kind : k < 32) (bytes 
           pub opened-past : (at + 2 ≤ a) × (a ≤ length text)
           opened-past = let w = opened .reached p a ex in (w .past, w .inside)
 
-          pub at-unknown : place ≡ 0 → Inside text Broken × ImportsTree s index k text at levels n Broken
+          pub at-unknown : place ≡ 0 → Inside text Broken × ImportsTree s index k text at levels Broken
           unfolding placeOf
           at-unknown h = (inside-broken text, λ l z. imports-broken (operands l z ∙ unknown l p (drop a text) (none-at l z)))
             where
@@ -195,127 +263,61 @@ module _ (s index text : List ℕ) (k at levels n : ℕ) (kind : k < 32) (bytes 
                 (λ t. absurd (pos (cc)))
                 (λ t. let g = ltb-false 255 p t in (omega arith, cc))
 
+            pub at-place : Sound index s → (place + 4 ≤ length s) × (length s ≤ 1024)
+            at-place z = name-in index s z refl kind (found-name .0) (found-name .1) pos
+
+            pub at-kinds : {size : ℕ} → Sound index s → size ≡ pairAt s place → KindsIn s (place + 4) (place + 2 + size)
+            at-kinds z e = kinds-in index s z refl kind (found-name .0) (found-name .1) pos e
+
             module _ {size : ℕ} (es : size ≡ pairAt s place) {y : Text}
-                (inside : Inside text y) (all : ImportsTrees s index (place + 4) (place + 2 + size) text a (levels - 1) (n + 1) y) where
-              abbrev closes : (l : Language) → Codes → List ℕ → Read Code
-              closes l t r = andThen (readClosing k p r) λ u r. done (node k p t) r
+                (all : ImportsTrees s s index (place + 4) (place + 2 + size) text a (levels - 1) y) where
+              abbrev then-closing : (l : Language) → Codes → List ℕ → Read Code
+              then-closing l t r = andThen (readClosing k p r) λ u r. done (node k p t) r
 
               goes : (l : Language) → Indexed index s l
-                  → readText l levels k (drop at text) ≡ (andThen (readAll (readText l (levels - 1)) (slice (place + 4) (place + 2 + size) s) (drop a text)) λ t r. closes l t r)
+                  → readText l levels k (drop at text) ≡ (andThen (readAll (readText l (levels - 1)) (slice (place + 4) (place + 2 + size) s) (drop a text)) λ t r. then-closing l t r)
               unfolding readOperands
               goes l z =
                   operands l z
                   ∙ ap (λ (q : Option (List ℕ)). readOperands (readText l (levels - 1)) k p q (drop a text))
                   (production-known s index l z k kind p (found-name .0) place (found-name .1) pos es)
 
-              pub at-operands-deep : y ≡ Deep → Inside text Deep × ImportsTree s index k text at levels n Deep
-              at-operands-deep h = (inside-deep text, λ l z. imports-deep (goes l z ∙ ap (λ (q : Read Codes). andThen q (closes l)) (all l z .deep h)))
+              pub at-operands-deep : y ≡ Deep → Inside text Deep × ImportsTree s index k text at levels Deep
+              at-operands-deep h = (inside-deep text, λ l z. imports-deep (goes l z ∙ ap (λ (q : Read Codes). andThen q (then-closing l)) (all l z .deep h)))
 
-              pub at-operands-broken : y ≡ Broken → Inside text Broken × ImportsTree s index k text at levels n Broken
-              at-operands-broken h = (inside-broken text, λ l z. imports-broken (goes l z ∙ ap (λ (q : Read Codes). andThen q (closes l)) (all l z .broken h)))
+              pub at-operands-broken : y ≡ Broken → Inside text Broken × ImportsTree s index k text at levels Broken
+              at-operands-broken h = (inside-broken text, λ l z. imports-broken (goes l z ∙ ap (λ (q : Read Codes). andThen q (then-closing l)) (all l z .broken h)))
 
-              module _ {b m : ℕ} (ey : y ≡ End b m) {g : ℕ} (eg : g ≡ k) {c : Place} (close : Stands (readClosing g p (drop b text)) text b c) where
-                closed : Stands (readClosing k p (drop b text)) text b c
-                closed = rw (← eg) close
+              module _ {b : ℕ} (ey : y ≡ End b) {r : Text} (close : Closed (readWord (closes at (a - at + 1) text) (drop b text)) text r) where
+                same-tag : closes at (a - at + 1) text ≡ nodeTag closeNode k p
+                unfolding nodeTag
+                same-tag =
+                    let w = opened .reached p a ex in
+                    closes-tag text at a (120 ∷ (decimal k ++ (46 ∷ (decimal p ++ (62 ∷ []))))) (omega (arith, w .past, w .inside)) (w .inside)
+                    (opening-sound k (drop at text) p (drop a text) (opened .found p a ex))
 
-                so-far : (l : Language) (z : Indexed index s l) → readText l levels k (drop at text) ≡ closes l (all l z .found b m ey .0) (drop b text)
-                so-far l z = goes l z ∙ ap (λ (q : Read Codes). andThen q (closes l)) (all l z .found b m ey .1)
+                so-far : (l : Language) (z : Indexed index s l) {q : Read (Unit {0})} → readWord (closes at (a - at + 1) text) (drop b text) ≡ q
+                    → readText l levels k (drop at text) ≡ (andThen q λ u r. done (node k p (all l z .found b ey .0)) r)
+                so-far l z {q} e =
+                    goes l z
+                    ∙ (ap (λ (q : Read Codes). andThen q (then-closing l)) (all l z .found b ey .1)
+                    ∙ ap (λ (q : Read (Unit {0})). andThen q (λ u r. done (node k p (all l z .found b ey .0)) r))
+                    (closing-word k p (drop b text) ∙ (ap (λ (w : List ℕ). readWord w (drop b text)) (sym same-tag) ∙ e)))
 
-                pub at-closing-broken : c ≡ Nothing → Inside text Broken × ImportsTree s index k text at levels n Broken
-                at-closing-broken h = (
-                  inside-broken text,
-                  λ l z. imports-broken (so-far l z
-                      ∙ ap (λ (q : Read (Unit {0})). andThen q (λ u r. done (node k p (all l z .found b m ey .0)) r)) (closed .nothing h)),
+                pub at-closed : Inside text r × ImportsTree s index k text at levels r
+                at-closed = (
+                  λ e q. close .found e q .1,
+                  λ l z. record {
+                    found = λ e q. (node k p (all l z .found b ey .0), so-far l z (close .found e q .0));
+                    deep = λ q. absurd (close .shallow q);
+                    broken = λ q. so-far l z (close .broken q);
+                  },
                 )
 
-                pub at-done : {e : ℕ} → c ≡ At e → Inside text (End e m) × ImportsTree s index k text at levels n (End e m)
-                unfolding write
-                at-done {e} h =
-                    let w = closed .reached e h in
-                    let i = inside b m ey in (
-                      inside-end text e m (w .inside) (omega (arith, w .past, i .1)),
-                      λ l z.
-                          let f = all l z .found b m ey in
-                          imports-end (node k p (f .0))
-                          (so-far l z ∙ ap (λ (q : Read (Unit {0})). andThen q (λ u r. done (node k p (f .0)) r)) (closed .found e h))
-                          (let c = f .2 in omega arith),
-                    )
-
--- texts_at, a turn at a time: `before` puts what was read in front of what is left to read.
-pub record Going (s text : List ℕ) (from stop at levels n q to m : ℕ) (l : Language) : Type 0 where
-  pub before : Codes → Codes
-  pub text-of : List ℕ
-  pub reads : readAll (readText l levels) (slice from stop s) (drop at text)
-      ≡ (andThen (readAll (readText l levels) (slice q stop s) (drop to text)) λ t r. done (before t) r)
-  pub bytes : (t : Codes) → writeAll tree (before t) ≡ text-of ++ writeAll tree t
-  pub count : m ≡ n + length text-of
-
-then-id : {A : Type 0} (p : Read A) → p ≡ (andThen p λ a r. done a r)
-then-id (done a r) = refl
-then-id deep = refl
-then-id broken = refl
-
-then-made : {A B C : Type 0} (p : Read A) (f : A → B) (g : B → C) → (andThen (andThen p λ a r. done (f a) r) λ b r. done (g b) r) ≡ (andThen p λ a r. done (g (f a)) r)
-then-made (done a r) f g = refl
-then-made deep f g = refl
-then-made broken f g = refl
-
-abbrev pub Goes : List ℕ → List ℕ → ℕ → ℕ → List ℕ → ℕ → ℕ → ℕ → ℕ → ℕ → ℕ → Type 0
-Goes s index from stop text at levels n q to m = (l : Language) → Indexed index s l → Going s text from stop at levels n q to m l
-
-module _ (s index : List ℕ) (from stop : ℕ) (text : List ℕ) (at levels n : ℕ) where
-  pub goes-start : Goes s index from stop text at levels n from at n
-  goes-start l z = record {
-    before = λ t. t;
-    text-of = [];
-    reads = then-id (readAll (readText l levels) (slice from stop s) (drop at text));
-    bytes = λ t. refl;
-    count = omega arith;
-  }
-
-  module _ {q to m : ℕ} (goes : Goes s index from stop text at levels n q to m) where
-    pub goes-done : stop ≤ q → ImportsTrees s index from stop text at levels n (End to m)
-    unfolding readAll writeAll
-    goes-done h l z =
-        let g = goes l z in
-        let no : slice q stop s ≡ [] = sym (part-done (λ u. u) s q stop (slice q stop s) refl h) in
-        let v : g .text-of ≡ writeAll tree (g .before nil) = sym (g .bytes nil ∙ append-nil (g .text-of)) in
-        imports-end (g .before nil)
-        (g .reads ∙ ap (λ (ks : List ℕ). andThen (readAll (readText l levels) ks (drop to text)) λ t r. done (g .before t) r) no)
-        (rw (← v) (g .count))
-
-    module _ {k : ℕ} (ek : k ≡ getD s q 0) (more : q < stop) (there : stop ≤ length s) {y : Text}
-        (step : ImportsTree s index k text to levels m y) where
-      next-is : slice q stop s ≡ k ∷ slice (q + 1) stop s
-      next-is = sym (part-next (λ u. u) s q stop (slice q stop s) refl more there) ∙ ap (λ (j : ℕ). j ∷ slice (q + 1) stop s) (sym ek)
-
-      abbrev rest : (l : Language) → Code → List ℕ → Read Codes
-      rest l a r = andThen (readAll (readText l levels) (slice (q + 1) stop s) r) λ t u. done (cons a t) u
-
-      turn : (l : Language) (z : Indexed index s l) → readAll (readText l levels) (slice from stop s) (drop at text)
-          ≡ (andThen (andThen (readText l levels k (drop to text)) (rest l)) λ t r. done (goes l z .before t) r)
-      unfolding readAll
-      turn l z = goes l z .reads ∙ ap (λ (ks : List ℕ). andThen (readAll (readText l levels) ks (drop to text)) λ t r. done (goes l z .before t) r) next-is
-
-      with-first : (l : Language) (z : Indexed index s l) {p : Read Code} → readText l levels k (drop to text) ≡ p → readAll (readText l levels) (slice from stop s) (drop at text)
-          ≡ (andThen (andThen p (rest l)) λ t r. done (goes l z .before t) r)
-      with-first l z e = turn l z ∙ ap (λ (p : Read Code). andThen (andThen p (rest l)) λ t r. done (goes l z .before t) r) e
-
-      pub goes-deep : y ≡ Deep → ImportsTrees s index from stop text at levels n Deep
-      goes-deep h l z = imports-deep (with-first l z (step l z .deep h))
-
-      pub goes-broken : y ≡ Broken → ImportsTrees s index from stop text at levels n Broken
-      goes-broken h l z = imports-broken (with-first l z (step l z .broken h))
-
-      pub goes-next : {e h : ℕ} → y ≡ End e h → Goes s index from stop text at levels n (q + 1) e h
-      unfolding writeAll
-      goes-next {e} {h} ey l z =
-          let g = goes l z in
-          let f = step l z .found e h ey in
-          record {
-            before = λ t. g .before (cons (f .0) t);
-            text-of = g .text-of ++ write tree (f .0);
-            reads = with-first l z (f .1) ∙ then-made (readAll (readText l levels) (slice (q + 1) stop s) (drop e text)) (cons (f .0)) (g .before);
-            bytes = λ t. g .bytes (cons (f .0) t) ∙ sym (append-assoc (g .text-of) (write tree (f .0)) (writeAll tree t));
-            count = omega (arith, g .count, f .2, length-append (g .text-of) (write tree (f .0)));
-          }
+            -- Where there are no operands, the closing tag stands behind the opening tag.
+            pub at-leaf : {size : ℕ} → size ≡ pairAt s place → place + 2 + size ≤ place + 4 → {r : Text} → Closed (readWord (closes at (a - at + 1) text) (drop a text)) text r
+                → Inside text r × ImportsTree s index k text at levels r
+            at-leaf {size} es h close =
+                at-closed es
+                (goes-done s s index (place + 4) (place + 2 + size) text a (levels - 1) (goes-start s s index (place + 4) (place + 2 + size) text a (levels - 1)) h)
+                refl close
