@@ -18,7 +18,7 @@ use Rattle.language.specs.Language.{Language, Entry, Range, rangeOf, argumentsA
 use Rattle.language.specs.LanguageFile.{entriesOf}
 use Rattle.language.specs.Inner.Entries.{entryAt, classRange}
 use Rattle.language.proofs.Holds.{holds-entries}
-use Rattle.reader.specs.Code.{Code, node, token, Codes, nil, cons}
+use Rattle.reader.specs.Code.{Code, node, token as leaf, Codes, nil, cons}
 use Rattle.reader.specs.Syntax.{Read, done, deep, broken, andThen, readAll}
 use Rattle.reader.specs.Inner.Index.{Sound, Indexed}
 use Rattle.reader.specs.Inner.Positions.{KindsIn}
@@ -74,17 +74,6 @@ module _ {A : Type 0} {p : Read A} {text : List ℕ} where
     broken = λ q. broken-end (sym q);
   }
 
-  pub imports-same : {q : Read A} {r : Text} → p ≡ q → Imports p text r → Imports q text r
-  imports-same e w = rw (← e) w
-
--- text_token
-module _ (k : ℕ) (c : Range) (text : List ℕ) (at : ℕ) {x : Number} (token-is : Tokens (readToken k c (drop at text)) text (at + 2) x) where
-  pub token-broken : x ≡ N.Nothing → Inside text Broken × Imports (readToken k c (drop at text)) text Broken
-  token-broken h = (inside-broken text, imports-broken (token-is .nothing h))
-
-  pub token-end : {v e : ℕ} → x ≡ N.Is v e → Inside text (End e) × Imports (readToken k c (drop at text)) text (End e)
-  token-end {v} {e} h = (inside-end text e (token-is .reached v e h .inside), imports-end (token v) (token-is .found v e h))
-
 -- text_end
 module _ {p : Read (Unit {0})} {text : List ℕ} {at : ℕ} {x : Place} (w : Stands p text at x) where
   pub end-broken : x ≡ Nothing → Closed p text Broken
@@ -130,6 +119,9 @@ module _ (s : List ℕ) (l : Language) (e : entriesOf s ≡ some l) (bytes : (i 
       go : (o : Option (List ℕ)) → argumentsOf l k p ≡ o → o ≡ none
       go none f = refl
       go (some ks) f = let w = name-small k p ks f in absurd (omega arith)
+
+pub class-zero : (index : List ℕ) {class j k : ℕ} → class ≡ 0 → class ≡ getD index j 0 → j ≡ k → 0 ≡ getD index k 0
+class-zero index h e f = cc
 
 -- texts_at, a turn at a time: `before` puts what was read in front of what is left to read.
 pub record Going (kinds text : List ℕ) (from stop at levels q to : ℕ) (l : Language) : Type 0 where
@@ -204,10 +196,16 @@ module _ (s index text : List ℕ) (k at levels : ℕ) (kind : k < 32) (bytes : 
   class-is : class ≡ getD index k 0
   class-is = ec ∙ ap (λ (i : ℕ). getD index i 0) ej
 
-  pub at-class : (r : Text) → (class ≡ 0 → ⊥) → Inside text r × Imports (readToken k (classRange s (class - 1)) (drop at text)) text r
-      → Inside text r × ImportsTree s index k text at levels r
-  at-class r h w =
-      (w .0, λ l z. imports-same (sym (class-text l levels k (classRange s (class - 1)) (drop at text) (class-known s index l z k kind class class-is h))) (w .1))
+  -- A token.
+  module _ (some-class : class ≡ 0 → ⊥) {x : Number} (token-is : Tokens (readToken k (classRange s (class - 1)) (drop at text)) text (at + 2) x) where
+    token : (l : Language) → Indexed index s l → readText l levels k (drop at text) ≡ readToken k (classRange s (class - 1)) (drop at text)
+    token l z = class-text l levels k (classRange s (class - 1)) (drop at text) (class-known s index l z k kind class class-is some-class)
+
+    pub at-no-token : x ≡ N.Nothing → ImportsTree s index k text at levels Broken
+    at-no-token h l z = imports-broken (token l z ∙ token-is .nothing h)
+
+    pub at-token : {v e : ℕ} → x ≡ N.Is v e → ImportsTree s index k text at levels (End e)
+    at-token {v} {e} h l z = imports-end (leaf v) (token l z ∙ token-is .found v e h)
 
   module _ (no : class ≡ 0) where
     pub at-deep : levels ≡ 0 → Inside text Deep × ImportsTree s index k text at levels Deep

@@ -9,31 +9,18 @@ use fields::bytes::to_usize;
 use reader::node::place_at;
 ghost use mathlib.Core.Path.{_≡_};
 ghost use Prim.Native.Nat.{_+_, _-_, _<_, _≤_};
-ghost use lib.ListN.{length, drop};
-ghost use Rattle.language.specs.Inner.Entries.{IsClass, classRange};
+ghost use lib.ListN.{length, getD, drop};
 ghost use Rattle.reader.specs.Inner.Index.{Sound, Ready, indexLength};
 ghost use Rattle.reader.specs.Inner.Positions.{KindsIn};
-ghost use Rattle.xml.specs.Import.{readWord, readToken};
+ghost use Rattle.xml.specs.Import.{readWord};
 ghost use Rattle.xml.specs.Inner.Scanning.{closes};
-ghost use Rattle.xml.specs.Inner.Importing.{Inside, Imports, Closed, ImportsTree, ImportsTrees, placeOf};
+ghost use Rattle.xml.specs.Inner.Importing.{Inside, Closed, ImportsTree, ImportsTrees, placeOf};
 
 // The position behind the text of a tree; one level too many; or a text that is no export.
 pub enum Text {
     End(usize),
     Deep,
     Broken,
-}
-
-// The token of a kind, by the place of its class.
-fn text_token(language: &[u8], class: usize, kind: u8, text: &[u8], at: usize) -> Text
-    requires { ⌜ (0 < class) × IsClass (now language) (class - 1) × (kind < 32) × (at ≤ length (now text)) ⌝ }
-    ensures { λ r. ⌜ Inside (now (text .entry)) r
-        × Imports (readToken kind (classRange (now (language .entry)) (class - 1)) (drop at (now (text .entry)))) (now (text .entry)) r ⌝ }
-{
-    let Number::Is(value, e) = token_at(language, class - 1, kind, text, at) else {
-        return Text::Broken;
-    };
-    Text::End(e)
 }
 
 // The place of a production in the index, or 0.
@@ -58,16 +45,19 @@ fn text_end(text: &[u8], tag: usize, size: usize, at: usize) -> Text
     Text::End(e)
 }
 
-// The tree of a kind at a position of the text. Its arguments are read one level deeper.
-fn text_at(language: &[u8], index: &[u16], kind: u8, text: &[u8], at: usize, levels: usize) -> Text
-    requires { ⌜ Ready (now index) (now language) kind (now text) at ⌝ }
+// The tree of a kind that is no class. Its arguments are read one level deeper.
+fn element_at(
+    language: &[u8],
+    index: &[u16],
+    kind: u8,
+    text: &[u8],
+    at: usize,
+    levels: usize,
+) -> Text
+    requires { ⌜ Ready (now index) (now language) kind (now text) at × (0 ≡ getD (now index) kind 0) ⌝ }
     ensures { λ r. ⌜ Inside (now (text .entry)) r
         × ImportsTree (now (language .entry)) (now (index .entry)) kind (now (text .entry)) at levels r ⌝ }
 {
-    let class = place_at(index, to_usize(kind));
-    if class != 0 {
-        return text_token(language, class, kind, text, at);
-    }
     if levels == 0 {
         return Text::Deep;
     }
@@ -99,7 +89,7 @@ fn text_at(language: &[u8], index: &[u16], kind: u8, text: &[u8], at: usize, lev
     }
 }
 
-// The trees whose kinds stand among some from `from` up to `stop`, one after the other.
+// The trees whose kinds stand among some from `from` up to `stop`, one after the other. Tokens are read here.
 pub fn texts_at(
     kinds: &[u8],
     language: &[u8],
@@ -117,16 +107,26 @@ pub fn texts_at(
     let mut q = from;
     let mut to = at;
     while q < stop {
-        match text_at(language, index, kinds[q], text, to, levels) {
-            Text::End(e) => {
-                to = e;
-                q += 1;
-            }
-            Text::Deep => {
-                return Text::Deep;
-            }
-            Text::Broken => {
+        let kind = kinds[q];
+        let class = place_at(index, to_usize(kind));
+        if class != 0 {
+            let Number::Is(value, e) = token_at(language, class - 1, kind, text, to) else {
                 return Text::Broken;
+            };
+            to = e;
+            q += 1;
+        } else {
+            match element_at(language, index, kind, text, to, levels) {
+                Text::End(e) => {
+                    to = e;
+                    q += 1;
+                }
+                Text::Deep => {
+                    return Text::Deep;
+                }
+                Text::Broken => {
+                    return Text::Broken;
+                }
             }
         }
     }
