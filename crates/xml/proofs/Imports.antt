@@ -32,11 +32,11 @@ use Rattle.xml.specs.declared.scan.Number.the-variants as N
 use Rattle.xml.specs.declared.import.Text.{Text}
 use Rattle.xml.specs.declared.import.Text.the-variants.{End, Deep, Broken}
 use Rattle.xml.specs.Inner.Scanning.{closes, Stands, Numbers, Tokens}
-use Rattle.xml.specs.Inner.Importing.{Inside, Imports, Closed, ImportsTree, ImportsTrees, placeOf}
+use Rattle.xml.specs.Inner.Importing.{Inside, Imports, Closed, Opens, ImportsTree, ImportsTrees, placeOf}
 use Rattle.xml.proofs.Round.{class-text, no-class, opening-sound}
 use Rattle.xml.proofs.Words.{closing-word}
 use Rattle.putting.proofs.Reading.{class-known, class-none, production-none, production-known}
-use Rattle.xml.proofs.Scans.{no-number, number-at, closes-tag}
+use Rattle.xml.proofs.Scans.{numbers-is, no-number, number-at, closes-tag}
 
 -- Answers.
 not-end : {e : ℕ} {A : Type 0} → Deep ≡ End e → A
@@ -119,6 +119,12 @@ module _ (s : List ℕ) (l : Language) (e : entriesOf s ≡ some l) (bytes : (i 
       go : (o : Option (List ℕ)) → argumentsOf l k p ≡ o → o ≡ none
       go none f = refl
       go (some ks) f = let w = name-small k p ks f in absurd (omega arith)
+
+pub opens-is : {k : ℕ} {text : List ℕ} {at p a : ℕ} {x : Number} → Numbers (readOpening k (drop at text)) text (at + 2) x → x ≡ N.Is p a → Opens k text at p a
+opens-is {p = p} {a = a} w h = let z = w .reached p a h in record { reads = w .found p a h; small = w .small p a h; past = z .past; inside = z .inside }
+
+pub opened-is : {k : ℕ} {text : List ℕ} {at p a : ℕ} → Opens k text at p a → Numbers (readOpening k (drop at text)) text (at + 2) (N.Is p a)
+opened-is w = numbers-is (w .reads) (w .small) (w .past) (w .inside)
 
 pub class-zero : (index : List ℕ) {class j k : ℕ} → class ≡ 0 → class ≡ getD index j 0 → j ≡ k → 0 ≡ getD index k 0
 class-zero index h e f = cc

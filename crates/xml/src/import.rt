@@ -14,7 +14,7 @@ ghost use Rattle.reader.specs.Inner.Index.{Sound, Ready, indexLength};
 ghost use Rattle.reader.specs.Inner.Positions.{KindsIn};
 ghost use Rattle.xml.specs.Import.{readWord};
 ghost use Rattle.xml.specs.Inner.Scanning.{closes};
-ghost use Rattle.xml.specs.Inner.Importing.{Inside, Closed, ImportsTree, ImportsTrees, placeOf};
+ghost use Rattle.xml.specs.Inner.Importing.{Inside, Closed, Opens, ImportsTree, ImportsTrees, placeOf};
 
 // The position behind the text of a tree; one level too many; or a text that is no export.
 pub enum Text {
@@ -45,33 +45,31 @@ fn text_end(text: &[u8], tag: usize, size: usize, at: usize) -> Text
     Text::End(e)
 }
 
-// The tree of a kind that is no class. Its arguments are read one level deeper.
+// The arguments and the closing tag of an element whose opening tag stands from `at` up to `inner`. The arguments are read one
+// level deeper.
 fn element_at(
     language: &[u8],
     index: &[u16],
     kind: u8,
+    name: usize,
     text: &[u8],
     at: usize,
+    inner: usize,
     levels: usize,
 ) -> Text
-    requires { ⌜ Ready (now index) (now language) kind (now text) at × (0 ≡ getD (now index) kind 0) ⌝ }
+    requires { ⌜ Ready (now index) (now language) kind (now text) at × (0 ≡ getD (now index) kind 0) × (levels ≡ 0 → ⊥)
+        × Opens kind (now text) at name inner ⌝ }
     ensures { λ r. ⌜ Inside (now (text .entry)) r
         × ImportsTree (now (language .entry)) (now (index .entry)) kind (now (text .entry)) at levels r ⌝ }
 {
-    if levels == 0 {
-        return Text::Deep;
-    }
-    let Number::Is(name, a) = opening_at(kind, text, at) else {
-        return Text::Broken;
-    };
     let place = place_of(index, kind, name);
     if place == 0 {
         return Text::Broken;
     }
-    let size = a - at + 1;
+    let size = inner - at + 1;
     let stop = place + 2 + pair_in(language, place);
     if stop <= place + 4 {
-        return text_end(text, at, size, a);
+        return text_end(text, at, size, inner);
     }
     match texts_at(
         language,
@@ -80,7 +78,7 @@ fn element_at(
         place + 4,
         stop,
         text,
-        a,
+        inner,
         levels - 1,
     ) {
         Text::End(b) => text_end(text, at, size, b),
@@ -89,7 +87,8 @@ fn element_at(
     }
 }
 
-// The trees whose kinds stand among some from `from` up to `stop`, one after the other. Tokens are read here.
+// The trees whose kinds stand among some from `from` up to `stop`, one after the other. Tokens and
+// opening tags are read here.
 pub fn texts_at(
     kinds: &[u8],
     language: &[u8],
@@ -116,7 +115,13 @@ pub fn texts_at(
             to = e;
             q += 1;
         } else {
-            match element_at(language, index, kind, text, to, levels) {
+            if levels == 0 {
+                return Text::Deep;
+            }
+            let Number::Is(name, a) = opening_at(kind, text, to) else {
+                return Text::Broken;
+            };
+            match element_at(language, index, kind, name, text, to, a, levels) {
                 Text::End(e) => {
                     to = e;
                     q += 1;

@@ -9,7 +9,7 @@ use lib.Dec.{ltb}
 use Rattle.language.specs.Language.{Language, productionKey}
 use Rattle.reader.specs.Syntax.{Read, done, deep, broken, readAll}
 use Rattle.reader.specs.Inner.Index.{Indexed}
-use Rattle.xml.specs.Import.{readText}
+use Rattle.xml.specs.Import.{readOpening, readText}
 use Rattle.xml.specs.declared.import.Text.{Text}
 use Rattle.xml.specs.declared.import.Text.the-variants.{End, Deep, Broken}
 
@@ -37,6 +37,13 @@ pub record Closed (p : Read (Unit {0})) (text : List ℕ) (r : Text) : Type 0 wh
   pub found : (e : ℕ) → r ≡ End e → (p ≡ done tt (drop e text)) × (e ≤ length text)
   pub shallow : r ≡ Deep → ⊥
   pub broken : r ≡ Broken → p ≡ broken
+
+-- The opening tag of production k.p stands from `at` up to a.
+pub record Opens (k : ℕ) (text : List ℕ) (at p a : ℕ) : Type 0 where
+  pub reads : readOpening k (drop at text) ≡ done p (drop a text)
+  pub small : p < 65536
+  pub past : at + 2 ≤ a
+  pub inside : a ≤ length text
 
 -- The place of production k.p in the index; there is none whose name is no byte.
 unfoldable pub placeOf : List ℕ → ℕ → ℕ → ℕ
