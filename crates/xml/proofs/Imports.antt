@@ -29,14 +29,16 @@ use Rattle.xml.specs.declared.scan.Place.{Place}
 use Rattle.xml.specs.declared.scan.Place.the-variants.{At, Nothing}
 use Rattle.xml.specs.declared.scan.Number.{Number}
 use Rattle.xml.specs.declared.scan.Number.the-variants as N
+use Rattle.xml.specs.declared.import.Element.{Element}
+use Rattle.xml.specs.declared.import.Element.the-variants as E
 use Rattle.xml.specs.declared.import.Text.{Text}
 use Rattle.xml.specs.declared.import.Text.the-variants.{End, Deep, Broken}
 use Rattle.xml.specs.Inner.Scanning.{closes, Stands, Numbers, Tokens}
-use Rattle.xml.specs.Inner.Importing.{Inside, Imports, Closed, Opens, ImportsTree, ImportsTrees, placeOf}
+use Rattle.xml.specs.Inner.Importing.{Inside, Imports, Opens, OpensElement, Elements, ImportsTree, ImportsTrees, placeOf}
 use Rattle.xml.proofs.Round.{class-text, no-class, opening-sound}
 use Rattle.xml.proofs.Words.{closing-word}
 use Rattle.putting.proofs.Reading.{class-known, class-none, production-none, production-known}
-use Rattle.xml.proofs.Scans.{numbers-is, no-number, number-at, closes-tag}
+use Rattle.xml.proofs.Scans.{no-number, number-at, closes-tag}
 
 -- Answers.
 not-end : {e : ℕ} {A : Type 0} → Deep ≡ End e → A
@@ -71,18 +73,6 @@ module _ {A : Type 0} {p : Read A} {text : List ℕ} where
   imports-end {e} a h = record {
     found = λ d q. let w = end-same q in (a, h ∙ ap (λ (n : ℕ). done a (drop n text)) w);
     deep = λ q. not-end (sym q);
-    broken = λ q. broken-end (sym q);
-  }
-
--- text_end
-module _ {p : Read (Unit {0})} {text : List ℕ} {at : ℕ} {x : Place} (w : Stands p text at x) where
-  pub end-broken : x ≡ Nothing → Closed p text Broken
-  end-broken h = record { found = λ e q. broken-end q; shallow = λ q. deep-broken (sym q); broken = λ q. w .nothing h }
-
-  pub end-done : {e : ℕ} → x ≡ At e → Closed p text (End e)
-  end-done {e} h = record {
-    found = λ d q. let z = end-same q in rw (← z) (w .found e h, w .reached e h .inside);
-    shallow = λ q. not-end (sym q);
     broken = λ q. broken-end (sym q);
   }
 
@@ -122,12 +112,6 @@ module _ (s : List ℕ) (l : Language) (e : entriesOf s ≡ some l) (bytes : (i 
 
 pub opens-is : {k : ℕ} {text : List ℕ} {at p a : ℕ} {x : Number} → Numbers (readOpening k (drop at text)) text (at + 2) x → x ≡ N.Is p a → Opens k text at p a
 opens-is {p = p} {a = a} w h = let z = w .reached p a h in record { reads = w .found p a h; small = w .small p a h; past = z .past; inside = z .inside }
-
-pub opened-is : {k : ℕ} {text : List ℕ} {at p a : ℕ} → Opens k text at p a → Numbers (readOpening k (drop at text)) text (at + 2) (N.Is p a)
-opened-is w = numbers-is (w .reads) (w .small) (w .past) (w .inside)
-
-pub class-zero : (index : List ℕ) {class j k : ℕ} → class ≡ 0 → class ≡ getD index j 0 → j ≡ k → 0 ≡ getD index k 0
-class-zero index h e f = cc
 
 -- texts_at, a turn at a time: `before` puts what was read in front of what is left to read.
 pub record Going (kinds text : List ℕ) (from stop at levels q to : ℕ) (l : Language) : Type 0 where
@@ -193,6 +177,71 @@ module _ (kinds s index : List ℕ) (from stop : ℕ) (text : List ℕ) (at leve
             reads = with-first l z (f .1) ∙ then-made (readAll (readText l levels) (slice (q + 1) stop kinds) (drop e text)) (cons (f .0)) (g .before);
           }
 
+-- element_at
+not-of : {q e a : ℕ} {A : Type 0} → E.Nothing ≡ E.Of q e a → A
+not-of h = let z : _≡_ {A = ℕ} 0 1 = cc in absurd (omega arith)
+
+found-name : (index : List ℕ) (k p : ℕ) {place : ℕ} → place ≡ placeOf index k p → (place ≡ 0 → ⊥) → (p < 256) × (place ≡ getD index (productionKey k p) 0)
+unfolding placeOf
+found-name index k p ep pos =
+    by-test (ltb 255 p)
+    (λ t. absurd (pos (cc)))
+    (λ t. let g = ltb-false 255 p t in (omega arith, cc))
+
+module _ (s index text : List ℕ) (k at : ℕ) (kind : k < 32) (bytes : (i : ℕ) → getD s i 0 < 256) {x : Number} (opened : Numbers (readOpening k (drop at text)) text (at + 2) x) where
+  element-not : ((l : Language) → Indexed index s l → (reads : ℕ → List ℕ → Read Code) → readElement reads l k (drop at text) ≡ broken) → Elements s index k text at E.Nothing
+  element-not f = record { found = λ q e a h. not-of h; nothing = λ h. f }
+
+  unknown : (reads : ℕ → List ℕ → Read Code) (l : Language) (p : ℕ) (r : List ℕ) → argumentsOf l k p ≡ none → readOperands reads k p (argumentsOf l k p) r ≡ broken
+  unfolding readOperands
+  unknown reads l p r e = ap (λ (q : Option (List ℕ)). readOperands reads k p q r) e
+
+  pub element-nothing : x ≡ N.Nothing → Elements s index k text at E.Nothing
+  unfolding readElement
+  element-nothing h =
+      element-not (λ l z reads. no-number (readOpening k (drop at text)) (λ p r. readOperands reads k p (argumentsOf l k p) r) (opened .nothing h)
+      (λ p r g. unknown reads l p r (large-none s l (z .entries) bytes k p (omega arith))))
+
+  module _ {p a : ℕ} (ex : x ≡ N.Is p a) {place : ℕ} (ep : place ≡ placeOf index k p) where
+    pub element-unknown : place ≡ 0 → Elements s index k text at E.Nothing
+    unfolding placeOf readElement
+    element-unknown h =
+        element-not (λ l z reads. number-at opened (λ p r. readOperands reads k p (argumentsOf l k p) r) ex ∙ unknown reads l p (drop a text) (none-at l z))
+      where
+        none-at : (l : Language) → Indexed index s l → argumentsOf l k p ≡ none
+        none-at l z =
+            by-test (ltb 255 p)
+            (λ t. let g = ltb-true 255 p t in large-none s l (z .entries) bytes k p (omega arith))
+            (λ t.
+            let g = ltb-false 255 p t in
+            let y : place ≡ getD index (productionKey k p) 0 = cc in
+            production-none s index l z k kind p (omega arith) place y h)
+
+    module _ (pos : place ≡ 0 → ⊥) (known : Sound index s) where
+      pub element-place : (place + 4 ≤ length s) × (length s ≤ 1024)
+      element-place = let f = found-name index k p ep pos in name-in index s known refl kind (f .0) (f .1) pos
+
+      pub element-found : {size : ℕ} → size ≡ pairAt s place → Elements s index k text at (E.Of (place + 4) (place + 2 + size) a)
+      element-found {size} es =
+          let f = found-name index k p ep pos in
+          record {
+            found = λ q e b h.
+                let u : q ≡ place + 4 = cc in
+                let v : e ≡ place + 2 + size = cc in
+                let t : b ≡ a = cc in
+                record {
+                  name = p;
+                  place = place;
+                  opens = rw t (opens-is opened ex);
+                  is-place = ep;
+                  some-place = pos;
+                  from = u;
+                  to = v ∙ ap (λ (n : ℕ). place + 2 + n) es;
+                  kinds = rw (u, v) (kinds-in index s known refl kind (f .0) (f .1) pos es);
+                };
+            nothing = λ h. not-of (sym h);
+          }
+
 text-past : (l : Language) (k : ℕ) (u : List ℕ) → rangeOf l k ≡ none → readText l 0 k u ≡ deep
 unfolding readText
 text-past l k u e = cc
@@ -214,9 +263,9 @@ module _ (s index text : List ℕ) (k at levels : ℕ) (kind : k < 32) (bytes : 
     at-token {v} {e} h l z = imports-end (leaf v) (token l z ∙ token-is .found v e h)
 
   module _ (no : class ≡ 0) where
-    pub at-deep : levels ≡ 0 → Inside text Deep × ImportsTree s index k text at levels Deep
-    at-deep h =
-        (inside-deep text, λ l z. imports-deep (ap (λ (i : ℕ). readText l i k (drop at text)) h ∙ text-past l k (drop at text) (class-none s index l z k kind class class-is no)))
+    pub at-deep : levels ≡ 0 → ImportsTree s index k text at levels Deep
+    at-deep h l z =
+        imports-deep (ap (λ (i : ℕ). readText l i k (drop at text)) h ∙ text-past l k (drop at text) (class-none s index l z k kind class class-is no))
 
     module _ (some-level : levels ≡ 0 → ⊥) where
       element : (l : Language) → Indexed index s l → readText l levels k (drop at text) ≡ readElement (readText l (levels - 1)) l k (drop at text)
@@ -224,104 +273,70 @@ module _ (s index text : List ℕ) (k at levels : ℕ) (kind : k < 32) (bytes : 
           let m : levels ≡ suc (levels - 1) = omega arith in
           ap (λ (i : ℕ). readText l i k (drop at text)) m ∙ no-class l (levels - 1) k (drop at text) (class-none s index l z k kind class class-is no)
 
-      module _ {x : Number} (opened : Numbers (readOpening k (drop at text)) text (at + 2) x) where
-        unknown : (l : Language) (p : ℕ) (r : List ℕ) → argumentsOf l k p ≡ none → readOperands (readText l (levels - 1)) k p (argumentsOf l k p) r ≡ broken
-        unfolding readOperands
-        unknown l p r e = ap (λ (q : Option (List ℕ)). readOperands (readText l (levels - 1)) k p q r) e
+      module _ {x : Element} (elements : Elements s index k text at x) where
+        pub at-no-element : x ≡ E.Nothing → ImportsTree s index k text at levels Broken
+        at-no-element h l z = imports-broken (element l z ∙ elements .nothing h l z (readText l (levels - 1)))
 
-        pub at-no-opening : x ≡ N.Nothing → Inside text Broken × ImportsTree s index k text at levels Broken
-        unfolding readElement
-        at-no-opening h = (
-          inside-broken text,
-          λ l z. imports-broken (element l z
-              ∙ no-number (readOpening k (drop at text)) (λ p r. readOperands (readText l (levels - 1)) k p (argumentsOf l k p) r) (opened .nothing h)
-              (λ p r g. unknown l p r (large-none s l (z .entries) bytes k p (omega arith)))),
-        )
+        module _ {q e a : ℕ} (ex : x ≡ E.Of q e a) where
+          is-element : OpensElement s index k text at q e a
+          is-element = elements .found q e a ex
 
-        module _ {p a : ℕ} (ex : x ≡ N.Is p a) {place : ℕ} (ep : place ≡ placeOf index k p) where
-          operands : (l : Language) → Indexed index s l → readText l levels k (drop at text) ≡ readOperands (readText l (levels - 1)) k p (argumentsOf l k p) (drop a text)
-          unfolding readElement
-          operands l z = element l z ∙ number-at opened (λ p r. readOperands (readText l (levels - 1)) k p (argumentsOf l k p) r) ex
+          abbrev p : ℕ
+          p = is-element .name
 
-          pub opened-past : (at + 2 ≤ a) × (a ≤ length text)
-          opened-past = let w = opened .reached p a ex in (w .past, w .inside)
+          pub at-kinds : KindsIn s q e
+          at-kinds = is-element .kinds
 
-          pub at-unknown : place ≡ 0 → Inside text Broken × ImportsTree s index k text at levels Broken
-          unfolding placeOf
-          at-unknown h = (inside-broken text, λ l z. imports-broken (operands l z ∙ unknown l p (drop a text) (none-at l z)))
-            where
-              none-at : (l : Language) → Indexed index s l → argumentsOf l k p ≡ none
-              none-at l z =
-                  by-test (ltb 255 p)
-                  (λ t. let g = ltb-true 255 p t in large-none s l (z .entries) bytes k p (omega arith))
-                  (λ t.
-                  let g = ltb-false 255 p t in
-                  let y : place ≡ getD index (productionKey k p) 0 = cc in
-                  production-none s index l z k kind p (omega arith) place y h)
+          pub at-past : (at + 2 ≤ a) × (a ≤ length text)
+          at-past = let w = is-element .opens in (w .past, w .inside)
 
-          module _ (pos : place ≡ 0 → ⊥) where
-            pub found-name : (p < 256) × (place ≡ getD index (productionKey k p) 0)
-            unfolding placeOf
-            found-name =
-                by-test (ltb 255 p)
-                (λ t. absurd (pos (cc)))
-                (λ t. let g = ltb-false 255 p t in (omega arith, cc))
+          known : (l : Language) → Indexed index s l → argumentsOf l k p ≡ some (slice q e s)
+          known l z =
+              let w = is-element in
+              let f = found-name index k p (w .is-place) (w .some-place) in
+              production-known s index l z k kind p (f .0) (w .place) (f .1) (w .some-place) refl
+              ∙ (ap (λ (i : ℕ). some (slice i (w .place + 2 + pairAt s (w .place)) s)) (sym (w .from)) ∙ ap (λ (i : ℕ). some (slice q i s)) (sym (w .to)))
 
-            pub at-place : Sound index s → (place + 4 ≤ length s) × (length s ≤ 1024)
-            at-place z = name-in index s z refl kind (found-name .0) (found-name .1) pos
+          module _ {y : Text} (all : ImportsTrees s s index q e text a (levels - 1) y) where
+            abbrev then-closing : (l : Language) → Codes → List ℕ → Read Code
+            then-closing l t r = andThen (readClosing k p r) λ u r. done (node k p t) r
 
-            pub at-kinds : {size : ℕ} → Sound index s → size ≡ pairAt s place → KindsIn s (place + 4) (place + 2 + size)
-            at-kinds z e = kinds-in index s z refl kind (found-name .0) (found-name .1) pos e
+            goes : (l : Language) → Indexed index s l
+                → readText l levels k (drop at text) ≡ (andThen (readAll (readText l (levels - 1)) (slice q e s) (drop a text)) λ t r. then-closing l t r)
+            unfolding readElement readOperands
+            goes l z =
+                element l z
+                ∙ (ap (λ (o : Read ℕ). andThen o λ p r. readOperands (readText l (levels - 1)) k p (argumentsOf l k p) r) (is-element .opens .reads)
+                ∙ ap (λ (o : Option (List ℕ)). readOperands (readText l (levels - 1)) k p o (drop a text)) (known l z))
 
-            module _ {size : ℕ} (es : size ≡ pairAt s place) {y : Text}
-                (all : ImportsTrees s s index (place + 4) (place + 2 + size) text a (levels - 1) y) where
-              abbrev then-closing : (l : Language) → Codes → List ℕ → Read Code
-              then-closing l t r = andThen (readClosing k p r) λ u r. done (node k p t) r
+            pub at-operands-deep : y ≡ Deep → ImportsTree s index k text at levels Deep
+            at-operands-deep h l z = imports-deep (goes l z ∙ ap (λ (q : Read Codes). andThen q (then-closing l)) (all l z .deep h))
 
-              goes : (l : Language) → Indexed index s l
-                  → readText l levels k (drop at text) ≡ (andThen (readAll (readText l (levels - 1)) (slice (place + 4) (place + 2 + size) s) (drop a text)) λ t r. then-closing l t r)
-              unfolding readOperands
-              goes l z =
-                  operands l z
-                  ∙ ap (λ (q : Option (List ℕ)). readOperands (readText l (levels - 1)) k p q (drop a text))
-                  (production-known s index l z k kind p (found-name .0) place (found-name .1) pos es)
+            pub at-operands-broken : y ≡ Broken → ImportsTree s index k text at levels Broken
+            at-operands-broken h l z = imports-broken (goes l z ∙ ap (λ (q : Read Codes). andThen q (then-closing l)) (all l z .broken h))
 
-              pub at-operands-deep : y ≡ Deep → Inside text Deep × ImportsTree s index k text at levels Deep
-              at-operands-deep h = (inside-deep text, λ l z. imports-deep (goes l z ∙ ap (λ (q : Read Codes). andThen q (then-closing l)) (all l z .deep h)))
+            module _ {b : ℕ} (ey : y ≡ End b) {c : Place} (close : Stands (readWord (closes at (a - at + 1) text) (drop b text)) text b c) where
+              same-tag : closes at (a - at + 1) text ≡ nodeTag closeNode k p
+              unfolding nodeTag
+              same-tag =
+                  let w = is-element .opens in
+                  closes-tag text at a (120 ∷ (decimal k ++ (46 ∷ (decimal p ++ (62 ∷ []))))) (omega (arith, w .past, w .inside)) (w .inside)
+                  (opening-sound k (drop at text) p (drop a text) (w .reads))
 
-              pub at-operands-broken : y ≡ Broken → Inside text Broken × ImportsTree s index k text at levels Broken
-              at-operands-broken h = (inside-broken text, λ l z. imports-broken (goes l z ∙ ap (λ (q : Read Codes). andThen q (then-closing l)) (all l z .broken h)))
+              so-far : (l : Language) (z : Indexed index s l) {q : Read (Unit {0})} → readWord (closes at (a - at + 1) text) (drop b text) ≡ q
+                  → readText l levels k (drop at text) ≡ (andThen q λ u r. done (node k p (all l z .found b ey .0)) r)
+              so-far l z {q} e =
+                  goes l z
+                  ∙ (ap (λ (q : Read Codes). andThen q (then-closing l)) (all l z .found b ey .1)
+                  ∙ ap (λ (q : Read (Unit {0})). andThen q (λ u r. done (node k p (all l z .found b ey .0)) r))
+                  (closing-word k p (drop b text) ∙ (ap (λ (w : List ℕ). readWord w (drop b text)) (sym same-tag) ∙ e)))
 
-              module _ {b : ℕ} (ey : y ≡ End b) {r : Text} (close : Closed (readWord (closes at (a - at + 1) text) (drop b text)) text r) where
-                same-tag : closes at (a - at + 1) text ≡ nodeTag closeNode k p
-                unfolding nodeTag
-                same-tag =
-                    let w = opened .reached p a ex in
-                    closes-tag text at a (120 ∷ (decimal k ++ (46 ∷ (decimal p ++ (62 ∷ []))))) (omega (arith, w .past, w .inside)) (w .inside)
-                    (opening-sound k (drop at text) p (drop a text) (opened .found p a ex))
+              pub at-open : c ≡ Nothing → ImportsTree s index k text at levels Broken
+              at-open h l z = imports-broken (so-far l z (close .nothing h))
 
-                so-far : (l : Language) (z : Indexed index s l) {q : Read (Unit {0})} → readWord (closes at (a - at + 1) text) (drop b text) ≡ q
-                    → readText l levels k (drop at text) ≡ (andThen q λ u r. done (node k p (all l z .found b ey .0)) r)
-                so-far l z {q} e =
-                    goes l z
-                    ∙ (ap (λ (q : Read Codes). andThen q (then-closing l)) (all l z .found b ey .1)
-                    ∙ ap (λ (q : Read (Unit {0})). andThen q (λ u r. done (node k p (all l z .found b ey .0)) r))
-                    (closing-word k p (drop b text) ∙ (ap (λ (w : List ℕ). readWord w (drop b text)) (sym same-tag) ∙ e)))
+              pub at-closed : {d : ℕ} → c ≡ At d → ImportsTree s index k text at levels (End d)
+              at-closed {d} h l z = imports-end (node k p (all l z .found b ey .0)) (so-far l z (close .found d h))
 
-                pub at-closed : Inside text r × ImportsTree s index k text at levels r
-                at-closed = (
-                  λ e q. close .found e q .1,
-                  λ l z. record {
-                    found = λ e q. (node k p (all l z .found b ey .0), so-far l z (close .found e q .0));
-                    deep = λ q. absurd (close .shallow q);
-                    broken = λ q. so-far l z (close .broken q);
-                  },
-                )
-
-            -- Where there are no operands, the closing tag stands behind the opening tag.
-            pub at-leaf : {size : ℕ} → size ≡ pairAt s place → place + 2 + size ≤ place + 4 → {r : Text} → Closed (readWord (closes at (a - at + 1) text) (drop a text)) text r
-                → Inside text r × ImportsTree s index k text at levels r
-            at-leaf {size} es h close =
-                at-closed es
-                (goes-done s s index (place + 4) (place + 2 + size) text a (levels - 1) (goes-start s s index (place + 4) (place + 2 + size) text a (levels - 1)) h)
-                refl close
+-- Where there are no operands, the closing tag stands behind the opening tag.
+pub leaf-all : (s index text : List ℕ) (q e a levels : ℕ) → e ≤ q → ImportsTrees s s index q e text a levels (End a)
+leaf-all s index text q e a levels h = goes-done s s index q e text a levels (goes-start s s index q e text a levels) h

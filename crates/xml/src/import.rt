@@ -9,18 +9,23 @@ use fields::bytes::to_usize;
 use reader::node::place_at;
 ghost use mathlib.Core.Path.{_≡_};
 ghost use Prim.Native.Nat.{_+_, _-_, _<_, _≤_};
-ghost use lib.ListN.{length, getD, drop};
+ghost use lib.ListN.{length};
 ghost use Rattle.reader.specs.Inner.Index.{Sound, Ready, indexLength};
 ghost use Rattle.reader.specs.Inner.Positions.{KindsIn};
-ghost use Rattle.xml.specs.Import.{readWord};
-ghost use Rattle.xml.specs.Inner.Scanning.{closes};
-ghost use Rattle.xml.specs.Inner.Importing.{Inside, Closed, Opens, ImportsTree, ImportsTrees, placeOf};
+ghost use Rattle.xml.specs.Inner.Importing.{Inside, Elements, ImportsTrees, placeOf};
 
 // The position behind the text of a tree; one level too many; or a text that is no export.
 pub enum Text {
     End(usize),
     Deep,
     Broken,
+}
+
+// The kinds of the arguments of a production stand in the language from the first number up to the second, its opening tag ends
+// at the third; or that there is none.
+pub enum Element {
+    Of(usize, usize, usize),
+    Nothing,
 }
 
 // The place of a production in the index, or 0.
@@ -34,61 +39,23 @@ fn place_of(index: &[u16], kind: u8, name: usize) -> usize
     place_at(index, 32 + (to_usize(kind) * 256 + name))
 }
 
-// The closing tag of that size of an element whose opening tag stands at `tag`.
-fn text_end(text: &[u8], tag: usize, size: usize, at: usize) -> Text
-    requires { ⌜ (2 ≤ size) × (tag + size ≤ length (now text) + 1) × (at ≤ length (now text)) ⌝ }
-    ensures { λ r. ⌜ Closed (readWord (closes tag size (now (text .entry))) (drop at (now (text .entry)))) (now (text .entry)) r ⌝ }
+// The opening tag of an element of a kind that is no class, and where the kinds of its arguments stand.
+fn element_at(language: &[u8], index: &[u16], kind: u8, text: &[u8], at: usize) -> Element
+    requires { ⌜ Ready (now index) (now language) kind (now text) at ⌝ }
+    ensures { λ r. ⌜ Elements (now (language .entry)) (now (index .entry)) kind (now (text .entry)) at r ⌝ }
 {
-    let Place::At(e) = closing_at(text, tag, size, at) else {
-        return Text::Broken;
+    let Number::Is(name, a) = opening_at(kind, text, at) else {
+        return Element::Nothing;
     };
-    Text::End(e)
-}
-
-// The arguments and the closing tag of an element whose opening tag stands from `at` up to `inner`. The arguments are read one
-// level deeper.
-fn element_at(
-    language: &[u8],
-    index: &[u16],
-    kind: u8,
-    name: usize,
-    text: &[u8],
-    at: usize,
-    inner: usize,
-    levels: usize,
-) -> Text
-    requires { ⌜ Ready (now index) (now language) kind (now text) at × (0 ≡ getD (now index) kind 0) × (levels ≡ 0 → ⊥)
-        × Opens kind (now text) at name inner ⌝ }
-    ensures { λ r. ⌜ Inside (now (text .entry)) r
-        × ImportsTree (now (language .entry)) (now (index .entry)) kind (now (text .entry)) at levels r ⌝ }
-{
     let place = place_of(index, kind, name);
     if place == 0 {
-        return Text::Broken;
+        return Element::Nothing;
     }
-    let size = inner - at + 1;
-    let stop = place + 2 + pair_in(language, place);
-    if stop <= place + 4 {
-        return text_end(text, at, size, inner);
-    }
-    match texts_at(
-        language,
-        language,
-        index,
-        place + 4,
-        stop,
-        text,
-        inner,
-        levels - 1,
-    ) {
-        Text::End(b) => text_end(text, at, size, b),
-        Text::Deep => Text::Deep,
-        Text::Broken => Text::Broken,
-    }
+    Element::Of(place + 4, place + 2 + pair_in(language, place), a)
 }
 
-// The trees whose kinds stand among some from `from` up to `stop`, one after the other. Tokens and
-// opening tags are read here.
+// The trees whose kinds stand among some from `from` up to `stop`, one after the other. It calls itself
+// on the arguments of each, one level fewer.
 pub fn texts_at(
     kinds: &[u8],
     language: &[u8],
@@ -118,20 +85,31 @@ pub fn texts_at(
             if levels == 0 {
                 return Text::Deep;
             }
-            let Number::Is(name, a) = opening_at(kind, text, to) else {
+            let Element::Of(first, last, a) = element_at(language, index, kind, text, to) else {
                 return Text::Broken;
             };
-            match element_at(language, index, kind, name, text, to, a, levels) {
-                Text::End(e) => {
-                    to = e;
-                    q += 1;
+            let size = a - to + 1;
+            q += 1;
+            if first < last {
+                match texts_at(language, language, index, first, last, text, a, levels - 1) {
+                    Text::End(b) => {
+                        let Place::At(e) = closing_at(text, to, size, b) else {
+                            return Text::Broken;
+                        };
+                        to = e;
+                    }
+                    Text::Deep => {
+                        return Text::Deep;
+                    }
+                    Text::Broken => {
+                        return Text::Broken;
+                    }
                 }
-                Text::Deep => {
-                    return Text::Deep;
-                }
-                Text::Broken => {
+            } else {
+                let Place::At(e) = closing_at(text, to, size, a) else {
                     return Text::Broken;
-                }
+                };
+                to = e;
             }
         }
     }

@@ -8,8 +8,13 @@ use lib.Seq.{slice}
 use lib.Dec.{ltb}
 use Rattle.language.specs.Language.{Language, productionKey}
 use Rattle.reader.specs.Syntax.{Read, done, deep, broken, readAll}
+use Rattle.fields.specs.Fields.{pairAt}
+use Rattle.reader.specs.Code.{Code}
 use Rattle.reader.specs.Inner.Index.{Indexed}
-use Rattle.xml.specs.Import.{readOpening, readText}
+use Rattle.reader.specs.Inner.Positions.{KindsIn}
+use Rattle.xml.specs.Import.{readOpening, readElement, readText}
+use Rattle.xml.specs.declared.import.Element.{Element}
+use Rattle.xml.specs.declared.import.Element.the-variants.{Of, Nothing}
 use Rattle.xml.specs.declared.import.Text.{Text}
 use Rattle.xml.specs.declared.import.Text.the-variants.{End, Deep, Broken}
 
@@ -32,12 +37,6 @@ abbrev pub ImportsTrees : List ℕ → List ℕ → List ℕ → ℕ → ℕ →
 ImportsTrees kinds s index q e text at levels r =
     (l : Language) → Indexed index s l → Imports (readAll (readText l levels) (slice q e kinds) (drop at text)) text r
 
--- The answer r says what the reading p of a closing tag comes to.
-pub record Closed (p : Read (Unit {0})) (text : List ℕ) (r : Text) : Type 0 where
-  pub found : (e : ℕ) → r ≡ End e → (p ≡ done tt (drop e text)) × (e ≤ length text)
-  pub shallow : r ≡ Deep → ⊥
-  pub broken : r ≡ Broken → p ≡ broken
-
 -- The opening tag of production k.p stands from `at` up to a.
 pub record Opens (k : ℕ) (text : List ℕ) (at p a : ℕ) : Type 0 where
   pub reads : readOpening k (drop at text) ≡ done p (drop a text)
@@ -48,3 +47,19 @@ pub record Opens (k : ℕ) (text : List ℕ) (at p a : ℕ) : Type 0 where
 -- The place of production k.p in the index; there is none whose name is no byte.
 unfoldable pub placeOf : List ℕ → ℕ → ℕ → ℕ
 placeOf index k p = cond (ltb 255 p) 0 (getD index (productionKey k p) 0)
+
+-- An element of kind k at `at`: its opening tag ends at a, and the kinds of its arguments stand in s from q up to e.
+pub record OpensElement (s index : List ℕ) (k : ℕ) (text : List ℕ) (at q e a : ℕ) : Type 0 where
+  pub name : ℕ
+  pub place : ℕ
+  pub opens : Opens k text at name a
+  pub is-place : place ≡ placeOf index k name
+  pub some-place : place ≡ 0 → ⊥
+  pub from : q ≡ place + 4
+  pub to : e ≡ place + 2 + pairAt s place
+  pub kinds : KindsIn s q e
+
+-- The answer r says whether there is one.
+pub record Elements (s index : List ℕ) (k : ℕ) (text : List ℕ) (at : ℕ) (r : Element) : Type 0 where
+  pub found : (q e a : ℕ) → r ≡ Of q e a → OpensElement s index k text at q e a
+  pub nothing : r ≡ Nothing → (l : Language) → Indexed index s l → (reads : ℕ → List ℕ → Read Code) → readElement reads l k (drop at text) ≡ broken
