@@ -90,7 +90,7 @@ fn operands(
                 end = last;
                 left -= 1;
             } else if first < last {
-                match operands(
+                match row(
                     syntax,
                     language,
                     index,
@@ -133,6 +133,30 @@ fn operands(
         }
     }
     Read::End(to)
+}
+
+// The same. A row of one token, as a row or a rest of so many minutes has it, is read without a call.
+fn row(
+    syntax: Syntax,
+    language: &[u8],
+    index: &[u16],
+    uses: &[u8],
+    from: usize,
+    stop: usize,
+    bytes: &[u8],
+    at: usize,
+    levels: usize,
+) -> Read
+    requires { ⌜ Sound (now index) (now language) × KindsIn (now language) from stop × (from < stop) × (at ≤ length (now bytes)) ⌝ }
+    ensures { λ r. ⌜ (r ≡ operandsFrom (readAt syntax (now (language .entry)) (now (index .entry)) (now (uses .entry)) (now (bytes .entry)) levels) (now (language .entry)) (stop - from) from at) × EndsBy (length (now (bytes .entry))) r ⌝ }
+{
+    if stop - from == 1 {
+        let class = class_place(syntax, index, language[from]);
+        if class != 0 {
+            return token(language, class, bytes, at);
+        }
+    }
+    operands(syntax, language, index, uses, from, stop, bytes, at, levels)
 }
 
 // A code of the kind at a position, with so many levels left; a token is no level.
