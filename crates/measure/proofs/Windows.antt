@@ -69,13 +69,6 @@ kept-all ws at = record { long = refl; same = λ i l. refl }
 pub kept-then : {ws mid vs : List ℕ} {at : ℕ} → KeptBelow ws mid at → KeptBelow mid vs at → KeptBelow ws vs at
 kept-then k on = record { long = on .long ∙ k .long; same = λ i l. on .same i l ∙ k .same i l }
 
--- weight_of
-pub weight-out : (width : ℕ) (ws : List ℕ) (at j : ℕ) → width ≤ j → 0 ≡ window width ws at j
-weight-out width ws at j h = sym (window-out width ws at j h)
-
-pub weight-in : (width : ℕ) (ws : List ℕ) (at j : ℕ) → j < width → getD ws (at + j) 0 ≡ window width ws at j
-weight-in width ws at j h = sym (window-in width ws at j h)
-
 -- The sum of a window.
 pub sum-under : (top : ℕ) (w : Weights) → sumOf top w ≤ top
 unfolding sumOf

@@ -158,74 +158,6 @@ fn measure_single(
     single::walk::measure(source, table, &counts, kind, tree, 0, 64, top, ends)
 }
 
-// The same, where all numbers of the body are below 16: fewer weights.
-fn measure_few(
-    source: &[u8],
-    body: &[u8],
-    table: &mut [u16; TABLE],
-    kind: u8,
-    number: u8,
-    tree: &[u8],
-    top: usize,
-    width: usize,
-    ends: &mut [u32],
-) -> Measured
-    requires { ⌜ (kind < 32) × (length (now table) ≡ tableLength) × ((j : ℕ) → getD (now table) j 0 ≡ 0) × (width ≡ widthOf (now body)) × (0 < width) × (width ≤ 16) × ((j : ℕ) → getD (now ends) j 0 ≡ 0)
-        × ((t : List ℕ) × (f : Translation) × Checked (now source) t (now body) f) ⌝ }
-    ensures { λ r. ⌜ ((t : List ℕ) (f : Translation) → Checked (now (source .entry)) t (now (body .entry)) f
-        → Measures (now (source .entry)) (now (table .exit)) (now (ends .exit)) f kind number (now (tree .entry)) top r) ⌝ }
-{
-    let mut entries = [0u16; ENTRIES];
-    let mut weights = [0usize; FEW];
-    measure_with(
-        source,
-        body,
-        table,
-        kind,
-        number,
-        tree,
-        top,
-        &mut entries,
-        &mut weights,
-        width,
-        ends,
-    )
-}
-
-// The same for any numbers.
-fn measure_many(
-    source: &[u8],
-    body: &[u8],
-    table: &mut [u16; TABLE],
-    kind: u8,
-    number: u8,
-    tree: &[u8],
-    top: usize,
-    width: usize,
-    ends: &mut [u32],
-) -> Measured
-    requires { ⌜ (kind < 32) × (length (now table) ≡ tableLength) × ((j : ℕ) → getD (now table) j 0 ≡ 0) × (width ≡ widthOf (now body)) × (0 < width) × (width ≤ 256) × ((j : ℕ) → getD (now ends) j 0 ≡ 0)
-        × ((t : List ℕ) × (f : Translation) × Checked (now source) t (now body) f) ⌝ }
-    ensures { λ r. ⌜ ((t : List ℕ) (f : Translation) → Checked (now (source .entry)) t (now (body .entry)) f
-        → Measures (now (source .entry)) (now (table .exit)) (now (ends .exit)) f kind number (now (tree .entry)) top r) ⌝ }
-{
-    let mut entries = [0u16; ENTRIES];
-    let mut weights = [0usize; WEIGHTS];
-    measure_with(
-        source,
-        body,
-        table,
-        kind,
-        number,
-        tree,
-        top,
-        &mut entries,
-        &mut weights,
-        width,
-        ends,
-    )
-}
-
 // The same, with tables for the numbers that the body has.
 fn measured(
     source: &[u8],
@@ -248,10 +180,37 @@ fn measured(
             return measure_single(source, body, table, kind, tree, top, ends);
         }
     }
+    let mut entries = [0u16; ENTRIES];
     if width <= 16 {
-        return measure_few(source, body, table, kind, number, tree, top, width, ends);
+        let mut weights = [0usize; FEW];
+        return measure_with(
+            source,
+            body,
+            table,
+            kind,
+            number,
+            tree,
+            top,
+            &mut entries,
+            &mut weights,
+            width,
+            ends,
+        );
     }
-    measure_many(source, body, table, kind, number, tree, top, width, ends)
+    let mut weights = [0usize; WEIGHTS];
+    measure_with(
+        source,
+        body,
+        table,
+        kind,
+        number,
+        tree,
+        top,
+        &mut entries,
+        &mut weights,
+        width,
+        ends,
+    )
 }
 
 // Writes the run by a number of a legal tree whose result fits into the output.

@@ -143,7 +143,7 @@ add-wipe : tie.Need-add-wipe Inv-loop μ-loop
 add-wipe c = let r = open-room _ _ _ _ _ _ _ (c .before .before .before .before .before .before .before .before .before .before .before .before .before .before .before .before .loop .inv .0) (c .before .before .before .before .before .before .before .before .before .before .before .before .before .before .before .before .before .before .before .before .before .before .pre .5) in omega (arith, r, c .before .before .before .before .before .before .before .before .before .before .before .before .before .before .before .before .loop .inv .2, c .before .before .before .before .before .before .before .before .before .before .before .before .before .before .before .before .before .before .before .before .before .before .good .1 .1 .1 .1 .1 .1 .1 .1 .1 .1 .1 .1 .0)
 
 wipe-requires-2 : tie.Need-wipe-requires-2 Inv-loop μ-loop
-wipe-requires-2 c κs = let r = open-room _ _ _ _ _ _ _ (c .before .before .before .before .before .before .before .before .before .before .before .before .before .before .before .before .loop .inv .0) (c .before .before .before .before .before .before .before .before .before .before .before .before .before .before .before .before .before .before .before .before .before .before .pre .5) in let z : c .before .before .before .before .before .before .before .before .before .before .before .before .before .before .before .before .loop .q + 1 - 1 ≡ c .before .before .before .before .before .before .before .before .before .before .before .before .before .before .before .before .loop .q = omega arith in (c .before .before .before .before .before .before .before .before .before .before .before .before .before .before .before .before .before .before .before .before .before .before .pre .6, c .before .before .before .before .before .before .before .before .before .before .before .before .before .before .before .before .before .before .before .before .before .before .pre .7, omega (arith, r, c .before .before .before .before .before .before .before .before .before .before .weigh .ensures .0 .long), c .before .before .before .before .before .before .before .before .before .before .weigh .ensures .1 .1 .1, rw z (weighed-only (c .before .before .before .before .before .before .before .before .before .before .before .before .before .before .before .before .before .before .before .before .before .before .args .counts .now) (c .before .before .before .before .before .before .before .before .before .before .before .before .before .before .before .before .before .before .before .before .before .before .args .entries .now) (c .before .before .before .before .before .before .before .before .before .before .before .before .before .before .before .before .loop .q) (c .before .before .before .before .before .before .before .before .before .before .before .before .before .before .before .before .before .before .before .before .before .before .args .top) (c .before .before .before .before .before .before .before .before .before .before .before .before .before .before .before .before .before .before .before .before .before .before .args .width) _ _ _ (c .before .before .before .before .before .before .before .before .before .before .weigh .ensures .1 .0)))
+wipe-requires-2 c κs = let r = open-room _ _ _ _ _ _ _ (c .before .before .before .before .before .before .before .before .before .before .before .before .before .before .before .before .loop .inv .0) (c .before .before .before .before .before .before .before .before .before .before .before .before .before .before .before .before .before .before .before .before .before .before .pre .5) in let z : c .before .before .before .before .before .before .before .before .before .before .before .before .before .before .before .before .loop .q + 1 - 1 ≡ c .before .before .before .before .before .before .before .before .before .before .before .before .before .before .before .before .loop .q = omega arith in (c .before .before .before .before .before .before .before .before .before .before .before .before .before .before .before .before .before .before .before .before .before .before .pre .6, c .before .before .before .before .before .before .before .before .before .before .before .before .before .before .before .before .before .before .before .before .before .before .pre .7, omega (arith, r, c .before .before .before .before .before .before .before .before .before .before .weigh .ensures .0 .long), c .before .before .before .before .before .before .before .before .before .before .weigh .ensures .1 .1 .1, rw z (weighed-only (c .before .before .before .before .before .before .before .before .before .before .before .before .before .before .before .before .before .before .before .before .before .before .args .counts .now) (c .before .before .before .before .before .before .before .before .before .before .before .before .before .before .before .before .before .before .before .before .before .before .args .entries .now) (c .before .before .before .before .before .before .before .before .before .before .before .before .before .before .before .before .loop .q) (c .before .before .before .before .before .before .before .before .before .before .before .before .before .before .before .before .before .before .before .before .before .before .args .top) (c .before .before .before .before .before .before .before .before .before .before .before .before .before .before .before .before .before .before .before .before .before .before .args .width) (window (c .before .before .before .before .before .before .before .before .before .before .before .before .before .before .before .before .before .before .before .before .before .before .args .width) (c .before .before .before .before .before .before .before .before .before .before .before .before .before .before .before .before .loop .weights) (c .before .before .before .before .before .before .before .before .before .before .before .before .before .before .before .before .loop .base)) _ (c .before .before .before .before .before .before .before .before .before .before .before .before .before .before .before .before .loop .base + c .before .before .before .before .before .before .before .before .before .before .before .before .before .before .before .before .before .before .before .before .before .before .args .width) (c .before .before .before .before .before .before .before .before .before .before .weigh .ensures .1 .0)))
 
 loop-less-2 : tie.Need-loop-less-2 Inv-loop μ-loop
 loop-less-2 c = let z = step-row _ _ _ _ _ (c .before .before .before .before .before .before .first .given .1) (c .before .before .before .before .before .before .before .before .step-at .ensures .1 .0) in omega (arith, z .0, z .1)
@@ -179,7 +179,7 @@ loop-less-3 : tie.Need-loop-less-3 Inv-loop μ-loop
 loop-less-3 c = let z = step-row _ _ _ _ _ (c .before .before .first .given .1) (c .before .before .before .before .step-at .ensures .1 .0) in omega (arith, z .0, z .1)
 
 loop-again-3 : tie.Need-loop-again-3 Inv-loop μ-loop
-loop-again-3 c = (open-down _ _ _ _ _ _ _ (c .before .before .before .before .before .before .before .before .before .before .before .before .before .before .before .loop .inv .0) (c .before .before .before .before .before .before .before .before .before .before .before .before .before .before .if1 .left) (sym (c .before .before .before .before .before .before .before .before .before .before .before .before .out-of-levels .ensures) ∙ c .before .before .before .before .before .before .before .before .before .before .before .if3 .left) _ (c .before .before .before .before .before .before .before .before .before .weigh .ensures .1 .0) _ (c .before .before .before .before .step-at .ensures .0) (c .before .before .first .given .1) (c .before .before .before .before .step-at .ensures .1 .0) _ (c .before .before .before .before .before .before .before .before .before .weigh .ensures .0) refl (c .before .before .before .before .before .before .before .before .before .before .before .before .before .before .before .before .before .before .before .before .before .pre .0 .short) (c .before .before .before .before .before .before .before .before .before .before .before .before .before .before .before .before .before .before .before .before .before .pre .5) (deeper _ _ _ _ (c .before .before .before .before .before .before .before .before .before .before .before .before .before .before .before .loop .inv .0 .shallow) (sym (c .before .before .before .before .before .before .before .before .before .before .before .before .out-of-levels .ensures) ∙ c .before .before .before .before .before .before .before .before .before .before .before .if3 .left) _ (c .before .before .before .before .step-at .ensures .1 .1 .1) (c .before .before .first .given .1) (c .if4 .left)), let z = open-in _ _ _ _ _ _ _ (c .before .before .before .before .before .before .before .before .before .before .before .before .before .before .before .loop .inv .0) (c .before .before .before .before .before .before .before .before .before .before .before .before .before .before .if1 .left) (c .before .before .before .before .before .before .before .before .before .before .before .before .before .before .before .before .before .before .before .before .before .pre .0 .short) in learn-down _ _ _ _ (c .before .before .before .before .before .before .before .before .before .before .before .before .before .before .before .loop .inv .1) (c .before .before .before .before .before .before .before .before .before .before .before .before .before .before .if1 .left) (sym (c .before .before .before .before .before .before .before .before .before .before .before .before .out-of-levels .ensures) ∙ c .before .before .before .before .before .before .before .before .before .before .before .if3 .left) _ (c .before .before .before .before .step-at .ensures .1 .1 .0) (c .before .before .first .given .1) (step-row _ _ _ _ _ (c .before .before .first .given .1) (c .before .before .before .before .step-at .ensures .1 .0) .0) (c .before .before .before .before .before .before .before .before .before .before .before .before .before .before .before .loop .inv .0 .first-long) (c .before .before .before .before .before .before .before .before .before .before .before .before .before .before .before .loop .inv .0 .last-long) (c .before .before .before .before .before .before .before .before .before .before .before .before .before .before .before .before .before .before .before .before .before .pre .5) (deeper _ _ _ _ (c .before .before .before .before .before .before .before .before .before .before .before .before .before .before .before .loop .inv .0 .shallow) (sym (c .before .before .before .before .before .before .before .before .before .before .before .before .out-of-levels .ensures) ∙ c .before .before .before .before .before .before .before .before .before .before .before .if3 .left) _ (c .before .before .before .before .step-at .ensures .1 .1 .1) (c .before .before .first .given .1) (c .if4 .left)) (z .0) (z .1), c .before .before .before .before .before .before .before .before .before .weigh .ensures .0 .long ∙ c .before .before .before .before .before .before .before .before .before .before .before .before .before .before .before .loop .inv .2, c .before .before .before .before .before .before .before .before .before .before .before .before .before .before .before .loop .inv .3, tidy-down _ _ _ _ (c .before .before .before .before .before .before .before .before .before .before .before .before .before .before .before .loop .inv .4) (c .before .before .before .before .before .before .before .before .before .before .before .before .before .before .before .loop .inv .0 .based) _ (omega (arith, c .before .before .before .before .before .before .before .before .before .before .before .before .before .before .before .loop .inv .0 .first-long, c .before .before .before .before .before .before .before .before .before .before .before .before .before .before .before .loop .inv .0 .shallow, c .before .before .before .before .before .before .before .before .before .before .before .before .before .before .before .before .before .before .before .before .before .pre .5)) (c .before .before .before .before .before .before .before .before .before .weigh .ensures .0) (c .before .before .before .before .before .before .before .before .before .weigh .ensures .1 .1 .1) (weighed-only (c .before .before .before .before .before .before .before .before .before .before .before .before .before .before .before .before .before .before .before .before .before .args .counts .now) (c .before .before .before .before .before .before .before .before .before .before .before .before .before .before .before .before .before .before .before .before .before .args .entries .now) (c .before .before .before .before .before .before .before .before .before .before .before .before .before .before .before .loop .q) (c .before .before .before .before .before .before .before .before .before .before .before .before .before .before .before .before .before .before .before .before .before .args .top) (c .before .before .before .before .before .before .before .before .before .before .before .before .before .before .before .before .before .before .before .before .before .args .width) _ _ _ (c .before .before .before .before .before .before .before .before .before .weigh .ensures .1 .0)))
+loop-again-3 c = (open-down _ _ _ _ _ _ _ (c .before .before .before .before .before .before .before .before .before .before .before .before .before .before .before .loop .inv .0) (c .before .before .before .before .before .before .before .before .before .before .before .before .before .before .if1 .left) (sym (c .before .before .before .before .before .before .before .before .before .before .before .before .out-of-levels .ensures) ∙ c .before .before .before .before .before .before .before .before .before .before .before .if3 .left) _ (c .before .before .before .before .before .before .before .before .before .weigh .ensures .1 .0) _ (c .before .before .before .before .step-at .ensures .0) (c .before .before .first .given .1) (c .before .before .before .before .step-at .ensures .1 .0) _ (c .before .before .before .before .before .before .before .before .before .weigh .ensures .0) refl (c .before .before .before .before .before .before .before .before .before .before .before .before .before .before .before .before .before .before .before .before .before .pre .0 .short) (c .before .before .before .before .before .before .before .before .before .before .before .before .before .before .before .before .before .before .before .before .before .pre .5) (deeper _ _ _ _ (c .before .before .before .before .before .before .before .before .before .before .before .before .before .before .before .loop .inv .0 .shallow) (sym (c .before .before .before .before .before .before .before .before .before .before .before .before .out-of-levels .ensures) ∙ c .before .before .before .before .before .before .before .before .before .before .before .if3 .left) _ (c .before .before .before .before .step-at .ensures .1 .1 .1) (c .before .before .first .given .1) (c .if4 .left)), let z = open-in _ _ _ _ _ _ _ (c .before .before .before .before .before .before .before .before .before .before .before .before .before .before .before .loop .inv .0) (c .before .before .before .before .before .before .before .before .before .before .before .before .before .before .if1 .left) (c .before .before .before .before .before .before .before .before .before .before .before .before .before .before .before .before .before .before .before .before .before .pre .0 .short) in learn-down _ _ _ _ (c .before .before .before .before .before .before .before .before .before .before .before .before .before .before .before .loop .inv .1) (c .before .before .before .before .before .before .before .before .before .before .before .before .before .before .if1 .left) (sym (c .before .before .before .before .before .before .before .before .before .before .before .before .out-of-levels .ensures) ∙ c .before .before .before .before .before .before .before .before .before .before .before .if3 .left) _ (c .before .before .before .before .step-at .ensures .1 .1 .0) (c .before .before .first .given .1) (step-row _ _ _ _ _ (c .before .before .first .given .1) (c .before .before .before .before .step-at .ensures .1 .0) .0) (c .before .before .before .before .before .before .before .before .before .before .before .before .before .before .before .loop .inv .0 .first-long) (c .before .before .before .before .before .before .before .before .before .before .before .before .before .before .before .loop .inv .0 .last-long) (c .before .before .before .before .before .before .before .before .before .before .before .before .before .before .before .before .before .before .before .before .before .pre .5) (deeper _ _ _ _ (c .before .before .before .before .before .before .before .before .before .before .before .before .before .before .before .loop .inv .0 .shallow) (sym (c .before .before .before .before .before .before .before .before .before .before .before .before .out-of-levels .ensures) ∙ c .before .before .before .before .before .before .before .before .before .before .before .if3 .left) _ (c .before .before .before .before .step-at .ensures .1 .1 .1) (c .before .before .first .given .1) (c .if4 .left)) (z .0) (z .1), c .before .before .before .before .before .before .before .before .before .weigh .ensures .0 .long ∙ c .before .before .before .before .before .before .before .before .before .before .before .before .before .before .before .loop .inv .2, c .before .before .before .before .before .before .before .before .before .before .before .before .before .before .before .loop .inv .3, tidy-down _ _ _ _ (c .before .before .before .before .before .before .before .before .before .before .before .before .before .before .before .loop .inv .4) (c .before .before .before .before .before .before .before .before .before .before .before .before .before .before .before .loop .inv .0 .based) _ (omega (arith, c .before .before .before .before .before .before .before .before .before .before .before .before .before .before .before .loop .inv .0 .first-long, c .before .before .before .before .before .before .before .before .before .before .before .before .before .before .before .loop .inv .0 .shallow, c .before .before .before .before .before .before .before .before .before .before .before .before .before .before .before .before .before .before .before .before .before .pre .5)) (c .before .before .before .before .before .before .before .before .before .weigh .ensures .0) (c .before .before .before .before .before .before .before .before .before .weigh .ensures .1 .1 .1) (weighed-only (c .before .before .before .before .before .before .before .before .before .before .before .before .before .before .before .before .before .before .before .before .before .args .counts .now) (c .before .before .before .before .before .before .before .before .before .before .before .before .before .before .before .before .before .before .before .before .before .args .entries .now) (c .before .before .before .before .before .before .before .before .before .before .before .before .before .before .before .loop .q) (c .before .before .before .before .before .before .before .before .before .before .before .before .before .before .before .before .before .before .before .before .before .args .top) (c .before .before .before .before .before .before .before .before .before .before .before .before .before .before .before .before .before .before .before .before .before .args .width) (window (c .before .before .before .before .before .before .before .before .before .before .before .before .before .before .before .before .before .before .before .before .before .args .width) (c .before .before .before .before .before .before .before .before .before .before .before .before .before .before .before .loop .weights) (c .before .before .before .before .before .before .before .before .before .before .before .before .before .before .before .loop .base)) _ (c .before .before .before .before .before .before .before .before .before .before .before .before .before .before .before .loop .base + c .before .before .before .before .before .before .before .before .before .before .before .before .before .before .before .before .before .before .before .before .before .args .width) (c .before .before .before .before .before .before .before .before .before .weigh .ensures .1 .0)))
 
 pub measure-rows-spec : {M : Type 1} → statement M
 measure-rows-spec =

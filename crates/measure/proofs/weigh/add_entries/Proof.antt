@@ -1,7 +1,6 @@
 use native.Mathlib.Omega.{arith}
 use borrow.Author.Needs.{needs}
-use mathlib.Core.Path.{_≡_, refl, _∙_}
-use lib.ListN.{length, getD}
+use lib.ListN.{getD}
 use Rattle.measure.proofs.Windows.{Entering, enter-start, enter-next, enter-less, enter-done}
 use Rattle.measure.proofs.weigh.add_entries.Statement.{statement}
 use Rattle.measure.proofs.weigh.add_entries.Tie as tie

@@ -1,5 +1,5 @@
 use Prim.Native.Nat.{_%_}
-use mathlib.Core.Path.{refl, _∙_}
+use mathlib.Core.Path.{refl}
 use native.Mathlib.Omega.{arith}
 use Rattle.measure.proofs.Windows.{one-use, one-adds}
 use borrow.Author.Needs.{needs}

@@ -1,4 +1,5 @@
-use Rattle.measure.proofs.Windows.{weight-out, weight-in}
+use mathlib.Core.Path.{sym}
+use Rattle.measure.proofs.Windows.{window-out, window-in}
 use borrow.Author.Needs.{needs}
 use Rattle.measure.proofs.weigh.weight_of.Statement.{statement}
 use Rattle.measure.proofs.weigh.weight_of.Tie as tie
@@ -6,10 +7,10 @@ use Rattle.measure.proofs.weigh.weight_of.Reads as reads
 use Rattle.measure.proofs.weigh.weight_of.Lts as lts
 
 returns : tie.Need-returns
-returns c = weight-out _ _ _ _ (c .if1 .taken)
+returns c = sym (window-out _ _ _ _ (c .if1 .taken))
 
 returns-2 : tie.Need-returns-2
-returns-2 c = weight-in _ _ _ _ (c .before .if1 .left)
+returns-2 c = sym (window-in _ _ _ _ (c .before .if1 .left))
 
 pub weight-of-spec : {M : Type 1} → statement M
 weight-of-spec =
