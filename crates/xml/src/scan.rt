@@ -222,7 +222,11 @@ pub fn token_at(language: &[u8], place: usize, kind: u8, text: &[u8], at: usize)
     if !in_range(language, place, value) {
         return Number::Nothing;
     }
-    let Place::At(c) = closing_at(text, at, a - at + 1, b) else {
+    let size = a - at + 1;
+    if text.len() - b < size {
+        return Number::Nothing;
+    }
+    let Place::At(c) = same_at(text, at, size, b) else {
         return Number::Nothing;
     };
     Number::Is(value, c)
