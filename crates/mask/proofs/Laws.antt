@@ -23,15 +23,7 @@ use Rattle.mask.specs.Mask.{hiddenBlock, masked, maskedAll}
 use Rattle.mask.specs.Operations.{maskBytes, maskTree}
 use Rattle.mask.specs.Agreement.{Agree, both-hidden, same-token, same-production, AgreeAll, agree-nil, agree-cons, Visible, itself, below, VisibleAmong, in-first, in-later, Open, open-token, open-production, OpenAll, open-nil, open-cons}
 use Rattle.mask.specs.Laws.{Alike, HiddenStaysHidden, StandsIn, VisibleIsShown, MaskTellsTheRest}
-use Rattle.mask.proofs.Masks.{masked-hidden, masked-token, masked-node}
-
-maskedAll-cons : (l : Language) (c : Card) (k : ℕ) (ks : List ℕ) (a : Code) (t : Codes) → maskedAll l c (k ∷ ks) (cons a t) ≡ masked l c k a ++ maskedAll l c ks t
-unfolding maskedAll
-maskedAll-cons l c k ks a t = refl
-
-maskedAll-nil : (l : Language) (c : Card) → maskedAll l c [] nil ≡ []
-unfolding maskedAll
-maskedAll-nil l c = refl
+use Rattle.mask.proofs.Masks.{masked-hidden, masked-token, masked-node, all-cons, all-nil}
 
 -- What agrees outside hidden blocks is masked alike.
 module _ (l : Language) (c : Card) where
@@ -51,8 +43,8 @@ module _ (l : Language) (c : Card) where
     all-alike : {ks : List ℕ} {s t : Codes} → AgreeAll l c ks s t → maskedAll l c ks s ≡ maskedAll l c ks t
     all-alike agree-nil = refl
     all-alike (agree-cons {k = k} {ks = ks} {a = a} {b = b} {s = s} {t = t} h i) =
-        maskedAll-cons l c k ks a s
-        ∙ (ap (λ (u : List ℕ). u ++ maskedAll l c ks s) (alike h) ∙ (ap (λ (u : List ℕ). masked l c k b ++ u) (all-alike i) ∙ sym (maskedAll-cons l c k ks b t)))
+        all-cons l c k ks a s
+        ∙ (ap (λ (u : List ℕ). u ++ maskedAll l c ks s) (alike h) ∙ (ap (λ (u : List ℕ). masked l c k b ++ u) (all-alike i) ∙ sym (all-cons l c k ks b t)))
 
 -- Answers of equal results, in outputs of equal length.
 result-alike : (o p : List ℕ) (m : Result (List ℕ))
@@ -90,8 +82,8 @@ module _ (l : Language) (c : Card) (j : ℕ) (b : Code) where
     shown (below {k = k} {p = p} {ks = ks} {t = t} h e w) = rw (masked-node l c k p ks t h e) (behind (p ∷ []) (shown-among w))
 
     shown-among : {ks : List ℕ} {t : Codes} → VisibleAmong l c j b ks t → StandsIn (masked l c j b) (maskedAll l c ks t)
-    shown-among (in-first {k = k} {ks = ks} {a = a} {t = t} w) = rw (maskedAll-cons l c k ks a t) (before-more (maskedAll l c ks t) (shown w))
-    shown-among (in-later {k = k} {ks = ks} {a = a} {t = t} w) = rw (maskedAll-cons l c k ks a t) (behind (masked l c k a) (shown-among w))
+    shown-among (in-first {k = k} {ks = ks} {a = a} {t = t} w) = rw (all-cons l c k ks a t) (before-more (maskedAll l c ks t) (shown w))
+    shown-among (in-later {k = k} {ks = ks} {a = a} {t = t} w) = rw (all-cons l c k ks a t) (behind (masked l c k a) (shown-among w))
 
 -- Where nothing is hidden the masked bytes are the block's own.
 module _ (l : Language) (c : Card) where
@@ -103,9 +95,9 @@ module _ (l : Language) (c : Card) where
     own (open-production {k = k} {p = p} {ks = ks} {t = t} h e w) = masked-node l c k p ks t h e ∙ ap (λ (u : List ℕ). p ∷ u) (own-all w)
 
     own-all : {ks : List ℕ} {t : Codes} → OpenAll l c ks t → maskedAll l c ks t ≡ writeAll tree t
-    own-all open-nil = maskedAll-nil l c
+    own-all open-nil = all-nil l c []
     own-all (open-cons {k = k} {ks = ks} {a = a} {t = t} h w) =
-        maskedAll-cons l c k ks a t ∙ (ap (λ (u : List ℕ). u ++ maskedAll l c ks t) (own h) ∙ ap (λ (u : List ℕ). write tree a ++ u) (own-all w))
+        all-cons l c k ks a t ∙ (ap (λ (u : List ℕ). u ++ maskedAll l c ks t) (own h) ∙ ap (λ (u : List ℕ). write tree a ++ u) (own-all w))
 
 pub visible-is-shown : VisibleIsShown
 visible-is-shown l c root plan kind block w = (shown l c kind block w, λ h. own l c h)
@@ -180,8 +172,8 @@ module _ (l : Language) (c : Card) (no-clash : (k p : ℕ) (ks : List ℕ) → a
   cons-tells k ks a s one more (typed-cons {a = b} {t = t} g gs) x y h =
       let z : masked l c k a ++ (maskedAll l c ks s ++ x) ≡ masked l c k b ++ (maskedAll l c ks t ++ y) =
       sym (append-assoc (masked l c k a) (maskedAll l c ks s) x)
-      ∙ (ap (λ (v : List ℕ). v ++ x) (sym (maskedAll-cons l c k ks a s))
-      ∙ (h ∙ (ap (λ (v : List ℕ). v ++ y) (maskedAll-cons l c k ks b t) ∙ append-assoc (masked l c k b) (maskedAll l c ks t) y))) in
+      ∙ (ap (λ (v : List ℕ). v ++ x) (sym (all-cons l c k ks a s))
+      ∙ (h ∙ (ap (λ (v : List ℕ). v ++ y) (all-cons l c k ks b t) ∙ append-assoc (masked l c k b) (maskedAll l c ks t) y))) in
       let first = one b g (maskedAll l c ks s ++ x) (maskedAll l c ks t ++ y) z in
       let others = more t gs x y (first .1) in
       (agree-cons (first .0) (others .0), others .1)

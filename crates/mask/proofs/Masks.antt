@@ -1,39 +1,86 @@
--- A law for each return and loop turn of `end_at`, `mask_hidden`, `mask_token`, `mask_at` and `mask_all`.
-use Prim.Native.Nat.{ℕ, _+_, _*_, _-_, _/_, _%_, _<_, _≤_}
+-- A law for each return and loop turn of the functions of walk.rt.
+use Prim.Native.Nat.{ℕ, zero, suc, _+_, _*_, _-_, _/_, _%_, _<_, _≤_}
 use mathlib.Core.Path.{_≡_, refl, sym, ap, _∙_}
 use mathlib.Core.Bool.{Bool, true, false, cond}
-use mathlib.Core.List.{List, [], _∷_, _++_}
+use mathlib.Core.List.{List, [], _∷_, _++_, append-assoc}
 use mathlib.Core.Option.{some}
 use native.Mathlib.Omega.{arith}
-use lib.ListN.{length, getD, take, drop}
-use lib.Seq.{slice}
+use lib.ListN.{length, getD, set, take, drop, length-append, length-drop}
+use lib.Seq.{slice, sets, sets-eq, getD-drop}
 use lib.Dec.{eqb}
+use borrow.Author.Tests.{ne-eqb}
 use Rattle.fields.specs.Fields.{pairAt, twoBytes}
-use Rattle.fields.specs.declared.copy.Stored.{Stored}
-use Rattle.fields.specs.declared.copy.Stored.the-variants as St
-use Rattle.fields.proofs.Split.{front}
+use Rattle.fields.specs.Inner.Writing.{spliced}
+use Rattle.fields.proofs.Truth.{by-test}
+use Rattle.fields.proofs.Lists.{part-done, part-next}
+use Rattle.fields.proofs.Codec.{bytes-from}
+use Rattle.fields.proofs.Splices.{splice-splice, length-spliced, nothing-spliced}
 use Rattle.language.specs.Language.{Language, argumentsOf}
 use Rattle.reader.specs.Code.{Code, node, token, argument, Codes, nil, cons}
-use Rattle.reader.specs.Syntax.{done, tree, readAll, read}
-use Rattle.reader.specs.Inner.Index.{Indexed}
+use Rattle.reader.specs.Syntax.{done, tree, write, readAll, read}
+use Rattle.reader.specs.Operations.{treeLevels}
+use Rattle.reader.specs.Inner.Index.{Sound, Indexed}
 use Rattle.reader.specs.Inner.Positions as At
-use Rattle.reader.specs.Inner.Positions.{productionPlace, EndsBy, restAt, restOf, usesIn}
+use Rattle.reader.specs.Inner.Positions.{productionPlace, EndsBy, KindsIn, restAt, restOf, usesIn}
 use Rattle.reader.specs.declared.node.Read.{Read}
 use Rattle.reader.specs.declared.node.Read.the-variants.{End, Deep, Broken}
 use Rattle.reader.specs.declared.node.Syntax.the-variants.{Tree}
-use Rattle.card.specs.Card.{Card, sees}
-use Rattle.card.specs.Inner.Sets.{inSet, Holds}
-use Rattle.putting.specs.declared.put.Step.{Step}
-use Rattle.putting.specs.declared.put.Step.the-variants.{To, Full}
-use Rattle.putting.specs.Inner.Putting.{Puts}
+use Rattle.reader.proofs.Laws.{name-in, kinds-in}
+use Rattle.reader.proofs.Sound.{read-done}
 use Rattle.checks.proofs.TreeChain.{no-uses}
-use Rattle.putting.specs.Inner.Passing.{Steps, Passes, forAll}
-use Rattle.putting.proofs.Puts.{puts-same}
-use Rattle.putting.proofs.Passing.{steps-full, steps-to, steps-then, passes-full, passes-to, passes-same, passes-then}
-use Rattle.putting.proofs.Reading.{ReadNode, two, read-token, read-deep, read-production, found-name}
-use Rattle.putting.proofs.Walking.{Going, going-start, going-done, going-full, going-next}
+use Rattle.card.specs.Card.{Card, sees}
+use Rattle.card.specs.Inner.Sets.{inSet}
+use Rattle.putting.proofs.Reading.{two, read-token, read-deep, read-production, found-name, same-done, then-done}
 use Rattle.mask.specs.Mask.{hiddenBlock, masked, maskedAll}
-use Rattle.mask.specs.Inner.Masking.{EndsTree, MasksHidden, MasksTree, MasksTrees}
+use Rattle.mask.specs.Inner.Masking.{Puts, EndsTree, MasksTree, MasksTrees, Goes, MasksWhole}
+
+-- Texts put one behind the other, and the same text said in another way.
+pub puts-same : {v u o o′ : List ℕ} {n m : ℕ} → v ≡ u → Puts v o o′ n m → Puts u o o′ n m
+puts-same e w = rw (← e) w
+
+pub puts-nothing : (o : List ℕ) (n : ℕ) → Puts [] o o n n
+puts-nothing o n = record { end = omega arith; bytes = λ h. nothing-spliced o n }
+
+pub puts-then : {v u o o₁ o₂ : List ℕ} {n m k : ℕ} → Puts v o o₁ n m → Puts u o₁ o₂ m k → Puts (v ++ u) o o₂ n k
+puts-then {v} {u} {o} {o₁} {o₂} {n} {m} {k} a c = record {
+  end = omega (arith, length-append v u, a .end, c .end);
+  bytes = λ h.
+      let f : n + length v ≤ length o = omega (arith, a .end, c .end) in
+      let e : o₁ ≡ spliced o n v = a .bytes (omega (arith, a .end)) in
+      let i : length o₁ ≡ length o = ap length e ∙ length-spliced o n v f in
+      c .bytes (omega arith) ∙ (ap (λ (p : List ℕ). spliced p m u) e ∙ (ap (λ (j : ℕ). spliced (spliced o n v) j u) (a .end) ∙ splice-splice o n v f u));
+}
+
+set-stored : (o : List ℕ) (n : ℕ) (v : List ℕ) → n + length v ≤ length o → sets o n v ≡ spliced o n v
+unfolding spliced
+set-stored o n v h = sets-eq v o n h ∙ append-assoc (take n o) v (drop (n + length v) o)
+
+-- put
+pub put-short : (x : ℕ) (o : List ℕ) (n : ℕ) → length o ≤ n → Puts (x ∷ []) o o n (n + 1)
+put-short x o n h = record { end = refl; bytes = λ i. absurd (omega arith) }
+
+pub put-byte : (x : ℕ) (o : List ℕ) (n : ℕ) → n < length o → Puts (x ∷ []) o (set o n x) n (n + 1)
+put-byte x o n h = record { end = refl; bytes = λ i. set-stored o n (x ∷ []) (omega arith) }
+
+-- put_token
+module _ (x : Bool) (b : List ℕ) (at : ℕ) (o : List ℕ) (n : ℕ) (there : at + 2 ≤ length b) where
+  pub token-hidden : (o′ : List ℕ) → x ≡ false → Puts hiddenBlock o o′ n (n + 1) → Puts (cond x (take 2 (drop at b)) hiddenBlock) o o′ n (n + 1)
+  token-hidden o′ e w = rw e w
+
+  module _ (e : x ≡ true) where
+    token-is : cond x (take 2 (drop at b)) hiddenBlock ≡ getD b at 0 ∷ getD b (at + 1) 0 ∷ []
+    token-is = ap (λ (y : Bool). cond y (take 2 (drop at b)) hiddenBlock) e ∙ ap (take 2) (two b at (omega arith))
+
+    pub token-short : length o ≤ n + 1 → Puts (cond x (take 2 (drop at b)) hiddenBlock) o o n (n + 2)
+    token-short h =
+        puts-same (sym token-is) (record { end = refl; bytes = λ i. absurd (omega arith) })
+
+    pub token-put : n + 1 < length o → Puts (cond x (take 2 (drop at b)) hiddenBlock) o (set (set o n (getD b at 0)) (n + 1) (getD b (at + 1) 0)) n (n + 2)
+    token-put h =
+        let e : n + 1 ≡ suc n = omega arith in
+        let w = set-stored o n (getD b at 0 ∷ getD b (at + 1) 0 ∷ []) (omega arith) in
+        puts-same (sym token-is)
+        (record { end = refl; bytes = λ i. ap (λ (j : ℕ). set (set o n (getD b at 0)) j (getD b (at + 1) 0)) e ∙ w })
 
 -- end_at
 module _ (s index : List ℕ) (k : ℕ) (b : List ℕ) (at levels : ℕ) (f : Read)
@@ -58,36 +105,6 @@ module _ (s index : List ℕ) (k : ℕ) (b : List ℕ) (at levels : ℕ) (f : Re
     inside = i;
     left = λ l a r z q. let w : At.broken ≡ At.rest r = ap (restAt b) (sym h) ∙ same-rest l a r z q in let y : _≡_ {A = ℕ} 0 1 = cc in absurd (omega arith);
   }
-
--- mask_hidden
-module _ (store : Bool) (s index : List ℕ) (k : ℕ) (b : List ℕ) (at levels : ℕ) (o : List ℕ) (n : ℕ) {e : ℕ} (ends : EndsTree s index k b at levels e)
-    {o′ : List ℕ} {x : Stored} (w : Puts store hiddenBlock o o′ n x) where
-  pub hidden-full : x ≡ St.Full → Steps store b o o′ Full × MasksHidden store s index k b at levels o o′ n Full
-  hidden-full h = (steps-full store b o o′ (w .kept), λ l a r z q. passes-full (w .full h))
-
-  pub hidden-done : {m : ℕ} → x ≡ St.To m → Steps store b o o′ (To e m) × MasksHidden store s index k b at levels o o′ n (To e m)
-  hidden-done {m} h = (
-    steps-to store b o o′ e m (w .kept) (ends .inside) (w .done m h .fits),
-    λ l a r z q. passes-to (ends .left l a r z q) (w .done m h),
-  )
-
--- mask_token
-module _ (store : Bool) (b : List ℕ) (at : ℕ) (o : List ℕ) (n : ℕ) where
-  pub token-short : length b - at < 2
-      → Steps store b o o Full × (2 ≤ length b - at → Passes store (take 2 (drop at b)) b (drop (at + 2) b) o o n Full)
-  token-short h = (steps-full store b o o (λ q. refl), λ i. absurd (omega arith))
-
-  module _ {o′ : List ℕ} {x : Stored} (w : Puts store (take (at + 2 - at) (drop at b)) o o′ n x) where
-    two-bytes : Puts store (take 2 (drop at b)) o o′ n x
-    two-bytes = let e : at + 2 - at ≡ 2 = omega arith in puts-same (ap (λ (i : ℕ). take i (drop at b)) e) w
-
-    pub token-full : x ≡ St.Full → Steps store b o o′ Full × (2 ≤ length b - at → Passes store (take 2 (drop at b)) b (drop (at + 2) b) o o′ n Full)
-    token-full e = (steps-full store b o o′ (w .kept), λ i. passes-full (two-bytes .full e))
-
-    pub token-done : {m : ℕ} → 2 ≤ length b - at → x ≡ St.To m
-        → Steps store b o o′ (To (at + 2) m) × (2 ≤ length b - at → Passes store (take 2 (drop at b)) b (drop (at + 2) b) o o′ n (To (at + 2) m))
-    token-done {m} h e =
-        (steps-to store b o o′ (at + 2) m (w .kept) (omega arith) (w .done m e .fits), λ i. passes-to refl (two-bytes .done m e))
 
 -- A block that is hidden, a token and a production that are seen.
 pub masked-hidden : (l : Language) (card : Card) (k : ℕ) (a : Code) → sees card k ≡ false → masked l card k a ≡ hiddenBlock
@@ -116,104 +133,160 @@ token-bytes : (b : List ℕ) (at : ℕ) → 2 ≤ length b - at → ((i : ℕ) �
 unfolding pairAt
 token-bytes b at h bytes = own-bytes (getD b at 0) (getD b (at + 1) 0) (bytes (at + 1)) ∙ sym (ap (take 2) (two b at h))
 
--- mask_at
-module _ (store : Bool) (s index b : List ℕ) (kinds k at : ℕ) (o : List ℕ) (n levels : ℕ) where
-  pub at-hidden : (o′ : List ℕ) (r : Step) → inSet kinds k ≡ false → Steps store b o o′ r × MasksHidden store s index k b at levels o o′ n r
-      → Steps store b o o′ r × MasksTree store s index kinds k b at levels o o′ n r
-  at-hidden o′ r h w = (
-    w .0,
-    λ l card a rest z c e. passes-same (sym (masked-hidden l card k a (sym (c k) ∙ h))) (w .1 l a rest z e),
-  )
+-- A tree that was read takes a byte at least.
+some-bytes : (a : Code) → 1 ≤ length (write tree a)
+unfolding write
+some-bytes (node k p t) = omega arith
+some-bytes (token v) = omega arith
+some-bytes (argument i zero) = omega arith
+some-bytes (argument i (suc j)) = omega arith
 
-  module _ (kind : k < 32) (bytes : (i : ℕ) → getD b i 0 < 256) (shown : inSet kinds k ≡ true) {j class place : ℕ}
-      (ej : j ≡ k) (ec : class ≡ getD index j 0) (ep : place ≡ cond (eqb class 0) (productionPlace Tree index k b at) 0) where
-    pub at-token : (o′ : List ℕ) (r : Step) → place ≡ 0
-        → Steps store b o o′ r × (2 ≤ length b - at → Passes store (take 2 (drop at b)) b (drop (at + 2) b) o o′ n r)
-        → Steps store b o o′ r × MasksTree store s index kinds k b at levels o o′ n r
-    at-token o′ r p w = (
-      w .0,
-      λ l card a rest z c e.
-          let t = read-token s index b k at kind bytes ej ec ep l z levels a rest e p in
-          let v : take 2 (drop at b) ≡ masked l card k a =
-          sym (ap (masked l card k) (t .is) ∙ (masked-token l card k (pairAt b at) (sym (c k) ∙ shown) ∙ token-bytes b at (t .there) bytes)) in
-          rw (← t .left) (passes-same v (w .1 (t .there))),
-    )
+pub read-some : (l : Language) (levels k : ℕ) (u : List ℕ) (a : Code) (rest : List ℕ) → ((i : ℕ) → getD u i 0 < 256)
+    → read tree l [] levels k u ≡ done a rest → length rest < length u
+read-some l levels k u a rest bytes e =
+    let w = read-done tree l [] levels k u a rest e .2 (bytes-from u (λ i j. bytes i)) in
+    omega (arith, ap length (w .0), length-append (write tree a) rest, some-bytes a)
 
-    module _ (pos : place ≡ 0 → ⊥) where
-      pub at-deep : levels ≡ 0 → Steps store b o o Full × MasksTree store s index kinds k b at levels o o n Full
-      at-deep h = (steps-full store b o o (λ q. refl), λ l card a rest z c e. read-deep s index b k at kind bytes ej ec ep l z levels a rest e pos h)
+-- A tree of a kind, by what stands at its position.
+module _ (s index b : List ℕ) (kinds k at : ℕ) (o : List ℕ) (n levels : ℕ) where
+  pub at-hidden : {e m : ℕ} {o′ : List ℕ} → inSet kinds k ≡ false → EndsTree s index k b at levels e → Puts hiddenBlock o o′ n m
+      → MasksTree s index kinds k b at levels o o′ n e m
+  at-hidden h ends w l card a rest z c f = record { left = ends .left l a rest z f; put = puts-same (sym (masked-hidden l card k a (sym (c k) ∙ h))) w }
 
-      pub at-name : at < length b
-      at-name = found-name s index b k at kind bytes ej ec ep pos .0
+  module _ (kind : k < 32) (bytes : (i : ℕ) → getD b i 0 < 256) where
+    pub not-behind : {e : ℕ} → EndsTree s index k b at levels e → e ≤ at → (l : Language) (a : Code) (rest : List ℕ) → Indexed index s l
+        → read tree l [] levels k (drop at b) ≡ done a rest → ⊥
+    not-behind {e} ends h l a rest z f =
+        let w = read-some l levels k (drop at b) a rest (λ i. rw (getD-drop at b i 0) (bytes (at + i))) f in
+        omega (arith, w, ap length (ends .left l a rest z f), length-drop e b, length-drop at b)
 
-      one-byte : take (at + 1 - at) (drop at b) ≡ getD b at 0 ∷ []
-      one-byte =
-          let e : at + 1 - at ≡ 1 = omega arith in
-          ap (λ (i : ℕ). take i (drop at b)) e ∙ ap (take 1) (front b at at-name)
+    module _ {j class place : ℕ} (ej : j ≡ k) (ec : class ≡ getD index j 0) (ep : place ≡ cond (eqb class 0) (productionPlace Tree index k b at) 0) where
+      pub not-cut : place ≡ 0 → length b - at < 2 → (l : Language) (a : Code) (rest : List ℕ) → Indexed index s l
+          → read tree l [] levels k (drop at b) ≡ done a rest → ⊥
+      not-cut p h l a rest z f =
+          let t = read-token s index b k at kind bytes ej ec ep l z levels a rest f p in omega (arith, t .there)
 
-      module _ {size : ℕ} (some-level : levels ≡ 0 → ⊥) (es : size ≡ pairAt s place) {o₁ : List ℕ} {x : Stored}
-          (begun : Puts store (take (at + 1 - at) (drop at b)) o o₁ n x) where
-        name : Puts store (getD b at 0 ∷ []) o o₁ n x
-        name = puts-same one-byte begun
+      pub at-token : {x : Bool} {o′ : List ℕ} {m : ℕ} → place ≡ 0 → x ≡ inSet kinds k → Puts (cond x (take 2 (drop at b)) hiddenBlock) o o′ n m
+          → MasksTree s index kinds k b at levels o o′ n (at + 2) m
+      at-token {x} p ex w l card a rest z c f =
+          let t = read-token s index b k at kind bytes ej ec ep l z levels a rest f p in
+          let v : cond x (take 2 (drop at b)) hiddenBlock ≡ masked l card k a =
+          by-test x
+          (λ q.
+          rw q (sym (ap (masked l card k) (t .is) ∙ (masked-token l card k (pairAt b at) (sym (c k) ∙ (sym ex ∙ q)) ∙ token-bytes b at (t .there) bytes))))
+          (λ q. rw q (sym (masked-hidden l card k a (sym (c k) ∙ (sym ex ∙ q))))) in
+          record { left = t .left; put = puts-same v w }
 
-        node-is : (l : Language) (card : Card) (a : Code) (rest : List ℕ) → Indexed index s l → Holds kinds card
-            → read tree l [] levels k (drop at b) ≡ done a rest
-            → (d : ReadNode s l k b at levels (place + 4) (place + 2 + size) a rest)
-            × (masked l card k a ≡ (getD b at 0 ∷ []) ++ maskedAll l card (slice (place + 4) (place + 2 + size) s) (d .operands))
-        node-is l card a rest z c e =
-            let d = read-production s index b k at kind bytes ej ec ep l z levels a rest e pos some-level es in
-            (d, ap (masked l card k) (d .is) ∙ masked-node l card k (getD b at 0) _ (d .operands) (sym (c k) ∙ shown) (d .known))
+      module _ (pos : place ≡ 0 → ⊥) where
+        pub at-name : at < length b
+        at-name = found-name s index b k at kind bytes ej ec ep pos .0
 
-        pub at-name-full : x ≡ St.Full → Steps store b o o₁ Full × MasksTree store s index kinds k b at levels o o₁ n Full
-        at-name-full e = (
-          steps-full store b o o₁ (begun .kept),
-          λ l card a rest z c f.
-              let d = node-is l card a rest z c f in
-              passes-full (omega (arith, name .full e, ap length (d .1))),
-        )
+        pub at-place : Sound index s → (place + 4 ≤ length s) × (length s ≤ 1024)
+        at-place z = name-in index s z refl kind (bytes at) (found-name s index b k at kind bytes ej ec ep pos .1) pos
 
-        pub at-all : {m : ℕ} → x ≡ St.To m → length o₁ ≡ length o → {o₂ : List ℕ} {y : Step} → Steps store b o₁ o₂ y
-            → MasksTrees store s index kinds (place + 4) (place + 2 + size) b (at + 1) (levels - 1) o₁ o₂ m y
-            → Steps store b o o₂ y × MasksTree store s index kinds k b at levels o o₂ n y
-        at-all {m} ex long steps all = (
-          steps-then (begun .kept) long steps,
-          λ l card a rest z c f.
-              let d = node-is l card a rest z c f in
-              passes-same (sym (d .1))
-              (passes-then (getD b at 0 ∷ []) _ (name .done m ex) long (all l card (d .0 .operands) rest z c (d .0 .reads))),
-        )
+        pub at-kinds : {size : ℕ} → Sound index s → size ≡ pairAt s place → KindsIn s (place + 4) (place + 2 + size)
+        at-kinds z e = kinds-in index s z refl kind (bytes at) (found-name s index b k at kind bytes ej ec ep pos .1) pos e
 
--- mask_all, a turn at a time.
-all-is : (l : Language) (card : Card) (ks : List ℕ) (t : Codes) → forAll (masked l card) ks t ≡ maskedAll l card ks t
-unfolding forAll maskedAll
-all-is l card [] nil = refl
-all-is l card [] (cons a t) = refl
-all-is l card (k ∷ ks) nil = refl
-all-is l card (k ∷ ks) (cons a t) = ap (λ (u : List ℕ). masked l card k a ++ u) (all-is l card ks t)
+        pub not-deep : levels ≡ 0 → (l : Language) (a : Code) (rest : List ℕ) → Indexed index s l
+            → read tree l [] levels k (drop at b) ≡ done a rest → ⊥
+        not-deep h l a rest z f = read-deep s index b k at kind bytes ej ec ep l z levels a rest f pos h
 
-abbrev pub Goes : Bool → List ℕ → List ℕ → ℕ → ℕ → ℕ → List ℕ → ℕ → ℕ → List ℕ → List ℕ → ℕ → ℕ → ℕ → ℕ → Type 0
-Goes store s index kinds from stop b at levels o o′ n q to m =
-    (l : Language) (card : Card) (t : Codes) (rest : List ℕ) → Indexed index s l → Holds kinds card
-    → readAll (read tree l [] levels) (slice from stop s) (drop at b) ≡ done t rest
-    → Going (masked l card) l store s from stop b levels o n t rest o′ q to m
+        pub at-operands : {size : ℕ} {o₁ o₂ : List ℕ} {e m : ℕ} → (levels ≡ 0 → ⊥) → size ≡ pairAt s place → inSet kinds k ≡ true
+            → Puts (getD b at 0 ∷ []) o o₁ n (n + 1)
+            → MasksTrees s index kinds (place + 4) (place + 2 + size) b (at + 1) (levels - 1) o₁ o₂ (n + 1) e m
+            → MasksTree s index kinds k b at levels o o₂ n e m
+        at-operands some-level es shown w all l card a rest z c f =
+            let d = read-production s index b k at kind bytes ej ec ep l z levels a rest f pos some-level es in
+            let v = masked-node l card k (getD b at 0) _ (d .operands) (sym (c k) ∙ shown) (d .known) in
+            let y = all l card (d .operands) rest z c (d .reads) in
+            record { left = y .left; put = puts-same (sym (ap (masked l card k) (d .is) ∙ v)) (puts-then w (y .put)) }
 
-module _ (store : Bool) (s index : List ℕ) (kinds from stop : ℕ) (b : List ℕ) (at levels : ℕ) (o : List ℕ) (n : ℕ) where
-  pub goes-start : n ≤ length o → Goes store s index kinds from stop b at levels o o n from at n
-  goes-start h l card t rest z c e = going-start (masked l card) l store s from stop b levels o n t rest at h e
+-- A class has no production.
+pub no-place : (class x : ℕ) → (class ≡ 0 → ⊥) → 0 ≡ cond (eqb class 0) x 0
+no-place class x h = ap (λ (y : Bool). cond y x 0) (sym (ne-eqb class 0 h))
 
-  module _ {o₁ : List ℕ} {q to m : ℕ} (goes : Goes store s index kinds from stop b at levels o o₁ n q to m) where
-    pub goes-done : stop ≤ q → MasksTrees store s index kinds from stop b at levels o o₁ n (To to m)
-    goes-done h l card t rest z c e =
-        passes-same (all-is l card (slice from stop s) t)
-        (going-done (masked l card) l store s from stop b levels o n t rest (goes l card t rest z c e) h)
+-- Trees one behind the other.
+pub all-cons : (l : Language) (card : Card) (k : ℕ) (ks : List ℕ) (a : Code) (t : Codes) → maskedAll l card (k ∷ ks) (cons a t) ≡ masked l card k a ++ maskedAll l card ks t
+unfolding maskedAll
+all-cons l card k ks a t = refl
 
-    module _ {k : ℕ} (ek : k ≡ getD s q 0) (more : q < stop) (there : stop ≤ length s) (long₁ : length o₁ ≡ length o) {o₂ : List ℕ} {y : Step}
-        (step : MasksTree store s index kinds k b to levels o₁ o₂ m y) where
-      pub goes-full : y ≡ Full → MasksTrees store s index kinds from stop b at levels o o₂ n Full
-      goes-full e l card t rest z c f =
-          passes-same (all-is l card (slice from stop s) t)
-          (going-full (masked l card) l store s from stop b levels o n t rest (goes l card t rest z c f) ek more there (λ a behind r. step l card a behind z c r) long₁ e)
+pub all-nil : (l : Language) (card : Card) (ks : List ℕ) → maskedAll l card ks nil ≡ []
+unfolding maskedAll
+all-nil l card ks = refl
 
-      pub goes-next : {e h : ℕ} → y ≡ To e h → Goes store s index kinds from stop b at levels o o₂ n (q + 1) e h
-      goes-next ey l card t rest z c f =
-          going-next (masked l card) l store s from stop b levels o n t rest (goes l card t rest z c f) ek more there (λ a behind r. step l card a behind z c r) long₁ ey
+module _ (s index : List ℕ) (kinds q stop : ℕ) (b : List ℕ) (to levels : ℕ) (o : List ℕ) (n : ℕ) where
+  pub all-done : stop ≤ q → MasksTrees s index kinds q stop b to levels o o n to n
+  unfolding readAll
+  all-done h l card t rest z c e =
+      let no : slice q stop s ≡ [] = sym (part-done (λ u. u) s q stop (slice q stop s) refl h) in
+      let r : done nil (drop to b) ≡ done t rest = ap (λ (ks : List ℕ). readAll (read tree l [] levels) ks (drop to b)) (sym no) ∙ e in
+      let w = same-done nil t (drop to b) rest r in
+      let v : [] ≡ maskedAll l card (slice q stop s) t = sym (all-nil l card (slice q stop s)) ∙ ap (maskedAll l card (slice q stop s)) (w .0) in
+      record { left = w .1; put = puts-same v (puts-nothing o n) }
+
+  module _ {k : ℕ} (ek : k ≡ getD s q 0) (more : q < stop) (there : stop ≤ length s) where
+    next-is : slice q stop s ≡ k ∷ slice (q + 1) stop s
+    next-is = sym (part-next (λ u. u) s q stop (slice q stop s) refl more there) ∙ ap (λ (j : ℕ). j ∷ slice (q + 1) stop s) (sym ek)
+
+    -- The first tree, and those behind it.
+    record First (l : Language) (card : Card) (t : Codes) (rest : List ℕ) : Type 0 where
+      pub head : Code
+      pub behind : List ℕ
+      pub others : Codes
+      pub reads : read tree l [] levels k (drop to b) ≡ done head behind
+      pub rests : readAll (read tree l [] levels) (slice (q + 1) stop s) behind ≡ done others rest
+      pub parts : maskedAll l card (slice q stop s) t ≡ masked l card k head ++ maskedAll l card (slice (q + 1) stop s) others
+
+    first : (l : Language) (card : Card) (t : Codes) (rest : List ℕ) → readAll (read tree l [] levels) (slice q stop s) (drop to b) ≡ done t rest → First l card t rest
+    unfolding readAll
+    first l card t rest e =
+        let r : readAll (read tree l [] levels) (k ∷ slice (q + 1) stop s) (drop to b) ≡ done t rest =
+        ap (λ (ks : List ℕ). readAll (read tree l [] levels) ks (drop to b)) (sym next-is) ∙ e in
+        let x = then-done (read tree l [] levels k (drop to b)) _ t rest r in
+        let y = then-done (readAll (read tree l [] levels) (slice (q + 1) stop s) (x .1)) _ t rest (x .3) in
+        let w = same-done (cons (x .0) (y .0)) t (y .1) rest (y .3) in
+        record {
+          head = x .0;
+          behind = x .1;
+          others = y .0;
+          reads = x .2;
+          rests = y .2 ∙ ap (done (y .0)) (w .1);
+          parts = ap (λ (ks : List ℕ). maskedAll l card ks t) next-is
+              ∙ (ap (maskedAll l card (k ∷ slice (q + 1) stop s)) (sym (w .0)) ∙ all-cons l card k (slice (q + 1) stop s) (x .0) (y .0));
+        }
+
+    -- A tree that cannot be read.
+    pub all-not : {o′ : List ℕ} {e m : ℕ} → ((l : Language) (a : Code) (rest : List ℕ) → Indexed index s l → read tree l [] levels k (drop to b) ≡ done a rest → ⊥)
+        → MasksTrees s index kinds q stop b to levels o o′ n e m
+    all-not none l card t rest z c e = absurd (none l _ _ z (first l card t rest e .reads))
+
+    pub all-next : {o₁ o₂ : List ℕ} {e m x h : ℕ} → MasksTree s index kinds k b to levels o o₁ n e m
+        → MasksTrees s index kinds (q + 1) stop b e levels o₁ o₂ m x h → MasksTrees s index kinds q stop b to levels o o₂ n x h
+    all-next step all l card t rest z c f =
+        let d = first l card t rest f in
+        let w = step l card (d .head) (d .behind) z c (d .reads) in
+        let y = all l card (d .others) rest z c (ap (readAll (read tree l [] levels) (slice (q + 1) stop s)) (w .left) ∙ d .rests) in
+        record { left = y .left; put = puts-same (sym (d .parts)) (puts-then (w .put) (y .put)) }
+
+-- The last tree: behind it nothing is left.
+pub all-last : (s index : List ℕ) (kinds q stop : ℕ) (b : List ℕ) (to levels : ℕ) (o : List ℕ) (n : ℕ) {k : ℕ} → k ≡ getD s q 0 → q + 1 ≡ stop → stop ≤ length s
+    → {o₁ : List ℕ} {e m : ℕ} → MasksTree s index kinds k b to levels o o₁ n e m → MasksTrees s index kinds q stop b to levels o o₁ n e m
+all-last s index kinds q stop b to levels o n ek last there {o₁} {e} {m} step =
+    all-next s index kinds q stop b to levels o n ek (omega arith) there step (all-done s index kinds (q + 1) stop b e levels o₁ m (omega arith))
+
+-- Nothing is left.
+pub goes-done : (s index : List ℕ) (kinds from stop : ℕ) (b : List ℕ) (at levels : ℕ) (o : List ℕ) (n q to : ℕ) (o₁ : List ℕ) (m : ℕ)
+    → Goes s index kinds from stop b at levels o n q stop to levels o₁ m → stop ≤ q → MasksTrees s index kinds from stop b at levels o o₁ n to m
+goes-done s index kinds from stop b at levels o n q to o₁ m g h = g o₁ to m (all-done s index kinds q stop b to levels o₁ m h)
+
+-- mask_tree
+module _ (s index b : List ℕ) (kinds k : ℕ) (o : List ℕ) where
+  pub whole-hidden : {o′ : List ℕ} → inSet kinds k ≡ false → Puts hiddenBlock o o′ 0 1 → MasksWhole s index kinds k b o o′ 1
+  whole-hidden h w l card a z c f = puts-same (sym (masked-hidden l card k a (sym (c k) ∙ h))) w
+
+  pub whole-not : {o′ : List ℕ} {m : ℕ} → ((l : Language) (a : Code) (rest : List ℕ) → Indexed index s l → read tree l [] treeLevels k b ≡ done a rest → ⊥)
+      → MasksWhole s index kinds k b o o′ m
+  whole-not none l card a z c f = absurd (none l a [] z f)
+
+  pub whole-is : {o′ : List ℕ} {e m : ℕ} → MasksTree s index kinds k b 0 treeLevels o o′ 0 e m → MasksWhole s index kinds k b o o′ m
+  whole-is w l card a z c f = w l card a [] z c f .put

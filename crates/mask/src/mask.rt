@@ -1,25 +1,31 @@
 // The operation that masks a tree for the holder of a card.
-use crate::walk::mask_at;
+use crate::measure::Measured;
+use crate::measure::measure_tree;
+use crate::walk::mask_tree;
 use card::lowest::lowest;
 use card::read::read_card;
-use checks::trees::check_indexed;
 use fields::outcome::Answer;
 use fields::outcome::Outcome;
 use fields::outcome::Reason;
 use fields::outcome::accept;
 use fields::outcome::refuse;
-use putting::put::Step;
+use language::check::check_language;
 use reader::index::INDEX;
+use reader::index::build;
+use reader::kinds::is_in;
 ghost use mathlib.Core.Path.{_≡_};
+ghost use mathlib.Core.Option.{some};
+ghost use Prim.Native.Nat.{_<_, _≤_};
+ghost use lib.ListN.{length};
+ghost use Rattle.language.specs.Language.{Language};
+ghost use Rattle.language.specs.LanguageFile.{entriesOf};
 ghost use Rattle.reader.specs.Inner.Index.{Ready};
 ghost use Rattle.mask.specs.Operations.{maskTree};
-ghost use Rattle.mask.specs.Inner.Masking.{GivesMasked};
+ghost use Rattle.mask.specs.Inner.Masking.{GivesTree, GivesKind};
 
-// Trees handed in have at most 64 levels.
-const LEVELS: usize = 64;
-
-// The masked form of a legal tree: 17 where it is longer than the output. It is measured before a byte is written.
-fn mask_legal(
+// The masked form of the tree of a kind: 15 and 16 in reading order, 17 where it is longer than the output. It is
+// measured while the tree is read, before a byte is written.
+fn mask_read(
     language: &[u8],
     index: &[u16],
     seen: u32,
@@ -28,35 +34,35 @@ fn mask_legal(
     output: &mut [u8],
 ) -> Answer
     requires { ⌜ Ready (now index) (now language) kind (now tree) 0 ⌝ }
-    ensures { λ r. ⌜ GivesMasked (now (language .entry)) (now (index .entry)) seen kind (now (tree .entry)) (now (output .entry)) (now (output .exit)) (r .outcome) ⌝ }
+    ensures { λ r. ⌜ GivesTree (now (language .entry)) (now (index .entry)) seen kind (now (tree .entry)) (now (output .entry)) (now (output .exit)) (r .outcome) ⌝ }
 {
-    let Step::To(end, length) = mask_at(
-        language,
-        index,
-        seen,
-        kind,
-        tree,
-        0,
-        LEVELS,
-        false,
-        output,
-        0,
-    ) else {
-        return refuse(Reason::OutputTooShort);
-    };
-    mask_at(
-        language,
-        index,
-        seen,
-        kind,
-        tree,
-        0,
-        LEVELS,
-        true,
-        output,
-        0,
-    );
-    accept(length)
+    match measure_tree(language, index, seen, kind, tree) {
+        Measured::End(e, length) => {
+            if e != tree.len() {
+                return refuse(Reason::IllegalTree);
+            }
+            if output.len() < length {
+                return refuse(Reason::OutputTooShort);
+            }
+            mask_tree(language, index, seen, kind, tree, output);
+            accept(length)
+        }
+        Measured::Deep => refuse(Reason::TooDeep),
+        Measured::Broken => refuse(Reason::IllegalTree),
+    }
+}
+
+// The same, of a language that is whole: 14 to 17.
+fn mask_kind(language: &[u8], seen: u32, kind: u8, tree: &[u8], output: &mut [u8]) -> Answer
+    requires { ⌜ (length (now language) ≤ 1024) × (kind < 32) × ((l : Language) × (entriesOf (now language) ≡ some l)) ⌝ }
+    ensures { λ r. ⌜ GivesKind (now (language .entry)) seen kind (now (tree .entry)) (now (output .entry)) (now (output .exit)) (r .outcome) ⌝ }
+{
+    if !is_in(language, kind) {
+        return refuse(Reason::UnknownRoot);
+    }
+    let mut index = [0u16; INDEX];
+    build(language, &mut index);
+    mask_read(language, &index, seen, kind, tree, output)
 }
 
 // Mask: the lowest of 1 to 4 for the language and the card, 14 to 16 for the tree, 17 where the masked tree is longer
@@ -67,11 +73,13 @@ pub fn mask(language: &[u8], root: u32, card: &[u8], tree: &[u8], output: &mut [
 {
     let seen = read_card(card);
     let on_card = seen.outcome;
-    let mut index = [0u16; INDEX];
-    let answer = check_indexed(language, root, tree, &mut index);
-    let on_tree = answer.outcome;
-    if let Outcome::Refused(reason) = lowest(on_tree, on_card) {
+    let answer = check_language(language);
+    let on_language = answer.outcome;
+    if let Outcome::Refused(reason) = lowest(on_language, on_card) {
         return refuse(reason);
     }
-    mask_legal(language, &index, seen.kinds, root as u8, tree, output)
+    if 31 < root {
+        return refuse(Reason::UnknownRoot);
+    }
+    mask_kind(language, seen.kinds, root as u8, tree, output)
 }

@@ -1,24 +1,41 @@
-// The walk over a legal tree that puts its masked form into an output, or only measures it. Each byte is passed once.
+// The walk over a legal tree that puts its masked form into an output. Where the output is too short, the masked form is
+// only measured to its end.
 use card::set::in_set;
 use fields::bytes::pair_in;
 use fields::bytes::to_usize;
-use fields::copy::Stored;
-use putting::put::Step;
-use putting::put::put_word;
 use reader::node::Read;
 use reader::node::Syntax;
 use reader::node::place_at;
 use reader::node::production_place;
 use reader::read::read;
-ghost use Prim.Native.Nat.{_+_, _-_, _<_, _≤_};
+ghost use mathlib.Core.Bool.{cond};
+ghost use mathlib.Core.List.{[], _∷_};
+ghost use Prim.Native.Nat.{ℕ, _+_, _≤_};
 ghost use lib.ListN.{length, drop, take};
 ghost use Rattle.reader.specs.Inner.Index.{Sound, Ready};
 ghost use Rattle.reader.specs.Inner.Positions.{KindsIn};
-ghost use Rattle.putting.specs.Inner.Passing.{Steps, Passes};
-ghost use Rattle.mask.specs.Inner.Masking.{EndsTree, MasksHidden, MasksTree, MasksTrees};
+ghost use Rattle.mask.specs.Mask.{hiddenBlock};
+ghost use Rattle.mask.specs.Inner.Masking.{Puts, EndsTree, MasksTrees, Goes, MasksWhole};
 
 // The byte that stands for a hidden block.
 const HIDDEN: u8 = 0xFF;
+
+// The levels below the root: trees handed in have at most 64.
+const BELOW: usize = 63;
+
+// Where trees end, and where their masked forms do.
+pub struct Ends {
+    pub tree: usize,
+    pub text: usize,
+}
+
+// How far a row of trees is put: where the next kind stands in the language, where its tree starts, and where its masked
+// form will.
+pub struct Reached {
+    pub kind: usize,
+    pub tree: usize,
+    pub text: usize,
+}
 
 // Where the legal tree of a kind ends that starts at a position.
 fn end_at(language: &[u8], index: &[u16], kind: u8, tree: &[u8], at: usize, levels: usize) -> usize
@@ -32,95 +49,83 @@ fn end_at(language: &[u8], index: &[u16], kind: u8, tree: &[u8], at: usize, leve
     }
 }
 
-// Passes over the tree of a hidden kind, and puts one byte for it.
-fn mask_hidden(
-    language: &[u8],
-    index: &[u16],
-    kind: u8,
-    tree: &[u8],
-    at: usize,
-    levels: usize,
-    store: bool,
-    out: &mut [u8],
-    n: usize,
-) -> Step
-    requires { ⌜ Ready (now index) (now language) kind (now tree) at × (n ≤ length (now out)) ⌝ }
-    ensures { λ r. ⌜ Steps store (now (tree .entry)) (now (out .entry)) (now (out .exit)) r
-        × MasksHidden store (now (language .entry)) (now (index .entry)) kind (now (tree .entry)) at levels (now (out .entry)) (now (out .exit)) n r ⌝ }
+// Puts a byte behind the first n, if there is room for it.
+fn put(byte: u8, out: &mut [u8], n: usize)
+    ensures { λ r. ⌜ Puts (byte ∷ []) (now (out .entry)) (now (out .exit)) n (n + 1) ⌝ }
 {
-    let end = end_at(language, index, kind, tree, at, levels);
-    let hidden = [HIDDEN; 1];
-    let Stored::To(m) = put_word(&hidden, store, out, n) else {
-        return Step::Full;
-    };
-    Step::To(end, m)
-}
-
-// Puts the two bytes of a token that may be seen.
-fn mask_token(tree: &[u8], at: usize, store: bool, out: &mut [u8], n: usize) -> Step
-    requires { ⌜ (at ≤ length (now tree)) × (n ≤ length (now out)) ⌝ }
-    ensures { λ r. ⌜ Steps store (now (tree .entry)) (now (out .entry)) (now (out .exit)) r
-        × (2 ≤ length (now (tree .entry)) - at
-        → Passes store (take 2 (drop at (now (tree .entry)))) (now (tree .entry)) (drop (at + 2) (now (tree .entry))) (now (out .entry)) (now (out .exit)) n r) ⌝ }
-{
-    if tree.len() - at < 2 {
-        return Step::Full;
+    if out.len() <= n {
+        return;
     }
-    let Stored::To(m) = put_word(&tree[at..at + 2], store, out, n) else {
-        return Step::Full;
-    };
-    Step::To(at + 2, m)
+    out[n] = byte;
 }
 
-// Puts the masked form of the legal tree of a kind that stands at a position. It calls itself on the arguments, one
-// level fewer.
-pub fn mask_at(
+// Puts the two bytes of a token behind the first n, or one byte where it is hidden, and gives where they end.
+fn put_token(seen: bool, tree: &[u8], at: usize, out: &mut [u8], n: usize) -> usize
+    requires { ⌜ (at + 2 ≤ length (now tree)) × (n ≤ at) ⌝ }
+    ensures { λ r. ⌜ Puts (cond seen (take 2 (drop at (now (tree .entry)))) hiddenBlock) (now (out .entry)) (now (out .exit)) n r × (r ≤ n + 2) ⌝ }
+{
+    if !seen {
+        put(HIDDEN, out, n);
+        return n + 1;
+    }
+    if out.len() <= n + 1 {
+        return n + 2;
+    }
+    out[n] = tree[at];
+    out[n + 1] = tree[at + 1];
+    n + 2
+}
+
+// Puts the tokens that a row of trees starts with, whose kinds stand in the language from `from` up to `stop`.
+fn put_tokens(
     language: &[u8],
     index: &[u16],
     seen: u32,
-    kind: u8,
+    from: usize,
+    stop: usize,
     tree: &[u8],
     at: usize,
-    levels: usize,
-    store: bool,
     out: &mut [u8],
     n: usize,
-) -> Step
-    requires { ⌜ Ready (now index) (now language) kind (now tree) at × (n ≤ length (now out)) ⌝ }
-    ensures { λ r. ⌜ Steps store (now (tree .entry)) (now (out .entry)) (now (out .exit)) r
-        × MasksTree store (now (language .entry)) (now (index .entry)) seen kind (now (tree .entry)) at levels (now (out .entry)) (now (out .exit)) n r ⌝ }
+) -> Reached
+    requires { ⌜ Sound (now index) (now language) × KindsIn (now language) from stop × (at ≤ length (now tree)) × (n ≤ at) ⌝ }
+    ensures { λ r. ⌜ (from ≤ r .kind) × (r .tree ≤ length (now (tree .entry))) × (r .text ≤ r .tree)
+        × ((levels : ℕ) → Goes (now (language .entry)) (now (index .entry)) seen from stop (now (tree .entry)) at levels (now (out .entry)) n (r .kind) stop (r .tree) levels (now (out .exit)) (r .text))
+        × (stop ≤ r .kind → (levels : ℕ) → MasksTrees (now (language .entry)) (now (index .entry)) seen from stop (now (tree .entry)) at levels (now (out .entry)) (now (out .exit)) n (r .tree) (r .text)) ⌝ }
 {
-    if !in_set(seen, kind) {
-        return mask_hidden(language, index, kind, tree, at, levels, store, out, n);
+    let mut q = from;
+    let mut to = at;
+    let mut m = n;
+    while q < stop {
+        let kind = language[q];
+        if place_at(index, to_usize(kind)) == 0 {
+            return Reached {
+                kind: q,
+                tree: to,
+                text: m,
+            };
+        }
+        if tree.len() - to < 2 {
+            return Reached {
+                kind: q,
+                tree: to,
+                text: m,
+            };
+        }
+        m = put_token(in_set(seen, kind), tree, to, out, m);
+        to += 2;
+        q += 1;
     }
-    let class = place_at(index, to_usize(kind));
-    let place = production_place(Syntax::Tree, index, class, kind, tree, at);
-    if place == 0 {
-        return mask_token(tree, at, store, out, n);
+    Reached {
+        kind: q,
+        tree: to,
+        text: m,
     }
-    if levels == 0 {
-        return Step::Full;
-    }
-    let Stored::To(m) = put_word(&tree[at..at + 1], store, out, n) else {
-        return Step::Full;
-    };
-    let stop = place + 2 + pair_in(language, place);
-    mask_all(
-        language,
-        index,
-        seen,
-        place + 4,
-        stop,
-        tree,
-        at + 1,
-        levels - 1,
-        store,
-        out,
-        m,
-    )
 }
 
 // Puts the masked forms of the trees whose kinds stand in the language from `from` up to `stop`, one after the other.
+// Tokens are put here, and those that the arguments of another tree start with; its other arguments one call deeper. Behind
+// the last tree nothing is left to do, so its arguments are put here.
 fn mask_all(
     language: &[u8],
     index: &[u16],
@@ -130,35 +135,115 @@ fn mask_all(
     tree: &[u8],
     at: usize,
     levels: usize,
-    store: bool,
     out: &mut [u8],
     n: usize,
-) -> Step
-    requires { ⌜ Sound (now index) (now language) × KindsIn (now language) from stop × (at ≤ length (now tree)) × (n ≤ length (now out)) ⌝ }
-    ensures { λ r. ⌜ Steps store (now (tree .entry)) (now (out .entry)) (now (out .exit)) r
-        × MasksTrees store (now (language .entry)) (now (index .entry)) seen from stop (now (tree .entry)) at levels (now (out .entry)) (now (out .exit)) n r ⌝ }
+) -> Ends
+    requires { ⌜ Sound (now index) (now language) × KindsIn (now language) from stop × (at ≤ length (now tree)) × (n ≤ at) ⌝ }
+    ensures { λ r. ⌜ (r .tree ≤ length (now (tree .entry))) × (r .text ≤ r .tree)
+        × MasksTrees (now (language .entry)) (now (index .entry)) seen from stop (now (tree .entry)) at levels (now (out .entry)) (now (out .exit)) n (r .tree) (r .text) ⌝ }
 {
     let mut q = from;
+    let mut end = stop;
     let mut to = at;
     let mut m = n;
-    while q < stop {
-        let Step::To(e, k) = mask_at(
-            language,
-            index,
-            seen,
-            language[q],
-            tree,
-            to,
-            levels,
-            store,
-            out,
-            m,
-        ) else {
-            return Step::Full;
-        };
-        to = e;
-        m = k;
-        q += 1;
+    let mut left = levels;
+    while q < end {
+        let kind = language[q];
+        let class = place_at(index, to_usize(kind));
+        let place = production_place(Syntax::Tree, index, class, kind, tree, to);
+        if place == 0 {
+            if tree.len() - to < 2 {
+                return Ends { tree: to, text: m };
+            }
+            m = put_token(in_set(seen, kind), tree, to, out, m);
+            to += 2;
+            q += 1;
+        } else if !in_set(seen, kind) {
+            let e = end_at(language, index, kind, tree, to, left);
+            if e <= to {
+                return Ends { tree: to, text: m };
+            }
+            put(HIDDEN, out, m);
+            m += 1;
+            to = e;
+            q += 1;
+        } else {
+            if left == 0 {
+                return Ends { tree: to, text: m };
+            }
+            put(tree[to], out, m);
+            let first = place + 4;
+            let last = place + 2 + pair_in(language, place);
+            m += 1;
+            to += 1;
+            q += 1;
+            if q == end {
+                q = first;
+                end = last;
+                left -= 1;
+            } else if first < last {
+                let row = put_tokens(language, index, seen, first, last, tree, to, out, m);
+                to = row.tree;
+                m = row.text;
+                if row.kind < last {
+                    let inner = mask_all(
+                        language,
+                        index,
+                        seen,
+                        row.kind,
+                        last,
+                        tree,
+                        to,
+                        left - 1,
+                        out,
+                        m,
+                    );
+                    to = inner.tree;
+                    m = inner.text;
+                }
+            }
+        }
     }
-    Step::To(to, m)
+    Ends { tree: to, text: m }
+}
+
+// Puts the masked form of a legal tree of a kind, and gives its length.
+pub fn mask_tree(
+    language: &[u8],
+    index: &[u16],
+    seen: u32,
+    kind: u8,
+    tree: &[u8],
+    out: &mut [u8],
+) -> usize
+    requires { ⌜ Ready (now index) (now language) kind (now tree) 0 ⌝ }
+    ensures { λ r. ⌜ MasksWhole (now (language .entry)) (now (index .entry)) seen kind (now (tree .entry)) (now (out .entry)) (now (out .exit)) r ⌝ }
+{
+    if !in_set(seen, kind) {
+        put(HIDDEN, out, 0);
+        return 1;
+    }
+    let class = place_at(index, to_usize(kind));
+    let place = production_place(Syntax::Tree, index, class, kind, tree, 0);
+    if place == 0 {
+        if tree.len() < 2 {
+            return 0;
+        }
+        return put_token(true, tree, 0, out, 0);
+    }
+    put(tree[0], out, 0);
+    let stop = place + 2 + pair_in(language, place);
+    let ends = mask_all(
+        language,
+        index,
+        seen,
+        place + 4,
+        stop,
+        tree,
+        1,
+        BELOW,
+        out,
+        1,
+    );
+    ends.text
 }

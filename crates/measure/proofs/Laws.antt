@@ -300,11 +300,15 @@ module _ (s index : List ℕ) (v : Weighing) (b : List ℕ) (top levels : ℕ) w
       pub rows-done : e ≤ q → d ≡ 0 → left ≡ End to sum cost
       rows-done h y = ap (rest firsts lasts rows d) (row-done _ (rows d) q e to sum cost h) ∙ (rw y (rest-none firsts lasts rows (End to sum cost)))
 
-      pub rows-back : {c : ℕ} → e ≤ q → (d ≡ 0 → ⊥) → c ≡ d - 1
-          → left ≡ rest firsts lasts rows c (row c (rows c) (getD firsts c 0) (getD lasts c 0) to sum cost)
-      rows-back {c} h y ec =
+      -- The rows that wait have stayed.
+      pub rows-back : {c : ℕ} → e ≤ q → (d ≡ 0 → ⊥) → (r : ℕ → Weights) → ((j : ℕ) → j ≤ c → r j ≡ rows j) → c ≡ d - 1
+          → left ≡ rest firsts lasts r c (row c (r c) (getD firsts c 0) (getD lasts c 0) to sum cost)
+      rows-back {c} h y r same ec =
           ap (rest firsts lasts rows d) (row-done _ (rows d) q e to sum cost h)
-          ∙ ((let z : d ≡ suc c = omega arith in ap (λ (j : ℕ). rest firsts lasts rows j (End to sum cost)) z) ∙ rest-one firsts lasts rows c to sum cost)
+          ∙ ((let z : d ≡ suc c = omega arith in ap (λ (j : ℕ). rest firsts lasts rows j (End to sum cost)) z)
+          ∙ (rest-one firsts lasts rows c to sum cost
+          ∙ (sym (rest-same firsts lasts firsts lasts rows r c (row c (rows c) (getD firsts c 0) (getD lasts c 0) to sum cost) (λ j l. (refl, refl, same j (omega arith))))
+          ∙ rw (same c (omega arith)))))
 
       module _ (more : q < e) where
         pub rows-deep : outOfLevels index (getD s q 0) (levels - d) ≡ true → left ≡ Deep

@@ -2,7 +2,7 @@
 use Prim.Native.Nat.{ℕ, zero, suc, _+_, _*_, _≤_, _<_}
 use mathlib.Core.Path.{_≡_, refl, ap, sym, _∙_}
 use native.Mathlib.Omega.{arith}
-use native.Mathlib.Nat.{mul-comm, mul-assoc, mul-add}
+use native.Mathlib.Nat.{mul-comm, mul-assoc, mul-add, add-mul}
 use lib.Dec.{ltb, leb}
 use borrow.Author.Tests.{lt-ltb, le-ltb, leb-true, leb-false}
 use Rattle.fields.proofs.Truth.{by-test}
@@ -61,6 +61,10 @@ weighted-gather w u s = gather numbers w u s
 pub weighted-add : (w a b : ℕ → ℕ) → weighted w a + weighted w b ≡ weighted w (λ j. a j + b j)
 unfolding weighted
 weighted-add w a b = sym ((λ x. sumTo numbers (λ j. mul-add (w j) (a j) (b j) x)) ∙ sum-add numbers (λ j. w j * a j) (λ j. w j * b j))
+
+pub weighted-plus : (w v h : ℕ → ℕ) → weighted (λ j. w j + v j) h ≡ weighted w h + weighted v h
+unfolding weighted
+weighted-plus w v h = (λ x. sumTo numbers (λ j. add-mul (w j) (v j) (h j) x)) ∙ sum-add numbers (λ j. w j * h j) (λ j. v j * h j)
 
 pub weighted-zero : (w h : ℕ → ℕ) → ((j : ℕ) → w j * h j ≡ 0) → weighted w h ≡ 0
 unfolding weighted

@@ -2,8 +2,9 @@
 use crate::capped::add;
 use crate::capped::add_share;
 use crate::weigh::begin;
-use crate::weigh::sum_of;
+use crate::weigh::own_of;
 use crate::weigh::weigh;
+use crate::weigh::wipe;
 use fields::bytes::pair_in;
 use fields::bytes::to_usize;
 use reader::ends::keep_end;
@@ -23,7 +24,8 @@ ghost use Rattle.reader.specs.Inner.Index.{Sound, Indexed};
 ghost use Rattle.reader.specs.Inner.Positions.{KindsIn};
 ghost use Rattle.translation.specs.Translation.{Translation, mappingOf};
 ghost use Rattle.measure.specs.Inner.Measuring.{EndsIn, sizedAt, sizedOf, Counted};
-ghost use Rattle.measure.specs.Inner.Weighing.{window, weighAt, KeptBelow};
+ghost use Rattle.measure.specs.Inner.Weighing.{window, weighAt, sumOf};
+ghost use Rattle.measure.specs.Inner.Entering.{NoneFrom};
 ghost use Rattle.measure.specs.Inner.Descent.{leafStep, downAt, downRow, goesOn, outOfLevels, StepIn, Childless};
 ghost use Rattle.measure.specs.Inner.Learning.{Learnt, Decides};
 
@@ -65,7 +67,7 @@ pub fn leaf(read: Read, total: usize, sum: usize, cost: usize, top: usize) -> St
     }
 }
 
-// What stands where a tree of the kind begins, whose weights stand from `from` on, and what it adds itself.
+// What stands where a tree of the kind begins, whose weights stand from `from` on and come to the total, and what it adds itself.
 fn step_at(
     source: &[u8],
     index: &[u16; TABLE],
@@ -74,15 +76,16 @@ fn step_at(
     kind: u8,
     tree: &[u8],
     at: usize,
+    total: usize,
     sum: usize,
     cost: usize,
     top: usize,
-    weights: &mut [usize],
+    weights: &[usize],
     from: usize,
     width: usize,
 ) -> Step
     requires { ⌜ Sound (now index) (now source) × (kind < 32) × (at ≤ length (now tree)) × (sum ≤ top) × (cost ≤ top)
-        × (0 < width) × (width ≤ 256) × (from + 2 * width ≤ length (now weights)) ⌝ }
+        × (0 < width) × (width ≤ 256) × (from + width ≤ length (now weights)) × (total ≡ sumOf top (window width (now weights) from)) ⌝ }
     ensures is { λ r. ⌜ ((n : ℕ) → goesOn (now (source .entry)) (now (index .entry)) (weighAt (now (counts .entry), now (entries .entry)) top width) (now (tree .entry)) top n
         (window width (now (weights .entry)) from) r
         ≡ downAt (now (source .entry)) (now (index .entry)) (weighAt (now (counts .entry), now (entries .entry)) top width) (now (tree .entry)) top (suc n)
@@ -90,27 +93,25 @@ fn step_at(
     ensures within { λ r. ⌜ StepIn (now (source .entry)) (length (now (tree .entry))) top at r ⌝ }
     ensures decides { λ r. ⌜ Decides (now (source .entry)) (now (index .entry)) (now (tree .entry)) kind at r ⌝ }
     ensures childless { λ r. ⌜ Childless (getD (now (index .entry)) kind 0) r ⌝ }
-    ensures kept { λ r. ⌜ KeptBelow (now (weights .entry)) (now (weights .exit)) (from + width) ⌝ }
 {
-    let total = sum_of(weights, from, width, top);
     let class = place_at(index, to_usize(kind));
     let place = production_place(Syntax::Tree, index, class, kind, tree, at);
     if place == 0 {
         return leaf(token(source, class, tree, at), total, sum, cost, top);
     }
-    weigh(counts, entries, place + 3, weights, from, width, top);
+    let own = own_of(counts, entries, place + 3, weights, from, width, top);
     Step::Row(
         place + 4,
         place + 2 + pair_in(source, place),
         at + 1,
-        add(sum, weights[from + width], top),
+        add(sum, own, top),
         add(cost, total, top),
     )
 }
 
 // The operands of a row and all that stands below them. The rows above wait in two tables, the outermost first, and in a
 // third stands where the operand of each row starts; where it ends is kept. The weights of each row stand in a window of
-// their own. The index is the front of a longer table.
+// their own, which is set back to zero when the row is done. The index is the front of a longer table.
 fn measure_rows(
     source: &[u8],
     index: &[u16; TABLE],
@@ -129,7 +130,7 @@ fn measure_rows(
     ends: &mut [u32],
 ) -> Measured
     requires { ⌜ Sound (now index) (now source) × KindsIn (now source) from stop × (at ≤ length (now tree)) × (own ≤ top) × (one ≤ top) × (levels < 64)
-        × (0 < width) × (width ≤ 256) × (66 * width ≤ length (now weights)) ⌝ }
+        × (0 < width) × (width ≤ 256) × (66 * width ≤ length (now weights)) × NoneFrom (now weights) width ⌝ }
     ensures is { λ r. ⌜ (r ≡ downRow (now (source .entry)) (now (index .entry)) (weighAt (now (counts .entry), now (entries .entry)) top width) (now (tree .entry)) top levels
         (window width (now (weights .entry)) 0) from stop at own one)
         × EndsIn (length (now (tree .entry))) top r ⌝ }
@@ -151,16 +152,17 @@ fn measure_rows(
                 return Measured::End(to, sum, cost);
             }
             depth -= 1;
-            base -= width;
             q = firsts[depth] as usize;
             end = lasts[depth] as usize;
+            wipe(entries, q - 1, weights, base, width);
+            base -= width;
             keep_end(ends, source[q - 1], starts[depth], to);
             continue;
         }
         if out_of_levels(index, source[q], levels - depth) {
             return Measured::Deep;
         }
-        weigh(counts, entries, q, weights, base, width, top);
+        let total = weigh(counts, entries, q, weights, base, width, top);
         starts[depth] = to;
         match step_at(
             source,
@@ -170,6 +172,7 @@ fn measure_rows(
             source[q],
             tree,
             to,
+            total,
             sum,
             cost,
             top,
@@ -186,6 +189,7 @@ fn measure_rows(
                 cost = c;
                 q += 1;
                 if last <= first {
+                    wipe(entries, q - 1, weights, base + width, width);
                     continue;
                 }
                 firsts[depth] = q as u16;
@@ -200,6 +204,7 @@ fn measure_rows(
 }
 
 // The tree of the kind at a position, read as the source has it, and the length and cost of its run by a number, up to a top.
+// The weights are lent all zero.
 pub fn measure(
     source: &[u8],
     index: &[u16; TABLE],
@@ -216,14 +221,14 @@ pub fn measure(
     ends: &mut [u32],
 ) -> Measured
     requires { ⌜ Sound (now index) (now source) × (kind < 32) × (at ≤ length (now tree)) × (0 < levels) × (levels ≤ 64)
-        × (0 < width) × (width ≤ 256) × (66 * width ≤ length (now weights)) ⌝ }
+        × (0 < width) × (width ≤ 256) × (66 * width ≤ length (now weights)) × ((j : ℕ) → getD (now weights) j 0 ≡ 0) ⌝ }
     ensures is { λ r. ⌜ ((f : Translation) (u : ℕ) → Indexed (now (index .entry)) (now (source .entry)) (f .source)
         → Counted (now (counts .entry), now (entries .entry)) width (now (index .entry)) f → mappingOf (f .body) kind number ≡ some u
         → sizedAt (now (tree .entry)) r ≡ sizedOf top f number (readCode inTrees (f .source) [] levels kind (drop at (now (tree .entry))))) ⌝ }
     ensures within { λ r. ⌜ EndsIn (length (now (tree .entry))) top r ⌝ }
     ensures learnt { λ r. ⌜ Learnt (now (source .entry)) (now (index .entry)) (now (tree .entry)) (now (ends .entry)) (now (ends .exit)) ⌝ }
 {
-    begin(weights, number, width);
+    let total = begin(weights, number, width, top);
     match step_at(
         source,
         index,
@@ -232,6 +237,7 @@ pub fn measure(
         kind,
         tree,
         at,
+        total,
         0,
         0,
         top,

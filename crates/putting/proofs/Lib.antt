@@ -1,5 +1,2 @@
-pub mod Puts
-pub mod Passing
 pub mod Reading
-pub mod Walking
 pub mod Answering

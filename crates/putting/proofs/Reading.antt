@@ -78,16 +78,16 @@ module _ (s index : List ℕ) (l : Language) (z : Indexed index s l) (k : ℕ) (
 
 -- One level of a tree.
 module _ (l : Language) (k : ℕ) (u : List ℕ) where
-  read-class : (n : ℕ) (c : Range) → rangeOf l k ≡ some c → read tree l [] n k u ≡ readToken (some c) u
+  pub read-class : (n : ℕ) (c : Range) → rangeOf l k ≡ some c → read tree l [] n k u ≡ readToken (some c) u
   unfolding readBy readLevel readTreeLevel pastLevels
   read-class zero c e = cc
   read-class (suc n) c e = cc
 
-  read-node : (n : ℕ) → rangeOf l k ≡ none → read tree l [] (suc n) k u ≡ readNode (read tree l [] n) l k u
+  pub read-node : (n : ℕ) → rangeOf l k ≡ none → read tree l [] (suc n) k u ≡ readNode (read tree l [] n) l k u
   unfolding readBy readLevel readTreeLevel
   read-node n e = cc
 
-  read-past : rangeOf l k ≡ none → read tree l [] 0 k u ≡ deep
+  pub read-past : rangeOf l k ≡ none → read tree l [] 0 k u ≡ deep
   unfolding readBy pastLevels
   read-past e = cc
 
@@ -95,7 +95,7 @@ module _ (l : Language) (k : ℕ) (u : List ℕ) where
   pub past-not : {a : Code} {r : List ℕ} {A : Type 0} (n : ℕ) → n ≡ 0 → rangeOf l k ≡ none → read tree l [] n k u ≡ done a r → A
   past-not n h e f = deep-not (sym (read-past e) ∙ (ap (λ (m : ℕ). read tree l [] m k u) (sym h) ∙ f))
 
-token-cut : (c : Range) (u : List ℕ) → length u < 2 → readToken (some c) u ≡ broken
+pub token-cut : (c : Range) (u : List ℕ) → length u < 2 → readToken (some c) u ≡ broken
 unfolding readToken
 token-cut c [] h = refl
 token-cut c (x ∷ []) h = refl

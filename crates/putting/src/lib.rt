@@ -1,2 +1,3 @@
-// What a walk over a tree puts into an output, or only measures against it.
+// What export, import and mask share: what a walk answers, what was read at a position of a tree, and what an operation
+// answers that writes bytes.
 pub mod put;

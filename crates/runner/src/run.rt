@@ -53,6 +53,9 @@ const ENTRIES: usize = 7168;
 // Weights for every number, and for the levels of a tree.
 const WEIGHTS: usize = 16896;
 
+// The same for the numbers below 16.
+const FEW: usize = 1056;
+
 // Lengths and costs are counted up to here at least.
 const LEAST_TOP: usize = 4294967296;
 
@@ -110,7 +113,7 @@ fn measure_with(
     ends: &mut [u32],
 ) -> Measured
     requires { ⌜ (kind < 32) × (length (now table) ≡ tableLength) × ((j : ℕ) → getD (now table) j 0 ≡ 0) × ((j : ℕ) → getD (now entries) j 0 ≡ 0) × (width ≡ widthOf (now body)) × (0 < width) × (width ≤ 256)
-        × ((length (now entries) ≡ 7168) ⊎ (width ≡ 1)) × (66 * width ≤ length (now weights)) × ((j : ℕ) → getD (now ends) j 0 ≡ 0)
+        × ((length (now entries) ≡ 7168) ⊎ (width ≡ 1)) × (66 * width ≤ length (now weights)) × ((j : ℕ) → getD (now weights) j 0 ≡ 0) × ((j : ℕ) → getD (now ends) j 0 ≡ 0)
         × ((t : List ℕ) × (f : Translation) × Checked (now source) t (now body) f) ⌝ }
     ensures { λ r. ⌜ ((t : List ℕ) (f : Translation) → Checked (now (source .entry)) t (now (body .entry)) f
         → Measures (now (source .entry)) (now (table .exit)) (now (ends .exit)) f kind number (now (tree .entry)) top r) ⌝ }
@@ -178,6 +181,22 @@ fn measured(
         }
     }
     let mut entries = [0u16; ENTRIES];
+    if width <= 16 {
+        let mut weights = [0usize; FEW];
+        return measure_with(
+            source,
+            body,
+            table,
+            kind,
+            number,
+            tree,
+            top,
+            &mut entries,
+            &mut weights,
+            width,
+            ends,
+        );
+    }
     let mut weights = [0usize; WEIGHTS];
     measure_with(
         source,

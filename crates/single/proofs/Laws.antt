@@ -5,14 +5,15 @@ use mathlib.Core.List.{List, [], _∷_}
 use native.Mathlib.Omega.{arith}
 use lib.ListN.{length, getD, set}
 use lib.Seq.{getD-set-same}
-use lib.Dec.{ltb, eqb}
+use lib.Dec.{ltb}
 use borrow.Author.Tests.{ltb-true, ltb-false, eq-eqb, ne-eqb}
 use Rattle.fields.proofs.Truth.{by-test}
-use Rattle.measure.specs.Inner.Sizes.{capped, sumTo}
+use Rattle.measure.specs.Inner.Sizes.{capped}
 use Rattle.measure.specs.Inner.Weighing.{Weights, window, weighAt, sumOf, onceBy, KeptBelow}
 use Rattle.measure.specs.Inner.Descent.{downRow}
 use Rattle.reader.specs.Inner.Positions.{KindsIn}
-use Rattle.measure.proofs.Windows.{weigh-one, first-weight, sum-done}
+use Rattle.measure.proofs.Sums.{weighted-pick, none-of}
+use Rattle.measure.proofs.Windows.{window-in, window-out, weigh-one, first-weight}
 use Rattle.measure.proofs.Rows.{Open, open-start}
 
 -- A window of one weight is that weight for number 0, and none for others.
@@ -60,10 +61,11 @@ module _ (ws : List ℕ) (i top : ℕ) {x : ℕ} (e : getD ws i 0 ≡ x) where
 
   -- How often it is put out.
   pub total-is : x ≤ top → x ≡ sumOf top (window 1 ws i)
-  unfolding sumTo
+  unfolding sumOf
   total-is l =
-      let z : i + 0 ≡ i = omega arith in
-      sum-done top ws i 1 1 {sum = x} refl (omega arith) (rw (z, e) (omega arith)) .0
+      let z : window 1 ws i 0 ≡ x = window-in 1 ws i 0 (omega arith) ∙ (let y : i + 0 ≡ i = omega arith in rw (y, e)) in
+      let y = weighted-pick (window 1 ws i) (λ j. 1) 0 (omega arith) (λ j ne. none-of 1 (window-out 1 ws i j (omega arith))) in
+      omega arith
 
 -- A sum and a part that is counted up to the top itself.
 pub capped-part : (top sum n : ℕ) {o : ℕ} → o ≡ capped top (sum + n) → o ≡ capped top (sum + capped top (0 + n))

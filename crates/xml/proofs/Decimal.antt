@@ -4,6 +4,7 @@ use mathlib.Core.Path.{_≡_, refl, sym, ap, _∙_}
 use mathlib.Core.Bool.{true, false}
 use mathlib.Core.List.{List, [], _∷_, _++_, append-assoc}
 use native.Mathlib.Omega.{arith}
+use lib.ListN.{length, length-append}
 use lib.Dec.{ltb, leb, eqb}
 use borrow.Author.Tests.{ltb-true, ltb-false, lt-ltb, le-ltb, leb-true, le-leb, eqb-true, eqb-false, eq-eqb, ne-eqb}
 use Rattle.fields.proofs.Truth.{by-test, and-both}
@@ -40,6 +41,15 @@ decimal-more n d h i =
     let q : (n * 10 + d) / 10 ≡ n = omega arith in
     let r : (n * 10 + d) % 10 ≡ d = omega arith in
     decimal-large (n * 10 + d) (omega arith) ∙ rw (q, r)
+
+pub decimal-some : (n : ℕ) → 1 ≤ length (decimal n)
+decimal-some n =
+    by-test (ltb n 10)
+    (λ e. rw (decimal-small n (ltb-true n 10 e)) (omega arith))
+    (λ e. rw (decimal-large n (ltb-false n 10 e)) (omega (arith, length-append (decimal (n / 10)) ((48 + n % 10) ∷ []))))
+
+pub decimal-two : (n : ℕ) → 10 ≤ n → n < 100 → decimal n ≡ (48 + n / 10) ∷ (48 + n % 10) ∷ []
+decimal-two n h i = let j : n / 10 < 10 = omega arith in decimal-large n h ∙ rw (decimal-small (n / 10) j)
 
 -- Digits.
 pub digit-range : (b : ℕ) → isDigit b ≡ true → (48 ≤ b) × (b ≤ 57)

@@ -18,77 +18,63 @@ use Rattle.language.specs.Language.{Language, Entry, Range, rangeOf, argumentsA
 use Rattle.language.specs.LanguageFile.{entriesOf}
 use Rattle.language.specs.Inner.Entries.{entryAt, classRange}
 use Rattle.language.proofs.Holds.{holds-entries}
-use Rattle.reader.specs.Code.{Code, node, token, Codes, nil, cons}
-use Rattle.reader.specs.Syntax.{Read, done, deep, broken, andThen, readAll, write, writeAll, tree}
-use Rattle.reader.specs.Inner.Index.{Indexed}
-use Rattle.xml.specs.Import.{readOpening, readClosing, readToken, readOperands, readElement, readText}
+use Rattle.reader.specs.Code.{Code, node, token as leaf, Codes, nil, cons}
+use Rattle.reader.specs.Syntax.{Read, done, deep, broken, andThen, readAll}
+use Rattle.reader.specs.Inner.Index.{Sound, Indexed}
+use Rattle.reader.specs.Inner.Positions.{KindsIn}
+use Rattle.reader.proofs.Laws.{name-in, kinds-in}
+use Rattle.xml.specs.Text.{decimal, closeNode, nodeTag}
+use Rattle.xml.specs.Import.{readWord, readOpening, readClosing, readToken, readOperands, readElement, readText}
 use Rattle.xml.specs.declared.scan.Place.{Place}
 use Rattle.xml.specs.declared.scan.Place.the-variants.{At, Nothing}
 use Rattle.xml.specs.declared.scan.Number.{Number}
 use Rattle.xml.specs.declared.scan.Number.the-variants as N
+use Rattle.xml.specs.declared.import.Element.{Element}
+use Rattle.xml.specs.declared.import.Element.the-variants as E
 use Rattle.xml.specs.declared.import.Text.{Text}
 use Rattle.xml.specs.declared.import.Text.the-variants.{End, Deep, Broken}
-use Rattle.xml.specs.Inner.Scanning.{Stands, Numbers, Tokens}
-use Rattle.xml.specs.Inner.Importing.{Inside, Imports, ImportsTree, ImportsTrees, placeOf}
-use Rattle.xml.proofs.Round.{class-text, no-class}
+use Rattle.xml.specs.Inner.Scanning.{closes, Stands, Numbers, Tokens}
+use Rattle.xml.specs.Inner.Importing.{Inside, Imports, Opens, OpensElement, Elements, ImportsTree, ImportsTrees, placeOf}
+use Rattle.xml.proofs.Round.{class-text, no-class, opening-sound}
+use Rattle.xml.proofs.Words.{closing-word}
 use Rattle.putting.proofs.Reading.{class-known, class-none, production-none, production-known}
-use Rattle.xml.proofs.Scans.{no-number, number-at}
+use Rattle.xml.proofs.Scans.{no-number, number-at, closes-tag}
 
 -- Answers.
-not-end : {e m : ℕ} {A : Type 0} → Deep ≡ End e m → A
+not-end : {e : ℕ} {A : Type 0} → Deep ≡ End e → A
 not-end h = let z : _≡_ {A = ℕ} 0 1 = cc in absurd (omega arith)
 
-broken-end : {e m : ℕ} {A : Type 0} → Broken ≡ End e m → A
+broken-end : {e : ℕ} {A : Type 0} → Broken ≡ End e → A
 broken-end h = let z : _≡_ {A = ℕ} 0 1 = cc in absurd (omega arith)
 
 deep-broken : {A : Type 0} → Deep ≡ Broken → A
 deep-broken h = let z : _≡_ {A = ℕ} 0 1 = cc in absurd (omega arith)
 
-end-same : {e m d k : ℕ} → End e m ≡ End d k → (e ≡ d) × (m ≡ k)
-end-same h = (cc, cc)
+end-same : {e d : ℕ} → End e ≡ End d → e ≡ d
+end-same h = cc
 
 pub inside-deep : (text : List ℕ) → Inside text Deep
-inside-deep text e m h = not-end h
+inside-deep text e h = not-end h
 
 pub inside-broken : (text : List ℕ) → Inside text Broken
-inside-broken text e m h = broken-end h
+inside-broken text e h = broken-end h
 
-pub inside-end : (text : List ℕ) (e m : ℕ) → e ≤ length text → m ≤ e → Inside text (End e m)
-inside-end text e m h i d k q = let w = end-same q in (omega (arith, w .0), omega (arith, w .0, w .1))
+pub inside-end : (text : List ℕ) (e : ℕ) → e ≤ length text → Inside text (End e)
+inside-end text e h d q = let w = end-same q in omega arith
 
-module _ {A : Type 0} {bytes : A → List ℕ} {p : Read A} {text : List ℕ} {n : ℕ} where
-  pub imports-deep : p ≡ deep → Imports bytes p text n Deep
-  imports-deep h = record { found = λ e m q. not-end q; deep = λ q. h; broken = λ q. deep-broken q }
+module _ {A : Type 0} {p : Read A} {text : List ℕ} where
+  pub imports-deep : p ≡ deep → Imports p text Deep
+  imports-deep h = record { found = λ e q. not-end q; deep = λ q. h; broken = λ q. deep-broken q }
 
-  pub imports-broken : p ≡ broken → Imports bytes p text n Broken
-  imports-broken h = record { found = λ e m q. broken-end q; deep = λ q. deep-broken (sym q); broken = λ q. h }
+  pub imports-broken : p ≡ broken → Imports p text Broken
+  imports-broken h = record { found = λ e q. broken-end q; deep = λ q. deep-broken (sym q); broken = λ q. h }
 
-  pub imports-end : {e m : ℕ} (a : A) → p ≡ done a (drop e text) → m ≡ n + length (bytes a) → Imports bytes p text n (End e m)
-  imports-end {e} {m} a h s = record {
-    found = λ d k q. let w = end-same q in rw (← w .0, ← w .1) (a, h, s);
+  pub imports-end : {e : ℕ} (a : A) → p ≡ done a (drop e text) → Imports p text (End e)
+  imports-end {e} a h = record {
+    found = λ d q. let w = end-same q in (a, h ∙ ap (λ (n : ℕ). done a (drop n text)) w);
     deep = λ q. not-end (sym q);
     broken = λ q. broken-end (sym q);
   }
-
-  pub imports-same : {q : Read A} {r : Text} → p ≡ q → Imports bytes p text n r → Imports bytes q text n r
-  imports-same e w = rw (← e) w
-
--- text_token
-module _ (k : ℕ) (c : Range) (text : List ℕ) (at n : ℕ) {j : ℕ} (ej : j ≡ k) {x : Number} (token-is : Tokens (readToken j c (drop at text)) text (at + 2) x) where
-  same-kind : Tokens (readToken k c (drop at text)) text (at + 2) x
-  same-kind = rw (← ej) token-is
-
-  pub token-broken : x ≡ N.Nothing → Inside text Broken × Imports (write tree) (readToken k c (drop at text)) text n Broken
-  token-broken h = (inside-broken text, imports-broken (same-kind .nothing h))
-
-  pub token-past : {v e : ℕ} → x ≡ N.Is v e → (at + 2 ≤ e) × (e ≤ length text)
-  token-past {v} {e} h = let w = token-is .reached v e h in (w .past, w .inside)
-
-  pub token-end : {v e : ℕ} → x ≡ N.Is v e → n ≤ at → Inside text (End e (n + 2)) × Imports (write tree) (readToken k c (drop at text)) text n (End e (n + 2))
-  unfolding write
-  token-end {v} {e} h i =
-      let w = token-past h in
-      (inside-end text e (n + 2) (w .1) (omega (arith, w .0)), imports-end (token v) (same-kind .found v e h) refl)
 
 -- place_of
 pub place-large : (index : List ℕ) (k p : ℕ) → 255 < p → 0 ≡ placeOf index k p
@@ -124,131 +110,14 @@ module _ (s : List ℕ) (l : Language) (e : entriesOf s ≡ some l) (bytes : (i 
       go none f = refl
       go (some ks) f = let w = name-small k p ks f in absurd (omega arith)
 
-text-past : (l : Language) (k : ℕ) (u : List ℕ) → rangeOf l k ≡ none → readText l 0 k u ≡ deep
-unfolding readText
-text-past l k u e = cc
-
--- text_at
-module _ (s index text : List ℕ) (k at levels n : ℕ) (kind : k < 32) (bytes : (i : ℕ) → getD s i 0 < 256) {j class : ℕ} (ej : j ≡ k) (ec : class ≡ getD index j 0) where
-  class-is : class ≡ getD index k 0
-  class-is = ec ∙ ap (λ (i : ℕ). getD index i 0) ej
-
-  pub at-class : (r : Text) → (class ≡ 0 → ⊥) → Inside text r × Imports (write tree) (readToken k (classRange s (class - 1)) (drop at text)) text n r
-      → Inside text r × ImportsTree s index k text at levels n r
-  at-class r h w =
-      (w .0, λ l z. imports-same (sym (class-text l levels k (classRange s (class - 1)) (drop at text) (class-known s index l z k kind class class-is h))) (w .1))
-
-  module _ (no : class ≡ 0) where
-    pub at-deep : levels ≡ 0 → Inside text Deep × ImportsTree s index k text at levels n Deep
-    at-deep h =
-        (inside-deep text, λ l z. imports-deep (ap (λ (i : ℕ). readText l i k (drop at text)) h ∙ text-past l k (drop at text) (class-none s index l z k kind class class-is no)))
-
-    module _ (some-level : levels ≡ 0 → ⊥) where
-      element : (l : Language) → Indexed index s l → readText l levels k (drop at text) ≡ readElement (readText l (levels - 1)) l k (drop at text)
-      element l z =
-          let m : levels ≡ suc (levels - 1) = omega arith in
-          ap (λ (i : ℕ). readText l i k (drop at text)) m ∙ no-class l (levels - 1) k (drop at text) (class-none s index l z k kind class class-is no)
-
-      module _ {i : ℕ} (ei : i ≡ k) {x : Number} (opens : Numbers (readOpening i (drop at text)) text (at + 2) x) where
-        opened : Numbers (readOpening k (drop at text)) text (at + 2) x
-        opened = rw (← ei) opens
-
-        unknown : (l : Language) (p : ℕ) (r : List ℕ) → argumentsOf l k p ≡ none → readOperands (readText l (levels - 1)) k p (argumentsOf l k p) r ≡ broken
-        unfolding readOperands
-        unknown l p r e = ap (λ (q : Option (List ℕ)). readOperands (readText l (levels - 1)) k p q r) e
-
-        pub at-no-opening : x ≡ N.Nothing → Inside text Broken × ImportsTree s index k text at levels n Broken
-        unfolding readElement
-        at-no-opening h = (
-          inside-broken text,
-          λ l z. imports-broken (element l z
-              ∙ no-number (readOpening k (drop at text)) (λ p r. readOperands (readText l (levels - 1)) k p (argumentsOf l k p) r) (opened .nothing h)
-              (λ p r g. unknown l p r (large-none s l (z .entries) bytes k p (omega arith)))),
-        )
-
-        module _ {p a : ℕ} (ex : x ≡ N.Is p a) {place : ℕ} (ep : place ≡ placeOf index k p) where
-          operands : (l : Language) → Indexed index s l → readText l levels k (drop at text) ≡ readOperands (readText l (levels - 1)) k p (argumentsOf l k p) (drop a text)
-          unfolding readElement
-          operands l z = element l z ∙ number-at opened (λ p r. readOperands (readText l (levels - 1)) k p (argumentsOf l k p) r) ex
-
-          pub opened-past : (at + 2 ≤ a) × (a ≤ length text)
-          opened-past = let w = opened .reached p a ex in (w .past, w .inside)
-
-          pub at-unknown : place ≡ 0 → Inside text Broken × ImportsTree s index k text at levels n Broken
-          unfolding placeOf
-          at-unknown h = (inside-broken text, λ l z. imports-broken (operands l z ∙ unknown l p (drop a text) (none-at l z)))
-            where
-              none-at : (l : Language) → Indexed index s l → argumentsOf l k p ≡ none
-              none-at l z =
-                  by-test (ltb 255 p)
-                  (λ t. let g = ltb-true 255 p t in large-none s l (z .entries) bytes k p (omega arith))
-                  (λ t.
-                  let g = ltb-false 255 p t in
-                  let y : place ≡ getD index (productionKey k p) 0 = cc in
-                  production-none s index l z k kind p (omega arith) place y h)
-
-          module _ (pos : place ≡ 0 → ⊥) where
-            pub found-name : (p < 256) × (place ≡ getD index (productionKey k p) 0)
-            unfolding placeOf
-            found-name =
-                by-test (ltb 255 p)
-                (λ t. absurd (pos (cc)))
-                (λ t. let g = ltb-false 255 p t in (omega arith, cc))
-
-            module _ {size : ℕ} (es : size ≡ pairAt s place) {y : Text}
-                (inside : Inside text y) (all : ImportsTrees s index (place + 4) (place + 2 + size) text a (levels - 1) (n + 1) y) where
-              abbrev closes : (l : Language) → Codes → List ℕ → Read Code
-              closes l t r = andThen (readClosing k p r) λ u r. done (node k p t) r
-
-              goes : (l : Language) → Indexed index s l
-                  → readText l levels k (drop at text) ≡ (andThen (readAll (readText l (levels - 1)) (slice (place + 4) (place + 2 + size) s) (drop a text)) λ t r. closes l t r)
-              unfolding readOperands
-              goes l z =
-                  operands l z
-                  ∙ ap (λ (q : Option (List ℕ)). readOperands (readText l (levels - 1)) k p q (drop a text))
-                  (production-known s index l z k kind p (found-name .0) place (found-name .1) pos es)
-
-              pub at-operands-deep : y ≡ Deep → Inside text Deep × ImportsTree s index k text at levels n Deep
-              at-operands-deep h = (inside-deep text, λ l z. imports-deep (goes l z ∙ ap (λ (q : Read Codes). andThen q (closes l)) (all l z .deep h)))
-
-              pub at-operands-broken : y ≡ Broken → Inside text Broken × ImportsTree s index k text at levels n Broken
-              at-operands-broken h = (inside-broken text, λ l z. imports-broken (goes l z ∙ ap (λ (q : Read Codes). andThen q (closes l)) (all l z .broken h)))
-
-              module _ {b m : ℕ} (ey : y ≡ End b m) {g : ℕ} (eg : g ≡ k) {c : Place} (close : Stands (readClosing g p (drop b text)) text b c) where
-                closed : Stands (readClosing k p (drop b text)) text b c
-                closed = rw (← eg) close
-
-                so-far : (l : Language) (z : Indexed index s l) → readText l levels k (drop at text) ≡ closes l (all l z .found b m ey .0) (drop b text)
-                so-far l z = goes l z ∙ ap (λ (q : Read Codes). andThen q (closes l)) (all l z .found b m ey .1)
-
-                pub at-closing-broken : c ≡ Nothing → Inside text Broken × ImportsTree s index k text at levels n Broken
-                at-closing-broken h = (
-                  inside-broken text,
-                  λ l z. imports-broken (so-far l z
-                      ∙ ap (λ (q : Read (Unit {0})). andThen q (λ u r. done (node k p (all l z .found b m ey .0)) r)) (closed .nothing h)),
-                )
-
-                pub at-done : {e : ℕ} → c ≡ At e → Inside text (End e m) × ImportsTree s index k text at levels n (End e m)
-                unfolding write
-                at-done {e} h =
-                    let w = closed .reached e h in
-                    let i = inside b m ey in (
-                      inside-end text e m (w .inside) (omega (arith, w .past, i .1)),
-                      λ l z.
-                          let f = all l z .found b m ey in
-                          imports-end (node k p (f .0))
-                          (so-far l z ∙ ap (λ (q : Read (Unit {0})). andThen q (λ u r. done (node k p (f .0)) r)) (closed .found e h))
-                          (let c = f .2 in omega arith),
-                    )
+pub opens-is : {k : ℕ} {text : List ℕ} {at p a : ℕ} {x : Number} → Numbers (readOpening k (drop at text)) text (at + 2) x → x ≡ N.Is p a → Opens k text at p a
+opens-is {p = p} {a = a} w h = let z = w .reached p a h in record { reads = w .found p a h; small = w .small p a h; past = z .past; inside = z .inside }
 
 -- texts_at, a turn at a time: `before` puts what was read in front of what is left to read.
-pub record Going (s text : List ℕ) (from stop at levels n q to m : ℕ) (l : Language) : Type 0 where
+pub record Going (kinds text : List ℕ) (from stop at levels q to : ℕ) (l : Language) : Type 0 where
   pub before : Codes → Codes
-  pub text-of : List ℕ
-  pub reads : readAll (readText l levels) (slice from stop s) (drop at text)
-      ≡ (andThen (readAll (readText l levels) (slice q stop s) (drop to text)) λ t r. done (before t) r)
-  pub bytes : (t : Codes) → writeAll tree (before t) ≡ text-of ++ writeAll tree t
-  pub count : m ≡ n + length text-of
+  pub reads : readAll (readText l levels) (slice from stop kinds) (drop at text)
+      ≡ (andThen (readAll (readText l levels) (slice q stop kinds) (drop to text)) λ t r. done (before t) r)
 
 then-id : {A : Type 0} (p : Read A) → p ≡ (andThen p λ a r. done a r)
 then-id (done a r) = refl
@@ -260,62 +129,214 @@ then-made (done a r) f g = refl
 then-made deep f g = refl
 then-made broken f g = refl
 
-abbrev pub Goes : List ℕ → List ℕ → ℕ → ℕ → List ℕ → ℕ → ℕ → ℕ → ℕ → ℕ → ℕ → Type 0
-Goes s index from stop text at levels n q to m = (l : Language) → Indexed index s l → Going s text from stop at levels n q to m l
+abbrev pub Goes : List ℕ → List ℕ → List ℕ → ℕ → ℕ → List ℕ → ℕ → ℕ → ℕ → ℕ → Type 0
+Goes kinds s index from stop text at levels q to = (l : Language) → Indexed index s l → Going kinds text from stop at levels q to l
 
-module _ (s index : List ℕ) (from stop : ℕ) (text : List ℕ) (at levels n : ℕ) where
-  pub goes-start : Goes s index from stop text at levels n from at n
-  goes-start l z = record {
-    before = λ t. t;
-    text-of = [];
-    reads = then-id (readAll (readText l levels) (slice from stop s) (drop at text));
-    bytes = λ t. refl;
-    count = omega arith;
-  }
+module _ (kinds s index : List ℕ) (from stop : ℕ) (text : List ℕ) (at levels : ℕ) where
+  pub goes-start : Goes kinds s index from stop text at levels from at
+  goes-start l z = record { before = λ t. t; reads = then-id (readAll (readText l levels) (slice from stop kinds) (drop at text)) }
 
-  module _ {q to m : ℕ} (goes : Goes s index from stop text at levels n q to m) where
-    pub goes-done : stop ≤ q → ImportsTrees s index from stop text at levels n (End to m)
-    unfolding readAll writeAll
+  module _ {q to : ℕ} (goes : Goes kinds s index from stop text at levels q to) where
+    pub goes-done : stop ≤ q → ImportsTrees kinds s index from stop text at levels (End to)
+    unfolding readAll
     goes-done h l z =
         let g = goes l z in
-        let no : slice q stop s ≡ [] = sym (part-done (λ u. u) s q stop (slice q stop s) refl h) in
-        let v : g .text-of ≡ writeAll tree (g .before nil) = sym (g .bytes nil ∙ append-nil (g .text-of)) in
+        let no : slice q stop kinds ≡ [] = sym (part-done (λ u. u) kinds q stop (slice q stop kinds) refl h) in
         imports-end (g .before nil)
         (g .reads ∙ ap (λ (ks : List ℕ). andThen (readAll (readText l levels) ks (drop to text)) λ t r. done (g .before t) r) no)
-        (rw (← v) (g .count))
 
-    module _ {k : ℕ} (ek : k ≡ getD s q 0) (more : q < stop) (there : stop ≤ length s) {y : Text}
-        (step : ImportsTree s index k text to levels m y) where
-      next-is : slice q stop s ≡ k ∷ slice (q + 1) stop s
-      next-is = sym (part-next (λ u. u) s q stop (slice q stop s) refl more there) ∙ ap (λ (j : ℕ). j ∷ slice (q + 1) stop s) (sym ek)
+    module _ {k : ℕ} (ek : k ≡ getD kinds q 0) (more : q < stop) (there : stop ≤ length kinds) {y : Text}
+        (step : ImportsTree s index k text to levels y) where
+      next-is : slice q stop kinds ≡ k ∷ slice (q + 1) stop kinds
+      next-is = sym (part-next (λ u. u) kinds q stop (slice q stop kinds) refl more there) ∙ ap (λ (j : ℕ). j ∷ slice (q + 1) stop kinds) (sym ek)
 
       abbrev rest : (l : Language) → Code → List ℕ → Read Codes
-      rest l a r = andThen (readAll (readText l levels) (slice (q + 1) stop s) r) λ t u. done (cons a t) u
+      rest l a r = andThen (readAll (readText l levels) (slice (q + 1) stop kinds) r) λ t u. done (cons a t) u
 
-      turn : (l : Language) (z : Indexed index s l) → readAll (readText l levels) (slice from stop s) (drop at text)
+      turn : (l : Language) (z : Indexed index s l) → readAll (readText l levels) (slice from stop kinds) (drop at text)
           ≡ (andThen (andThen (readText l levels k (drop to text)) (rest l)) λ t r. done (goes l z .before t) r)
       unfolding readAll
       turn l z = goes l z .reads ∙ ap (λ (ks : List ℕ). andThen (readAll (readText l levels) ks (drop to text)) λ t r. done (goes l z .before t) r) next-is
 
-      with-first : (l : Language) (z : Indexed index s l) {p : Read Code} → readText l levels k (drop to text) ≡ p → readAll (readText l levels) (slice from stop s) (drop at text)
+      with-first : (l : Language) (z : Indexed index s l) {p : Read Code} → readText l levels k (drop to text) ≡ p → readAll (readText l levels) (slice from stop kinds) (drop at text)
           ≡ (andThen (andThen p (rest l)) λ t r. done (goes l z .before t) r)
       with-first l z e = turn l z ∙ ap (λ (p : Read Code). andThen (andThen p (rest l)) λ t r. done (goes l z .before t) r) e
 
-      pub goes-deep : y ≡ Deep → ImportsTrees s index from stop text at levels n Deep
+      pub goes-deep : y ≡ Deep → ImportsTrees kinds s index from stop text at levels Deep
       goes-deep h l z = imports-deep (with-first l z (step l z .deep h))
 
-      pub goes-broken : y ≡ Broken → ImportsTrees s index from stop text at levels n Broken
+      pub goes-broken : y ≡ Broken → ImportsTrees kinds s index from stop text at levels Broken
       goes-broken h l z = imports-broken (with-first l z (step l z .broken h))
 
-      pub goes-next : {e h : ℕ} → y ≡ End e h → Goes s index from stop text at levels n (q + 1) e h
-      unfolding writeAll
-      goes-next {e} {h} ey l z =
+      pub goes-next : {e : ℕ} → y ≡ End e → Goes kinds s index from stop text at levels (q + 1) e
+      goes-next {e} ey l z =
           let g = goes l z in
-          let f = step l z .found e h ey in
+          let f = step l z .found e ey in
           record {
             before = λ t. g .before (cons (f .0) t);
-            text-of = g .text-of ++ write tree (f .0);
-            reads = with-first l z (f .1) ∙ then-made (readAll (readText l levels) (slice (q + 1) stop s) (drop e text)) (cons (f .0)) (g .before);
-            bytes = λ t. g .bytes (cons (f .0) t) ∙ sym (append-assoc (g .text-of) (write tree (f .0)) (writeAll tree t));
-            count = omega (arith, g .count, f .2, length-append (g .text-of) (write tree (f .0)));
+            reads = with-first l z (f .1) ∙ then-made (readAll (readText l levels) (slice (q + 1) stop kinds) (drop e text)) (cons (f .0)) (g .before);
           }
+
+-- element_at
+not-of : {q e a : ℕ} {A : Type 0} → E.Nothing ≡ E.Of q e a → A
+not-of h = let z : _≡_ {A = ℕ} 0 1 = cc in absurd (omega arith)
+
+found-name : (index : List ℕ) (k p : ℕ) {place : ℕ} → place ≡ placeOf index k p → (place ≡ 0 → ⊥) → (p < 256) × (place ≡ getD index (productionKey k p) 0)
+unfolding placeOf
+found-name index k p ep pos =
+    by-test (ltb 255 p)
+    (λ t. absurd (pos (cc)))
+    (λ t. let g = ltb-false 255 p t in (omega arith, cc))
+
+module _ (s index text : List ℕ) (k at : ℕ) (kind : k < 32) (bytes : (i : ℕ) → getD s i 0 < 256) {x : Number} (opened : Numbers (readOpening k (drop at text)) text (at + 2) x) where
+  element-not : ((l : Language) → Indexed index s l → (reads : ℕ → List ℕ → Read Code) → readElement reads l k (drop at text) ≡ broken) → Elements s index k text at E.Nothing
+  element-not f = record { found = λ q e a h. not-of h; nothing = λ h. f }
+
+  unknown : (reads : ℕ → List ℕ → Read Code) (l : Language) (p : ℕ) (r : List ℕ) → argumentsOf l k p ≡ none → readOperands reads k p (argumentsOf l k p) r ≡ broken
+  unfolding readOperands
+  unknown reads l p r e = ap (λ (q : Option (List ℕ)). readOperands reads k p q r) e
+
+  pub element-nothing : x ≡ N.Nothing → Elements s index k text at E.Nothing
+  unfolding readElement
+  element-nothing h =
+      element-not (λ l z reads. no-number (readOpening k (drop at text)) (λ p r. readOperands reads k p (argumentsOf l k p) r) (opened .nothing h)
+      (λ p r g. unknown reads l p r (large-none s l (z .entries) bytes k p (omega arith))))
+
+  module _ {p a : ℕ} (ex : x ≡ N.Is p a) {place : ℕ} (ep : place ≡ placeOf index k p) where
+    pub element-unknown : place ≡ 0 → Elements s index k text at E.Nothing
+    unfolding placeOf readElement
+    element-unknown h =
+        element-not (λ l z reads. number-at opened (λ p r. readOperands reads k p (argumentsOf l k p) r) ex ∙ unknown reads l p (drop a text) (none-at l z))
+      where
+        none-at : (l : Language) → Indexed index s l → argumentsOf l k p ≡ none
+        none-at l z =
+            by-test (ltb 255 p)
+            (λ t. let g = ltb-true 255 p t in large-none s l (z .entries) bytes k p (omega arith))
+            (λ t.
+            let g = ltb-false 255 p t in
+            let y : place ≡ getD index (productionKey k p) 0 = cc in
+            production-none s index l z k kind p (omega arith) place y h)
+
+    module _ (pos : place ≡ 0 → ⊥) (known : Sound index s) where
+      pub element-place : (place + 4 ≤ length s) × (length s ≤ 1024)
+      element-place = let f = found-name index k p ep pos in name-in index s known refl kind (f .0) (f .1) pos
+
+      pub element-found : {size : ℕ} → size ≡ pairAt s place → Elements s index k text at (E.Of (place + 4) (place + 2 + size) a)
+      element-found {size} es =
+          let f = found-name index k p ep pos in
+          record {
+            found = λ q e b h.
+                let u : q ≡ place + 4 = cc in
+                let v : e ≡ place + 2 + size = cc in
+                let t : b ≡ a = cc in
+                record {
+                  name = p;
+                  place = place;
+                  opens = rw t (opens-is opened ex);
+                  is-place = ep;
+                  some-place = pos;
+                  from = u;
+                  to = v ∙ ap (λ (n : ℕ). place + 2 + n) es;
+                  kinds = rw (u, v) (kinds-in index s known refl kind (f .0) (f .1) pos es);
+                };
+            nothing = λ h. not-of (sym h);
+          }
+
+text-past : (l : Language) (k : ℕ) (u : List ℕ) → rangeOf l k ≡ none → readText l 0 k u ≡ deep
+unfolding readText
+text-past l k u e = cc
+
+-- text_at
+module _ (s index text : List ℕ) (k at levels : ℕ) (kind : k < 32) (bytes : (i : ℕ) → getD s i 0 < 256) {j class : ℕ} (ej : j ≡ k) (ec : class ≡ getD index j 0) where
+  class-is : class ≡ getD index k 0
+  class-is = ec ∙ ap (λ (i : ℕ). getD index i 0) ej
+
+  -- A token.
+  module _ (some-class : class ≡ 0 → ⊥) {x : Number} (token-is : Tokens (readToken k (classRange s (class - 1)) (drop at text)) text (at + 2) x) where
+    token : (l : Language) → Indexed index s l → readText l levels k (drop at text) ≡ readToken k (classRange s (class - 1)) (drop at text)
+    token l z = class-text l levels k (classRange s (class - 1)) (drop at text) (class-known s index l z k kind class class-is some-class)
+
+    pub at-no-token : x ≡ N.Nothing → ImportsTree s index k text at levels Broken
+    at-no-token h l z = imports-broken (token l z ∙ token-is .nothing h)
+
+    pub at-token : {v e : ℕ} → x ≡ N.Is v e → ImportsTree s index k text at levels (End e)
+    at-token {v} {e} h l z = imports-end (leaf v) (token l z ∙ token-is .found v e h)
+
+  module _ (no : class ≡ 0) where
+    pub at-deep : levels ≡ 0 → ImportsTree s index k text at levels Deep
+    at-deep h l z =
+        imports-deep (ap (λ (i : ℕ). readText l i k (drop at text)) h ∙ text-past l k (drop at text) (class-none s index l z k kind class class-is no))
+
+    module _ (some-level : levels ≡ 0 → ⊥) where
+      element : (l : Language) → Indexed index s l → readText l levels k (drop at text) ≡ readElement (readText l (levels - 1)) l k (drop at text)
+      element l z =
+          let m : levels ≡ suc (levels - 1) = omega arith in
+          ap (λ (i : ℕ). readText l i k (drop at text)) m ∙ no-class l (levels - 1) k (drop at text) (class-none s index l z k kind class class-is no)
+
+      module _ {x : Element} (elements : Elements s index k text at x) where
+        pub at-no-element : x ≡ E.Nothing → ImportsTree s index k text at levels Broken
+        at-no-element h l z = imports-broken (element l z ∙ elements .nothing h l z (readText l (levels - 1)))
+
+        module _ {q e a : ℕ} (ex : x ≡ E.Of q e a) where
+          is-element : OpensElement s index k text at q e a
+          is-element = elements .found q e a ex
+
+          abbrev p : ℕ
+          p = is-element .name
+
+          pub at-kinds : KindsIn s q e
+          at-kinds = is-element .kinds
+
+          pub at-past : (at + 2 ≤ a) × (a ≤ length text)
+          at-past = let w = is-element .opens in (w .past, w .inside)
+
+          known : (l : Language) → Indexed index s l → argumentsOf l k p ≡ some (slice q e s)
+          known l z =
+              let w = is-element in
+              let f = found-name index k p (w .is-place) (w .some-place) in
+              production-known s index l z k kind p (f .0) (w .place) (f .1) (w .some-place) refl
+              ∙ (ap (λ (i : ℕ). some (slice i (w .place + 2 + pairAt s (w .place)) s)) (sym (w .from)) ∙ ap (λ (i : ℕ). some (slice q i s)) (sym (w .to)))
+
+          module _ {y : Text} (all : ImportsTrees s s index q e text a (levels - 1) y) where
+            abbrev then-closing : (l : Language) → Codes → List ℕ → Read Code
+            then-closing l t r = andThen (readClosing k p r) λ u r. done (node k p t) r
+
+            goes : (l : Language) → Indexed index s l
+                → readText l levels k (drop at text) ≡ (andThen (readAll (readText l (levels - 1)) (slice q e s) (drop a text)) λ t r. then-closing l t r)
+            unfolding readElement readOperands
+            goes l z =
+                element l z
+                ∙ (ap (λ (o : Read ℕ). andThen o λ p r. readOperands (readText l (levels - 1)) k p (argumentsOf l k p) r) (is-element .opens .reads)
+                ∙ ap (λ (o : Option (List ℕ)). readOperands (readText l (levels - 1)) k p o (drop a text)) (known l z))
+
+            pub at-operands-deep : y ≡ Deep → ImportsTree s index k text at levels Deep
+            at-operands-deep h l z = imports-deep (goes l z ∙ ap (λ (q : Read Codes). andThen q (then-closing l)) (all l z .deep h))
+
+            pub at-operands-broken : y ≡ Broken → ImportsTree s index k text at levels Broken
+            at-operands-broken h l z = imports-broken (goes l z ∙ ap (λ (q : Read Codes). andThen q (then-closing l)) (all l z .broken h))
+
+            module _ {b : ℕ} (ey : y ≡ End b) {c : Place} (close : Stands (readWord (closes at (a - at + 1) text) (drop b text)) text b c) where
+              same-tag : closes at (a - at + 1) text ≡ nodeTag closeNode k p
+              unfolding nodeTag
+              same-tag =
+                  let w = is-element .opens in
+                  closes-tag text at a (120 ∷ (decimal k ++ (46 ∷ (decimal p ++ (62 ∷ []))))) (omega (arith, w .past, w .inside)) (w .inside)
+                  (opening-sound k (drop at text) p (drop a text) (w .reads))
+
+              so-far : (l : Language) (z : Indexed index s l) {q : Read (Unit {0})} → readWord (closes at (a - at + 1) text) (drop b text) ≡ q
+                  → readText l levels k (drop at text) ≡ (andThen q λ u r. done (node k p (all l z .found b ey .0)) r)
+              so-far l z {q} e =
+                  goes l z
+                  ∙ (ap (λ (q : Read Codes). andThen q (then-closing l)) (all l z .found b ey .1)
+                  ∙ ap (λ (q : Read (Unit {0})). andThen q (λ u r. done (node k p (all l z .found b ey .0)) r))
+                  (closing-word k p (drop b text) ∙ (ap (λ (w : List ℕ). readWord w (drop b text)) (sym same-tag) ∙ e)))
+
+              pub at-open : c ≡ Nothing → ImportsTree s index k text at levels Broken
+              at-open h l z = imports-broken (so-far l z (close .nothing h))
+
+              pub at-closed : {d : ℕ} → c ≡ At d → ImportsTree s index k text at levels (End d)
+              at-closed {d} h l z = imports-end (node k p (all l z .found b ey .0)) (so-far l z (close .found d h))
+
+-- Where there are no operands, the closing tag stands behind the opening tag.
+pub leaf-all : (s index text : List ℕ) (q e a levels : ℕ) → e ≤ q → ImportsTrees s s index q e text a levels (End a)
+leaf-all s index text q e a levels h = goes-done s s index q e text a levels (goes-start s s index q e text a levels) h

@@ -1,5 +1,6 @@
 pub mod Decimal
 pub mod Round
+pub mod Words
 pub mod Inverse
 pub mod Puts
 pub mod Reading

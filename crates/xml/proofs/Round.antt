@@ -25,7 +25,7 @@ unfolding tokenTag
 token-tag w k s = simp append-assoc
 
 -- Tags that were written are read.
-stop-point : (s : List ℕ) → Stops (46 ∷ s)
+pub stop-point : (s : List ℕ) → Stops (46 ∷ s)
 unfolding isDigit
 stop-point s = refl
 
@@ -48,7 +48,7 @@ opening-round k p s =
       word-round tagEnd s,
     )
 
-closing-round : (k p : ℕ) (s : List ℕ) → readClosing k p (nodeTag closeNode k p ++ s) ≡ done tt s
+pub closing-round : (k p : ℕ) (s : List ℕ) → readClosing k p (nodeTag closeNode k p ++ s) ≡ done tt s
 unfolding readClosing
 closing-round k p s =
     rw (
@@ -58,7 +58,7 @@ closing-round k p s =
       word-round tagEnd s,
     )
 
-tag-round : (w : List ℕ) (k : ℕ) (s : List ℕ) → readTokenTag w k (tokenTag w k ++ s) ≡ done tt s
+pub tag-round : (w : List ℕ) (k : ℕ) (s : List ℕ) → readTokenTag w k (tokenTag w k ++ s) ≡ done tt s
 unfolding readTokenTag
 tag-round w k s = rw (token-tag w k s, named-round w k (62 ∷ s) (stop-end s), word-round tagEnd s)
 
@@ -128,7 +128,7 @@ module _ (l : Language) where
           rw (append-assoc, round h n (exportAll l ks t ++ r) (omega arith), roundAll hs n r (omega arith))
 
 -- Tags that were read are what is written.
-opening-sound : (k : ℕ) (s : List ℕ) (p : ℕ) (r : List ℕ) → readOpening k s ≡ done p r → s ≡ nodeTag openNode k p ++ r
+pub opening-sound : (k : ℕ) (s : List ℕ) (p : ℕ) (r : List ℕ) → readOpening k s ≡ done p r → s ≡ nodeTag openNode k p ++ r
 unfolding readOpening
 opening-sound k s p r e =
     let a = then-done (readNamed openNode k s) _ p r e in
@@ -143,7 +143,7 @@ opening-sound k s p r e =
     ∙ ap (λ (u : List ℕ). decimal p ++ u) (word-sound tagEnd (c .1) (d .1) (d .2) ∙ ap (λ (u : List ℕ). 62 ∷ u) y))))
     ∙ sym (node-tag openNode k p r))
 
-closing-sound : (k p : ℕ) (s r : List ℕ) {u : Unit {0}} → readClosing k p s ≡ done u r → s ≡ nodeTag closeNode k p ++ r
+pub closing-sound : (k p : ℕ) (s r : List ℕ) {u : Unit {0}} → readClosing k p s ≡ done u r → s ≡ nodeTag closeNode k p ++ r
 unfolding readClosing
 closing-sound k p s r {u} e =
     let a = then-done (readNamed closeNode k s) _ u r e in
@@ -153,7 +153,7 @@ closing-sound k p s r {u} e =
     ∙ ap (λ (u : List ℕ). 46 ∷ (decimal p ++ u)) (word-sound tagEnd (b .1) r (b .3)))
     ∙ sym (node-tag closeNode k p r))
 
-tag-sound : (w : List ℕ) (k : ℕ) (s r : List ℕ) {u : Unit {0}} → readTokenTag w k s ≡ done u r → s ≡ tokenTag w k ++ r
+pub tag-sound : (w : List ℕ) (k : ℕ) (s r : List ℕ) {u : Unit {0}} → readTokenTag w k s ≡ done u r → s ≡ tokenTag w k ++ r
 unfolding readTokenTag
 tag-sound w k s r {u} e =
     let a = then-done (readNamed w k s) _ u r e in

@@ -1,10 +1,11 @@
 -- A law for each return and loop turn of the functions of scan.rt.
-use Prim.Native.Nat.{ℕ, zero, suc, _+_, _*_, _-_, _<_, _≤_}
+use Prim.Native.Nat.{ℕ, zero, suc, _+_, _*_, _/_, _%_, _-_, _<_, _≤_}
 use mathlib.Core.Path.{_≡_, refl, sym, ap, _∙_}
 use mathlib.Core.Bool.{Bool, true, false}
-use mathlib.Core.List.{List, [], _∷_}
+use mathlib.Core.List.{List, [], _∷_, _++_}
 use native.Mathlib.Omega.{arith}
-use lib.ListN.{length, getD, drop, drop-of-length-le, length-drop}
+use lib.ListN.{length, getD, take, drop, drop-of-length-le, length-append, length-take, length-drop}
+use lib.Seq.{getD-take, getD-drop, drop-drop, take-at}
 use lib.Dec.{leb, eqb}
 use borrow.Author.Tests.{le-leb, lt-leb, leb-true, leb-false, eq-eqb, ne-eqb, eqb-true, eqb-false}
 use Rattle.fields.specs.Fields.{pairAt}
@@ -14,14 +15,15 @@ use Rattle.language.specs.Language.{Range, inRange}
 use Rattle.language.specs.Inner.Entries.{classRange}
 use Rattle.reader.specs.Code.{Code, token}
 use Rattle.reader.specs.Syntax.{Read, done, deep, broken, andThen}
-use Rattle.xml.specs.Text.{openNode, closeNode, openToken, closeToken, point, tagEnd}
-use Rattle.xml.specs.Import.{isDigit, readWord, readDigits, readNumber, readNamed, readOpening, readClosing, readTokenTag, readToken}
+use Rattle.xml.specs.Text.{decimal, openToken, closeToken, tagEnd, tokenTag}
+use Rattle.xml.specs.Import.{isDigit, readWord, readDigits, readNumber, readOpening, readTokenTag, readToken}
 use Rattle.xml.specs.declared.scan.Place.{Place}
 use Rattle.xml.specs.declared.scan.Place.the-variants.{At, Nothing}
 use Rattle.xml.specs.declared.scan.Number.{Number}
 use Rattle.xml.specs.declared.scan.Number.the-variants as N
-use Rattle.xml.specs.Inner.Scanning.{Reached, Stands, NoNumber, Numbers, Tokens}
-use Rattle.xml.proofs.Decimal.{digit-range}
+use Rattle.xml.specs.Inner.Scanning.{begins, closes, Reached, Stands, NoNumber, Numbers, Tokens}
+use Rattle.xml.proofs.Decimal.{decimal-small, decimal-two, decimal-some, digit-range, number-sound, word-sound}
+use Rattle.xml.proofs.Words.{word-shallow, number-shallow, tag-word, ends, opening-word, begins-cut}
 
 at-not : {e : ℕ} {A : Type 0} → Nothing ≡ At e → A
 at-not h = let z : _≡_ {A = ℕ} 0 1 = cc in absurd (omega arith)
@@ -172,6 +174,9 @@ module _ (text : List ℕ) (at : ℕ) where
       unfolding readDigits
       number-again h e = going ∙ cc (front text to there)
 
+      pub number-on : {b : ℕ} (j : ℕ) → x ≡ true → b ≡ getD text to 0 → to + 1 ≡ j → readNumber (drop at text) ≡ readDigits (value * 10 + (b - 48)) (drop j text)
+      number-on {b} j h e f = number-again h e ∙ ap (λ (n : ℕ). readDigits (value * 10 + (b - 48)) (drop n text)) f
+
       pub number-large : {b : ℕ} → x ≡ true → b ≡ getD text to 0 → 65535 < value * 10 + (b - 48) → Numbers (readNumber (drop at text)) text at N.Nothing
       number-large {b} h e g =
           let z = number-again h e in
@@ -195,38 +200,6 @@ no-number (done v r) f h g = g v r h
 no-number deep f h g = absurd h
 no-number broken f h g = refl
 
--- named_at
-module _ (w : List ℕ) (k : ℕ) (text : List ℕ) (at : ℕ) (small : k < 65536) {x : Place} (first : Stands (readWord w (drop at text)) text (at + length w) x) where
-  abbrev rest : List ℕ → Read (Unit {0})
-  rest r = andThen (readNumber r) λ n r. elim (eqb n k) [ true ↦ done tt r | false ↦ broken ]
-
-  pub named-nothing : x ≡ Nothing → Stands (readNamed w k (drop at text)) text (at + length w) Nothing
-  unfolding readNamed
-  named-nothing h = stands-not (then-nothing first (λ u r. rest r) h)
-
-  module _ {a : ℕ} (ea : x ≡ At a) {y : Number} (second : Numbers (readNumber (drop a text)) text a y) where
-    other : (v : ℕ) (r : List ℕ) → 65536 ≤ v → _≡_ {A = Read (Unit {0})} (elim (eqb v k) [ true ↦ done tt r | false ↦ broken ]) broken
-    other v r h = let q : v ≡ k → ⊥ = λ z. omega arith in let d = ne-eqb v k q in cc
-
-    pub named-other : y ≡ N.Nothing → Stands (readNamed w k (drop at text)) text (at + length w) Nothing
-    unfolding readNamed
-    named-other h = stands-not (then-at first (λ u r. rest r) ea ∙ no-number (readNumber (drop a text)) _ (second .nothing h) other)
-
-    module _ {v e : ℕ} (ey : y ≡ N.Is v e) where
-      go : readNamed w k (drop at text) ≡ (elim (eqb v k) [ true ↦ done tt (drop e text) | false ↦ broken ])
-      unfolding readNamed
-      go = then-at first (λ u r. rest r) ea ∙ number-at second _ ey
-
-      pub named-differs : (v ≡ k → ⊥) → Stands (readNamed w k (drop at text)) text (at + length w) Nothing
-      named-differs h = let d = ne-eqb v k h in stands-not (go ∙ cc)
-
-      pub named-done : v ≡ k → Stands (readNamed w k (drop at text)) text (at + length w) (At e)
-      named-done h =
-          let d = eq-eqb v k h in
-          let p = first .reached a ea in
-          let q = second .reached v e ey in
-          stands-at (go ∙ cc) (omega (arith, p .past, q .past)) (q .inside)
-
 -- Where a position was reached, it is in the text.
 pub at-inside : {o : Read (Unit {0})} {text : List ℕ} {from a : ℕ} {x : Place} → Stands o text from x → x ≡ At a → a ≤ length text
 at-inside {a = a} w h = w .reached a h .inside
@@ -242,75 +215,159 @@ stands-from e h w = record {
   nothing = λ q. sym e ∙ w .nothing q;
 }
 
--- token_tag_at
-module _ (w : List ℕ) (k : ℕ) (text : List ℕ) (at : ℕ) {x : Place} (first : Stands (readNamed w k (drop at text)) text (at + length w) x) where
-  pub tag-nothing : x ≡ Nothing → Stands (readTokenTag w k (drop at text)) text (at + length w) Nothing
-  unfolding readTokenTag
-  tag-nothing h = stands-not (then-nothing first (λ u r. readWord tagEnd r) h)
+-- begin_at and closing_at, a byte at a time
+module _ (text : List ℕ) (c : ℕ) (w : List ℕ) (i : ℕ) (there : i < length text) where
+  byte-is : (j : ℕ) → getD text i 0 ≡ c → i + 1 ≡ j → readWord (c ∷ w) (drop i text) ≡ readWord w (drop j text)
+  unfolding readWord
+  byte-is j h e = let d = eq-eqb (getD text i 0) c h in rw (front text i there, ← e) (cc)
 
-  pub tag-then : {a : ℕ} {y : Place} → x ≡ At a → Stands (readWord tagEnd (drop a text)) text (a + 1) y → Stands (readTokenTag w k (drop at text)) text (at + length w) y
-  unfolding readTokenTag
-  tag-then {a} ea second =
-      let p = first .reached a ea .past in
-      stands-from (sym (then-at first (λ u r. readWord tagEnd r) ea)) (omega arith) second
+  byte-not : (getD text i 0 ≡ c → ⊥) → readWord (c ∷ w) (drop i text) ≡ broken
+  unfolding readWord
+  byte-not h = let d = ne-eqb (getD text i 0) c h in rw (front text i there) (cc)
+
+-- begin_at
+module _ (sign end k : ℕ) (text : List ℕ) (at : ℕ) (long : at + 5 ≤ length text) where
+  abbrev Begins : Place → Type 0
+  Begins r = Stands (readWord (begins sign k end) (drop at text)) text (at + 4) r
+
+  pub begin-first : (getD text at 0 ≡ 60 → ⊥) → Begins Nothing
+  unfolding begins
+  begin-first h = stands-not (byte-not text 60 _ at (omega arith) h)
+
+  module _ (first : getD text at 0 ≡ 60) where
+    pub begin-second : (getD text (at + 1) 0 ≡ sign → ⊥) → Begins Nothing
+    unfolding begins
+    begin-second h = stands-not (byte-is text 60 _ at (omega arith) (at + 1) first refl ∙ byte-not text sign _ (at + 1) (omega arith) h)
+
+    module _ (second : getD text (at + 1) 0 ≡ sign) where
+      kind-left : {d : List ℕ} → decimal k ≡ d → readWord (begins sign k end) (drop at text) ≡ readWord (d ++ (end ∷ [])) (drop (at + 2) text)
+      unfolding begins
+      kind-left e =
+          byte-is text 60 _ at (omega arith) (at + 1) first refl
+          ∙ (byte-is text sign _ (at + 1) (omega arith) (at + 2) second (omega arith) ∙ ap (λ (d : List ℕ). readWord (d ++ (end ∷ [])) (drop (at + 2) text)) e)
+
+      module _ (small : k < 10) where
+        pub begin-digit : (getD text (at + 2) 0 ≡ 48 + k → ⊥) → Begins Nothing
+        begin-digit h = stands-not (kind-left (decimal-small k small) ∙ byte-not text (48 + k) _ (at + 2) (omega arith) h)
+
+        module _ (third : getD text (at + 2) 0 ≡ 48 + k) where
+          end-left : readWord (begins sign k end) (drop at text) ≡ readWord (end ∷ []) (drop (at + 3) text)
+          end-left = kind-left (decimal-small k small) ∙ byte-is text (48 + k) _ (at + 2) (omega arith) (at + 3) third (omega arith)
+
+          pub begin-end : (getD text (at + 3) 0 ≡ end → ⊥) → Begins Nothing
+          begin-end h = stands-not (end-left ∙ byte-not text end [] (at + 3) (omega arith) h)
+
+          pub begin-done : getD text (at + 3) 0 ≡ end → Begins (At (at + 4))
+          unfolding readWord
+          begin-done h = stands-at (end-left ∙ byte-is text end [] (at + 3) (omega arith) (at + 4) h (omega arith)) (omega arith) (omega arith)
+
+      module _ (large : 10 ≤ k) (two : k < 100) where
+        pub begin-tens : (getD text (at + 2) 0 ≡ 48 + k / 10 → ⊥) → Begins Nothing
+        begin-tens h = stands-not (kind-left (decimal-two k large two) ∙ byte-not text (48 + k / 10) _ (at + 2) (omega arith) h)
+
+        module _ (third : getD text (at + 2) 0 ≡ 48 + k / 10) where
+          ones-left : readWord (begins sign k end) (drop at text) ≡ readWord ((48 + k % 10) ∷ end ∷ []) (drop (at + 3) text)
+          ones-left = kind-left (decimal-two k large two) ∙ byte-is text (48 + k / 10) _ (at + 2) (omega arith) (at + 3) third (omega arith)
+
+          pub begin-ones : (getD text (at + 3) 0 ≡ 48 + k % 10 → ⊥) → Begins Nothing
+          begin-ones h = stands-not (ones-left ∙ byte-not text (48 + k % 10) _ (at + 3) (omega arith) h)
+
+          module _ (fourth : getD text (at + 3) 0 ≡ 48 + k % 10) where
+            last-left : readWord (begins sign k end) (drop at text) ≡ readWord (end ∷ []) (drop (at + 4) text)
+            last-left = ones-left ∙ byte-is text (48 + k % 10) _ (at + 3) (omega arith) (at + 4) fourth (omega arith)
+
+            pub begin-last : (getD text (at + 4) 0 ≡ end → ⊥) → Begins Nothing
+            begin-last h = stands-not (last-left ∙ byte-not text end [] (at + 4) (omega arith) h)
+
+            pub begin-both : getD text (at + 4) 0 ≡ end → Begins (At (at + 5))
+            unfolding readWord
+            begin-both h = stands-at (last-left ∙ byte-is text end [] (at + 4) (omega arith) (at + 5) h (omega arith)) (omega arith) (omega arith)
+
+-- same_at
+module _ (text : List ℕ) (tag size at : ℕ) (some : 2 ≤ size) (known : tag + size ≤ length text + 1) where
+  abbrev Closes : Place → Type 0
+  Closes r = Stands (readWord (closes tag size text) (drop at text)) text at r
+
+  closes-long : length (closes tag size text) ≡ size
+  unfolding closes
+  closes-long = omega (arith, length-take (size - 2) (drop (tag + 1) text), length-drop (tag + 1) text)
+
+  closes-at : (i : ℕ) → 2 ≤ i → i < size → getD (closes tag size text) i 0 ≡ getD text (tag + (i - 1)) 0
+  unfolding closes
+  closes-at zero g h = absurd (omega arith)
+  closes-at (suc zero) g h = absurd (omega arith)
+  closes-at (suc (suc i)) g h =
+      let j : tag + 1 + i ≡ tag + (suc (suc i) - 1) = omega arith in
+      getD-take (size - 2) (drop (tag + 1) text) i 0 (omega arith) ∙ (getD-drop (tag + 1) text i 0 ∙ ap (λ (n : ℕ). getD text n 0) j)
+
+  pub closes-short : length text - at < size → Closes Nothing
+  closes-short h = stands-not (word-cut (closes tag size text) (drop at text) (omega (arith, length-drop at text, closes-long)))
+
+  module _ (long : at + size ≤ length text) where
+    pub closes-first : (getD text at 0 ≡ 60 → ⊥) → Closes Nothing
+    unfolding closes
+    closes-first h = stands-not (byte-not text 60 _ at (omega arith) h)
+
+    module _ (first : getD text at 0 ≡ 60) where
+      pub closes-second : (getD text (at + 1) 0 ≡ 47 → ⊥) → Closes Nothing
+      unfolding closes
+      closes-second h = stands-not (byte-is text 60 _ at (omega arith) (at + 1) first refl ∙ byte-not text 47 _ (at + 1) (omega arith) h)
+
+      pub closes-start : getD text (at + 1) 0 ≡ 47 → readWord (closes tag size text) (drop at text) ≡ readWord (drop 2 (closes tag size text)) (drop (at + 2) text)
+      unfolding closes
+      closes-start h = byte-is text 60 _ at (omega arith) (at + 1) first refl ∙ byte-is text 47 _ (at + 1) (omega arith) (at + 2) h (omega arith)
+
+    module _ (i : ℕ) (going : readWord (closes tag size text) (drop at text) ≡ readWord (drop i (closes tag size text)) (drop (at + i) text)) (two : 2 ≤ i) where
+      inside : at ≤ length text
+      inside = omega arith
+
+      pub closes-differs : i < size → (getD text (at + i) 0 ≡ getD text (tag + (i - 1)) 0 → ⊥) → Closes Nothing
+      closes-differs g h = stands-not (word-differs (closes tag size text) text at inside i going (omega (arith, closes-long)) (omega (arith, closes-long)) (λ e. h (e ∙ closes-at i two g)) .nothing refl)
+
+      pub closes-again : i < size → getD text (at + i) 0 ≡ getD text (tag + (i - 1)) 0
+          → readWord (closes tag size text) (drop at text) ≡ readWord (drop (i + 1) (closes tag size text)) (drop (at + (i + 1)) text)
+      closes-again g h =
+          word-again (closes tag size text) text at inside i going (omega (arith, closes-long)) (omega (arith, closes-long)) (h ∙ sym (closes-at i two g))
+
+      pub closes-done : i ≤ size → size ≤ i → Closes (At (at + i))
+      unfolding readWord
+      closes-done g h =
+          stands-at (going ∙ ap (λ (u : List ℕ). readWord u (drop (at + i) text)) (drop-of-length-le (closes tag size text) {i = i} (omega (arith, closes-long)))) (omega arith) (omega arith)
 
 -- closing_at
-module _ (k name : ℕ) (text : List ℕ) (at : ℕ) {x : Place} (first : Stands (readNamed closeNode k (drop at text)) text (at + 3) x) where
-  abbrev closes : List ℕ → Read (Unit {0})
-  closes r = andThen (readNamed point name r) λ u r. readWord tagEnd r
+pub closes-usual : (text : List ℕ) (tag size at : ℕ) {r : Place} → size ≡ 7 → Stands (readWord (closes tag 7 text) (drop at text)) text at r
+    → Stands (readWord (closes tag size text) (drop at text)) text at r
+closes-usual text tag size at e w = rw e w
 
-  pub closing-nothing : x ≡ Nothing → Stands (readClosing k name (drop at text)) text at Nothing
-  unfolding readClosing
-  closing-nothing h = stands-not (then-nothing first (λ u r. closes r) h)
-
-  module _ {a : ℕ} (ea : x ≡ At a) {y : Place} (second : Stands (readNamed point name (drop a text)) text (a + 1) y) where
-    pub closing-other : y ≡ Nothing → Stands (readClosing k name (drop at text)) text at Nothing
-    unfolding readClosing
-    closing-other h = stands-not (then-at first (λ u r. closes r) ea ∙ then-nothing second (λ u r. readWord tagEnd r) h)
-
-    pub closing-then : {b : ℕ} {z : Place} → y ≡ At b → Stands (readWord tagEnd (drop b text)) text (b + 1) z → Stands (readClosing k name (drop at text)) text at z
-    unfolding readClosing
-    closing-then {b} eb third =
-        let p = first .reached a ea .past in
-        let q = second .reached b eb .past in
-        stands-from (sym (then-at first (λ u r. closes r) ea ∙ then-at second (λ u r. readWord tagEnd r) eb)) (omega arith) third
+-- The closing tag of what stands before a position.
+pub closes-tag : (text : List ℕ) (tag end : ℕ) (w : List ℕ) → tag ≤ length text → end ≤ length text → drop tag text ≡ 60 ∷ (w ++ drop end text)
+    → closes tag (end - tag + 1) text ≡ 60 ∷ 47 ∷ w
+unfolding closes
+closes-tag text tag end w h i e =
+    let z : drop (tag + 1) text ≡ w ++ drop end text = sym (drop-drop 1 tag text) ∙ ap (drop 1) e in
+    let n : length w ≡ end - tag + 1 - 2 = omega (arith, ap length e, length-append w (drop end text), length-drop tag text, length-drop end text) in
+    rw (z, take-at w (drop end text) (end - tag + 1 - 2) n)
 
 -- opening_at
-module _ (k : ℕ) (text : List ℕ) (at : ℕ) {x : Place} (first : Stands (readNamed openNode k (drop at text)) text (at + 2) x) where
-  abbrev ends : List ℕ → Read ℕ
-  ends r = andThen (readNumber r) λ p r. andThen (readWord tagEnd r) λ u r. done p r
-
-  abbrev opens : List ℕ → Read ℕ
-  opens r = andThen (readWord point r) λ u r. ends r
-
+module _ (k : ℕ) (text : List ℕ) (at : ℕ) where
   broken-number : {o : Read ℕ} → o ≡ broken → Numbers o text (at + 2) N.Nothing
   broken-number e = numbers-not (rw e tt)
 
-  pub opening-nothing : x ≡ Nothing → Numbers (readOpening k (drop at text)) text (at + 2) N.Nothing
-  unfolding readOpening
-  opening-nothing h = broken-number (then-nothing first (λ u r. opens r) h)
+  pub opening-short : length text - at < 5 → Numbers (readOpening k (drop at text)) text (at + 2) N.Nothing
+  opening-short h = broken-number (opening-word k (drop at text) ∙ begins-cut 120 k 46 (drop at text) _ (omega (arith, length-drop at text)))
 
-  module _ {a : ℕ} (ea : x ≡ At a) {y : Place} (second : Stands (readWord point (drop a text)) text (a + 1) y) where
-    pub opening-second : y ≡ Nothing → Numbers (readOpening k (drop at text)) text (at + 2) N.Nothing
-    unfolding readOpening
-    opening-second h = broken-number (then-at first (λ u r. opens r) ea ∙ then-nothing second (λ u r. ends r) h)
+  module _ {x : Place} (first : Stands (readWord (begins 120 k 46) (drop at text)) text (at + 4) x) where
+    pub opening-nothing : x ≡ Nothing → Numbers (readOpening k (drop at text)) text (at + 2) N.Nothing
+    opening-nothing h = broken-number (opening-word k (drop at text) ∙ then-nothing first (λ u r. ends r) h)
 
-    module _ {b : ℕ} (eb : y ≡ At b) {z : Number} (third : Numbers (readNumber (drop b text)) text b z) where
+    module _ {b : ℕ} (eb : x ≡ At b) {z : Number} (third : Numbers (readNumber (drop b text)) text b z) where
       so-far : readOpening k (drop at text) ≡ ends (drop b text)
-      unfolding readOpening
-      so-far = then-at first (λ u r. opens r) ea ∙ then-at second (λ u r. ends r) eb
+      so-far = opening-word k (drop at text) ∙ then-at first (λ u r. ends r) eb
 
       large : (v : ℕ) → 65536 ≤ v → (q : Read (Unit {0})) → (q ≡ deep → ⊥) → NoNumber (andThen q λ u r. done v r)
       large v h (done u r) n = h
       large v h deep n = absurd (n refl)
       large v h broken n = tt
-
-      word-shallow : (w s : List ℕ) → readWord w s ≡ deep → ⊥
-      unfolding readWord
-      word-shallow [] s h = let q : _≡_ {A = ℕ} 0 1 = cc in omega arith
-      word-shallow (c ∷ w) [] h = let q : _≡_ {A = ℕ} 0 1 = cc in omega arith
-      word-shallow (c ∷ w) (d ∷ s) h =
-          by-test (eqb d c) (λ e. word-shallow w s (let i : readWord w s ≡ deep = cc in i)) (λ e. let q : _≡_ {A = ℕ} 0 1 = cc in omega arith)
 
       large-number : (o : Read ℕ) → NoNumber o → NoNumber (andThen o λ p r. andThen (readWord tagEnd r) λ u r. done p r)
       large-number (done v r) h = large v h (readWord tagEnd r) (word-shallow tagEnd r)
@@ -320,62 +377,101 @@ module _ (k : ℕ) (text : List ℕ) (at : ℕ) {x : Place} (first : Stands (rea
       pub opening-third : z ≡ N.Nothing → Numbers (readOpening k (drop at text)) text (at + 2) N.Nothing
       opening-third h = numbers-not (rw so-far (large-number (readNumber (drop b text)) (third .nothing h)))
 
-      module _ {v c : ℕ} (ez : z ≡ N.Is v c) {u : Place} (fourth : Stands (readWord tagEnd (drop c text)) text (c + 1) u) where
-        pub opening-fourth : u ≡ Nothing → Numbers (readOpening k (drop at text)) text (at + 2) N.Nothing
-        opening-fourth h = broken-number (so-far ∙ (number-at third _ ez ∙ then-nothing fourth (λ i r. done v r) h))
+      module _ {v c : ℕ} (ez : z ≡ N.Is v c) where
+        end-of : {q : Read (Unit {0})} → readWord tagEnd (drop c text) ≡ q → readOpening k (drop at text) ≡ (andThen q λ u r. done v r)
+        end-of e = so-far ∙ (number-at third _ ez ∙ ap (λ (q : Read (Unit {0})). andThen q λ u r. done v r) e)
 
-        pub opening-done : {d : ℕ} → u ≡ At d → Numbers (readOpening k (drop at text)) text (at + 2) (N.Is v d)
-        opening-done {d} eu =
-            let p = first .reached a ea .past in
-            let q = second .reached b eb .past in
-            let r = third .reached v c ez .past in
-            let s = fourth .reached d eu in
-            numbers-is (so-far ∙ (number-at third _ ez ∙ then-at fourth (λ i r. done v r) eu)) (third .small v c ez) (omega (arith, s .past)) (s .inside)
+        pub opening-end : length text ≤ c → Numbers (readOpening k (drop at text)) text (at + 2) N.Nothing
+        unfolding readWord
+        opening-end h = broken-number (end-of (ap (readWord tagEnd) (drop-of-length-le text {i = c} h)))
+
+        module _ (there : c < length text) where
+          pub opening-fourth : (getD text c 0 ≡ 62 → ⊥) → Numbers (readOpening k (drop at text)) text (at + 2) N.Nothing
+          opening-fourth h = broken-number (end-of (byte-not text 62 [] c there h))
+
+          pub opening-done : getD text c 0 ≡ 62 → Numbers (readOpening k (drop at text)) text (at + 2) (N.Is v (c + 1))
+          unfolding readWord
+          opening-done h =
+              let p = first .reached b eb .past in
+              let r = third .reached v c ez .past in
+              numbers-is (end-of (byte-is text 62 [] c there (c + 1) h refl)) (third .small v c ez) (omega arith) (omega arith)
 
 -- token_at
-module _ (k : ℕ) (c : Range) (text : List ℕ) (at : ℕ) (short : c .high < 65536) {x : Place} (first : Stands (readTokenTag openToken k (drop at text)) text (at + 2) x) where
+module _ (k : ℕ) (c : Range) (text : List ℕ) (at : ℕ) (short : c .high < 65536) where
   abbrev closesToken : ℕ → List ℕ → Read Code
   closesToken v r = elim (inRange c v) [ true ↦ andThen (readTokenTag closeToken k r) λ u r. done (token v) r | false ↦ broken ]
 
   abbrev valued : List ℕ → Read Code
   valued r = andThen (readNumber r) closesToken
 
-  pub token-nothing : x ≡ Nothing → Tokens (readToken k c (drop at text)) text (at + 2) N.Nothing
-  unfolding readToken
-  token-nothing h = tokens-not (then-nothing first (λ u r. valued r) h)
+  token-begins : readToken k c (drop at text) ≡ (andThen (readWord (begins 116 k 62) (drop at text)) λ u r. valued r)
+  unfolding readToken begins tokenTag
+  token-begins = ap (λ (q : Read (Unit {0})). andThen q λ u r. valued r) (tag-word openToken k (drop at text))
+
+  pub token-short : length text - at < 5 → Tokens (readToken k c (drop at text)) text (at + 2) N.Nothing
+  token-short h = tokens-not (token-begins ∙ begins-cut 116 k 62 (drop at text) closesToken (omega (arith, length-drop at text)))
 
   out-of-range : (v : ℕ) → 65536 ≤ v → inRange c v ≡ false
   unfolding inRange
   out-of-range v h = let i : c .high < v = omega arith in by-test (leb (c .low) v) (λ e. cc (lt-leb v (c .high) i)) (λ e. cc)
 
-  module _ {a : ℕ} (ea : x ≡ At a) {y : Number} (second : Numbers (readNumber (drop a text)) text a y) where
-    token-so-far : readToken k c (drop at text) ≡ valued (drop a text)
-    unfolding readToken
-    token-so-far = then-at first (λ u r. valued r) ea
+  -- A text that ends before a value and its closing tag do.
+  valued-cut : (s : List ℕ) → length s < 6 → valued s ≡ broken
+  unfolding tokenTag
+  valued-cut s h = go (readNumber s) refl
+    where
+      tag-cut : (v : ℕ) (r : List ℕ) → length r < 5 → closesToken v r ≡ broken
+      tag-cut v r h =
+          let z : readTokenTag closeToken k r ≡ broken = tag-word closeToken k r ∙ word-cut (tokenTag closeToken k) r (omega (arith, length-append (decimal k) (62 ∷ []), decimal-some k)) in
+          by-test (inRange c v) (λ e. cc) (λ e. cc)
 
-    pub token-second : y ≡ N.Nothing → Tokens (readToken k c (drop at text)) text (at + 2) N.Nothing
-    token-second h = tokens-not (token-so-far ∙ no-number (readNumber (drop a text)) closesToken (second .nothing h) (λ v r g. let d = out-of-range v g in cc))
+      go : (q : Read ℕ) → readNumber s ≡ q → andThen q closesToken ≡ broken
+      go (done v r) e = let z = ap length (number-sound s v r e) in tag-cut v r (omega (arith, z, length-append (decimal v) r, decimal-some v))
+      go deep e = absurd (number-shallow s e)
+      go broken e = refl
 
-    module _ {v b : ℕ} (ey : y ≡ N.Is v b) {t : Bool} (et : t ≡ inRange c v) where
-      valued-so-far : readToken k c (drop at text) ≡ closesToken v (drop b text)
-      valued-so-far = token-so-far ∙ number-at second closesToken ey
+  module _ {x : Place} (first : Stands (readWord (begins 116 k 62) (drop at text)) text (at + 4) x) where
+    pub token-nothing : x ≡ Nothing → Tokens (readToken k c (drop at text)) text (at + 2) N.Nothing
+    token-nothing h = tokens-not (token-begins ∙ then-nothing first (λ u r. valued r) h)
 
-      pub token-out : t ≡ false → Tokens (readToken k c (drop at text)) text (at + 2) N.Nothing
-      token-out h = let d : inRange c v ≡ false = sym et ∙ h in tokens-not (valued-so-far ∙ cc)
+    pub token-cut : {a : ℕ} → x ≡ At a → length text - a < 6 → Tokens (readToken k c (drop at text)) text (at + 2) N.Nothing
+    token-cut {a} ea h = tokens-not (token-begins ∙ (then-at first (λ u r. valued r) ea ∙ valued-cut (drop a text) (omega (arith, length-drop a text))))
 
-      module _ (inside : t ≡ true) {z : Place} (third : Stands (readTokenTag closeToken k (drop b text)) text (b + 3) z) where
-        closing : readToken k c (drop at text) ≡ (andThen (readTokenTag closeToken k (drop b text)) λ u r. done (token v) r)
-        closing = let d : inRange c v ≡ true = sym et ∙ inside in valued-so-far ∙ cc
+    module _ {a : ℕ} (ea : x ≡ At a) {y : Number} (second : Numbers (readNumber (drop a text)) text a y) where
+      token-so-far : readToken k c (drop at text) ≡ valued (drop a text)
+      token-so-far = token-begins ∙ then-at first (λ u r. valued r) ea
 
-        pub token-third : z ≡ Nothing → Tokens (readToken k c (drop at text)) text (at + 2) N.Nothing
-        token-third h = tokens-not (closing ∙ then-nothing third (λ u r. done (token v) r) h)
+      pub token-second : y ≡ N.Nothing → Tokens (readToken k c (drop at text)) text (at + 2) N.Nothing
+      token-second h = tokens-not (token-so-far ∙ no-number (readNumber (drop a text)) closesToken (second .nothing h) (λ v r g. let d = out-of-range v g in cc))
 
-        pub token-done : {d : ℕ} → z ≡ At d → Tokens (readToken k c (drop at text)) text (at + 2) (N.Is v d)
-        token-done {d} ez =
-            let p = first .reached a ea .past in
-            let q = second .reached v b ey .past in
-            let s = third .reached d ez in
-            tokens-is (closing ∙ then-at third (λ u r. done (token v) r) ez) (second .small v b ey) (omega (arith, s .past)) (s .inside)
+      module _ {v b : ℕ} (ey : y ≡ N.Is v b) {t : Bool} (et : t ≡ inRange c v) where
+        valued-so-far : readToken k c (drop at text) ≡ closesToken v (drop b text)
+        valued-so-far = token-so-far ∙ number-at second closesToken ey
+
+        pub token-out : t ≡ false → Tokens (readToken k c (drop at text)) text (at + 2) N.Nothing
+        token-out h = let d : inRange c v ≡ false = sym et ∙ h in tokens-not (valued-so-far ∙ cc)
+
+        module _ (inside : t ≡ true) {z : Place} (third : Stands (readWord (closes at (a - at + 1) text) (drop b text)) text b z) where
+          same-tag : closes at (a - at + 1) text ≡ tokenTag closeToken k
+          unfolding begins tokenTag
+          same-tag =
+              let p = first .reached a ea in
+              closes-tag text at a (116 ∷ (decimal k ++ (62 ∷ []))) (omega (arith, p .past, p .inside)) (p .inside) (word-sound (begins 116 k 62) (drop at text) (drop a text) (first .found a ea))
+
+          closing : readToken k c (drop at text) ≡ (andThen (readWord (closes at (a - at + 1) text) (drop b text)) λ u r. done (token v) r)
+          closing =
+              let d : inRange c v ≡ true = sym et ∙ inside in
+              valued-so-far ∙ ((cc) ∙ ap (λ (q : Read (Unit {0})). andThen q λ u r. done (token v) r) (tag-word closeToken k (drop b text) ∙ ap (λ (w : List ℕ). readWord w (drop b text)) (sym same-tag)))
+
+          pub token-third : z ≡ Nothing → Tokens (readToken k c (drop at text)) text (at + 2) N.Nothing
+          token-third h = tokens-not (closing ∙ then-nothing third (λ u r. done (token v) r) h)
+
+          pub token-done : {d : ℕ} → z ≡ At d → Tokens (readToken k c (drop at text)) text (at + 2) (N.Is v d)
+          token-done {d} ez =
+              let p = first .reached a ea .past in
+              let q = second .reached v b ey .past in
+              let s = third .reached d ez in
+              tokens-is (closing ∙ then-at third (λ u r. done (token v) r) ez) (second .small v b ey) (omega (arith, s .past)) (s .inside)
 
 -- The values of a class in a file are below 65,536.
 pub class-high : (s : List ℕ) (p : ℕ) → ((i : ℕ) → getD s i 0 < 256) → classRange s p .high < 65536

@@ -1,17 +1,17 @@
 -- What a text holds, and a law for each return and loop turn of the functions of contents.rt.
-use Prim.Native.Nat.{ℕ, zero, suc, _+_, _/_, _%_, _-_, _<_, _≤_}
+use Prim.Native.Nat.{ℕ, zero, suc, _+_, _*_, _/_, _%_, _-_, _<_, _≤_}
 use mathlib.Core.Path.{_≡_, refl, sym, ap, _∙_}
-use mathlib.Core.Bool.{true, false}
+use mathlib.Core.Bool.{Bool, true, false}
 use mathlib.Core.List.{List, [], _∷_, _++_, append-assoc, append-nil}
 use native.Mathlib.Omega.{arith}
 use lib.ListN.{length, getD, drop, set, drop-of-length-le, length-append, length-drop, length-set}
-use lib.Seq.{getD-drop, drop-drop}
-use lib.Dec.{ltb, eqb}
-use borrow.Author.Tests.{ltb-true, ltb-false, eq-eqb, ne-eqb}
+use lib.Seq.{getD-drop, drop-drop, drop-at}
+use lib.Dec.{ltb, leb, eqb}
+use borrow.Author.Tests.{ltb-true, ltb-false, le-leb, eq-eqb, ne-eqb}
 use Rattle.fields.specs.Fields.{twoBytes}
 use Rattle.fields.specs.Inner.Writing.{spliced, Written}
 use Rattle.fields.proofs.Truth.{by-test}
-use Rattle.fields.proofs.Split.{front}
+use Rattle.fields.proofs.Split.{front, byte-drop}
 use Rattle.fields.proofs.Splices.{nothing-spliced}
 use Rattle.reader.specs.Syntax.{done}
 use Rattle.putting.specs.declared.put.Step.{Step}
@@ -21,8 +21,8 @@ use Rattle.xml.specs.Import.{readNumber}
 use Rattle.xml.specs.declared.scan.Number.{Number}
 use Rattle.xml.specs.declared.scan.Number.the-variants as N
 use Rattle.xml.specs.Inner.Scanning.{Numbers}
-use Rattle.xml.specs.Inner.Contents.{Contents, empty, closing, opening, value, after, Behind, Written-to, Takes}
-use Rattle.xml.proofs.Decimal.{Stops, same-done, decimal-small, decimal-large, number-round}
+use Rattle.xml.specs.Inner.Contents.{Contents, empty, closing, opening, value, signed, bytesIn, after, Behind, Written-to, Takes}
+use Rattle.xml.proofs.Decimal.{Stops, same-done, decimal-small, decimal-large, decimal-some, number-round}
 use Rattle.xml.proofs.Round.{node-tag, token-tag, stop-end, stop-tag}
 use Rattle.xml.proofs.Puts.{written-then, set-stored, store-in}
 
@@ -57,68 +57,58 @@ module _ (c : ℕ) (text : List ℕ) (at to : ℕ) (going : after c (drop to tex
         let z : after c (getD text to 0 ∷ drop (to + 1) text) ≡ after c (drop (to + 1) text) = cc in
         sym z ∙ (ap (after c) (sym f) ∙ going)
 
--- A byte that is no digit comes behind the digits of a number, also where the first digit is dropped.
-abbrev NoDigit : ℕ → Type 0
-NoDigit c = (d : ℕ) → d < 10 → 48 + d ≡ c → ⊥
+-- A byte that does not stand in a list comes behind it.
+abbrev Clear : ℕ → List ℕ → Type 0
+Clear c [] = Unit {0}
+Clear c (b ∷ s) = (b ≡ c → ⊥) × Clear c s
 
-point-not : NoDigit 46
-point-not d h e = omega arith
+clear-both : (c : ℕ) (s t : List ℕ) → Clear c s → Clear c t → Clear c (s ++ t)
+clear-both c [] t h i = i
+clear-both c (b ∷ s) t h i = (h .0, clear-both c s t (h .1) i)
 
-end-not : NoDigit 62
-end-not d h e = omega arith
-
-one-past : (c d : ℕ) (t : List ℕ) → NoDigit c → d < 10 → after c ((48 + d) ∷ t) ≡ after c t
-unfolding after
-one-past c d t other h = cc (ne-eqb (48 + d) c (other d h))
-
-module _ (c : ℕ) (other : NoDigit c) where
-  after-decimal : (f n : ℕ) (t : List ℕ) → n < f → after c (decimal n ++ t) ≡ after c t
-  after-decimal zero n t h = absurd (omega arith)
-  after-decimal (suc f) n t h =
-      by-test (ltb n 10)
-      (λ e. let m : n < 10 = ltb-true n 10 e in rw (decimal-small n m) (one-past c n t other m))
-      (λ e.
-      let m : 10 ≤ n = ltb-false n 10 e in
-      rw (decimal-large n m, append-assoc)
-      (after-decimal f (n / 10) ((48 + n % 10) ∷ t) (omega arith) ∙ one-past c (n % 10) t other (omega arith)))
-
-  after-front : (f n : ℕ) (t : List ℕ) → n < f → after c (drop 1 (decimal n ++ t)) ≡ after c t
-  after-front zero n t h = absurd (omega arith)
-  after-front (suc f) n t h =
-      by-test (ltb n 10)
-      (λ e. let m : n < 10 = ltb-true n 10 e in rw (decimal-small n m) refl)
-      (λ e.
-      let m : 10 ≤ n = ltb-false n 10 e in
-      rw (decimal-large n m, append-assoc)
-      (after-front f (n / 10) ((48 + n % 10) ∷ t) (omega arith) ∙ one-past c (n % 10) t other (omega arith)))
-
-decimal-some : (n : ℕ) → 1 ≤ length (decimal n)
-decimal-some n =
+clear-decimal : (c f n : ℕ) → ((d : ℕ) → d < 10 → 48 + d ≡ c → ⊥) → n < f → Clear c (decimal n)
+clear-decimal c zero n other h = absurd (omega arith)
+clear-decimal c (suc f) n other h =
     by-test (ltb n 10)
-    (λ e. rw (decimal-small n (ltb-true n 10 e)) (omega arith))
-    (λ e. rw (decimal-large n (ltb-false n 10 e)) (omega (arith, length-append (decimal (n / 10)) ((48 + n % 10) ∷ []))))
+    (λ e. let m : n < 10 = ltb-true n 10 e in rw (decimal-small n m) (other n m, tt))
+    (λ e.
+    let m : 10 ≤ n = ltb-false n 10 e in
+    rw (decimal-large n m) (clear-both c (decimal (n / 10)) ((48 + n % 10) ∷ []) (clear-decimal c f (n / 10) other (omega arith)) (other (n % 10) (omega arith), tt)))
+
+after-clear : (c : ℕ) (s : List ℕ) (i : ℕ) (r : List ℕ) → Clear c s → i ≤ length s → after c (drop i (s ++ (c ∷ r))) ≡ r
+unfolding after
+after-clear c [] zero r h g = cc (eq-eqb c c refl)
+after-clear c [] (suc i) r h g = absurd (omega arith)
+after-clear c (b ∷ s) zero r h g = let d = ne-eqb b c (h .0) in let z = after-clear c s zero r (h .1) (omega arith) in cc
+after-clear c (b ∷ s) (suc i) r h g = after-clear c s i r (h .1) (omega arith)
+
+point-clear : (k : ℕ) → Clear 46 (decimal k)
+point-clear k = clear-decimal 46 (suc k) k (λ d h e. omega arith) (omega arith)
+
+end-clear : (k : ℕ) → Clear 62 (decimal k)
+end-clear k = clear-decimal 62 (suc k) k (λ d h e. omega arith) (omega arith)
 
 -- Tags, with what stands behind them.
-after-closing : (k p : ℕ) (r : List ℕ) → after 62 (drop 4 (nodeTag closeNode k p ++ r)) ≡ r
-unfolding after
+abbrev names : ℕ → ℕ → List ℕ
+names k p = decimal k ++ (46 ∷ decimal p)
+
+after-closing : (k p : ℕ) (r : List ℕ) → after 62 (drop 6 (nodeTag closeNode k p ++ r)) ≡ r
 after-closing k p r =
-    ap (λ (s : List ℕ). after 62 (drop 4 s)) (node-tag closeNode k p r)
-    ∙ (after-front 62 end-not (suc k) k (46 ∷ (decimal p ++ (62 ∷ r))) (omega arith) ∙ after-decimal 62 end-not (suc p) p (62 ∷ r) (omega arith))
+    let e : nodeTag closeNode k p ++ r ≡ (60 ∷ 47 ∷ 120 ∷ names k p) ++ (62 ∷ r) = node-tag closeNode k p r ∙ ap (λ (s : List ℕ). 60 ∷ 47 ∷ 120 ∷ s) (sym (append-assoc (decimal k) (46 ∷ decimal p) (62 ∷ r))) in
+    let c = clear-both 62 (decimal k) (46 ∷ decimal p) (end-clear k) ((λ z. omega arith), end-clear p) in
+    let n = length-append (decimal k) (46 ∷ decimal p) in
+    ap (λ (s : List ℕ). after 62 (drop 6 s)) e
+    ∙ after-clear 62 (60 ∷ 47 ∷ 120 ∷ names k p) 6 r ((λ z. omega arith), ((λ z. omega arith), ((λ z. omega arith), c))) (omega (arith, n, decimal-some k, decimal-some p))
 
 after-point : (k p : ℕ) (r : List ℕ) → after 46 (drop 3 (nodeTag openNode k p ++ r)) ≡ decimal p ++ (62 ∷ r)
-unfolding after
 after-point k p r =
-    ap (λ (s : List ℕ). after 46 (drop 3 s)) (node-tag openNode k p r) ∙ after-front 46 point-not (suc k) k (46 ∷ (decimal p ++ (62 ∷ r))) (omega arith)
+    ap (λ (s : List ℕ). after 46 (drop 3 s)) (node-tag openNode k p r)
+    ∙ after-clear 46 (60 ∷ 120 ∷ decimal k) 3 (decimal p ++ (62 ∷ r)) ((λ z. omega arith), ((λ z. omega arith), point-clear k)) (omega (arith, decimal-some k))
 
 after-token : (k : ℕ) (r : List ℕ) → after 62 (drop 3 (tokenTag openToken k ++ r)) ≡ r
-unfolding after
 after-token k r =
-    ap (λ (s : List ℕ). after 62 (drop 3 s)) (token-tag openToken k r) ∙ after-front 62 end-not (suc k) k (62 ∷ r) (omega arith)
-
-after-tag : (k : ℕ) (r : List ℕ) → after 62 (tokenTag closeToken k ++ r) ≡ r
-unfolding after
-after-tag k r =
-    ap (after 62) (token-tag closeToken k r) ∙ after-decimal 62 end-not (suc k) k (62 ∷ r) (omega arith)
+    ap (λ (s : List ℕ). after 62 (drop 3 s)) (token-tag openToken k r)
+    ∙ after-clear 62 (60 ∷ 116 ∷ decimal k) 3 r ((λ z. omega arith), ((λ z. omega arith), end-clear k)) (omega (arith, decimal-some k))
 
 second-of : (w : ℕ) (s t : List ℕ) → s ≡ 60 ∷ w ∷ t → getD s 1 0 ≡ w
 second-of w s t e = ap (λ (u : List ℕ). getD u 1 0) e
@@ -139,23 +129,23 @@ contents-none s v (closing {r = r} k p e h) q = let z = closing-second s r k p e
 contents-none s v (opening {r = r} k p b e h) q = let z = opening-second s r k p e in let y = ap (λ (u : List ℕ). getD u 1 0) q in absurd (omega (arith, z, y))
 contents-none s v (value {r = r} k n b e h) q = let z = value-second s _ k e in let y = ap (λ (u : List ℕ). getD u 1 0) q in absurd (omega (arith, z, y))
 
-pub contents-long : (s v : List ℕ) → Contents s v → 0 < length s → 4 ≤ length s
+pub contents-long : (s v : List ℕ) → Contents s v → 0 < length s → 6 ≤ length s
 contents-long s v empty l = absurd (omega arith)
 contents-long s v (closing {r = r} k p e h) l =
     let z = ap length (e ∙ node-tag closeNode k p r) in
-    omega (arith, z, length-append (decimal k) (46 ∷ (decimal p ++ (62 ∷ r))), decimal-some k)
+    omega (arith, z, length-append (decimal k) (46 ∷ (decimal p ++ (62 ∷ r))), length-append (decimal p) (62 ∷ r), decimal-some k, decimal-some p)
 contents-long s v (opening {r = r} k p b e h) l =
     let z = ap length (e ∙ node-tag openNode k p r) in
-    omega (arith, z, length-append (decimal k) (46 ∷ (decimal p ++ (62 ∷ r))), decimal-some k)
+    omega (arith, z, length-append (decimal k) (46 ∷ (decimal p ++ (62 ∷ r))), length-append (decimal p) (62 ∷ r), decimal-some k, decimal-some p)
 contents-long s v (value {r = r} k n b e h) l =
     let t = decimal n ++ (tokenTag closeToken k ++ r) in
     let z = ap length (e ∙ token-tag openToken k t) in
-    omega (arith, z, length-append (decimal k) (62 ∷ t), decimal-some k)
+    omega (arith, z, length-append (decimal k) (62 ∷ t), decimal-some k, length-append (decimal n) (tokenTag closeToken k ++ r), decimal-some n, ap length (token-tag closeToken k r))
 
-pub after-shut : (s v : List ℕ) → Contents s v → getD s 1 0 ≡ 47 → Contents (after 62 (drop 4 s)) v
+pub after-shut : (s v : List ℕ) → Contents s v → getD s 1 0 ≡ 47 → Contents (after 62 (drop 6 s)) v
 after-shut s v empty q = absurd (omega arith)
 after-shut s v (closing {r = r} k p e h) q =
-    let z : r ≡ after 62 (drop 4 s) = sym (ap (λ (u : List ℕ). after 62 (drop 4 u)) e ∙ after-closing k p r) in
+    let z : r ≡ after 62 (drop 6 s) = sym (ap (λ (u : List ℕ). after 62 (drop 6 u)) e ∙ after-closing k p r) in
     rw (← z) h
 after-shut s v (opening {r = r} k p b e h) q = let z = opening-second s r k p e in absurd (omega (arith, z))
 after-shut s v (value {r = r} k n b e h) q = let z = value-second s _ k e in absurd (omega (arith, z))
@@ -192,6 +182,7 @@ record Value (s v : List ℕ) : Type 0 where
   small : number < 65536
   parts : v ≡ twoBytes number ++ bytes
   there : after 62 (drop 3 s) ≡ decimal number ++ (tokenTag closeToken kind ++ rest)
+  long : length s ≡ length (tokenTag openToken kind) + length (decimal number ++ (tokenTag closeToken kind ++ rest))
   holds : Contents rest bytes
 
 value-of : (s v : List ℕ) → Contents s v → 0 < length s → (getD s 1 0 ≡ 47 → ⊥) → (getD s 1 0 ≡ 120 → ⊥) → Value s v
@@ -206,6 +197,7 @@ value-of s v (value {r = r} {v = w} k n b e h) l i j = record {
   small = b;
   parts = refl;
   there = ap (λ (u : List ℕ). after 62 (drop 3 u)) e ∙ after-token k (decimal n ++ (tokenTag closeToken k ++ r));
+  long = ap length e ∙ length-append (tokenTag openToken k) (decimal n ++ (tokenTag closeToken k ++ r));
   holds = h;
 }
 
@@ -220,6 +212,10 @@ module _ (text : List ℕ) (a p : ℕ) (t : List ℕ) (there : drop a text ≡ d
   number-same : {v e : ℕ} → x ≡ N.Is v e → (v ≡ p) × (drop e text ≡ t)
   number-same {v} {e} h = same-done v p (drop e text) t (sym (reads .found v e h) ∙ is-there)
 
+tags-long : (k : ℕ) → length (tokenTag closeToken k) ≡ length (tokenTag openToken k) + 1
+unfolding tokenTag
+tags-long k = omega arith
+
 -- take: positions from `at` on
 module _ (text : List ℕ) (at : ℕ) where
   second-at : {w : ℕ} → getD text (at + 1) 0 ≡ w → getD (drop at text) 1 0 ≡ w
@@ -231,19 +227,19 @@ module _ (text : List ℕ) (at : ℕ) where
   dropped : (c i : ℕ) → after c (drop (at + i) text) ≡ after c (drop i (drop at text))
   dropped c i = ap (after c) (sym (drop-drop i at text))
 
-  pub take-short : (o : List ℕ) (n : ℕ) → at < length text → length text - at < 4 → Takes text at o o n Full
+  pub take-short : (o : List ℕ) (n : ℕ) → at < length text → length text - at < 6 → Takes text at o o n Full
   take-short o n h i = record {
     inside = λ e m q. not-to q;
     next = λ e m q. not-to q;
     full = λ q v c. let z = contents-long (drop at text) v c (omega (arith, length-drop at text)) in absurd (omega (arith, length-drop at text));
   }
 
-  pub take-closing : (o : List ℕ) (n : ℕ) {e : ℕ} → getD text (at + 1) 0 ≡ 47 → n ≤ length o → Behind 62 text (at + 4) e → Takes text at o o n (To e n)
+  pub take-closing : (o : List ℕ) (n : ℕ) {e : ℕ} → getD text (at + 1) 0 ≡ 47 → n ≤ length o → Behind 62 text (at + 6) e → Takes text at o o n (To e n)
   take-closing o n {e} h i b = record {
     inside = λ d m q. let w = to-same q in (omega (arith, w .0, b .past), omega (arith, w .0, b .inside), omega (arith, w .1));
     next = λ d m q v c r.
         let w = to-same q in
-        let z : after 62 (drop 4 (drop at text)) ≡ drop e text = sym (b .left ∙ dropped 62 4) in
+        let z : after 62 (drop 6 (drop at text)) ≡ drop e text = sym (b .left ∙ dropped 62 6) in
         rw (← w .0, ← w .1) (record {
           first = [];
           rest = v;
@@ -279,28 +275,38 @@ module _ (text : List ℕ) (at : ℕ) where
             number-not text a (w .name) (62 ∷ w .rest) (name-there v c) (stop-end (w .rest)) reads (omega (arith, w .byte)) h;
       }
 
-      pub name-done : {p b e u : ℕ} → x ≡ N.Is p b → Behind 62 text b e → n < length o → u ≡ p % 256 → Takes text at o (set o n u) n (To e (n + 1))
-      unfolding after
-      name-done {p} {b} {e} {u} ex end h eu = record {
-        inside = λ d m q.
-            let w = to-same q in
-            let y = reads .reached p b ex in
-            (omega (arith, w .0, point .past, y .past, end .past), omega (arith, w .0, end .inside), omega (arith, w .1));
-        next = λ d m q v c r.
-            let w = to-same q in
-            let y = named v c in
-            let z = number-same text a (y .name) (62 ∷ y .rest) (name-there v c) (stop-end (y .rest)) reads ex in
-            let left : y .rest ≡ drop e text = sym (end .left ∙ ap (after 62) (z .1)) in
-            let byte : y .name ≡ u = omega (arith, z .0, y .byte) in
-            rw (← w .0, ← w .1) (record {
-              first = u ∷ [];
-              rest = y .bytes;
-              parts = y .parts ∙ ap (λ (i : ℕ). i ∷ y .bytes) byte;
-              holds = rw left at (y .holds);
-              put = record { end = refl; fits = omega arith; bytes = store-in o n u h };
-            });
-        full = λ q. not-to (sym q);
-      }
+      module _ {p b : ℕ} (ex : x ≡ N.Is p b) where
+        name-same : (v : List ℕ) (c : Contents (drop at text) v) → (p ≡ named v c .name) × (drop b text ≡ 62 ∷ named v c .rest)
+        name-same v c = number-same text a (named v c .name) (62 ∷ named v c .rest) (name-there v c) (stop-end (named v c .rest)) reads ex
+
+        pub name-cut : length text ≤ b → Takes text at o o n Full
+        name-cut h = record {
+          inside = λ e m q. not-to q;
+          next = λ e m q. not-to q;
+          full = λ q v c. let w = ap length (name-same v c .1) in absurd (omega (arith, length-drop b text, w));
+        }
+
+        pub name-done : {u : ℕ} → b < length text → n < length o → u ≡ p % 256 → Takes text at o (set o n u) n (To (b + 1) (n + 1))
+        name-done {u} there h eu = record {
+          inside = λ d m q.
+              let w = to-same q in
+              let y = reads .reached p b ex in
+              (omega (arith, w .0, point .past, y .past), omega (arith, w .0), omega (arith, w .1));
+          next = λ d m q v c r.
+              let w = to-same q in
+              let y = named v c in
+              let z = name-same v c in
+              let left : y .rest ≡ drop (b + 1) text = sym (sym (drop-drop 1 b text) ∙ ap (drop 1) (z .1)) in
+              let byte : y .name ≡ u = omega (arith, z .0, y .byte) in
+              rw (← w .0, ← w .1) (record {
+                first = u ∷ [];
+                rest = y .bytes;
+                parts = y .parts ∙ ap (λ (i : ℕ). i ∷ y .bytes) byte;
+                holds = rw left at (y .holds);
+                put = record { end = refl; fits = omega arith; bytes = store-in o n u h };
+              });
+          full = λ q. not-to (sym q);
+        }
 
   -- take_value
   module _ (o : List ℕ) (n : ℕ) (there : at < length text) (not-shut : getD text (at + 1) 0 ≡ 47 → ⊥) (not-name : getD text (at + 1) 0 ≡ 120 → ⊥) where
@@ -314,45 +320,88 @@ module _ (text : List ℕ) (at : ℕ) where
       full = λ q v c. let w = ap length (valued v c .parts) in omega (arith, w);
     }
 
-    module _ {a : ℕ} (point : Behind 62 text (at + 3) a) {x : Number} (reads : Numbers (readNumber (drop a text)) text a x) where
+    module _ {a : ℕ} (point : Behind 62 text (at + 3) a) where
       value-there : (v : List ℕ) (c : Contents (drop at text) v) → drop a text ≡ decimal (valued v c .number) ++ (tokenTag closeToken (valued v c .kind) ++ valued v c .rest)
       value-there v c = point .left ∙ (dropped 62 3 ∙ valued v c .there)
 
+      pub value-cut : length text - a < 6 → Takes text at o o n Full
+      value-cut h = record {
+        inside = λ e m q. not-to q;
+        next = λ e m q. not-to q;
+        full = λ q v c.
+            let y = valued v c in
+            let k = ap length (value-there v c) in
+            let t = ap length (token-tag closeToken (y .kind) (y .rest)) in
+            absurd (omega (
+              arith,
+              k,
+              t,
+              length-drop a text,
+              length-append (decimal (y .number)) (tokenTag closeToken (y .kind) ++ y .rest),
+              decimal-some (y .number),
+              length-append (decimal (y .kind)) (62 ∷ y .rest),
+              decimal-some (y .kind),
+            ));
+      }
+
+    module _ {a : ℕ} (point : Behind 62 text (at + 3) a) {x : Number} (reads : Numbers (readNumber (drop a text)) text a x) where
       pub value-nothing : x ≡ N.Nothing → Takes text at o o n Full
       value-nothing h = record {
         inside = λ e m q. not-to q;
         next = λ e m q. not-to q;
         full = λ q v c.
             let w = valued v c in
-            number-not text a (w .number) _ (value-there v c) (stop-tag (w .kind) (w .rest)) reads (w .small) h;
+            number-not text a (w .number) _ (value-there point v c) (stop-tag (w .kind) (w .rest)) reads (w .small) h;
       }
 
-      pub value-done : {p b e u t : ℕ} → x ≡ N.Is p b → Behind 62 text b e → n + 2 ≤ length o → u ≡ p / 256 → t ≡ p % 256
-          → Takes text at o (set (set o n u) (n + 1) t) n (To e (n + 2))
-      value-done {p} {b} {e} {u} {t} ex end h eu et = record {
-        inside = λ d m q.
-            let w = to-same q in
-            let y = reads .reached p b ex in
-            (omega (arith, w .0, point .past, y .past, end .past), omega (arith, w .0, end .inside), omega (arith, w .1));
-        next = λ d m q v c r.
-            let w = to-same q in
+      module _ {p b : ℕ} (ex : x ≡ N.Is p b) where
+        value-same : (v : List ℕ) (c : Contents (drop at text) v) → (p ≡ valued v c .number) × (drop b text ≡ tokenTag closeToken (valued v c .kind) ++ valued v c .rest)
+        value-same v c = number-same text a (valued v c .number) _ (value-there point v c) (stop-tag (valued v c .kind) (valued v c .rest)) reads ex
+
+        -- The closing tag is as long as the opening tag and one byte.
+        value-size : (v : List ℕ) (c : Contents (drop at text) v) → length (tokenTag closeToken (valued v c .kind)) ≡ a - at + 1
+        value-size v c =
             let y = valued v c in
-            let z = number-same text a (y .number) _ (value-there v c) (stop-tag (y .kind) (y .rest)) reads ex in
-            let left : y .rest ≡ drop e text = sym (end .left ∙ (ap (after 62) (z .1) ∙ after-tag (y .kind) (y .rest))) in
-            let i : n + 1 ≡ suc n = omega arith in
-            rw (← w .0, ← w .1) (record {
-              first = twoBytes p;
-              rest = y .bytes;
-              parts = y .parts ∙ ap (λ (i : ℕ). twoBytes i ++ y .bytes) (sym (z .0));
-              holds = rw left at (y .holds);
-              put = record {
-                end = refl;
-                fits = omega arith;
-                bytes = ap (λ (m : ℕ). set (set o n u) m t) i ∙ (set-stored o n (u ∷ t ∷ []) (omega arith) ∙ rw (eu, et) refl);
-              };
-            });
-        full = λ q. not-to (sym q);
-      }
+            let k = ap length (value-there point v c) in
+            omega (arith, y .long, k, length-drop at text, length-drop a text, point .past, point .inside, tags-long (y .kind), there)
+
+        pub value-short : length text - b < a - at + 1 → Takes text at o o n Full
+        value-short h = record {
+          inside = λ e m q. not-to q;
+          next = λ e m q. not-to q;
+          full = λ q v c.
+              let w = value-same v c .1 in
+              let y = valued v c in
+              absurd (omega (arith, ap length w, length-append (tokenTag closeToken (y .kind)) (y .rest), length-drop b text, value-size v c));
+        }
+
+        pub value-done : {u t : ℕ} → a - at + 1 ≤ length text - b → b ≤ length text → n + 2 ≤ length o → u ≡ p / 256 → t ≡ p % 256
+            → Takes text at o (set (set o n u) (n + 1) t) n (To (b + (a - at + 1)) (n + 2))
+        value-done {u} {t} g i h eu et = record {
+          inside = λ d m q.
+              let w = to-same q in
+              let y = reads .reached p b ex in
+              (omega (arith, w .0, point .past, y .past), omega (arith, w .0), omega (arith, w .1));
+          next = λ d m q v c r.
+              let w = to-same q in
+              let y = valued v c in
+              let z = value-same v c in
+              let left : y .rest ≡ drop (b + (a - at + 1)) text =
+              sym (sym (drop-drop (a - at + 1) b text) ∙ (ap (drop (a - at + 1)) (z .1) ∙ drop-at (tokenTag closeToken (y .kind)) (y .rest) (a - at + 1) (value-size v c))) in
+              let i : n + 1 ≡ suc n = omega arith in
+              rw (← w .0, ← w .1) (record {
+                first = twoBytes p;
+                rest = y .bytes;
+                parts = y .parts ∙ ap (λ (i : ℕ). twoBytes i ++ y .bytes) (sym (z .0));
+                holds = rw left at (y .holds);
+                put = record {
+                  end = refl;
+                  fits = omega arith;
+                  bytes = ap (λ (m : ℕ). set (set o n u) m t) i ∙ (set-stored o n (u ∷ t ∷ []) (omega arith) ∙ rw (eu, et) refl);
+                };
+              });
+          full = λ q. not-to (sym q);
+        }
 
 -- There is room for the second byte of a value.
 pub second-in : (o : List ℕ) (n : ℕ) {x : Number} {v e : ℕ} → x ≡ N.Is v e → 2 ≤ length o - n → n + 1 < length (set o n (v / 256))
@@ -364,11 +413,11 @@ module _ (text o : List ℕ) where
   taken-start v c = record { first = []; rest = v; parts = refl; holds = c; put = record { end = omega arith; fits = omega arith; bytes = nothing-spliced o 0 } }
 
   module _ {o₁ : List ℕ} {at n : ℕ} {v : List ℕ} (room : length v ≤ length o) (so-far : Written-to v text o o₁ 0 at n) where
-    pub taken-done : length text ≤ at → o₁ ≡ spliced o 0 v
+    pub taken-done : length text ≤ at → (o₁ ≡ spliced o 0 v) × (n ≡ length v)
     taken-done h =
         let e = contents-none (drop at text) (so-far .rest) (so-far .holds) (drop-of-length-le text {i = at} h) in
         let z : v ≡ so-far .first = so-far .parts ∙ (ap (λ (u : List ℕ). so-far .first ++ u) e ∙ append-nil (so-far .first)) in
-        so-far .put .bytes ∙ ap (spliced o 0) (sym z)
+        (so-far .put .bytes ∙ ap (spliced o 0) (sym z), omega (arith, so-far .put .end, ap length z))
 
     module _ {o₂ : List ℕ} {x : Step} (long : length o₁ ≡ length o) (step : Takes text at o₁ o₂ n x) where
       fits : n + length (so-far .rest) ≤ length o₁
@@ -387,3 +436,123 @@ module _ (text o : List ℕ) where
             holds = w .holds;
             put = written-then (so-far .put) long (w .put);
           }
+
+-- bytes_at
+module _ (text : List ℕ) (at : ℕ) (there : at < length text) where
+  abbrev Holds : ℕ → Type 0
+  Holds r = (bytesIn (drop at text) ≡ r + bytesIn (drop (at + 1) text)) × (r ≤ 2)
+
+  pub holds-none : (getD text at 0 ≡ 60 → ⊥) → Holds 0
+  unfolding bytesIn
+  holds-none h =
+      let d = ne-eqb (getD text at 0) 60 h in
+      let z : bytesIn (drop at text) ≡ bytesIn (drop (at + 1) text) = rw (front text at there) (cc) in
+      (omega arith, omega arith)
+
+  module _ (first : getD text at 0 ≡ 60) where
+    holds-sign : bytesIn (drop at text) ≡ signed (getD text (at + 1) 0) + bytesIn (drop (at + 1) text)
+    unfolding bytesIn
+    holds-sign =
+        let d = eq-eqb (getD text at 0) 60 first in
+        let g : getD (drop (at + 1) text) 0 0 ≡ getD text (at + 1) 0 = byte-drop text (at + 1) 0 (at + 1) (omega arith) in
+        rw (front text at there) (cc)
+
+    pub holds-end : length text - at < 2 → Holds 0
+    unfolding bytesIn signed
+    holds-end h =
+        let z : drop (at + 1) text ≡ [] = drop-of-length-le text {i = at + 1} (omega arith) in
+        let g : getD text (at + 1) 0 ≡ 0 = sym (byte-drop text (at + 1) 0 (at + 1) (omega arith)) ∙ ap (λ (u : List ℕ). getD u 0 0) z in
+        let y : signed (getD text (at + 1) 0) ≡ 0 = ap signed g in
+        (holds-sign ∙ omega arith, omega arith)
+
+    pub holds-name : getD text (at + 1) 0 ≡ 120 → Holds 1
+    unfolding signed
+    holds-name h = (holds-sign ∙ ap (λ (c : ℕ). signed c + bytesIn (drop (at + 1) text)) h, omega arith)
+
+    pub holds-value : getD text (at + 1) 0 ≡ 116 → Holds 2
+    unfolding signed
+    holds-value h = (holds-sign ∙ ap (λ (c : ℕ). signed c + bytesIn (drop (at + 1) text)) h, omega arith)
+
+    pub holds-other : (getD text (at + 1) 0 ≡ 120 → ⊥) → (getD text (at + 1) 0 ≡ 116 → ⊥) → Holds 0
+    unfolding signed
+    holds-other h g =
+        let c = ne-eqb (getD text (at + 1) 0) 120 h in
+        let d = ne-eqb (getD text (at + 1) 0) 116 g in
+        let y : signed (getD text (at + 1) 0) ≡ 0 = cc in
+        (holds-sign ∙ omega arith, omega arith)
+
+-- count
+pub count-again : (text : List ℕ) (at n r : ℕ) → n + bytesIn (drop at text) ≡ bytesIn text → bytesIn (drop at text) ≡ r + bytesIn (drop (at + 1) text)
+    → n + r + bytesIn (drop (at + 1) text) ≡ bytesIn text
+count-again text at n r h e = omega arith
+
+pub count-done : (text : List ℕ) (at n : ℕ) → n + bytesIn (drop at text) ≡ bytesIn text → length text ≤ at → n ≡ bytesIn text
+unfolding bytesIn
+count-done text at n h e = let z : bytesIn (drop at text) ≡ 0 = ap bytesIn (drop-of-length-le text {i = at} e) in omega arith
+
+-- The tags of an export, counted.
+clear-count : (s r : List ℕ) → Clear 60 s → bytesIn (s ++ r) ≡ bytesIn r
+unfolding bytesIn
+clear-count [] r h = refl
+clear-count (b ∷ s) r h = let d = ne-eqb b 60 (h .0) in let z = clear-count s r (h .1) in cc
+
+open-clear : (k : ℕ) → Clear 60 (decimal k)
+open-clear k = clear-decimal 60 (suc k) k (λ d h e. omega arith) (omega arith)
+
+rest-count : (s r : List ℕ) → Clear 60 s → (c : ℕ) → (c ≡ 60 → ⊥) → bytesIn (60 ∷ c ∷ (s ++ r)) ≡ signed c + bytesIn r
+unfolding bytesIn
+rest-count s r h c g = let d = ne-eqb c 60 g in let z = clear-count s r h in cc
+
+tag-clear : (k : ℕ) → Clear 60 (decimal k ++ (62 ∷ []))
+tag-clear k = clear-both 60 (decimal k) (62 ∷ []) (open-clear k) ((λ z. omega arith), tt)
+
+names-clear : (k p : ℕ) → Clear 60 (decimal k ++ (46 ∷ (decimal p ++ (62 ∷ []))))
+names-clear k p = clear-both 60 (decimal k) (46 ∷ (decimal p ++ (62 ∷ []))) (open-clear k) ((λ z. omega arith), tag-clear p)
+
+pub contents-count : (s v : List ℕ) → Contents s v → bytesIn s ≡ length v
+unfolding bytesIn signed nodeTag tokenTag
+contents-count s v empty = refl
+contents-count s v (closing {r = r} k p e h) =
+    let z = contents-count r v h in
+    ap bytesIn e ∙ (rest-count (120 ∷ (decimal k ++ (46 ∷ (decimal p ++ (62 ∷ []))))) r ((λ z. omega arith), names-clear k p) 47 (λ z. omega arith) ∙ omega arith)
+contents-count s v (opening {r = r} {v = u} k p b e h) =
+    let z = contents-count r u h in
+    ap bytesIn e ∙ (rest-count (decimal k ++ (46 ∷ (decimal p ++ (62 ∷ [])))) r (names-clear k p) 120 (λ z. omega arith) ∙ omega arith)
+contents-count s v (value {r = r} {v = u} k n b e h) =
+    let z = contents-count r u h in
+    ap bytesIn e
+    ∙ (rest-count (decimal k ++ (62 ∷ [])) (decimal n ++ (tokenTag closeToken k ++ r)) (tag-clear k) 116 (λ z. omega arith)
+    ∙ (ap (λ (m : ℕ). 2 + m) (clear-count (decimal n) (tokenTag closeToken k ++ r) (open-clear n)
+    ∙ rest-count (116 ∷ (decimal k ++ (62 ∷ []))) r ((λ z. omega arith), tag-clear k) 47 (λ z. omega arith)) ∙ omega (arith, length-append (twoBytes n) u)))
+
+pub contents-small : (s v : List ℕ) → Contents s v → 5 * length v ≤ length s
+contents-small s v empty = omega arith
+contents-small s v (closing {r = r} k p e h) =
+    let z = ap length (e ∙ node-tag closeNode k p r) in
+    omega (arith, contents-small r v h, z, length-append (decimal k) (46 ∷ (decimal p ++ (62 ∷ r))), length-append (decimal p) (62 ∷ r))
+contents-small s v (opening {r = r} {v = u} k p b e h) =
+    let z = ap length (e ∙ node-tag openNode k p r) in
+    omega (arith, contents-small r u h, z, length-append (decimal k) (46 ∷ (decimal p ++ (62 ∷ r))), length-append (decimal p) (62 ∷ r), decimal-some k, decimal-some p)
+contents-small s v (value {r = r} {v = u} k n b e h) =
+    let t = decimal n ++ (tokenTag closeToken k ++ r) in
+    let z = ap length (e ∙ token-tag openToken k t) in
+    let w = ap length (token-tag closeToken k r) in
+    omega (
+      arith,
+      contents-small r u h,
+      z,
+      w,
+      length-append (decimal k) (62 ∷ t),
+      length-append (decimal k) (62 ∷ r),
+      length-append (decimal n) (tokenTag closeToken k ++ r),
+      decimal-some k,
+      decimal-some n,
+      length-append (twoBytes n) u,
+    )
+
+-- fits
+pub fits-short : (text : List ℕ) (room : ℕ) → length text / 5 ≤ room → (v : List ℕ) → Contents text v → true ≡ leb (length v) room
+fits-short text room h v c = let z = contents-small text v c in sym (le-leb (length v) room (omega arith))
+
+pub fits-counted : (text : List ℕ) (room : ℕ) {n : ℕ} {x : Bool} → n ≡ bytesIn text → x ≡ leb n room → (v : List ℕ) → Contents text v → x ≡ leb (length v) room
+fits-counted text room e f v c = f ∙ ap (λ (m : ℕ). leb m room) (e ∙ contents-count text v c)

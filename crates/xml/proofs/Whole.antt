@@ -6,8 +6,8 @@ use mathlib.Core.List.{List, [], _∷_}
 use mathlib.Core.Option.{some}
 use native.Mathlib.Omega.{arith}
 use lib.ListN.{length, getD, drop, drop-of-length-le}
-use lib.Dec.{ltb}
-use borrow.Author.Tests.{lt-ltb}
+use lib.Dec.{leb}
+use borrow.Author.Tests.{leb-true, leb-false}
 use Rattle.fields.specs.Outcome.{Result, value, refused, _>>=_, checked, written, outputAfter}
 use Rattle.fields.specs.Inner.Writing.{spliced}
 use Rattle.fields.specs.declared.outcome.Outcome.{Outcome}
@@ -19,8 +19,8 @@ use Rattle.fields.proofs.Split.{front}
 use Rattle.language.specs.Language.{Language, isIn}
 use Rattle.language.specs.LanguageFile.{languageOf, entriesOf}
 use Rattle.language.specs.Operations.{checkLanguage}
-use Rattle.reader.specs.Code.{Code}
-use Rattle.reader.specs.Syntax.{Read, done, deep, broken, write, tree}
+use Rattle.reader.specs.Code.{Code, Codes, nil, cons}
+use Rattle.reader.specs.Syntax.{Read, done, deep, broken, andThen, readAll, write, tree}
 use Rattle.reader.specs.Operations.{treeLevels}
 use Rattle.reader.specs.Inner.Index.{Indexed}
 use Rattle.reader.proofs.Members.{in-below}
@@ -31,54 +31,78 @@ use Rattle.xml.specs.Import.{readText}
 use Rattle.xml.specs.Operations.{wholeText, importOf, importBytes, importTree}
 use Rattle.xml.specs.declared.import.Text.{Text}
 use Rattle.xml.specs.declared.import.Text.the-variants.{End, Deep, Broken}
-use Rattle.xml.specs.Inner.Importing.{Inside, ImportsTree}
+use Rattle.xml.specs.Inner.Importing.{Inside, ImportsTrees}
 use Rattle.xml.specs.Inner.Contents.{Contents}
 use Rattle.putting.specs.Inner.Answering.{Gives}
 use Rattle.xml.specs.Inner.Answering.{GivesWhole, GivesImport}
 use Rattle.xml.proofs.Answers.{gives-refused, gives-same}
 use Rattle.xml.proofs.Held.{held-whole}
 use Rattle.putting.proofs.Answering.{gives-long, gives-fit}
+use Rattle.putting.proofs.Reading.{same-done, deep-not, broken-not}
 
 -- What a reading comes to, with so much room.
 abbrev result : ℕ → Read Code → Result (List ℕ)
 result room p = wholeText p >>= λ t. fitted room (write tree t)
 
+-- The reading of one tree, and that of a list with one tree.
+one-deep : (p : Read Code) → (andThen p λ a r. done (cons a nil) r) ≡ deep → p ≡ deep
+one-deep (done a r) e = let z : _≡_ {A = ℕ} 0 1 = cc in absurd (omega arith)
+one-deep deep e = refl
+one-deep broken e = let z : _≡_ {A = ℕ} 0 1 = cc in absurd (omega arith)
+
+one-broken : (p : Read Code) → (andThen p λ a r. done (cons a nil) r) ≡ broken → p ≡ broken
+one-broken (done a r) e = let z : _≡_ {A = ℕ} 0 1 = cc in absurd (omega arith)
+one-broken deep e = let z : _≡_ {A = ℕ} 0 1 = cc in absurd (omega arith)
+one-broken broken e = refl
+
+one-done : (p : Read Code) {t : Codes} {u : List ℕ} → (andThen p λ a r. done (cons a nil) r) ≡ done t u → (a : Code) × (p ≡ done a u)
+one-done (done a r) {t} {u} e = (a, ap (done a) (same-done (cons a nil) t r u e .1))
+one-done deep e = deep-not e
+one-done broken e = broken-not e
+
 -- import_text
-module _ (s index : List ℕ) (k : ℕ) (text o : List ℕ) {x : Text} (first : ImportsTree s index k text 0 treeLevels 0 x) where
+module _ (s index : List ℕ) (k : ℕ) (text o : List ℕ) {x : Text} (first : ImportsTrees (k ∷ []) s index 0 1 text 0 treeLevels x) where
+  only : (l : Language) {p : Read Code} → readText l treeLevels k text ≡ p → readAll (readText l treeLevels) (k ∷ []) text ≡ (andThen p λ a r. done (cons a nil) r)
+  unfolding readAll
+  only l e = ap (λ (p : Read Code). andThen p λ a r. done (cons a nil) r) e
+
   pub text-deep : {out : Outcome} → x ≡ Deep → out ≡ Refused Why.TooDeep → GivesWhole s index k text o o out
-  text-deep h i l z = gives-refused _ o Why.TooDeep (ap (result (length o)) (first l z .deep h)) i
+  text-deep h i l z = gives-refused _ o Why.TooDeep (ap (result (length o)) (one-deep (readText l treeLevels k text) (sym (only l refl) ∙ first l z .deep h))) i
 
   pub text-broken : {out : Outcome} → x ≡ Broken → out ≡ Refused Why.NotAnExport → GivesWhole s index k text o o out
-  text-broken h i l z = gives-refused _ o Why.NotAnExport (ap (result (length o)) (first l z .broken h)) i
+  text-broken h i l z = gives-refused _ o Why.NotAnExport (ap (result (length o)) (one-broken (readText l treeLevels k text) (sym (only l refl) ∙ first l z .broken h))) i
 
-  module _ {e m : ℕ} (ex : x ≡ End e m) (inside : Inside text x) where
+  module _ {e : ℕ} (ex : x ≡ End e) (inside : Inside text x) where
+    one : (l : Language) → Indexed index s l → (a : Code) × (readText l treeLevels k text ≡ done a (drop e text))
+    one l z = let f = first l z .found e ex in one-done (readText l treeLevels k text) (sym (only l refl) ∙ f .1)
+
     pub text-left : {out : Outcome} → (e ≡ length text → ⊥) → out ≡ Refused Why.NotAnExport → GivesWhole s index k text o o out
     text-left h i l z =
-        let f = first l z .found e m ex in
-        let j = inside e m ex .0 in
+        let f = one l z in
+        let j = inside e ex in
         let g : e < length text = omega arith in
         gives-refused _ o Why.NotAnExport (ap (result (length o)) (f .1 ∙ ap (done (f .0)) (front text e g))) i
 
-    module _ (all : e ≡ length text) where
-      whole : (l : Language) (z : Indexed index s l) → readText l treeLevels k text ≡ done (first l z .found e m ex .0) []
-      whole l z = let f = first l z .found e m ex in f .1 ∙ ap (done (f .0)) (drop-of-length-le text {i = e} (omega arith))
+    module _ (all : e ≡ length text) (bytes : (i : ℕ) → getD s i 0 < 256) where
+      whole : (l : Language) (z : Indexed index s l) → readText l treeLevels k text ≡ done (one l z .0) []
+      whole l z = let f = one l z in f .1 ∙ ap (done (f .0)) (drop-of-length-le text {i = e} (omega arith))
 
-      size : (l : Language) (z : Indexed index s l) → m ≡ length (write tree (first l z .found e m ex .0))
-      size l z = let f = first l z .found e m ex .2 in omega arith
+      holds : (l : Language) (z : Indexed index s l) → Contents text (write tree (one l z .0))
+      holds l z = held-whole s l (z .entries) bytes treeLevels k text (one l z .0) (whole l z)
 
-      pub text-long : {out : Outcome} → length o < m → out ≡ Refused Why.OutputTooShort → GivesWhole s index k text o o out
-      text-long h i l z =
-          let n = size l z in
-          gives-same _ _ o o (ap (result (length o)) (whole l z)) (gives-long (write tree (first l z .found e m ex .0)) o (omega arith) i)
+      module _ {y : Bool} (room : (v : List ℕ) → Contents text v → y ≡ leb (length v) (length o)) where
+        pub text-long : {out : Outcome} → y ≡ false → out ≡ Refused Why.OutputTooShort → GivesWhole s index k text o o out
+        text-long h i l z =
+            let n = leb-false (length (write tree (one l z .0))) (length o) (sym (room _ (holds l z)) ∙ h) in
+            gives-same _ _ o o (ap (result (length o)) (whole l z)) (gives-long (write tree (one l z .0)) o (omega arith) i)
 
-      module _ {o′ : List ℕ} (bytes : (i : ℕ) → getD s i 0 < 256) (put : (v : List ℕ) → Contents text v → length v ≤ length o → o′ ≡ spliced o 0 v) (fits : m ≤ length o) where
-        pub text-done : {out : Outcome} → out ≡ Accepted m → GivesWhole s index k text o o′ out
-        text-done i l z =
-            let n = size l z in
-            let t = first l z .found e m ex .0 in
-            let c = held-whole s l (z .entries) bytes treeLevels k text t (whole l z) in
-            gives-same _ _ o o′ (ap (result (length o)) (whole l z))
-            (gives-fit (write tree t) o o′ (omega arith) (i ∙ ap Accepted n) (put (write tree t) c (omega arith)))
+        pub text-done : {o′ : List ℕ} {n : ℕ} {out : Outcome} → y ≡ true → ((v : List ℕ) → Contents text v → length v ≤ length o → (o′ ≡ spliced o 0 v) × (n ≡ length v)) → out ≡ Accepted n
+            → GivesWhole s index k text o o′ out
+        text-done {o′} h put i l z =
+            let t = one l z .0 in
+            let g = leb-true (length (write tree t)) (length o) (sym (room _ (holds l z)) ∙ h) in
+            let w = put (write tree t) (holds l z) g in
+            gives-same _ _ o o′ (ap (result (length o)) (whole l z)) (gives-fit (write tree t) o o′ g (i ∙ ap Accepted (w .1)) (w .0))
 
 -- import_kind
 module _ (s : List ℕ) (k : ℕ) (text o : List ℕ) {x : Bool} (ex : (l : Language) → entriesOf s ≡ some l → x ≡ isIn l k) {out : Outcome} where

@@ -1,4 +1,4 @@
-// The tree that a text is the export of: the text is read, and the bytes of the tree are counted.
+// The tree that a text is the export of: whether there is one, and where its text ends.
 use crate::scan::Number;
 use crate::scan::Place;
 use crate::scan::closing_at;
@@ -9,32 +9,23 @@ use fields::bytes::to_usize;
 use reader::node::place_at;
 ghost use mathlib.Core.Path.{_≡_};
 ghost use Prim.Native.Nat.{_+_, _-_, _<_, _≤_};
-ghost use lib.ListN.{length, drop};
-ghost use Rattle.language.specs.Inner.Entries.{IsClass, classRange};
-ghost use Rattle.reader.specs.Syntax.{write, tree as inTrees};
+ghost use lib.ListN.{length};
 ghost use Rattle.reader.specs.Inner.Index.{Sound, Ready, indexLength};
 ghost use Rattle.reader.specs.Inner.Positions.{KindsIn};
-ghost use Rattle.xml.specs.Import.{readToken};
-ghost use Rattle.xml.specs.Inner.Importing.{Inside, Imports, ImportsTree, ImportsTrees, placeOf};
+ghost use Rattle.xml.specs.Inner.Importing.{Inside, Elements, ImportsTrees, placeOf};
 
-// The position behind the text of a tree and how many bytes are counted; one level too many; or a text that is no export.
+// The position behind the text of a tree; one level too many; or a text that is no export.
 pub enum Text {
-    End(usize, usize),
+    End(usize),
     Deep,
     Broken,
 }
 
-// The token of a kind, by the place of its class.
-fn text_token(language: &[u8], class: usize, kind: u8, text: &[u8], at: usize, n: usize) -> Text
-    requires { ⌜ (0 < class) × IsClass (now language) (class - 1) × (at ≤ length (now text)) × (n ≤ at) ⌝ }
-    ensures { λ r. ⌜ Inside (now (text .entry)) r
-        × Imports (write inTrees) (readToken kind (classRange (now (language .entry)) (class - 1)) (drop at (now (text .entry))))
-        (now (text .entry)) n r ⌝ }
-{
-    let Number::Is(value, e) = token_at(language, class - 1, to_usize(kind), text, at) else {
-        return Text::Broken;
-    };
-    Text::End(e, n + 2)
+// The kinds of the arguments of a production stand in the language from the first number up to the second, its opening tag ends
+// at the third; or that there is none.
+pub enum Element {
+    Of(usize, usize, usize),
+    Nothing,
 }
 
 // The place of a production in the index, or 0.
@@ -48,47 +39,25 @@ fn place_of(index: &[u16], kind: u8, name: usize) -> usize
     place_at(index, 32 + (to_usize(kind) * 256 + name))
 }
 
-// The tree of a kind at a position of the text. It calls itself on the arguments, one level fewer.
-pub fn text_at(
-    language: &[u8],
-    index: &[u16],
-    kind: u8,
-    text: &[u8],
-    at: usize,
-    levels: usize,
-    n: usize,
-) -> Text
-    requires { ⌜ Ready (now index) (now language) kind (now text) at × (n ≤ at) ⌝ }
-    ensures { λ r. ⌜ Inside (now (text .entry)) r
-        × ImportsTree (now (language .entry)) (now (index .entry)) kind (now (text .entry)) at levels n r ⌝ }
+// The opening tag of an element of a kind that is no class, and where the kinds of its arguments stand.
+fn element_at(language: &[u8], index: &[u16], kind: u8, text: &[u8], at: usize) -> Element
+    requires { ⌜ Ready (now index) (now language) kind (now text) at ⌝ }
+    ensures { λ r. ⌜ Elements (now (language .entry)) (now (index .entry)) kind (now (text .entry)) at r ⌝ }
 {
-    let class = place_at(index, to_usize(kind));
-    if class != 0 {
-        return text_token(language, class, kind, text, at, n);
-    }
-    if levels == 0 {
-        return Text::Deep;
-    }
-    let Number::Is(name, a) = opening_at(to_usize(kind), text, at) else {
-        return Text::Broken;
+    let Number::Is(name, a) = opening_at(kind, text, at) else {
+        return Element::Nothing;
     };
     let place = place_of(index, kind, name);
     if place == 0 {
-        return Text::Broken;
+        return Element::Nothing;
     }
-    let stop = place + 2 + pair_in(language, place);
-    match texts_at(language, index, place + 4, stop, text, a, levels - 1, n + 1) {
-        Text::End(b, m) => match closing_at(to_usize(kind), name, text, b) {
-            Place::At(e) => Text::End(e, m),
-            Place::Nothing => Text::Broken,
-        },
-        Text::Deep => Text::Deep,
-        Text::Broken => Text::Broken,
-    }
+    Element::Of(place + 4, place + 2 + pair_in(language, place), a)
 }
 
-// The trees whose kinds stand in the language from `from` up to `stop`, one after the other.
-fn texts_at(
+// The trees whose kinds stand among some from `from` up to `stop`, one after the other. It calls itself
+// on the arguments of each, one level fewer.
+pub fn texts_at(
+    kinds: &[u8],
     language: &[u8],
     index: &[u16],
     from: usize,
@@ -96,29 +65,53 @@ fn texts_at(
     text: &[u8],
     at: usize,
     levels: usize,
-    n: usize,
 ) -> Text
-    requires { ⌜ Sound (now index) (now language) × KindsIn (now language) from stop × (at ≤ length (now text)) × (n ≤ at) ⌝ }
+    requires { ⌜ Sound (now index) (now language) × KindsIn (now kinds) from stop × (at ≤ length (now text)) ⌝ }
     ensures { λ r. ⌜ Inside (now (text .entry)) r
-        × ImportsTrees (now (language .entry)) (now (index .entry)) from stop (now (text .entry)) at levels n r ⌝ }
+        × ImportsTrees (now (kinds .entry)) (now (language .entry)) (now (index .entry)) from stop (now (text .entry)) at levels r ⌝ }
 {
     let mut q = from;
     let mut to = at;
-    let mut m = n;
     while q < stop {
-        match text_at(language, index, language[q], text, to, levels, m) {
-            Text::End(e, k) => {
-                to = e;
-                m = k;
-                q += 1;
-            }
-            Text::Deep => {
+        let kind = kinds[q];
+        let class = place_at(index, to_usize(kind));
+        if class != 0 {
+            let Number::Is(value, e) = token_at(language, class - 1, kind, text, to) else {
+                return Text::Broken;
+            };
+            to = e;
+            q += 1;
+        } else {
+            if levels == 0 {
                 return Text::Deep;
             }
-            Text::Broken => {
+            let Element::Of(first, last, a) = element_at(language, index, kind, text, to) else {
                 return Text::Broken;
+            };
+            let size = a - to + 1;
+            q += 1;
+            if first < last {
+                match texts_at(language, language, index, first, last, text, a, levels - 1) {
+                    Text::End(b) => {
+                        let Place::At(e) = closing_at(text, to, size, b) else {
+                            return Text::Broken;
+                        };
+                        to = e;
+                    }
+                    Text::Deep => {
+                        return Text::Deep;
+                    }
+                    Text::Broken => {
+                        return Text::Broken;
+                    }
+                }
+            } else {
+                let Place::At(e) = closing_at(text, to, size, a) else {
+                    return Text::Broken;
+                };
+                to = e;
             }
         }
     }
-    Text::End(to, m)
+    Text::End(to)
 }

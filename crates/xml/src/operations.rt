@@ -1,8 +1,9 @@
 // The operations export and import.
+use crate::contents::has_room;
 use crate::contents::write_contents;
 use crate::export::export_all;
 use crate::import::Text;
-use crate::import::text_at;
+use crate::import::texts_at;
 use crate::measure::Measured;
 use crate::measure::measure_all;
 use fields::outcome::Answer;
@@ -84,16 +85,16 @@ fn import_text(language: &[u8], index: &[u16], kind: u8, text: &[u8], output: &m
     requires { ⌜ Ready (now index) (now language) kind (now text) 0 ⌝ }
     ensures { λ r. ⌜ GivesWhole (now (language .entry)) (now (index .entry)) kind (now (text .entry)) (now (output .entry)) (now (output .exit)) (r .outcome) ⌝ }
 {
-    match text_at(language, index, kind, text, 0, LEVELS, 0) {
-        Text::End(e, length) => {
+    let kinds = [kind];
+    match texts_at(&kinds, language, index, 0, 1, text, 0, LEVELS) {
+        Text::End(e) => {
             if e != text.len() {
                 return refuse(Reason::NotAnExport);
             }
-            if output.len() < length {
+            if !has_room(text, output.len()) {
                 return refuse(Reason::OutputTooShort);
             }
-            write_contents(text, output);
-            accept(length)
+            accept(write_contents(text, output))
         }
         Text::Deep => refuse(Reason::TooDeep),
         Text::Broken => refuse(Reason::NotAnExport),

@@ -1,50 +1,73 @@
--- The masked form of what stands in bytes, put into an output or only measured against it.
-use Prim.Native.Nat.{ℕ, _≤_}
+-- The masked form of what stands in bytes, put into an output as far as it has room.
+use Prim.Native.Nat.{ℕ, _+_, _≤_}
 use mathlib.Core.Path.{_≡_}
-use mathlib.Core.Bool.{Bool}
 use mathlib.Core.List.{List, []}
+use mathlib.Core.Option.{some}
 use lib.ListN.{length, drop}
 use lib.Seq.{slice}
+use Rattle.fields.specs.Outcome.{_>>=_}
+use Rattle.fields.specs.Inner.Writing.{spliced}
 use Rattle.fields.specs.declared.outcome.Outcome.{Outcome}
 use Rattle.language.specs.Language.{Language}
+use Rattle.language.specs.LanguageFile.{entriesOf}
 use Rattle.reader.specs.Code.{Code, Codes}
 use Rattle.reader.specs.Syntax.{done, read, readAll, tree}
-use Rattle.reader.specs.Operations.{treeLevels}
+use Rattle.reader.specs.Operations.{treeLevels, wholeTree, treeOf}
 use Rattle.reader.specs.Inner.Index.{Indexed}
 use Rattle.translation.specs.Operations.{fitted}
 use Rattle.card.specs.Card.{Card}
 use Rattle.card.specs.Inner.Sets.{Holds}
-use Rattle.putting.specs.declared.put.Step.{Step}
-use Rattle.putting.specs.Inner.Passing.{Passes}
 use Rattle.putting.specs.Inner.Answering.{Gives}
-use Rattle.mask.specs.Mask.{hiddenBlock, masked, maskedAll}
+use Rattle.mask.specs.Mask.{masked, maskedAll}
+
+-- The text v takes the bytes from n up to m; it stands there if the output o has room for it.
+pub record Puts (v o o′ : List ℕ) (n m : ℕ) : Type 0 where
+  pub end : m ≡ n + length v
+  pub bytes : m ≤ length o → o′ ≡ spliced o n v
 
 -- e is where the tree of kind k ends that stands at `at`, with so many levels left; it lies in the bytes in any case.
 pub record EndsTree (s index : List ℕ) (k : ℕ) (b : List ℕ) (at levels e : ℕ) : Type 0 where
   pub inside : e ≤ length b
   pub left : (l : Language) (a : Code) (rest : List ℕ) → Indexed index s l → read tree l [] levels k (drop at b) ≡ done a rest → drop e b ≡ rest
 
--- One byte for the tree of kind k that stands at `at`, with so many levels left.
-abbrev pub MasksHidden : Bool → List ℕ → List ℕ → ℕ → List ℕ → ℕ → ℕ → List ℕ → List ℕ → ℕ → Step → Type 0
-MasksHidden store s index k b at levels o o′ n r =
-    (l : Language) (a : Code) (rest : List ℕ) → Indexed index s l → read tree l [] levels k (drop at b) ≡ done a rest
-    → Passes store hiddenBlock b rest o o′ n r
+-- The text v, of what stands in b before `rest`, is put behind the first n bytes and ends at m; `rest` stands from e on.
+pub record Masks (v b rest o o′ : List ℕ) (n e m : ℕ) : Type 0 where
+  pub left : drop e b ≡ rest
+  pub put : Puts v o o′ n m
 
 -- The masked form of the tree of kind k that stands at `at`, with so many levels left, for a card whose kinds are a set.
-abbrev pub MasksTree : Bool → List ℕ → List ℕ → ℕ → ℕ → List ℕ → ℕ → ℕ → List ℕ → List ℕ → ℕ → Step → Type 0
-MasksTree store s index kinds k b at levels o o′ n r =
+abbrev pub MasksTree : List ℕ → List ℕ → ℕ → ℕ → List ℕ → ℕ → ℕ → List ℕ → List ℕ → ℕ → ℕ → ℕ → Type 0
+MasksTree s index kinds k b at levels o o′ n e m =
     (l : Language) (card : Card) (a : Code) (rest : List ℕ) → Indexed index s l → Holds kinds card → read tree l [] levels k (drop at b) ≡ done a rest
-    → Passes store (masked l card k a) b rest o o′ n r
+    → Masks (masked l card k a) b rest o o′ n e m
 
--- The masked forms of the trees that stand at `at`, whose kinds stand in s from q up to e.
-abbrev pub MasksTrees : Bool → List ℕ → List ℕ → ℕ → ℕ → ℕ → List ℕ → ℕ → ℕ → List ℕ → List ℕ → ℕ → Step → Type 0
-MasksTrees store s index kinds q e b at levels o o′ n r =
+-- The masked forms of the trees that stand at `at`, whose kinds stand in s from q up to p.
+abbrev pub MasksTrees : List ℕ → List ℕ → ℕ → ℕ → ℕ → List ℕ → ℕ → ℕ → List ℕ → List ℕ → ℕ → ℕ → ℕ → Type 0
+MasksTrees s index kinds q p b at levels o o′ n e m =
     (l : Language) (card : Card) (t : Codes) (rest : List ℕ) → Indexed index s l → Holds kinds card
-    → readAll (read tree l [] levels) (slice q e s) (drop at b) ≡ done t rest
-    → Passes store (maskedAll l card (slice q e s) t) b rest o o′ n r
+    → readAll (read tree l [] levels) (slice q p s) (drop at b) ≡ done t rest
+    → Masks (maskedAll l card (slice q p s) t) b rest o o′ n e m
 
--- The outcome, and the output that is left, are those of the masked form of the tree of kind k that the bytes b are.
-abbrev pub GivesMasked : List ℕ → List ℕ → ℕ → ℕ → List ℕ → List ℕ → List ℕ → Outcome → Type 0
-GivesMasked s index kinds k b before after outcome =
+-- What is put for the trees that are left, whose kinds stand from q up to p, completes what is put for all.
+abbrev pub Goes : List ℕ → List ℕ → ℕ → ℕ → ℕ → List ℕ → ℕ → ℕ → List ℕ → ℕ → ℕ → ℕ → ℕ → ℕ → List ℕ → ℕ → Type 0
+Goes s index kinds from stop b at levels o n q p to left o₁ m =
+    (o₂ : List ℕ) (e h : ℕ) → MasksTrees s index kinds q p b to left o₁ o₂ m e h → MasksTrees s index kinds from stop b at levels o o₂ n e h
+
+-- The masked form of the tree of kind k that the bytes b are.
+abbrev pub MasksWhole : List ℕ → List ℕ → ℕ → ℕ → List ℕ → List ℕ → List ℕ → ℕ → Type 0
+MasksWhole s index kinds k b o o′ m =
     (l : Language) (card : Card) (a : Code) → Indexed index s l → Holds kinds card → read tree l [] treeLevels k b ≡ done a []
-    → Gives (fitted (length before) (masked l card k a)) before after outcome
+    → Puts (masked l card k a) o o′ 0 m
+
+-- The outcome, and the output that is left, are those of the masked form of the tree of kind k that the bytes b are, with nothing
+-- after it.
+abbrev pub GivesTree : List ℕ → List ℕ → ℕ → ℕ → List ℕ → List ℕ → List ℕ → Outcome → Type 0
+GivesTree s index kinds k b before after outcome =
+    (l : Language) (card : Card) → Indexed index s l → Holds kinds card
+    → Gives (wholeTree (read tree l [] treeLevels k b) >>= λ t. fitted (length before) (masked l card k t)) before after outcome
+
+-- The same, where it is looked whether the kind is in the language.
+abbrev pub GivesKind : List ℕ → ℕ → ℕ → List ℕ → List ℕ → List ℕ → Outcome → Type 0
+GivesKind s kinds k b before after outcome =
+    (l : Language) (card : Card) → entriesOf s ≡ some l → Holds kinds card
+    → Gives (treeOf l k b >>= λ t. fitted (length before) (masked l card k t)) before after outcome

@@ -3,7 +3,7 @@ use Prim.Native.Nat.{ℕ, _+_, _<_, _≤_}
 use mathlib.Core.Path.{_≡_}
 use mathlib.Core.Bool.{true, false}
 use mathlib.Core.List.{List, [], _∷_, _++_}
-use lib.ListN.{length, drop}
+use lib.ListN.{length, getD, drop}
 use lib.Dec.{eqb}
 use Rattle.fields.specs.Fields.{twoBytes}
 use Rattle.fields.specs.Inner.Writing.{Written}
@@ -18,6 +18,14 @@ pub data Contents : List ℕ → List ℕ → Type 0 where
   opening : {s r v : List ℕ} (k p : ℕ) → p < 256 → s ≡ nodeTag openNode k p ++ r → Contents r v → Contents s (p ∷ v)
   value : {s r v : List ℕ} (k n : ℕ) → n < 65536 → s ≡ tokenTag openToken k ++ (decimal n ++ (tokenTag closeToken k ++ r)) → Contents r v
       → Contents s (twoBytes n ++ v)
+
+-- How many bytes of a tree a tag holds, by its second byte; and how many all tags hold.
+unfoldable pub signed : ℕ → ℕ
+signed c = elim (eqb c 120) [ true ↦ 1 | false ↦ elim (eqb c 116) [ true ↦ 2 | false ↦ 0 ] ]
+
+unfoldable pub bytesIn : List ℕ → ℕ
+bytesIn [] = 0
+bytesIn (b ∷ s) = elim (eqb b 60) [ true ↦ signed (getD s 0 0) + bytesIn s | false ↦ bytesIn s ]
 
 -- The text behind the first byte c.
 unfoldable pub after : ℕ → List ℕ → List ℕ

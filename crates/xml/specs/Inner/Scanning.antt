@@ -1,10 +1,11 @@
 -- What stands at a position of a text.
-use Prim.Native.Nat.{ℕ, _+_, _<_, _≤_}
+use Prim.Native.Nat.{ℕ, _+_, _-_, _<_, _≤_}
 use mathlib.Core.Path.{_≡_}
-use mathlib.Core.List.{List}
-use lib.ListN.{length, drop}
+use mathlib.Core.List.{List, [], _∷_, _++_}
+use lib.ListN.{length, take, drop}
 use Rattle.reader.specs.Code.{Code, token}
 use Rattle.reader.specs.Syntax.{Read, done, deep, broken}
+use Rattle.xml.specs.Text.{decimal}
 use Rattle.xml.specs.declared.scan.Place.{Place}
 use Rattle.xml.specs.declared.scan.Place.the-variants.{At, Nothing}
 use Rattle.xml.specs.declared.scan.Number.{Number}
@@ -20,6 +21,14 @@ pub record Stands (o : Read (Unit {0})) (text : List ℕ) (from : ℕ) (r : Plac
   pub found : (e : ℕ) → r ≡ At e → o ≡ done tt (drop e text)
   pub reached : (e : ℕ) → r ≡ At e → Reached text from e
   pub nothing : r ≡ Nothing → o ≡ broken
+
+-- What an opening tag begins with: "<", a sign, a kind, and the byte behind it.
+unfoldable pub begins : ℕ → ℕ → ℕ → List ℕ
+begins sign k end = 60 ∷ sign ∷ (decimal k ++ (end ∷ []))
+
+-- The closing tag of that size for the opening tag at `tag`: the same bytes, with "/" behind the first.
+unfoldable pub closes : ℕ → ℕ → List ℕ → List ℕ
+closes tag size text = 60 ∷ 47 ∷ take (size - 2) (drop (tag + 1) text)
 
 -- No number below 65,536 was read.
 abbrev pub NoNumber : Read ℕ → Type 0

@@ -1,7 +1,6 @@
 use native.Mathlib.Omega.{arith}
 use borrow.Author.Needs.{needs}
-use mathlib.Core.Path.{_≡_, refl, _∙_}
-use lib.ListN.{length, getD}
+use lib.ListN.{getD}
 use Rattle.measure.proofs.Windows.{Entering, enter-start, enter-next, enter-less, enter-done}
 use Rattle.measure.proofs.weigh.add_entries.Statement.{statement}
 use Rattle.measure.proofs.weigh.add_entries.Tie as tie
@@ -12,13 +11,13 @@ use Rattle.measure.proofs.weigh.add_one.Reads as add-one-reads
 use Rattle.measure.proofs.weigh.before_entry.Reads as before-entry-reads
 
 abbrev Inv-loop : tie.InvT-loop
-Inv-loop entries q weights₀ from width top e₀ weights e = Entering entries (getD entries q 0) weights₀ weights from width top e
+Inv-loop entries q weights₀ from width sum top total₀ e₀ weights total e = Entering entries (getD entries q 0) weights₀ weights from width top sum e total
 
 abbrev μ-loop : tie.MeasureT-loop
-μ-loop entries q weights₀ from width top e₀ weights e = e
+μ-loop entries q weights₀ from width sum top total₀ e₀ weights total e = e
 
 loop-holds : tie.Need-loop-holds Inv-loop μ-loop
-loop-holds c = enter-start _ _ _ _ _ _ (c .before .before .before .pre .2) (c .count-at .ensures .0) (c .count-at .ensures .1)
+loop-holds c = enter-start _ _ _ _ _ _ _ (c .before .before .before .pre .2) (c .before .before .before .pre .3) (c .count-at .ensures .0) (c .count-at .ensures .1)
 
 add-count-at : tie.Need-add-count-at Inv-loop μ-loop
 add-count-at c = omega (arith, c .before .before .loop .inv .low)
@@ -27,22 +26,22 @@ add-count-at-2 : tie.Need-add-count-at-2 Inv-loop μ-loop
 add-count-at-2 c = omega (arith, c .before .before .before .loop .inv .low)
 
 add-one-requires : tie.Need-add-one-requires Inv-loop μ-loop
-add-one-requires c κs = (omega (arith, c .before .before .before .before .before .before .before .before .pre .1, c .before .before .before .before .loop .inv .kept .long), c .count-at3 .ensures .1, c .before .count-at2 .ensures .1, c .before .before .before .before .loop .inv .under)
+add-one-requires c κs = (c .before .before .before .before .before .before .before .before .pre .0, omega (arith, c .before .before .before .before .before .before .before .before .pre .1, c .before .before .before .before .loop .inv .kept .long), c .count-at3 .ensures .1, c .before .count-at2 .ensures .1, c .before .before .before .before .loop .inv .less, c .before .before .before .before .loop .inv .under)
 
 before-entry-requires : tie.Need-before-entry-requires Inv-loop μ-loop
 before-entry-requires c κs = c .count-at4 .ensures .1
 
 loop-less : tie.Need-loop-less Inv-loop μ-loop
-loop-less c = enter-less _ _ _ _ _ _ _ _ (c .before .before .before .before .before .before .before .before .before .loop .inv) (c .before .before .before .before .before .before .before .before .loop-test .taken) (c .before .before .before .before .before .before .before .before .before .before .before .before .before .pre .0) (c .before .before .before .before .before .before .count-at2 .ensures .0) (c .before .before .before .before .before .before .count-at2 .ensures .1) (c .before .before .before .before .before .count-at3 .ensures .0) (c .before .count-at4 .ensures .0) (c .before-entry .ensures) (c .before .before .before .before .add-one .ensures)
+loop-less c = enter-less _ _ _ _ _ _ _ _ _ (c .before .before .before .before .before .before .before .before .before .loop .inv) (c .before .before .before .before .before .before .before .before .loop-test .taken) (c .before .before .before .before .before .before .before .before .before .before .before .before .before .pre .0) (c .before .before .before .before .before .before .count-at2 .ensures .0) (c .before .before .before .before .before .before .count-at2 .ensures .1) (c .before .before .before .before .before .count-at3 .ensures .0) (c .before .count-at4 .ensures .0) (c .before-entry .ensures) (c .before .before .before .before .add-one .ensures)
 
 loop-again : tie.Need-loop-again Inv-loop μ-loop
-loop-again c = enter-next _ _ _ _ _ _ _ _ (c .before .before .before .before .before .before .before .before .before .loop .inv) (c .before .before .before .before .before .before .before .before .loop-test .taken) (c .before .before .before .before .before .before .before .before .before .before .before .before .before .pre .0) (c .before .before .before .before .before .before .count-at2 .ensures .0) (c .before .before .before .before .before .before .count-at2 .ensures .1) (c .before .before .before .before .before .count-at3 .ensures .0) (c .before .count-at4 .ensures .0) (c .before-entry .ensures) (c .before .before .before .before .add-one .ensures)
+loop-again c = enter-next _ _ _ _ _ _ _ _ _ (c .before .before .before .before .before .before .before .before .before .loop .inv) (c .before .before .before .before .before .before .before .before .loop-test .taken) (c .before .before .before .before .before .before .before .before .before .before .before .before .before .pre .0) (c .before .before .before .before .before .before .count-at2 .ensures .0) (c .before .before .before .before .before .before .count-at2 .ensures .1) (c .before .before .before .before .before .count-at3 .ensures .0) (c .before .count-at4 .ensures .0) (c .before-entry .ensures) (c .before .before .before .before .add-one .ensures)
 
 same-length : tie.Need-same-length Inv-loop μ-loop
 same-length c = c .before .loop .inv .kept .long
 
 returns : tie.Need-returns Inv-loop μ-loop
-returns c = enter-done _ _ _ _ _ _ (c .loop-test .left) (c .before .loop .inv)
+returns c = enter-done _ _ _ _ _ _ _ (c .loop-test .left) (c .before .loop .inv)
 
 pub add-entries-spec : {M : Type 1} → statement M
 add-entries-spec =

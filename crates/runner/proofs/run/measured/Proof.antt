@@ -1,4 +1,4 @@
-use mathlib.Core.Path.{refl, sym, _∙_}
+use mathlib.Core.Path.{refl}
 use mathlib.Core.Logic.{inl}
 use native.Mathlib.Omega.{arith}
 use Rattle.reader.proofs.Lookup.{zeros}
@@ -11,25 +11,30 @@ use Rattle.measure.proofs.count.width_of.Reads as width-of-reads
 use Rattle.runner.proofs.run.measure_single.Reads as measure-single-reads
 use Rattle.runner.proofs.run.measure_with.Reads as measure-with-reads
 
-measure-single-requires : tie.Need-measure-single-requires
-measure-single-requires c κs = (c .before .before .before .before .before .before .before .before .before .pre .0, c .before .before .before .before .before .before .before .before .before .pre .1, c .before .before .before .before .before .before .before .before .before .pre .2, sym (c .before .before .before .if1 .taken) ∙ c .before .before .before .before .width-of .ensures .0, c .before .before .if2 .taken, c .before .before .before .before .before .before .before .before .before .pre .3, c .before .before .before .before .before .before .before .before .before .pre .4)
-
 returns : tie.Need-returns
 returns c = λ t f z. c .before .before .measure-single .ensures _ t f z
 
 measure-with-requires : tie.Need-measure-with-requires
-measure-with-requires c κs = (c .before .before .before .before .before .before .before .before .before .before .pre .0, c .before .before .before .before .before .before .before .before .before .before .pre .1, c .before .before .before .before .before .before .before .before .before .before .pre .2, zeros 7168, c .before .before .before .before .before .width-of .ensures .0, omega (arith, c .before .before .before .before .before .width-of .ensures .1), c .before .before .before .before .before .width-of .ensures .2, inl refl, omega (arith, c .before .before .before .before .before .width-of .ensures .2), c .before .before .before .before .before .before .before .before .before .before .pre .3, c .before .before .before .before .before .before .before .before .before .before .pre .4)
+measure-with-requires c κs = (c .before .before .before .before .before .before .before .before .before .before .before .pre .0, c .before .before .before .before .before .before .before .before .before .before .before .pre .1, c .before .before .before .before .before .before .before .before .before .before .before .pre .2, zeros 7168, c .before .before .before .before .before .before .width-of .ensures .0, omega (arith, c .before .before .before .before .before .before .width-of .ensures .1), c .before .before .before .before .before .before .width-of .ensures .2, inl refl, omega (arith, c .before .before .before .before .if3 .taken), zeros 1056, c .before .before .before .before .before .before .before .before .before .before .before .pre .3, c .before .before .before .before .before .before .before .before .before .before .before .pre .4)
+
+measure-with-requires-2 : tie.Need-measure-with-requires-2
+measure-with-requires-2 c κs = (c .before .before .before .before .before .before .before .before .before .before .before .pre .0, c .before .before .before .before .before .before .before .before .before .before .before .pre .1, c .before .before .before .before .before .before .before .before .before .before .before .pre .2, zeros 7168, c .before .before .before .before .before .before .width-of .ensures .0, omega (arith, c .before .before .before .before .before .before .width-of .ensures .1), c .before .before .before .before .before .before .width-of .ensures .2, inl refl, omega (arith, c .before .before .before .before .before .before .width-of .ensures .2), zeros 16896, c .before .before .before .before .before .before .before .before .before .before .before .pre .3, c .before .before .before .before .before .before .before .before .before .before .before .pre .4)
 
 pub measured-spec : {M : Type 1} → statement M
 measured-spec =
     tie.close
     (tie.spec
     (λ c κs. search needs)
-    measure-single-requires
+    (λ c κs. search needs)
     (λ c. search needs)
     returns
     (λ c. search needs)
     (λ c. search needs)
     measure-with-requires
+    (λ c. search needs)
+    (λ c. search needs)
+    (λ c. search needs)
+    (λ c. search needs)
+    measure-with-requires-2
     (λ c. search needs)
     (λ c. search needs))

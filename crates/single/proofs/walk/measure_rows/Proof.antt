@@ -77,7 +77,7 @@ loop-less : tie.Need-loop-less Inv-loop μ-loop
 loop-less c = omega (arith, c .before .before .before .before .before .if2 .left)
 
 loop-again : tie.Need-loop-again Inv-loop μ-loop
-loop-again c = (open-back _ _ _ _ _ _ _ (c .before .before .before .before .before .before .before .loop .inv .0) (c .before .before .before .before .before .before .if1 .taken) (c .before .before .before .before .before .if2 .left), learn-back _ _ _ _ (c .before .before .before .before .before .before .before .loop .inv .1) (c .before .before .before .before .before .before .if1 .taken) (c .before .before .before .before .before .if2 .left) (c .before .before .before .before .before .before .before .loop .inv .0 .inside) (c .before .before .keep-end .ensures), c .before .ends .given ∙ c .before .before .before .before .before .before .before .loop .inv .2)
+loop-again c = (open-back _ _ _ _ _ _ _ (c .before .before .before .before .before .before .before .loop .inv .0) (kept-all _ _) (c .before .before .before .before .before .before .if1 .taken) (c .before .before .before .before .before .if2 .left), learn-back _ _ _ _ (c .before .before .before .before .before .before .before .loop .inv .1) (c .before .before .before .before .before .before .if1 .taken) (c .before .before .before .before .before .if2 .left) (c .before .before .before .before .before .before .before .loop .inv .0 .inside) (c .before .before .keep-end .ensures), c .before .ends .given ∙ c .before .before .before .before .before .before .before .loop .inv .2)
 
 shared-slice-read-kind : tie.Need-shared-slice-read-kind Inv-loop μ-loop
 shared-slice-read-kind c = open-in _ _ _ _ _ _ _ (c .before .before .loop .inv .0) (c .before .if1 .left) (c .before .before .before .before .before .before .pre .0 .short) .0
@@ -119,7 +119,7 @@ loop-less-2 : tie.Need-loop-less-2 Inv-loop μ-loop
 loop-less-2 c = let z = step-row _ _ _ _ _ (c .before .before .first .given .1) (c .before .before .before .before .step-at .ensures .1 .0) in omega (arith, z .0, z .1)
 
 loop-again-2 : tie.Need-loop-again-2 Inv-loop μ-loop
-loop-again-2 c = (open-on _ _ _ _ _ _ _ (c .before .before .before .before .before .before .before .before .before .before .before .loop .inv .0) (c .before .before .before .before .before .before .before .before .before .before .if1 .left) (sym (c .before .before .before .before .before .before .before .before .out-of-levels .ensures) ∙ c .before .before .before .before .before .before .before .if3 .left) _ (c .before .before .before .before .before .weigh .ensures .1 .2) _ (c .before .before .before .before .step-at .ensures .0 _ _ (c .before .before .before .before .before .weigh .ensures .1 .1)) (c .before .before .first .given .1) (c .before .before .before .before .step-at .ensures .1 .0) _ (c .before .before .before .before .before .weigh .ensures .0) (kept-all _ _) (c .if4 .taken), learn-on _ _ _ _ (c .before .before .before .before .before .before .before .before .before .before .before .loop .inv .1) (c .before .before .before .before .before .before .before .before .before .before .if1 .left) (sym (c .before .before .before .before .before .before .before .before .out-of-levels .ensures) ∙ c .before .before .before .before .before .before .before .if3 .left) _ (c .before .before .before .before .step-at .ensures .1 .1 .0) (c .before .before .first .given .1) (step-row _ _ _ _ _ (c .before .before .first .given .1) (c .before .before .before .before .step-at .ensures .1 .0) .0) (c .if4 .taken), c .before .before .before .before .before .before .before .before .before .before .before .loop .inv .2)
+loop-again-2 c = (open-on _ _ _ _ _ _ _ (c .before .before .before .before .before .before .before .before .before .before .before .loop .inv .0) (c .before .before .before .before .before .before .before .before .before .before .if1 .left) (sym (c .before .before .before .before .before .before .before .before .out-of-levels .ensures) ∙ c .before .before .before .before .before .before .before .if3 .left) _ (c .before .before .before .before .before .weigh .ensures .1 .2) _ (c .before .before .before .before .step-at .ensures .0 _ _ (c .before .before .before .before .before .weigh .ensures .1 .1)) (c .before .before .first .given .1) (c .before .before .before .before .step-at .ensures .1 .0) _ (c .before .before .before .before .before .weigh .ensures .0) (c .if4 .taken), learn-on _ _ _ _ (c .before .before .before .before .before .before .before .before .before .before .before .loop .inv .1) (c .before .before .before .before .before .before .before .before .before .before .if1 .left) (sym (c .before .before .before .before .before .before .before .before .out-of-levels .ensures) ∙ c .before .before .before .before .before .before .before .if3 .left) _ (c .before .before .before .before .step-at .ensures .1 .1 .0) (c .before .before .first .given .1) (step-row _ _ _ _ _ (c .before .before .first .given .1) (c .before .before .before .before .step-at .ensures .1 .0) .0) (c .if4 .taken), c .before .before .before .before .before .before .before .before .before .before .before .loop .inv .2)
 
 cast-firsts : tie.Need-cast-firsts Inv-loop μ-loop
 cast-firsts c = let z = open-in _ _ _ _ _ _ _ (c .before .before .before .before .before .before .before .before .before .before .before .loop .inv .0) (c .before .before .before .before .before .before .before .before .before .before .if1 .left) (c .before .before .before .before .before .before .before .before .before .before .before .before .before .before .before .pre .0 .short) in omega (arith, z .2)
@@ -146,7 +146,7 @@ loop-less-3 : tie.Need-loop-less-3 Inv-loop μ-loop
 loop-less-3 c = let z = step-row _ _ _ _ _ (c .before .before .first .given .1) (c .before .before .before .before .step-at .ensures .1 .0) in omega (arith, z .0, z .1)
 
 loop-again-3 : tie.Need-loop-again-3 Inv-loop μ-loop
-loop-again-3 c = (open-down _ _ _ _ _ _ _ (c .before .before .before .before .before .before .before .before .before .before .before .loop .inv .0) (c .before .before .before .before .before .before .before .before .before .before .if1 .left) (sym (c .before .before .before .before .before .before .before .before .out-of-levels .ensures) ∙ c .before .before .before .before .before .before .before .if3 .left) _ (c .before .before .before .before .before .weigh .ensures .1 .2) _ (c .before .before .before .before .step-at .ensures .0 _ _ (c .before .before .before .before .before .weigh .ensures .1 .1)) (c .before .before .first .given .1) (c .before .before .before .before .step-at .ensures .1 .0) _ (c .before .before .before .before .before .weigh .ensures .0) (kept-all _ _) (c .before .before .before .before .before .before .before .before .before .before .before .before .before .before .before .pre .0 .short) (c .before .before .before .before .before .before .before .before .before .before .before .before .before .before .before .pre .5) (deeper _ _ _ _ (c .before .before .before .before .before .before .before .before .before .before .before .loop .inv .0 .shallow) (sym (c .before .before .before .before .before .before .before .before .out-of-levels .ensures) ∙ c .before .before .before .before .before .before .before .if3 .left) _ (c .before .before .before .before .step-at .ensures .1 .1 .1) (c .before .before .first .given .1) (c .if4 .left)), let z = open-in _ _ _ _ _ _ _ (c .before .before .before .before .before .before .before .before .before .before .before .loop .inv .0) (c .before .before .before .before .before .before .before .before .before .before .if1 .left) (c .before .before .before .before .before .before .before .before .before .before .before .before .before .before .before .pre .0 .short) in learn-down _ _ _ _ (c .before .before .before .before .before .before .before .before .before .before .before .loop .inv .1) (c .before .before .before .before .before .before .before .before .before .before .if1 .left) (sym (c .before .before .before .before .before .before .before .before .out-of-levels .ensures) ∙ c .before .before .before .before .before .before .before .if3 .left) _ (c .before .before .before .before .step-at .ensures .1 .1 .0) (c .before .before .first .given .1) (step-row _ _ _ _ _ (c .before .before .first .given .1) (c .before .before .before .before .step-at .ensures .1 .0) .0) (c .before .before .before .before .before .before .before .before .before .before .before .loop .inv .0 .first-long) (c .before .before .before .before .before .before .before .before .before .before .before .loop .inv .0 .last-long) (c .before .before .before .before .before .before .before .before .before .before .before .before .before .before .before .pre .5) (deeper _ _ _ _ (c .before .before .before .before .before .before .before .before .before .before .before .loop .inv .0 .shallow) (sym (c .before .before .before .before .before .before .before .before .out-of-levels .ensures) ∙ c .before .before .before .before .before .before .before .if3 .left) _ (c .before .before .before .before .step-at .ensures .1 .1 .1) (c .before .before .first .given .1) (c .if4 .left)) (z .0) (z .1), c .before .before .before .before .before .before .before .before .before .before .before .loop .inv .2)
+loop-again-3 c = (open-down _ _ _ _ _ _ _ (c .before .before .before .before .before .before .before .before .before .before .before .loop .inv .0) (c .before .before .before .before .before .before .before .before .before .before .if1 .left) (sym (c .before .before .before .before .before .before .before .before .out-of-levels .ensures) ∙ c .before .before .before .before .before .before .before .if3 .left) _ (c .before .before .before .before .before .weigh .ensures .1 .2) _ (c .before .before .before .before .step-at .ensures .0 _ _ (c .before .before .before .before .before .weigh .ensures .1 .1)) (c .before .before .first .given .1) (c .before .before .before .before .step-at .ensures .1 .0) _ (c .before .before .before .before .before .weigh .ensures .0) refl (c .before .before .before .before .before .before .before .before .before .before .before .before .before .before .before .pre .0 .short) (c .before .before .before .before .before .before .before .before .before .before .before .before .before .before .before .pre .5) (deeper _ _ _ _ (c .before .before .before .before .before .before .before .before .before .before .before .loop .inv .0 .shallow) (sym (c .before .before .before .before .before .before .before .before .out-of-levels .ensures) ∙ c .before .before .before .before .before .before .before .if3 .left) _ (c .before .before .before .before .step-at .ensures .1 .1 .1) (c .before .before .first .given .1) (c .if4 .left)), let z = open-in _ _ _ _ _ _ _ (c .before .before .before .before .before .before .before .before .before .before .before .loop .inv .0) (c .before .before .before .before .before .before .before .before .before .before .if1 .left) (c .before .before .before .before .before .before .before .before .before .before .before .before .before .before .before .pre .0 .short) in learn-down _ _ _ _ (c .before .before .before .before .before .before .before .before .before .before .before .loop .inv .1) (c .before .before .before .before .before .before .before .before .before .before .if1 .left) (sym (c .before .before .before .before .before .before .before .before .out-of-levels .ensures) ∙ c .before .before .before .before .before .before .before .if3 .left) _ (c .before .before .before .before .step-at .ensures .1 .1 .0) (c .before .before .first .given .1) (step-row _ _ _ _ _ (c .before .before .first .given .1) (c .before .before .before .before .step-at .ensures .1 .0) .0) (c .before .before .before .before .before .before .before .before .before .before .before .loop .inv .0 .first-long) (c .before .before .before .before .before .before .before .before .before .before .before .loop .inv .0 .last-long) (c .before .before .before .before .before .before .before .before .before .before .before .before .before .before .before .pre .5) (deeper _ _ _ _ (c .before .before .before .before .before .before .before .before .before .before .before .loop .inv .0 .shallow) (sym (c .before .before .before .before .before .before .before .before .out-of-levels .ensures) ∙ c .before .before .before .before .before .before .before .if3 .left) _ (c .before .before .before .before .step-at .ensures .1 .1 .1) (c .before .before .first .given .1) (c .if4 .left)) (z .0) (z .1), c .before .before .before .before .before .before .before .before .before .before .before .loop .inv .2)
 
 pub measure-rows-spec : {M : Type 1} → statement M
 measure-rows-spec =

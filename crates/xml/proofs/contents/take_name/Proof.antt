@@ -1,7 +1,6 @@
-use mathlib.Core.Path.{refl}
 use native.Mathlib.Omega.{arith}
-use Rattle.xml.proofs.Scans.{is-inside}
-use Rattle.xml.proofs.Takes.{name-full, name-nothing, name-done}
+use mathlib.Core.Path.{refl}
+use Rattle.xml.proofs.Takes.{name-full, name-nothing, name-cut, name-done}
 use borrow.Author.Needs.{needs}
 use Rattle.xml.proofs.contents.take_name.Statement.{statement}
 use Rattle.xml.proofs.contents.take_name.Tie as tie
@@ -16,11 +15,11 @@ returns c = name-full _ _ _ _ (c .before .before .before .pre .1) (c .before .be
 returns-2 : tie.Need-returns-2
 returns-2 c = name-nothing _ _ _ _ (c .before .before .before .before .before .before .before .pre .1) (c .before .before .before .behind .ensures) (c .before .before .number-at .ensures) (c .enum-told .given .1)
 
-behind-requires-2 : tie.Need-behind-requires-2
-behind-requires-2 c κs = is-inside (c .before .before .before .number-at .ensures) (c .before .name .given .1)
-
 returns-3 : tie.Need-returns-3
-returns-3 c = name-done _ _ _ _ (c .before .before .before .before .before .before .before .before .before .pre .1) (c .before .before .before .before .before .behind .ensures) (c .before .before .before .before .number-at .ensures) (c .before .before .name .given .1) (c .behind2 .ensures) (omega (arith, c .before .before .before .before .before .before .if1 .left)) refl
+returns-3 c = name-cut _ _ _ _ (c .before .before .before .before .before .before .before .before .before .pre .1) (c .before .before .before .before .before .behind .ensures) (c .before .before .before .before .number-at .ensures) (c .before .before .name .given .1) (c .if2 .taken)
+
+returns-4 : tie.Need-returns-4
+returns-4 c = name-done _ _ _ _ (c .before .before .before .before .before .before .before .before .before .pre .1) (c .before .before .before .before .before .behind .ensures) (c .before .before .before .before .number-at .ensures) (c .before .before .name .given .1) (c .if2 .left) (omega (arith, c .before .before .before .before .before .before .if1 .left)) refl
 
 pub take-name-spec : {M : Type 1} → statement M
 take-name-spec =
@@ -34,9 +33,10 @@ take-name-spec =
     (λ c. search needs)
     (λ c. search needs)
     returns-2
-    behind-requires-2
+    returns-3
     (λ c. search needs)
     (λ c. search needs)
     (λ c. search needs)
     (λ c. search needs)
-    returns-3)
+    (λ c. search needs)
+    returns-4)

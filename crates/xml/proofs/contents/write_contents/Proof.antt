@@ -13,9 +13,7 @@ use Rattle.xml.proofs.contents.write_contents.Lts as lts
 use Rattle.xml.proofs.contents.take.Reads as take-reads
 
 abbrev Inv-loop : tie.InvT-loop
-Inv-loop text out₀ at₀ n₀ out at n =
-    (at ≤ length text) × (n ≤ length out) × (length out ≡ length out₀)
-    × ((v : List ℕ) → Contents text v → length v ≤ length out₀ → Written-to v text out₀ out 0 at n)
+Inv-loop text out₀ at₀ n₀ out at n = (at ≤ length text) × (n ≤ length out) × (length out ≡ length out₀) × ((v : List ℕ) → Contents text v → length v ≤ length out₀ → Written-to v text out₀ out 0 at n)
 
 abbrev μ-loop : tie.MeasureT-loop
 μ-loop text out₀ at₀ n₀ out at n = length text - at
