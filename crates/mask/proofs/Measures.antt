@@ -28,7 +28,7 @@ use Rattle.reader.proofs.Meaning.{done-of, deep-of, broken-of}
 use Rattle.checks.proofs.TreeChain.{no-uses}
 use Rattle.card.specs.Card.{Card}
 use Rattle.card.specs.Inner.Sets.{inSet}
-use Rattle.putting.proofs.Reading.{class-known, class-none, production-none, production-known, found-name, two, read-class, read-node, read-past, token-cut}
+use Rattle.putting.proofs.Reading.{class-known, class-none, production-none, production-known, found-name, two, read-class, read-past, token-cut, level-read, none-read}
 use Rattle.mask.specs.Mask.{masked, maskedAll}
 use Rattle.mask.specs.declared.measure.Measured.{Measured}
 use Rattle.mask.specs.declared.measure.Measured.the-variants.{End, Deep, Broken}
@@ -159,24 +159,8 @@ module _ (s index b : List ℕ) (kinds k at levels n : ℕ) (kind : k < 32) (byt
         measures-deep (ap (λ (i : ℕ). read tree l [] i k (drop at b)) h ∙ read-past l k (drop at b) (class-none s index l z k kind class class-is no))
 
     module _ (some-level : levels ≡ 0 → ⊥) {place : ℕ} (ep : place ≡ cond (eqb class 0) (productionPlace Tree index k b at) 0) where
-      level : (l : Language) → Indexed index s l → read tree l [] levels k (drop at b) ≡ readNode (read tree l [] (levels - 1)) l k (drop at b)
-      level l z =
-          let m : levels ≡ suc (levels - 1) = omega arith in
-          ap (λ (i : ℕ). read tree l [] i k (drop at b)) m ∙ read-node l k (drop at b) (levels - 1) (class-none s index l z k kind class class-is no)
-
-      none-read : place ≡ 0 → (l : Language) → Indexed index s l → readNode (read tree l [] (levels - 1)) l k (drop at b) ≡ broken
-      unfolding readNode readOperands productionPlace
-      none-read p l z =
-          by-test (leb (length b) at)
-          (λ t. let w = drop-of-length-le b {i = at} (leb-true _ _ t) in cc)
-          (λ t.
-          let i : at < length b = leb-false _ _ t in
-          let y : place ≡ getD index (productionKey k (getD b at 0)) 0 = cc (eq-eqb class 0 no) in
-          let w = production-none s index l z k kind (getD b at 0) (bytes at) place y p in
-          cc (front b at i))
-
       pub at-broken : place ≡ 0 → MeasuresTree s index kinds k b at levels n Broken
-      at-broken p l card z c = measures-broken (level l z ∙ none-read p l z)
+      at-broken p l card z c = measures-broken (level-read s index l z k kind b at class-is no levels some-level ∙ none-read s index l z k kind b at class-is no bytes ep p (levels - 1))
 
       module _ (pos : place ≡ 0 → ⊥) where
         pub at-name : at < length b
@@ -199,7 +183,7 @@ module _ (s index b : List ℕ) (kinds k at levels n : ℕ) (kind : k < 32) (byt
               → read tree l [] levels k (drop at b) ≡ (andThen (readAll (read tree l [] (levels - 1)) inner (drop (at + 1) b)) λ t r. done (node k (getD b at 0) t) r)
           unfolding readNode readOperands
           reads l z =
-              level l z
+              level-read s index l z k kind b at class-is no levels some-level
               ∙ (ap (readNode (read tree l [] (levels - 1)) l k) (front b at at-name)
               ∙ ap (λ (o : Option (List ℕ)). readOperands (read tree l [] (levels - 1)) k (getD b at 0) o (drop (at + 1) b)) (known l z))
 

@@ -101,6 +101,26 @@ token-cut c [] h = refl
 token-cut c (x ∷ []) h = refl
 token-cut c (x ∷ y ∷ u) h = absurd (omega arith)
 
+-- A tree of a kind that is no class is a production, one level fewer, and none where no name of one stands.
+module _ (s index : List ℕ) (l : Language) (z : Indexed index s l) (k : ℕ) (kind : k < 32) (b : List ℕ) (at : ℕ) {class : ℕ} (class-is : class ≡ getD index k 0)
+    (no : class ≡ 0) where
+  pub level-read : (levels : ℕ) → (levels ≡ 0 → ⊥) → read tree l [] levels k (drop at b) ≡ readNode (read tree l [] (levels - 1)) l k (drop at b)
+  level-read levels some-level =
+      let m : levels ≡ suc (levels - 1) = omega arith in
+      ap (λ (i : ℕ). read tree l [] i k (drop at b)) m ∙ read-node l k (drop at b) (levels - 1) (class-none s index l z k kind class class-is no)
+
+  pub none-read : {place : ℕ} → ((i : ℕ) → getD b i 0 < 256) → place ≡ cond (eqb class 0) (productionPlace Tree index k b at) 0 → place ≡ 0
+      → (n : ℕ) → readNode (read tree l [] n) l k (drop at b) ≡ broken
+  unfolding readNode readOperands productionPlace
+  none-read {place} bytes ep p n =
+      by-test (leb (length b) at)
+      (λ t. let w = drop-of-length-le b {i = at} (leb-true _ _ t) in cc)
+      (λ t.
+      let i : at < length b = leb-false _ _ t in
+      let y : place ≡ getD index (productionKey k (getD b at 0)) 0 = cc (eq-eqb class 0 no) in
+      let w = production-none s index l z k kind (getD b at 0) (bytes at) place y p in
+      cc (front b at i))
+
 pub two : (b : List ℕ) (at : ℕ) → 2 ≤ length b - at → drop at b ≡ getD b at 0 ∷ getD b (at + 1) 0 ∷ drop (at + 2) b
 two b at h =
     let i : at < length b = omega arith in
@@ -156,21 +176,10 @@ module _ (s index : List ℕ) (b : List ℕ) (k at : ℕ) (kind : k < 32) (bytes
       by-test (leb (length b) at) (λ t. absurd (pos (cc))) (λ t. (leb-false _ _ t, cc))
 
   module _ (l : Language) (z : Indexed index s l) (levels : ℕ) (a : Code) (rest : List ℕ) (e : read tree l [] levels k (drop at b) ≡ done a rest) where
-    no-name : (n : ℕ) → class ≡ 0 → place ≡ 0 → readNode (read tree l [] n) l k (drop at b) ≡ done a rest → ReadToken b at a rest
-    unfolding readNode readOperands productionPlace
-    no-name n h p f =
-        by-test (leb (length b) at)
-        (λ t. broken-not {a = a} {r = rest} (let w = drop-of-length-le b {i = at} (leb-true _ _ t) in cc))
-        (λ t.
-        let i : at < length b = leb-false _ _ t in
-        let y : place ≡ getD index (productionKey k (getD b at 0)) 0 = cc (eq-eqb class 0 h) in
-        let w = production-none s index l z k kind (getD b at 0) (bytes at) place y p in
-        broken-not {a = a} {r = rest} (cc (front b at i)))
-
     no-production : (n : ℕ) → levels ≡ n → class ≡ 0 → place ≡ 0 → ReadToken b at a rest
     no-production zero h i p = past-not l k (drop at b) levels h (class-none s index l z k kind class class-is i) e
     no-production (suc n) h i p =
-        no-name n i p (sym (read-node l k (drop at b) n (class-none s index l z k kind class class-is i)) ∙ (ap (λ (m : ℕ). read tree l [] m k (drop at b)) (sym h) ∙ e))
+        broken-not (sym (none-read s index l z k kind b at class-is i bytes ep p n) ∙ (sym (read-node l k (drop at b) n (class-none s index l z k kind class class-is i)) ∙ (ap (λ (m : ℕ). read tree l [] m k (drop at b)) (sym h) ∙ e)))
 
     -- Where no production was found, a token stands.
     pub read-token : place ≡ 0 → ReadToken b at a rest

@@ -21,7 +21,7 @@ use Rattle.reader.specs.Inner.Index.{Sound, Indexed}
 use Rattle.reader.specs.Inner.Positions.{productionPlace, KindsIn}
 use Rattle.reader.specs.declared.node.Syntax.the-variants.{Tree}
 use Rattle.reader.proofs.Laws.{name-in, kinds-in}
-use Rattle.putting.proofs.Reading.{class-known, class-none, production-none, production-known, found-name, two}
+use Rattle.putting.proofs.Reading.{class-known, class-none, production-none, production-known, found-name, two, read-class, read-past, token-cut, level-read, none-read}
 use Rattle.xml.specs.Text.{nodeTag, tokenTag, openNode, closeNode, openToken, closeToken, decimal, kindsOf, export, exportAll}
 use Rattle.xml.specs.declared.measure.Measured.{Measured}
 use Rattle.xml.specs.declared.measure.Measured.the-variants.{End, Deep, Broken}
@@ -94,12 +94,6 @@ sum-then {n} {v} {m} {u} {k} a c =
     })
 
 -- measure_token
-token-cut : (c : Range) (u : List ℕ) → length u < 2 → readToken (some c) u ≡ broken
-unfolding readToken
-token-cut c [] h = refl
-token-cut c (x ∷ []) h = refl
-token-cut c (x ∷ y ∷ u) h = absurd (omega arith)
-
 abbrev pub MeasuresToken : ℕ → Range → List ℕ → ℕ → ℕ → Measured → Type 0
 MeasuresToken k c b at n r = Within b r × ((l : Language) → Measures (export l k) (readToken (some c) (drop at b)) b n r)
 
@@ -139,21 +133,6 @@ tags-sum {n} {k} {p} {i} {j} {a} {d} {m} ei ej ea ed s =
     let v : length (decimal j) ≡ length (decimal p) = ap (λ (i : ℕ). length (decimal i)) ej in
     sum-same (omega arith) s
 
--- One level of a tree.
-module _ (l : Language) (k : ℕ) (u : List ℕ) where
-  read-class : (n : ℕ) (c : Range) → rangeOf l k ≡ some c → read tree l [] n k u ≡ readToken (some c) u
-  unfolding readBy readLevel readTreeLevel pastLevels
-  read-class zero c e = cc
-  read-class (suc n) c e = cc
-
-  read-node : (n : ℕ) → rangeOf l k ≡ none → read tree l [] (suc n) k u ≡ readNode (read tree l [] n) l k u
-  unfolding readBy readLevel readTreeLevel
-  read-node n e = cc
-
-  read-past : rangeOf l k ≡ none → read tree l [] 0 k u ≡ deep
-  unfolding readBy pastLevels
-  read-past e = cc
-
 -- measure_at
 abbrev pub MeasuresAt : List ℕ → List ℕ → ℕ → List ℕ → ℕ → ℕ → ℕ → Measured → Type 0
 MeasuresAt s index k b at levels n r = Within b r × MeasuresTree s index k b at levels n r
@@ -172,24 +151,8 @@ module _ (s index b : List ℕ) (k at levels n : ℕ) (kind : k < 32) (bytes : (
         (within-deep b, λ l z. measures-deep (ap (λ (i : ℕ). read tree l [] i k (drop at b)) h ∙ read-past l k (drop at b) (class-none s index l z k kind class class-is no)))
 
     module _ (some-level : levels ≡ 0 → ⊥) {place : ℕ} (ep : place ≡ cond (eqb class 0) (productionPlace Tree index k b at) 0) where
-      level : (l : Language) → Indexed index s l → read tree l [] levels k (drop at b) ≡ readNode (read tree l [] (levels - 1)) l k (drop at b)
-      level l z =
-          let m : levels ≡ suc (levels - 1) = omega arith in
-          ap (λ (i : ℕ). read tree l [] i k (drop at b)) m ∙ read-node l k (drop at b) (levels - 1) (class-none s index l z k kind class class-is no)
-
-      none-read : place ≡ 0 → (l : Language) → Indexed index s l → readNode (read tree l [] (levels - 1)) l k (drop at b) ≡ broken
-      unfolding readNode readOperands productionPlace
-      none-read p l z =
-          by-test (leb (length b) at)
-          (λ t. let w = drop-of-length-le b {i = at} (leb-true _ _ t) in cc)
-          (λ t.
-          let i : at < length b = leb-false _ _ t in
-          let y : place ≡ getD index (productionKey k (getD b at 0)) 0 = cc (eq-eqb class 0 no) in
-          let w = production-none s index l z k kind (getD b at 0) (bytes at) place y p in
-          cc (front b at i))
-
       pub at-broken : place ≡ 0 → MeasuresAt s index k b at levels n Broken
-      at-broken p = (within-broken b, λ l z. measures-broken (level l z ∙ none-read p l z))
+      at-broken p = (within-broken b, λ l z. measures-broken (level-read s index l z k kind b at class-is no levels some-level ∙ none-read s index l z k kind b at class-is no bytes ep p (levels - 1)))
 
       module _ (pos : place ≡ 0 → ⊥) where
         pub at-name : at < length b
@@ -212,7 +175,7 @@ module _ (s index b : List ℕ) (k at levels n : ℕ) (kind : k < 32) (bytes : (
               → read tree l [] levels k (drop at b) ≡ (andThen (readAll (read tree l [] (levels - 1)) kinds (drop (at + 1) b)) λ t r. done (node k (getD b at 0) t) r)
           unfolding readNode readOperands
           reads l z =
-              level l z
+              level-read s index l z k kind b at class-is no levels some-level
               ∙ (ap (readNode (read tree l [] (levels - 1)) l k) (front b at at-name)
               ∙ ap (λ (o : Option (List ℕ)). readOperands (read tree l [] (levels - 1)) k (getD b at 0) o (drop (at + 1) b)) (known l z))
 
