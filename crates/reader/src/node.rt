@@ -144,7 +144,7 @@ fn argument_is(uses: &[u8], kind: u8, i: usize, by: usize) -> bool
 }
 
 // The number of an argument of the kind.
-pub fn argument(uses: &[u8], kind: u8, bytes: &[u8], at: usize) -> Read
+fn argument(uses: &[u8], kind: u8, bytes: &[u8], at: usize) -> Read
     requires { ⌜ at ≤ length (now bytes) ⌝ }
     ensures { λ r. ⌜ (r ≡ argumentAt (now (uses .entry)) kind (now (bytes .entry)) at) × EndsBy (length (now (bytes .entry))) r ⌝ }
 {

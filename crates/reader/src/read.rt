@@ -2,7 +2,6 @@
 use crate::node::Node;
 use crate::node::Read;
 use crate::node::Syntax;
-use crate::node::argument;
 use crate::node::leaf_at;
 use crate::node::name_length;
 use crate::node::node_at;
@@ -13,7 +12,6 @@ use crate::node::token;
 use fields::bytes::pair_in;
 use fields::bytes::to_usize;
 ghost use mathlib.Core.Path.{_≡_};
-ghost use mathlib.Core.Bool.{true};
 ghost use Prim.Native.Nat.{ℕ, _+_, _-_, _<_, _≤_};
 ghost use mathlib.Core.List.{List};
 ghost use lib.ListN.{length, getD, drop};
@@ -21,7 +19,6 @@ ghost use Rattle.language.specs.Language.{Language};
 ghost use Rattle.reader.specs.Syntax.{read as readCode};
 ghost use Rattle.reader.specs.Inner.Positions.{classPlace, productionPlace, operandsFrom, readAt, KindsIn, EndsBy, restAt, restOf, syntaxOf, usesIn};
 ghost use Rattle.reader.specs.Inner.Index.{Sound, Ready, Indexed};
-ghost use Rattle.reader.specs.declared.node.Syntax.the-variants.{Code};
 
 // The place of the class that a token of the kind is read by: 0 in a code, where a sign stands before it.
 pub fn class_place(syntax: Syntax, index: &[u16], kind: u8) -> usize
@@ -34,23 +31,7 @@ pub fn class_place(syntax: Syntax, index: &[u16], kind: u8) -> usize
     }
 }
 
-// Whether 03 stands at a position of a code.
-fn is_use(syntax: Syntax, bytes: &[u8], at: usize) -> bool
-    ensures { λ r. ⌜ (r ≡ true → (syntax ≡ Code) × (at < length (now (bytes .entry))) × (getD (now (bytes .entry)) at 0 ≡ 3)) ⌝ }
-{
-    match syntax {
-        Syntax::Tree => false,
-        Syntax::Code => {
-            if bytes.len() <= at {
-                return false;
-            }
-            bytes[at] == 3
-        }
-    }
-}
-
-// What stands where no production of the kind does, and no token of a class in a tree, with so many levels left. Most leaves
-// of codes are 03 and an argument, which are read without a call.
+// What stands where no production of the kind does, and no token of a class in a tree, with so many levels left.
 fn leaf(
     syntax: Syntax,
     language: &[u8],
@@ -68,9 +49,6 @@ fn leaf(
 {
     if levels == 0 {
         return past_levels(syntax, language, index, kind, bytes, at);
-    }
-    if is_use(syntax, bytes, at) {
-        return argument(uses, kind, bytes, at + 1);
     }
     leaf_at(syntax, language, index, uses, kind, bytes, at)
 }
