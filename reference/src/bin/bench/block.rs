@@ -1,7 +1,7 @@
 //! Times of indexes, of lookups of a block and of edits.
 
-use crate::inputs::{tree_language, wide_tree};
-use crate::measure::{compare, growth};
+use crate::inputs::{tree_language, wide_tree, SEED};
+use crate::measure::{compare, growth, repeated};
 use crate::{print_growth_of, print_line};
 use algebra::raw as library;
 use reference::call::library_edit;
@@ -18,7 +18,7 @@ const MOST: usize = 65_535;
 
 /// A tree with its index, a path in it, and the block there.
 fn plan(bytes: usize) -> EditCase {
-    let (language, tree) = (tree_language(), wide_tree(bytes));
+    let (language, tree) = (tree_language(), wide_tree(bytes, SEED));
     assert!(tree.len() <= MOST);
     let case = TreeCase { language, root: ROOT, tree };
     let index = index_bytes(&case);
@@ -59,10 +59,10 @@ fn bench_operation<A: PartialEq + std::fmt::Debug>(
     }
     let [small, _, large] = plans;
     let growth = growth(
-        &small.tree,
+        &repeated(&small.tree, &large.tree),
         &large.tree,
-        |tree| library(plan_of(plans, tree)),
-        |tree| reference(plan_of(plans, tree)),
+        |tree| (0, library(plan_of(plans, tree))),
+        |tree| (0, reference(plan_of(plans, tree))),
     );
     print_growth_of(name, "64 KB over 1 KB", growth);
 }

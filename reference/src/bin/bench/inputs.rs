@@ -1,5 +1,6 @@
 //! The files and trees that are measured.
 
+use crate::SIZES;
 use reference::files::{field, production};
 use reference::generate::Random;
 
@@ -35,16 +36,49 @@ pub fn tree_language() -> Vec<u8> {
     .concat()
 }
 
-/// A tree of kind 1 with about so many bytes, wide and mixed.
-pub fn wide_tree(bytes: usize) -> Vec<u8> {
-    let first = tree_for(bytes).len();
-    tree_for(bytes * bytes / first)
+/// Inputs of the three sizes, and small ones to measure growth from.
+pub struct Inputs {
+    /// One of each size.
+    pub sizes: [Vec<u8>; 3],
+    /// Different ones of the middle size, together with about the bytes of the largest.
+    pub small: Vec<Vec<u8>>,
+}
+
+impl Inputs {
+    /// Makes all inputs by a function of the bytes, about, and of a seed.
+    pub fn new(make: impl Fn(usize, u64) -> Vec<u8>) -> Inputs {
+        let sizes = SIZES.map(|(_, bytes)| make(bytes, SEED));
+        let (mut small, mut left) = (Vec::new(), sizes[2].len());
+        for seed in SEED + 1.. {
+            let input = make(SIZES[1].1, seed);
+            if left < input.len() / 2 {
+                break;
+            }
+            left = left.saturating_sub(input.len());
+            small.push(input);
+        }
+        Inputs { sizes, small }
+    }
+
+    /// The input of the largest size.
+    pub fn large(&self) -> &[u8] {
+        &self.sizes[2]
+    }
+}
+
+/// The seed of the trees that are the only ones of their size.
+pub const SEED: u64 = 1;
+
+/// A tree of kind 1 with about so many bytes, wide and mixed; another seed gives another tree.
+pub fn wide_tree(bytes: usize, seed: u64) -> Vec<u8> {
+    let first = tree_for(bytes, seed).len();
+    tree_for(bytes * bytes / first, seed)
 }
 
 /// A tree of kind 1 with somewhat fewer bytes than asked for.
-fn tree_for(bytes: usize) -> Vec<u8> {
+fn tree_for(bytes: usize, seed: u64) -> Vec<u8> {
     let mut tree = Vec::new();
-    put_wide(&mut Random::new(1), bytes, 60, &mut tree);
+    put_wide(&mut Random::new(seed), bytes, 60, &mut tree);
     tree
 }
 

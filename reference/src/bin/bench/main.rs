@@ -17,6 +17,7 @@ mod search;
 mod xml;
 
 use algebra::raw as library;
+use inputs::Inputs;
 use measure::{compare, growth, Growth, Timing};
 use std::hint::black_box;
 
@@ -58,7 +59,7 @@ fn bench_check_language() {
 fn bench_check_tree() {
     let language = inputs::tree_language();
     let trees = trees();
-    for ((size, _), tree) in SIZES.iter().zip(&trees) {
+    for ((size, _), tree) in SIZES.iter().zip(&trees.sizes) {
         assert_eq!(library::check_tree(&language, 1, tree), 0);
         assert_eq!(reference::check_tree(&language, 1, tree).number(), 0);
         let timing = compare(
@@ -67,19 +68,18 @@ fn bench_check_tree() {
         );
         print_line(&format!("check_tree, {size}"), tree.len(), timing);
     }
-    let [_, small, large] = &trees;
     let growth = growth(
-        small,
-        large,
-        |tree| library::check_tree(black_box(&language), 1, tree),
-        |tree| reference::check_tree(black_box(&language), 1, tree),
+        &trees.small,
+        trees.large(),
+        |tree| (library::check_tree(black_box(&language), 1, tree), ()),
+        |tree| (reference::check_tree(black_box(&language), 1, tree).number(), ()),
     );
     print_growth("check_tree", growth);
 }
 
-/// The trees of the three sizes.
-fn trees() -> [Vec<u8>; 3] {
-    SIZES.map(|(_, bytes)| inputs::wide_tree(bytes))
+/// The trees of the three sizes, and different small ones.
+fn trees() -> Inputs {
+    Inputs::new(inputs::wide_tree)
 }
 
 /// Prints the time for a byte at 8 MB over that at 100 KB, for both sides.
@@ -144,15 +144,24 @@ mod run {
         timing
     }
 
-    /// Measures how the time for a byte of a run by a number grows from the small tree to the large
-    /// one.
-    fn bench_growth(name: &str, translation: &[u8], number: u32, [small, large]: [&[u8]; 2]) {
-        let (mut library_output, mut output) = (vec![0; room(large)], vec![0; room(large)]);
+    /// Measures how the time for a byte of a run by a number grows from the small trees to the
+    /// large one.
+    fn bench_growth(name: &str, translation: &[u8], number: u32, trees: &Inputs) {
+        let mut output = vec![0; room(trees.large())];
+        let mut library_output = output.clone();
         let growth = growth(
-            small,
-            large,
-            |tree| library::run(translation, 1, number, tree, &mut library_output[..room(tree)]),
-            |tree| reference::run(translation, 1, number, tree, &mut output[..room(tree)]),
+            &trees.small,
+            trees.large(),
+            |tree| {
+                let output = &mut library_output[..room(tree)];
+                let answer = library::run(translation, 1, number, tree, output);
+                (answer.number, (answer.length, answer.cost))
+            },
+            |tree| {
+                let output = &mut output[..room(tree)];
+                let outcome = reference::run(translation, 1, number, tree, output);
+                (outcome.number(), (outcome.length(), outcome.cost))
+            },
         );
         print_growth(name, growth);
     }
@@ -163,15 +172,14 @@ mod run {
         let swapping = runs::swapping();
         let by = u32::from(NUMBER);
         let trees = trees();
-        let [_, small, large] = &trees;
         for (name, translation) in [
             ("swapping by a number", with_twin(&swapping, NUMBER)),
             ("swapping by turns", with_turns(&swapping, NUMBER)),
         ] {
-            for ((size, _), tree) in SIZES.iter().zip(&trees) {
+            for ((size, _), tree) in SIZES.iter().zip(&trees.sizes) {
                 bench_by(&format!("run, {name}, {size}"), &translation, by, tree);
             }
-            bench_growth(&format!("run, {name}"), &translation, by, [small, large]);
+            bench_growth(&format!("run, {name}"), &translation, by, &trees);
         }
     }
 
@@ -184,12 +192,11 @@ mod run {
             ("dropping", runs::dropping()),
         ];
         let trees = trees();
-        let [_, small, large] = &trees;
         for (name, translation) in &translations {
-            for ((size, _), tree) in SIZES.iter().zip(&trees) {
+            for ((size, _), tree) in SIZES.iter().zip(&trees.sizes) {
                 bench_one(&format!("run, {name}, {size}"), translation, tree);
             }
-            bench_growth(&format!("run, {name}"), translation, 0, [small, large]);
+            bench_growth(&format!("run, {name}"), translation, 0, &trees);
         }
         for (name, translation) in &translations {
             let (chain, flat) = (runs::chain_tree(), runs::flat_tree());

@@ -1,6 +1,6 @@
 //! Times of masks.
 
-use crate::inputs::tree_language;
+use crate::inputs::{tree_language, Inputs};
 use crate::measure::{compare, growth};
 use crate::{print_growth, print_line, trees, SIZES};
 use algebra::raw as library;
@@ -15,9 +15,9 @@ const NO_TOKENS: u32 = !(1 << 2);
 /// Measures masks by one card of trees of three sizes, and how the time for a byte grows.
 fn bench_card(name: &str, kinds: u32) {
     let (language, trees, card) = (tree_language(), trees(), card_of(kinds));
-    let [_, small, large] = &trees;
-    let (mut output, mut library_output) = (vec![0; large.len()], vec![0; large.len()]);
-    for ((size, _), tree) in SIZES.iter().zip(&trees) {
+    let mut output = vec![0; trees.large().len()];
+    let mut library_output = output.clone();
+    for ((size, _), tree) in SIZES.iter().zip(&trees.sizes) {
         let expected = reference::mask(&language, ROOT, &card, tree, &mut output);
         let found = library::mask(&language, ROOT, &card, tree, &mut library_output);
         assert_eq!((expected.number(), expected.length()), (0, found.length));
@@ -28,11 +28,25 @@ fn bench_card(name: &str, kinds: u32) {
         );
         print_line(&format!("mask, {name}, {size}"), tree.len(), timing);
     }
+    bench_growth(name, &card, &trees);
+}
+
+/// Measures how the time of a mask for a byte grows.
+fn bench_growth(name: &str, card: &[u8], trees: &Inputs) {
+    let language = tree_language();
+    let mut output = vec![0; trees.large().len()];
+    let mut library_output = output.clone();
     let growth = growth(
-        small,
-        large,
-        |tree| library::mask(black_box(&language), ROOT, &card, tree, &mut library_output),
-        |tree| reference::mask(black_box(&language), ROOT, &card, tree, &mut output),
+        &trees.small,
+        trees.large(),
+        |tree| {
+            let answer = library::mask(&language, ROOT, card, tree, &mut library_output);
+            (answer.number, answer.length)
+        },
+        |tree| {
+            let outcome = reference::mask(&language, ROOT, card, tree, &mut output);
+            (outcome.number(), outcome.length())
+        },
     );
     print_growth(&format!("mask, {name}"), growth);
 }

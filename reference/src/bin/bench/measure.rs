@@ -1,9 +1,10 @@
-//! Timing of two functions in turn, of each on two sizes in turn, and the median of several
-//! rounds.
+//! Timing of two functions in turn, of each on small inputs and a large one in turn, and the median
+//! of several rounds.
 //!
 //! Times are processor times of the thread, so other programs disturb them less.
 
 use crate::clock::processor_time;
+use std::fmt::Debug;
 use std::hint::black_box;
 use std::time::Duration;
 
@@ -45,21 +46,25 @@ pub fn compare<A, B>(mut library: impl FnMut() -> A, mut reference: impl FnMut()
     }
 }
 
-/// The time for a byte of the large tree over that of the small one, the median for both sides.
+/// The time for a byte of the large input over that of small ones, the median for both sides.
 pub struct Growth {
     pub library: f64,
     pub reference: f64,
 }
 
-/// Measures the growth of both functions in turn, round by round, after one call of each on the
-/// large tree that is not timed.
-pub fn growth<A, B>(
-    small: &[u8],
+/// Measures the growth of both functions in turn, round by round, after a call of each on every
+/// input that is not timed: both give the same, and the small inputs the large one's number.
+pub fn growth<A: PartialEq + Debug>(
+    small: &[impl AsRef<[u8]>],
     large: &[u8],
-    mut library: impl FnMut(&[u8]) -> A,
-    mut reference: impl FnMut(&[u8]) -> B,
+    mut library: impl FnMut(&[u8]) -> (u32, A),
+    mut reference: impl FnMut(&[u8]) -> (u32, A),
 ) -> Growth {
-    drop(black_box((library(large), reference(large))));
+    let number = reference(large).0;
+    for input in small.iter().map(AsRef::as_ref).chain([large]) {
+        let expected = reference(input);
+        assert_eq!((expected.0, library(input)), (number, expected));
+    }
     let mut rounds = Vec::new();
     for _ in 0..GROWTH_ROUNDS {
         let library = pair(small, large, &mut library);
@@ -71,13 +76,24 @@ pub fn growth<A, B>(
     }
 }
 
-/// The growth from one pair of timings: calls on the small tree for about the bytes of the large
-/// one, and right after them one call on the large tree.
-fn pair<A>(small: &[u8], large: &[u8], function: &mut impl FnMut(&[u8]) -> A) -> f64 {
-    let calls = (large.len() as f64 / small.len() as f64).round() as u32;
-    let small_time = time(&mut || function(black_box(small)), calls.max(1));
+/// One small input as many times as makes about the bytes of the large one.
+pub fn repeated<'a>(small: &'a [u8], large: &[u8]) -> Vec<&'a [u8]> {
+    let times = (large.len() as f64 / small.len() as f64).round() as usize;
+    vec![small; times.max(1)]
+}
+
+/// The growth from one pair of timings: one call on each of the small inputs, and right after them
+/// one call on the large input.
+fn pair<A>(small: &[impl AsRef<[u8]>], large: &[u8], function: &mut impl FnMut(&[u8]) -> A) -> f64 {
+    let bytes: usize = small.iter().map(|input| input.as_ref().len()).sum();
+    let mut all = || {
+        for input in small {
+            drop(black_box(function(black_box(input.as_ref()))));
+        }
+    };
+    let small_time = time(&mut all, 1);
     let large_time = time(&mut || function(black_box(large)), 1);
-    (large_time / large.len() as f64) / (small_time / small.len() as f64)
+    (large_time / large.len() as f64) / (small_time / bytes as f64)
 }
 
 /// How many calls take about the least time of a round.

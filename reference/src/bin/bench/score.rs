@@ -1,6 +1,6 @@
 //! Times of scores, and of load tables joined onto translations.
 
-use crate::inputs::tree_language;
+use crate::inputs::{tree_language, wide_tree, Inputs};
 use crate::measure::{compare, growth};
 use crate::{print_growth, print_line, trees, SIZES};
 use algebra::raw as library;
@@ -26,7 +26,7 @@ fn tree_table() -> Vec<u8> {
 /// Measures scores of trees of three sizes, and how the time for a byte grows.
 fn bench_score() {
     let (language, table, trees) = (tree_language(), tree_table(), trees());
-    for ((size, _), tree) in SIZES.iter().zip(&trees) {
+    for ((size, _), tree) in SIZES.iter().zip(&trees.sizes) {
         let expected = reference::score(&language, ROOT, tree, &table);
         let found = library::score(&language, ROOT, tree, &table);
         assert_eq!(expected.outcome.number(), 0);
@@ -37,12 +37,22 @@ fn bench_score() {
         );
         print_line(&format!("score, {size}"), tree.len(), timing);
     }
-    let [_, small, large] = &trees;
+    bench_score_growth(&language, &table, &trees);
+}
+
+/// Measures how the time of a score for a byte grows.
+fn bench_score_growth(language: &[u8], table: &[u8], trees: &Inputs) {
     let growth = growth(
-        small,
-        large,
-        |tree| library::score(black_box(&language), ROOT, tree, &table),
-        |tree| reference::score(black_box(&language), ROOT, tree, &table),
+        &trees.small,
+        trees.large(),
+        |tree| {
+            let answer = library::score(language, ROOT, tree, table);
+            (answer.number, answer.score)
+        },
+        |tree| {
+            let expected = reference::score(language, ROOT, tree, table);
+            (expected.outcome.number(), expected.score)
+        },
     );
     print_growth("score", growth);
 }
@@ -56,8 +66,8 @@ fn loose_plan(language: &[u8], table: &[u8], tree: Vec<u8>) -> Vec<u8> {
 /// Measures scores of loose plans of three sizes, and how the time for a byte grows.
 fn bench_loose() {
     let (language, table) = (tree_language(), tree_table());
-    let plans = trees().map(|tree| loose_plan(&language, &table, tree));
-    for ((size, _), plan) in SIZES.iter().zip(&plans) {
+    let plans = Inputs::new(|bytes, seed| loose_plan(&language, &table, wide_tree(bytes, seed)));
+    for ((size, _), plan) in SIZES.iter().zip(&plans.sizes) {
         let expected = reference::score_loose(&language, ROOT, plan, &table);
         let found = library::score_loose(&language, ROOT, plan, &table);
         assert_eq!(expected.outcome.number(), 0);
@@ -69,12 +79,22 @@ fn bench_loose() {
         );
         print_line(&format!("score_loose, {size} if settled"), plan.len(), timing);
     }
-    let [_, small, large] = &plans;
+    bench_loose_growth(&language, &table, &plans);
+}
+
+/// Measures how the time of a loose plan's score for a byte grows.
+fn bench_loose_growth(language: &[u8], table: &[u8], plans: &Inputs) {
     let growth = growth(
-        small,
-        large,
-        |plan| library::score_loose(black_box(&language), ROOT, plan, &table),
-        |plan| reference::score_loose(black_box(&language), ROOT, plan, &table),
+        &plans.small,
+        plans.large(),
+        |plan| {
+            let answer = library::score_loose(language, ROOT, plan, table);
+            (answer.number, (answer.least, answer.greatest))
+        },
+        |plan| {
+            let expected = reference::score_loose(language, ROOT, plan, table);
+            (expected.outcome.number(), (expected.ends.least, expected.ends.greatest))
+        },
     );
     print_growth("score_loose", growth);
 }

@@ -1,6 +1,6 @@
 //! Times of searches that a plain search would take too long for.
 
-use crate::measure::{compare, growth};
+use crate::measure::{compare, growth, repeated};
 use crate::{print_growth_of, print_line};
 use algebra::raw as library;
 use reference::files::{clause, mapping, production, translation};
@@ -151,8 +151,12 @@ fn bench_searches(name: &str, translation: Vec<u8>, trees: [Vec<u8>; 3], number:
         print_line(&format!("search, {name}"), tree.len(), timing);
     }
     let [small, _, large] = &trees;
-    let growth =
-        growth(small, large, |tree| library.by_library(tree), |tree| reference.by_reference(tree));
+    let growth = growth(
+        &repeated(small, large),
+        large,
+        |tree| library.by_library(tree),
+        |tree| reference.by_reference(tree),
+    );
     let sizes = format!("{} over {} bytes", large.len(), small.len());
     print_growth_of(&format!("search, {name}"), &sizes, growth);
 }

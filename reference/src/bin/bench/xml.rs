@@ -1,6 +1,6 @@
 //! Times of exports and imports.
 
-use crate::inputs::tree_language;
+use crate::inputs::{tree_language, wide_tree, Inputs};
 use crate::measure::{compare, growth};
 use crate::{print_growth, print_line, trees, SIZES};
 use algebra::raw as library;
@@ -52,18 +52,23 @@ impl Operation {
     }
 
     /// Measures the operation on inputs of three sizes, and how the time for a byte grows.
-    fn bench(&self, language: &[u8], inputs: &[Vec<u8>; 3]) {
-        for ((size, _), input) in SIZES.iter().zip(inputs) {
+    fn bench(&self, language: &[u8], inputs: &Inputs) {
+        for ((size, _), input) in SIZES.iter().zip(&inputs.sizes) {
             self.bench_one(language, size, input);
         }
-        let [_, small, large] = inputs;
-        let mut output = vec![0; LONGEST * large.len()];
+        let mut output = vec![0; LONGEST * inputs.large().len()];
         let mut library_output = output.clone();
         let growth = growth(
-            small,
-            large,
-            |input| (self.library)(language, ROOT, input, &mut library_output),
-            |input| (self.reference)(language, ROOT, input, &mut output),
+            &inputs.small,
+            inputs.large(),
+            |input| {
+                let answer = (self.library)(language, ROOT, input, &mut library_output);
+                (answer.number, answer.length)
+            },
+            |input| {
+                let outcome = (self.reference)(language, ROOT, input, &mut output);
+                (outcome.number(), outcome.length())
+            },
         );
         print_growth(self.name, growth);
     }
@@ -72,9 +77,10 @@ impl Operation {
 /// Measures exports of trees, and imports of texts, of three sizes.
 pub fn bench() {
     let language = tree_language();
-    EXPORT.bench(&language, &trees());
-    let sizes = SIZES.map(|(_, bytes)| crate::inputs::wide_tree(bytes / TEXT_FOR_A_BYTE));
-    IMPORT.bench(&language, &sizes.each_ref().map(|tree| text_of(&language, tree)));
+    let text = |bytes, seed| text_of(&language, &wide_tree(bytes / TEXT_FOR_A_BYTE, seed));
+    let (trees, texts) = (trees(), Inputs::new(text));
+    EXPORT.bench(&language, &trees);
+    IMPORT.bench(&language, &texts);
 }
 
 /// The text of a tree has about so many bytes for each of the tree's.
