@@ -12,25 +12,8 @@ use Rattle.measure.specs.Inner.Counting.{Tables}
 use Rattle.measure.specs.Inner.Measuring.{Counted}
 use Rattle.tables.proofs.Tables.{front-index-long}
 
--- What is looked up in a longer table is what stands in its front.
-module _ (index table s : List ℕ) (long : 8224 ≤ length table) (same : (j : ℕ) → j < 8224 → getD table j 0 ≡ getD index j 0) where
-  sound-front : Sound index s → Sound table s
-  sound-front z = record {
-    long = long;
-    short = z .short;
-    class = λ k h q. rw (same k (omega arith)) (z .class k h (rw (same k (omega arith)) at q));
-    name = λ k p h j q. rw (same (productionKey k p) (omega arith)) (z .name k p h j (rw (same (productionKey k p) (omega arith)) at q));
-    operands = λ k p h j q. rw (same (productionKey k p) (omega arith)) (z .operands k p h j (rw (same (productionKey k p) (omega arith)) at q));
-  }
-
-  pub indexed-front : (l : Language) → Indexed index s l → Indexed table s l
-  indexed-front l z = record {
-    sound = sound-front (z .sound);
-    entries = z .entries;
-    range = λ k h. rw (same k (omega arith)) (z .range k h);
-    arguments = λ k p h j. rw (same (productionKey k p) (omega arith)) (z .arguments k p h j);
-  }
-
+-- What is counted by the index of a longer table is what is counted by its front.
+module _ (index table : List ℕ) (same : (j : ℕ) → j < 8224 → getD table j 0 ≡ getD index j 0) where
   pub counted-front : (t : Tables) (width : ℕ) (f : Translation) → Counted t width index f → Counted t width table f
   counted-front t width f z = record {
     owns = λ k p j u ks h i e q. rw (same (productionKey k p) (omega arith)) (z .owns k p j u ks h i e q);

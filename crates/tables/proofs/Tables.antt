@@ -40,18 +40,6 @@ use Rattle.fields.proofs.Splices.{opened, splice-splice, length-spliced}
 use Rattle.tables.specs.Inner.Stands.{Stands}
 
 -- What is put in at a position, and what stands where then.
--- put_index
-pub index-put : (first : ℕ) (s o : List ℕ) (a k : ℕ) (v w : List ℕ) → a + 8224 ≤ length o → k ≡ 8224 → w ≡ take k (drop a o) → v ≡ putAll first s w (places s)
-    → take a o ++ (v ++ drop k (drop a o)) ≡ spliced o a (putAll first s (take 8224 (drop a o)) (places s))
-index-put first s o a k v w h ek ew ev =
-    let d = length-drop a o in
-    let l : length (putAll first s (take 8224 (drop a o)) (places s)) ≡ 8224 =
-    puts-length first s (places s) (take 8224 (drop a o)) ∙ length-take-le 8224 (drop a o) (omega arith) in
-    rw (ev, ew, ek, opened o a (putAll first s (take 8224 (drop a o)) (places s)), l, drop-drop 8224 a o)
-
-pub sub-self : (a : ℕ) → a + 8224 - a ≡ 8224
-sub-self a = omega arith
-
 -- put_bytes
 one-put : (o : List ℕ) (pos v : ℕ) → pos < length o → set o pos v ≡ spliced o pos (v ∷ [])
 one-put o pos v h =
@@ -101,44 +89,6 @@ module _ (b : List ℕ) (p : ℕ) where
   pub start-without : (getD b p 0 ≡ 0x29 → ⊥) → p + 5 ≡ codeStart b p
   unfolding codeStart
   start-without h = rw (ne-eqb (getD b p 0) 0x29 h)
-
--- What stands at each place after v was put in at pos.
-module _ (o : List ℕ) (pos : ℕ) (v : List ℕ) (fits : pos + length v ≤ length o) where
-  front-long : length (take pos o) ≡ pos
-  front-long = length-take-le pos o (omega arith)
-
-  get-below : (j : ℕ) → j < pos → getD (spliced o pos v) j 0 ≡ getD o j 0
-  get-below j h =
-      rw (opened o pos v)
-      (List·getD-append (take pos o) (v ++ drop (pos + length v) o) 0 j (rw front-long h) ∙ getD-take pos o j 0 h)
-
-  get-from : (j : ℕ) → getD (spliced o pos v) (pos + j) 0 ≡ getD (v ++ drop (pos + length v) o) j 0
-  get-from j =
-      rw (opened o pos v)
-      (ap (λ (n : ℕ). getD (take pos o ++ (v ++ drop (pos + length v) o)) (n + j) 0) (sym front-long) ∙ getD-append-add (take pos o) (v ++ drop (pos + length v) o) j 0)
-
-  get-in : (j : ℕ) → j < length v → getD (spliced o pos v) (pos + j) 0 ≡ getD v j 0
-  get-in j h = get-from j ∙ List·getD-append v (drop (pos + length v) o) 0 j h
-
-  get-past : (j : ℕ) → pos + length v ≤ j → getD (spliced o pos v) j 0 ≡ getD o j 0
-  get-past j h =
-      let m : ℕ = j - (pos + length v) in
-      let e : j ≡ pos + (length v + m) = omega arith in
-      let d : pos + length v + m ≡ j = omega arith in
-      ap (λ (n : ℕ). getD (spliced o pos v) n 0) e
-      ∙ (get-from (length v + m) ∙ (getD-append-add v (drop (pos + length v) o) m 0 ∙ (getD-drop (pos + length v) o m 0 ∙ ap (λ (n : ℕ). getD o n 0) d)))
-
--- The front of a table that is zero there.
-pub front-zero : (o : List ℕ) → ((j : ℕ) → j < 8224 → getD o j 0 ≡ 0) → (j : ℕ) → getD (take 8224 o) j 0 ≡ 0
-front-zero o h j =
-    by-test (ltb j 8224)
-    (λ e.
-    let i : j < 8224 = ltb-true _ _ e in
-    getD-take 8224 o j 0 i ∙ h j i)
-    (λ e.
-    let i : 8224 ≤ j = ltb-false _ _ e in
-    let l = length-take 8224 o in
-    List·getD-eq-default (take 8224 o) 0 (omega arith))
 
 -- An index that is put into the front of a table.
 module _ (s o : List ℕ) (long : length o ≡ 29760) where

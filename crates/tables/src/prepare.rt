@@ -34,14 +34,6 @@ ghost use Rattle.reader.specs.Inner.Index.{indexLength, tableLength};
 ghost use Rattle.tables.specs.Inner.Table.{spansStart, clauseNumber, Checked, Ready};
 ghost use Rattle.tables.specs.Inner.Filling.{Begun, Filled, mappedBy, CodeAsks, Spanned, FieldAsks, FieldSpanned, AllSpanned};
 
-// Puts the index of a file into the table, from a position on where it is all zero. Its leading entries have the tag `leading_tag`.
-fn put_index(s: &[u8], leading_tag: u8, a: usize, table: &mut [u16])
-    requires { ⌜ (length (now s) ≤ 32768) × (a + indexLength ≤ length (now table)) ⌝ }
-    ensures { λ r. ⌜ now (table .exit) ≡ spliced (now (table .entry)) a (putAll «leading_tag» (now (s .entry)) (take indexLength (drop a (now (table .entry)))) (places (now (s .entry)))) ⌝ }
-{
-    put_all(s, leading_tag, &mut table[a..a + INDEX]);
-}
-
 // Puts bytes into the table, from a position on.
 fn put_bytes(s: &[u8], a: usize, table: &mut [u16])
     requires { ⌜ a + length (now s) ≤ length (now table) ⌝ }

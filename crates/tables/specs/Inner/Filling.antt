@@ -16,7 +16,7 @@ use Rattle.translation.specs.Running.{clausesOf}
 use Rattle.translation.specs.Inner.Items.{isClauseTag}
 use Rattle.fields.specs.Inner.Writing.{spliced}
 use Rattle.tables.specs.Inner.Stands.{Stands}
-use Rattle.reader.specs.Inner.Index.{indexLength, tableLength}
+use Rattle.reader.specs.Inner.Index.{indexLength, tableLength, Built}
 use Rattle.tables.specs.Inner.Table.{itemsStart, spansStart, hintsStart, hintEntry, sourceByte, bodyByte, SpansAt, codeStart, clauseNumber, isPlace}
 
 -- The index of the source s stands in the table t, which is all zero besides.
@@ -25,13 +25,6 @@ pub record Begun (s t : List ℕ) : Type 0 where
   pub long : length zeros ≡ tableLength
   pub zero : (j : ℕ) → getD zeros j 0 ≡ 0
   pub is : t ≡ spliced zeros 0 (putAll 0x11 s (take indexLength zeros) (places s))
-
--- The index of s stands in the table from a on. The first entries of s have the tag `first`.
-pub record Built (first : ℕ) (s t : List ℕ) (a : ℕ) : Type 0 where
-  pub zeros : List ℕ
-  pub long : length zeros ≡ indexLength
-  pub zero : (j : ℕ) → getD zeros j 0 ≡ 0
-  pub is : (j : ℕ) → j < indexLength → getD t (a + j) 0 ≡ getD (putAll first s zeros (places s)) j 0
 
 -- The table but for the spans: of the source s and the body b.
 pub record Filled (s b t : List ℕ) : Type 0 where
