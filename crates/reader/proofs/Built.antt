@@ -107,7 +107,7 @@ module _ (first : ℕ) (s o : List ℕ) (a k : ℕ) (v w : List ℕ) (fits : a +
 
 -- What is looked up in a longer table is what stands in its front.
 module _ (index table s : List ℕ) (long : 8224 ≤ length table) (same : (j : ℕ) → j < 8224 → getD table j 0 ≡ getD index j 0) where
-  sound-front : Sound index s → Sound table s
+  pub sound-front : Sound index s → Sound table s
   sound-front z = record {
     long = long;
     short = z .short;
