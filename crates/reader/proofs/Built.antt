@@ -68,7 +68,6 @@ index-put first s o a k v w h ek ew ev =
 pub sub-self : (a : ℕ) → a + 8224 - a ≡ 8224
 sub-self a = omega arith
 
-
 -- The index stands where it was put, and all else stays.
 module _ (first : ℕ) (s o : List ℕ) (a k : ℕ) (v w : List ℕ) (fits : a + 8224 ≤ length o) (ek : k ≡ 8224) (ew : w ≡ take k (drop a o))
     (ev : v ≡ putAll first s w (places s)) where
@@ -123,7 +122,6 @@ module _ (index table s : List ℕ) (long : 8224 ≤ length table) (same : (j : 
     range = λ k h. rw (same k (omega arith)) (z .range k h);
     arguments = λ k p h j. rw (same (productionKey k p) (omega arith)) (z .arguments k p h j);
   }
-
 
 -- What is looked up in a part of a table in which the index stands.
 pub built-indexed : (s t part : List ℕ) (a : ℕ) → Built 0x11 s t a → 8224 ≤ length part → ((j : ℕ) → j < 8224 → getD part j 0 ≡ getD t (a + j) 0)

@@ -14,7 +14,7 @@ ghost use Rattle.reader.specs.Inner.Index.{putAt, putAll, Built, Around,
 pub const INDEX: usize = 8224;
 
 // How many numbers the table of a run has; the index of the source stands first in it.
-pub const TABLE: usize = 29760;
+pub const TABLE: usize = 26184;
 
 // Puts a value at a key that has none yet.
 fn put(index: &mut [u16], key: usize, value: u16)

@@ -22,7 +22,7 @@ module _ (index table : List ℕ) (same : (j : ℕ) → j < 8224 → getD table 
   }
 
 -- begin: the front of the table o was replaced by the index.
-module _ (s o index : List ℕ) (long : length o ≡ 29760) (put : index ≡ putAll 0x11 s (take 8224 o) (places s)) where
+module _ (s o index : List ℕ) (long : length o ≡ 26184) (put : index ≡ putAll 0x11 s (take 8224 o) (places s)) where
   index-long : length index ≡ 8224
   index-long = rw put (front-index-long s o long)
 

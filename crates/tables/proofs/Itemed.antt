@@ -39,7 +39,7 @@ module _ (b : List ℕ) (x : ℕ) (t : List ℕ) where
       rw (tag, lt-ltb (32 + pairAt b (x + 3)) 8224 near, n)
 
 -- What a clause that is put changes.
-module _ (b : List ℕ) (x : ℕ) (t : List ℕ) (bytes : (i : ℕ) → getD b i 0 < 256) (long : length t ≡ 29760) where
+module _ (b : List ℕ) (x : ℕ) (t : List ℕ) (bytes : (i : ℕ) → getD b i 0 < 256) (long : length t ≡ 26184) where
   key-is : pairAt b (x + 3) ≡ getD b (x + 3) 0 * 256 + getD b (x + 4) 0
   unfolding pairAt
   key-is = let n : x + 3 + 1 ≡ x + 4 = omega arith in rw n
@@ -117,7 +117,7 @@ pub record Putting (b t₀ t : List ℕ) (p : ℕ) : Type 0 where
 pub putting-starts : (b t : List ℕ) → Putting b t t 0
 putting-starts b t = record { around = record { long = refl; below = λ j h. refl; past = λ j h. refl }; rest = λ x m. m; done = λ x m. inl m }
 
-module _ (b t₀ t u : List ℕ) (p e : ℕ) (bytes : (i : ℕ) → getD b i 0 < 256) (long : length t ≡ 29760) (h : p < length b) (ee : e ≡ fieldEnd b p) (eu : u ≡ withClause b p t)
+module _ (b t₀ t u : List ℕ) (p e : ℕ) (bytes : (i : ℕ) → getD b i 0 < 256) (long : length t ≡ 26184) (h : p < length b) (ee : e ≡ fieldEnd b p) (eu : u ≡ withClause b p t)
     (w : Putting b t₀ t p) where
   next-places : placesFrom b p ≡ p ∷ placesFrom b (fieldEnd b p)
   next-places = places-next b p h

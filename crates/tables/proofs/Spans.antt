@@ -91,7 +91,7 @@ below-set t at v h = record {
 }
 
 -- What stands beside the spans stays: the index of the target is looked up as before.
-module _ (t u : List ℕ) (h : Beside t u) (long : length t ≡ 29760) where
+module _ (t u : List ℕ) (h : Beside t u) (long : length t ≡ 26184) where
   part-long : 8224 ≤ length (targetIndex u)
   part-long = let d = length-drop 8224 u in omega (arith, h .long)
 
@@ -169,7 +169,7 @@ Turn s index b k at n t₀ t q e c =
     (l : Language) (given : Uses) (a : Code) → CodeAsks s index b k at n l given a → Left s index b k at n t₀ t q e c l given a
 
 -- A production's code, from the spans of its operands.
-node-spanned : (t u : List ℕ) (at k p : ℕ) (ts : Codes) (r : ℕ) → length t ≡ 29760 → at < 4096 → RowSpanned t u (at + 2) ts r
+node-spanned : (t u : List ℕ) (at k p : ℕ) (ts : Codes) (r : ℕ) → length t ≡ 26184 → at < 4096 → RowSpanned t u (at + 2) ts r
     → Spanned t (set u (21568 + at) r) at (node k p ts) r
 unfolding write SpansAt
 node-spanned t u at k p ts r long h w =
@@ -232,7 +232,7 @@ module _ (s index b : List ℕ) (k at n : ℕ) where
         absurd (omega (arith, q .1))
 
     -- The operands of a production.
-    pub turn-starts : (t : List ℕ) (m stop : ℕ) → length t ≡ 29760 → length b ≤ 4096 → m ≡ pairAt s place → stop ≡ place + 2 + m → KindsIn s (place + 4) stop
+    pub turn-starts : (t : List ℕ) (m stop : ℕ) → length t ≡ 26184 → length b ≤ 4096 → m ≡ pairAt s place → stop ≡ place + 2 + m → KindsIn s (place + 4) stop
         → Turn s index b k at n t t (place + 4) stop (at + 2)
     unfolding fieldEnd
     turn-starts t m stop long short em es kinds l given a w =

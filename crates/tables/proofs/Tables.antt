@@ -93,7 +93,7 @@ module _ (b : List ℕ) (p : ℕ) where
   start-without h = rw (ne-eqb (getD b p 0) 0x29 h)
 
 -- fill
-module _ (s b t₁ t₂ t₃ : List ℕ) (long : length t₁ ≡ 29760) (short : length s ≤ 1024) (near : length b ≤ 4096) (e₂ : t₂ ≡ spliced t₁ 16448 s) (e₃ : t₃ ≡ spliced t₂ 17472 b) where
+module _ (s b t₁ t₂ t₃ : List ℕ) (long : length t₁ ≡ 26184) (short : length s ≤ 1024) (near : length b ≤ 4096) (e₂ : t₂ ≡ spliced t₁ 16448 s) (e₃ : t₃ ≡ spliced t₂ 17472 b) where
   room₁ : 16448 + length s ≤ length t₁
   room₁ = omega arith
 
@@ -119,7 +119,7 @@ module _ (s b t₁ t₂ t₃ : List ℕ) (long : length t₁ ≡ 29760) (short :
   }
 
 -- put_indexes
-pub begun : (s g t u v : List ℕ) → length t ≡ 29760 → ((j : ℕ) → getD t j 0 ≡ 0) → Built 0x11 s u 0 → Around t u 0 8224 → Built 0x11 g v 8224 → Around u v 8224 16448 → Begun s g v
+pub begun : (s g t u v : List ℕ) → length t ≡ 26184 → ((j : ℕ) → getD t j 0 ≡ 0) → Built 0x11 s u 0 → Around t u 0 8224 → Built 0x11 g v 8224 → Around u v 8224 16448 → Begun s g v
 begun s g t u v long clear first a second c = record {
   long = c .long ∙ (a .long ∙ long);
   source = record { zeros = first .zeros; long = first .long; zero = first .zero; is = λ j h. c .below (0 + j) (omega arith) ∙ first .is j h };
@@ -133,7 +133,7 @@ behind-zero t u clear a j h = a .past (8224 + j) (omega arith) ∙ clear (8224 +
 
 -- The index of the target, as it stands in the table when the spans are put.
 module _ (s g b t t₂ v y : List ℕ) (begins : Begun s g t) (w : Filled s b t t₂) (hinted : Hinted b t₂ v) (ranked : Beside v y) where
-  pub ranked-long : length y ≡ 29760
+  pub ranked-long : length y ≡ 26184
   ranked-long = ranked .long ∙ (hinted .long ∙ (w .around .long ∙ begins .long))
 
   pub target-indexed : ((i : ℕ) → getD g i 0 < 256) → length g ≤ 1024 → (l : Language) → entriesOf g ≡ some l → Indexed (targetIndex y) g l
@@ -194,7 +194,7 @@ module _ (s g b t t₂ v y x u : List ℕ) (f : Translation) (z : Checked s g b 
       let n : 0 + j ≡ j = omega arith in
       o .around .below j h ∙ (low j (omega arith) ∙ (w .around .below j (omega arith) ∙ (ap (λ (m : ℕ). getD t m 0) (sym n) ∙ begins .source .is j h)))
 
-  long : length u ≡ 29760
+  long : length u ≡ 26184
   long = o .around .long ∙ (behind .long ∙ (hinted .long ∙ (w .around .long ∙ begins .long)))
 
   source-at : (j : ℕ) → j < length s → getD u (16448 + j) 0 ≡ getD s j 0

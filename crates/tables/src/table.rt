@@ -34,6 +34,9 @@ pub const SPANS: usize = 21568;
 // Where the places of the clauses of other numbers than 0 start.
 pub const HINTS: usize = 25664;
 
+// How many of them there are.
+pub const HINT_COUNT: usize = 520;
+
 // A field with a number has at least six bytes, so none starts in the body from here on.
 const LAST_FIELD: usize = 4091;
 
@@ -146,13 +149,14 @@ fn hinted_place(table: &[u16; TABLE], first: usize, rank: usize) -> usize
     requires { ⌜ first < 65536 ⌝ }
     ensures { λ r. ⌜ (r < 4091) × (0 < r → (i : ℕ) × (r ≡ hintEntry (now (table .entry)) i)) ⌝ }
 {
-    if 4095 < rank {
+    if HINT_COUNT <= rank {
         return 0;
     }
-    if 4095 < first + rank {
+    let hint = first / 8 + rank;
+    if HINT_COUNT <= hint {
         return 0;
     }
-    let p = to_usize(table[HINTS + (first + rank)]);
+    let p = to_usize(table[HINTS + hint]);
     if LAST_FIELD <= p {
         return 0;
     }

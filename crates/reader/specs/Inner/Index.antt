@@ -21,7 +21,7 @@ indexLength = 8224
 
 -- How many numbers the table of a run has.
 abbrev pub tableLength : ℕ
-tableLength = 29760
+tableLength = 26184
 
 -- The range in the field before `place`.
 abbrev pub rangeBefore : List ℕ → ℕ → Option Range

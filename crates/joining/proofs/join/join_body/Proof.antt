@@ -20,7 +20,7 @@ put-all-requires : tie.Need-put-all-requires
 put-all-requires c κs = omega (arith, source-within _ _ _ _ (c .before .before .before .before .before .before .pre .1 .3 .first))
 
 prepare-requires : tie.Need-prepare-requires
-prepare-requires c κs = (begun _ (replicate 29760 0) refl (zeros 29760) _ (c .before .before .put-all .ensures), (_, spelt-checked _ _ _ _ (c .before .before .before .before .before .before .before .before .before .pre .1 .3 .first)))
+prepare-requires c κs = (begun _ (replicate 26184 0) refl (zeros 26184) _ (c .before .before .put-all .ensures), (_, spelt-checked _ _ _ _ (c .before .before .before .before .before .before .before .before .before .pre .1 .3 .first)))
 
 put-uses-requires : tie.Need-put-uses-requires
 put-uses-requires c κs = (body-within _ _ _ _ (c .before .before .before .before .before .before .before .before .before .before .before .pre .1 .3 .first), refl, zeros 8192, (_, body-items _ _ _ _ (c .before .before .before .before .before .before .before .before .before .before .before .pre .1 .3 .first)))

@@ -18,7 +18,7 @@ returns : tie.Need-returns
 returns c = λ f z. kind-out f _ _ _ _ (c .before .before .has-number .ensures _ f z) (not-true _ (c .before .if1 .taken)) (c .refuse .ensures) (c .before .before .before .before .before .before .before .before .pre .1)
 
 measured-requires : tie.Need-measured-requires
-measured-requires c κs = (c .before .before .before .before .before .before .before .before .before .before .before .pre .0, refl, zeros 29760, zeros 2, (_, c .before .before .before .before .before .before .before .before .before .before .before .pre .2 .0, c .before .before .before .before .before .before .before .before .before .before .before .pre .2 .1))
+measured-requires c κs = (c .before .before .before .before .before .before .before .before .before .before .before .pre .0, refl, zeros 26184, zeros 2, (_, c .before .before .before .before .before .before .before .before .before .before .before .pre .2 .0, c .before .before .before .before .before .before .before .before .before .before .before .pre .2 .1))
 
 finish-requires : tie.Need-finish-requires
 finish-requires c κs = (c .before .before .before .before .before .before .before .before .before .before .before .before .before .before .before .before .before .pre .0, c .before .before .before .before .before .before .before .before .before .before .before .before .before .before .before .before .before .pre .1, (c .before .before .before .before .before .before .before .before .before .before .before .before .before .before .before .before .before .pre .2 .0, _, c .before .before .before .before .before .before .before .before .before .before .before .before .before .before .before .before .before .pre .2 .1, (sym (c .before .before .before .before .before .before .before .before .before .before .before .has-number .ensures _ (c .before .before .before .before .before .before .before .before .before .before .before .before .before .before .before .before .before .pre .2 .0) (c .before .before .before .before .before .before .before .before .before .before .before .before .before .before .before .before .before .pre .2 .1)) ∙ not-false _ (c .before .before .before .before .before .before .before .before .before .before .if1 .left)), c .before .before .before .before .before .before .before .before .before .top-over .ensures .0, c .before .before .before .before .before .measured .ensures _ (c .before .before .before .before .before .before .before .before .before .before .before .before .before .before .before .before .before .pre .2 .0) (c .before .before .before .before .before .before .before .before .before .before .before .before .before .before .before .before .before .pre .2 .1)))
@@ -27,7 +27,7 @@ returns-2 : tie.Need-returns-2
 returns-2 c = λ f z. c .before .before .finish .ensures f _ z (sym (c .before .before .before .before .before .before .before .before .before .before .before .before .before .before .has-number .ensures _ f z) ∙ not-false _ (c .before .before .before .before .before .before .before .before .before .before .before .before .before .if1 .left)) (c .before .before .before .before .before .before .before .before .before .before .before .before .top-over .ensures .0) (c .before .before .before .before .before .before .before .before .before .before .before .before .top-over .ensures .1) (c .before .before .before .before .before .before .before .before .measured .ensures _ f z)
 
 measured-requires-2 : tie.Need-measured-requires-2
-measured-requires-2 c κs = (c .before .before .before .before .before .before .before .before .before .before .before .pre .0, refl, zeros 29760, zeros 8192, (_, c .before .before .before .before .before .before .before .before .before .before .before .pre .2 .0, c .before .before .before .before .before .before .before .before .before .before .before .pre .2 .1))
+measured-requires-2 c κs = (c .before .before .before .before .before .before .before .before .before .before .before .pre .0, refl, zeros 26184, zeros 8192, (_, c .before .before .before .before .before .before .before .before .before .before .before .pre .2 .0, c .before .before .before .before .before .before .before .before .before .before .before .pre .2 .1))
 
 finish-requires-2 : tie.Need-finish-requires-2
 finish-requires-2 c κs = (c .before .before .before .before .before .before .before .before .before .before .before .before .before .before .before .before .before .pre .0, c .before .before .before .before .before .before .before .before .before .before .before .before .before .before .before .before .before .pre .1, (c .before .before .before .before .before .before .before .before .before .before .before .before .before .before .before .before .before .pre .2 .0, _, c .before .before .before .before .before .before .before .before .before .before .before .before .before .before .before .before .before .pre .2 .1, (sym (c .before .before .before .before .before .before .before .before .before .before .before .has-number .ensures _ (c .before .before .before .before .before .before .before .before .before .before .before .before .before .before .before .before .before .pre .2 .0) (c .before .before .before .before .before .before .before .before .before .before .before .before .before .before .before .before .before .pre .2 .1)) ∙ not-false _ (c .before .before .before .before .before .before .before .before .before .before .if1 .left)), c .before .before .before .before .before .before .before .before .before .top-over .ensures .0, c .before .before .before .before .before .measured2 .ensures _ (c .before .before .before .before .before .before .before .before .before .before .before .before .before .before .before .before .before .pre .2 .0) (c .before .before .before .before .before .before .before .before .before .before .before .before .before .before .before .before .before .pre .2 .1)))

@@ -16,7 +16,7 @@ use Rattle.reader.proofs.index.put_all.Reads as put-all-reads
 use Rattle.search.proofs.search.find.Reads as find-reads
 
 prepare-requires : tie.Need-prepare-requires
-prepare-requires c κs = (begun _ (replicate 29760 0) refl (zeros 29760) _ (c .before .before .put-all .ensures), (c .before .before .before .before .before .before .before .before .before .before .before .before .pre .2 .0, c .before .before .before .before .before .before .before .before .before .before .before .before .pre .2 .2 .checked))
+prepare-requires c κs = (begun _ (replicate 26184 0) refl (zeros 26184) _ (c .before .before .put-all .ensures), (c .before .before .before .before .before .before .before .before .before .before .before .before .pre .2 .0, c .before .before .before .before .before .before .before .before .before .before .before .before .pre .2 .2 .checked))
 
 build-requires : tie.Need-build-requires
 build-requires c κs = (c .before .before .before .before .before .before .before .before .before .before .before .before .before .before .pre .2 .2 .checked .pieces .source-short, refl, zeros 8224)
