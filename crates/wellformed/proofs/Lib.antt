@@ -5,3 +5,4 @@ pub mod Mappings
 pub mod Wanted
 pub mod Matching
 pub mod Formed
+pub mod Kept

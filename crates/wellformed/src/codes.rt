@@ -151,7 +151,7 @@ fn code_typed(
     )
 }
 
-// Every code fits, of the clauses from p on.
+// Every code fits, of the clauses from p on. What kinds map to stays.
 pub fn codes_typed(
     source: &[u8],
     sources: &[u16],
@@ -163,7 +163,7 @@ pub fn codes_typed(
 ) -> bool
     requires { ⌜ (all (isClauseAt (now body)) (placesFrom (now body) p) ≡ true) × ((f : Translation) × Ready (now source) (now sources) (now target) (now targets) (now body) (now uses) f) ⌝ }
     ensures { λ r. ⌜ ((f : Translation) → Ready (now (source .entry)) (now (sources .entry)) (now (target .entry)) (now (targets .entry)) (now (body .entry)) (now (uses .entry)) f
-        → r ≡ all (λ x. codeFits f (itemAt (now (body .entry)) x)) (placesFrom (now (body .entry)) p)) ⌝ }
+        → (r ≡ all (λ x. codeFits f (itemAt (now (body .entry)) x)) (placesFrom (now (body .entry)) p)) × Ready (now (source .entry)) (now (sources .entry)) (now (target .entry)) (now (targets .entry)) (now (body .entry)) (now (uses .exit)) f) ⌝ }
 {
     let mut to = p;
     while to < body.len() {

@@ -14,6 +14,10 @@ use Rattle.translation.specs.Inner.ItemIndex.{Mapped}
 abbrev pub usesRoom : ℕ
 usesRoom = 8200
 
+-- How many numbers the indexes of both languages have, one behind the other.
+abbrev pub indexesLength : ℕ
+indexesLength = 16448
+
 -- The three parts of f, whose keys rise: both languages with their indexes, the body with what kinds map to by number.
 pub record Ready (s is t it b u : List ℕ) (f : Translation) : Type 0 where
   pub source : Indexed is s (f .source)

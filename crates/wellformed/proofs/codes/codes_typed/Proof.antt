@@ -37,13 +37,13 @@ code-typed-requires : tie.Need-code-typed-requires Inv-loop μ-loop
 code-typed-requires c κs = (c .before .whole-end .ensures .is, (clause-at _ _ (every-here _ _ _ (c .before .before .before .loop .inv .1) (c .before .before .loop-test .taken) .0)), (_, c .before .before .before .loop .inv .0 _ (c .before .before .before .before .before .before .before .before .before .before .pre .1 .1)))
 
 returns : tie.Need-returns Inv-loop μ-loop
-returns c = λ f z. every-stop _ _ _ _ (c .before .before .before .before .before .before .before .loop .inv .2 f z) _ (c .before .before .before .code-typed .ensures f (c .before .before .before .before .before .before .before .loop .inv .0 f z) .0) _ (c .before .before .before .before .before .whole-end .ensures .is) (c .before .before .before .before .before .before .loop-test .taken) (not-true _ (c .if1 .taken))
+returns c = λ f z. (every-stop _ _ _ _ (c .before .before .before .before .before .before .before .loop .inv .2 f z) _ (c .before .before .before .code-typed .ensures f (c .before .before .before .before .before .before .before .loop .inv .0 f z) .0) _ (c .before .before .before .before .before .whole-end .ensures .is) (c .before .before .before .before .before .before .loop-test .taken) (not-true _ (c .if1 .taken)), c .before .before .before .code-typed .ensures f (c .before .before .before .before .before .before .before .loop .inv .0 f z) .1)
 
 loop-again : tie.Need-loop-again Inv-loop μ-loop
 loop-again c = (λ f z. c .before .before .before .code-typed .ensures f (c .before .before .before .before .before .before .before .loop .inv .0 f z) .1, every-after _ _ _ _ (c .before .before .before .before .before .whole-end .ensures .is) (c .before .before .before .before .before .before .before .loop .inv .1) (c .before .before .before .before .before .before .loop-test .taken), λ f z. every-next _ _ _ _ (c .before .before .before .before .before .before .before .loop .inv .2 f z) _ (c .before .before .before .code-typed .ensures f (c .before .before .before .before .before .before .before .loop .inv .0 f z) .0) _ (c .before .before .before .before .before .whole-end .ensures .is) (c .before .before .before .before .before .before .loop-test .taken) (not-false _ (c .if1 .left)), search needs)
 
 returns-2 : tie.Need-returns-2 Inv-loop μ-loop
-returns-2 c = λ f z. every-done _ _ _ _ (c .before .loop .inv .2 f z) (c .loop-test .left)
+returns-2 c = λ f z. (every-done _ _ _ _ (c .before .loop .inv .2 f z) (c .loop-test .left), c .before .loop .inv .0 f z)
 
 pub codes-typed-spec : {M : Type 1} → statement M
 codes-typed-spec =
