@@ -143,6 +143,18 @@ module _ (s g b t t₂ v y : List ℕ) (begins : Begun s g t) (w : Filled s b t 
       (λ j h. getD-drop 8224 y j 0 ∙ (ranked .same (8224 + j) (omega arith) ∙ (hinted .same (8224 + j) (omega arith) ∙ w .around .below (8224 + j) (omega arith))))
       bytes short l e
 
+-- The index of the source stays.
+pub source-kept : (s g b t t₂ v y x u : List ℕ) → Begun s g t → Filled s b t t₂ → Hinted b t₂ v → Beside v y → Beside y x → Itemed b x u → Built 0x11 s u 0
+source-kept s g b t t₂ v y x u begins w hinted ranked spanned o = record {
+  zeros = begins .source .zeros;
+  long = begins .source .long;
+  zero = begins .source .zero;
+  is = λ j h.
+      o .around .below (0 + j) (omega arith)
+      ∙ (spanned .same (0 + j) (omega arith)
+      ∙ (ranked .same (0 + j) (omega arith) ∙ (hinted .same (0 + j) (omega arith) ∙ (w .around .below (0 + j) (omega arith) ∙ begins .source .is j h))));
+}
+
 -- Bytes stand where each of them does.
 stands-each : (u : List ℕ) (at : ℕ) (v : List ℕ) → at + length v ≤ length u → ((j : ℕ) → j < length v → getD u (at + j) 0 ≡ getD v j 0) → Stands u at v
 stands-each u at v h e =

@@ -24,7 +24,7 @@ ghost use lib.ListN.{length, getD, set};
 ghost use Rattle.language.specs.Language.{Language, productionKey};
 ghost use Rattle.reader.specs.Code.{Code};
 ghost use Rattle.reader.specs.Typing.{Uses};
-ghost use Rattle.reader.specs.Inner.Index.{Sound, Indexed};
+ghost use Rattle.reader.specs.Inner.Index.{Built, Sound, Indexed};
 ghost use Rattle.translation.specs.Translation.{Translation};
 ghost use Rattle.translation.specs.Inner.ItemIndex.{Mapped};
 ghost use Rattle.fields.specs.Inner.Writing.{spliced};
@@ -196,7 +196,8 @@ fn put_clauses(body: &[u8], table: &mut [u16])
 // Fills the table of a translation that was accepted, where it is lent as a slice.
 fn fill_all(source: &[u8], target: &[u8], body: &[u8], uses: &[u8], table: &mut [u16])
     requires { ⌜ Begun (now source) (now target) (now table) × ((f : Translation) × Checked (now source) (now target) (now body) f) ⌝ }
-    ensures { λ r. ⌜ ((f : Translation) → Checked (now (source .entry)) (now (target .entry)) (now (body .entry)) f → Mapped (now (uses .entry)) (f .body) → Ready (now (table .exit)) f) ⌝ }
+    ensures { λ r. ⌜ Built 0x11 (now (source .entry)) (now (table .exit)) 0
+        × ((f : Translation) → Checked (now (source .entry)) (now (target .entry)) (now (body .entry)) f → Mapped (now (uses .entry)) (f .body) → Ready (now (table .exit)) f) ⌝ }
 {
     fill(source, body, table);
     put_hints(body, table);
@@ -206,10 +207,11 @@ fn fill_all(source: &[u8], target: &[u8], body: &[u8], uses: &[u8], table: &mut 
 }
 
 // Fills the table of a translation that was accepted, by the bytes of its source, target and body and by what kinds map to by
-// number. The indexes of the source and of the target stand in the table, and it is all zero besides.
+// number. The indexes of the source and of the target stand in the table, and it is all zero besides; that of the source stays.
 pub fn prepare(source: &[u8], target: &[u8], body: &[u8], uses: &[u8], table: &mut [u16; TABLE])
     requires { ⌜ Begun (now source) (now target) (now table) × ((f : Translation) × Checked (now source) (now target) (now body) f) ⌝ }
-    ensures { λ r. ⌜ ((f : Translation) → Checked (now (source .entry)) (now (target .entry)) (now (body .entry)) f → Mapped (now (uses .entry)) (f .body) → Ready (now (table .exit)) f) ⌝ }
+    ensures { λ r. ⌜ Built 0x11 (now (source .entry)) (now (table .exit)) 0
+        × ((f : Translation) → Checked (now (source .entry)) (now (target .entry)) (now (body .entry)) f → Mapped (now (uses .entry)) (f .body) → Ready (now (table .exit)) f) ⌝ }
 {
     fill_all(source, target, body, uses, table);
 }

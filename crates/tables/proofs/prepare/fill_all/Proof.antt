@@ -1,7 +1,7 @@
 use mathlib.Core.Path.{_∙_}
 use Prim.Native.Nat.{_+_}
 use native.Mathlib.Omega.{arith}
-use Rattle.tables.proofs.Tables.{ranked-long, target-indexed, ready}
+use Rattle.tables.proofs.Tables.{ranked-long, target-indexed, source-kept, ready}
 use borrow.Author.Needs.{needs}
 use Rattle.tables.proofs.prepare.fill_all.Statement.{statement}
 use Rattle.tables.proofs.prepare.fill_all.Tie as tie
@@ -20,7 +20,7 @@ span-all-requires : tie.Need-span-all-requires
 span-all-requires c κs = ((target-indexed _ _ _ _ _ _ _ (c .before .before .before .before .before .before .before .before .before .before .before .before .before .before .before .before .before .before .pre .0) (c .before .before .before .before .before .before .before .before .before .before .before .fill .ensures) (c .before .before .before .before .before .before .before .put-hints .ensures) (c .before .before .before .put-ranks .ensures) (λ i. omega (arith, c .before .before .before .before .before .before .before .before .before .before .before .before .before .before .before .before .shared-slice-known2 .given i)) (c .before .before .before .before .before .before .before .before .before .before .before .before .before .before .before .before .before .before .pre .1 .1 .pieces .target-short) _ (c .before .before .before .before .before .before .before .before .before .before .before .before .before .before .before .before .before .before .pre .1 .1 .pieces .target)) .sound, c .before .before .before .before .before .before .before .before .before .before .before .before .before .before .before .before .before .before .pre .1 .1 .short, ranked-long _ _ _ _ _ _ _ (c .before .before .before .before .before .before .before .before .before .before .before .before .before .before .before .before .before .before .pre .0) (c .before .before .before .before .before .before .before .before .before .before .before .fill .ensures) (c .before .before .before .before .before .before .before .put-hints .ensures) (c .before .before .before .put-ranks .ensures))
 
 returns : tie.Need-returns
-returns c = λ f z m. ready _ _ _ _ _ _ _ _ _ f z (c .before .before .before .before .before .before .before .before .before .before .before .before .before .before .before .before .before .before .before .before .before .before .before .before .before .pre .0) (c .before .before .before .before .before .before .before .before .before .before .before .before .before .before .before .before .before .before .fill .ensures) (c .before .before .before .before .before .before .before .before .before .before .before .before .before .before .put-hints .ensures) (c .before .before .before .before .before .before .before .before .before .before .put-ranks .ensures) (c .before .before .before .before .before .before .span-all .ensures .1 _ f z (target-indexed _ _ _ _ _ _ _ (c .before .before .before .before .before .before .before .before .before .before .before .before .before .before .before .before .before .before .before .before .before .before .before .before .before .pre .0) (c .before .before .before .before .before .before .before .before .before .before .before .before .before .before .before .before .before .before .fill .ensures) (c .before .before .before .before .before .before .before .before .before .before .before .before .before .before .put-hints .ensures) (c .before .before .before .before .before .before .before .before .before .before .put-ranks .ensures) (λ i. omega (arith, c .before .before .before .before .before .before .before .before .before .before .before .before .before .before .before .before .before .before .before .before .before .before .before .shared-slice-known2 .given i)) (z .pieces .target-short) _ (z .pieces .target)) m) (c .before .before .put-clauses .ensures) (λ i. omega (arith, c .before .before .before .before .before .before .before .before .before .before .before .before .before .before .before .before .before .before .before .before .before .before .before .before .shared-slice-known .given i)) (λ i. omega (arith, c .before .before .before .before .before .before .before .before .before .before .before .before .before .before .before .before .before .before .before .before .before .before .shared-slice-known3 .given i))
+returns c = (source-kept _ _ _ _ _ _ _ _ _ (c .before .before .before .before .before .before .before .before .before .before .before .before .before .before .before .before .before .before .before .before .before .before .before .before .before .pre .0) (c .before .before .before .before .before .before .before .before .before .before .before .before .before .before .before .before .before .before .fill .ensures) (c .before .before .before .before .before .before .before .before .before .before .before .before .before .before .put-hints .ensures) (c .before .before .before .before .before .before .before .before .before .before .put-ranks .ensures) (c .before .before .before .before .before .before .span-all .ensures .0) (c .before .before .put-clauses .ensures), λ f z m. ready _ _ _ _ _ _ _ _ _ f z (c .before .before .before .before .before .before .before .before .before .before .before .before .before .before .before .before .before .before .before .before .before .before .before .before .before .pre .0) (c .before .before .before .before .before .before .before .before .before .before .before .before .before .before .before .before .before .before .fill .ensures) (c .before .before .before .before .before .before .before .before .before .before .before .before .before .before .put-hints .ensures) (c .before .before .before .before .before .before .before .before .before .before .put-ranks .ensures) (c .before .before .before .before .before .before .span-all .ensures .1 _ f z (target-indexed _ _ _ _ _ _ _ (c .before .before .before .before .before .before .before .before .before .before .before .before .before .before .before .before .before .before .before .before .before .before .before .before .before .pre .0) (c .before .before .before .before .before .before .before .before .before .before .before .before .before .before .before .before .before .before .fill .ensures) (c .before .before .before .before .before .before .before .before .before .before .before .before .before .before .put-hints .ensures) (c .before .before .before .before .before .before .before .before .before .before .put-ranks .ensures) (λ i. omega (arith, c .before .before .before .before .before .before .before .before .before .before .before .before .before .before .before .before .before .before .before .before .before .before .before .shared-slice-known2 .given i)) (z .pieces .target-short) _ (z .pieces .target)) m) (c .before .before .put-clauses .ensures) (λ i. omega (arith, c .before .before .before .before .before .before .before .before .before .before .before .before .before .before .before .before .before .before .before .before .before .before .before .before .shared-slice-known .given i)) (λ i. omega (arith, c .before .before .before .before .before .before .before .before .before .before .before .before .before .before .before .before .before .before .before .before .before .before .shared-slice-known3 .given i)))
 
 pub fill-all-spec : {M : Type 1} → statement M
 fill-all-spec =
