@@ -1,16 +1,15 @@
 -- The index of the source as the front of the table of a run.
 use Prim.Native.Nat.{ℕ, _+_, _≤_, _<_}
-use mathlib.Core.Path.{_≡_, refl, ap}
-use mathlib.Core.List.{List, [], _∷_, _++_}
+use mathlib.Core.Path.{_≡_, refl, sym, _∙_}
+use mathlib.Core.List.{List, [], _∷_}
 use native.Mathlib.Omega.{arith}
-use lib.ListN.{length, getD, take, drop, length-append, List·getD-append}
-use Rattle.fields.specs.Inner.Places.{places}
-use Rattle.language.specs.Language.{Language, productionKey}
-use Rattle.reader.specs.Inner.Index.{Sound, Indexed, putAll}
+use lib.ListN.{length, getD, take}
+use lib.Seq.{getD-take, length-take-le}
+use Rattle.language.specs.Language.{productionKey}
+use Rattle.reader.specs.Inner.Index.{Built}
 use Rattle.translation.specs.Translation.{Translation}
 use Rattle.measure.specs.Inner.Counting.{Tables}
 use Rattle.measure.specs.Inner.Measuring.{Counted}
-use Rattle.tables.proofs.Tables.{front-index-long}
 
 -- What is counted by the index of a longer table is what is counted by its front.
 module _ (index table : List ℕ) (same : (j : ℕ) → j < 8224 → getD table j 0 ≡ getD index j 0) where
@@ -21,16 +20,16 @@ module _ (index table : List ℕ) (same : (j : ℕ) → j < 8224 → getD table 
     narrow = z .narrow;
   }
 
--- begin: the front of the table o was replaced by the index.
-module _ (s o index : List ℕ) (long : length o ≡ 26184) (put : index ≡ putAll 0x11 s (take 8224 o) (places s)) where
-  index-long : length index ≡ 8224
-  index-long = rw put (front-index-long s o long)
+-- begin: the index is the front of the table.
+module _ (s table : List ℕ) (long : length table ≡ 26184) where
+  pub front-length : length (take 8224 table) ≡ 8224
+  front-length = length-take-le 8224 table (omega arith)
 
-  pub front-same : (j : ℕ) → j < 8224 → getD (index ++ drop 8224 o) j 0 ≡ getD index j 0
-  front-same j h = List·getD-append index (drop 8224 o) 0 j (omega (arith, index-long))
+  pub front-same : (j : ℕ) → j < 8224 → getD table j 0 ≡ getD (take 8224 table) j 0
+  front-same j h = sym (getD-take 8224 table j 0 h)
 
-  pub front-long : 8224 ≤ length (index ++ drop 8224 o)
-  front-long = rw (length-append index (drop 8224 o)) (omega (arith, index-long))
+  pub front-built : Built 0x11 s table 0 → Built 0x11 s (take 8224 table) 0
+  front-built w = record { zeros = w .zeros; long = w .long; zero = w .zero; is = λ j h. getD-take 8224 table (0 + j) 0 (omega arith) ∙ w .is j h }
 
 -- measure_single: no entries are lent.
 no-entries : (l : List ℕ) → length l ≡ 0 → l ≡ []
