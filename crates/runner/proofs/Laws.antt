@@ -282,13 +282,26 @@ refused-is s c out r ec h i = i ∙ (sym h ∙ ec)
 
 pub refused-none : {A : Type 0} (s : List ℕ) (f : Translation) → translationOf s ≡ value f → (c : Outcome) (r : Reason) → c ≡ checkTranslation s → c ≡ Refused r → A
 unfolding checkTranslation
-refused-none s f e c r ec h = refused-not {n = 0} {r = r} (sym (rw e at ec) ∙ h)
+refused-none s f e c r ec h =
+    let y : c ≡ Accepted 0 = rw e at ec in
+    refused-not {n = 0} {r = r} (sym h ∙ y)
 
 -- run: the parts that are lent.
 pub parts-checked : (s : List ℕ) (f : Translation) → translationOf s ≡ value f → {x y z : List ℕ} → x ≡ sourceIn s → y ≡ targetIn s → z ≡ bodyIn s
     → Checked x y z f
 parts-checked s f e ex ey ez =
     rw (ex, ey, ez) (record { pieces = pieces-in s f e; short = body-in-short s f e; file = s; accepted = e })
+
+-- The table of the parts, under other names.
+pub begun-as : {x y s g t : List ℕ} → x ≡ s → y ≡ g → Begun s g t → Begun x y t
+begun-as ex ey w = rw (ex, ey) w
+
+pub prepared-as : {x z s t b table : List ℕ} {f : Translation} → x ≡ s → z ≡ b → Prepared s t b table f → Prepared x t z table f
+prepared-as ex ez w = rw (ex, ez) w
+
+pub into-prepared : (s : List ℕ) (f : Translation) → translationOf s ≡ value f → {x table : List ℕ} → x ≡ sourceIn s → Built 0x11 x table 0 → Ready table f
+    → Prepared (sourceIn s) (targetIn s) (bodyIn s) table f
+into-prepared s f e ex built ready = record { checked = parts-checked s f e refl refl refl; ready = ready; index = rw ex at built }
 
 -- The outcome, the output and the cost are those of the operation.
 abbrev pub AsRun : List ℕ → (root number : ℕ) → List ℕ → List ℕ → List ℕ → ℕ → Outcome → Type 0
