@@ -1,12 +1,12 @@
--- The indexes of both languages, one behind the other in one table: what is looked up in each, and that neither overwrites the other.
+-- The indexes of both languages, one behind the other in one table: that neither overwrites the other, and what the tests are given.
 use Prim.Native.Nat.{ℕ, _+_, _<_, _≤_}
-use mathlib.Core.Path.{_≡_, ap, _∙_}
+use mathlib.Core.Path.{_≡_, _∙_}
 use mathlib.Core.Bool.{true}
 use mathlib.Core.List.{List}
 use mathlib.Core.Option.{some}
 use native.Mathlib.Omega.{arith}
-use lib.ListN.{length, getD, take, drop, length-drop}
-use lib.Seq.{length-take-le, getD-take, getD-drop}
+use lib.ListN.{length, getD, drop, length-drop}
+use lib.Seq.{getD-drop}
 use Rattle.language.specs.Language.{Language}
 use Rattle.language.specs.LanguageFile.{entriesOf}
 use Rattle.reader.specs.Inner.Index.{Built, Around, Indexed}
@@ -31,21 +31,22 @@ built-below first s t u a b e w k h = record {
 pub zero-behind : (t u : List ℕ) → ((j : ℕ) → getD t j 0 ≡ 0) → Around t u 0 8224 → (j : ℕ) → j < 8224 → getD u (8224 + j) 0 ≡ 0
 zero-behind t u z k j h = k .past (8224 + j) (omega arith) ∙ z (8224 + j)
 
--- The first index, and the second, by the part of the table that is lent.
-module _ (s t : List ℕ) (long : length t ≡ 16448) (bytes : (i : ℕ) → getD s i 0 < 256) (short : length s ≤ 1024) (l : Language) (e : entriesOf s ≡ some l) where
-  pub first-indexed : Built 0x11 s t 0 → Indexed (take 8224 t) s l
-  first-indexed w =
-      let d : length (take 8224 t) ≡ 8224 = length-take-le 8224 t (omega arith) in
-      built-indexed s t (take 8224 t) 0 w (omega arith) (λ j h. let i : j ≡ 0 + j = omega arith in getD-take 8224 t j 0 h ∙ ap (λ (n : ℕ). getD t n 0) i) bytes short l e
-
-  pub second-indexed : Built 0x11 s t 8224 → Indexed (drop 8224 t) s l
-  second-indexed w =
-      let d = length-drop 8224 t in
-      built-indexed s t (drop 8224 t) 8224 w (omega arith) (λ j h. getD-drop 8224 t j 0) bytes short l e
+-- What the tests are given, with the index of the target.
+pub own-ready : (s t it b u : List ℕ) → ((l : Language) → entriesOf t ≡ some l → Indexed it t l) → length u ≡ 8200 → ((c : Body) → bodyOf b ≡ some c → Mapped u c)
+    → (f : Translation) → Pieces s t b f → allRising f ≡ true → Ready s t it b u f
+own-ready s t it b u index room uses f p rises = record {
+  source = p .source;
+  short = p .source-short;
+  target = index (f .target) (p .target);
+  body = p .body;
+  room = room;
+  uses = uses (f .body) (p .body);
+  rises = rises;
+}
 
 -- check_parted
-pub ready-cut : (s is t x b u : List ℕ) (f : Translation) → Ready s is t (drop 8224 x) b u f → Ready s is t (cut x 8224 (length x)) b u f
-ready-cut s is t x b u f z = rw (rest-is x 8224) z
+pub ready-cut : (s t x b u : List ℕ) (f : Translation) → Ready s t (drop 8224 x) b u f → Ready s t (cut x 8224 (length x)) b u f
+ready-cut s t x b u f z = rw (rest-is x 8224) z
 
 -- check_kept: o is all zero, m has the first index, x has both.
 module _ (s t o m x : List ℕ) (long : length o ≡ 16448) (w : Built 0x11 s m 0) (k : Around o m 0 8224) (v : Built 0x11 t x 8224) (n : Around m x 8224 16448) where
@@ -55,13 +56,11 @@ module _ (s t o m x : List ℕ) (long : length o ≡ 16448) (w : Built 0x11 s m 
   pub first-stays : Built 0x11 s x 0
   first-stays = built-below 0x11 s m x 0 8224 16448 w n (omega arith)
 
-  pub made-ready : (b u : List ℕ) → ((i : ℕ) → getD s i 0 < 256) → ((i : ℕ) → getD t i 0 < 256) → length u ≡ 8200 → ((c : Body) → bodyOf b ≡ some c → Mapped u c)
-      → (f : Translation) → Pieces s t b f → allRising f ≡ true → Ready s (take 8224 x) t (drop 8224 x) b u f
-  made-ready b u source-bytes target-bytes room uses f p rises = record {
-    source = first-indexed s x both-long source-bytes (p .source-short) (f .source) (p .source) first-stays;
-    target = second-indexed t x both-long target-bytes (p .target-short) (f .target) (p .target) v;
-    body = p .body;
-    room = room;
-    uses = uses (f .body) (p .body);
-    rises = rises;
-  }
+  -- The second index, by the part of the table that is lent.
+  pub made-ready : (b u : List ℕ) → ((i : ℕ) → getD t i 0 < 256) → length u ≡ 8200 → ((c : Body) → bodyOf b ≡ some c → Mapped u c)
+      → (f : Translation) → Pieces s t b f → allRising f ≡ true → Ready s t (drop 8224 x) b u f
+  made-ready b u bytes room uses f p rises =
+      let d = length-drop 8224 x in
+      own-ready s t (drop 8224 x) b u
+      (built-indexed t x (drop 8224 x) 8224 v (omega (arith, both-long)) (λ j h. getD-drop 8224 x j 0) bytes (p .target-short))
+      room uses f p rises

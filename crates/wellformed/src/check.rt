@@ -3,7 +3,7 @@ ghost use mathlib.Core.Path.{_≡_};
 ghost use mathlib.Core.Bool.{true};
 ghost use mathlib.Core.Option.{some};
 ghost use Prim.Native.Nat.{ℕ, _≤_};
-ghost use lib.ListN.{length, getD, take, drop};
+ghost use lib.ListN.{length, getD, drop};
 ghost use Rattle.fields.specs.Outcome.{checked};
 ghost use Rattle.reader.specs.Inner.Index.{Built, indexLength};
 ghost use Rattle.translation.specs.Translation.{Body, Translation};
@@ -23,6 +23,7 @@ use fields::outcome::refuse;
 use fields::walk::MAPPING;
 use language::entries::CLASS;
 use reader::index::INDEX;
+use reader::index::build;
 use reader::index::put_index;
 use reader::node::USES;
 use translation::index::put_uses;
@@ -39,21 +40,20 @@ const PRODUCTIONS: usize = 32;
 // The least key of a clause: 256 times that of a production.
 const CLAUSES: usize = 8192;
 
-// The three parts, with indexes of both languages and what kinds map to by number, are well formed: 5 to 7. What kinds map to
+// The three parts, with the index of the target and what kinds map to by number, are well formed: 5 to 7. What kinds map to
 // stays.
 fn check_indexed(
     source: &[u8],
-    sources: &[u16],
     target: &[u8],
     targets: &[u16],
     body: &[u8],
     uses: &mut [u8],
 ) -> Answer
-    requires { ⌜ ((f : Translation) × Ready (now source) (now sources) (now target) (now targets) (now body) (now uses) f) ⌝ }
-    ensures { λ r. ⌜ ((f : Translation) → Ready (now (source .entry)) (now (sources .entry)) (now (target .entry)) (now (targets .entry)) (now (body .entry)) (now (uses .entry)) f
+    requires { ⌜ ((f : Translation) × Ready (now source) (now target) (now targets) (now body) (now uses) f) ⌝ }
+    ensures { λ r. ⌜ ((f : Translation) → Ready (now (source .entry)) (now (target .entry)) (now (targets .entry)) (now (body .entry)) (now (uses .entry)) f
         → (r .outcome ≡ checked (wellFormed f)) × Mapped (now (uses .exit)) (f .body)) ⌝ }
 {
-    if !mapping_fits(source, sources, target, targets, body, uses) {
+    if !mapping_fits(source, target, targets, body, uses) {
         return refuse(Reason::WrongMapping);
     }
     let q = skip_below(source, 0, CLASS, PRODUCTIONS);
@@ -61,13 +61,13 @@ fn check_indexed(
     if !clauses_match(source, q, body, p) {
         return refuse(Reason::WrongClauses);
     }
-    if !codes_typed(source, sources, target, targets, body, p, uses) {
+    if !codes_typed(source, q, target, targets, body, p, uses) {
         return refuse(Reason::IllegalCode);
     }
     accept(0)
 }
 
-// The same, with the indexes one behind the other in one table.
+// The same, with the index of the target behind that of the source in one table.
 fn check_parted(
     source: &[u8],
     target: &[u8],
@@ -75,18 +75,11 @@ fn check_parted(
     indexes: &[u16],
     uses: &mut [u8],
 ) -> Answer
-    requires { ⌜ (indexLength ≤ length (now indexes)) × ((f : Translation) × Ready (now source) (take indexLength (now indexes)) (now target) (drop indexLength (now indexes)) (now body) (now uses) f) ⌝ }
-    ensures { λ r. ⌜ ((f : Translation) → Ready (now (source .entry)) (take indexLength (now (indexes .entry))) (now (target .entry)) (drop indexLength (now (indexes .entry))) (now (body .entry)) (now (uses .entry)) f
+    requires { ⌜ (indexLength ≤ length (now indexes)) × ((f : Translation) × Ready (now source) (now target) (drop indexLength (now indexes)) (now body) (now uses) f) ⌝ }
+    ensures { λ r. ⌜ ((f : Translation) → Ready (now (source .entry)) (now (target .entry)) (drop indexLength (now (indexes .entry))) (now (body .entry)) (now (uses .entry)) f
         → (r .outcome ≡ checked (wellFormed f)) × Mapped (now (uses .exit)) (f .body)) ⌝ }
 {
-    check_indexed(
-        source,
-        &indexes[..INDEX],
-        target,
-        &indexes[INDEX..],
-        body,
-        uses,
-    )
+    check_indexed(source, target, &indexes[INDEX..], body, uses)
 }
 
 // Puts what kinds map to by number into uses that are all zero, and leaves room behind it.
@@ -119,13 +112,15 @@ pub fn check_kept(
     check_parted(source, target, body, indexes, uses)
 }
 
-// The same, with tables of its own.
+// The same, with tables of its own; it needs the index of the target only.
 pub fn check_well_formed(source: &[u8], target: &[u8], body: &[u8]) -> Answer
     requires { ⌜ ((f : Translation) × Pieces (now source) (now target) (now body) f × (allRising f ≡ true)) ⌝ }
     ensures { λ r. ⌜ ((f : Translation) → Pieces (now (source .entry)) (now (target .entry)) (now (body .entry)) f → allRising f ≡ true
         → r .outcome ≡ checked (wellFormed f)) ⌝ }
 {
-    let mut indexes = [0u16; INDEXES];
+    let mut targets = [0u16; INDEX];
+    build(target, &mut targets);
     let mut uses = [0u8; USES_ROOM];
-    check_kept(source, target, body, &mut indexes, &mut uses)
+    fill_uses(body, &mut uses);
+    check_indexed(source, target, &targets, body, &mut uses)
 }

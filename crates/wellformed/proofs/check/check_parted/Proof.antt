@@ -1,5 +1,3 @@
-use mathlib.Core.Path.{sym}
-use lib.Seq.{length-take-le}
 use Rattle.wellformed.proofs.Kept.{ready-cut}
 use borrow.Author.Needs.{needs}
 use Rattle.wellformed.proofs.check.check_parted.Statement.{statement}
@@ -8,20 +6,16 @@ use Rattle.wellformed.proofs.check.check_parted.Reads as reads
 use Rattle.wellformed.proofs.check.check_parted.Lts as lts
 use Rattle.wellformed.proofs.check.check_indexed.Reads as check-indexed-reads
 
-slice-aggregate-check-indexed : tie.Need-slice-aggregate-check-indexed
-slice-aggregate-check-indexed c = sym (length-take-le 8224 (c .before .before .before .before .before .before .args .indexes .now) (c .before .before .before .before .before .before .pre .0))
-
 check-indexed-requires : tie.Need-check-indexed-requires
-check-indexed-requires c κs = (_, ready-cut _ _ _ (c .before .before .before .before .before .before .before .before .args .indexes .now) _ _ _ (c .before .before .before .before .before .before .before .before .pre .1 .1))
+check-indexed-requires c κs = (_, ready-cut _ _ (c .before .before .before .before .before .before .before .args .indexes .now) _ _ _ (c .before .before .before .before .before .before .before .pre .1 .1))
 
 returns : tie.Need-returns
-returns c = λ f z. c .before .before .check-indexed .ensures f (ready-cut _ _ _ (c .before .before .before .before .before .before .before .before .before .before .before .args .indexes .now) _ _ f z)
+returns c = λ f z. c .before .before .check-indexed .ensures f (ready-cut _ _ (c .before .before .before .before .before .before .before .before .before .before .args .indexes .now) _ _ f z)
 
 pub check-parted-spec : {M : Type 1} → statement M
 check-parted-spec =
     tie.close
     (tie.spec
-    slice-aggregate-check-indexed
     (λ c. search needs)
     (λ c. search needs)
     (λ c. search needs)
