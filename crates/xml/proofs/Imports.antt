@@ -1,11 +1,11 @@
 -- A law for each return and loop turn of the functions of import.rt.
-use Prim.Native.Nat.{ℕ, zero, suc, _+_, _*_, _/_, _%_, _-_, _<_, _≤_}
+use Prim.Native.Nat.{ℕ, suc, _+_, _-_, _<_, _≤_}
 use mathlib.Core.Path.{_≡_, refl, sym, ap, _∙_}
-use mathlib.Core.Bool.{Bool, true, false, cond, _&&_}
-use mathlib.Core.List.{List, [], _∷_, _++_, map, append-assoc, append-nil}
+use mathlib.Core.Bool.{_&&_}
+use mathlib.Core.List.{List, [], _∷_, _++_, map}
 use mathlib.Core.Option.{Option, none, some}
 use native.Mathlib.Omega.{arith}
-use lib.ListN.{length, getD, drop, length-append}
+use lib.ListN.{length, getD, drop}
 use lib.Seq.{slice}
 use lib.Dec.{ltb, eqb}
 use borrow.Author.Tests.{lt-ltb, le-ltb, ltb-true, ltb-false, eqb-true}
@@ -13,28 +13,25 @@ use Rattle.fields.specs.Fields.{pairAt}
 use Rattle.fields.specs.Inner.Places.{places}
 use Rattle.fields.specs.Lists.{first}
 use Rattle.fields.proofs.Truth.{by-test, and-both, none-some, first-mem, map-cases}
-use Rattle.fields.proofs.Lists.{part-done, part-next}
-use Rattle.language.specs.Language.{Language, Entry, Range, rangeOf, argumentsAt, argumentsOf, productionKey}
+use Rattle.language.specs.Language.{Language, rangeOf, argumentsAt, argumentsOf, productionKey}
 use Rattle.language.specs.LanguageFile.{entriesOf}
 use Rattle.language.specs.Inner.Entries.{entryAt, classRange}
 use Rattle.language.proofs.Holds.{holds-entries}
-use Rattle.reader.specs.Code.{Code, node, token as leaf, Codes, nil, cons}
+use Rattle.reader.specs.Code.{Code, node, token as leaf}
 use Rattle.reader.specs.Syntax.{Read, done, deep, broken, andThen, readAll}
 use Rattle.reader.specs.Inner.Index.{Sound, Indexed}
-use Rattle.reader.specs.Inner.Positions.{KindsIn}
+use Rattle.reader.specs.Inner.Positions.{KindsIn, Rest, restOf}
+use Rattle.reader.specs.Inner.Positions as P
 use Rattle.reader.proofs.Laws.{name-in, kinds-in}
 use Rattle.xml.specs.Text.{decimal, closeNode, nodeTag}
 use Rattle.xml.specs.Import.{readWord, readOpening, readClosing, readToken, readOperands, readElement, readText}
-use Rattle.xml.specs.declared.scan.Place.{Place}
-use Rattle.xml.specs.declared.scan.Place.the-variants.{At, Nothing}
 use Rattle.xml.specs.declared.scan.Number.{Number}
 use Rattle.xml.specs.declared.scan.Number.the-variants as N
 use Rattle.xml.specs.declared.import.Element.{Element}
 use Rattle.xml.specs.declared.import.Element.the-variants as E
-use Rattle.xml.specs.declared.import.Text.{Text}
 use Rattle.xml.specs.declared.import.Text.the-variants.{End, Deep, Broken}
-use Rattle.xml.specs.Inner.Scanning.{closes, Stands, Numbers, Tokens}
-use Rattle.xml.specs.Inner.Importing.{Inside, Imports, Opens, OpensElement, Elements, ImportsTree, ImportsTrees, placeOf}
+use Rattle.xml.specs.Inner.Scanning.{closes, Numbers, Tokens}
+use Rattle.xml.specs.Inner.Importing.{Inside, Imports, Opens, OpensElement, Elements, ImportsTree, placeOf}
 use Rattle.xml.proofs.Round.{class-text, no-class, opening-sound}
 use Rattle.xml.proofs.Words.{closing-word}
 use Rattle.putting.proofs.Reading.{class-known, class-none, production-none, production-known}
@@ -113,69 +110,26 @@ module _ (s : List ℕ) (l : Language) (e : entriesOf s ≡ some l) (bytes : (i 
 pub opens-is : {k : ℕ} {text : List ℕ} {at p a : ℕ} {x : Number} → Numbers (readOpening k (drop at text)) text (at + 2) x → x ≡ N.Is p a → Opens k text at p a
 opens-is {p = p} {a = a} w h = let z = w .reached p a h in record { reads = w .found p a h; small = w .small p a h; past = z .past; inside = z .inside }
 
--- texts_at, a turn at a time: `before` puts what was read in front of what is left to read.
-pub record Going (kinds text : List ℕ) (from stop at levels q to : ℕ) (l : Language) : Type 0 where
-  pub before : Codes → Codes
-  pub reads : readAll (readText l levels) (slice from stop kinds) (drop at text)
-      ≡ (andThen (readAll (readText l levels) (slice q stop kinds) (drop to text)) λ t r. done (before t) r)
+-- What is left behind two readings.
+abbrev pub thenRest : Rest → (List ℕ → Rest) → Rest
+thenRest (P.rest r) f = f r
+thenRest P.deep f = P.deep
+thenRest P.broken f = P.broken
 
-then-id : {A : Type 0} (p : Read A) → p ≡ (andThen p λ a r. done a r)
-then-id (done a r) = refl
-then-id deep = refl
-then-id broken = refl
+-- What the trees leave of a text whose kinds stand in `kinds` from q up to e.
+abbrev pub rowRest : Language → ℕ → List ℕ → ℕ → ℕ → List ℕ → Rest
+rowRest l levels kinds q e u = restOf (readAll (readText l levels) (slice q e kinds) u)
 
-then-made : {A B C : Type 0} (p : Read A) (f : A → B) (g : B → C) → (andThen (andThen p λ a r. done (f a) r) λ b r. done (g b) r) ≡ (andThen p λ a r. done (g (f a)) r)
-then-made (done a r) f g = refl
-then-made deep f g = refl
-then-made broken f g = refl
+pub rest-made : {A B : Type 0} (p : Read A) (f : A → B) → restOf (andThen p λ a r. done (f a) r) ≡ restOf p
+rest-made (done a r) f = refl
+rest-made deep f = refl
+rest-made broken f = refl
 
-abbrev pub Goes : List ℕ → List ℕ → List ℕ → ℕ → ℕ → List ℕ → ℕ → ℕ → ℕ → ℕ → Type 0
-Goes kinds s index from stop text at levels q to = (l : Language) → Indexed index s l → Going kinds text from stop at levels q to l
-
-module _ (kinds s index : List ℕ) (from stop : ℕ) (text : List ℕ) (at levels : ℕ) where
-  pub goes-start : Goes kinds s index from stop text at levels from at
-  goes-start l z = record { before = λ t. t; reads = then-id (readAll (readText l levels) (slice from stop kinds) (drop at text)) }
-
-  module _ {q to : ℕ} (goes : Goes kinds s index from stop text at levels q to) where
-    pub goes-done : stop ≤ q → ImportsTrees kinds s index from stop text at levels (End to)
-    unfolding readAll
-    goes-done h l z =
-        let g = goes l z in
-        let no : slice q stop kinds ≡ [] = sym (part-done (λ u. u) kinds q stop (slice q stop kinds) refl h) in
-        imports-end (g .before nil)
-        (g .reads ∙ ap (λ (ks : List ℕ). andThen (readAll (readText l levels) ks (drop to text)) λ t r. done (g .before t) r) no)
-
-    module _ {k : ℕ} (ek : k ≡ getD kinds q 0) (more : q < stop) (there : stop ≤ length kinds) {y : Text}
-        (step : ImportsTree s index k text to levels y) where
-      next-is : slice q stop kinds ≡ k ∷ slice (q + 1) stop kinds
-      next-is = sym (part-next (λ u. u) kinds q stop (slice q stop kinds) refl more there) ∙ ap (λ (j : ℕ). j ∷ slice (q + 1) stop kinds) (sym ek)
-
-      abbrev rest : (l : Language) → Code → List ℕ → Read Codes
-      rest l a r = andThen (readAll (readText l levels) (slice (q + 1) stop kinds) r) λ t u. done (cons a t) u
-
-      turn : (l : Language) (z : Indexed index s l) → readAll (readText l levels) (slice from stop kinds) (drop at text)
-          ≡ (andThen (andThen (readText l levels k (drop to text)) (rest l)) λ t r. done (goes l z .before t) r)
-      unfolding readAll
-      turn l z = goes l z .reads ∙ ap (λ (ks : List ℕ). andThen (readAll (readText l levels) ks (drop to text)) λ t r. done (goes l z .before t) r) next-is
-
-      with-first : (l : Language) (z : Indexed index s l) {p : Read Code} → readText l levels k (drop to text) ≡ p → readAll (readText l levels) (slice from stop kinds) (drop at text)
-          ≡ (andThen (andThen p (rest l)) λ t r. done (goes l z .before t) r)
-      with-first l z e = turn l z ∙ ap (λ (p : Read Code). andThen (andThen p (rest l)) λ t r. done (goes l z .before t) r) e
-
-      pub goes-deep : y ≡ Deep → ImportsTrees kinds s index from stop text at levels Deep
-      goes-deep h l z = imports-deep (with-first l z (step l z .deep h))
-
-      pub goes-broken : y ≡ Broken → ImportsTrees kinds s index from stop text at levels Broken
-      goes-broken h l z = imports-broken (with-first l z (step l z .broken h))
-
-      pub goes-next : {e : ℕ} → y ≡ End e → Goes kinds s index from stop text at levels (q + 1) e
-      goes-next {e} ey l z =
-          let g = goes l z in
-          let f = step l z .found e ey in
-          record {
-            before = λ t. g .before (cons (f .0) t);
-            reads = with-first l z (f .1) ∙ then-made (readAll (readText l levels) (slice (q + 1) stop kinds) (drop e text)) (cons (f .0)) (g .before);
-          }
+pub then-rest : {A B : Type 0} (p : Read A) (f : A → List ℕ → Read B) (g : List ℕ → Rest) → ((a : A) (r : List ℕ) → restOf (f a r) ≡ g r)
+    → restOf (andThen p f) ≡ thenRest (restOf p) g
+then-rest (done a r) f g same = same a r
+then-rest deep f g same = refl
+then-rest broken f g same = refl
 
 -- element_at
 not-of : {q e a : ℕ} {A : Type 0} → E.Nothing ≡ E.Of q e a → A
@@ -297,46 +251,21 @@ module _ (s index text : List ℕ) (k at levels : ℕ) (kind : k < 32) (bytes : 
               production-known s index l z k kind p (f .0) (w .place) (f .1) (w .some-place) refl
               ∙ (ap (λ (i : ℕ). some (slice i (w .place + 2 + pairAt s (w .place)) s)) (sym (w .from)) ∙ ap (λ (i : ℕ). some (slice q i s)) (sym (w .to)))
 
-          module _ {y : Text} (all : ImportsTrees s s index q e text a (levels - 1) y) where
-            abbrev then-closing : (l : Language) → Codes → List ℕ → Read Code
-            then-closing l t r = andThen (readClosing k p r) λ u r. done (node k p t) r
+          same-tag : closes at (a - at + 1) text ≡ nodeTag closeNode k p
+          unfolding nodeTag
+          same-tag =
+              let w = is-element .opens in
+              closes-tag text at a (120 ∷ (decimal k ++ (46 ∷ (decimal p ++ (62 ∷ []))))) (omega (arith, w .past, w .inside)) (w .inside)
+              (opening-sound k (drop at text) p (drop a text) (w .reads))
 
-            goes : (l : Language) → Indexed index s l
-                → readText l levels k (drop at text) ≡ (andThen (readAll (readText l (levels - 1)) (slice q e s) (drop a text)) λ t r. then-closing l t r)
-            unfolding readElement readOperands
-            goes l z =
-                element l z
-                ∙ (ap (λ (o : Read ℕ). andThen o λ p r. readOperands (readText l (levels - 1)) k p (argumentsOf l k p) r) (is-element .opens .reads)
-                ∙ ap (λ (o : Option (List ℕ)). readOperands (readText l (levels - 1)) k p o (drop a text)) (known l z))
-
-            pub at-operands-deep : y ≡ Deep → ImportsTree s index k text at levels Deep
-            at-operands-deep h l z = imports-deep (goes l z ∙ ap (λ (q : Read Codes). andThen q (then-closing l)) (all l z .deep h))
-
-            pub at-operands-broken : y ≡ Broken → ImportsTree s index k text at levels Broken
-            at-operands-broken h l z = imports-broken (goes l z ∙ ap (λ (q : Read Codes). andThen q (then-closing l)) (all l z .broken h))
-
-            module _ {b : ℕ} (ey : y ≡ End b) {c : Place} (close : Stands (readWord (closes at (a - at + 1) text) (drop b text)) text b c) where
-              same-tag : closes at (a - at + 1) text ≡ nodeTag closeNode k p
-              unfolding nodeTag
-              same-tag =
-                  let w = is-element .opens in
-                  closes-tag text at a (120 ∷ (decimal k ++ (46 ∷ (decimal p ++ (62 ∷ []))))) (omega (arith, w .past, w .inside)) (w .inside)
-                  (opening-sound k (drop at text) p (drop a text) (w .reads))
-
-              so-far : (l : Language) (z : Indexed index s l) {q : Read (Unit {0})} → readWord (closes at (a - at + 1) text) (drop b text) ≡ q
-                  → readText l levels k (drop at text) ≡ (andThen q λ u r. done (node k p (all l z .found b ey .0)) r)
-              so-far l z {q} e =
-                  goes l z
-                  ∙ (ap (λ (q : Read Codes). andThen q (then-closing l)) (all l z .found b ey .1)
-                  ∙ ap (λ (q : Read (Unit {0})). andThen q (λ u r. done (node k p (all l z .found b ey .0)) r))
-                  (closing-word k p (drop b text) ∙ (ap (λ (w : List ℕ). readWord w (drop b text)) (sym same-tag) ∙ e)))
-
-              pub at-open : c ≡ Nothing → ImportsTree s index k text at levels Broken
-              at-open h l z = imports-broken (so-far l z (close .nothing h))
-
-              pub at-closed : {d : ℕ} → c ≡ At d → ImportsTree s index k text at levels (End d)
-              at-closed {d} h l z = imports-end (node k p (all l z .found b ey .0)) (so-far l z (close .found d h))
-
--- Where there are no operands, the closing tag stands behind the opening tag.
-pub leaf-all : (s index text : List ℕ) (q e a levels : ℕ) → e ≤ q → ImportsTrees s s index q e text a levels (End a)
-leaf-all s index text q e a levels h = goes-done s s index q e text a levels (goes-start s s index q e text a levels) h
+          -- What follows the opening tag: the arguments, and the closing tag.
+          pub at-opened : (l : Language) → Indexed index s l
+              → restOf (readText l levels k (drop at text)) ≡ thenRest (rowRest l (levels - 1) s q e (drop a text)) (λ u. restOf (readWord (closes at (a - at + 1) text) u))
+          unfolding readElement readOperands
+          at-opened l z =
+              ap restOf (element l z
+              ∙ (ap (λ (o : Read ℕ). andThen o λ p r. readOperands (readText l (levels - 1)) k p (argumentsOf l k p) r) (is-element .opens .reads)
+              ∙ ap (λ (o : Option (List ℕ)). readOperands (readText l (levels - 1)) k p o (drop a text)) (known l z)))
+              ∙ then-rest (readAll (readText l (levels - 1)) (slice q e s) (drop a text)) (λ t r. andThen (readClosing k p r) λ u r. done (node k p t) r)
+              (λ u. restOf (readWord (closes at (a - at + 1) text) u))
+              (λ t r. rest-made (readClosing k p r) (λ u. node k p t) ∙ ap restOf (closing-word k p r ∙ ap (λ (w : List ℕ). readWord w r) (sym same-tag)))

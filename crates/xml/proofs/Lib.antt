@@ -9,6 +9,7 @@ pub mod Measures
 pub mod Answers
 pub mod Scans
 pub mod Imports
+pub mod Rows
 pub mod Takes
 pub mod Held
 pub mod Whole

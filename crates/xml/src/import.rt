@@ -9,10 +9,13 @@ use fields::bytes::to_usize;
 use reader::node::place_at;
 ghost use mathlib.Core.Path.{_≡_};
 ghost use Prim.Native.Nat.{_+_, _-_, _<_, _≤_};
-ghost use lib.ListN.{length};
-ghost use Rattle.reader.specs.Inner.Index.{Sound, Ready, indexLength};
-ghost use Rattle.reader.specs.Inner.Positions.{KindsIn};
-ghost use Rattle.xml.specs.Inner.Importing.{Inside, Elements, ImportsTrees, placeOf};
+ghost use lib.ListN.{length, getD};
+ghost use Rattle.reader.specs.Operations.{treeLevels};
+ghost use Rattle.reader.specs.Inner.Index.{Ready, indexLength};
+ghost use Rattle.xml.specs.Inner.Importing.{Inside, Elements, ImportsTree, placeOf, rowKinds};
+
+// A tree has at most 64 levels.
+const LEVELS: usize = 64;
 
 // The position behind the text of a tree; one level too many; or a text that is no export.
 pub enum Text {
@@ -54,64 +57,69 @@ fn element_at(language: &[u8], index: &[u16], kind: u8, text: &[u8], at: usize) 
     Element::Of(place + 4, place + 2 + pair_in(language, place), a)
 }
 
-// The trees whose kinds stand among some from `from` up to `stop`, one after the other. It calls itself
-// on the arguments of each, one level fewer.
-pub fn texts_at(
-    kinds: &[u8],
-    language: &[u8],
-    index: &[u16],
-    from: usize,
-    stop: usize,
-    text: &[u8],
-    at: usize,
-    levels: usize,
-) -> Text
-    requires { ⌜ Sound (now index) (now language) × KindsIn (now kinds) from stop × (at ≤ length (now text)) ⌝ }
-    ensures { λ r. ⌜ Inside (now (text .entry)) r
-        × ImportsTrees (now (kinds .entry)) (now (language .entry)) (now (index .entry)) from stop (now (text .entry)) at levels r ⌝ }
+// The kind at a position of the row at a depth: the outermost row is the root alone, any other stands in the language.
+fn kind_at(language: &[u8], root: u8, depth: usize, at: usize) -> u8
+    requires { ⌜ at < length (rowKinds root (now language) depth) ⌝ }
+    ensures { λ r. ⌜ r ≡ getD (rowKinds root (now (language .entry)) depth) at 0 ⌝ }
 {
-    let mut q = from;
-    let mut to = at;
-    while q < stop {
-        let kind = kinds[q];
+    if depth == 0 {
+        return root;
+    }
+    language[at]
+}
+
+// The tree of a kind at the front of a text. The rows above the one that is read wait in tables, the outermost first: where each
+// goes on, and the opening tag of the tree in it that is being read, with the size of the closing tag.
+pub fn text_at(language: &[u8], index: &[u16], root: u8, text: &[u8]) -> Text
+    requires { ⌜ Ready (now index) (now language) root (now text) 0 ⌝ }
+    ensures { λ r. ⌜ Inside (now (text .entry)) r
+        × ImportsTree (now (language .entry)) (now (index .entry)) root (now (text .entry)) 0 treeLevels r ⌝ }
+{
+    let mut firsts = [0u16; LEVELS];
+    let mut lasts = [0u16; LEVELS];
+    let mut tags = [0usize; LEVELS];
+    let mut sizes = [0usize; LEVELS];
+    let mut depth = 0;
+    let mut q = 0;
+    let mut end = 1;
+    let mut to = 0;
+    loop {
+        if end <= q {
+            if depth == 0 {
+                return Text::End(to);
+            }
+            depth -= 1;
+            let Place::At(e) = closing_at(text, tags[depth], sizes[depth], to) else {
+                return Text::Broken;
+            };
+            to = e;
+            q = firsts[depth] as usize;
+            end = lasts[depth] as usize;
+            continue;
+        }
+        let kind = kind_at(language, root, depth, q);
         let class = place_at(index, to_usize(kind));
+        q += 1;
         if class != 0 {
             let Number::Is(value, e) = token_at(language, class - 1, kind, text, to) else {
                 return Text::Broken;
             };
             to = e;
-            q += 1;
-        } else {
-            if levels == 0 {
-                return Text::Deep;
-            }
-            let Element::Of(first, last, a) = element_at(language, index, kind, text, to) else {
-                return Text::Broken;
-            };
-            let size = a - to + 1;
-            q += 1;
-            if first < last {
-                match texts_at(language, language, index, first, last, text, a, levels - 1) {
-                    Text::End(b) => {
-                        let Place::At(e) = closing_at(text, to, size, b) else {
-                            return Text::Broken;
-                        };
-                        to = e;
-                    }
-                    Text::Deep => {
-                        return Text::Deep;
-                    }
-                    Text::Broken => {
-                        return Text::Broken;
-                    }
-                }
-            } else {
-                let Place::At(e) = closing_at(text, to, size, a) else {
-                    return Text::Broken;
-                };
-                to = e;
-            }
+            continue;
         }
+        if depth == LEVELS {
+            return Text::Deep;
+        }
+        let Element::Of(first, last, a) = element_at(language, index, kind, text, to) else {
+            return Text::Broken;
+        };
+        firsts[depth] = q as u16;
+        lasts[depth] = end as u16;
+        tags[depth] = to;
+        sizes[depth] = a - to + 1;
+        depth += 1;
+        q = first;
+        end = last;
+        to = a;
     }
-    Text::End(to)
 }

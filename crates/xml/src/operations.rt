@@ -3,7 +3,7 @@ use crate::contents::has_room;
 use crate::contents::write_contents;
 use crate::export::export_all;
 use crate::import::Text;
-use crate::import::texts_at;
+use crate::import::text_at;
 use crate::measure::Measured;
 use crate::measure::measure_all;
 use fields::outcome::Answer;
@@ -85,8 +85,7 @@ fn import_text(language: &[u8], index: &[u16], kind: u8, text: &[u8], output: &m
     requires { ⌜ Ready (now index) (now language) kind (now text) 0 ⌝ }
     ensures { λ r. ⌜ GivesWhole (now (language .entry)) (now (index .entry)) kind (now (text .entry)) (now (output .entry)) (now (output .exit)) (r .outcome) ⌝ }
 {
-    let kinds = [kind];
-    match texts_at(&kinds, language, index, 0, 1, text, 0, LEVELS) {
+    match text_at(language, index, kind, text) {
         Text::End(e) => {
             if e != text.len() {
                 return refuse(Reason::NotAnExport);

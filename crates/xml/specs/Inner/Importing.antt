@@ -1,13 +1,12 @@
 -- The tree that a text is the export of.
-use Prim.Native.Nat.{ℕ, _+_, _<_, _≤_}
+use Prim.Native.Nat.{ℕ, zero, suc, _+_, _<_, _≤_}
 use mathlib.Core.Path.{_≡_}
 use mathlib.Core.Bool.{cond}
-use mathlib.Core.List.{List}
+use mathlib.Core.List.{List, [], _∷_}
 use lib.ListN.{length, drop, getD}
-use lib.Seq.{slice}
 use lib.Dec.{ltb}
 use Rattle.language.specs.Language.{Language, productionKey}
-use Rattle.reader.specs.Syntax.{Read, done, deep, broken, readAll}
+use Rattle.reader.specs.Syntax.{Read, done, deep, broken}
 use Rattle.fields.specs.Fields.{pairAt}
 use Rattle.reader.specs.Code.{Code}
 use Rattle.reader.specs.Inner.Index.{Indexed}
@@ -32,10 +31,10 @@ pub record Imports {A : Type 0} (p : Read A) (text : List ℕ) (r : Text) : Type
 abbrev pub ImportsTree : List ℕ → List ℕ → ℕ → List ℕ → ℕ → ℕ → Text → Type 0
 ImportsTree s index k text at levels r = (l : Language) → Indexed index s l → Imports (readText l levels k (drop at text)) text r
 
--- The trees at `at`, whose kinds stand in `kinds` from q up to e.
-abbrev pub ImportsTrees : List ℕ → List ℕ → List ℕ → ℕ → ℕ → List ℕ → ℕ → ℕ → Text → Type 0
-ImportsTrees kinds s index q e text at levels r =
-    (l : Language) → Indexed index s l → Imports (readAll (readText l levels) (slice q e kinds) (drop at text)) text r
+-- The kinds of the row at depth d: the outermost row is the root k alone, any other stands in s.
+abbrev pub rowKinds : ℕ → List ℕ → ℕ → List ℕ
+rowKinds k s zero = k ∷ []
+rowKinds k s (suc d) = s
 
 -- The opening tag of production k.p stands from `at` up to a.
 pub record Opens (k : ℕ) (text : List ℕ) (at p a : ℕ) : Type 0 where
