@@ -1,6 +1,7 @@
 -- The loop of import over the rows of a text: a law for each of its turns and returns.
 use Prim.Native.Nat.{ℕ, zero, suc, _+_, _-_, _<_, _≤_}
 use mathlib.Core.Path.{_≡_, refl, sym, ap, _∙_}
+use mathlib.Core.Bool.{Bool, false}
 use mathlib.Core.List.{List, [], _∷_}
 use native.Mathlib.Omega.{arith}
 use lib.ListN.{length, getD, drop, set, length-set}
@@ -26,8 +27,9 @@ use Rattle.xml.specs.declared.import.Element.{Element}
 use Rattle.xml.specs.declared.import.Element.the-variants as E
 use Rattle.xml.specs.declared.import.Text.{Text}
 use Rattle.xml.specs.declared.import.Text.the-variants.{End, Deep, Broken}
-use Rattle.xml.specs.Inner.Scanning.{closes, Stands, Tokens}
+use Rattle.xml.specs.Inner.Scanning.{closes, Stands, Tokens, TellsToken}
 use Rattle.xml.specs.Inner.Importing.{Inside, Imports, Elements, ImportsTree, rowKinds}
+use Rattle.xml.proofs.Scans.{tokens-not, class-high}
 use Rattle.xml.proofs.Imports.{thenRest, rowRest, rest-made, then-rest, inside-deep, inside-broken, inside-end, imports-deep, imports-broken, imports-end, at-token, at-no-token, at-deep, at-no-element, at-kinds, at-past, at-opened}
 
 -- kind_at
@@ -288,6 +290,10 @@ module _ (s index : List ℕ) (k : ℕ) (text : List ℕ) where
             pub turn-token : {v t : ℕ} → x ≡ N.Is v t → Open s index k text firsts lasts tags sizes d (q + 1) e t
             turn-token {v} {t} h =
                 open-next (at-token s index text n to (treeLevels - d) open-kind bytes ej ec some-class token-is h) refl (token-is .reached v t h .inside)
+
+          -- No token stands where one should.
+          pub turn-not : (class ≡ 0 → ⊥) → {r : Bool} → TellsToken class text to r → r ≡ false → Answers Broken
+          turn-not some-class tells h = turn-no-token some-class (tokens-not (tells .none h some-class n (classRange s (class - 1)) (class-high s (class - 1) bytes))) refl
 
           module _ (no : class ≡ 0) where
             pub turn-deep : d ≡ 64 → Answers Deep

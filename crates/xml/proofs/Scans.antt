@@ -21,7 +21,7 @@ use Rattle.xml.specs.declared.scan.Place.{Place}
 use Rattle.xml.specs.declared.scan.Place.the-variants.{At, Nothing}
 use Rattle.xml.specs.declared.scan.Number.{Number}
 use Rattle.xml.specs.declared.scan.Number.the-variants as N
-use Rattle.xml.specs.Inner.Scanning.{begins, closes, Reached, Stands, NoNumber, Numbers, Tokens}
+use Rattle.xml.specs.Inner.Scanning.{NoToken, TellsToken, begins, closes, Reached, Stands, NoNumber, Numbers, Tokens}
 use Rattle.xml.proofs.Decimal.{decimal-small, decimal-two, decimal-some, digit-range, number-sound, word-sound}
 use Rattle.xml.proofs.Words.{word-shallow, number-shallow, tag-word, ends, opening-word, begins-cut}
 
@@ -477,3 +477,27 @@ module _ (k : ℕ) (c : Range) (text : List ℕ) (at : ℕ) (short : c .high < 6
 pub class-high : (s : List ℕ) (p : ℕ) → ((i : ℕ) → getD s i 0 < 256) → classRange s p .high < 65536
 unfolding classRange pairAt
 class-high s p h = omega (arith, h (p + 6), h (p + 6 + 1))
+
+-- is_token
+true-false : {A : Type 0} → true ≡ false → A
+true-false h = let z : _≡_ {A = ℕ} 0 1 = cc in absurd (omega arith)
+
+module _ (class : ℕ) (text : List ℕ) (at : ℕ) where
+  tells-not : ((class ≡ 0 → ⊥) → NoToken text at) → TellsToken class text at false
+  tells-not f = record { some = λ h. true-false (sym h); none = λ h. f }
+
+  pub tells-short : length text - at < 5 → TellsToken class text at false
+  tells-short h = tells-not (λ some k c high. token-short k c text at high h .nothing refl)
+
+  pub tells-other : 5 ≤ length text - at → (getD text (at + 1) 0 ≡ 116 → ⊥) → TellsToken class text at false
+  tells-other long h =
+      let there : at + 5 ≤ length text = omega arith in
+      tells-not (λ some k c high. by-test (eqb (getD text at 0) 60)
+      (λ t. token-nothing k c text at high (begin-second 116 62 k text at there (eqb-true (getD text at 0) 60 t) h) refl .nothing refl)
+      (λ t. token-nothing k c text at high (begin-first 116 62 k text at there (eqb-false (getD text at 0) 60 t)) refl .nothing refl))
+
+  pub tells-none : class ≡ 0 → TellsToken class text at false
+  tells-none h = tells-not (λ some. absurd (some h))
+
+  pub tells-some : (class ≡ 0 → ⊥) → TellsToken class text at true
+  tells-some h = record { some = λ e. h; none = λ e. true-false e }

@@ -2,6 +2,7 @@
 use crate::scan::Number;
 use crate::scan::Place;
 use crate::scan::closing_at;
+use crate::scan::is_token;
 use crate::scan::opening_at;
 use crate::scan::token_at;
 use fields::bytes::pair_in;
@@ -100,12 +101,15 @@ pub fn text_at(language: &[u8], index: &[u16], root: u8, text: &[u8]) -> Text
         let kind = kind_at(language, root, depth, q);
         let class = place_at(index, to_usize(kind));
         q += 1;
-        if class != 0 {
+        if is_token(class, text, to) {
             let Number::Is(value, e) = token_at(language, class - 1, kind, text, to) else {
                 return Text::Broken;
             };
             to = e;
             continue;
+        }
+        if class != 0 {
+            return Text::Broken;
         }
         if depth == LEVELS {
             return Text::Deep;

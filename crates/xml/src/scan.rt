@@ -6,7 +6,7 @@ ghost use Prim.Native.Nat.{_+_, _-_, _<_, _≤_};
 ghost use lib.ListN.{length, drop};
 ghost use Rattle.language.specs.Inner.Entries.{IsClass, classRange};
 ghost use Rattle.xml.specs.Import.{isDigit, readWord, readNumber, readOpening, readToken};
-ghost use Rattle.xml.specs.Inner.Scanning.{begins, closes, Stands, Numbers, Tokens};
+ghost use Rattle.xml.specs.Inner.Scanning.{begins, closes, Stands, Numbers, Tokens, TellsToken};
 
 // The digit 0.
 const ZERO: u8 = 48;
@@ -200,6 +200,24 @@ pub fn opening_at(kind: u8, text: &[u8], at: usize) -> Number
         return Number::Nothing;
     }
     Number::Is(name, b + 1)
+}
+
+// Whether a token is to be read, where its kind has a class at `class`, or none at 0. The text is asked first, since what stands
+// there is known before the class is.
+pub fn is_token(class: usize, text: &[u8], at: usize) -> bool
+    requires { ⌜ at ≤ length (now text) ⌝ }
+    ensures { λ r. ⌜ TellsToken class (now (text .entry)) at r ⌝ }
+{
+    if text.len() - at < SHORTEST {
+        return false;
+    }
+    if text[at + 1] != TOKEN {
+        return false;
+    }
+    if class == 0 {
+        return false;
+    }
+    true
 }
 
 // A token of a kind with its tags, whose value is legal in the class at a place of the language.

@@ -1,11 +1,14 @@
 -- What stands at a position of a text.
 use Prim.Native.Nat.{ℕ, _+_, _-_, _<_, _≤_}
 use mathlib.Core.Path.{_≡_}
+use mathlib.Core.Bool.{Bool, true, false}
 use mathlib.Core.List.{List, [], _∷_, _++_}
 use lib.ListN.{length, take, drop}
+use Rattle.language.specs.Language.{Range}
 use Rattle.reader.specs.Code.{Code, token}
 use Rattle.reader.specs.Syntax.{Read, done, deep, broken}
 use Rattle.xml.specs.Text.{decimal}
+use Rattle.xml.specs.Import.{readToken}
 use Rattle.xml.specs.declared.scan.Place.{Place}
 use Rattle.xml.specs.declared.scan.Place.the-variants.{At, Nothing}
 use Rattle.xml.specs.declared.scan.Number.{Number}
@@ -49,3 +52,12 @@ pub record Tokens (o : Read Code) (text : List ℕ) (from : ℕ) (r : Number) : 
   pub small : (v e : ℕ) → r ≡ N.Is v e → v < 65536
   pub reached : (v e : ℕ) → r ≡ N.Is v e → Reached text from e
   pub nothing : r ≡ N.Nothing → o ≡ broken
+
+-- No token of a class stands at `at`.
+abbrev pub NoToken : List ℕ → ℕ → Type 0
+NoToken text at = (k : ℕ) (c : Range) → c .high < 65536 → readToken k c (drop at text) ≡ broken
+
+-- The answer r says whether a token is to be read at `at`: there is a class, and one may stand there.
+pub record TellsToken (class : ℕ) (text : List ℕ) (at : ℕ) (r : Bool) : Type 0 where
+  pub some : r ≡ true → class ≡ 0 → ⊥
+  pub none : r ≡ false → (class ≡ 0 → ⊥) → NoToken text at

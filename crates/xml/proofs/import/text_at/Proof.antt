@@ -1,4 +1,4 @@
-use Rattle.xml.proofs.Rows.{Open, open-start, open-done, open-above, open-unclosed, open-back, open-in, open-short, open-kind, turn-no-token, turn-token, turn-deep, turn-no-element, turn-past, turn-down}
+use Rattle.xml.proofs.Rows.{Open, open-start, open-done, open-above, open-unclosed, open-back, open-in, open-short, open-kind, turn-no-token, turn-token, turn-not, turn-deep, turn-no-element, turn-past, turn-down}
 use Rattle.reader.proofs.Laws.{class-in}
 use lib.ListN.{length}
 use native.Mathlib.Omega.{arith}
@@ -14,6 +14,7 @@ use Rattle.reader.proofs.node.place_at.Reads as place-at-reads
 use Rattle.xml.proofs.import.element_at.Reads as element-at-reads
 use Rattle.xml.proofs.import.kind_at.Reads as kind-at-reads
 use Rattle.xml.proofs.scan.closing_at.Reads as closing-at-reads
+use Rattle.xml.proofs.scan.is_token.Reads as is-token-reads
 use Rattle.xml.proofs.scan.token_at.Reads as token-at-reads
 
 abbrev Inv-loop : tie.InvT-loop
@@ -84,74 +85,80 @@ place-at-requires c κs = let z = open-kind _ _ _ _ (c .before .before .before .
 add-q : tie.Need-add-q Inv-loop μ-loop
 add-q c = let z = open-short _ _ _ _ (c .before .before .before .before .loop .inv) (c .before .before .before .if1 .left) (c .before .before .before .before .before .before .before .before .pre .sound .short) in omega (arith, z .0)
 
+is-token-requires : tie.Need-is-token-requires Inv-loop μ-loop
+is-token-requires c κs = c .before .before .before .before .loop .inv .inside
+
 sub-token-at : tie.Need-sub-token-at Inv-loop μ-loop
-sub-token-at c = omega (arith, c .if3 .taken)
+sub-token-at c = let z = c .before .is-token .ensures .some (c .if3 .taken) in omega (arith, z)
 
 token-at-requires : tie.Need-token-at-requires Inv-loop μ-loop
-token-at-requires c κs = let z = open-kind _ _ _ _ (c .before .before .before .before .before .loop .inv) (c .before .before .before .before .if1 .left) (c .before .before .before .kind-at .ensures) in let y : 0 < c .before .place-at .result = omega (arith, c .if3 .taken) in (class-in _ _ (c .before .before .before .before .before .before .before .before .before .pre .sound) (c .before .before .to-usize .ensures .0) z (c .before .place-at .ensures) y, omega (arith, z), c .before .before .before .before .before .loop .inv .inside)
+token-at-requires c κs = let z = open-kind _ _ _ _ (c .before .before .before .before .before .before .loop .inv) (c .before .before .before .before .before .if1 .left) (c .before .before .before .before .kind-at .ensures) in let x = c .before .is-token .ensures .some (c .if3 .taken) in let y : 0 < c .before .before .place-at .result = omega (arith, x) in (class-in _ _ (c .before .before .before .before .before .before .before .before .before .before .pre .sound) (c .before .before .before .to-usize .ensures .0) z (c .before .before .place-at .ensures) y, omega (arith, z), c .before .before .before .before .before .before .loop .inv .inside)
 
 returns-3 : tie.Need-returns-3 Inv-loop μ-loop
-returns-3 c = turn-no-token _ _ _ _ (c .before .before .before .before .before .before .before .before .loop .inv) (c .before .before .before .before .before .before .before .if1 .left) (c .before .before .before .before .before .before .kind-at .ensures) (λ i. omega (arith, c .before .before .before .before .before .before .before .before .before .before .before .shared-slice-known .given i)) (c .before .before .before .before .before .to-usize .ensures .0) (c .before .before .before .before .place-at .ensures) (c .before .before .before .if3 .taken) (c .before .before .token-at .ensures) (c .enum-told2 .given .1)
+returns-3 c = turn-no-token _ _ _ _ (c .before .before .before .before .before .before .before .before .before .loop .inv) (c .before .before .before .before .before .before .before .before .if1 .left) (c .before .before .before .before .before .before .before .kind-at .ensures) (λ i. omega (arith, c .before .before .before .before .before .before .before .before .before .before .before .before .shared-slice-known .given i)) (c .before .before .before .before .before .before .to-usize .ensures .0) (c .before .before .before .before .before .place-at .ensures) (c .before .before .before .before .is-token .ensures .some (c .before .before .before .if3 .taken)) (c .before .before .token-at .ensures) (c .enum-told2 .given .1)
 
 loop-less-2 : tie.Need-loop-less-2 Inv-loop μ-loop
 loop-less-2 c = let w = c .before .before .before .token-at .ensures .reached _ _ (c .before .value .given .1) in omega (arith, w .past, w .inside)
 
 loop-again-2 : tie.Need-loop-again-2 Inv-loop μ-loop
-loop-again-2 c = turn-token _ _ _ _ (c .before .before .before .before .before .before .before .before .before .loop .inv) (c .before .before .before .before .before .before .before .before .if1 .left) (c .before .before .before .before .before .before .before .kind-at .ensures) (λ i. omega (arith, c .before .before .before .before .before .before .before .before .before .before .before .before .shared-slice-known .given i)) (c .before .before .before .before .before .before .to-usize .ensures .0) (c .before .before .before .before .before .place-at .ensures) (c .before .before .before .before .if3 .taken) (c .before .before .before .token-at .ensures) (c .before .value .given .1)
+loop-again-2 c = turn-token _ _ _ _ (c .before .before .before .before .before .before .before .before .before .before .loop .inv) (c .before .before .before .before .before .before .before .before .before .if1 .left) (c .before .before .before .before .before .before .before .before .kind-at .ensures) (λ i. omega (arith, c .before .before .before .before .before .before .before .before .before .before .before .before .before .shared-slice-known .given i)) (c .before .before .before .before .before .before .before .to-usize .ensures .0) (c .before .before .before .before .before .before .place-at .ensures) (c .before .before .before .before .before .is-token .ensures .some (c .before .before .before .before .if3 .taken)) (c .before .before .before .token-at .ensures) (c .before .value .given .1)
 
 returns-4 : tie.Need-returns-4 Inv-loop μ-loop
-returns-4 c = turn-deep _ _ _ _ (c .before .before .before .before .before .before .loop .inv) (c .before .before .before .before .before .if1 .left) (c .before .before .before .before .kind-at .ensures) (λ i. omega (arith, c .before .before .before .before .before .before .before .before .before .shared-slice-known .given i)) (c .before .before .before .to-usize .ensures .0) (c .before .before .place-at .ensures) (c .before .if3 .left) (c .if4 .taken)
-
-element-at-requires : tie.Need-element-at-requires Inv-loop μ-loop
-element-at-requires c κs = record { sound = c .before .before .before .before .before .before .before .before .before .before .pre .sound; kind = open-kind _ _ _ _ (c .before .before .before .before .before .before .loop .inv) (c .before .before .before .before .before .if1 .left) (c .before .before .before .before .kind-at .ensures); inside = c .before .before .before .before .before .before .loop .inv .inside }
+returns-4 c = turn-not _ _ _ _ (c .before .before .before .before .before .before .before .loop .inv) (c .before .before .before .before .before .before .if1 .left) (c .before .before .before .before .before .kind-at .ensures) (λ i. omega (arith, c .before .before .before .before .before .before .before .before .before .before .shared-slice-known .given i)) (c .before .before .before .before .to-usize .ensures .0) (c .before .before .before .place-at .ensures) (c .if4 .taken) (c .before .before .is-token .ensures) (c .before .if3 .left)
 
 returns-5 : tie.Need-returns-5 Inv-loop μ-loop
-returns-5 c = turn-no-element _ _ _ _ (c .before .before .before .before .before .before .before .before .before .loop .inv) (c .before .before .before .before .before .before .before .before .if1 .left) (c .before .before .before .before .before .before .before .kind-at .ensures) (λ i. omega (arith, c .before .before .before .before .before .before .before .before .before .before .before .before .shared-slice-known .given i)) (c .before .before .before .before .before .before .to-usize .ensures .0) (c .before .before .before .before .before .place-at .ensures) (c .before .before .before .before .if3 .left) (c .before .before .before .if4 .left) (c .before .before .element-at .ensures) (c .enum-told3 .given .1)
+returns-5 c = turn-deep _ _ _ _ (c .before .before .before .before .before .before .before .before .loop .inv) (c .before .before .before .before .before .before .before .if1 .left) (c .before .before .before .before .before .before .kind-at .ensures) (λ i. omega (arith, c .before .before .before .before .before .before .before .before .before .before .before .shared-slice-known .given i)) (c .before .before .before .before .before .to-usize .ensures .0) (c .before .before .before .before .place-at .ensures) (c .before .if4 .left) (c .if5 .taken)
+
+element-at-requires : tie.Need-element-at-requires Inv-loop μ-loop
+element-at-requires c κs = record { sound = c .before .before .before .before .before .before .before .before .before .before .before .before .pre .sound; kind = open-kind _ _ _ _ (c .before .before .before .before .before .before .before .before .loop .inv) (c .before .before .before .before .before .before .before .if1 .left) (c .before .before .before .before .before .before .kind-at .ensures); inside = c .before .before .before .before .before .before .before .before .loop .inv .inside }
+
+returns-6 : tie.Need-returns-6 Inv-loop μ-loop
+returns-6 c = turn-no-element _ _ _ _ (c .before .before .before .before .before .before .before .before .before .before .before .loop .inv) (c .before .before .before .before .before .before .before .before .before .before .if1 .left) (c .before .before .before .before .before .before .before .before .before .kind-at .ensures) (λ i. omega (arith, c .before .before .before .before .before .before .before .before .before .before .before .before .before .before .shared-slice-known .given i)) (c .before .before .before .before .before .before .before .before .to-usize .ensures .0) (c .before .before .before .before .before .before .before .place-at .ensures) (c .before .before .before .before .if4 .left) (c .before .before .before .if5 .left) (c .before .before .element-at .ensures) (c .enum-told3 .given .1)
 
 cast-firsts : tie.Need-cast-firsts Inv-loop μ-loop
-cast-firsts c = let z = open-short _ _ _ _ (c .before .before .before .before .before .before .before .before .before .before .loop .inv) (c .before .before .before .before .before .before .before .before .before .if1 .left) (c .before .before .before .before .before .before .before .before .before .before .before .before .before .before .pre .sound .short) in omega (arith, z .0)
+cast-firsts c = let z = open-short _ _ _ _ (c .before .before .before .before .before .before .before .before .before .before .before .before .loop .inv) (c .before .before .before .before .before .before .before .before .before .before .before .if1 .left) (c .before .before .before .before .before .before .before .before .before .before .before .before .before .before .before .before .pre .sound .short) in omega (arith, z .0)
 
 mul-firsts : tie.Need-mul-firsts Inv-loop μ-loop
-mul-firsts c = omega (arith, c .before .before .before .before .before .before .before .before .before .before .loop .inv .shallow, c .before .before .before .before .if4 .left)
+mul-firsts c = omega (arith, c .before .before .before .before .before .before .before .before .before .before .before .before .loop .inv .shallow, c .before .before .before .before .if5 .left)
 
 array-write-firsts : tie.Need-array-write-firsts Inv-loop μ-loop
-array-write-firsts c = omega (arith, c .before .before .before .before .before .before .before .before .before .before .loop .inv .shallow, c .before .before .before .before .if4 .left)
+array-write-firsts c = omega (arith, c .before .before .before .before .before .before .before .before .before .before .before .before .loop .inv .shallow, c .before .before .before .before .if5 .left)
 
 cast-lasts : tie.Need-cast-lasts Inv-loop μ-loop
-cast-lasts c = let z = open-short _ _ _ _ (c .before .before .before .before .before .before .before .before .before .before .loop .inv) (c .before .before .before .before .before .before .before .before .before .if1 .left) (c .before .before .before .before .before .before .before .before .before .before .before .before .before .before .pre .sound .short) in omega (arith, z .1)
+cast-lasts c = let z = open-short _ _ _ _ (c .before .before .before .before .before .before .before .before .before .before .before .before .loop .inv) (c .before .before .before .before .before .before .before .before .before .before .before .if1 .left) (c .before .before .before .before .before .before .before .before .before .before .before .before .before .before .before .before .pre .sound .short) in omega (arith, z .1)
 
 mul-lasts : tie.Need-mul-lasts Inv-loop μ-loop
-mul-lasts c = omega (arith, c .before .before .before .before .before .before .before .before .before .before .loop .inv .shallow, c .before .before .before .before .if4 .left)
+mul-lasts c = omega (arith, c .before .before .before .before .before .before .before .before .before .before .before .before .loop .inv .shallow, c .before .before .before .before .if5 .left)
 
 array-write-lasts : tie.Need-array-write-lasts Inv-loop μ-loop
-array-write-lasts c = omega (arith, c .before .before .before .before .before .before .before .before .before .before .loop .inv .shallow, c .before .before .before .before .if4 .left)
+array-write-lasts c = omega (arith, c .before .before .before .before .before .before .before .before .before .before .before .before .loop .inv .shallow, c .before .before .before .before .if5 .left)
 
 mul-tags : tie.Need-mul-tags Inv-loop μ-loop
-mul-tags c = omega (arith, c .before .before .before .before .before .before .before .before .before .before .loop .inv .shallow, c .before .before .before .before .if4 .left)
+mul-tags c = omega (arith, c .before .before .before .before .before .before .before .before .before .before .before .before .loop .inv .shallow, c .before .before .before .before .if5 .left)
 
 array-write-tags : tie.Need-array-write-tags Inv-loop μ-loop
-array-write-tags c = omega (arith, c .before .before .before .before .before .before .before .before .before .before .loop .inv .shallow, c .before .before .before .before .if4 .left)
+array-write-tags c = omega (arith, c .before .before .before .before .before .before .before .before .before .before .before .before .loop .inv .shallow, c .before .before .before .before .if5 .left)
 
 sub-sizes : tie.Need-sub-sizes Inv-loop μ-loop
-sub-sizes c = let v = turn-past _ _ _ _ (c .before .before .before .before .before .before .before .before .before .before .loop .inv) (c .before .before .before .before .before .before .before .before .before .if1 .left) (c .before .before .before .before .before .before .before .before .kind-at .ensures) (λ i. omega (arith, c .before .before .before .before .before .before .before .before .before .before .before .before .before .shared-slice-known .given i)) (c .before .before .before .before .before .before .before .to-usize .ensures .0) (c .before .before .before .before .before .before .place-at .ensures) (c .before .before .before .before .before .if3 .left) (c .before .before .before .before .if4 .left) (c .before .before .before .element-at .ensures) (c .before .first .given .1) in omega (arith, v .0)
+sub-sizes c = let v = turn-past _ _ _ _ (c .before .before .before .before .before .before .before .before .before .before .before .before .loop .inv) (c .before .before .before .before .before .before .before .before .before .before .before .if1 .left) (c .before .before .before .before .before .before .before .before .before .before .kind-at .ensures) (λ i. omega (arith, c .before .before .before .before .before .before .before .before .before .before .before .before .before .before .before .shared-slice-known .given i)) (c .before .before .before .before .before .before .before .before .before .to-usize .ensures .0) (c .before .before .before .before .before .before .before .before .place-at .ensures) (c .before .before .before .before .before .if4 .left) (c .before .before .before .before .if5 .left) (c .before .before .before .element-at .ensures) (c .before .first .given .1) in omega (arith, v .0)
 
 add-sizes : tie.Need-add-sizes Inv-loop μ-loop
-add-sizes c = let v = turn-past _ _ _ _ (c .before .before .before .before .before .before .before .before .before .before .loop .inv) (c .before .before .before .before .before .before .before .before .before .if1 .left) (c .before .before .before .before .before .before .before .before .kind-at .ensures) (λ i. omega (arith, c .before .before .before .before .before .before .before .before .before .before .before .before .before .shared-slice-known .given i)) (c .before .before .before .before .before .before .before .to-usize .ensures .0) (c .before .before .before .before .before .before .place-at .ensures) (c .before .before .before .before .before .if3 .left) (c .before .before .before .before .if4 .left) (c .before .before .before .element-at .ensures) (c .before .first .given .1) in omega (arith, v .0, v .1, c .before .before .before .before .before .before .before .before .before .before .loop .inv .inside)
+add-sizes c = let v = turn-past _ _ _ _ (c .before .before .before .before .before .before .before .before .before .before .before .before .loop .inv) (c .before .before .before .before .before .before .before .before .before .before .before .if1 .left) (c .before .before .before .before .before .before .before .before .before .before .kind-at .ensures) (λ i. omega (arith, c .before .before .before .before .before .before .before .before .before .before .before .before .before .before .before .shared-slice-known .given i)) (c .before .before .before .before .before .before .before .before .before .to-usize .ensures .0) (c .before .before .before .before .before .before .before .before .place-at .ensures) (c .before .before .before .before .before .if4 .left) (c .before .before .before .before .if5 .left) (c .before .before .before .element-at .ensures) (c .before .first .given .1) in omega (arith, v .0, v .1, c .before .before .before .before .before .before .before .before .before .before .before .before .loop .inv .inside)
 
 mul-sizes : tie.Need-mul-sizes Inv-loop μ-loop
-mul-sizes c = omega (arith, c .before .before .before .before .before .before .before .before .before .before .loop .inv .shallow, c .before .before .before .before .if4 .left)
+mul-sizes c = omega (arith, c .before .before .before .before .before .before .before .before .before .before .before .before .loop .inv .shallow, c .before .before .before .before .if5 .left)
 
 array-write-sizes : tie.Need-array-write-sizes Inv-loop μ-loop
-array-write-sizes c = omega (arith, c .before .before .before .before .before .before .before .before .before .before .loop .inv .shallow, c .before .before .before .before .if4 .left)
+array-write-sizes c = omega (arith, c .before .before .before .before .before .before .before .before .before .before .before .before .loop .inv .shallow, c .before .before .before .before .if5 .left)
 
 add-depth : tie.Need-add-depth Inv-loop μ-loop
-add-depth c = omega (arith, c .before .before .before .before .before .before .before .before .before .before .loop .inv .shallow, c .before .before .before .before .if4 .left)
+add-depth c = omega (arith, c .before .before .before .before .before .before .before .before .before .before .before .before .loop .inv .shallow, c .before .before .before .before .if5 .left)
 
 loop-less-3 : tie.Need-loop-less-3 Inv-loop μ-loop
-loop-less-3 c = let v = turn-past _ _ _ _ (c .before .before .before .before .before .before .before .before .before .before .loop .inv) (c .before .before .before .before .before .before .before .before .before .if1 .left) (c .before .before .before .before .before .before .before .before .kind-at .ensures) (λ i. omega (arith, c .before .before .before .before .before .before .before .before .before .before .before .before .before .shared-slice-known .given i)) (c .before .before .before .before .before .before .before .to-usize .ensures .0) (c .before .before .before .before .before .before .place-at .ensures) (c .before .before .before .before .before .if3 .left) (c .before .before .before .before .if4 .left) (c .before .before .before .element-at .ensures) (c .before .first .given .1) in omega (arith, v .0, v .1)
+loop-less-3 c = let v = turn-past _ _ _ _ (c .before .before .before .before .before .before .before .before .before .before .before .before .loop .inv) (c .before .before .before .before .before .before .before .before .before .before .before .if1 .left) (c .before .before .before .before .before .before .before .before .before .before .kind-at .ensures) (λ i. omega (arith, c .before .before .before .before .before .before .before .before .before .before .before .before .before .before .before .shared-slice-known .given i)) (c .before .before .before .before .before .before .before .before .before .to-usize .ensures .0) (c .before .before .before .before .before .before .before .before .place-at .ensures) (c .before .before .before .before .before .if4 .left) (c .before .before .before .before .if5 .left) (c .before .before .before .element-at .ensures) (c .before .first .given .1) in omega (arith, v .0, v .1)
 
 loop-again-3 : tie.Need-loop-again-3 Inv-loop μ-loop
-loop-again-3 c = turn-down _ _ _ _ (c .before .before .before .before .before .before .before .before .before .before .loop .inv) (c .before .before .before .before .before .before .before .before .before .if1 .left) (c .before .before .before .before .before .before .before .before .kind-at .ensures) (λ i. omega (arith, c .before .before .before .before .before .before .before .before .before .before .before .before .before .shared-slice-known .given i)) (c .before .before .before .before .before .before .before .to-usize .ensures .0) (c .before .before .before .before .before .before .place-at .ensures) (c .before .before .before .before .before .if3 .left) (c .before .before .before .before .if4 .left) (c .before .before .before .element-at .ensures) (c .before .first .given .1) (c .before .before .before .before .before .before .before .before .before .before .before .before .before .before .pre .sound .short)
+loop-again-3 c = turn-down _ _ _ _ (c .before .before .before .before .before .before .before .before .before .before .before .before .loop .inv) (c .before .before .before .before .before .before .before .before .before .before .before .if1 .left) (c .before .before .before .before .before .before .before .before .before .before .kind-at .ensures) (λ i. omega (arith, c .before .before .before .before .before .before .before .before .before .before .before .before .before .before .before .shared-slice-known .given i)) (c .before .before .before .before .before .before .before .before .before .to-usize .ensures .0) (c .before .before .before .before .before .before .before .before .place-at .ensures) (c .before .before .before .before .before .if4 .left) (c .before .before .before .before .if5 .left) (c .before .before .before .element-at .ensures) (c .before .first .given .1) (c .before .before .before .before .before .before .before .before .before .before .before .before .before .before .before .before .pre .sound .short)
 
 pub text-at-spec : {M : Type 1} → statement M
 text-at-spec =
@@ -182,6 +189,7 @@ text-at-spec =
     (λ c κs. search needs)
     place-at-requires
     add-q
+    is-token-requires
     sub-token-at
     token-at-requires
     (λ c. search needs)
@@ -190,10 +198,11 @@ text-at-spec =
     loop-less-2
     loop-again-2
     returns-4
+    returns-5
     element-at-requires
     (λ c. search needs)
     (λ c. search needs)
-    returns-5
+    returns-6
     cast-firsts
     mul-firsts
     array-write-firsts
