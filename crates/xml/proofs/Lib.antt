@@ -1,16 +1,8 @@
-pub mod Decimal
-pub mod Round
-pub mod Words
 pub mod Inverse
 pub mod Puts
 pub mod Reading
 pub mod Exports
 pub mod Measures
 pub mod Answers
-pub mod Scans
-pub mod Imports
-pub mod Rows
-pub mod Takes
-pub mod Held
 pub mod Whole
 pub mod Examples

@@ -22,7 +22,7 @@ use Rattle.reader.specs.Inner.Positions.{productionPlace, KindsIn}
 use Rattle.reader.specs.declared.node.Syntax.the-variants.{Tree}
 use Rattle.reader.proofs.Laws.{name-in, kinds-in}
 use Rattle.putting.proofs.Reading.{class-known, class-none, production-none, production-known, found-name, two, read-class, read-past, token-cut, level-read, none-read}
-use Rattle.xml.specs.Text.{nodeTag, tokenTag, openNode, closeNode, openToken, closeToken, decimal, kindsOf, export, exportAll}
+use Rattle.texts.specs.Text.{nodeTag, tokenTag, openNode, closeNode, openToken, closeToken, decimal, kindsOf, export, exportAll}
 use Rattle.xml.specs.declared.measure.Measured.{Measured}
 use Rattle.xml.specs.declared.measure.Measured.the-variants.{End, Deep, Broken}
 use Rattle.xml.specs.Inner.Measuring.{most, Sum, Within, Measures, MeasuresTree, MeasuresTrees}

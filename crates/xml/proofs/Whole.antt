@@ -27,15 +27,15 @@ use Rattle.reader.proofs.Members.{in-below}
 use Rattle.translation.specs.Operations.{fitted}
 use Rattle.translation.proofs.Accepted.{refused-not}
 use Rattle.checks.proofs.TreeChain.{accepts}
-use Rattle.xml.specs.Import.{readText}
+use Rattle.texts.specs.Import.{readText}
 use Rattle.xml.specs.Operations.{wholeText, importOf, importBytes, importTree}
-use Rattle.xml.specs.declared.import.Text.{Text}
-use Rattle.xml.specs.declared.import.Text.the-variants.{End, Deep, Broken}
-use Rattle.xml.specs.Inner.Importing.{Inside, ImportsTree}
-use Rattle.xml.specs.Inner.Contents.{Contents}
+use Rattle.texts.specs.declared.import.Text.{Text}
+use Rattle.texts.specs.declared.import.Text.the-variants.{End, Deep, Broken}
+use Rattle.texts.specs.Inner.Importing.{Inside, ImportsTree}
+use Rattle.texts.specs.Inner.Contents.{Contents}
 use Rattle.xml.specs.Inner.Answering.{GivesWhole, GivesImport}
 use Rattle.xml.proofs.Answers.{gives-refused, gives-same}
-use Rattle.xml.proofs.Held.{held-whole}
+use Rattle.texts.proofs.Held.{held-whole}
 use Rattle.putting.proofs.Answering.{gives-long, gives-fit}
 
 -- What a reading comes to, with so much room.

@@ -14,7 +14,7 @@ ghost use Rattle.language.specs.Inner.Entries.{IsClass, classRange};
 ghost use Rattle.reader.specs.Syntax.{readToken};
 ghost use Rattle.reader.specs.Inner.Index.{Sound, Ready};
 ghost use Rattle.reader.specs.Inner.Positions.{KindsIn};
-ghost use Rattle.xml.specs.Text.{export, nodeTag, openNode, closeNode};
+ghost use Rattle.texts.specs.Text.{export, nodeTag, openNode, closeNode};
 ghost use Rattle.xml.specs.Inner.Measuring.{Sum, Within, Measures, MeasuresTree, MeasuresTrees};
 
 // The position behind a tree and the length of the exports so far; one level too many; or bytes that are no tree.

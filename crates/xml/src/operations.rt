@@ -1,9 +1,5 @@
 // The operations export and import.
-use crate::contents::has_room;
-use crate::contents::write_contents;
 use crate::export::export_all;
-use crate::import::Text;
-use crate::import::text_at;
 use crate::measure::Measured;
 use crate::measure::measure_all;
 use fields::outcome::Answer;
@@ -15,6 +11,10 @@ use language::check::check_language;
 use reader::index::INDEX;
 use reader::index::build;
 use reader::kinds::is_in;
+use texts::contents::has_room;
+use texts::contents::write_contents;
+use texts::import::Text;
+use texts::import::text_at;
 ghost use mathlib.Core.Path.{_≡_};
 ghost use mathlib.Core.Option.{some};
 ghost use Prim.Native.Nat.{_<_, _≤_};

@@ -7,7 +7,7 @@ use lib.Seq.{slice}
 use Rattle.language.specs.Language.{Language}
 use Rattle.reader.specs.Syntax.{Read, done, deep, broken, read, readAll, tree}
 use Rattle.reader.specs.Inner.Index.{Indexed}
-use Rattle.xml.specs.Text.{export, exportAll}
+use Rattle.texts.specs.Text.{export, exportAll}
 use Rattle.xml.specs.declared.measure.Measured.{Measured}
 use Rattle.xml.specs.declared.measure.Measured.the-variants.{End, Deep, Broken}
 

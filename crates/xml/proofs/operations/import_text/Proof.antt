@@ -8,9 +8,9 @@ use Rattle.xml.proofs.operations.import_text.Reads as reads
 use Rattle.xml.proofs.operations.import_text.Lts as lts
 use Rattle.fields.proofs.outcome.accept.Reads as accept-reads
 use Rattle.fields.proofs.outcome.refuse.Reads as refuse-reads
-use Rattle.xml.proofs.contents.has_room.Reads as has-room-reads
-use Rattle.xml.proofs.contents.write_contents.Reads as write-contents-reads
-use Rattle.xml.proofs.import.text_at.Reads as text-at-reads
+use Rattle.texts.proofs.contents.has_room.Reads as has-room-reads
+use Rattle.texts.proofs.contents.write_contents.Reads as write-contents-reads
+use Rattle.texts.proofs.import.text_at.Reads as text-at-reads
 
 text-at-requires : tie.Need-text-at-requires
 text-at-requires c κs = c .before .before .before .before .pre
