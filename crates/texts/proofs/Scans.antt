@@ -182,6 +182,29 @@ module _ (text : List ℕ) (at : ℕ) where
           let z = number-again h e in
           numbers-not (rw z (no-more (drop (to + 1) text) (value * 10 + (b - 48)) (omega arith)))
 
+-- A number of one digit, and what is none.
+pub true-false : {A : Type 0} → true ≡ false → A
+true-false h = let z : _≡_ {A = ℕ} 0 1 = cc in absurd (omega arith)
+
+module _ (text : List ℕ) (at : ℕ) where
+  pub number-one : at + 1 < length text → isDigit (getD text at 0) ≡ true → isDigit (getD text (at + 1) 0) ≡ false
+      → Numbers (readNumber (drop at text)) text at (N.Is (getD text at 0 - 48) (at + 1))
+  number-one more first second =
+      let w = digit-range (getD text at 0) first in
+      by-test (eqb (getD text at 0) 48)
+      (λ t. let z : getD text at 0 - 48 ≡ 0 = omega (arith, eqb-true (getD text at 0) 48 t) in rw z (number-zero text at (omega arith) (eqb-true (getD text at 0) 48 t)))
+      (λ t.
+      number-stops text at (getD text at 0 - 48) (at + 1) (number-start text at (omega arith) {x = true} (eqb-false (getD text at 0) 48 t) (sym first) refl refl)
+      (omega (arith, w .1)) (omega arith) more refl second)
+
+  pub number-none : at < length text → isDigit (getD text at 0) ≡ false → Numbers (readNumber (drop at text)) text at N.Nothing
+  unfolding isDigit
+  number-none more h = number-other text at more (λ e. true-false (sym (ap isDigit e) ∙ h)) refl h
+
+pub end-no-digit : {b : ℕ} → b ≡ 62 → isDigit b ≡ false
+unfolding isDigit
+end-no-digit e = ap isDigit e
+
 -- One reading behind another.
 module _ {B : Type 0} {o : Read (Unit {0})} {text : List ℕ} {from : ℕ} {x : Place} (first : Stands o text from x) (f : Unit {0} → List ℕ → Read B) where
   then-nothing : x ≡ Nothing → andThen o f ≡ broken
@@ -479,9 +502,6 @@ unfolding classRange pairAt
 class-high s p h = omega (arith, h (p + 6), h (p + 6 + 1))
 
 -- is_token
-true-false : {A : Type 0} → true ≡ false → A
-true-false h = let z : _≡_ {A = ℕ} 0 1 = cc in absurd (omega arith)
-
 module _ (class : ℕ) (text : List ℕ) (at : ℕ) where
   tells-not : ((class ≡ 0 → ⊥) → NoToken text at) → TellsToken class text at false
   tells-not f = record { some = λ h. true-false (sym h); none = λ h. f }

@@ -17,13 +17,14 @@ use Rattle.reader.specs.Syntax.{done}
 use Rattle.putting.specs.declared.put.Step.{Step}
 use Rattle.putting.specs.declared.put.Step.the-variants.{To, Full}
 use Rattle.texts.specs.Text.{decimal, openNode, closeNode, openToken, closeToken, nodeTag, tokenTag}
-use Rattle.texts.specs.Import.{readNumber}
+use Rattle.texts.specs.Import.{isDigit, readNumber}
 use Rattle.texts.specs.declared.scan.Number.{Number}
 use Rattle.texts.specs.declared.scan.Number.the-variants as N
 use Rattle.texts.specs.Inner.Scanning.{Numbers}
 use Rattle.texts.specs.Inner.Contents.{Contents, empty, closing, opening, value, signed, bytesIn, after, Behind, Written-to, Takes}
-use Rattle.texts.proofs.Decimal.{Stops, same-done, decimal-small, decimal-large, decimal-some, number-round}
+use Rattle.texts.proofs.Decimal.{Stops, same-done, decimal-small, decimal-large, decimal-some, digit-range, number-round}
 use Rattle.texts.proofs.Round.{node-tag, token-tag, stop-end, stop-tag}
+use Rattle.texts.proofs.Scans.{number-one, number-none, end-no-digit}
 use Rattle.texts.proofs.Stores.{written-then, set-stored, store-in}
 
 not-to : {e m : ℕ} {A : Type 0} → Full ≡ To e m → A
@@ -307,6 +308,30 @@ module _ (text : List ℕ) (at : ℕ) where
               });
           full = λ q. not-to (sym q);
         }
+
+    -- A name of one digit.
+    name-digit : {a u : ℕ} → Behind 46 text (at + 3) a → a + 1 < length text → n < length o → getD text (a + 1) 0 ≡ 62 → u ≡ getD text a 0 % 16
+        → Takes text at o (set o n u) n (To (a + 1 + 1) (n + 1))
+    name-digit {a} {u} point there h end eu =
+        by-test (isDigit (getD text a 0))
+        (λ t.
+        let w = digit-range (getD text a 0) t in
+        name-done point (number-one text a there t (end-no-digit end)) refl there h (omega (arith, w .0, w .1, eu)))
+        (λ t. record {
+          inside = λ d m q. let w = to-same q in (omega (arith, w .0, point .past), omega (arith, w .0), omega (arith, w .1));
+          next = λ d m q v c r. let z = name-nothing point (number-none text a (omega arith) t) refl .full refl v c in absurd (omega (arith, z, r));
+          full = λ q. not-to (sym q);
+        })
+
+    pub name-short : {u : ℕ} → at + 6 ≤ length text → n < length o → getD text (at + 3) 0 ≡ 46 → getD text (at + 5) 0 ≡ 62 → u ≡ getD text (at + 4) 0 % 16
+        → Takes text at o (set o n u) n (To (at + 6) (n + 1))
+    name-short {u} long h point end eu =
+        let za : at + 3 + 1 ≡ at + 4 = omega arith in
+        let zb : at + 4 + 1 ≡ at + 5 = omega arith in
+        let zc : at + 4 + 1 + 1 ≡ at + 6 = omega arith in
+        let b : Behind 46 text (at + 3) (at + 3 + 1) = behind-found 46 text (at + 3) (at + 3) refl (omega arith) (omega arith) point in
+        let d : Takes text at o (set o n u) n (To (at + 4 + 1 + 1) (n + 1)) = name-digit (rw za at b) (omega arith) h (rw zb end) eu in
+        rw zc at d
 
   -- take_value
   module _ (o : List ℕ) (n : ℕ) (there : at < length text) (not-shut : getD text (at + 1) 0 ≡ 47 → ⊥) (not-name : getD text (at + 1) 0 ≡ 120 → ⊥) where

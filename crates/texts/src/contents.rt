@@ -4,6 +4,7 @@ use crate::scan::number_at;
 use crate::scan::value_at;
 use putting::put::Step;
 ghost use mathlib.Core.Path.{_≡_};
+ghost use mathlib.Core.Bool.{true};
 ghost use mathlib.Core.List.{List};
 ghost use Prim.Native.Nat.{ℕ, _+_, _<_, _≤_};
 ghost use lib.ListN.{length, getD, drop};
@@ -86,13 +87,31 @@ fn behind(byte: u8, text: &[u8], at: usize) -> usize
     to
 }
 
-// Writes the name in the opening tag of a production.
+// Whether the kind and the name in the opening tag of a production have one digit each.
+fn is_short(text: &[u8], at: usize) -> bool
+    requires { ⌜ at + 6 ≤ length (now text) ⌝ }
+    ensures { λ r. ⌜ (r ≡ true → (getD (now (text .entry)) (at + 3) 0 ≡ 46) × (getD (now (text .entry)) (at + 5) 0 ≡ 62)) ⌝ }
+{
+    if text[at + 3] != POINT {
+        return false;
+    }
+    if text[at + 5] != END {
+        return false;
+    }
+    true
+}
+
+// Writes the name in the opening tag of a production. Most often it is one digit, which ends at a known place.
 fn take_name(text: &[u8], at: usize, out: &mut [u8], n: usize) -> Step
     requires { ⌜ (at + 6 ≤ length (now text)) × (getD (now text) (at + 1) 0 ≡ 120) × (n ≤ length (now out)) ⌝ }
     ensures { λ r. ⌜ Takes (now (text .entry)) at (now (out .entry)) (now (out .exit)) n r ⌝ }
 {
     if out.len() - n < 1 {
         return Step::Full;
+    }
+    if is_short(text, at) {
+        out[n] = text[at + 4] % 16;
+        return Step::To(at + 6, n + 1);
     }
     let a = behind(POINT, text, at + 3);
     let Number::Is(name, b) = number_at(text, a) else {
