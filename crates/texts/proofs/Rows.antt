@@ -37,7 +37,7 @@ pub root-kind : (k : ℕ) (s : List ℕ) (d q : ℕ) → q < length (rowKinds k 
 root-kind k s zero q h e = let z : q ≡ 0 = omega arith in rw z
 root-kind k s (suc d) q h e = absurd (omega arith)
 
-below-root : (k : ℕ) (s : List ℕ) (d : ℕ) → (d ≡ 0 → ⊥) → rowKinds k s d ≡ s
+pub below-root : (k : ℕ) (s : List ℕ) (d : ℕ) → (d ≡ 0 → ⊥) → rowKinds k s d ≡ s
 below-root k s zero h = absurd (h refl)
 below-root k s (suc d) h = refl
 
@@ -145,11 +145,11 @@ rest-broken R.deep text h = let z : _≡_ {A = ℕ} 0 1 = cc in absurd (omega ar
 rest-broken R.broken text h = imports-broken refl
 
 -- A row has at most as many kinds as the language has bytes.
-row-long : (k : ℕ) (s : List ℕ) (d : ℕ) → length s ≤ 1024 → length (rowKinds k s d) ≤ 1024
+pub row-long : (k : ℕ) (s : List ℕ) (d : ℕ) → length s ≤ 1024 → length (rowKinds k s d) ≤ 1024
 row-long k s zero h = omega arith
 row-long k s (suc d) h = h
 
-row-in : (kinds : List ℕ) (q e : ℕ) → KindsIn kinds q e → q < e → (q < length kinds) × (getD kinds q 0 < 32) × (e ≤ length kinds)
+pub row-in : (kinds : List ℕ) (q e : ℕ) → KindsIn kinds q e → q < e → (q < length kinds) × (getD kinds q 0 < 32) × (e ≤ length kinds)
 row-in kinds q e h more =
     let a = h q (omega arith) more in
     let z = h (e - 1) (omega arith) (omega arith) in

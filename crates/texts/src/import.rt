@@ -59,7 +59,7 @@ fn element_at(language: &[u8], index: &[u16], kind: u8, text: &[u8], at: usize) 
 }
 
 // The kind at a position of the row at a depth: the outermost row is the root alone, any other stands in the language.
-fn kind_at(language: &[u8], root: u8, depth: usize, at: usize) -> u8
+pub fn kind_at(language: &[u8], root: u8, depth: usize, at: usize) -> u8
     requires { ⌜ at < length (rowKinds root (now language) depth) ⌝ }
     ensures { λ r. ⌜ r ≡ getD (rowKinds root (now (language .entry)) depth) at 0 ⌝ }
 {

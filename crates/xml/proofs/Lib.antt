@@ -3,6 +3,7 @@ pub mod Puts
 pub mod Reading
 pub mod Exports
 pub mod Measures
+pub mod Sizes
 pub mod Answers
 pub mod Whole
 pub mod Examples

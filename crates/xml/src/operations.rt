@@ -35,7 +35,7 @@ fn export_tree(language: &[u8], index: &[u16], kind: u8, tree: &[u8], output: &m
     ensures { λ r. ⌜ GivesTree (now (language .entry)) (now (index .entry)) kind (now (tree .entry)) (now (output .entry)) (now (output .exit)) (r .outcome) ⌝ }
 {
     let kinds = [kind];
-    match measure_all(&kinds, language, index, 0, 1, tree, 0, LEVELS, 0) {
+    match measure_all(language, index, kind, tree) {
         Measured::End(e, length) => {
             if e != tree.len() {
                 return refuse(Reason::IllegalTree);

@@ -24,6 +24,10 @@ pub record Sum (n v m : ℕ) : Type 0 where
 abbrev pub Within : List ℕ → Measured → Type 0
 Within b r = (e m : ℕ) → r ≡ End e m → e ≤ length b
 
+-- It also lies behind `at`.
+abbrev pub Reaches : List ℕ → ℕ → Measured → Type 0
+Reaches b at r = (e m : ℕ) → r ≡ End e m → (at < e) × (e ≤ length b)
+
 -- The answer r says what the reading p comes to; the length of the text of what was read is added to n.
 pub record Measures {A : Type 0} (text : A → List ℕ) (p : Read A) (b : List ℕ) (n : ℕ) (r : Measured) : Type 0 where
   pub found : (e m : ℕ) → r ≡ End e m → (a : A) × (p ≡ done a (drop e b)) × Sum n (length (text a)) m
