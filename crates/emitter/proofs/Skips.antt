@@ -396,7 +396,7 @@ module _ (x : Syntax) (t b : List ℕ) (from at : ℕ) where
     below = below;
   }
     where
-      stood : length t ≡ 29760 → from < 1024 → Stands t (16448 + from) (k ∷ [])
+      stood : length t ≡ 26184 → from < 1024 → Stands t (16448 + from) (k ∷ [])
       stood l i = byte-stands t (16448 + from) k (omega arith) e
 
       below : (j : ℕ) → j < 1 → getD (k ∷ []) j 0 < 32

@@ -25,10 +25,9 @@ use fields::outcome::Reason;
 use merging::within::lies_within;
 use operators::assemble::assemble;
 use operators::numbers::numbers_below;
-use reader::index::INDEX;
 use reader::index::TABLE;
-use reader::index::put_all;
 use reader::node::USES;
+use tables::prepare::begin;
 use tables::prepare::prepare;
 use translation::index::put_uses;
 use translation::parts::body_of;
@@ -75,10 +74,16 @@ fn join_body(
         → Stores (joinedBody f g) (now (out .entry)) (now (out .exit)) 0 r) ⌝ }
 {
     let mut table = [0u16; TABLE];
-    put_all(first_source, 0x11, &mut table[..INDEX]);
-    prepare(first_source, first_target, first_body, &mut table);
+    begin(first_source, first_target, &mut table);
     let mut first_uses = [0u8; USES];
     put_uses(first_body, &mut first_uses);
+    prepare(
+        first_source,
+        first_target,
+        first_body,
+        &first_uses,
+        &mut table,
+    );
     let mut second_uses = [0u8; USES];
     put_uses(second_body, &mut second_uses);
     let limit = number_limit(first_body);

@@ -1,12 +1,13 @@
--- What `prepare` returns: the index of the source, and the tables of what the clauses of the body count along it.
+-- What `prepare` returns: the tables of what the clauses of the body count along the index of the source.
 use Prim.Native.Nat.{ℕ, suc, _+_, _<_, _≤_}
-use mathlib.Core.Path.{_≡_, refl, _∙_}
+use mathlib.Core.Path.{_≡_, refl, sym, ap, _∙_}
 use mathlib.Core.Logic.{_⊎_, inl, inr, ⊎-elim}
 use mathlib.Core.List.{List}
 use mathlib.Core.Bool.{true, cond}
 use mathlib.Core.Option.{some}
 use native.Mathlib.Omega.{arith}
 use lib.ListN.{length, getD, List·getD-eq-default}
+use lib.Seq.{ext-getD}
 use lib.Dec.{ltb, eqb}
 use borrow.Author.Tests.{eq-eqb, eqb-true, ltb-true, ltb-false}
 use Rattle.fields.specs.Lists.{all, any}
@@ -16,7 +17,7 @@ use Rattle.fields.proofs.Truth.{by-test, and-both, all-mem, mem-all, any-mem, m
 use Rattle.fields.proofs.Keyed.{Rising, is-rising}
 use Rattle.language.specs.Language.{productionKey}
 use Rattle.language.specs.LanguageFile.{entriesOf}
-use Rattle.reader.specs.Inner.Index.{putAll, Indexed}
+use Rattle.reader.specs.Inner.Index.{putAll, Built}
 use Rattle.reader.proofs.Placed.{puts-length, puts-place, found}
 use Rattle.reader.proofs.Indexed.{build-is}
 use Rattle.reader.proofs.Members.{in-below}
@@ -65,34 +66,43 @@ clear-tables counts entries a b q key =
     let c : cond (eqb 0 key) (getD counts q 0) 0 ≡ 0 = by-test (eqb 0 key) (λ t. rw t (a q)) (λ t. rw t) in
     omega arith
 
--- What `prepare` returns, from what the two passes return.
-module _ (source body index counts entries : List ℕ) (width : ℕ) (source-bytes : (i : ℕ) → getD source i 0 < 256) (bytes : (i : ℕ) → getD body i 0 < 256)
-    (short : length source ≤ 1024) (brief : length body ≤ 4096) (long : length index ≡ 8224) (zeros : (j : ℕ) → getD index j 0 ≡ 0)
+-- An index that stands in a table of its own is what was built.
+built-whole : (s after : List ℕ) → length after ≡ 8224 → (w : Built 0x11 s after 0) → after ≡ putAll 0x11 s (w .zeros) (places s)
+built-whole s after long w =
+    let n = puts-length 0x11 s (places s) (w .zeros) in
+    ext-getD 0 after (putAll 0x11 s (w .zeros) (places s)) (omega (arith, w .long))
+    (λ j h.
+    let z : 0 + j ≡ j = omega arith in
+    ap (λ (m : ℕ). getD after m 0) (sym z) ∙ w .is j (omega arith))
+
+-- What `prepare` returns, from what the pass returns.
+module _ (source body after counts entries : List ℕ) (width : ℕ) (source-bytes : (i : ℕ) → getD source i 0 < 256) (bytes : (i : ℕ) → getD body i 0 < 256)
+    (short : length source ≤ 1024) (brief : length body ≤ 4096) (whole : length after ≡ 8224) (stands : Built 0x11 source after 0)
     (room : length counts ≡ 1024) (clear : (j : ℕ) → getD counts j 0 ≡ 0) (clean : (j : ℕ) → getD entries j 0 ≡ 0)
     (wide : width ≡ widthOf body) (enough : (length entries ≡ 7168) ⊎ (width ≡ 1)) where
-  pub prepared : {after : List ℕ} {tables : Tables} → after ≡ putAll 0x11 source index (places source) → tables ≡ countAll body after (places body) (counts, entries)
+  pub prepared : {tables : Tables} → tables ≡ countAll body after (places body) (counts, entries)
       → (f : Translation) → entriesOf source ≡ some (f .source) → bodyOf body ≡ some (f .body) → allRising f ≡ true → wellFormed f ≡ value f
-      → Indexed after source (f .source) × Counted tables width after f
-  prepared {after} {tables} built counted f d e rises formed =
-      let z = build-is source index source-bytes short long zeros (f .source) d built in
+      → Counted tables width after f
+  prepared {tables} counted f d e rises formed =
+      let index = stands .zeros in
+      let built = built-whole source after whole stands in
+      let z = build-is source index source-bytes short (stands .long) (stands .zero) (f .source) d built in
       let held = holds-items body (f .body) e in
       let items-rise : Rising itemKey (f .body) = is-rising itemKey (f .body) (rises-parts f rises .2) in
       let fits = formed-fits f f (λ k i. in-below source k (f .source) d i) items-rise formed .0 in
       let w = items-clauses body f held items-rise fits (is-rising (orderAt 0x22 body) (places body) (rising-is body (f .body) held ∙ rises-parts f rises .2)) in
-      let x = finds-apart after source (rw built (built-finds source index long zeros)) in
+      let x = finds-apart after source (rw built (built-finds source index (stands .long) (stands .zero))) in
       let low : (k j u : ℕ) → mappingOf (f .body) k j ≡ some u → j < width = λ k j u maps. let y = number-narrow body f held items-rise fits k j u maps in omega arith in
       let all = all-times source after body f z x w bytes brief (length entries) (⊎-elim (λ a. inl a) (λ a. inr (λ k j u maps. let y = low k j u maps in omega arith)) enough)
       (counts, entries) (record { long = room; entries = refl; fresh = λ q h. let y = clean q in omega arith }) (clear-tables counts entries clear clean)
-      (places-along body) (field-up body) in (
-        z,
-        rw counted (record {
-          owns = λ k p j u ks hk hp there maps.
-              let a : getD after (productionKey k p) 0 + 3 ≡ getD after (productionKey k p) 0 + 3 + 0 = omega arith in
-              rw a (all k p j u ks hk hp there maps 0 0 (omega arith) (omega arith));
-          used = λ k p j u ks hk hp there maps i m h l.
-              let a : getD after (productionKey k p) 0 + 4 + i ≡ getD after (productionKey k p) 0 + 3 + (1 + i) = omega arith in
-              let b : 1 + i ≡ suc i = omega arith in
-              rw (a, b) (all k p j u ks hk hp there maps (suc i) m (omega arith) l);
-          narrow = low;
-        }),
-      )
+      (places-along body) (field-up body) in
+      rw counted (record {
+        owns = λ k p j u ks hk hp there maps.
+            let a : getD after (productionKey k p) 0 + 3 ≡ getD after (productionKey k p) 0 + 3 + 0 = omega arith in
+            rw a (all k p j u ks hk hp there maps 0 0 (omega arith) (omega arith));
+        used = λ k p j u ks hk hp there maps i m h l.
+            let a : getD after (productionKey k p) 0 + 4 + i ≡ getD after (productionKey k p) 0 + 3 + (1 + i) = omega arith in
+            let b : 1 + i ≡ suc i = omega arith in
+            rw (a, b) (all k p j u ks hk hp there maps (suc i) m (omega arith) l);
+        narrow = low;
+      })

@@ -1,6 +1,5 @@
 // What measuring takes, made ready once for a run.
 use crate::count::count_all;
-use reader::index::put_all;
 ghost use mathlib.Core.Path.{_≡_};
 ghost use mathlib.Core.Logic.{_⊎_};
 ghost use mathlib.Core.Bool.{true};
@@ -9,8 +8,7 @@ ghost use Prim.Native.Nat.{ℕ, _≤_};
 ghost use lib.ListN.{length, getD};
 ghost use Rattle.fields.specs.Outcome.{value};
 ghost use Rattle.language.specs.LanguageFile.{entriesOf};
-ghost use Rattle.fields.specs.Inner.Places.{places};
-ghost use Rattle.reader.specs.Inner.Index.{Indexed, putAll, indexLength};
+ghost use Rattle.reader.specs.Inner.Index.{Built, indexLength};
 ghost use Rattle.translation.specs.Translation.{Translation};
 ghost use Rattle.translation.specs.TranslationFile.{bodyOf, allRising};
 ghost use Rattle.translation.specs.WellFormed.{wellFormed};
@@ -21,26 +19,23 @@ ghost use Rattle.measure.specs.Inner.Measuring.{Counted};
 // each sign of the body.
 pub const ENTRIES: usize = 7168;
 
-// Builds the index of the source and, along its bytes, the tables of what the body's clauses count: what each code writes
-// itself and how often it uses each argument by each number. All tables are all zero before. A body without numbers, whose
-// width is 1, needs no entries.
+// Makes the tables of what the body's clauses count, along the bytes of the source: what each code writes itself and how often
+// it uses each argument by each number. The source's index is given, and the tables are all zero before. A body without numbers,
+// whose width is 1, needs no entries.
 pub fn prepare(
     source: &[u8],
     body: &[u8],
-    index: &mut [u16],
+    index: &[u16],
     counts: &mut [u16],
     entries: &mut [u16],
     width: usize,
 )
-    requires { ⌜ (length (now source) ≤ 1024) × (length (now body) ≤ 4096) × (length (now index) ≡ indexLength) × ((j : ℕ) → getD (now index) j 0 ≡ 0)
+    requires { ⌜ (length (now source) ≤ 1024) × (length (now body) ≤ 4096) × (length (now index) ≡ indexLength) × Built 0x11 (now source) (now index) 0
         × (length (now counts) ≡ 1024) × ((j : ℕ) → getD (now counts) j 0 ≡ 0) × ((j : ℕ) → getD (now entries) j 0 ≡ 0)
         × (width ≡ widthOf (now body)) × ((length (now entries) ≡ 7168) ⊎ (width ≡ 1))
         × ((f : Translation) × (entriesOf (now source) ≡ some (f .source)) × (bodyOf (now body) ≡ some (f .body))) ⌝ }
-    ensures put { λ r. ⌜ now (index .exit) ≡ putAll 0x11 (now (source .entry)) (now (index .entry)) (places (now (source .entry))) ⌝ }
-    ensures ready { λ r. ⌜ ((f : Translation) → entriesOf (now (source .entry)) ≡ some (f .source) → bodyOf (now (body .entry)) ≡ some (f .body)
-        → allRising f ≡ true → wellFormed f ≡ value f
-        → Indexed (now (index .exit)) (now (source .entry)) (f .source) × Counted (now (counts .exit), now (entries .exit)) width (now (index .exit)) f) ⌝ }
+    ensures { λ r. ⌜ ((f : Translation) → entriesOf (now (source .entry)) ≡ some (f .source) → bodyOf (now (body .entry)) ≡ some (f .body)
+        → allRising f ≡ true → wellFormed f ≡ value f → Counted (now (counts .exit), now (entries .exit)) width (now (index .entry)) f) ⌝ }
 {
-    put_all(source, 0x11, index);
     count_all(body, index, counts, entries);
 }

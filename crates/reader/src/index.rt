@@ -8,13 +8,13 @@ ghost use Rattle.fields.specs.Inner.Places.{places};
 ghost use mathlib.Core.Option.{some};
 ghost use Rattle.language.specs.Language.{Language};
 ghost use Rattle.language.specs.LanguageFile.{entriesOf};
-ghost use Rattle.reader.specs.Inner.Index.{putAt, putAll, Indexed, indexLength};
+ghost use Rattle.reader.specs.Inner.Index.{putAt, putAll, Built, Around, Indexed, indexLength};
 
 // How many numbers an index has: one for each kind, and one for each production.
 pub const INDEX: usize = 8224;
 
 // How many numbers the table of a run has; the index of the source stands first in it.
-pub const TABLE: usize = 29760;
+pub const TABLE: usize = 26184;
 
 // Puts a value at a key that has none yet.
 fn put(index: &mut [u16], key: usize, value: u16)
@@ -39,6 +39,14 @@ pub fn put_all(s: &[u8], leading_tag: u8, index: &mut [u16])
         put(index, slot_at(s, p, leading_tag), (p + 1) as u16);
         p = field_end(s, p);
     }
+}
+
+// Puts the index of a file into a table, from a position on where it is all zero. Its leading entries have the tag `leading_tag`.
+pub fn put_index(s: &[u8], leading_tag: u8, a: usize, table: &mut [u16])
+    requires { ⌜ (length (now s) ≤ 32768) × (a + indexLength ≤ length (now table)) × ((j : ℕ) → j < indexLength → getD (now table) (a + j) 0 ≡ 0) ⌝ }
+    ensures { λ r. ⌜ Built «leading_tag» (now (s .entry)) (now (table .exit)) a × Around (now (table .entry)) (now (table .exit)) a (a + indexLength) ⌝ }
+{
+    put_all(s, leading_tag, &mut table[a..a + INDEX]);
 }
 
 // Builds the index of a language in an index that is all zero.

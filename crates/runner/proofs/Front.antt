@@ -1,36 +1,21 @@
 -- The index of the source as the front of the table of a run.
 use Prim.Native.Nat.{ℕ, _+_, _≤_, _<_}
-use mathlib.Core.Path.{_≡_, refl, ap}
-use mathlib.Core.List.{List, [], _∷_, _++_}
+use mathlib.Core.Path.{_≡_, refl, sym, _∙_}
+use mathlib.Core.List.{List, [], _∷_}
 use native.Mathlib.Omega.{arith}
-use lib.ListN.{length, getD, take, drop, length-append, List·getD-append}
-use Rattle.fields.specs.Inner.Places.{places}
-use Rattle.language.specs.Language.{Language, productionKey}
-use Rattle.reader.specs.Inner.Index.{Sound, Indexed, putAll}
+use lib.ListN.{length, getD, take, length-take, List·getD-eq-default}
+use lib.Dec.{ltb}
+use borrow.Author.Tests.{ltb-true, ltb-false}
+use Rattle.fields.proofs.Truth.{by-test}
+use lib.Seq.{getD-take, length-take-le}
+use Rattle.language.specs.Language.{productionKey}
+use Rattle.reader.specs.Inner.Index.{Built}
 use Rattle.translation.specs.Translation.{Translation}
 use Rattle.measure.specs.Inner.Counting.{Tables}
 use Rattle.measure.specs.Inner.Measuring.{Counted}
-use Rattle.tables.proofs.Tables.{front-index-long}
 
--- What is looked up in a longer table is what stands in its front.
-module _ (index table s : List ℕ) (long : 8224 ≤ length table) (same : (j : ℕ) → j < 8224 → getD table j 0 ≡ getD index j 0) where
-  sound-front : Sound index s → Sound table s
-  sound-front z = record {
-    long = long;
-    short = z .short;
-    class = λ k h q. rw (same k (omega arith)) (z .class k h (rw (same k (omega arith)) at q));
-    name = λ k p h j q. rw (same (productionKey k p) (omega arith)) (z .name k p h j (rw (same (productionKey k p) (omega arith)) at q));
-    operands = λ k p h j q. rw (same (productionKey k p) (omega arith)) (z .operands k p h j (rw (same (productionKey k p) (omega arith)) at q));
-  }
-
-  pub indexed-front : (l : Language) → Indexed index s l → Indexed table s l
-  indexed-front l z = record {
-    sound = sound-front (z .sound);
-    entries = z .entries;
-    range = λ k h. rw (same k (omega arith)) (z .range k h);
-    arguments = λ k p h j. rw (same (productionKey k p) (omega arith)) (z .arguments k p h j);
-  }
-
+-- What is counted by the index of a longer table is what is counted by its front.
+module _ (index table : List ℕ) (same : (j : ℕ) → j < 8224 → getD table j 0 ≡ getD index j 0) where
   pub counted-front : (t : Tables) (width : ℕ) (f : Translation) → Counted t width index f → Counted t width table f
   counted-front t width f z = record {
     owns = λ k p j u ks h i e q. rw (same (productionKey k p) (omega arith)) (z .owns k p j u ks h i e q);
@@ -38,16 +23,26 @@ module _ (index table s : List ℕ) (long : 8224 ≤ length table) (same : (j : 
     narrow = z .narrow;
   }
 
--- begin: the front of the table o was replaced by the index.
-module _ (s o index : List ℕ) (long : length o ≡ 29760) (put : index ≡ putAll 0x11 s (take 8224 o) (places s)) where
-  index-long : length index ≡ 8224
-  index-long = rw put (front-index-long s o long)
+-- check_front: a part of what is all zero.
+pub part-zero : (n : ℕ) (o : List ℕ) → ((j : ℕ) → getD o j 0 ≡ 0) → (j : ℕ) → getD (take n o) j 0 ≡ 0
+part-zero n o clear j =
+    by-test (ltb j n)
+    (λ e. getD-take n o j 0 (ltb-true _ _ e) ∙ clear j)
+    (λ e.
+    let i : n ≤ j = ltb-false _ _ e in
+    let l = length-take n o in
+    List·getD-eq-default (take n o) 0 (omega arith))
 
-  pub front-same : (j : ℕ) → j < 8224 → getD (index ++ drop 8224 o) j 0 ≡ getD index j 0
-  front-same j h = List·getD-append index (drop 8224 o) 0 j (omega (arith, index-long))
+-- begin: the index is the front of the table.
+module _ (s table : List ℕ) (long : length table ≡ 26184) where
+  pub front-length : length (take 8224 table) ≡ 8224
+  front-length = length-take-le 8224 table (omega arith)
 
-  pub front-long : 8224 ≤ length (index ++ drop 8224 o)
-  front-long = rw (length-append index (drop 8224 o)) (omega (arith, index-long))
+  pub front-same : (j : ℕ) → j < 8224 → getD table j 0 ≡ getD (take 8224 table) j 0
+  front-same j h = sym (getD-take 8224 table j 0 h)
+
+  pub front-built : Built 0x11 s table 0 → Built 0x11 s (take 8224 table) 0
+  front-built w = record { zeros = w .zeros; long = w .long; zero = w .zero; is = λ j h. getD-take 8224 table (0 + j) 0 (omega arith) ∙ w .is j h }
 
 -- measure_single: no entries are lent.
 no-entries : (l : List ℕ) → length l ≡ 0 → l ≡ []

@@ -6,7 +6,8 @@ use mathlib.Core.Bool.{Bool, true, false, not, _&&_}
 use mathlib.Core.List.{List, [], _++_}
 use mathlib.Core.Option.{some}
 use native.Mathlib.Omega.{arith}
-use lib.ListN.{length, getD, drop, drop-of-length-le}
+use lib.ListN.{length, getD, drop, drop-of-length-le, length-append, length-drop, List·getD-append}
+use lib.Seq.{getD-drop, getD-append-add}
 use lib.Dec.{ltb, eqb}
 use borrow.Author.Tests.{le-ltb, lt-ltb, ltb-true, ne-eqb}
 use Rattle.fields.specs.Outcome.{Result, value, refused, _>>=_, checked, written, outputAfter}
@@ -24,7 +25,8 @@ use Rattle.reader.specs.Code.{Code}
 use Rattle.reader.specs.Syntax as Meant
 use Rattle.reader.specs.Operations.{treeOf, wholeTree}
 use Rattle.reader.specs.declared.node.Syntax.the-variants.{Tree, Code as InCode}
-use Rattle.reader.specs.Inner.Index.{Indexed}
+use Rattle.reader.specs.Inner.Index.{Built, Indexed}
+use Rattle.reader.proofs.Built.{built-indexed}
 use Rattle.reader.specs.Inner.Positions.{kindBefore, mappedIn}
 use Rattle.translation.proofs.Accepted.{refused-not}
 use Rattle.reader.proofs.RoundTrip.{Apart}
@@ -57,7 +59,7 @@ use Rattle.emitter.specs.Inner.Runs.{TermAsks}
 use Rattle.emitter.proofs.Skips.{no-kind}
 use Rattle.tables.proofs.Standing.{drop-stands, wrote-long}
 use Rattle.runner.specs.Operations.{largestCost, clausesApplied, runCost}
-use Rattle.runner.specs.Inner.Runs.{runOf, costOf, Answers, Ran, Reads, Measures}
+use Rattle.runner.specs.Inner.Runs.{runOf, costOf, Answers, Ran, Reads, Measures, Prepared}
 use Rattle.runner.proofs.Learning.{learnt-right}
 
 -- A mapping in a file is of a kind and by a byte.
@@ -108,13 +110,18 @@ runBy f j t = Meant.write Meant.tree (transform f j t)
 abbrev pub treeRead : Translation → ℕ → List ℕ → Meant.Read Code
 treeRead f k b = Meant.read Meant.tree (f .source) [] 64 k b
 
+-- The source's index, where the table is filled.
+pub prepared-indexed : (s t b table : List ℕ) (f : Translation) → ((i : ℕ) → getD s i 0 < 256) → Prepared s t b table f → Indexed table s (f .source)
+prepared-indexed s t b table f bytes p =
+    built-indexed s table table 0 (p .index) (omega (arith, p .ready .long)) (λ j h. let n : 0 + j ≡ j = omega arith in ap (λ (m : ℕ). getD table m 0) (sym n))
+    bytes (p .checked .pieces .source-short) (f .source) (p .checked .pieces .source)
+
 -- What measuring leaves.
 pub measures : {s x b : List ℕ} {f : Translation} → Checked s x b f → (table ends before bytes : List ℕ) (k j top : ℕ) (r : Measured)
-    → Begun s table → Indexed table s (f .source) → ((i : ℕ) → getD bytes i 0 < 256) → ((i : ℕ) → getD before i 0 ≡ 0)
+    → Indexed table s (f .source) → ((i : ℕ) → getD bytes i 0 < 256) → ((i : ℕ) → getD before i 0 ≡ 0)
     → ((u : ℕ) → mappingOf (f .body) k j ≡ some u → sizedAt bytes r ≡ sizedOf top f j (treeRead f k bytes))
-    → EndsIn (length bytes) top r → Learnt s table bytes before ends → Measures s table ends f k j bytes top r
-measures {s} {f = f} z table ends before bytes k j top r begun indexed narrow zeros is within learnt = record {
-  begun = begun;
+    → EndsIn (length bytes) top r → Learnt s table bytes before ends → Measures ends f k j bytes top r
+measures {s} {f = f} z table ends before bytes k j top r indexed narrow zeros is within learnt = record {
   is = is;
   within = within;
   kept = learnt-right s table bytes (f .source) indexed (source-apart z) narrow before ends zeros learnt;
@@ -173,8 +180,8 @@ unfolding runOf
 kind-out f k j b o er h i free = ran-refused f k j b o (rw (← er, h) refl) i free
 
 -- finish
-module _ {s t x : List ℕ} {f : Translation} (z : Checked s t x f) (k j top : ℕ) (b o table ends : List ℕ) (has : isSome (mappingOf (f .body) k j) ≡ true) (m : Measured)
-    (over : length o < top) (w : Measures s table ends f k j b top m) where
+module _ {s t x : List ℕ} {f : Translation} (z : Checked s t x f) (k j top : ℕ) (b o ends : List ℕ) (has : isSome (mappingOf (f .body) k j) ≡ true) (m : Measured)
+    (over : length o < top) (w : Measures ends f k j b top m) where
   room : ℕ
   room = length o
 
@@ -250,11 +257,51 @@ module _ {s t x : List ℕ} {f : Translation} (z : Checked s t x f) (k j top : �
           let y : Reads f k j ends b (read-done .0) = record { has = has; is = read-all; kept = w .kept } in
           record { answers = answer-same (tree-run h) (g (read-done .0) y (omega arith)); costs = tree-costs h most i }
 
+-- check_front: the indexes were made in the front of a table that was all zero.
+pub front-begun : (s g o v : List ℕ) → length o ≡ 26184 → ((j : ℕ) → getD o j 0 ≡ 0) → length v ≡ 16448 → Built 0x11 s v 0 → Built 0x11 g v 8224 → Begun s g (v ++ drop 16448 o)
+front-begun s g o v long clear short first second =
+    let n = length-append v (drop 16448 o) in
+    let d = length-drop 16448 o in
+    let same : (j : ℕ) → j < 16448 → getD (v ++ drop 16448 o) j 0 ≡ getD v j 0 = λ j h. List·getD-append v (drop 16448 o) 0 j (omega arith) in
+    record {
+      long = omega arith;
+      source = record { zeros = first .zeros; long = first .long; zero = first .zero; is = λ j h. same (0 + j) (omega arith) ∙ first .is j h };
+      target = record { zeros = second .zeros; long = second .long; zero = second .zero; is = λ j h. same (8224 + j) (omega arith) ∙ second .is j h };
+      hints = λ i.
+          let e : 25664 + i ≡ length v + (9216 + i) = omega arith in
+          ap (λ (m : ℕ). getD (v ++ drop 16448 o) m 0) e ∙ (getD-append-add v (drop 16448 o) (9216 + i) 0 ∙ (getD-drop 16448 o (9216 + i) 0 ∙ clear (16448 + (9216 + i))));
+    }
+
+-- check_into
+pub accepted-is : (s : List ℕ) (f : Translation) → translationOf s ≡ value f → {out : Outcome} → out ≡ Accepted 0 → out ≡ checkTranslation s
+unfolding checkTranslation
+accepted-is s f e h = rw e h
+
+pub refused-is : (s : List ℕ) (c out : Outcome) (r : Reason) → c ≡ checkTranslation s → c ≡ Refused r → out ≡ Refused r → out ≡ checkTranslation s
+refused-is s c out r ec h i = i ∙ (sym h ∙ ec)
+
+pub refused-none : {A : Type 0} (s : List ℕ) (f : Translation) → translationOf s ≡ value f → (c : Outcome) (r : Reason) → c ≡ checkTranslation s → c ≡ Refused r → A
+unfolding checkTranslation
+refused-none s f e c r ec h =
+    let y : c ≡ Accepted 0 = rw e at ec in
+    refused-not {n = 0} {r = r} (sym h ∙ y)
+
 -- run: the parts that are lent.
 pub parts-checked : (s : List ℕ) (f : Translation) → translationOf s ≡ value f → {x y z : List ℕ} → x ≡ sourceIn s → y ≡ targetIn s → z ≡ bodyIn s
     → Checked x y z f
 parts-checked s f e ex ey ez =
     rw (ex, ey, ez) (record { pieces = pieces-in s f e; short = body-in-short s f e; file = s; accepted = e })
+
+-- The table of the parts, under other names.
+pub begun-as : {x y s g t : List ℕ} → x ≡ s → y ≡ g → Begun s g t → Begun x y t
+begun-as ex ey w = rw (ex, ey) w
+
+pub prepared-as : {x z s t b table : List ℕ} {f : Translation} → x ≡ s → z ≡ b → Prepared s t b table f → Prepared x t z table f
+prepared-as ex ez w = rw (ex, ez) w
+
+pub into-prepared : (s : List ℕ) (f : Translation) → translationOf s ≡ value f → {x table : List ℕ} → x ≡ sourceIn s → Built 0x11 x table 0 → Ready table f
+    → Prepared (sourceIn s) (targetIn s) (bodyIn s) table f
+into-prepared s f e ex built ready = record { checked = parts-checked s f e refl refl refl; ready = ready; index = rw ex at built }
 
 -- The outcome, the output and the cost are those of the operation.
 abbrev pub AsRun : List ℕ → (root number : ℕ) → List ℕ → List ℕ → List ℕ → ℕ → Outcome → Type 0

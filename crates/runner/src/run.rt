@@ -1,5 +1,5 @@
 // The operation run. It measures the result first and writes it only where it fits.
-use checks::translations::check_translation;
+use checks::translations::check_kept;
 use fields::bytes::to_usize;
 use fields::outcome::Answer;
 use fields::outcome::Outcome;
@@ -19,6 +19,8 @@ use translation::index::put_uses;
 use translation::parts::body_of;
 use translation::parts::source_of;
 use translation::parts::target_of;
+use wellformed::check::INDEXES;
+use wellformed::check::USES_ROOM;
 ghost use mathlib.Core.Path.{_≡_};
 ghost use mathlib.Core.Bool.{true};
 ghost use mathlib.Core.Option.{some};
@@ -33,16 +35,19 @@ ghost use Rattle.reader.specs.Syntax.{write, tree as inTrees};
 ghost use Rattle.fields.specs.Lists.{isSome};
 ghost use Rattle.translation.specs.Translation.{Translation, mappingOf};
 ghost use Rattle.translation.specs.Running.{transform};
-ghost use Rattle.translation.specs.Operations.{runTree};
-ghost use Rattle.translation.specs.TranslationFile.{bodyOf, allRising};
+ghost use Rattle.translation.specs.Operations.{checkTranslation, runTree};
+ghost use Rattle.translation.specs.TranslationFile.{bodyOf, allRising, translationOf};
 ghost use Rattle.translation.specs.WellFormed.{wellFormed};
 ghost use Rattle.measure.specs.Inner.Measuring.{Counted};
 ghost use Rattle.measure.specs.Inner.Counting.{widthOf};
-ghost use Rattle.reader.specs.Inner.Index.{Indexed, tableLength};
-ghost use Rattle.tables.specs.Inner.Table.{Checked};
+ghost use Rattle.translation.specs.Inner.Parts.{sourceIn, targetIn, bodyIn};
+ghost use Rattle.translation.specs.Inner.ItemIndex.{Mapped};
+ghost use Rattle.reader.specs.Inner.Index.{Built, tableLength};
+ghost use Rattle.wellformed.specs.Inner.Ready.{usesRoom};
+ghost use Rattle.tables.specs.Inner.Table.{Checked, Ready};
 ghost use Rattle.tables.specs.Inner.Filling.{Begun};
 ghost use Rattle.runner.specs.Operations.{largestCost, runCost};
-ghost use Rattle.runner.specs.Inner.Runs.{Answers, Ran, Reads, Measures};
+ghost use Rattle.runner.specs.Inner.Runs.{Answers, Ran, Reads, Measures, Prepared};
 
 // The largest number of a mapping.
 const LAST_NUMBER: u32 = 255;
@@ -75,26 +80,23 @@ fn has_number(source: &[u8], body: &[u8], kind: u8, number: u8) -> bool
     uses[to_usize(kind) * 256 + to_usize(number)] != 0
 }
 
-// Puts the index of the source into the front of the table of a run, and what the body's clauses count into others. All are
-// all zero before.
+// Puts what the body's clauses count into tables that are all zero. The index of the source stands in the front of the table.
 fn begin(
     source: &[u8],
     body: &[u8],
-    table: &mut [u16],
+    table: &[u16],
     counts: &mut [u16],
     entries: &mut [u16],
     width: usize,
 )
-    requires { ⌜ (length (now source) ≤ 1024) × (length (now body) ≤ 4096) × (length (now table) ≡ tableLength) × ((j : ℕ) → getD (now table) j 0 ≡ 0)
+    requires { ⌜ (length (now source) ≤ 1024) × (length (now body) ≤ 4096) × (length (now table) ≡ tableLength) × Built 0x11 (now source) (now table) 0
         × (length (now counts) ≡ 1024) × ((j : ℕ) → getD (now counts) j 0 ≡ 0) × ((j : ℕ) → getD (now entries) j 0 ≡ 0)
         × (width ≡ widthOf (now body)) × ((length (now entries) ≡ 7168) ⊎ (width ≡ 1))
         × ((f : Translation) × (entriesOf (now source) ≡ some (f .source)) × (bodyOf (now body) ≡ some (f .body))) ⌝ }
-    ensures begun { λ r. ⌜ Begun (now (source .entry)) (now (table .exit)) ⌝ }
-    ensures ready { λ r. ⌜ ((f : Translation) → entriesOf (now (source .entry)) ≡ some (f .source) → bodyOf (now (body .entry)) ≡ some (f .body)
-        → allRising f ≡ true → wellFormed f ≡ value f
-        → Indexed (now (table .exit)) (now (source .entry)) (f .source) × Counted (now (counts .exit), now (entries .exit)) width (now (table .exit)) f) ⌝ }
+    ensures { λ r. ⌜ ((f : Translation) → entriesOf (now (source .entry)) ≡ some (f .source) → bodyOf (now (body .entry)) ≡ some (f .body)
+        → allRising f ≡ true → wellFormed f ≡ value f → Counted (now (counts .exit), now (entries .exit)) width (now (table .entry)) f) ⌝ }
 {
-    prepare(source, body, &mut table[..INDEX], counts, entries, width);
+    prepare(source, body, &table[..INDEX], counts, entries, width);
 }
 
 // The tree, checked, and the length of its run by a number, which its kind has, over tables that are lent all zero. Where long
@@ -102,7 +104,7 @@ fn begin(
 fn measure_with(
     source: &[u8],
     body: &[u8],
-    table: &mut [u16; TABLE],
+    table: &[u16; TABLE],
     kind: u8,
     number: u8,
     tree: &[u8],
@@ -112,11 +114,11 @@ fn measure_with(
     width: usize,
     ends: &mut [u32],
 ) -> Measured
-    requires { ⌜ (kind < 32) × (length (now table) ≡ tableLength) × ((j : ℕ) → getD (now table) j 0 ≡ 0) × ((j : ℕ) → getD (now entries) j 0 ≡ 0) × (width ≡ widthOf (now body)) × (0 < width) × (width ≤ 256)
+    requires { ⌜ (kind < 32) × ((j : ℕ) → getD (now entries) j 0 ≡ 0) × (width ≡ widthOf (now body)) × (0 < width) × (width ≤ 256)
         × ((length (now entries) ≡ 7168) ⊎ (width ≡ 1)) × (66 * width ≤ length (now weights)) × ((j : ℕ) → getD (now weights) j 0 ≡ 0) × ((j : ℕ) → getD (now ends) j 0 ≡ 0)
-        × ((t : List ℕ) × (f : Translation) × Checked (now source) t (now body) f) ⌝ }
-    ensures { λ r. ⌜ ((t : List ℕ) (f : Translation) → Checked (now (source .entry)) t (now (body .entry)) f
-        → Measures (now (source .entry)) (now (table .exit)) (now (ends .exit)) f kind number (now (tree .entry)) top r) ⌝ }
+        × ((t : List ℕ) × (f : Translation) × Prepared (now source) t (now body) (now table) f) ⌝ }
+    ensures { λ r. ⌜ ((t : List ℕ) (f : Translation) → Prepared (now (source .entry)) t (now (body .entry)) (now (table .entry)) f
+        → Measures (now (ends .exit)) f kind number (now (tree .entry)) top r) ⌝ }
 {
     let mut counts = [0u16; 1024];
     begin(source, body, table, &mut counts, entries, width);
@@ -141,16 +143,16 @@ fn measure_with(
 fn measure_single(
     source: &[u8],
     body: &[u8],
-    table: &mut [u16; TABLE],
+    table: &[u16; TABLE],
     kind: u8,
     tree: &[u8],
     top: usize,
     ends: &mut [u32],
 ) -> Measured
-    requires { ⌜ (kind < 32) × (length (now table) ≡ tableLength) × ((j : ℕ) → getD (now table) j 0 ≡ 0) × (1 ≡ widthOf (now body)) × (0 < top) × ((j : ℕ) → getD (now ends) j 0 ≡ 0)
-        × ((t : List ℕ) × (f : Translation) × Checked (now source) t (now body) f) ⌝ }
-    ensures { λ r. ⌜ ((number : ℕ) (t : List ℕ) (f : Translation) → Checked (now (source .entry)) t (now (body .entry)) f
-        → Measures (now (source .entry)) (now (table .exit)) (now (ends .exit)) f kind number (now (tree .entry)) top r) ⌝ }
+    requires { ⌜ (kind < 32) × (1 ≡ widthOf (now body)) × (0 < top) × ((j : ℕ) → getD (now ends) j 0 ≡ 0)
+        × ((t : List ℕ) × (f : Translation) × Prepared (now source) t (now body) (now table) f) ⌝ }
+    ensures { λ r. ⌜ ((number : ℕ) (t : List ℕ) (f : Translation) → Prepared (now (source .entry)) t (now (body .entry)) (now (table .entry)) f
+        → Measures (now (ends .exit)) f kind number (now (tree .entry)) top r) ⌝ }
 {
     let mut counts = [0u16; 1024];
     let mut entries = [0u16; 0];
@@ -162,17 +164,16 @@ fn measure_single(
 fn measured(
     source: &[u8],
     body: &[u8],
-    table: &mut [u16; TABLE],
+    table: &[u16; TABLE],
     kind: u8,
     number: u8,
     tree: &[u8],
     top: usize,
     ends: &mut [u32],
 ) -> Measured
-    requires { ⌜ (kind < 32) × (length (now table) ≡ tableLength) × ((j : ℕ) → getD (now table) j 0 ≡ 0) × ((j : ℕ) → getD (now ends) j 0 ≡ 0)
-        × ((t : List ℕ) × (f : Translation) × Checked (now source) t (now body) f) ⌝ }
-    ensures { λ r. ⌜ ((t : List ℕ) (f : Translation) → Checked (now (source .entry)) t (now (body .entry)) f
-        → Measures (now (source .entry)) (now (table .exit)) (now (ends .exit)) f kind number (now (tree .entry)) top r) ⌝ }
+    requires { ⌜ (kind < 32) × ((j : ℕ) → getD (now ends) j 0 ≡ 0) × ((t : List ℕ) × (f : Translation) × Prepared (now source) t (now body) (now table) f) ⌝ }
+    ensures { λ r. ⌜ ((t : List ℕ) (f : Translation) → Prepared (now (source .entry)) t (now (body .entry)) (now (table .entry)) f
+        → Measures (now (ends .exit)) f kind number (now (tree .entry)) top r) ⌝ }
 {
     let width = width_of(body);
     if width == 1 {
@@ -215,22 +216,18 @@ fn measured(
 
 // Writes the run by a number of a legal tree whose result fits into the output.
 fn write_tree(
-    source: &[u8],
-    target: &[u8],
-    body: &[u8],
-    table: &mut [u16; TABLE],
+    table: &[u16; TABLE],
     kind: u8,
     number: u8,
     tree: &[u8],
     ends: &[u32],
     output: &mut [u8],
 ) -> Answer
-    requires { ⌜ (kind < 32) × Begun (now source) (now table) × ((f : Translation) × (t : Code) × Checked (now source) (now target) (now body) f × Reads f kind number (now ends) (now tree) t) ⌝ }
-    ensures { λ r. ⌜ ((f : Translation) (t : Code) → Checked (now (source .entry)) (now (target .entry)) (now (body .entry)) f → Reads f kind number (now (ends .entry)) (now (tree .entry)) t
+    requires { ⌜ (kind < 32) × ((f : Translation) × (t : Code) × Ready (now table) f × Reads f kind number (now ends) (now tree) t) ⌝ }
+    ensures { λ r. ⌜ ((f : Translation) (t : Code) → Ready (now (table .entry)) f → Reads f kind number (now (ends .entry)) (now (tree .entry)) t
         → length (write inTrees (transform f number t)) ≤ length (now (output .entry))
         → Answers (value (write inTrees (transform f number t))) (now (output .entry)) (now (output .exit)) (r .outcome)) ⌝ }
 {
-    tables::prepare::prepare(source, target, body, table);
     let p = emitter::run::run(Syntax::Tree, table, tree, ends, kind, number, 64, output, 0);
     if output.len() < p {
         return refuse(Reason::OutputTooShort);
@@ -252,10 +249,7 @@ fn reported(count: usize) -> u32
 // caller wants it.
 fn finish(
     result: Measured,
-    source: &[u8],
-    target: &[u8],
-    body: &[u8],
-    table: &mut [u16; TABLE],
+    table: &[u16; TABLE],
     kind: u8,
     number: u8,
     tree: &[u8],
@@ -263,10 +257,10 @@ fn finish(
     output: &mut [u8],
     cost: &mut u32,
 ) -> Answer
-    requires { ⌜ (kind < 32) × (now cost ≡ 0) × ((f : Translation) × (top : ℕ) × Checked (now source) (now target) (now body) f × (isSome (mappingOf (f .body) kind number) ≡ true) × (length (now output) < top)
-        × Measures (now source) (now table) (now ends) f kind number (now tree) top result) ⌝ }
-    ensures { λ r. ⌜ ((f : Translation) (top : ℕ) → Checked (now (source .entry)) (now (target .entry)) (now (body .entry)) f → isSome (mappingOf (f .body) kind number) ≡ true → length (now (output .entry)) < top → largestCost ≤ top
-        → Measures (now (source .entry)) (now (table .entry)) (now (ends .entry)) f kind number (now (tree .entry)) top result
+    requires { ⌜ (kind < 32) × (now cost ≡ 0) × ((s t b : List ℕ) × (f : Translation) × (top : ℕ) × Prepared s t b (now table) f × (isSome (mappingOf (f .body) kind number) ≡ true) × (length (now output) < top)
+        × Measures (now ends) f kind number (now tree) top result) ⌝ }
+    ensures { λ r. ⌜ ((s t b : List ℕ) (f : Translation) (top : ℕ) → Prepared s t b (now (table .entry)) f → isSome (mappingOf (f .body) kind number) ≡ true → length (now (output .entry)) < top → largestCost ≤ top
+        → Measures (now (ends .entry)) f kind number (now (tree .entry)) top result
         → Ran f kind number (now (tree .entry)) (now (output .entry)) (now (output .exit)) (now (cost .exit)) (r .outcome)) ⌝ }
 {
     let room = output.len();
@@ -279,17 +273,7 @@ fn finish(
                 return refuse(Reason::OutputTooShort);
             }
             *cost = reported(count);
-            write_tree(
-                source,
-                target,
-                body,
-                table,
-                kind,
-                number,
-                tree,
-                ends,
-                output,
-            )
+            write_tree(table, kind, number, tree, ends, output)
         }
         Measured::Deep => refuse(Reason::TooDeep),
         Measured::Broken => refuse(Reason::IllegalTree),
@@ -307,59 +291,68 @@ fn top_over(room: usize) -> usize
     room + 1
 }
 
-// The run of a tree of a kind by a number, through a translation that was accepted: 14 to 17. Where long subtrees of a long tree
-// end is kept in a table. The cost is 0 before.
+// The run of a tree of a kind by a number, through a translation that was accepted and whose table is filled: 14 to 17. Where long
+// subtrees of a long tree end is kept in a table. The cost is 0 before.
 fn run_parts(
     source: &[u8],
-    target: &[u8],
     body: &[u8],
+    table: &[u16; TABLE],
     kind: u8,
     number: u8,
     tree: &[u8],
     output: &mut [u8],
     cost: &mut u32,
 ) -> Answer
-    requires { ⌜ (kind < 32) × (now cost ≡ 0) × ((f : Translation) × Checked (now source) (now target) (now body) f) ⌝ }
-    ensures { λ r. ⌜ ((f : Translation) → Checked (now (source .entry)) (now (target .entry)) (now (body .entry)) f
+    requires { ⌜ (kind < 32) × (now cost ≡ 0) × ((t : List ℕ) × (f : Translation) × Prepared (now source) t (now body) (now table) f) ⌝ }
+    ensures { λ r. ⌜ ((t : List ℕ) (f : Translation) → Prepared (now (source .entry)) t (now (body .entry)) (now (table .entry)) f
         → Ran f kind number (now (tree .entry)) (now (output .entry)) (now (output .exit)) (now (cost .exit)) (r .outcome)) ⌝ }
 {
     if !has_number(source, body, kind, number) {
         return refuse(Reason::UnknownRoot);
     }
-    let mut table = [0u16; TABLE];
     let top = top_over(output.len());
     if tree.len() < 4096 {
         let mut ends = [0u32; 2];
-        let result = measured(source, body, &mut table, kind, number, tree, top, &mut ends);
-        return finish(
-            result,
-            source,
-            target,
-            body,
-            &mut table,
-            kind,
-            number,
-            tree,
-            &ends,
-            output,
-            cost,
-        );
+        let result = measured(source, body, table, kind, number, tree, top, &mut ends);
+        return finish(result, table, kind, number, tree, &ends, output, cost);
     }
     let mut ends = [0u32; 8192];
-    let result = measured(source, body, &mut table, kind, number, tree, top, &mut ends);
-    finish(
-        result,
-        source,
-        target,
-        body,
-        &mut table,
-        kind,
-        number,
-        tree,
-        &ends,
-        output,
-        cost,
-    )
+    let result = measured(source, body, table, kind, number, tree, top, &mut ends);
+    finish(result, table, kind, number, tree, &ends, output, cost)
+}
+
+// Checks a translation. The indexes that this takes are made in the front of a table that is all zero, where it is lent as a
+// slice, and what kinds map to by number in another.
+fn check_front(translation: &[u8], table: &mut [u16], uses: &mut [u8]) -> Answer
+    requires { ⌜ (length (now table) ≡ tableLength) × ((j : ℕ) → getD (now table) j 0 ≡ 0) × (length (now uses) ≡ usesRoom) × ((j : ℕ) → getD (now uses) j 0 ≡ 0) ⌝ }
+    ensures is { λ r. ⌜ r .outcome ≡ checkTranslation (now (translation .entry)) ⌝ }
+    ensures kept { λ r. ⌜ ((f : Translation) → translationOf (now (translation .entry)) ≡ value f
+        → Begun (sourceIn (now (translation .entry))) (targetIn (now (translation .entry))) (now (table .exit)) × Mapped (now (uses .exit)) (f .body)) ⌝ }
+{
+    check_kept(translation, &mut table[..INDEXES], uses)
+}
+
+// Checks a translation and, where it is accepted, fills the table that its run looks things up in, which is all zero before.
+fn check_into(translation: &[u8], table: &mut [u16; TABLE]) -> Answer
+    requires { ⌜ ((j : ℕ) → getD (now table) j 0 ≡ 0) ⌝ }
+    ensures is { λ r. ⌜ r .outcome ≡ checkTranslation (now (translation .entry)) ⌝ }
+    ensures kept { λ r. ⌜ ((f : Translation) → translationOf (now (translation .entry)) ≡ value f
+        → Prepared (sourceIn (now (translation .entry))) (targetIn (now (translation .entry))) (bodyIn (now (translation .entry))) (now (table .exit)) f) ⌝ }
+{
+    let mut uses = [0u8; USES_ROOM];
+    let answer = check_front(translation, table, &mut uses);
+    let outcome = answer.outcome;
+    if let Outcome::Refused(reason) = outcome {
+        return refuse(reason);
+    }
+    tables::prepare::prepare(
+        source_of(translation),
+        target_of(translation),
+        body_of(translation),
+        &uses,
+        table,
+    );
+    accept(0)
 }
 
 // Run by a number: 1 to 7 for the translation, 14 for the root and the number, 15 and 16 for the tree against its source, 17 where
@@ -377,7 +370,8 @@ pub fn run(
         × (now (cost .exit) ≡ runCost (now (translation .entry)) root number (now (tree .entry)) (length (now (output .entry)))) ⌝ }
 {
     *cost = 0;
-    let answer = check_translation(translation);
+    let mut table = [0u16; TABLE];
+    let answer = check_into(translation, &mut table);
     let outcome = answer.outcome;
     if let Outcome::Refused(reason) = outcome {
         return refuse(reason);
@@ -390,8 +384,8 @@ pub fn run(
     }
     run_parts(
         source_of(translation),
-        target_of(translation),
         body_of(translation),
+        &table,
         root as u8,
         number as u8,
         tree,

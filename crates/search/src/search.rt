@@ -14,11 +14,13 @@ use plain::body::is_plain;
 use reader::index::INDEX;
 use reader::index::TABLE;
 use reader::index::build;
-use reader::index::put_all;
 use reader::kinds::is_in;
+use reader::node::USES;
+use tables::prepare::begin;
 use tables::prepare::prepare;
 use translation::index::build_items;
 use translation::index::map_kinds;
+use translation::index::put_uses;
 use translation::parts::body_of;
 use translation::parts::source_of;
 use translation::parts::target_of;
@@ -135,8 +137,10 @@ fn search_placed(
         → Answers (foundIn f kind (now (tree .entry)) limit (length (now (output .entry)))) (now (output .entry)) (now (output .exit)) (r .outcome)) ⌝ }
 {
     let mut table = [0u16; TABLE];
-    put_all(source, 0x11, &mut table[..INDEX]);
-    prepare(source, target, body, &mut table);
+    begin(source, target, &mut table);
+    let mut uses = [0u8; USES];
+    put_uses(body, &mut uses);
+    prepare(source, target, body, &uses, &mut table);
     let mut index = [0u16; INDEX];
     build(source, &mut index);
     let mut free = [0u8; 32];

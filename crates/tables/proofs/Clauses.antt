@@ -12,34 +12,32 @@ use lib.Dec.{eqb}
 use borrow.Author.Tests.{eq-eqb, eqb-true, lt-ltb}
 use Rattle.fields.specs.Lists.{any, isSome}
 use Rattle.fields.specs.Outcome.{value}
-use Rattle.fields.specs.Inner.Places.{fieldEnd, placesFrom, places, slotAt}
-use Rattle.fields.proofs.Truth.{Mem, by-test, none-some, some-inj, false-true, all-mem, mem-all, any-mem, mem-any, mem-map, map-cases, some-is}
+use Rattle.fields.specs.Inner.Places.{fieldEnd, placesFrom, places}
+use Rattle.fields.proofs.Truth.{Mem, by-test, none-some, some-inj, false-true, all-mem, any-mem, mem-any, mem-map, map-cases, some-is}
 use Rattle.fields.proofs.Keyed.{Rising, is-rising}
 use Rattle.fields.proofs.Places.{places-done, places-next, end-past}
 use Rattle.fields.proofs.Codec.{Bytes, each-front, bytes-from}
-use Rattle.language.specs.Language.{Language, argumentsOf, productionKey}
+use Rattle.language.specs.Language.{Language, argumentsOf}
 use Rattle.language.proofs.Lookup.{arguments-mem, result-in}
 use Rattle.reader.specs.Code.{Code, node, token, argument, levels}
 use Rattle.reader.specs.Typing.{Uses, Typed}
 use Rattle.reader.specs.Syntax.{write, writeAll, code, done}
-use Rattle.reader.specs.Inner.Index.{Indexed, putAll}
+use Rattle.reader.specs.Inner.Index.{Indexed}
 use Rattle.reader.specs.Inner.Positions.{kindBefore, mappedIn}
-use Rattle.reader.proofs.Placed.{puts-place, found}
 use Rattle.reader.proofs.Members.{in-below}
 use Rattle.reader.proofs.Sound.{read-done}
 use Rattle.translation.specs.Translation.{Translation, mapping, clause, itemKey, mappingOf, mapped}
 use Rattle.translation.specs.Running.{readClause, clausesOf, usesOf, codeLevels}
 use Rattle.translation.specs.WellFormed.{wellFormed}
 use Rattle.translation.specs.Inner.Items.{itemWhole, itemAt, isClauseTag, ItemFacts, plain-mapping, plain-clause, numbered-mapping, numbered-clause, HoldsItems}
-use Rattle.translation.specs.Inner.ItemIndex.{IndexedItems, codeBefore, Mapped}
+use Rattle.translation.specs.Inner.ItemIndex.{Mapped}
 use Rattle.translation.proofs.Items.{holds-items, item-facts, mapping-is, clause-is, numbered-mapping-is, numbered-clause-is}
 use Rattle.translation.proofs.Codec.{rises-parts, WholeTranslation, translation-whole}
-use Rattle.translation.proofs.Lookup.{mem-clause, mem-mapping, mapping-mem}
+use Rattle.translation.proofs.Lookup.{mem-mapping, mapping-mem}
 use Rattle.translation.proofs.Fitting.{Fitting, KindsBelow, formed-fits, clause-code}
-use Rattle.translation.proofs.IndexedItems.{mapping-key, clause-key, build-is}
 use Rattle.tables.specs.Inner.Stands.{Stands}
-use Rattle.tables.specs.Inner.Table.{clauseEntry, SpansAt, codeStart, clauseNumber, isPlace, NumberedAt, Checked}
-use Rattle.tables.specs.Inner.Filling.{Built, mappedBy, Below, CodeAsks, Spanned, FieldAsks, FieldSpanned, AllSpanned}
+use Rattle.tables.specs.Inner.Table.{SpansAt, codeStart, clauseNumber, isPlace, NumberedAt, Checked}
+use Rattle.tables.specs.Inner.Filling.{mappedBy, Below, CodeAsks, Spanned, FieldAsks, FieldSpanned, AllSpanned, ItemAt, Itemed}
 use Rattle.tables.proofs.Standing.{drop-stands}
 use Rattle.tables.proofs.Spans.{spans-kept, below-none, below-then}
 
@@ -62,10 +60,6 @@ write-some (node k p t) = (1, p ∷ writeAll code t, refl)
 write-some (token v) = (2, v / 256 ∷ v % 256 ∷ [], refl)
 write-some (argument i zero) = (3, i ∷ [], refl)
 write-some (argument i (suc j)) = (4, i ∷ suc j ∷ [], refl)
-
-clause-some : (s : List ℕ) (place : ℕ) (c : List ℕ) → codeBefore s place ≡ some c → (q : ℕ) × (place ≡ suc q) × (slice (q + 5) (fieldEnd s q) s ≡ c)
-clause-some s zero c e = none-some e
-clause-some s (suc q) c e = (q, refl, some-inj e)
 
 -- A member is a place, and a place a member.
 pub mem-place : (b : List ℕ) (x : ℕ) → Mem x (places b) → isPlace b x ≡ true
@@ -218,47 +212,22 @@ module _ {s t b : List ℕ} {f : Translation} (z : Checked s t b f) where
           within = rw y (d .1);
         }
 
-    -- What the index of the items, built into the table, finds.
-    module _ (u : List ℕ) (built : Built 0x22 b u 8224) where
-      abbrev items : List ℕ
-      items = putAll 0x22 b (built .zeros) (places b)
+  -- The clause of number 0 stands at a place.
+  plain-here : (x k n : ℕ) (c : List ℕ) → itemAt b x ≡ clause k n 0 c → ItemFacts b x → (getD b x 0 ≡ 0x23) × (getD b (x + 3) 0 ≡ k) × (getD b (x + 4) 0 ≡ n)
+  plain-here x k n c e (plain-mapping a) = mapping-clause (sym (mapping-is b x a) ∙ e)
+  plain-here x k n c e (plain-clause a) = let y = clause-parts (sym (clause-is b x a) ∙ e) in (a .tag, y .0, y .1)
+  plain-here x k n c e (numbered-mapping a) = mapping-clause (sym (numbered-mapping-is b x a) ∙ e)
+  plain-here x k n c e (numbered-clause a) = let y = clause-parts (sym (numbered-clause-is b x a) ∙ e) in let more = a .number in absurd (omega (arith, y .2))
 
-      pub indexed : IndexedItems items b (f .body)
-      indexed = build-is b (built .zeros) bytes (z .pieces .body-short) (built .zero) (f .body) (z .pieces .body) (built .long) refl
-
-      pub record Found (k n : ℕ) : Type 0 where
-        pub place : ℕ
-        pub is : clauseEntry u (productionKey k n) ≡ place + 1
-        pub there : Mem place (places b)
-        pub tag : getD b place 0 ≡ 0x23
-        pub kind : getD b (place + 3) 0 ≡ k
-        pub name : getD b (place + 4) 0 ≡ n
-
-      found-item : (k n p : ℕ) → k < 32 → n < 256 → clauseEntry u (productionKey k n) ≡ p + 1 → slotAt 0x22 b p ≡ productionKey k n → Mem p (places b) → ItemFacts b p → Found k n
-      unfolding slotAt
-      found-item k n p h i e key m (plain-mapping a) =
-          let o = mapping-key b p a in
-          let l = a .source in
-          absurd (omega (arith, o, key, l))
-      found-item k n p h i e key m (plain-clause a) =
-          let o = clause-key b p a in
-          let b4 = bytes (p + 4) in
-          record { place = p; is = e; there = m; tag = a .tag; kind = omega (arith, o, key); name = omega (arith, o, key) }
-      found-item k n p h i e key m (numbered-mapping a) = let o : slotAt 0x22 b p ≡ 65568 = cc (a .tag) in absurd (omega (arith, o, key))
-      found-item k n p h i e key m (numbered-clause a) = let o : slotAt 0x22 b p ≡ 65568 = cc (a .tag) in absurd (omega (arith, o, key))
-
-      pub clause-found : (k n : ℕ) (ks : List ℕ) → k < 32 → n < 256 → argumentsOf (f .source) k n ≡ some ks → Found k n
-      clause-found k n ks h i e =
-          let there = arguments-mem (f .source) k n ks e in
-          let (t, o) = fits .maps k (result-in (f .source) k n ks there) in
-          let (c, m) = fits .clauses k n 0 t ks there o in
-          let y = mem-clause (f .body) body-rises k n 0 c m in
-          let q = clause-some b (getD items (productionKey k n) 0) c (sym (indexed .clause k n h i) ∙ y) in
-          let at = puts-place 0x22 b (places b) (built .zeros) (productionKey k n) (omega (arith, built .long)) (built .zero (productionKey k n)) in
-          let more : 0 < getD items (productionKey k n) 0 = omega (arith, q .1) in
-          let (p, is, key, here) = found 0x22 (isPlace b) b (productionKey k n) (places b) (mem-all _ (places b) (mem-place b)) (rw at at more) in
-          let l = place-mem b p here in
-          found-item k n p h i (built .is (productionKey k n) (omega arith) ∙ (at ∙ is)) key l (item-is p l)
+  -- What the places of the clauses, put into the table, find.
+  pub clause-found : (t u : List ℕ) → Itemed b t u → (k n : ℕ) (ks : List ℕ) → k < 32 → argumentsOf (f .source) k n ≡ some ks → ItemAt b u k n
+  clause-found t u w k n ks h e =
+      let there = arguments-mem (f .source) k n ks e in
+      let (g, o) = fits .maps k (result-in (f .source) k n ks there) in
+      let (c, m) = fits .clauses k n 0 g ks there o in
+      let (x, i, d) = map-cases (itemAt b) (clause k n 0 c) (places b) (rw (held .items) m) in
+      let (tag, kind, name) = plain-here x k n c (sym d) (item-is x i) in
+      rw (kind, name) at (w .items x (mem-place b x i) tag (rw kind h))
 
 -- A clause's code stands in the body.
 clause-stands : (b : List ℕ) (f : Translation) (p : ℕ) → ClauseAt b f p → Stands b (codeStart b p) (write code (codeAt b f p))

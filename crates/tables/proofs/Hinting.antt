@@ -18,7 +18,7 @@ use Rattle.tables.proofs.Clauses.{mem-place}
 use Rattle.tables.proofs.Spans.{below-none, below-then, below-set}
 
 -- put_hint
-module _ (b t u : List ℕ) (next p : ℕ) (long : length u ≡ 29760) (room : next < 4096) (here : isPlace b p ≡ true) (h : Hinted b t u) where
+module _ (b t u : List ℕ) (next p : ℕ) (long : length u ≡ 26184) (room : next < 520) (here : isPlace b p ≡ true) (h : Hinted b t u) where
   abbrev more : List ℕ
   more = set u (25664 + next) p
 

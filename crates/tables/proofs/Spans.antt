@@ -4,8 +4,8 @@ use mathlib.Core.Path.{_≡_, refl, sym, ap, _∙_}
 use mathlib.Core.List.{List, [], _∷_}
 use mathlib.Core.Option.{some}
 use native.Mathlib.Omega.{arith}
-use lib.ListN.{length, getD, set, length-append, length-set}
-use lib.Seq.{slice, getD-set-same, getD-set-other}
+use lib.ListN.{length, getD, set, drop, length-append, length-set, length-drop}
+use lib.Seq.{slice, getD-set-same, getD-set-other, getD-drop}
 use lib.Dec.{leb}
 use borrow.Author.Tests.{leb-true, leb-false}
 use Rattle.fields.specs.Fields.{pairAt}
@@ -16,11 +16,12 @@ use Rattle.language.specs.Language.{Language, argumentsOf, productionKey}
 use Rattle.reader.specs.Code.{Code, node, token, argument, Codes, nil, cons, levels, levelsAll}
 use Rattle.reader.specs.Typing.{Uses, Typed, TypedAll, typed-node, typed-token, typed-argument, typed-nil, typed-cons}
 use Rattle.reader.specs.Syntax.{write, writeAll, code}
-use Rattle.reader.specs.Inner.Index.{Indexed, argumentsBefore}
+use Rattle.reader.specs.Inner.Index.{Sound, Indexed, argumentsBefore}
 use Rattle.reader.specs.Inner.Positions.{KindsIn}
+use Rattle.reader.proofs.Built.{sound-front, indexed-front}
 use Rattle.tables.specs.Inner.Stands.{Stands}
 use Rattle.tables.specs.Inner.Table.{spanEntry, SpansAt, SpansAllAt}
-use Rattle.tables.specs.Inner.Filling.{Below, CodeAsks, Spanned}
+use Rattle.tables.specs.Inner.Filling.{targetIndex, Below, Beside, CodeAsks, Spanned, FieldAsks}
 use Rattle.tables.proofs.Standing.{stands-head, stands-both}
 
 empty-cons : {A : Type 0} {y : ℕ} {s : List ℕ} → [] ≡ y ∷ s → A
@@ -89,6 +90,33 @@ below-set t at v h = record {
   past = λ j i. getD-set-other t (21568 + at) j v 0 (λ e. omega arith);
 }
 
+-- What stands beside the spans stays: the index of the target is looked up as before.
+module _ (t u : List ℕ) (h : Beside t u) (long : length t ≡ 26184) where
+  part-long : 8224 ≤ length (targetIndex u)
+  part-long = let d = length-drop 8224 u in omega (arith, h .long)
+
+  part-same : (j : ℕ) → j < 8224 → getD (targetIndex u) j 0 ≡ getD (targetIndex t) j 0
+  part-same j i = getD-drop 8224 u j 0 ∙ (h .same (8224 + j) (omega arith) ∙ sym (getD-drop 8224 t j 0))
+
+  pub sound-beside : (s : List ℕ) → Sound (targetIndex t) s → Sound (targetIndex u) s
+  sound-beside s z = sound-front (targetIndex t) (targetIndex u) s part-long part-same z
+
+  pub asks-beside : (s b : List ℕ) (k at n : ℕ) (l : Language) (given : Uses) (a : Code) → CodeAsks s (targetIndex t) b k at n l given a → CodeAsks s (targetIndex u) b k at n l given a
+  asks-beside s b k at n l given a w = record {
+    indexed = indexed-front (targetIndex t) (targetIndex u) s part-long part-same l (w .indexed);
+    typed = w .typed;
+    stands = w .stands;
+    within = w .within;
+  }
+
+  pub fields-beside : (s b uses : List ℕ) (p : ℕ) (l : Language) (given : Uses) (a : Code) → FieldAsks s (targetIndex t) b uses p l given a
+      → FieldAsks s (targetIndex u) b uses p l given a
+  fields-beside s b uses p l given a w = record { kind = w .kind; code = λ e. asks-beside s b _ _ 16 l given a (w .code e) }
+
+-- A span that is set after others.
+pub set-beside : (t u v : List ℕ) (at r : ℕ) → Beside t u → at < 4096 → v ≡ set u (21568 + at) r → Beside t v
+set-beside t u v at r h i e = rw e (below-then t u (set u (21568 + at) r) 0 at (omega arith) h (below-set u at r i))
+
 -- A code has a byte.
 code-inside : (b : List ℕ) (at : ℕ) (a : Code) → Stands b at (write code a) → at < length b
 unfolding write
@@ -141,7 +169,7 @@ Turn s index b k at n t₀ t q e c =
     (l : Language) (given : Uses) (a : Code) → CodeAsks s index b k at n l given a → Left s index b k at n t₀ t q e c l given a
 
 -- A production's code, from the spans of its operands.
-node-spanned : (t u : List ℕ) (at k p : ℕ) (ts : Codes) (r : ℕ) → length t ≡ 29760 → at < 4096 → RowSpanned t u (at + 2) ts r
+node-spanned : (t u : List ℕ) (at k p : ℕ) (ts : Codes) (r : ℕ) → length t ≡ 26184 → at < 4096 → RowSpanned t u (at + 2) ts r
     → Spanned t (set u (21568 + at) r) at (node k p ts) r
 unfolding write SpansAt
 node-spanned t u at k p ts r long h w =
@@ -204,7 +232,7 @@ module _ (s index b : List ℕ) (k at n : ℕ) where
         absurd (omega (arith, q .1))
 
     -- The operands of a production.
-    pub turn-starts : (t : List ℕ) (m stop : ℕ) → length t ≡ 29760 → length b ≤ 4096 → m ≡ pairAt s place → stop ≡ place + 2 + m → KindsIn s (place + 4) stop
+    pub turn-starts : (t : List ℕ) (m stop : ℕ) → length t ≡ 26184 → length b ≤ 4096 → m ≡ pairAt s place → stop ≡ place + 2 + m → KindsIn s (place + 4) stop
         → Turn s index b k at n t t (place + 4) stop (at + 2)
     unfolding fieldEnd
     turn-starts t m stop long short em es kinds l given a w =

@@ -27,31 +27,21 @@ use Rattle.translation.specs.Running.{usesOf, clausesOf}
 use Rattle.translation.specs.Inner.Items.{isClauseTag}
 use Rattle.translation.proofs.Fitting.{uses-are, fit-carries}
 use Rattle.tables.specs.Inner.Table.{Production, Clause, Ready, Held, Checked, indexEntry, clauseEntry, codeStart, clauseNumber}
-use Rattle.tables.proofs.Spans.{place-some, below-then}
+use Rattle.tables.proofs.Spans.{place-some, below-then, spans-kept}
 use Rattle.tables.proofs.Clauses.{codeAt, whole, fits, body-rises, mem-place, place-mem, plain-start, numbered-start, numbered-found, clause-there, clause-found, clause-length}
 use Rattle.fields.specs.Inner.Places.{fieldEnd, places, keyAt, slotAt}
-use Rattle.reader.specs.Inner.Index.{putAll, Indexed, rangeBefore}
-use Rattle.reader.proofs.Placed.{puts-length, puts-place, found}
-use Rattle.language.specs.Language.{Range, argumentsOf, productionKey}
-use Rattle.tables.specs.Inner.Filling.{Begun, Filled, mappedBy, Below, Beside, Hinted, AllSpanned}
+use Rattle.reader.specs.Inner.Index.{putAll, Built, Around, Sound, Indexed, rangeBefore}
+use Rattle.reader.proofs.Placed.{puts-place, found}
+use Rattle.reader.proofs.Built.{get-below, get-in, get-past, built-indexed}
+use Rattle.language.specs.Language.{Language, Range, argumentsOf, productionKey}
+use Rattle.language.specs.LanguageFile.{entriesOf}
+use Rattle.tables.specs.Inner.Filling.{targetIndex, Begun, Filled, mappedBy, Below, Beside, Hinted, AllSpanned, Itemed}
 use lib.Seq.{slice, length-slice, ext-getD, take-suc, take-all, drop-drop, set-split, length-take-le, getD-take, getD-drop, getD-append-add}
 use Rattle.fields.specs.Inner.Writing.{spliced}
 use Rattle.fields.proofs.Splices.{opened, splice-splice, length-spliced}
 use Rattle.tables.specs.Inner.Stands.{Stands}
 
 -- What is put in at a position, and what stands where then.
--- put_index
-pub index-put : (first : ℕ) (s o : List ℕ) (a k : ℕ) (v w : List ℕ) → a + 8224 ≤ length o → k ≡ 8224 → w ≡ take k (drop a o) → v ≡ putAll first s w (places s)
-    → take a o ++ (v ++ drop k (drop a o)) ≡ spliced o a (putAll first s (take 8224 (drop a o)) (places s))
-index-put first s o a k v w h ek ew ev =
-    let d = length-drop a o in
-    let l : length (putAll first s (take 8224 (drop a o)) (places s)) ≡ 8224 =
-    puts-length first s (places s) (take 8224 (drop a o)) ∙ length-take-le 8224 (drop a o) (omega arith) in
-    rw (ev, ew, ek, opened o a (putAll first s (take 8224 (drop a o)) (places s)), l, drop-drop 8224 a o)
-
-pub sub-self : (a : ℕ) → a + 8224 - a ≡ 8224
-sub-self a = omega arith
-
 -- put_bytes
 one-put : (o : List ℕ) (pos v : ℕ) → pos < length o → set o pos v ≡ spliced o pos (v ∷ [])
 one-put o pos v h =
@@ -71,9 +61,9 @@ pub bytes-put : (s o after : List ℕ) (a i : ℕ) → after ≡ spliced o a (ta
 bytes-put s o after a i e h k = e ∙ ap (spliced o a) (take-all i s k)
 
 -- place_of
-pub place-is : (index : List ℕ) (k p a b : ℕ) → a ≡ k → b ≡ p → ((i : ℕ) → getD index i 0 < 65536)
-    → (getD index (32 + (a * 256 + b)) 0 ≡ getD index (productionKey k p) 0) × (getD index (32 + (a * 256 + b)) 0 < 65536)
-place-is index k p a b ea eb h = (rw (ea, eb), h (32 + (a * 256 + b)))
+pub place-is : (t : List ℕ) (k p a b : ℕ) → a ≡ k → b ≡ p → ((i : ℕ) → getD t i 0 < 65536)
+    → (getD t (8224 + (32 + (a * 256 + b))) 0 ≡ getD (targetIndex t) (productionKey k p) 0) × (getD t (8224 + (32 + (a * 256 + b))) 0 < 65536)
+place-is t k p a b ea eb h = (rw (ea, eb) (sym (getD-drop 8224 t (productionKey k p) 0)), h (8224 + (32 + (a * 256 + b))))
 
 -- mapped_by
 module _ (uses : List ℕ) (k j w x next : ℕ) (ew : w ≡ k) (ex : x ≡ j) (en : next ≡ getD uses (w * 256 + x) 0) where
@@ -102,144 +92,68 @@ module _ (b : List ℕ) (p : ℕ) where
   unfolding codeStart
   start-without h = rw (ne-eqb (getD b p 0) 0x29 h)
 
--- What stands at each place after v was put in at pos.
-module _ (o : List ℕ) (pos : ℕ) (v : List ℕ) (fits : pos + length v ≤ length o) where
-  front-long : length (take pos o) ≡ pos
-  front-long = length-take-le pos o (omega arith)
+-- fill
+module _ (s b t₁ t₂ t₃ : List ℕ) (long : length t₁ ≡ 26184) (short : length s ≤ 1024) (near : length b ≤ 4096) (e₂ : t₂ ≡ spliced t₁ 16448 s) (e₃ : t₃ ≡ spliced t₂ 17472 b) where
+  room₁ : 16448 + length s ≤ length t₁
+  room₁ = omega arith
 
-  get-below : (j : ℕ) → j < pos → getD (spliced o pos v) j 0 ≡ getD o j 0
-  get-below j h =
-      rw (opened o pos v)
-      (List·getD-append (take pos o) (v ++ drop (pos + length v) o) 0 j (rw front-long h) ∙ getD-take pos o j 0 h)
+  long₂ : length t₂ ≡ length t₁
+  long₂ = ap length e₂ ∙ length-spliced t₁ 16448 s room₁
 
-  get-from : (j : ℕ) → getD (spliced o pos v) (pos + j) 0 ≡ getD (v ++ drop (pos + length v) o) j 0
-  get-from j =
-      rw (opened o pos v)
-      (ap (λ (n : ℕ). getD (take pos o ++ (v ++ drop (pos + length v) o)) (n + j) 0) (sym front-long) ∙ getD-append-add (take pos o) (v ++ drop (pos + length v) o) j 0)
+  room₂ : 17472 + length b ≤ length t₂
+  room₂ = omega (arith, long₂)
 
-  get-in : (j : ℕ) → j < length v → getD (spliced o pos v) (pos + j) 0 ≡ getD v j 0
-  get-in j h = get-from j ∙ List·getD-append v (drop (pos + length v) o) 0 j h
-
-  get-past : (j : ℕ) → pos + length v ≤ j → getD (spliced o pos v) j 0 ≡ getD o j 0
-  get-past j h =
-      let m : ℕ = j - (pos + length v) in
-      let e : j ≡ pos + (length v + m) = omega arith in
-      let d : pos + length v + m ≡ j = omega arith in
-      ap (λ (n : ℕ). getD (spliced o pos v) n 0) e
-      ∙ (get-from (length v + m) ∙ (getD-append-add v (drop (pos + length v) o) m 0 ∙ (getD-drop (pos + length v) o m 0 ∙ ap (λ (n : ℕ). getD o n 0) d)))
-
--- The front of a table that is zero there.
-pub front-zero : (o : List ℕ) → ((j : ℕ) → j < 8224 → getD o j 0 ≡ 0) → (j : ℕ) → getD (take 8224 o) j 0 ≡ 0
-front-zero o h j =
-    by-test (ltb j 8224)
-    (λ e.
-    let i : j < 8224 = ltb-true _ _ e in
-    getD-take 8224 o j 0 i ∙ h j i)
-    (λ e.
-    let i : 8224 ≤ j = ltb-false _ _ e in
-    let l = length-take 8224 o in
-    List·getD-eq-default (take 8224 o) 0 (omega arith))
-
--- An index that is put into the front of a table.
-module _ (s o : List ℕ) (long : length o ≡ 29760) where
-  pub front-index-long : length (putAll 0x11 s (take 8224 o) (places s)) ≡ 8224
-  front-index-long = puts-length 0x11 s (places s) (take 8224 o) ∙ length-take-le 8224 o (omega arith)
-
-  -- It stands there, where the table is all zero besides.
-  pub begun : ((j : ℕ) → getD o j 0 ≡ 0) → (v : List ℕ) → v ≡ putAll 0x11 s (take 8224 o) (places s) → Begun s (v ++ drop 8224 o)
-  begun clear v e = record {
-    zeros = o;
-    long = long;
-    zero = clear;
-    is = rw (e, opened o 0 (putAll 0x11 s (take 8224 o) (places s)), front-index-long);
+  pub filled : Filled s b t₁ t₃
+  filled = record {
+    around = record {
+      long = ap length e₃ ∙ (length-spliced t₂ 17472 b room₂ ∙ long₂);
+      below = λ j h.
+          ap (λ (t : List ℕ). getD t j 0) e₃ ∙ (get-below t₂ 17472 b room₂ j (omega arith) ∙ (ap (λ (t : List ℕ). getD t j 0) e₂ ∙ get-below t₁ 16448 s room₁ j h));
+      past = λ j h.
+          ap (λ (t : List ℕ). getD t j 0) e₃ ∙ (get-past t₂ 17472 b room₂ j (omega arith) ∙ (ap (λ (t : List ℕ). getD t j 0) e₂ ∙ get-past t₁ 16448 s room₁ j (omega arith)));
+    };
+    source = λ j h.
+        ap (λ (t : List ℕ). getD t (16448 + j) 0) e₃
+        ∙ (get-below t₂ 17472 b room₂ (16448 + j) (omega arith) ∙ (ap (λ (t : List ℕ). getD t (16448 + j) 0) e₂ ∙ get-in t₁ 16448 s room₁ j h));
+    body = λ j h. ap (λ (t : List ℕ). getD t (17472 + j) 0) e₃ ∙ get-in t₂ 17472 b room₂ j h;
   }
 
--- A table in which the index of the source stands.
-module _ (s t₁ : List ℕ) (begins : Begun s t₁) where
-  abbrev t₀ : List ℕ
-  t₀ = begins .zeros
+-- put_indexes
+pub begun : (s g t u v : List ℕ) → length t ≡ 26184 → ((j : ℕ) → getD t j 0 ≡ 0) → Built 0x11 s u 0 → Around t u 0 8224 → Built 0x11 g v 8224 → Around u v 8224 16448 → Begun s g v
+begun s g t u v long clear first a second c = record {
+  long = c .long ∙ (a .long ∙ long);
+  source = record { zeros = first .zeros; long = first .long; zero = first .zero; is = λ j h. c .below (0 + j) (omega arith) ∙ first .is j h };
+  target = second;
+  hints = λ i. c .past (25664 + i) (omega arith) ∙ (a .past (25664 + i) (omega arith) ∙ clear (25664 + i));
+}
 
-  abbrev first-index : List ℕ
-  first-index = putAll 0x11 s (take 8224 t₀) (places s)
+-- The second index goes into zeros.
+pub behind-zero : (t u : List ℕ) → ((j : ℕ) → getD t j 0 ≡ 0) → Around t u 0 8224 → (j : ℕ) → j < 8224 → getD u (8224 + j) 0 ≡ 0
+behind-zero t u clear a j h = a .past (8224 + j) (omega arith) ∙ clear (8224 + j)
 
-  first-long : length first-index ≡ 8224
-  first-long = front-index-long s t₀ (begins .long)
+-- The index of the target, as it stands in the table when the spans are put.
+module _ (s g b t t₂ v y : List ℕ) (begins : Begun s g t) (w : Filled s b t t₂) (hinted : Hinted b t₂ v) (ranked : Beside v y) where
+  pub ranked-long : length y ≡ 26184
+  ranked-long = ranked .long ∙ (hinted .long ∙ (w .around .long ∙ begins .long))
 
-  room₁ : 0 + length first-index ≤ length t₀
-  room₁ = omega (arith, first-long, begins .long)
+  pub target-indexed : ((i : ℕ) → getD g i 0 < 256) → length g ≤ 1024 → (l : Language) → entriesOf g ≡ some l → Indexed (targetIndex y) g l
+  target-indexed bytes short l e =
+      let d = length-drop 8224 y in
+      built-indexed g t (targetIndex y) 8224 (begins .target) (omega (arith, ranked-long))
+      (λ j h. getD-drop 8224 y j 0 ∙ (ranked .same (8224 + j) (omega arith) ∙ (hinted .same (8224 + j) (omega arith) ∙ w .around .below (8224 + j) (omega arith))))
+      bytes short l e
 
-  pub begun-long : length t₁ ≡ 29760
-  begun-long = ap length (begins .is) ∙ (length-spliced t₀ 0 first-index room₁ ∙ begins .long)
-
-  -- The table is zero behind the first index.
-  rest-zero : (j : ℕ) → getD t₁ (8224 + j) 0 ≡ 0
-  rest-zero j = ap (λ (t : List ℕ). getD t (8224 + j) 0) (begins .is) ∙ (get-past t₀ 0 first-index room₁ (8224 + j) (omega (arith, first-long)) ∙ begins .zero (8224 + j))
-
-  second-part-long : length (take 8224 (drop 8224 t₁)) ≡ 8224
-  second-part-long = let d = length-drop 8224 t₁ in length-take-le 8224 (drop 8224 t₁) (omega (arith, begun-long))
-
-  -- fill
-  module _ (b t₂ t₃ t₄ : List ℕ) (short : length s ≤ 1024) (near : length b ≤ 4096) (e₂ : t₂ ≡ spliced t₁ 8224 (putAll 0x22 b (take 8224 (drop 8224 t₁)) (places b)))
-      (e₃ : t₃ ≡ spliced t₂ 16448 s) (e₄ : t₄ ≡ spliced t₃ 17472 b) where
-    abbrev second-index : List ℕ
-    second-index = putAll 0x22 b (take 8224 (drop 8224 t₁)) (places b)
-
-    second-long : length second-index ≡ 8224
-    second-long = puts-length 0x22 b (places b) (take 8224 (drop 8224 t₁)) ∙ second-part-long
-
-    room₂ : 8224 + length second-index ≤ length t₁
-    room₂ = omega (arith, second-long, begun-long)
-
-    long₂ : length t₂ ≡ 29760
-    long₂ = ap length e₂ ∙ (length-spliced t₁ 8224 second-index room₂ ∙ begun-long)
-
-    room₃ : 16448 + length s ≤ length t₂
-    room₃ = omega (arith, long₂)
-
-    long₃ : length t₃ ≡ 29760
-    long₃ = ap length e₃ ∙ (length-spliced t₂ 16448 s room₃ ∙ long₂)
-
-    room₄ : 17472 + length b ≤ length t₃
-    room₄ = omega (arith, long₃)
-
-    from₃ : (j : ℕ) → j < 17472 → getD t₄ j 0 ≡ getD t₃ j 0
-    from₃ j h = ap (λ (t : List ℕ). getD t j 0) e₄ ∙ get-below t₃ 17472 b room₄ j h
-
-    from₂ : (j : ℕ) → j < 16448 → getD t₄ j 0 ≡ getD t₂ j 0
-    from₂ j h = from₃ j (omega arith) ∙ (ap (λ (t : List ℕ). getD t j 0) e₃ ∙ get-below t₂ 16448 s room₃ j h)
-
-    from₁ : (j : ℕ) → j < 8224 → getD t₄ j 0 ≡ getD t₁ j 0
-    from₁ j h = from₂ j (omega arith) ∙ (ap (λ (t : List ℕ). getD t j 0) e₂ ∙ get-below t₁ 8224 second-index room₂ j h)
-
-    past₁ : (j : ℕ) → 21568 ≤ j → getD t₄ j 0 ≡ getD t₁ j 0
-    past₁ j h =
-        ap (λ (t : List ℕ). getD t j 0) e₄
-        ∙ (get-past t₃ 17472 b room₄ j (omega arith)
-        ∙ (ap (λ (t : List ℕ). getD t j 0) e₃
-        ∙ (get-past t₂ 16448 s room₃ j (omega arith)
-        ∙ (ap (λ (t : List ℕ). getD t j 0) e₂ ∙ get-past t₁ 8224 second-index room₂ j (omega (arith, second-long))))))
-
-    pub filled : Filled s b t₄
-    filled = record {
-      long = ap length e₄ ∙ (length-spliced t₃ 17472 b room₄ ∙ long₃);
-      index = record {
-        zeros = take 8224 t₀;
-        long = length-take-le 8224 t₀ (omega (arith, begins .long));
-        zero = front-zero t₀ (λ j h. begins .zero j);
-        is = λ j h. from₁ (0 + j) (omega arith) ∙ (ap (λ (t : List ℕ). getD t (0 + j) 0) (begins .is) ∙ get-in t₀ 0 first-index room₁ j (omega (arith, first-long)));
-      };
-      items = record {
-        zeros = take 8224 (drop 8224 t₁);
-        long = second-part-long;
-        zero = front-zero (drop 8224 t₁) (λ j h. getD-drop 8224 t₁ j 0 ∙ rest-zero j);
-        is = λ j h. from₂ (8224 + j) (omega arith) ∙ (ap (λ (t : List ℕ). getD t (8224 + j) 0) e₂ ∙ get-in t₁ 8224 second-index room₂ j (omega (arith, second-long)));
-      };
-      source = λ j h. from₃ (16448 + j) (omega arith) ∙ (ap (λ (t : List ℕ). getD t (16448 + j) 0) e₃ ∙ get-in t₂ 16448 s room₃ j h);
-      body = λ j h. ap (λ (t : List ℕ). getD t (17472 + j) 0) e₄ ∙ get-in t₃ 17472 b room₄ j h;
-      hints = λ i.
-          let n : 25664 + i ≡ 8224 + (17440 + i) = omega arith in
-          past₁ (25664 + i) (omega arith) ∙ (ap (λ (m : ℕ). getD t₁ m 0) n ∙ rest-zero (17440 + i));
-    }
+-- The index of the source stays.
+pub source-kept : (s g b t t₂ v y x u : List ℕ) → Begun s g t → Filled s b t t₂ → Hinted b t₂ v → Beside v y → Beside y x → Itemed b x u → Built 0x11 s u 0
+source-kept s g b t t₂ v y x u begins w hinted ranked spanned o = record {
+  zeros = begins .source .zeros;
+  long = begins .source .long;
+  zero = begins .source .zero;
+  is = λ j h.
+      o .around .below (0 + j) (omega arith)
+      ∙ (spanned .same (0 + j) (omega arith)
+      ∙ (ranked .same (0 + j) (omega arith) ∙ (hinted .same (0 + j) (omega arith) ∙ (w .around .below (0 + j) (omega arith) ∙ begins .source .is j h))));
+}
 
 -- Bytes stand where each of them does.
 stands-each : (u : List ℕ) (at : ℕ) (v : List ℕ) → at + length v ≤ length u → ((j : ℕ) → j < length v → getD u (at + j) 0 ≡ getD v j 0) → Stands u at v
@@ -270,33 +184,36 @@ some-range s zero c e = none-some e
 some-range s (suc q) c e = omega arith
 
 -- What a run may rely on, from what was put into the table.
-module _ (s g b t v y u : List ℕ) (f : Translation) (z : Checked s g b f) (w : Filled s b t) (hinted : Hinted b t v) (ranked : Beside v y)
-    (a : AllSpanned b y u f) (source-bytes : (i : ℕ) → getD s i 0 < 256) (bytes : (i : ℕ) → getD b i 0 < 256) where
+module _ (s g b t t₂ v y x u : List ℕ) (f : Translation) (z : Checked s g b f) (begins : Begun s g t) (w : Filled s b t t₂) (hinted : Hinted b t₂ v)
+    (ranked : Beside v y) (a : AllSpanned b y x f) (o : Itemed b x u) (source-bytes : (i : ℕ) → getD s i 0 < 256) (bytes : (i : ℕ) → getD b i 0 < 256) where
   abbrev index : List ℕ
-  index = putAll 0x11 s (w .index .zeros) (places s)
+  index = putAll 0x11 s (begins .source .zeros) (places s)
 
   indexed : Indexed index s (f .source)
-  indexed = build-is s (w .index .zeros) source-bytes (z .pieces .source-short) (w .index .long) (w .index .zero) (f .source) (z .pieces .source) refl
+  indexed = build-is s (begins .source .zeros) source-bytes (z .pieces .source-short) (begins .source .long) (begins .source .zero) (f .source) (z .pieces .source) refl
 
-  behind : Below v u 0
-  behind = below-then v y u 0 0 (omega arith) ranked (a .below)
+  behind : Below v x 0
+  behind = below-then v y x 0 0 (omega arith) ranked (a .below)
 
-  low : (j : ℕ) → j < 21568 → getD u j 0 ≡ getD t j 0
+  low : (j : ℕ) → j < 21568 → getD x j 0 ≡ getD t₂ j 0
   low j h = behind .same j (omega arith) ∙ hinted .same j (omega arith)
+
+  high : (j : ℕ) → 16448 ≤ j → j < 21568 → getD u j 0 ≡ getD t₂ j 0
+  high j h i = o .around .past j h ∙ low j i
 
   entry : (j : ℕ) → j < 8224 → getD u j 0 ≡ getD index j 0
   entry j h =
       let n : 0 + j ≡ j = omega arith in
-      low j (omega arith) ∙ (ap (λ (m : ℕ). getD t m 0) (sym n) ∙ w .index .is j h)
+      o .around .below j h ∙ (low j (omega arith) ∙ (w .around .below j (omega arith) ∙ (ap (λ (m : ℕ). getD t m 0) (sym n) ∙ begins .source .is j h)))
 
-  long : length u ≡ 29760
-  long = behind .long ∙ (hinted .long ∙ w .long)
+  long : length u ≡ 26184
+  long = o .around .long ∙ (behind .long ∙ (hinted .long ∙ (w .around .long ∙ begins .long)))
 
   source-at : (j : ℕ) → j < length s → getD u (16448 + j) 0 ≡ getD s j 0
-  source-at j h = let l = z .pieces .source-short in low (16448 + j) (omega arith) ∙ w .source j h
+  source-at j h = let l = z .pieces .source-short in high (16448 + j) (omega arith) (omega arith) ∙ w .source j h
 
   body-at : (j : ℕ) → j < length b → getD u (17472 + j) 0 ≡ getD b j 0
-  body-at j h = let l = z .short in low (17472 + j) (omega arith) ∙ w .body j h
+  body-at j h = let l = z .short in high (17472 + j) (omega arith) (omega arith) ∙ w .body j h
 
   module _ (k p : ℕ) (ks : List ℕ) (kind : k < 32) (byte : p < 256) (e : argumentsOf (f .source) k p ≡ some ks) where
     held : Holds s (f .source)
@@ -308,7 +225,7 @@ module _ (s g b t v y u : List ℕ) (f : Translation) (z : Checked s g b f) (w :
     is-production : IsProduction s (there .0)
     unfolding keyAt slotAt
     is-production =
-        let at = puts-place 0x11 s (places s) (w .index .zeros) (productionKey k p) (omega (arith, w .index .long)) (w .index .zero (productionKey k p)) in
+        let at = puts-place 0x11 s (places s) (begins .source .zeros) (productionKey k p) (omega (arith, begins .source .long)) (begins .source .zero (productionKey k p)) in
         let more : 0 < getD index (productionKey k p) 0 = omega (arith, there .1) in
         let (q, is, key, good) = found 0x11 (entryWhole s) s (productionKey k p) (places s) (held .whole) (rw at at more) in
         let same : q ≡ there .0 = omega (arith, is, at, there .1) in
@@ -363,36 +280,34 @@ module _ (s g b t v y u : List ℕ) (f : Translation) (z : Checked s g b f) (w :
         }
 
   -- The code of each clause, of any number.
-  module _ (x : ℕ) (m : Mem x (places b)) (tag : isClauseTag (getD b x 0) ≡ true) where
-    place-ready : Clause u (codeStart b x) (codeAt b f x)
+  module _ (q : ℕ) (m : Mem q (places b)) (tag : isClauseTag (getD b q 0) ≡ true) where
+    place-ready : Clause u (codeStart b q) (codeAt b f q)
     place-ready =
-        let c = clause-there z bytes x m tag in
+        let c = clause-there z bytes q m tag in
         let ends = c .field .ends in
-        let n = clause-length b f x c in
+        let n = clause-length b f q c in
         let short = z .short in
         record {
           inside = omega arith;
-          stands = stands-each u (17472 + codeStart b x) (write code (codeAt b f x)) (omega (arith, n, long))
+          stands = stands-each u (17472 + codeStart b q) (write code (codeAt b f q)) (omega (arith, n, long))
               (λ j i.
-              let y = part-get b (codeStart b x) (fieldEnd b x) (write code (codeAt b f x)) (c .part) ends j i in
-              let m : 17472 + codeStart b x + j ≡ 17472 + (codeStart b x + j) = omega arith in
-              ap (λ (m : ℕ). getD u m 0) m ∙ (body-at (codeStart b x + j) (omega (arith, y .0)) ∙ sym (y .1)));
-          spans = a .spans x (mem-place b x m) tag;
+              let y = part-get b (codeStart b q) (fieldEnd b q) (write code (codeAt b f q)) (c .part) ends j i in
+              let m : 17472 + codeStart b q + j ≡ 17472 + (codeStart b q + j) = omega arith in
+              ap (λ (m : ℕ). getD u m 0) m ∙ (body-at (codeStart b q + j) (omega (arith, y .0)) ∙ sym (y .1)));
+          spans = spans-kept x u (codeAt b f q) (codeStart b q) (λ j i k. o .around .past (21568 + j) (omega arith)) (a .spans q (mem-place b q m) tag);
           within = c .within;
           narrow = λ i h j. let q : getD u (17472 + i) 0 ≡ getD b i 0 = body-at i (omega arith) in rw q (bytes i);
         }
 
   -- The same, under other names.
   clause-as : {c d k l p q i j : ℕ} → c ≡ d → k ≡ l → p ≡ q → i ≡ j → Clause u c (clausesOf f k p i) → Clause u d (clausesOf f l q j)
-  clause-as e g h o y = rw (← e, ← g, ← h, ← o) y
+  clause-as e g h n y = rw (← e, ← g, ← h, ← n) y
 
   clause-ready : (k p : ℕ) (ks : List ℕ) → k < 32 → p < 256 → argumentsOf (f .source) k p ≡ some ks → Clause u (clauseEntry u (productionKey k p) + 4) (clausesOf f k p 0)
   clause-ready k p ks kind byte e =
-      let c = clause-found z bytes t (w .items) k p ks kind byte e in
-      let x : ℕ = c .place in
-      let o = plain-start b x (c .tag) in
-      let at : clauseEntry u (productionKey k p) ≡ x + 1 = low (8224 + productionKey k p) (omega arith) ∙ c .is in
-      clause-as (omega (arith, o .0, at)) (c .kind) (c .name) (o .1) (place-ready x (c .there) (rw (c .tag)))
+      let c = clause-found z x u o k p ks kind e in
+      let n = plain-start b (c .place) (c .tag) in
+      clause-as (omega (arith, n .0, c .is)) (c .kind) (c .name) (n .1) (place-ready (c .place) (place-mem b (c .place) (c .there)) (rw (c .tag)))
 
   typed-there : (k p j : ℕ) (ks : List ℕ) → argumentsOf (f .source) k p ≡ some ks → isSome (mappingOf (f .body) k j) ≡ true
       → Typed (f .target) (usesOf f k p) (clausesOf f k p j) (mapped (f .body) k j)
@@ -406,15 +321,15 @@ module _ (s g b t v y u : List ℕ) (f : Translation) (z : Checked s g b f) (w :
     short = z .short;
     same = body-at;
     there = λ k p j ks h e s. numbered-found z k p j ks h e s;
-    clause = λ x k p j c.
-        let o = numbered-start b x (c .tag) in
-        clause-as (o .0) (c .kind) (c .name) (o .1 ∙ c .number) (place-ready x (place-mem b x (c .place)) (rw (c .tag)));
-    whole = λ x m tag.
-        let c = clause-there z bytes x (place-mem b x m) (rw tag) in
-        let o = numbered-start b x tag in
-        omega (arith, o .0, c .field .past, c .field .ends);
+    clause = λ q k p j c.
+        let n = numbered-start b q (c .tag) in
+        clause-as (n .0) (c .kind) (c .name) (n .1 ∙ c .number) (place-ready q (place-mem b q (c .place)) (rw (c .tag)));
+    whole = λ q m tag.
+        let c = clause-there z bytes q (place-mem b q m) (rw tag) in
+        let n = numbered-start b q tag in
+        omega (arith, n .0, c .field .past, c .field .ends);
     hint = λ i k.
-        let e : getD u (25664 + i) 0 ≡ getD v (25664 + i) 0 = behind .past (25664 + i) (omega arith) in
+        let e : getD u (25664 + i) 0 ≡ getD v (25664 + i) 0 = o .around .past (25664 + i) (omega arith) ∙ behind .past (25664 + i) (omega arith) in
         rw e (hinted .hint i (rw e at k));
   }
 

@@ -1,5 +1,6 @@
 // What is put into the table so that the clause of a number is found without a walk: where each clause of a number other
 // than 0 stands, and the ranks of the numbers that arguments are used by. No answer rests on them.
+use crate::table::HINT_COUNT;
 use crate::table::HINTS;
 use crate::table::SOURCE;
 use crate::table::SPANS;
@@ -28,14 +29,18 @@ fn put_hint(body: &[u8], p: usize, next: usize, table: &mut [u16]) -> usize
     ensures { λ r. ⌜ (r ≤ p + 2) × ((t : List ℕ) → isPlace (now (body .entry)) p ≡ true → Hinted (now (body .entry)) t (now (table .entry)) → Hinted (now (body .entry)) t (now (table .exit))) ⌝ }
 {
     if body[p] != NUMBERED_CLAUSE {
-        return p + 2;
+        return (p + 1) / 8 + 1;
+    }
+    if HINT_COUNT <= next {
+        return next + 1;
     }
     table[HINTS + next] = p as u16;
     next + 1
 }
 
 // Keeps the places of all clauses of other numbers than 0. Those of a production follow its clause of number 0 by rising
-// number, so the hint of rank r has the place of that clause, and one more, plus r: no two productions share a hint.
+// number, and each has at least eight bytes; so an eighth of the place behind that clause's first byte plus the rank gives each
+// clause a hint of its own.
 pub fn put_hints(body: &[u8], table: &mut [u16])
     requires { ⌜ (length (now body) ≤ 4096) × (length (now table) ≡ tableLength) × ((i : ℕ) → hintEntry (now table) i ≡ 0) ⌝ }
     ensures { λ r. ⌜ Hinted (now (body .entry)) (now (table .entry)) (now (table .exit)) ⌝ }

@@ -10,37 +10,27 @@ use fields::bytes::byte_at;
 use fields::bytes::pair_at;
 use fields::bytes::to_usize;
 use fields::walk::field_end;
+use language::entries::CLASS;
 use reader::index::INDEX;
 use reader::index::TABLE;
-use reader::index::build;
-use reader::index::put_all;
-use reader::node::USES;
+use reader::index::put_index;
+use translation::body::CLAUSE;
 use translation::body::NUMBERED_CLAUSE;
 use translation::body::is_clause;
-use translation::index::put_uses;
 ghost use mathlib.Core.Path.{_≡_};
 ghost use mathlib.Core.List.{List};
 ghost use Prim.Native.Nat.{ℕ, _+_, _<_, _≤_};
-ghost use lib.ListN.{length, getD, set, take, drop};
-ghost use Rattle.fields.specs.Inner.Places.{places};
+ghost use lib.ListN.{length, getD, set};
 ghost use Rattle.language.specs.Language.{Language, productionKey};
 ghost use Rattle.reader.specs.Code.{Code};
 ghost use Rattle.reader.specs.Typing.{Uses};
-ghost use Rattle.reader.specs.Inner.Index.{Sound, Indexed, putAll};
+ghost use Rattle.reader.specs.Inner.Index.{Built, Sound, Indexed};
 ghost use Rattle.translation.specs.Translation.{Translation};
 ghost use Rattle.translation.specs.Inner.ItemIndex.{Mapped};
 ghost use Rattle.fields.specs.Inner.Writing.{spliced};
-ghost use Rattle.reader.specs.Inner.Index.{indexLength, tableLength};
+ghost use Rattle.reader.specs.Inner.Index.{tableLength};
 ghost use Rattle.tables.specs.Inner.Table.{spansStart, clauseNumber, Checked, Ready};
-ghost use Rattle.tables.specs.Inner.Filling.{Begun, Filled, mappedBy, CodeAsks, Spanned, FieldAsks, FieldSpanned, AllSpanned};
-
-// Puts the index of a file into the table, from a position on where it is all zero. Its leading entries have the tag `leading_tag`.
-fn put_index(s: &[u8], leading_tag: u8, a: usize, table: &mut [u16])
-    requires { ⌜ (length (now s) ≤ 32768) × (a + indexLength ≤ length (now table)) ⌝ }
-    ensures { λ r. ⌜ now (table .exit) ≡ spliced (now (table .entry)) a (putAll «leading_tag» (now (s .entry)) (take indexLength (drop a (now (table .entry)))) (places (now (s .entry)))) ⌝ }
-{
-    put_all(s, leading_tag, &mut table[a..a + INDEX]);
-}
+ghost use Rattle.tables.specs.Inner.Filling.{targetIndex, Begun, Filled, Beside, mappedBy, CodeAsks, Spanned, FieldAsks, FieldSpanned, AllSpanned, withClause, Itemed};
 
 // Puts bytes into the table, from a position on.
 fn put_bytes(s: &[u8], a: usize, table: &mut [u16])
@@ -54,22 +44,21 @@ fn put_bytes(s: &[u8], a: usize, table: &mut [u16])
     }
 }
 
-// Fills the table, in which the index of the source stands, but for the spans.
+// Puts the bytes of the source and of the body into the table.
 fn fill(source: &[u8], body: &[u8], table: &mut [u16])
-    requires { ⌜ (length (now source) ≤ 1024) × (length (now body) ≤ 4096) × Begun (now source) (now table) ⌝ }
-    ensures { λ r. ⌜ Filled (now (source .entry)) (now (body .entry)) (now (table .exit)) ⌝ }
+    requires { ⌜ (length (now source) ≤ 1024) × (length (now body) ≤ 4096) × (length (now table) ≡ tableLength) ⌝ }
+    ensures { λ r. ⌜ Filled (now (source .entry)) (now (body .entry)) (now (table .entry)) (now (table .exit)) ⌝ }
 {
-    put_index(body, 0x22, ITEMS, table);
     put_bytes(source, SOURCE, table);
     put_bytes(body, BODY, table);
 }
 
-// Where the field of a production of the target stands, and one more.
-fn place_of(places: &[u16], kind: u8, name: u8) -> usize
-    requires { ⌜ (indexLength ≤ length (now places)) × (kind < 32) ⌝ }
-    ensures { λ r. ⌜ (r ≡ getD (now (places .entry)) (productionKey kind name) 0) × (r < 65536) ⌝ }
+// Where the field of a production of the target stands, and one more, by the index of the target in the table.
+fn place_of(table: &[u16], kind: u8, name: u8) -> usize
+    requires { ⌜ (length (now table) ≡ tableLength) × (kind < 32) ⌝ }
+    ensures { λ r. ⌜ (r ≡ getD (targetIndex (now (table .entry))) (productionKey kind name) 0) × (r < 65536) ⌝ }
 {
-    places[32 + (to_usize(kind) * 256 + to_usize(name))] as usize
+    table[ITEMS + (32 + (to_usize(kind) * 256 + to_usize(name)))] as usize
 }
 
 // Keeps where the production's code at a position of the body ends.
@@ -81,18 +70,18 @@ fn set_span(table: &mut [u16], at: usize, end: usize)
 }
 
 // Keeps where the code of a kind at a position of the body ends, and where each production's code in it does, and answers
-// where it ends. It calls itself on the operands, one level fewer.
+// where it ends. It calls itself on the operands, one level fewer. The index of the target stands in the table.
 fn span_code(
     target: &[u8],
-    places: &[u16],
     body: &[u8],
     kind: u8,
     at: usize,
     levels: usize,
     table: &mut [u16],
 ) -> usize
-    requires { ⌜ Sound (now places) (now target) × (kind < 32) × (length (now body) ≤ 4096) × (at ≤ 4102) × (length (now table) ≡ tableLength) ⌝ }
-    ensures { λ r. ⌜ (r ≤ 4102) × ((l : Language) (given : Uses) (a : Code) → CodeAsks (now (target .entry)) (now (places .entry)) (now (body .entry)) kind at levels l given a
+    requires { ⌜ Sound (targetIndex (now table)) (now target) × (kind < 32) × (length (now body) ≤ 4096) × (at ≤ 4102) × (length (now table) ≡ tableLength) ⌝ }
+    ensures { λ r. ⌜ (r ≤ 4102) × Beside (now (table .entry)) (now (table .exit))
+        × ((l : Language) (given : Uses) (a : Code) → CodeAsks (now (target .entry)) (targetIndex (now (table .entry))) (now (body .entry)) kind at levels l given a
         → Spanned (now (table .entry)) (now (table .exit)) at a r) ⌝ }
 {
     if body.len() <= at {
@@ -108,7 +97,7 @@ fn span_code(
     if levels == 0 {
         return at;
     }
-    let place = place_of(places, kind, byte_at(body, at + 1));
+    let place = place_of(table, kind, byte_at(body, at + 1));
     if place == 0 {
         return at;
     }
@@ -116,7 +105,7 @@ fn span_code(
     let mut q = place + 4;
     let mut c = at + 2;
     while q < stop {
-        c = span_code(target, places, body, target[q], c, levels - 1, table);
+        c = span_code(target, body, target[q], c, levels - 1, table);
         q += 1;
     }
     set_span(table, at, c);
@@ -146,9 +135,10 @@ fn number_at(body: &[u8], p: usize) -> u8
 }
 
 // Keeps the spans of the code in the field of the body at a position, where it is a clause.
-fn span_field(target: &[u8], places: &[u16], body: &[u8], uses: &[u8], p: usize, table: &mut [u16])
-    requires { ⌜ Sound (now places) (now target) × (length (now body) ≤ 4096) × (p < length (now body)) × (length (now table) ≡ tableLength) ⌝ }
-    ensures { λ r. ⌜ ((l : Language) (given : Uses) (a : Code) → FieldAsks (now (target .entry)) (now (places .entry)) (now (body .entry)) (now (uses .entry)) p l given a
+fn span_field(target: &[u8], body: &[u8], uses: &[u8], p: usize, table: &mut [u16])
+    requires { ⌜ Sound (targetIndex (now table)) (now target) × (length (now body) ≤ 4096) × (p < length (now body)) × (length (now table) ≡ tableLength) ⌝ }
+    ensures { λ r. ⌜ Beside (now (table .entry)) (now (table .exit))
+        × ((l : Language) (given : Uses) (a : Code) → FieldAsks (now (target .entry)) (targetIndex (now (table .entry))) (now (body .entry)) (now (uses .entry)) p l given a
         → FieldSpanned (now (body .entry)) p (now (table .entry)) (now (table .exit)) a) ⌝ }
 {
     if !is_clause(body[p]) {
@@ -158,42 +148,87 @@ fn span_field(target: &[u8], places: &[u16], body: &[u8], uses: &[u8], p: usize,
     if 31 < kind {
         return;
     }
-    span_code(target, places, body, kind, code_start(body, p), 16, table);
+    span_code(target, body, kind, code_start(body, p), 16, table);
 }
 
 // Keeps the spans of the codes of all clauses.
-fn span_all(target: &[u8], places: &[u16], body: &[u8], uses: &[u8], table: &mut [u16])
-    requires { ⌜ Sound (now places) (now target) × (length (now body) ≤ 4096) × (length (now table) ≡ tableLength) ⌝ }
-    ensures { λ r. ⌜ ((s : List ℕ) (f : Translation) → Checked s (now (target .entry)) (now (body .entry)) f → Indexed (now (places .entry)) (now (target .entry)) (f .target)
+fn span_all(target: &[u8], body: &[u8], uses: &[u8], table: &mut [u16])
+    requires { ⌜ Sound (targetIndex (now table)) (now target) × (length (now body) ≤ 4096) × (length (now table) ≡ tableLength) ⌝ }
+    ensures { λ r. ⌜ Beside (now (table .entry)) (now (table .exit))
+        × ((s : List ℕ) (f : Translation) → Checked s (now (target .entry)) (now (body .entry)) f → Indexed (targetIndex (now (table .entry))) (now (target .entry)) (f .target)
         → Mapped (now (uses .entry)) (f .body) → AllSpanned (now (body .entry)) (now (table .entry)) (now (table .exit)) f) ⌝ }
 {
     let mut p = 0;
     while p < body.len() {
-        span_field(target, places, body, uses, p, table);
+        span_field(target, body, uses, p, table);
+        p = field_end(body, p);
+    }
+}
+
+// Keeps where the field at p stands, if it is a clause of number 0, by its kind and name.
+fn put_clause(body: &[u8], p: usize, table: &mut [u16])
+    requires { ⌜ (length (now body) ≤ 4096) × (p < length (now body)) × (length (now table) ≡ tableLength) ⌝ }
+    ensures { λ r. ⌜ now (table .exit) ≡ withClause (now (body .entry)) p (now (table .entry)) ⌝ }
+{
+    if body[p] != CLAUSE {
+        return;
+    }
+    let key = 32 + pair_at(body, p + 3);
+    if INDEX <= key {
+        return;
+    }
+    table[ITEMS + key] = (p + 1) as u16;
+}
+
+// Keeps where each clause of number 0 stands, by its kind and name, in place of the index of the target. At other keys nothing
+// is looked up.
+fn put_clauses(body: &[u8], table: &mut [u16])
+    requires { ⌜ (length (now body) ≤ 4096) × (length (now table) ≡ tableLength) ⌝ }
+    ensures { λ r. ⌜ Itemed (now (body .entry)) (now (table .entry)) (now (table .exit)) ⌝ }
+{
+    let mut p = 0;
+    while p < body.len() {
+        put_clause(body, p, table);
         p = field_end(body, p);
     }
 }
 
 // Fills the table of a translation that was accepted, where it is lent as a slice.
-fn fill_all(source: &[u8], target: &[u8], body: &[u8], table: &mut [u16])
-    requires { ⌜ Begun (now source) (now table) × ((f : Translation) × Checked (now source) (now target) (now body) f) ⌝ }
-    ensures { λ r. ⌜ ((f : Translation) → Checked (now (source .entry)) (now (target .entry)) (now (body .entry)) f → Ready (now (table .exit)) f) ⌝ }
+fn fill_all(source: &[u8], target: &[u8], body: &[u8], uses: &[u8], table: &mut [u16])
+    requires { ⌜ Begun (now source) (now target) (now table) × ((f : Translation) × Checked (now source) (now target) (now body) f) ⌝ }
+    ensures { λ r. ⌜ Built 0x11 (now (source .entry)) (now (table .exit)) 0
+        × ((f : Translation) → Checked (now (source .entry)) (now (target .entry)) (now (body .entry)) f → Mapped (now (uses .entry)) (f .body) → Ready (now (table .exit)) f) ⌝ }
 {
     fill(source, body, table);
     put_hints(body, table);
     put_ranks(body, table);
-    let mut places = [0u16; INDEX];
-    build(target, &mut places);
-    let mut uses = [0u8; USES];
-    put_uses(body, &mut uses);
-    span_all(target, &places, body, &uses, table);
+    span_all(target, body, uses, table);
+    put_clauses(body, table);
 }
 
-// Fills the table of a translation that was accepted, by the bytes of its source, target and body. The index of the source
-// stands in the table, and it is all zero besides.
-pub fn prepare(source: &[u8], target: &[u8], body: &[u8], table: &mut [u16; TABLE])
-    requires { ⌜ Begun (now source) (now table) × ((f : Translation) × Checked (now source) (now target) (now body) f) ⌝ }
-    ensures { λ r. ⌜ ((f : Translation) → Checked (now (source .entry)) (now (target .entry)) (now (body .entry)) f → Ready (now (table .exit)) f) ⌝ }
+// Fills the table of a translation that was accepted, by the bytes of its source, target and body and by what kinds map to by
+// number. The indexes of the source and of the target stand in the table, and it is all zero besides; that of the source stays.
+pub fn prepare(source: &[u8], target: &[u8], body: &[u8], uses: &[u8], table: &mut [u16; TABLE])
+    requires { ⌜ Begun (now source) (now target) (now table) × ((f : Translation) × Checked (now source) (now target) (now body) f) ⌝ }
+    ensures { λ r. ⌜ Built 0x11 (now (source .entry)) (now (table .exit)) 0
+        × ((f : Translation) → Checked (now (source .entry)) (now (target .entry)) (now (body .entry)) f → Mapped (now (uses .entry)) (f .body) → Ready (now (table .exit)) f) ⌝ }
 {
-    fill_all(source, target, body, table);
+    fill_all(source, target, body, uses, table);
+}
+
+// Puts the indexes of the source and of the target into a table that is all zero, where it is lent as a slice.
+fn put_indexes(source: &[u8], target: &[u8], table: &mut [u16])
+    requires { ⌜ (length (now source) ≤ 1024) × (length (now target) ≤ 1024) × (length (now table) ≡ tableLength) × ((j : ℕ) → getD (now table) j 0 ≡ 0) ⌝ }
+    ensures { λ r. ⌜ Begun (now (source .entry)) (now (target .entry)) (now (table .exit)) ⌝ }
+{
+    put_index(source, CLASS, 0, table);
+    put_index(target, CLASS, ITEMS, table);
+}
+
+// Puts the indexes of the source and of the target into a table that is all zero.
+pub fn begin(source: &[u8], target: &[u8], table: &mut [u16; TABLE])
+    requires { ⌜ (length (now source) ≤ 1024) × (length (now target) ≤ 1024) × ((j : ℕ) → getD (now table) j 0 ≡ 0) ⌝ }
+    ensures { λ r. ⌜ Begun (now (source .entry)) (now (target .entry)) (now (table .exit)) ⌝ }
+{
+    put_indexes(source, target, table);
 }

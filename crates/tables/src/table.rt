@@ -3,7 +3,7 @@ ghost use mathlib.Core.Path.{_≡_};
 ghost use mathlib.Core.Bool.{true};
 ghost use mathlib.Core.List.{List};
 ghost use mathlib.Core.Option.{some};
-ghost use Prim.Native.Nat.{ℕ, _+_, _*_, _<_};
+ghost use Prim.Native.Nat.{ℕ, _+_, _*_, _<_, _≤_};
 ghost use lib.ListN.{length};
 ghost use Rattle.fields.specs.Lists.{isSome};
 ghost use Rattle.language.specs.Language.{argumentsOf};
@@ -17,7 +17,8 @@ use fields::walk::NUMBERED;
 use reader::index::TABLE;
 use translation::body::NUMBERED_CLAUSE;
 
-// Where the index of the body's items starts.
+// Where the index of the target starts and, once that is no longer looked at, the places of the clauses of number 0, by kind and
+// name.
 pub const ITEMS: usize = 8224;
 
 // Where the bytes of the source start.
@@ -32,6 +33,9 @@ pub const SPANS: usize = 21568;
 
 // Where the places of the clauses of other numbers than 0 start.
 pub const HINTS: usize = 25664;
+
+// How many of them there are.
+pub const HINT_COUNT: usize = 520;
 
 // A field with a number has at least six bytes, so none starts in the body from here on.
 const LAST_FIELD: usize = 4091;
@@ -51,7 +55,7 @@ pub fn index_at(table: &[u16; TABLE], key: usize) -> usize
     to_usize(table[key])
 }
 
-// What the index of the body's items holds under a key.
+// Where the clause of number 0 of a production of the source stands, and one more, by its key.
 pub fn clause_at(table: &[u16; TABLE], key: usize) -> usize
     requires { ⌜ key < indexLength ⌝ }
     ensures { λ r. ⌜ (r ≡ clauseEntry (now (table .entry)) key) × (r < 65536) ⌝ }
@@ -145,13 +149,14 @@ fn hinted_place(table: &[u16; TABLE], first: usize, rank: usize) -> usize
     requires { ⌜ first < 65536 ⌝ }
     ensures { λ r. ⌜ (r < 4091) × (0 < r → (i : ℕ) × (r ≡ hintEntry (now (table .entry)) i)) ⌝ }
 {
-    if 4095 < rank {
+    if HINT_COUNT <= rank {
         return 0;
     }
-    if 4095 < first + rank {
+    let hint = first / 8 + rank;
+    if HINT_COUNT <= hint {
         return 0;
     }
-    let p = to_usize(table[HINTS + (first + rank)]);
+    let p = to_usize(table[HINTS + hint]);
     if LAST_FIELD <= p {
         return 0;
     }
@@ -191,25 +196,35 @@ fn is_mapping(table: &[u16; TABLE], p: usize, kind: usize) -> bool
     body_at(table, p + 3) == kind
 }
 
+// A rank, and one more where the field at p is a mapping of a kind by a number other than 0.
+fn rank_behind(table: &[u16; TABLE], p: usize, kind: usize, rank: usize) -> usize
+    requires { ⌜ (p < 4091) × (rank < 65536) ⌝ }
+    ensures { λ r. ⌜ r ≤ rank + 1 ⌝ }
+{
+    if is_mapping(table, p, kind) {
+        return rank + 1;
+    }
+    rank
+}
+
 // The rank of a number among those of a kind, counted from 0: the mappings of a kind follow each other by rising number.
 pub fn rank_of(table: &[u16; TABLE], kind: usize, number: usize) -> usize
-    requires { ⌜ kind < 32 ⌝ }
     ensures { λ r. ⌜ r < 65536 ⌝ }
 {
     if number == 0 {
         return 0;
     }
-    let mut p = clause_at(table, kind) + 4;
-    let mut rank = 1;
+    let mut p = 0;
+    let mut rank = 0;
     while p < LAST_FIELD {
-        if !is_mapping(table, p, kind) {
-            return 0;
-        }
+        let next = rank_behind(table, p, kind, rank);
         if body_at(table, p + 4) == number {
-            return rank;
+            if rank < next {
+                return next;
+            }
         }
-        p += 6;
-        rank += 1;
+        rank = next;
+        p = end_of_field(table, p);
     }
     0
 }

@@ -11,7 +11,7 @@ ghost use Rattle.fields.specs.Outcome.{value};
 ghost use Rattle.language.specs.LanguageFile.{languageLimit};
 ghost use Rattle.translation.specs.Translation.{Translation};
 ghost use Rattle.translation.specs.TranslationFile.{partsOf, translationLimit, isLanguageTag, translationOf};
-ghost use Rattle.translation.specs.Inner.Parts.{Parted, sourceIn, targetIn, bodyIn};
+ghost use Rattle.translation.specs.Inner.Parts.{sourceIn, targetIn, bodyIn};
 ghost use Rattle.translation.specs.Inner.Pieces.{partEnd};
 use super::body::body_whole;
 use fields::walk::end_if_whole;
@@ -28,13 +28,6 @@ pub const TARGET: u8 = 0x21;
 
 // A translation has at most so many bytes.
 pub const TRANSLATION_LIMIT: usize = 4096;
-
-// Where the parts of a translation stand: the source's field ends at the first number, the target's at the second,
-// and the body follows.
-pub struct Parts {
-    pub source_end: usize,
-    pub target_end: usize,
-}
 
 // The file, or a language in it, is over its limit.
 pub fn over_limit(s: &[u8]) -> bool
@@ -80,19 +73,6 @@ pub fn parts_whole(s: &[u8]) -> bool
         return false;
     }
     body_whole(&s[b..])
-}
-
-// Where the parts of a whole translation stand.
-pub fn parts_of(s: &[u8]) -> Parts
-    requires { ⌜ ((f : Translation) × (partsOf (now s) ≡ some f)) ⌝ }
-    ensures { λ r. ⌜ ((f : Translation) → partsOf (now (s .entry)) ≡ some f → Parted (now (s .entry)) (r .«source_end») (r .«target_end») f) ⌝ }
-{
-    let a = whole_end(s, 0);
-    let b = whole_end(s, a);
-    Parts {
-        source_end: a,
-        target_end: b,
-    }
 }
 
 // The bytes of the source of a translation that was accepted.

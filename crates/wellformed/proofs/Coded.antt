@@ -34,12 +34,13 @@ use Rattle.translation.specs.Running.{usesOf, readClause, wholeCode}
 use Rattle.translation.specs.WellFormed.{codeFits}
 use Rattle.translation.specs.Inner.Items.{itemWhole, itemAt, ItemFacts, plain-mapping, plain-clause, numbered-mapping, numbered-clause, isClauseTag}
 use Rattle.translation.specs.Inner.ItemIndex.{Mapped}
-use Rattle.wellformed.specs.Inner.Ready.{Ready}
+use Rattle.wellformed.specs.Inner.Ready.{Ready, indexOf}
 use Rattle.wellformed.specs.Inner.Tests.{endsAt, isClauseAt, codeStart, clauseNumber, ClauseAt, kindIn, Behind}
 use Rattle.translation.proofs.Lookup.{mapping-mem}
 use Rattle.translation.proofs.Items.{item-facts, clause-is, numbered-clause-is}
 use Rattle.translation.proofs.Found.{cut, cut-is}
 use Rattle.wellformed.proofs.Bounds.{bounded, within, mapped-below}
+use Rattle.wellformed.proofs.Source.{source-indexed}
 
 -- ends_at
 module _ (n : ℕ) {r : Read} where
@@ -267,7 +268,7 @@ unfolding keyAt pairAt
 clause-key b p c = let i : p + 3 + 1 ≡ p + 4 = omega arith in rw (ne-eqb (getD b p 0) 0x22 (c .key), i) refl
 
 -- code_typed
-module _ (s is t it b u : List ℕ) (f : Translation) (z : Ready s is t it b u f)
+module _ (s t it b u : List ℕ) (f : Translation) (z : Ready s t it b u f)
     (source-bytes : (i : ℕ) → getD s i 0 < 256) (body-bytes : (i : ℕ) → getD b i 0 < 256) where
   -- The kinds of the arguments of a production are kinds.
   arguments-kinds : (k n : ℕ) → all isKind (Option·getD (argumentsOf (f .source) k n) []) ≡ true
@@ -276,10 +277,10 @@ module _ (s is t it b u : List ℕ) (f : Translation) (z : Ready s is t it b u f
     where
       go : (o : Option (List ℕ)) → argumentsOf (f .source) k n ≡ o → all isKind (Option·getD o []) ≡ true
       go none e = refl
-      go (some ks) e = within s source-bytes (f .source) (z .source .entries) (production k n ks) (arguments-mem (f .source) k n ks e) .3
+      go (some ks) e = within s source-bytes (f .source) (z .source) (production k n ks) (arguments-mem (f .source) k n ks e) .3
 
   module _ (u′ : List ℕ) (r key k n : ℕ) (hk : k < 32) (hn : n < 256) (ek : key ≡ productionKey k n)
-      (w : Behind u u′ (Option·getD (argumentsBefore s (getD is key 0)) []) r) where
+      (w : Behind u u′ (Option·getD (argumentsBefore s (getD (indexOf s) key 0)) []) r) where
     front-long : length (take 8192 u) ≡ 8192
     front-long = length-take-le 8192 u (omega (arith, z .room))
 
@@ -288,7 +289,7 @@ module _ (s is t it b u : List ℕ) (f : Translation) (z : Ready s is t it b u f
 
     bytes-are : take r u′ ≡ take 8192 u ++ arguments
     bytes-are =
-        let i : argumentsBefore s (getD is key 0) ≡ argumentsOf (f .source) k n = rw ek (sym (z .source .arguments k n hk hn)) in
+        let i : argumentsBefore s (getD (indexOf s) key 0) ≡ argumentsOf (f .source) k n = rw ek (sym (source-indexed s t it b u f z source-bytes .arguments k n hk hn)) in
         rw (← i) (w .bytes)
 
     pub uses-are : usesIn (take r u′) ≡ usesOf f k n
@@ -298,9 +299,10 @@ module _ (s is t it b u : List ℕ) (f : Translation) (z : Ready s is t it b u f
         let d : drop 8192 (take r u′) ≡ arguments = rw bytes-are (drop-at (take 8192 u) arguments 8192 front-long) in
         rw d (maps-same b body-bytes (f .body) (z .body) (take r u′) (mapped-kept u (take r u′) (f .body) e (z .uses)) arguments (arguments-kinds k n))
 
-    pub ready-still : Ready s is t it b u′ f
+    pub ready-still : Ready s t it b u′ f
     ready-still = record {
       source = z .source;
+      short = z .short;
       target = z .target;
       body = z .body;
       room = w .room;
@@ -317,10 +319,10 @@ module _ (s is t it b u : List ℕ) (f : Translation) (z : Ready s is t it b u f
     kind-below = rw kind-mapped (mapped-below b body-bytes (f .body) (z .body) (getD b (p + 3) 0) (clauseNumber b p))
 
     -- What is read for a clause says whether it fits.
-    pub code-fits : (key : ℕ) → key ≡ keyAt 0x22 b p → (u′ : List ℕ) (r : ℕ) → Behind u u′ (Option·getD (argumentsBefore s (getD is key 0)) []) r
+    pub code-fits : (key : ℕ) → key ≡ keyAt 0x22 b p → (u′ : List ℕ) (r : ℕ) → Behind u u′ (Option·getD (argumentsBefore s (getD (indexOf s) key 0)) []) r
         → (start e : ℕ) → start ≡ codeStart b p → e ≡ fieldEnd b p
         → (x : Bool) → x ≡ isSome (wholeCode (Meant.read Meant.code (f .target) (usesIn (take r u′)) 16 kind (slice start e b)))
-        → (x ≡ codeFits f (itemAt b p)) × Ready s is t it b u′ f
+        → (x ≡ codeFits f (itemAt b p)) × Ready s t it b u′ f
     unfolding codeFits readClause
     code-fits key eq u′ r w start e es ee x ex =
         let k : key ≡ productionKey (getD b (p + 3) 0) (getD b (p + 4) 0) = eq ∙ clause-key b p c in

@@ -1,7 +1,10 @@
 pub mod Marked
 pub mod Bounds
+pub mod Source
 pub mod Coded
 pub mod Mappings
 pub mod Wanted
 pub mod Matching
+pub mod Along
 pub mod Formed
+pub mod Kept

@@ -22,10 +22,11 @@ use Rattle.translation.specs.Translation.{Item, mapping, Body, Translation, map
 use Rattle.translation.specs.TranslationFile.{bodyOf}
 use Rattle.translation.specs.WellFormed.{kinds, kindsMapped, reachesTarget, keepsRange, classKept, mappingFits}
 use Rattle.translation.specs.Inner.Items.{mappingWhole, numberedMappingWhole, itemGood, itemWhole, itemAt, ItemFacts, plain-mapping, plain-clause, numbered-mapping, numbered-clause, isClauseTag, itemsWhole}
-use Rattle.wellformed.specs.Inner.Ready.{Ready}
+use Rattle.wellformed.specs.Inner.Ready.{Ready, indexOf}
 use Rattle.wellformed.specs.Inner.Tests.{mappedIf, MapsAt, reachesAt, rangeKept, keptAt, fitsAt, isClauseAt}
 use Rattle.translation.proofs.Items.{item-facts, mapping-is, numbered-mapping-is, holds-items}
 use Rattle.translation.proofs.Uses.{Front}
+use Rattle.wellformed.proofs.Source.{source-indexed}
 use Rattle.wellformed.proofs.Coded.{clause-at}
 
 -- mapped_if
@@ -203,7 +204,7 @@ range-same s (suc p) t (suc q) =
     let j : suc q - 1 ≡ q = omega arith in
     rw (ne-eqb (suc p) 0 (λ h. omega arith), ne-eqb (suc q) 0 (λ h. omega arith), i, j)
 
-module _ (s is t it b u : List ℕ) (f : Translation) (z : Ready s is t it b u f) where
+module _ (s t it b u : List ℕ) (f : Translation) (z : Ready s t it b u f) (bytes : (i : ℕ) → getD s i 0 < 256) where
   -- A kind has an entry by number 0 if it is mapped by it.
   is-there : (k : ℕ) → k < 32 → not (eqb (getD u (k * 256) 0) 0) ≡ isSome (mappingOf (f .body) k 0)
   unfolding mappedIn
@@ -231,7 +232,7 @@ module _ (s is t it b u : List ℕ) (f : Translation) (z : Ready s is t it b u f
 
     module _ (reached : List Bool) (er : (k : ℕ) → k < 32 → getD reached k false ≡ isIn (f .target) k) where
       fits-is : (p : ℕ) → itemWhole b p ≡ true
-          → fitsAt s is t it b marked reached p ≡ (reachesTarget f (itemAt b p) && classKept f (itemAt b p))
+          → fitsAt s (indexOf s) t it b marked reached p ≡ (reachesTarget f (itemAt b p) && classKept f (itemAt b p))
       unfolding fitsAt reachesAt keptAt reachesTarget classKept isClauseAt
       fits-is p w =
           by-test (isClauseTag (getD b p 0))
@@ -240,16 +241,16 @@ module _ (s is t it b u : List ℕ) (f : Translation) (z : Ready s is t it b u f
           let (m, j, e) = mapping-at b p w c in
           let k : ℕ = getD b (p + 3) 0 in
           let g : ℕ = getD b (fieldEnd b p - 1) 0 in
-          rw (c, e, em k (m .source), er g (m .target), range-same s (getD is k 0) t (getD it g 0), ← z .source .range k (m .source), ← z .target .range g (m .target)))
+          rw (c, e, em k (m .source), er g (m .target), range-same s (getD (indexOf s) k 0) t (getD it g 0), ← source-indexed s t it b u f z bytes .range k (m .source), ← z .target .range g (m .target)))
 
-      fits-test : all (fitsAt s is t it b marked reached) (places b) ≡ (all (reachesTarget f) (f .body) && all (classKept f) (f .body))
+      fits-test : all (fitsAt s (indexOf s) t it b marked reached) (places b) ≡ (all (reachesTarget f) (f .body) && all (classKept f) (f .body))
       fits-test =
-          items-alike b (f .body) (z .body) (fitsAt s is t it b marked reached) (λ a. reachesTarget f a && classKept f a) fits-is
+          items-alike b (f .body) (z .body) (fitsAt s (indexOf s) t it b marked reached) (λ a. reachesTarget f a && classKept f a) fits-is
           ∙ all-and (reachesTarget f) (classKept f) (f .body)
 
       -- mapping_fits
       pub fits-items : (x : Bool) → x ≡ all (mappedIf u marked) (countUp 32 0) → x ≡ true
-          → (y : Bool) → y ≡ all (fitsAt s is t it b marked reached) (places b) → y ≡ mappingFits f
+          → (y : Bool) → y ≡ all (fitsAt s (indexOf s) t it b marked reached) (places b) → y ≡ mappingFits f
       unfolding mappingFits
       fits-items x ex h y ey = rw (← mapped-test, ← ex, h) (ey ∙ fits-test)
 

@@ -19,7 +19,7 @@ use Rattle.fields.proofs.Lists.{all-true}
 use Rattle.fields.proofs.Keyed.{From, Rising, from-weaken, from-mem, from-rising, rising-from, is-rising}
 use Rattle.fields.proofs.Places.{places-done, places-next, every-here, every-after}
 use Rattle.language.specs.Language.{entryKey, productionKey}
-use Rattle.language.specs.Inner.Entries.{entryWhole, entryAt, IsProduction}
+use Rattle.language.specs.Inner.Entries.{entryWhole, entryAt, IsProduction, RisingEntries}
 use Rattle.language.proofs.Facts.{entry-facts, class-is, production-is, production-here, entries-long}
 use Rattle.language.proofs.Holds.{holds-entries}
 use Rattle.language.proofs.Chain.{rising-is}
@@ -103,7 +103,7 @@ module _ (tag least : ℕ) (s : List ℕ) (p r : ℕ) (z : Skipped tag least s p
   skip-front : (f : ℕ → Bool) → all f (placesFrom s p) ≡ true → all f (z .before) ≡ true
   skip-front f h = all-front f (z .before) (placesFrom s r) (rw (z .are) at h)
 
-  before-below : (x : ℕ) → Mem x (z .before) → orderAt tag s x < least
+  pub before-below : (x : ℕ) → Mem x (z .before) → orderAt tag s x < least
   before-below x m = ltb-true _ _ (all-mem (λ x. ltb (orderAt tag s x) least) (z .before) (z .below) x m)
 
   rest-mem : (x : ℕ) → Mem x (placesFrom s r) → Mem x (placesFrom s p)
@@ -416,7 +416,7 @@ concat-map g at [] = refl
 concat-map g at (x ∷ l) = ap (λ (t : List ℕ). g (at x) ++ t) (concat-map g at l)
 
 -- The order of a language's entries is that of their keys.
-order-key : (s : List ℕ) (x : ℕ) → orderAt 0x11 s x ≡ keyAt 0x11 s x
+pub order-key : (s : List ℕ) (x : ℕ) → orderAt 0x11 s x ≡ keyAt 0x11 s x
 unfolding orderAt
 order-key s x = refl
 
@@ -424,21 +424,25 @@ map-keys : (key : ℕ → ℕ) (n : ℕ) (l : List ℕ) → From key n l → Fro
 map-keys key n [] f = tt
 map-keys key n (x ∷ l) f = (f .0, map-keys key (suc (key x)) l (f .1))
 
-module _ (s is t it b u : List ℕ) (f : Translation) (z : Ready s is t it b u f)
+module _ (s t it b u : List ℕ) (f : Translation) (z : Ready s t it b u f)
     (source-bytes : (i : ℕ) → getD s i 0 < 256) (bytes : (i : ℕ) → getD b i 0 < 256) where
-  source-rises : Rising (keyAt 0x11 s) (places s)
-  source-rises =
-      is-rising (keyAt 0x11 s) (places s)
-      (rising-is s (f .source) (holds-entries s (f .source) (z .source .entries)) ∙ rises-parts f (z .rises) .0)
-
-  body-order : rising (orderAt 0x22 b) (places b) ≡ true
+  pub body-order : rising (orderAt 0x22 b) (places b) ≡ true
   body-order = items-rise b (f .body) (holds-items b (f .body) (z .body)) ∙ rises-parts f (z .rises) .2
 
   items-are : all (itemWhole b) (places b) ≡ true
   items-are = holds-items b (f .body) (z .body) .whole
 
   entries-are : all (entryWhole s) (places s) ≡ true
-  entries-are = holds-entries s (f .source) (z .source .entries) .whole
+  entries-are = holds-entries s (f .source) (z .source) .whole
+
+  pub rising-entries : RisingEntries s
+  rising-entries = record {
+    whole = entries-are;
+    rises = rising-is s (f .source) (holds-entries s (f .source) (z .source)) ∙ rises-parts f (z .rises) .0;
+  }
+
+  source-rises : Rising (keyAt 0x11 s) (places s)
+  source-rises = is-rising (keyAt 0x11 s) (places s) (rising-entries .rises)
 
   pub source-long : all (longAt s) (places s) ≡ true
   source-long = entries-long s entries-are
@@ -503,7 +507,7 @@ module _ (s is t it b u : List ℕ) (f : Translation) (z : Ready s is t it b u f
     wanted-are : wantedFrom s q (itemsFrom b 0) ≡ concatMap (wantedKeys (f .body)) (f .source)
     unfolding wantedFrom itemsFrom wantedKeys
     wanted-are =
-        let h = holds-entries s (f .source) (z .source .entries) in
+        let h = holds-entries s (f .source) (z .source) in
         rw (holds-items b (f .body) (z .body) .items)
         (sym (concat-skip (λ v. wantedKeys (f .body) (entryAt s v)) (x .before) (placesFrom s q) classes)
         ∙ (ap (concatMap (λ v. wantedKeys (f .body) (entryAt s v))) (sym (x .are))
@@ -524,7 +528,7 @@ module _ (s is t it b u : List ℕ) (f : Translation) (z : Ready s is t it b u f
     match-is =
         rw wanted-are
         (wanted-keys f (is-rising entryKey (f .source) (rises-parts f (z .rises) .0)) (is-rising itemKey (f .body) (rises-parts f (z .rises) .2))
-        (within s source-bytes (f .source) (z .source .entries)) (bounded b bytes (f .body) (z .body))
+        (within s source-bytes (f .source) (z .source)) (bounded b bytes (f .body) (z .body))
         (ordersFrom b p) (from-weaken (λ (v : ℕ). v) (ordersFrom b p) (omega arith) (map-keys (orderAt 0x22 b) 8192 (placesFrom b p) clause-orders))
         is-key key-is)
 

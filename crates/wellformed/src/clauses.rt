@@ -3,8 +3,12 @@
 ghost use mathlib.Core.Path.{_≡_};
 ghost use mathlib.Core.Bool.{true};
 ghost use Prim.Native.Nat.{_<_};
+ghost use lib.ListN.{getD};
 ghost use Rattle.fields.specs.Inner.Places.{placesFrom, longAt};
 ghost use Rattle.fields.specs.Lists.{all};
+ghost use Rattle.language.specs.Inner.Entries.{RisingEntries};
+ghost use Rattle.reader.specs.Inner.Index.{indexLength};
+ghost use Rattle.wellformed.specs.Inner.Ready.{indexOf};
 ghost use Rattle.wellformed.specs.Inner.Matching.{Skipped, keysMatch, Sides, Asked, Cleared};
 use fields::bytes::to_usize;
 use fields::walk::MAPPING;
@@ -26,6 +30,21 @@ pub fn skip_below(s: &[u8], p: usize, leading_tag: u8, least: usize) -> usize
         q = whole_end(s, q);
     }
     q
+}
+
+// The place of the entry of this key, and one more; 0 where there is none. Entries before q have lesser keys, and the one at q
+// has not.
+pub fn place_of(s: &[u8], q: usize, key: usize) -> usize
+    requires { ⌜ RisingEntries (now s) × Skipped 0x11 key (now s) 0 q × (key < indexLength) ⌝ }
+    ensures { λ r. ⌜ r ≡ getD (indexOf (now (s .entry))) key 0 ⌝ }
+{
+    if s.len() <= q {
+        return 0;
+    }
+    if whole_key(s, q, CLASS) != key {
+        return 0;
+    }
+    q + 1
 }
 
 // Where the clauses from p on of a production end, one for each mapping of its result, which stand from m on; past the

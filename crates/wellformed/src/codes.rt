@@ -6,9 +6,10 @@ ghost use mathlib.Core.Option.{Option·getD};
 ghost use Prim.Native.Nat.{ℕ, _<_, _≤_};
 ghost use lib.ListN.{length, getD};
 ghost use lib.Seq.{slice};
-ghost use Rattle.fields.specs.Inner.Places.{fieldEnd, placesFrom};
+ghost use Rattle.fields.specs.Inner.Places.{fieldEnd, keyAt, placesFrom};
 ghost use Rattle.fields.specs.Lists.{all, isSome};
 ghost use Rattle.language.specs.Language.{Language, productionKey};
+ghost use Rattle.language.specs.Inner.Entries.{RisingEntries};
 ghost use Rattle.reader.specs.Syntax.{read as readCode, code};
 ghost use Rattle.reader.specs.Inner.Index.{Sound, Indexed, argumentsBefore};
 ghost use Rattle.reader.specs.Inner.Positions.{usesIn};
@@ -16,8 +17,11 @@ ghost use Rattle.translation.specs.Translation.{Translation};
 ghost use Rattle.translation.specs.Running.{wholeCode, codeLevels};
 ghost use Rattle.translation.specs.WellFormed.{codeFits};
 ghost use Rattle.translation.specs.Inner.Items.{itemAt};
-ghost use Rattle.wellformed.specs.Inner.Ready.{Ready, usesRoom};
+ghost use Rattle.wellformed.specs.Inner.Ready.{Ready, indexOf, usesRoom};
+ghost use Rattle.wellformed.specs.Inner.Matching.{Skipped};
 ghost use Rattle.wellformed.specs.Inner.Tests.{endsAt, isClauseAt, ClauseAt, codeStart, clauseNumber, kindIn, Behind};
+use super::clauses::place_of;
+use super::clauses::skip_below;
 use fields::bytes::pair_in;
 use fields::bytes::to_usize;
 use fields::copy::Stored;
@@ -25,19 +29,21 @@ use fields::copy::put;
 use fields::walk::MAPPING;
 use fields::walk::whole_end;
 use fields::walk::whole_key;
+use language::entries::CLASS;
 use reader::node::Read;
 use reader::node::Syntax;
 use reader::node::USES;
-use reader::node::place_at;
 use reader::read::read;
 use translation::body::CLAUSE;
 
 // Puts the kinds of the arguments of the production of this key behind the uses of the mappings, and says where they end.
-fn put_arguments(source: &[u8], sources: &[u16], key: usize, uses: &mut [u8]) -> usize
-    requires { ⌜ ((l : Language) × Indexed (now sources) (now source) l) × ((k : ℕ) × (n : ℕ) × (k < 32) × (n < 256) × (key ≡ productionKey k n)) × (length (now uses) ≡ usesRoom) ⌝ }
-    ensures { λ r. ⌜ Behind (now (uses .entry)) (now (uses .exit)) (Option·getD (argumentsBefore (now (source .entry)) (getD (now (sources .entry)) key 0)) []) r ⌝ }
+// Entries of the source before q have lesser keys, and the one at q has not.
+fn put_arguments(source: &[u8], q: usize, key: usize, uses: &mut [u8]) -> usize
+    requires { ⌜ ((l : Language) × Indexed (indexOf (now source)) (now source) l) × ((k : ℕ) × (n : ℕ) × (k < 32) × (n < 256) × (key ≡ productionKey k n)) × (length (now uses) ≡ usesRoom)
+        × RisingEntries (now source) × Skipped 0x11 key (now source) 0 q ⌝ }
+    ensures { λ r. ⌜ Behind (now (uses .entry)) (now (uses .exit)) (Option·getD (argumentsBefore (now (source .entry)) (getD (indexOf (now (source .entry))) key 0)) []) r ⌝ }
 {
-    let place = place_at(sources, key);
+    let place = place_of(source, q, key);
     if place == 0 {
         return USES;
     }
@@ -123,10 +129,10 @@ fn code_reads(
 }
 
 // The code of the clause from p up to e is of the kind that its result maps to by its number. The kinds of the arguments
-// are left behind the uses of the mappings.
+// are left behind the uses of the mappings. Its production, if there is one, stands at q.
 fn code_typed(
     source: &[u8],
-    sources: &[u16],
+    q: usize,
     target: &[u8],
     targets: &[u16],
     body: &[u8],
@@ -134,12 +140,12 @@ fn code_typed(
     e: usize,
     uses: &mut [u8],
 ) -> bool
-    requires { ⌜ (e ≡ fieldEnd (now body) p) × ClauseAt (now body) p × ((f : Translation) × Ready (now source) (now sources) (now target) (now targets) (now body) (now uses) f) ⌝ }
-    ensures { λ r. ⌜ ((f : Translation) → Ready (now (source .entry)) (now (sources .entry)) (now (target .entry)) (now (targets .entry)) (now (body .entry)) (now (uses .entry)) f
-        → (r ≡ codeFits f (itemAt (now (body .entry)) p)) × Ready (now (source .entry)) (now (sources .entry)) (now (target .entry)) (now (targets .entry)) (now (body .entry)) (now (uses .exit)) f) ⌝ }
+    requires { ⌜ (e ≡ fieldEnd (now body) p) × ClauseAt (now body) p × Skipped 0x11 (keyAt 0x22 (now body) p) (now source) 0 q × ((f : Translation) × Ready (now source) (now target) (now targets) (now body) (now uses) f) ⌝ }
+    ensures { λ r. ⌜ ((f : Translation) → Ready (now (source .entry)) (now (target .entry)) (now (targets .entry)) (now (body .entry)) (now (uses .entry)) f
+        → (r ≡ codeFits f (itemAt (now (body .entry)) p)) × Ready (now (source .entry)) (now (target .entry)) (now (targets .entry)) (now (body .entry)) (now (uses .exit)) f) ⌝ }
 {
     let kind = kind_in(uses, to_usize(body[p + 3]) * 256 + clause_number(body, p));
-    let end = put_arguments(source, sources, whole_key(body, p, MAPPING), uses);
+    let end = put_arguments(source, q, whole_key(body, p, MAPPING), uses);
     code_reads(
         target,
         targets,
@@ -151,24 +157,27 @@ fn code_typed(
     )
 }
 
-// Every code fits, of the clauses from p on.
+// Every code fits, of the clauses from p on; the productions of the source stand from q on. Both stand by rising key, so that
+// the production of a clause is found beside it. What kinds map to stays.
 pub fn codes_typed(
     source: &[u8],
-    sources: &[u16],
+    q: usize,
     target: &[u8],
     targets: &[u16],
     body: &[u8],
     p: usize,
     uses: &mut [u8],
 ) -> bool
-    requires { ⌜ (all (isClauseAt (now body)) (placesFrom (now body) p) ≡ true) × ((f : Translation) × Ready (now source) (now sources) (now target) (now targets) (now body) (now uses) f) ⌝ }
-    ensures { λ r. ⌜ ((f : Translation) → Ready (now (source .entry)) (now (sources .entry)) (now (target .entry)) (now (targets .entry)) (now (body .entry)) (now (uses .entry)) f
-        → r ≡ all (λ x. codeFits f (itemAt (now (body .entry)) x)) (placesFrom (now (body .entry)) p)) ⌝ }
+    requires { ⌜ (all (isClauseAt (now body)) (placesFrom (now body) p) ≡ true) × Skipped 0x11 32 (now source) 0 q × Skipped 0x22 8192 (now body) 0 p × ((f : Translation) × Ready (now source) (now target) (now targets) (now body) (now uses) f) ⌝ }
+    ensures { λ r. ⌜ ((f : Translation) → Ready (now (source .entry)) (now (target .entry)) (now (targets .entry)) (now (body .entry)) (now (uses .entry)) f
+        → (r ≡ all (λ x. codeFits f (itemAt (now (body .entry)) x)) (placesFrom (now (body .entry)) p)) × Ready (now (source .entry)) (now (target .entry)) (now (targets .entry)) (now (body .entry)) (now (uses .exit)) f) ⌝ }
 {
+    let mut from = q;
     let mut to = p;
     while to < body.len() {
+        from = skip_below(source, from, CLASS, whole_key(body, to, MAPPING));
         let e = whole_end(body, to);
-        if !code_typed(source, sources, target, targets, body, to, e, uses) {
+        if !code_typed(source, from, target, targets, body, to, e, uses) {
             return false;
         }
         to = e;

@@ -2,22 +2,26 @@
 // the target, and a class maps to a class that contains it.
 ghost use mathlib.Core.Path.{_≡_};
 ghost use mathlib.Core.Bool.{true};
-ghost use mathlib.Core.Option.{some};
-ghost use Prim.Native.Nat.{_+_, _-_, _<_, _≤_};
+ghost use mathlib.Core.List.{List};
+ghost use Prim.Native.Nat.{ℕ, _+_, _-_, _<_, _≤_};
 ghost use lib.ListN.{length};
+ghost use Rattle.fields.specs.Fields.{byteAt};
 ghost use Rattle.fields.specs.Lists.{all, countUp};
 ghost use Rattle.fields.specs.Inner.Places.{places, fieldEnd};
-ghost use Rattle.language.specs.Inner.Entries.{IsClass};
+ghost use Rattle.language.specs.Inner.Entries.{IsClass, RisingEntries};
 ghost use Rattle.reader.specs.Inner.Index.{Sound};
 ghost use Rattle.reader.specs.Inner.Positions.{usesLength};
-ghost use Rattle.translation.specs.Translation.{Body, Translation};
-ghost use Rattle.translation.specs.TranslationFile.{bodyOf};
+ghost use Rattle.translation.specs.Translation.{Translation};
 ghost use Rattle.translation.specs.WellFormed.{mappingFits};
-ghost use Rattle.wellformed.specs.Inner.Ready.{Ready};
+ghost use Rattle.wellformed.specs.Inner.Ready.{Ready, indexOf};
+ghost use Rattle.wellformed.specs.Inner.Matching.{Skipped};
 ghost use Rattle.wellformed.specs.Inner.Tests.{mappedIf, MapsAt, reachesAt, rangeKept, keptAt, fitsAt};
+use super::clauses::place_of;
+use super::clauses::skip_below;
 use super::kinds::mark_entries;
 use fields::bytes::to_usize;
 use fields::walk::whole_end;
+use language::entries::CLASS;
 use language::range::range_within;
 use reader::node::place_at;
 use translation::body::is_clause;
@@ -73,37 +77,40 @@ fn range_kept(source: &[u8], place: usize, target: &[u8], goal: usize) -> bool
     range_within(source, place - 1, target, goal - 1)
 }
 
-// The mapping at p, which ends at e, takes a class to a class that contains its range.
+// The mapping at p, which ends at e, takes a class to a class that contains its range. The class of its kind in the source, if
+// there is one, stands at q.
 fn kept_at(
     source: &[u8],
-    sources: &[u16],
+    q: usize,
     target: &[u8],
     targets: &[u16],
     body: &[u8],
     p: usize,
     e: usize,
 ) -> bool
-    requires { ⌜ Sound (now sources) (now source) × Sound (now targets) (now target) × MapsAt (now body) p × (e ≡ fieldEnd (now body) p) ⌝ }
-    ensures { λ r. ⌜ r ≡ keptAt (now (source .entry)) (now (sources .entry)) (now (target .entry)) (now (targets .entry)) (now (body .entry)) p ⌝ }
+    requires { ⌜ Sound (indexOf (now source)) (now source) × Sound (now targets) (now target) × MapsAt (now body) p × (e ≡ fieldEnd (now body) p)
+        × RisingEntries (now source) × Skipped 0x11 (byteAt (now body) (p + 3)) (now source) 0 q ⌝ }
+    ensures { λ r. ⌜ r ≡ keptAt (now (source .entry)) (indexOf (now (source .entry))) (now (target .entry)) (now (targets .entry)) (now (body .entry)) p ⌝ }
 {
-    let place = place_at(sources, to_usize(body[p + 3]));
+    let place = place_of(source, q, to_usize(body[p + 3]));
     let goal = place_at(targets, to_usize(body[e - 1]));
     range_kept(source, place, target, goal)
 }
 
-// Each mapping is of a kind that is marked, goes to one that is, and keeps the range of a class. They stand in front.
+// Each mapping is of a kind that is marked, goes to one that is, and keeps the range of a class. They stand in front, by
+// rising kind, as the classes of the source do, so that the class of a mapping is found beside it.
 fn mappings_fit(
     source: &[u8],
-    sources: &[u16],
     target: &[u8],
     targets: &[u16],
     body: &[u8],
     marked: &[bool],
     reached: &[bool],
 ) -> bool
-    requires { ⌜ Sound (now sources) (now source) × Sound (now targets) (now target) × ((b : Body) × (bodyOf (now body) ≡ some b)) × (length (now marked) ≡ 32) × (length (now reached) ≡ 32) ⌝ }
-    ensures { λ r. ⌜ r ≡ all (fitsAt (now (source .entry)) (now (sources .entry)) (now (target .entry)) (now (targets .entry)) (now (body .entry)) (now (marked .entry)) (now (reached .entry))) (places (now (body .entry))) ⌝ }
+    requires { ⌜ ((u : List ℕ) × (f : Translation) × Ready (now source) (now target) (now targets) (now body) u f) × (length (now marked) ≡ 32) × (length (now reached) ≡ 32) ⌝ }
+    ensures { λ r. ⌜ r ≡ all (fitsAt (now (source .entry)) (indexOf (now (source .entry))) (now (target .entry)) (now (targets .entry)) (now (body .entry)) (now (marked .entry)) (now (reached .entry))) (places (now (body .entry))) ⌝ }
 {
+    let mut from = 0;
     let mut p = 0;
     while p < body.len() {
         if is_clause(body[p]) {
@@ -113,7 +120,8 @@ fn mappings_fit(
         if !reaches_at(body, p, e, marked, reached) {
             return false;
         }
-        if !kept_at(source, sources, target, targets, body, p, e) {
+        from = skip_below(source, from, CLASS, to_usize(body[p + 3]));
+        if !kept_at(source, from, target, targets, body, p, e) {
             return false;
         }
         p = e;
@@ -122,16 +130,9 @@ fn mappings_fit(
 }
 
 // The mapping is as required.
-pub fn mapping_fits(
-    source: &[u8],
-    sources: &[u16],
-    target: &[u8],
-    targets: &[u16],
-    body: &[u8],
-    uses: &[u8],
-) -> bool
-    requires { ⌜ ((f : Translation) × Ready (now source) (now sources) (now target) (now targets) (now body) (now uses) f) ⌝ }
-    ensures { λ r. ⌜ ((f : Translation) → Ready (now (source .entry)) (now (sources .entry)) (now (target .entry)) (now (targets .entry)) (now (body .entry)) (now (uses .entry)) f → r ≡ mappingFits f) ⌝ }
+pub fn mapping_fits(source: &[u8], target: &[u8], targets: &[u16], body: &[u8], uses: &[u8]) -> bool
+    requires { ⌜ ((f : Translation) × Ready (now source) (now target) (now targets) (now body) (now uses) f) ⌝ }
+    ensures { λ r. ⌜ ((f : Translation) → Ready (now (source .entry)) (now (target .entry)) (now (targets .entry)) (now (body .entry)) (now (uses .entry)) f → r ≡ mappingFits f) ⌝ }
 {
     let mut marked = [false; 32];
     mark_entries(source, &mut marked);
@@ -140,5 +141,5 @@ pub fn mapping_fits(
     }
     let mut reached = [false; 32];
     mark_entries(target, &mut reached);
-    mappings_fit(source, sources, target, targets, body, &marked, &reached)
+    mappings_fit(source, target, targets, body, &marked, &reached)
 }

@@ -30,7 +30,7 @@ use Rattle.checks.proofs.TreeChain.{accepts}
 use Rattle.putting.specs.Inner.Answering.{Gives}
 use Rattle.putting.proofs.Reading.{same-done, deep-not, broken-not, then-done}
 use Rattle.putting.proofs.Answering.{gives-long, gives-fit}
-use Rattle.xml.specs.Text.{export, exportAll}
+use Rattle.texts.specs.Text.{export, exportAll}
 use Rattle.xml.specs.Operations.{exportText, exportTree}
 use Rattle.xml.specs.declared.measure.Measured.{Measured}
 use Rattle.xml.specs.declared.measure.Measured.the-variants.{End, Deep, Broken}

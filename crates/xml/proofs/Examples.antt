@@ -4,7 +4,7 @@ use mathlib.Core.List.{[], _∷_, _++_}
 use Rattle.fields.specs.Lists.{first}
 use Rattle.language.specs.Language.{Language, range, class, production, argumentsAt, argumentsOf}
 use Rattle.reader.specs.Code.{node, token, nil, cons}
-use Rattle.xml.specs.Text.{decimalBy, decimal, nodeTag, tokenTag, kindsOf, export, exportAll}
+use Rattle.texts.specs.Text.{decimalBy, decimal, nodeTag, tokenTag, kindsOf, export, exportAll}
 
 -- Minutes of 1 to 240, row 1.1 and twice 1.4.
 abbrev strap : Language

@@ -19,9 +19,10 @@ use Rattle.reader.specs.Inner.Positions.{productionPlace, KindsIn}
 use Rattle.reader.specs.declared.node.Syntax.the-variants.{Tree}
 use Rattle.reader.proofs.Laws.{name-in, kinds-in}
 use Rattle.putting.proofs.Reading.{ReadToken, ReadNode, read-token, read-deep, read-production, found-name, same-done, then-done}
-use Rattle.xml.specs.Text.{decimal, nodeTag, tokenTag, openNode, closeNode, openToken, closeToken, export, exportAll}
+use Rattle.texts.specs.Text.{decimal, nodeTag, tokenTag, openNode, closeNode, openToken, closeToken, export, exportAll}
 use Rattle.xml.specs.Inner.Exporting.{TreeAsks, TreesAsk, Exported}
-use Rattle.xml.proofs.Puts.{written-then, written-same, token-length, node-length}
+use Rattle.texts.proofs.Stores.{written-then}
+use Rattle.xml.proofs.Puts.{written-same, token-length, node-length}
 use Rattle.xml.proofs.Reading.{token-text, node-text}
 
 -- export_all, a turn at a time: `text` is written, `operands` are left.

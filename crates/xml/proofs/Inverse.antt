@@ -14,11 +14,11 @@ use Rattle.reader.specs.Operations.{treeLevels, wholeTree, treeOf}
 use Rattle.reader.proofs.Larger.{apart}
 use Rattle.reader.proofs.Sound.{read-done}
 use Rattle.translation.proofs.Fitting.{refuse-value}
-use Rattle.xml.specs.Text.{export}
-use Rattle.xml.specs.Import.{readText}
+use Rattle.texts.specs.Text.{export}
+use Rattle.texts.specs.Import.{readText}
 use Rattle.xml.specs.Operations.{wholeText, importOf}
 use Rattle.xml.specs.Laws.{LawOfExports, LawOfImports, LawOfTexts}
-use Rattle.xml.proofs.Round.{round, sound}
+use Rattle.texts.proofs.Round.{round, sound}
 
 value-same : {a b : Code} → value a ≡ value b → a ≡ b
 value-same e = cc

@@ -1,15 +1,9 @@
-pub mod Decimal
-pub mod Round
-pub mod Words
 pub mod Inverse
 pub mod Puts
 pub mod Reading
 pub mod Exports
 pub mod Measures
+pub mod Sizes
 pub mod Answers
-pub mod Scans
-pub mod Imports
-pub mod Takes
-pub mod Held
 pub mod Whole
 pub mod Examples

@@ -1,37 +1,19 @@
--- Texts written one behind the other, tags and decimals.
+-- Tags and decimals, written.
 use Prim.Native.Nat.{ℕ, suc, _+_, _*_, _/_, _%_, _-_, _<_, _≤_}
 use mathlib.Core.Path.{_≡_, refl, sym, ap, _∙_}
 use mathlib.Core.List.{List, [], _∷_, _++_, append-assoc}
 use native.Mathlib.Omega.{arith}
-use lib.ListN.{length, take, drop, set, length-append}
-use lib.Seq.{sets, sets-eq}
-use Rattle.fields.specs.Inner.Writing.{spliced, Written}
-use Rattle.fields.proofs.Splices.{splice-splice}
-use Rattle.xml.specs.Text.{decimal, nodeTag, tokenTag, openNode, closeNode, openToken, closeToken, point, tagEnd}
-use Rattle.xml.proofs.Decimal.{decimal-small, decimal-large}
-
--- Bytes set one behind the other.
-pub set-stored : (o : List ℕ) (n : ℕ) (v : List ℕ) → n + length v ≤ length o → sets o n v ≡ spliced o n v
-unfolding spliced
-set-stored o n v h = sets-eq v o n h ∙ append-assoc (take n o) v (drop (n + length v) o)
-
-pub store-in : (o : List ℕ) (n b : ℕ) → n < length o → set o n b ≡ spliced o n (b ∷ [])
-store-in o n b h = set-stored o n (b ∷ []) (omega arith)
+use lib.ListN.{length, set, length-append}
+use Rattle.fields.specs.Inner.Writing.{Written}
+use Rattle.texts.specs.Text.{decimal, nodeTag, tokenTag, openNode, closeNode, openToken, closeToken, point, tagEnd}
+use Rattle.texts.proofs.Stores.{store-in}
+use Rattle.texts.proofs.Decimal.{decimal-small, decimal-large}
 
 -- write_byte and write_digit
 pub written-byte : (o : List ℕ) (n b : ℕ) → n < length o → Written (b ∷ []) o (set o n b) n (n + 1)
 written-byte o n b h = record { end = refl; fits = omega arith; bytes = store-in o n b h }
 
--- One text behind another, and the same text said in another way.
-pub written-then : {v u o o₁ o₂ : List ℕ} {n m k : ℕ} → Written v o o₁ n m → length o₁ ≡ length o → Written u o₁ o₂ m k → Written (v ++ u) o o₂ n k
-written-then {v} {u} {o} {o₁} {o₂} {n} {m} {k} a l b =
-    let f : n + length v ≤ length o = omega (arith, a .end, a .fits) in
-    record {
-      end = omega (arith, length-append v u, a .end, b .end);
-      fits = omega (arith, b .fits);
-      bytes = b .bytes ∙ (ap (λ (p : List ℕ). spliced p m u) (a .bytes) ∙ (ap (λ (j : ℕ). spliced (spliced o n v) j u) (a .end) ∙ splice-splice o n v f u));
-    }
-
+-- The same text said in another way.
 pub written-same : {v u o o′ : List ℕ} {n m : ℕ} → v ≡ u → Written v o o′ n m → Written u o o′ n m
 written-same e w = rw (← e) w
 

@@ -9,7 +9,7 @@ use Rattle.fields.specs.Fields.{pairAt}
 use Rattle.language.specs.Language.{Language, argumentsOf}
 use Rattle.reader.specs.Code.{Code, node, Codes}
 use Rattle.putting.proofs.Reading.{ReadToken, ReadNode}
-use Rattle.xml.specs.Text.{decimal, nodeTag, tokenTag, openNode, closeNode, openToken, closeToken, kindsOf, export, exportAll}
+use Rattle.texts.specs.Text.{decimal, nodeTag, tokenTag, openNode, closeNode, openToken, closeToken, kindsOf, export, exportAll}
 
 pub token-text : (l : Language) (k : ℕ) {b : List ℕ} {at : ℕ} {a : Code} {rest : List ℕ} → ReadToken b at a rest
     → export l k a ≡ tokenTag openToken k ++ (decimal (pairAt b at) ++ tokenTag closeToken k)

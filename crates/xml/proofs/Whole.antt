@@ -1,14 +1,14 @@
 -- What import answers: a law for each return of `import_text`, `import_kind` and `import`.
-use Prim.Native.Nat.{ℕ, _+_, _<_, _≤_}
+use Prim.Native.Nat.{ℕ, _<_, _≤_}
 use mathlib.Core.Path.{_≡_, refl, sym, ap, _∙_}
-use mathlib.Core.Bool.{Bool, true, false, not}
-use mathlib.Core.List.{List, [], _∷_}
+use mathlib.Core.Bool.{Bool, true, false}
+use mathlib.Core.List.{List, []}
 use mathlib.Core.Option.{some}
 use native.Mathlib.Omega.{arith}
 use lib.ListN.{length, getD, drop, drop-of-length-le}
 use lib.Dec.{leb}
 use borrow.Author.Tests.{leb-true, leb-false}
-use Rattle.fields.specs.Outcome.{Result, value, refused, _>>=_, checked, written, outputAfter}
+use Rattle.fields.specs.Outcome.{Result, value, refused, _>>=_, checked}
 use Rattle.fields.specs.Inner.Writing.{spliced}
 use Rattle.fields.specs.declared.outcome.Outcome.{Outcome}
 use Rattle.fields.specs.declared.outcome.Outcome.the-variants.{Accepted, Refused}
@@ -19,62 +19,40 @@ use Rattle.fields.proofs.Split.{front}
 use Rattle.language.specs.Language.{Language, isIn}
 use Rattle.language.specs.LanguageFile.{languageOf, entriesOf}
 use Rattle.language.specs.Operations.{checkLanguage}
-use Rattle.reader.specs.Code.{Code, Codes, nil, cons}
-use Rattle.reader.specs.Syntax.{Read, done, deep, broken, andThen, readAll, write, tree}
+use Rattle.reader.specs.Code.{Code}
+use Rattle.reader.specs.Syntax.{Read, done, write, tree}
 use Rattle.reader.specs.Operations.{treeLevels}
 use Rattle.reader.specs.Inner.Index.{Indexed}
 use Rattle.reader.proofs.Members.{in-below}
 use Rattle.translation.specs.Operations.{fitted}
 use Rattle.translation.proofs.Accepted.{refused-not}
 use Rattle.checks.proofs.TreeChain.{accepts}
-use Rattle.xml.specs.Import.{readText}
+use Rattle.texts.specs.Import.{readText}
 use Rattle.xml.specs.Operations.{wholeText, importOf, importBytes, importTree}
-use Rattle.xml.specs.declared.import.Text.{Text}
-use Rattle.xml.specs.declared.import.Text.the-variants.{End, Deep, Broken}
-use Rattle.xml.specs.Inner.Importing.{Inside, ImportsTrees}
-use Rattle.xml.specs.Inner.Contents.{Contents}
-use Rattle.putting.specs.Inner.Answering.{Gives}
+use Rattle.texts.specs.declared.import.Text.{Text}
+use Rattle.texts.specs.declared.import.Text.the-variants.{End, Deep, Broken}
+use Rattle.texts.specs.Inner.Importing.{Inside, ImportsTree}
+use Rattle.texts.specs.Inner.Contents.{Contents}
 use Rattle.xml.specs.Inner.Answering.{GivesWhole, GivesImport}
 use Rattle.xml.proofs.Answers.{gives-refused, gives-same}
-use Rattle.xml.proofs.Held.{held-whole}
+use Rattle.texts.proofs.Held.{held-whole}
 use Rattle.putting.proofs.Answering.{gives-long, gives-fit}
-use Rattle.putting.proofs.Reading.{same-done, deep-not, broken-not}
 
 -- What a reading comes to, with so much room.
 abbrev result : ℕ → Read Code → Result (List ℕ)
 result room p = wholeText p >>= λ t. fitted room (write tree t)
 
--- The reading of one tree, and that of a list with one tree.
-one-deep : (p : Read Code) → (andThen p λ a r. done (cons a nil) r) ≡ deep → p ≡ deep
-one-deep (done a r) e = let z : _≡_ {A = ℕ} 0 1 = cc in absurd (omega arith)
-one-deep deep e = refl
-one-deep broken e = let z : _≡_ {A = ℕ} 0 1 = cc in absurd (omega arith)
-
-one-broken : (p : Read Code) → (andThen p λ a r. done (cons a nil) r) ≡ broken → p ≡ broken
-one-broken (done a r) e = let z : _≡_ {A = ℕ} 0 1 = cc in absurd (omega arith)
-one-broken deep e = let z : _≡_ {A = ℕ} 0 1 = cc in absurd (omega arith)
-one-broken broken e = refl
-
-one-done : (p : Read Code) {t : Codes} {u : List ℕ} → (andThen p λ a r. done (cons a nil) r) ≡ done t u → (a : Code) × (p ≡ done a u)
-one-done (done a r) {t} {u} e = (a, ap (done a) (same-done (cons a nil) t r u e .1))
-one-done deep e = deep-not e
-one-done broken e = broken-not e
-
 -- import_text
-module _ (s index : List ℕ) (k : ℕ) (text o : List ℕ) {x : Text} (first : ImportsTrees (k ∷ []) s index 0 1 text 0 treeLevels x) where
-  only : (l : Language) {p : Read Code} → readText l treeLevels k text ≡ p → readAll (readText l treeLevels) (k ∷ []) text ≡ (andThen p λ a r. done (cons a nil) r)
-  unfolding readAll
-  only l e = ap (λ (p : Read Code). andThen p λ a r. done (cons a nil) r) e
-
+module _ (s index : List ℕ) (k : ℕ) (text o : List ℕ) {x : Text} (first : ImportsTree s index k text 0 treeLevels x) where
   pub text-deep : {out : Outcome} → x ≡ Deep → out ≡ Refused Why.TooDeep → GivesWhole s index k text o o out
-  text-deep h i l z = gives-refused _ o Why.TooDeep (ap (result (length o)) (one-deep (readText l treeLevels k text) (sym (only l refl) ∙ first l z .deep h))) i
+  text-deep h i l z = gives-refused _ o Why.TooDeep (ap (result (length o)) (first l z .deep h)) i
 
   pub text-broken : {out : Outcome} → x ≡ Broken → out ≡ Refused Why.NotAnExport → GivesWhole s index k text o o out
-  text-broken h i l z = gives-refused _ o Why.NotAnExport (ap (result (length o)) (one-broken (readText l treeLevels k text) (sym (only l refl) ∙ first l z .broken h))) i
+  text-broken h i l z = gives-refused _ o Why.NotAnExport (ap (result (length o)) (first l z .broken h)) i
 
   module _ {e : ℕ} (ex : x ≡ End e) (inside : Inside text x) where
     one : (l : Language) → Indexed index s l → (a : Code) × (readText l treeLevels k text ≡ done a (drop e text))
-    one l z = let f = first l z .found e ex in one-done (readText l treeLevels k text) (sym (only l refl) ∙ f .1)
+    one l z = first l z .found e ex
 
     pub text-left : {out : Outcome} → (e ≡ length text → ⊥) → out ≡ Refused Why.NotAnExport → GivesWhole s index k text o o out
     text-left h i l z =

@@ -2,6 +2,3 @@
 pub mod Exporting
 pub mod Measuring
 pub mod Answering
-pub mod Scanning
-pub mod Importing
-pub mod Contents

@@ -8,7 +8,7 @@ use Rattle.language.specs.LanguageFile.{languageOf}
 use Rattle.reader.specs.Code.{Code, levels}
 use Rattle.reader.specs.Typing.{Typed}
 use Rattle.reader.specs.Operations.{treeLevels, treeOf}
-use Rattle.xml.specs.Text.{export}
+use Rattle.texts.specs.Text.{export}
 use Rattle.xml.specs.Operations.{importOf}
 
 -- Import of the export of a legal tree gives the tree.

@@ -1,5 +1,3 @@
-pub mod Text
-pub mod Import
 pub mod Operations
 pub mod Laws
 pub mod Inner

@@ -11,8 +11,8 @@ use Rattle.reader.specs.Code.{Code}
 use Rattle.reader.specs.Syntax.{Read, done, deep, broken, write, tree}
 use Rattle.reader.specs.Operations.{treeLevels, treeOf}
 use Rattle.translation.specs.Operations.{fitted, Ran}
-use Rattle.xml.specs.Text.{export}
-use Rattle.xml.specs.Import.{readText}
+use Rattle.texts.specs.Text.{export}
+use Rattle.texts.specs.Import.{readText}
 
 -- What was read, with nothing after it: 16 and 20 in reading order, last 20 for text that is left over.
 abbrev pub wholeText : Read Code → Result Code

@@ -15,7 +15,7 @@ ghost use Rattle.language.specs.Language.{Language};
 ghost use Rattle.reader.specs.Code.{Code, Codes};
 ghost use Rattle.reader.specs.Inner.Index.{Sound, Ready};
 ghost use Rattle.reader.specs.Inner.Positions.{KindsIn};
-ghost use Rattle.xml.specs.Text.{export as exportOf, exportAll};
+ghost use Rattle.texts.specs.Text.{export as exportOf, exportAll};
 ghost use Rattle.xml.specs.Inner.Exporting.{TreeAsks, TreesAsk, Exported};
 
 // Where a tree ends, and where its export does.

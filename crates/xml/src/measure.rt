@@ -6,16 +6,18 @@ use language::range::in_range;
 use reader::node::Syntax;
 use reader::node::place_at;
 use reader::node::production_place;
+use texts::import::kind_at;
+ghost use mathlib.Core.List.{[], _∷_};
 ghost use mathlib.Core.Option.{some};
 ghost use Prim.Native.Nat.{_+_, _-_, _<_, _≤_};
 ghost use lib.ListN.{length, drop};
 ghost use Rattle.language.specs.Language.{Language};
 ghost use Rattle.language.specs.Inner.Entries.{IsClass, classRange};
 ghost use Rattle.reader.specs.Syntax.{readToken};
-ghost use Rattle.reader.specs.Inner.Index.{Sound, Ready};
-ghost use Rattle.reader.specs.Inner.Positions.{KindsIn};
-ghost use Rattle.xml.specs.Text.{export, nodeTag, openNode, closeNode};
-ghost use Rattle.xml.specs.Inner.Measuring.{Sum, Within, Measures, MeasuresTree, MeasuresTrees};
+ghost use Rattle.reader.specs.Operations.{treeLevels};
+ghost use Rattle.reader.specs.Inner.Index.{Ready};
+ghost use Rattle.texts.specs.Text.{export, nodeTag, openNode, closeNode};
+ghost use Rattle.xml.specs.Inner.Measuring.{Sum, Within, Reaches, Measures, MeasuresTrees};
 
 // The position behind a tree and the length of the exports so far; one level too many; or bytes that are no tree.
 pub enum Measured {
@@ -23,6 +25,9 @@ pub enum Measured {
     Deep,
     Broken,
 }
+
+// A tree has at most 64 levels.
+const LEVELS: usize = 64;
 
 // No output is longer than this.
 const MOST: usize = 9223372036854775807;
@@ -53,7 +58,7 @@ fn measure_token(
     n: usize,
 ) -> Measured
     requires { ⌜ (0 < class) × IsClass (now language) (class - 1) × (at ≤ length (now tree)) ⌝ }
-    ensures { λ r. ⌜ Within (now (tree .entry)) r
+    ensures { λ r. ⌜ Reaches (now (tree .entry)) at r
         × ((l : Language) → Measures (export l kind) (readToken (some (classRange (now (language .entry)) (class - 1))) (drop at (now (tree .entry)))) (now (tree .entry)) n r) ⌝ }
 {
     if tree.len() - at < 2 {
@@ -77,82 +82,60 @@ fn plus_tags(n: usize, kind: u8, name: u8) -> usize
     )
 }
 
-// The tree of a kind at a position. It calls itself on the arguments, one level fewer.
-fn measure_at(
-    language: &[u8],
-    index: &[u16],
-    kind: u8,
-    tree: &[u8],
-    at: usize,
-    levels: usize,
-    n: usize,
-) -> Measured
-    requires { ⌜ Ready (now index) (now language) kind (now tree) at ⌝ }
+// The tree of a kind at the front of some bytes. The rows above the one that is read wait in two tables, the outermost first.
+pub fn measure_all(language: &[u8], index: &[u16], root: u8, tree: &[u8]) -> Measured
+    requires { ⌜ Ready (now index) (now language) root (now tree) 0 ⌝ }
     ensures { λ r. ⌜ Within (now (tree .entry)) r
-        × MeasuresTree (now (language .entry)) (now (index .entry)) kind (now (tree .entry)) at levels n r ⌝ }
+        × MeasuresTrees (root ∷ []) (now (language .entry)) (now (index .entry)) 0 1 (now (tree .entry)) 0 treeLevels 0 r ⌝ }
 {
-    let class = place_at(index, to_usize(kind));
-    if class != 0 {
-        return measure_token(language, class, kind, tree, at, n);
-    }
-    if levels == 0 {
-        return Measured::Deep;
-    }
-    let place = production_place(Syntax::Tree, index, class, kind, tree, at);
-    if place == 0 {
-        return Measured::Broken;
-    }
-    let m = plus_tags(n, kind, tree[at]);
-    let stop = place + 2 + pair_in(language, place);
-    if stop <= place + 4 {
-        return Measured::End(at + 1, m);
-    }
-    measure_all(
-        language,
-        language,
-        index,
-        place + 4,
-        stop,
-        tree,
-        at + 1,
-        levels - 1,
-        m,
-    )
-}
-
-// The trees whose kinds stand among some from `from` up to `stop`, one after the other.
-pub fn measure_all(
-    kinds: &[u8],
-    language: &[u8],
-    index: &[u16],
-    from: usize,
-    stop: usize,
-    tree: &[u8],
-    at: usize,
-    levels: usize,
-    n: usize,
-) -> Measured
-    requires { ⌜ Sound (now index) (now language) × KindsIn (now kinds) from stop × (at ≤ length (now tree)) ⌝ }
-    ensures { λ r. ⌜ Within (now (tree .entry)) r
-        × MeasuresTrees (now (kinds .entry)) (now (language .entry)) (now (index .entry)) from stop (now (tree .entry)) at levels n r ⌝ }
-{
-    let mut q = from;
-    let mut to = at;
-    let mut m = n;
-    while q < stop {
-        match measure_at(language, index, kinds[q], tree, to, levels, m) {
-            Measured::End(e, k) => {
-                to = e;
-                m = k;
-                q += 1;
+    let mut firsts = [0u16; LEVELS];
+    let mut lasts = [0u16; LEVELS];
+    let mut depth = 0;
+    let mut q = 0;
+    let mut end = 1;
+    let mut to = 0;
+    let mut n = 0;
+    loop {
+        if end <= q {
+            if depth == 0 {
+                return Measured::End(to, n);
             }
-            Measured::Deep => {
-                return Measured::Deep;
-            }
-            Measured::Broken => {
-                return Measured::Broken;
+            depth -= 1;
+            q = firsts[depth] as usize;
+            end = lasts[depth] as usize;
+            continue;
+        }
+        let kind = kind_at(language, root, depth, q);
+        let class = place_at(index, to_usize(kind));
+        q += 1;
+        if class != 0 {
+            match measure_token(language, class, kind, tree, to, n) {
+                Measured::End(e, m) => {
+                    to = e;
+                    n = m;
+                    continue;
+                }
+                Measured::Deep => {
+                    return Measured::Deep;
+                }
+                Measured::Broken => {
+                    return Measured::Broken;
+                }
             }
         }
+        if depth == LEVELS {
+            return Measured::Deep;
+        }
+        let place = production_place(Syntax::Tree, index, class, kind, tree, to);
+        if place == 0 {
+            return Measured::Broken;
+        }
+        n = plus_tags(n, kind, tree[to]);
+        firsts[depth] = q as u16;
+        lasts[depth] = end as u16;
+        depth += 1;
+        q = place + 4;
+        end = place + 2 + pair_in(language, place);
+        to += 1;
     }
-    Measured::End(to, m)
 }

@@ -1,9 +1,5 @@
 // The operations export and import.
-use crate::contents::has_room;
-use crate::contents::write_contents;
 use crate::export::export_all;
-use crate::import::Text;
-use crate::import::texts_at;
 use crate::measure::Measured;
 use crate::measure::measure_all;
 use fields::outcome::Answer;
@@ -15,6 +11,10 @@ use language::check::check_language;
 use reader::index::INDEX;
 use reader::index::build;
 use reader::kinds::is_in;
+use texts::contents::has_room;
+use texts::contents::write_contents;
+use texts::import::Text;
+use texts::import::text_at;
 ghost use mathlib.Core.Path.{_≡_};
 ghost use mathlib.Core.Option.{some};
 ghost use Prim.Native.Nat.{_<_, _≤_};
@@ -35,7 +35,7 @@ fn export_tree(language: &[u8], index: &[u16], kind: u8, tree: &[u8], output: &m
     ensures { λ r. ⌜ GivesTree (now (language .entry)) (now (index .entry)) kind (now (tree .entry)) (now (output .entry)) (now (output .exit)) (r .outcome) ⌝ }
 {
     let kinds = [kind];
-    match measure_all(&kinds, language, index, 0, 1, tree, 0, LEVELS, 0) {
+    match measure_all(language, index, kind, tree) {
         Measured::End(e, length) => {
             if e != tree.len() {
                 return refuse(Reason::IllegalTree);
@@ -85,8 +85,7 @@ fn import_text(language: &[u8], index: &[u16], kind: u8, text: &[u8], output: &m
     requires { ⌜ Ready (now index) (now language) kind (now text) 0 ⌝ }
     ensures { λ r. ⌜ GivesWhole (now (language .entry)) (now (index .entry)) kind (now (text .entry)) (now (output .entry)) (now (output .exit)) (r .outcome) ⌝ }
 {
-    let kinds = [kind];
-    match texts_at(&kinds, language, index, 0, 1, text, 0, LEVELS) {
+    match text_at(language, index, kind, text) {
         Text::End(e) => {
             if e != text.len() {
                 return refuse(Reason::NotAnExport);

@@ -9,7 +9,7 @@ use lib.ListN.{length, getD, set}
 use lib.Seq.{slice}
 use lib.Dec.{eqb}
 use Rattle.fields.specs.Fields.{pairAt}
-use Rattle.fields.specs.Inner.Places.{fieldEnd, slotAt}
+use Rattle.fields.specs.Inner.Places.{fieldEnd, places, slotAt}
 use Rattle.language.specs.Language.{Language, Range, rangeOf, argumentsOf, kindKey, productionKey}
 use Rattle.language.specs.LanguageFile.{entriesOf}
 use Rattle.language.specs.Inner.Entries.{classRange, IsClass}
@@ -21,7 +21,7 @@ indexLength = 8224
 
 -- How many numbers the table of a run has.
 abbrev pub tableLength : ℕ
-tableLength = 29760
+tableLength = 26184
 
 -- The range in the field before `place`.
 abbrev pub rangeBefore : List ℕ → ℕ → Option Range
@@ -41,6 +41,19 @@ putAt index key v = cond (eqb (getD index key 0) 0) (set index key v) index
 unfoldable pub putAll : ℕ → List ℕ → List ℕ → List ℕ → List ℕ
 putAll first s index [] = index
 putAll first s index (p ∷ l) = putAll first s (putAt index (slotAt first s p) (p + 1)) l
+
+-- The index of s stands in a table t from a on, which was all zero there. The first entries of s have the tag `first`.
+pub record Built (first : ℕ) (s t : List ℕ) (a : ℕ) : Type 0 where
+  pub zeros : List ℕ
+  pub long : length zeros ≡ indexLength
+  pub zero : (j : ℕ) → getD zeros j 0 ≡ 0
+  pub is : (j : ℕ) → j < indexLength → getD t (a + j) 0 ≡ getD (putAll first s zeros (places s)) j 0
+
+-- The table u is t but from a up to e.
+pub record Around (t u : List ℕ) (a e : ℕ) : Type 0 where
+  pub long : length u ≡ length t
+  pub below : (j : ℕ) → j < a → getD u j 0 ≡ getD t j 0
+  pub past : (j : ℕ) → e ≤ j → getD u j 0 ≡ getD t j 0
 
 -- What a lookup may rely on: each place is that of a whole field.
 pub record Sound (index s : List ℕ) : Type 0 where

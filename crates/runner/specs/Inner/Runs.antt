@@ -19,7 +19,8 @@ use Rattle.translation.specs.Operations.{fitted}
 use Rattle.measure.specs.Cost.{cost}
 use Rattle.measure.specs.declared.measure.Measured.{Measured}
 use Rattle.measure.specs.Inner.Measuring.{EndsIn, sizedAt, sizedOf}
-use Rattle.tables.specs.Inner.Filling.{Begun}
+use Rattle.tables.specs.Inner.Table.{Ready, Checked}
+use Rattle.reader.specs.Inner.Index.{Built}
 use Rattle.emitter.specs.Inner.Runs.{Right}
 use Rattle.runner.specs.Operations.{reported}
 
@@ -50,9 +51,14 @@ pub record Reads (f : Translation) (kind number : ℕ) (ends bytes : List ℕ) (
   pub is : read tree (f .source) [] 64 kind bytes ≡ done t []
   pub kept : Right Tree ends bytes (f .source) []
 
--- What measuring leaves: the index of the source s in the table, where parts of the tree end, and what it came to.
-pub record Measures (s table ends : List ℕ) (f : Translation) (kind number : ℕ) (bytes : List ℕ) (top : ℕ) (r : Measured) : Type 0 where
-  pub begun : Begun s table
+-- What measuring leaves: where parts of the tree end, and what it came to.
+pub record Measures (ends : List ℕ) (f : Translation) (kind number : ℕ) (bytes : List ℕ) (top : ℕ) (r : Measured) : Type 0 where
   pub is : (u : ℕ) → mappingOf (f .body) kind number ≡ some u → sizedAt bytes r ≡ sizedOf top f number (read tree (f .source) [] 64 kind bytes)
   pub within : EndsIn (length bytes) top r
   pub kept : Right Tree ends bytes (f .source) []
+
+-- The table of a translation f that was accepted, whose parts are s, t and b: it is filled, and the source's index stands in it.
+pub record Prepared (s t b table : List ℕ) (f : Translation) : Type 0 where
+  pub checked : Checked s t b f
+  pub ready : Ready table f
+  pub index : Built 0x11 s table 0

@@ -1,46 +1,38 @@
 -- What the functions that fill the table ask for and give.
 use Prim.Native.Nat.{ℕ, _+_, _-_, _*_, _<_, _≤_}
 use mathlib.Core.Path.{_≡_}
-use mathlib.Core.Bool.{true}
+use mathlib.Core.Bool.{true, cond, _&&_}
 use mathlib.Core.List.{List}
-use lib.ListN.{length, getD, take}
-use Rattle.fields.specs.Fields.{byteAt}
-use Rattle.fields.specs.Inner.Places.{places}
-use Rattle.language.specs.Language.{Language}
+use lib.ListN.{length, getD, drop, set}
+use lib.Dec.{eqb, ltb}
+use Rattle.fields.specs.Fields.{byteAt, pairAt}
+use Rattle.language.specs.Language.{Language, productionKey}
 use Rattle.reader.specs.Code.{Code, levels}
 use Rattle.reader.specs.Typing.{Uses, Typed}
 use Rattle.reader.specs.Syntax.{write, code}
-use Rattle.reader.specs.Inner.Index.{Indexed, putAll}
 use Rattle.translation.specs.Translation.{Translation}
 use Rattle.translation.specs.Running.{clausesOf}
 use Rattle.translation.specs.Inner.Items.{isClauseTag}
-use Rattle.fields.specs.Inner.Writing.{spliced}
 use Rattle.tables.specs.Inner.Stands.{Stands}
-use Rattle.reader.specs.Inner.Index.{indexLength, tableLength}
-use Rattle.tables.specs.Inner.Table.{itemsStart, spansStart, hintsStart, hintEntry, sourceByte, bodyByte, SpansAt, codeStart, clauseNumber, isPlace}
+use Rattle.reader.specs.Inner.Index.{indexLength, tableLength, Built, Around, Indexed}
+use Rattle.tables.specs.Inner.Table.{itemsStart, sourceStart, spansStart, hintsStart, clauseEntry, hintEntry, sourceByte, bodyByte, SpansAt, codeStart, clauseNumber, isPlace}
 
--- The index of the source s stands in the table t, which is all zero besides.
-pub record Begun (s t : List ℕ) : Type 0 where
-  pub zeros : List ℕ
-  pub long : length zeros ≡ tableLength
-  pub zero : (j : ℕ) → getD zeros j 0 ≡ 0
-  pub is : t ≡ spliced zeros 0 (putAll 0x11 s (take indexLength zeros) (places s))
+-- The part of the table in which the index of the target stands first.
+abbrev pub targetIndex : List ℕ → List ℕ
+targetIndex t = drop itemsStart t
 
--- The index of s stands in the table from a on. The first entries of s have the tag `first`.
-pub record Built (first : ℕ) (s t : List ℕ) (a : ℕ) : Type 0 where
-  pub zeros : List ℕ
-  pub long : length zeros ≡ indexLength
-  pub zero : (j : ℕ) → getD zeros j 0 ≡ 0
-  pub is : (j : ℕ) → j < indexLength → getD t (a + j) 0 ≡ getD (putAll first s zeros (places s)) j 0
-
--- The table but for the spans: of the source s and the body b.
-pub record Filled (s b t : List ℕ) : Type 0 where
+-- The indexes of the source s and of the target g stand in the table t, and its hints are all zero.
+pub record Begun (s g t : List ℕ) : Type 0 where
   pub long : length t ≡ tableLength
-  pub index : Built 0x11 s t 0
-  pub items : Built 0x22 b t itemsStart
-  pub source : (j : ℕ) → j < length s → sourceByte t j ≡ getD s j 0
-  pub body : (j : ℕ) → j < length b → bodyByte t j ≡ getD b j 0
+  pub source : Built 0x11 s t 0
+  pub target : Built 0x11 g t itemsStart
   pub hints : (i : ℕ) → hintEntry t i ≡ 0
+
+-- The table u is t with the bytes of the source s and of the body b.
+pub record Filled (s b t u : List ℕ) : Type 0 where
+  pub around : Around t u sourceStart spansStart
+  pub source : (j : ℕ) → j < length s → sourceByte u j ≡ getD s j 0
+  pub body : (j : ℕ) → j < length b → bodyByte u j ≡ getD b j 0
 
 -- The kind that kind k maps to by number j, by the table of uses; 0 where it is not mapped.
 unfoldable pub mappedBy : List ℕ → ℕ → ℕ → ℕ
@@ -90,3 +82,22 @@ pub record AllSpanned (b t u : List ℕ) (f : Translation) : Type 0 where
   pub below : Below t u 0
   pub spans : (x : ℕ) → isPlace b x ≡ true → isClauseTag (byteAt b x) ≡ true
       → SpansAt u (codeStart b x) (clausesOf f (byteAt b (x + 3)) (byteAt b (x + 4)) (clauseNumber b x))
+
+-- The table t with the place of the clause at x of the body b, where that is one of number 0, at its key.
+unfoldable pub withClause : List ℕ → ℕ → List ℕ → List ℕ
+withClause b x t =
+    cond (eqb (byteAt b x) 0x23 && ltb (32 + pairAt b (x + 3)) indexLength) (set t (itemsStart + (32 + pairAt b (x + 3))) (x + 1)) t
+
+-- At the key of kind k and name p stands the place of a clause of theirs, of number 0.
+pub record ItemAt (b t : List ℕ) (k p : ℕ) : Type 0 where
+  pub place : ℕ
+  pub is : clauseEntry t (productionKey k p) ≡ place + 1
+  pub there : isPlace b place ≡ true
+  pub tag : byteAt b place ≡ 0x23
+  pub kind : byteAt b (place + 3) ≡ k
+  pub name : byteAt b (place + 4) ≡ p
+
+-- The table u is t with the places of the clauses of number 0 of the body b.
+pub record Itemed (b t u : List ℕ) : Type 0 where
+  pub around : Around t u itemsStart sourceStart
+  pub items : (x : ℕ) → isPlace b x ≡ true → byteAt b x ≡ 0x23 → byteAt b (x + 3) < 32 → ItemAt b u (byteAt b (x + 3)) (byteAt b (x + 4))

@@ -13,8 +13,8 @@ use Rattle.reader.specs.Operations.{treeLevels, wholeTree, treeOf}
 use Rattle.reader.specs.Inner.Index.{Indexed}
 use Rattle.translation.specs.Operations.{fitted}
 use Rattle.putting.specs.Inner.Answering.{Gives}
-use Rattle.xml.specs.Text.{export}
-use Rattle.xml.specs.Import.{readText}
+use Rattle.texts.specs.Text.{export}
+use Rattle.texts.specs.Import.{readText}
 use Rattle.xml.specs.Operations.{wholeText, importOf}
 
 -- The outcome, and the output that is left, are those of the export of the tree of kind k that the bytes b are, with nothing

@@ -9,7 +9,7 @@ use Rattle.language.specs.Language.{Language}
 use Rattle.reader.specs.Code.{Code, Codes}
 use Rattle.reader.specs.Syntax.{done, read, readAll, tree}
 use Rattle.reader.specs.Inner.Index.{Indexed}
-use Rattle.xml.specs.Text.{export, exportAll}
+use Rattle.texts.specs.Text.{export, exportAll}
 
 -- The tree a of kind k stands at `at`, before `rest`, and its export has room from n on.
 pub record TreeAsks (s index : List ℕ) (k : ℕ) (b : List ℕ) (at levels room n : ℕ) (l : Language) (a : Code) (rest : List ℕ) : Type 0 where

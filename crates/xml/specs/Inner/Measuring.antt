@@ -7,7 +7,7 @@ use lib.Seq.{slice}
 use Rattle.language.specs.Language.{Language}
 use Rattle.reader.specs.Syntax.{Read, done, deep, broken, read, readAll, tree}
 use Rattle.reader.specs.Inner.Index.{Indexed}
-use Rattle.xml.specs.Text.{export, exportAll}
+use Rattle.texts.specs.Text.{export, exportAll}
 use Rattle.xml.specs.declared.measure.Measured.{Measured}
 use Rattle.xml.specs.declared.measure.Measured.the-variants.{End, Deep, Broken}
 
@@ -23,6 +23,10 @@ pub record Sum (n v m : ℕ) : Type 0 where
 -- A position that was reached lies in the bytes.
 abbrev pub Within : List ℕ → Measured → Type 0
 Within b r = (e m : ℕ) → r ≡ End e m → e ≤ length b
+
+-- It also lies behind `at`.
+abbrev pub Reaches : List ℕ → ℕ → Measured → Type 0
+Reaches b at r = (e m : ℕ) → r ≡ End e m → (at < e) × (e ≤ length b)
 
 -- The answer r says what the reading p comes to; the length of the text of what was read is added to n.
 pub record Measures {A : Type 0} (text : A → List ℕ) (p : Read A) (b : List ℕ) (n : ℕ) (r : Measured) : Type 0 where

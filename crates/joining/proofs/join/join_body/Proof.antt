@@ -1,10 +1,6 @@
 use mathlib.Core.Path.{refl}
-use native.Mathlib.Omega.{arith}
-use lib.ListN.{replicate}
 use Rattle.reader.proofs.Lookup.{zeros}
-use Rattle.tables.proofs.Tables.{begun}
-use Rattle.joining.proofs.Joined.{body-items, body-within, source-within, spelt-checked, first-below, fitted-joining}
-use borrow.Author.Needs.{needs}
+use Rattle.joining.proofs.Joined.{body-items, body-within, source-within, target-within, spelt-checked, first-below, fitted-joining}
 use borrow.Author.Needs.{needs}
 use Rattle.joining.proofs.join.join_body.Statement.{statement}
 use Rattle.joining.proofs.join.join_body.Tie as tie
@@ -12,18 +8,18 @@ use Rattle.joining.proofs.join.join_body.Reads as reads
 use Rattle.joining.proofs.join.join_body.Lts as lts
 use Rattle.joining.proofs.body.join_items.Reads as join-items-reads
 use Rattle.joining.proofs.join.number_limit.Reads as number-limit-reads
-use Rattle.reader.proofs.index.put_all.Reads as put-all-reads
+use Rattle.tables.proofs.prepare.begin.Reads as begin-reads
 use Rattle.tables.proofs.prepare.prepare.Reads as prepare-reads
 use Rattle.translation.proofs.index.put_uses.Reads as put-uses-reads
 
-put-all-requires : tie.Need-put-all-requires
-put-all-requires c κs = omega (arith, source-within _ _ _ _ (c .before .before .before .before .before .before .pre .1 .3 .first))
-
-prepare-requires : tie.Need-prepare-requires
-prepare-requires c κs = (begun _ (replicate 29760 0) refl (zeros 29760) _ (c .before .before .put-all .ensures), (_, spelt-checked _ _ _ _ (c .before .before .before .before .before .before .before .before .before .pre .1 .3 .first)))
+begin-requires : tie.Need-begin-requires
+begin-requires c κs = (source-within _ _ _ _ (c .before .before .before .before .before .before .pre .1 .3 .first), target-within _ _ _ _ (c .before .before .before .before .before .before .pre .1 .3 .first), zeros 26184)
 
 put-uses-requires : tie.Need-put-uses-requires
-put-uses-requires c κs = (body-within _ _ _ _ (c .before .before .before .before .before .before .before .before .before .before .before .pre .1 .3 .first), refl, zeros 8192, (_, body-items _ _ _ _ (c .before .before .before .before .before .before .before .before .before .before .before .pre .1 .3 .first)))
+put-uses-requires c κs = (body-within _ _ _ _ (c .before .before .before .before .before .before .before .before .pre .1 .3 .first), refl, zeros 8192, (_, body-items _ _ _ _ (c .before .before .before .before .before .before .before .before .pre .1 .3 .first)))
+
+prepare-requires : tie.Need-prepare-requires
+prepare-requires c κs = (c .before .before .before .before .before .begin .ensures, (_, spelt-checked _ _ _ _ (c .before .before .before .before .before .before .before .before .before .before .before .before .pre .1 .3 .first)))
 
 put-uses-requires-2 : tie.Need-put-uses-requires-2
 put-uses-requires-2 c κs = (body-within _ _ _ _ (c .before .before .before .before .before .before .before .before .before .before .before .before .before .before .pre .1 .3 .second .1), refl, zeros 8192, (_, body-items _ _ _ _ (c .before .before .before .before .before .before .before .before .before .before .before .before .before .before .pre .1 .3 .second .1)))
@@ -32,21 +28,20 @@ number-limit-requires : tie.Need-number-limit-requires
 number-limit-requires c κs = (_, body-items _ _ _ _ (c .before .before .before .before .before .before .before .before .before .before .before .before .before .before .before .before .pre .1 .3 .first))
 
 join-items-requires : tie.Need-join-items-requires
-join-items-requires c κs = (c .before .before .before .before .before .before .before .before .before .before .before .before .before .before .before .before .before .before .before .before .before .pre .0, (_, _, fitted-joining _ _ _ _ _ _ _ (c .before .before .before .before .before .before .before .before .before .before .before .before .before .before .before .before .before .before .before .before .before .pre .1 .3) _ _ _ _ (λ h. c .before .before .before .before .before .before .before .before .before .before .before .prepare .ensures _ h) (c .before .before .before .before .before .before .before .before .before .put-uses .ensures .1 _ (body-items _ _ _ _ ((c .before .before .before .before .before .before .before .before .before .before .before .before .before .before .before .before .before .before .before .before .before .pre .1 .3) .first))) (c .before .before .before .before .before .before .put-uses2 .ensures .1 _ (body-items _ _ _ _ ((c .before .before .before .before .before .before .before .before .before .before .before .before .before .before .before .before .before .before .before .before .before .pre .1 .3) .second .1))) (c .before .before .before .before .number-limit .ensures .1 _ (body-items _ _ _ _ ((c .before .before .before .before .before .before .before .before .before .before .before .before .before .before .before .before .before .before .before .before .before .pre .1 .3) .first)) (first-below _ _ _ _ _ _ _ (c .before .before .before .before .before .before .before .before .before .before .before .before .before .before .before .before .before .before .before .before .before .pre .1 .3))) (c .before .before .before .before .number-limit .ensures .0)))
+join-items-requires c κs = (c .before .before .before .before .before .before .before .before .before .before .before .before .before .before .before .before .before .before .before .before .before .pre .0, (_, _, fitted-joining _ _ _ _ _ _ _ (c .before .before .before .before .before .before .before .before .before .before .before .before .before .before .before .before .before .before .before .before .before .pre .1 .3) _ _ _ _ (λ h. c .before .before .before .before .before .before .before .before .prepare .ensures .1 _ h (c .before .before .before .before .before .before .before .before .before .before .before .before .put-uses .ensures .1 _ (body-items _ _ _ _ (c .before .before .before .before .before .before .before .before .before .before .before .before .before .before .before .before .before .before .before .before .before .pre .1 .3 .first)))) (c .before .before .before .before .before .before .before .before .before .before .before .before .put-uses .ensures .1 _ (body-items _ _ _ _ (c .before .before .before .before .before .before .before .before .before .before .before .before .before .before .before .before .before .before .before .before .before .pre .1 .3 .first))) (c .before .before .before .before .before .before .put-uses2 .ensures .1 _ (body-items _ _ _ _ (c .before .before .before .before .before .before .before .before .before .before .before .before .before .before .before .before .before .before .before .before .before .pre .1 .3 .second .1))) (c .before .before .before .before .number-limit .ensures .1 _ (body-items _ _ _ _ (c .before .before .before .before .before .before .before .before .before .before .before .before .before .before .before .before .before .before .before .before .before .pre .1 .3 .first)) (first-below _ _ _ _ _ _ _ (c .before .before .before .before .before .before .before .before .before .before .before .before .before .before .before .before .before .before .before .before .before .pre .1 .3))) (c .before .before .before .before .number-limit .ensures .0)))
 
 returns : tie.Need-returns
-returns c = λ f g u w. c .before .before .join-items .ensures f g (fitted-joining _ _ _ _ _ _ _ w _ _ _ _ (λ h. c .before .before .before .before .before .before .before .before .before .before .before .before .before .before .prepare .ensures _ h) (c .before .before .before .before .before .before .before .before .before .before .before .before .put-uses .ensures .1 _ (body-items _ _ _ _ (w .first))) (c .before .before .before .before .before .before .before .before .before .put-uses2 .ensures .1 _ (body-items _ _ _ _ (w .second .1))) (c .before .before .before .before .before .before .before .number-limit .ensures .1 _ (body-items _ _ _ _ (w .first)) (first-below _ _ _ _ _ _ _ w)) (c .before .before .before .before .before .before .before .number-limit .ensures .0))
+returns c = λ f g u w. c .before .before .join-items .ensures f g (fitted-joining _ _ _ _ _ _ _ (w) _ _ _ _ (λ h. c .before .before .before .before .before .before .before .before .before .before .before .prepare .ensures .1 _ h (c .before .before .before .before .before .before .before .before .before .before .before .before .before .before .before .put-uses .ensures .1 _ (body-items _ _ _ _ (w .first)))) (c .before .before .before .before .before .before .before .before .before .before .before .before .before .before .before .put-uses .ensures .1 _ (body-items _ _ _ _ (w .first))) (c .before .before .before .before .before .before .before .before .before .put-uses2 .ensures .1 _ (body-items _ _ _ _ (w .second .1))) (c .before .before .before .before .before .before .before .number-limit .ensures .1 _ (body-items _ _ _ _ (w .first)) (first-below _ _ _ _ _ _ _ (w))) (c .before .before .before .before .before .before .before .number-limit .ensures .0))
 
 pub join-body-spec : {M : Type 1} → statement M
 join-body-spec =
     tie.close
     (tie.spec
-    (λ c. search needs)
-    (λ c. search needs)
-    put-all-requires
-    prepare-requires
+    begin-requires
     (λ c. search needs)
     put-uses-requires
+    (λ c. search needs)
+    prepare-requires
     (λ c. search needs)
     put-uses-requires-2
     number-limit-requires

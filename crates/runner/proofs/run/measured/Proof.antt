@@ -15,10 +15,10 @@ returns : tie.Need-returns
 returns c = λ t f z. c .before .before .measure-single .ensures _ t f z
 
 measure-with-requires : tie.Need-measure-with-requires
-measure-with-requires c κs = (c .before .before .before .before .before .before .before .before .before .before .before .pre .0, c .before .before .before .before .before .before .before .before .before .before .before .pre .1, c .before .before .before .before .before .before .before .before .before .before .before .pre .2, zeros 7168, c .before .before .before .before .before .before .width-of .ensures .0, omega (arith, c .before .before .before .before .before .before .width-of .ensures .1), c .before .before .before .before .before .before .width-of .ensures .2, inl refl, omega (arith, c .before .before .before .before .if3 .taken), zeros 1056, c .before .before .before .before .before .before .before .before .before .before .before .pre .3, c .before .before .before .before .before .before .before .before .before .before .before .pre .4)
+measure-with-requires c κs = (c .before .before .before .before .before .before .before .before .before .before .pre .0, zeros 7168, c .before .before .before .before .before .width-of .ensures .0, omega (arith, c .before .before .before .before .before .width-of .ensures .1), c .before .before .before .before .before .width-of .ensures .2, inl refl, omega (arith, c .before .before .before .if3 .taken), zeros 1056, c .before .before .before .before .before .before .before .before .before .before .pre .1, c .before .before .before .before .before .before .before .before .before .before .pre .2)
 
 measure-with-requires-2 : tie.Need-measure-with-requires-2
-measure-with-requires-2 c κs = (c .before .before .before .before .before .before .before .before .before .before .before .pre .0, c .before .before .before .before .before .before .before .before .before .before .before .pre .1, c .before .before .before .before .before .before .before .before .before .before .before .pre .2, zeros 7168, c .before .before .before .before .before .before .width-of .ensures .0, omega (arith, c .before .before .before .before .before .before .width-of .ensures .1), c .before .before .before .before .before .before .width-of .ensures .2, inl refl, omega (arith, c .before .before .before .before .before .before .width-of .ensures .2), zeros 16896, c .before .before .before .before .before .before .before .before .before .before .before .pre .3, c .before .before .before .before .before .before .before .before .before .before .before .pre .4)
+measure-with-requires-2 c κs = (c .before .before .before .before .before .before .before .before .before .before .pre .0, zeros 7168, c .before .before .before .before .before .width-of .ensures .0, omega (arith, c .before .before .before .before .before .width-of .ensures .1), c .before .before .before .before .before .width-of .ensures .2, inl refl, omega (arith, c .before .before .before .before .before .width-of .ensures .2), zeros 16896, c .before .before .before .before .before .before .before .before .before .before .pre .1, c .before .before .before .before .before .before .before .before .before .before .pre .2)
 
 pub measured-spec : {M : Type 1} → statement M
 measured-spec =

@@ -1,40 +1,43 @@
 use mathlib.Core.Path.{refl, _∙_}
 use native.Mathlib.Omega.{arith}
-use lib.ListN.{replicate}
 use Rattle.reader.proofs.Lookup.{zeros}
-use Rattle.tables.proofs.Tables.{begun}
 use Rattle.search.proofs.Wrapping.{placed-seeks, placed-rooted, all-zero}
 use borrow.Author.Needs.{needs}
 use Rattle.search.proofs.search.search_placed.Statement.{statement}
 use Rattle.search.proofs.search.search_placed.Tie as tie
 use Rattle.search.proofs.search.search_placed.Reads as reads
 use Rattle.search.proofs.search.search_placed.Lts as lts
-use Rattle.tables.proofs.prepare.prepare.Reads as prepare-reads
 use Rattle.needs.proofs.memory.clear.Reads as clear-reads
 use Rattle.reader.proofs.index.build.Reads as build-reads
-use Rattle.reader.proofs.index.put_all.Reads as put-all-reads
 use Rattle.search.proofs.search.find.Reads as find-reads
+use Rattle.tables.proofs.prepare.begin.Reads as begin-reads
+use Rattle.tables.proofs.prepare.prepare.Reads as prepare-reads
+use Rattle.translation.proofs.index.put_uses.Reads as put-uses-reads
 
-prepare-requires : tie.Need-prepare-requires
-prepare-requires c κs = (begun _ (replicate 29760 0) refl (zeros 29760) _ (c .before .before .put-all .ensures), (c .before .before .before .before .before .before .before .before .before .before .before .before .pre .2 .0, c .before .before .before .before .before .before .before .before .before .before .before .before .pre .2 .2 .checked))
+begin-requires : tie.Need-begin-requires
+begin-requires c κs = (c .before .before .before .before .before .before .before .before .before .pre .2 .2 .checked .pieces .source-short, c .before .before .before .before .before .before .before .before .before .pre .2 .2 .checked .pieces .target-short, zeros 26184)
+
+put-uses-requires : tie.Need-put-uses-requires
+put-uses-requires c κs = (c .before .before .before .before .before .before .before .before .before .before .before .pre .2 .2 .checked .pieces .body-short, refl, zeros 8192, (_, c .before .before .before .before .before .before .before .before .before .before .before .pre .2 .2 .checked .pieces .body))
 
 build-requires : tie.Need-build-requires
-build-requires c κs = (c .before .before .before .before .before .before .before .before .before .before .before .before .before .before .pre .2 .2 .checked .pieces .source-short, refl, zeros 8224)
+build-requires c κs = (c .before .before .before .before .before .before .before .before .before .before .before .before .before .before .before .before .before .pre .2 .2 .checked .pieces .source-short, refl, zeros 8224)
 
 find-requires : tie.Need-find-requires
-find-requires c κs = let q = c .before .before .before .before .before .before .before .before .before .before .before .before .before .before .before .before .before .before .before .before .before .before .before .before .before .pre .2 in (c .before .before .before .before .before .before .before .before .before .before .before .before .before .before .before .before .before .before .before .before .before .before .before .before .before .pre .1, (q .0, q .1, placed-seeks _ _ _ _ _ _ _ _ _ _ _ (q .0) (q .1) (q .2) (q .3) (c .before .before .before .before .before .before .before .before .before .before .before .before .before .before .before .before .before .before .before .before .before .before .before .before .before .pre .0) (c .before .before .before .before .before .before .before .before .before .before .before .before .prepare .ensures (q .0) (q .2 .checked)) (c .before .before .before .before .before .before .before .before .before .before .build .ensures (q .0 .source) (q .2 .checked .pieces .source)) (λ i. omega (arith, c .before .before .before .before .before .before .before .before .before .before .before .before .before .before .before .before .before .before .before .before .before .before .before .before .shared-slice-known .given i)) (λ i. omega (arith, c .before .before .before .before .before .before .before .before .before .before .before .before .before .before .before .before .before .before .before .shared-slice-known6 .given i)) refl (c .before .before .before .before .before .before .before .clear .ensures .1) (zeros 32), placed-rooted (q .2 .checked) (q .3)))
+find-requires c κs = let q = c .before .before .before .before .before .before .before .before .before .before .before .before .before .before .before .before .before .before .before .before .before .before .before .before .before .before .before .before .pre .2 in (c .before .before .before .before .before .before .before .before .before .before .before .before .before .before .before .before .before .before .before .before .before .before .before .before .before .before .before .before .pre .1, (q .0, q .1, placed-seeks _ _ _ _ _ _ _ _ _ _ _ (q .0) (q .1) (q .2) (q .3) (c .before .before .before .before .before .before .before .before .before .before .before .before .before .before .before .before .before .before .before .before .before .before .before .before .before .before .before .before .pre .0) (c .before .before .before .before .before .before .before .before .before .before .before .before .prepare .ensures .1 (q .0) (q .2 .checked) (c .before .before .before .before .before .before .before .before .before .before .before .before .before .before .before .before .put-uses .ensures .1 _ (q .2 .checked .pieces .body))) (c .before .before .before .before .before .before .before .before .before .before .build .ensures ((q .0) .source) (q .2 .checked .pieces .source)) (λ i. omega (arith, c .before .before .before .before .before .before .before .before .before .before .before .before .before .before .before .before .before .before .before .before .before .before .before .before .before .before .before .shared-slice-known .given i)) (λ i. omega (arith, c .before .before .before .before .before .before .before .before .before .before .before .before .before .before .before .before .before .before .before .before .before .before .shared-slice-known6 .given i)) refl (c .before .before .before .before .before .before .before .clear .ensures .1) (zeros 32), placed-rooted (q .2 .checked) (q .3)))
 
 returns : tie.Need-returns
-returns c = (all-zero _ _ (c .before .before .clear2 .ensures .0 ∙ (c .before .before .before .before .before .before .before .before .before .find .ensures .0 ∙ c .before .before .before .before .before .before .before .before .before .before .before .before .before .before .before .before .before .clear .ensures .0)) (c .before .before .clear2 .ensures .1), λ f u z w. c .before .before .before .before .before .before .before .before .before .find .ensures .1 f u (placed-seeks _ _ _ _ _ _ _ _ _ _ _ f u z w (c .before .before .before .before .before .before .before .before .before .before .before .before .before .before .before .before .before .before .before .before .before .before .before .before .before .before .before .before .before .before .before .before .before .before .before .pre .0) (c .before .before .before .before .before .before .before .before .before .before .before .before .before .before .before .before .before .before .before .before .before .before .prepare .ensures f (z .checked)) (c .before .before .before .before .before .before .before .before .before .before .before .before .before .before .before .before .before .before .before .before .build .ensures (f .source) (z .checked .pieces .source)) (λ i. omega (arith, c .before .before .before .before .before .before .before .before .before .before .before .before .before .before .before .before .before .before .before .before .before .before .before .before .before .before .before .before .before .before .before .before .before .before .shared-slice-known .given i)) (λ i. omega (arith, c .before .before .before .before .before .before .before .before .before .before .before .before .before .before .before .before .before .before .before .before .before .before .before .before .before .before .before .before .before .shared-slice-known6 .given i)) refl (c .before .before .before .before .before .before .before .before .before .before .before .before .before .before .before .before .before .clear .ensures .1) (zeros 32)) (placed-rooted (z .checked) w))
+returns c = (all-zero _ _ (c .before .before .clear2 .ensures .0 ∙ (c .before .before .before .before .before .before .before .before .before .find .ensures .0 ∙ c .before .before .before .before .before .before .before .before .before .before .before .before .before .before .before .before .before .clear .ensures .0)) (c .before .before .clear2 .ensures .1), λ f u z w. c .before .before .before .before .before .before .before .before .before .find .ensures .1 f u (placed-seeks _ _ _ _ _ _ _ _ _ _ _ f u (z) (w) (c .before .before .before .before .before .before .before .before .before .before .before .before .before .before .before .before .before .before .before .before .before .before .before .before .before .before .before .before .before .before .before .before .before .before .before .before .before .before .pre .0) (c .before .before .before .before .before .before .before .before .before .before .before .before .before .before .before .before .before .before .before .before .before .before .prepare .ensures .1 f (z .checked) (c .before .before .before .before .before .before .before .before .before .before .before .before .before .before .before .before .before .before .before .before .before .before .before .before .before .before .put-uses .ensures .1 _ (z .checked .pieces .body))) (c .before .before .before .before .before .before .before .before .before .before .before .before .before .before .before .before .before .before .before .before .build .ensures (f .source) (z .checked .pieces .source)) (λ i. omega (arith, c .before .before .before .before .before .before .before .before .before .before .before .before .before .before .before .before .before .before .before .before .before .before .before .before .before .before .before .before .before .before .before .before .before .before .before .before .before .shared-slice-known .given i)) (λ i. omega (arith, c .before .before .before .before .before .before .before .before .before .before .before .before .before .before .before .before .before .before .before .before .before .before .before .before .before .before .before .before .before .before .before .before .shared-slice-known6 .given i)) refl (c .before .before .before .before .before .before .before .before .before .before .before .before .before .before .before .before .before .clear .ensures .1) (zeros 32)) (placed-rooted (z .checked) w))
 
 pub search-placed-spec : {M : Type 1} → statement M
 search-placed-spec =
     tie.close
     (tie.spec
+    begin-requires
     (λ c. search needs)
+    put-uses-requires
     (λ c. search needs)
     (λ c κs. search needs)
-    prepare-requires
     (λ c. search needs)
     build-requires
     (λ c κs. search needs)

@@ -6,8 +6,8 @@ use Rattle.tables.proofs.hints.put_hint.Tie as tie
 use Rattle.tables.proofs.hints.put_hint.Reads as reads
 use Rattle.tables.proofs.hints.put_hint.Lts as lts
 
-returns-2 : tie.Need-returns-2
-returns-2 c = (omega (arith, c .before .before .pre .2), λ t m h. hint-put _ _ _ _ _ (c .before .before .pre .3) (omega (arith, c .before .before .pre .0, c .before .before .pre .1, c .before .before .pre .2)) m h)
+returns-3 : tie.Need-returns-3
+returns-3 c = (omega (arith, c .before .before .before .pre .2), λ t m h. hint-put _ _ _ _ _ (c .before .before .before .pre .3) (c .if2 .left) m h)
 
 pub put-hint-spec : {M : Type 1} → statement M
 put-hint-spec =
@@ -22,4 +22,7 @@ put-hint-spec =
     (λ c. search needs)
     (λ c. search needs)
     (λ c. search needs)
-    returns-2)
+    (λ c. search needs)
+    (λ c. search needs)
+    (λ c. search needs)
+    returns-3)

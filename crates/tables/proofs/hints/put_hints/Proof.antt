@@ -12,7 +12,7 @@ use Rattle.fields.proofs.walk.field_end.Reads as field-end-reads
 use Rattle.tables.proofs.hints.put_hint.Reads as put-hint-reads
 
 abbrev Inv-loop : tie.InvT-loop
-Inv-loop body table₀ next₀ p₀ table next p = (next ≤ p) × (length table ≡ 29760) × Hinting body table₀ table p
+Inv-loop body table₀ next₀ p₀ table next p = (next ≤ p) × (length table ≡ 26184) × Hinting body table₀ table p
 
 abbrev μ-loop : tie.MeasureT-loop
 μ-loop body table₀ next₀ p₀ table next p = length body - p

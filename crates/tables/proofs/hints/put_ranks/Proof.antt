@@ -15,7 +15,7 @@ use Rattle.tables.proofs.hints.has_numbers.Reads as has-numbers-reads
 use Rattle.tables.proofs.hints.rank_field.Reads as rank-field-reads
 
 abbrev Inv-loop : tie.InvT-loop
-Inv-loop body table₀ ranks p₀ table p = (length table ≡ 29760) × Beside table₀ table
+Inv-loop body table₀ ranks p₀ table p = (length table ≡ 26184) × Beside table₀ table
 
 abbrev μ-loop : tie.MeasureT-loop
 μ-loop body table₀ ranks p₀ table p = length body - p

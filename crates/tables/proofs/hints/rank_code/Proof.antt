@@ -14,7 +14,7 @@ use Rattle.tables.proofs.hints.rank_use.Reads as rank-use-reads
 use Rattle.tables.proofs.hints.sign_length.Reads as sign-length-reads
 
 abbrev Inv-loop : tie.InvT-loop
-Inv-loop body from e kinds ranks table₀ c₀ table c = (length table ≡ 29760) × Beside table₀ table
+Inv-loop body from e kinds ranks table₀ c₀ table c = (length table ≡ 26184) × Beside table₀ table
 
 abbrev μ-loop : tie.MeasureT-loop
 μ-loop body from e kinds ranks table₀ c₀ table c = e - c

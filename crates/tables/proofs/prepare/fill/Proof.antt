@@ -1,30 +1,26 @@
 use native.Mathlib.Omega.{arith}
-use Rattle.tables.proofs.Tables.{filled, begun-long}
+use Rattle.fields.proofs.Splices.{length-spliced}
+use Rattle.tables.proofs.Tables.{filled}
 use borrow.Author.Needs.{needs}
 use Rattle.tables.proofs.prepare.fill.Statement.{statement}
 use Rattle.tables.proofs.prepare.fill.Tie as tie
 use Rattle.tables.proofs.prepare.fill.Reads as reads
 use Rattle.tables.proofs.prepare.fill.Lts as lts
 use Rattle.tables.proofs.prepare.put_bytes.Reads as put-bytes-reads
-use Rattle.tables.proofs.prepare.put_index.Reads as put-index-reads
-
-put-index-requires : tie.Need-put-index-requires
-put-index-requires c κs = (omega (arith, c .before .before .before .before .pre .1), omega (arith, begun-long _ _ (c .before .before .before .before .pre .2)))
 
 put-bytes-requires : tie.Need-put-bytes-requires
-put-bytes-requires c κs = omega (arith, c .before .before .before .before .before .before .before .before .pre .0, begun-long _ _ (c .before .before .before .before .before .before .before .before .pre .2))
+put-bytes-requires c κs = omega (arith, c .before .before .before .before .pre .0, c .before .before .before .before .pre .2)
 
 put-bytes-requires-2 : tie.Need-put-bytes-requires-2
-put-bytes-requires-2 c κs = omega (arith, c .before .before .before .before .before .before .before .before .before .before .before .before .pre .1, begun-long _ _ (c .before .before .before .before .before .before .before .before .before .before .before .before .pre .2))
+put-bytes-requires-2 c κs = omega (arith, c .before .before .before .before .before .before .before .before .pre .1, c .before .before .before .before .before .before .before .before .pre .2)
 
 returns : tie.Need-returns
-returns c = filled _ _ (c .before .before .before .before .before .before .before .before .before .before .before .before .before .before .before .pre .2) _ _ _ _ (c .before .before .before .before .before .before .before .before .before .before .before .before .before .before .before .pre .0) (c .before .before .before .before .before .before .before .before .before .before .before .before .before .before .before .pre .1) (c .before .before .before .before .before .before .before .before .before .before .put-index .ensures) (c .before .before .before .before .before .before .put-bytes .ensures) (c .before .before .put-bytes2 .ensures)
+returns c = filled _ _ _ _ _ (c .before .before .before .before .before .before .before .before .before .before .before .pre .2) (c .before .before .before .before .before .before .before .before .before .before .before .pre .0) (c .before .before .before .before .before .before .before .before .before .before .before .pre .1) (c .before .before .before .before .before .before .put-bytes .ensures) (c .before .before .put-bytes2 .ensures)
 
 pub fill-spec : {M : Type 1} → statement M
 fill-spec =
     tie.close
     (tie.spec
-    put-index-requires
     put-bytes-requires
     put-bytes-requires-2
     (λ c. search needs)

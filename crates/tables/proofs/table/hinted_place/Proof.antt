@@ -25,7 +25,6 @@ hinted-place-spec =
     (λ c. search needs)
     (λ c. search needs)
     (λ c. search needs)
-    (λ c. search needs)
     (λ c κs. search needs)
     returns-3
     (λ c. search needs))

@@ -1,13 +1,12 @@
 use Prim.Native.Nat.{_-_, _≤_}
-use native.Mathlib.Omega.{arith}
 use borrow.Author.Needs.{needs}
 use Rattle.tables.proofs.table.rank_of.Statement.{statement}
 use Rattle.tables.proofs.table.rank_of.Tie as tie
 use Rattle.tables.proofs.table.rank_of.Reads as reads
 use Rattle.tables.proofs.table.rank_of.Lts as lts
 use Rattle.tables.proofs.table.body_at.Reads as body-at-reads
-use Rattle.tables.proofs.table.clause_at.Reads as clause-at-reads
-use Rattle.tables.proofs.table.is_mapping.Reads as is-mapping-reads
+use Rattle.tables.proofs.table.end_of_field.Reads as end-of-field-reads
+use Rattle.tables.proofs.table.rank_behind.Reads as rank-behind-reads
 
 abbrev Inv-loop : tie.InvT-loop
 Inv-loop table kind number p₀ rank₀ p rank = rank ≤ p
@@ -22,16 +21,12 @@ rank-of-spec =
     Inv-loop
     μ-loop
     (λ c. search needs)
-    (λ c κs. search needs)
-    (λ c. search needs)
     (λ c. search needs)
     (λ c κs. search needs)
     (λ c. search needs)
-    (λ c. search needs)
     (λ c κs. search needs)
     (λ c. search needs)
-    (λ c. search needs)
-    (λ c. search needs)
+    (λ c κs. search needs)
     (λ c. search needs)
     (λ c. search needs)
     (λ c. search needs))

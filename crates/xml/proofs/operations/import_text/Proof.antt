@@ -1,4 +1,3 @@
-use mathlib.Core.Path.{_≡_}
 use native.Mathlib.Omega.{arith}
 use borrow.Author.Tests.{not-true, not-false}
 use Rattle.xml.proofs.Whole.{text-left, text-long, text-done, text-deep, text-broken}
@@ -9,34 +8,33 @@ use Rattle.xml.proofs.operations.import_text.Reads as reads
 use Rattle.xml.proofs.operations.import_text.Lts as lts
 use Rattle.fields.proofs.outcome.accept.Reads as accept-reads
 use Rattle.fields.proofs.outcome.refuse.Reads as refuse-reads
-use Rattle.xml.proofs.contents.has_room.Reads as has-room-reads
-use Rattle.xml.proofs.contents.write_contents.Reads as write-contents-reads
-use Rattle.xml.proofs.import.texts_at.Reads as texts-at-reads
+use Rattle.texts.proofs.contents.has_room.Reads as has-room-reads
+use Rattle.texts.proofs.contents.write_contents.Reads as write-contents-reads
+use Rattle.texts.proofs.import.text_at.Reads as text-at-reads
 
-texts-at-requires : tie.Need-texts-at-requires
-texts-at-requires c κs = (c .before .before .before .before .before .pre .sound, (λ x i j. let z : x ≡ 0 = omega arith in rw z (omega arith, c .before .before .before .before .before .pre .kind)), omega arith)
+text-at-requires : tie.Need-text-at-requires
+text-at-requires c κs = c .before .before .before .before .pre
 
 returns : tie.Need-returns
-returns c = text-left _ _ _ _ _ (c .before .before .before .before .before .texts-at .ensures .1) (c .before .before .before .e .given .1) (c .before .before .before .before .before .texts-at .ensures .0) (c .before .if1 .taken) (c .refuse .ensures)
+returns c = text-left _ _ _ _ _ (c .before .before .before .before .before .text-at .ensures .1) (c .before .before .before .e .given .1) (c .before .before .before .before .before .text-at .ensures .0) (c .before .if1 .taken) (c .refuse .ensures)
 
 returns-2 : tie.Need-returns-2
-returns-2 c = text-long _ _ _ _ _ (c .before .before .before .before .before .before .before .texts-at .ensures .1) (c .before .before .before .before .before .e .given .1) (c .before .before .before .before .before .before .before .texts-at .ensures .0) (c .before .before .before .if1 .left) (λ i. omega (arith, c .before .before .before .before .before .before .before .before .before .before .before .before .shared-slice-known .given i)) (c .before .before .has-room .ensures) (not-true _ (c .before .if2 .taken)) (c .refuse2 .ensures)
+returns-2 c = text-long _ _ _ _ _ (c .before .before .before .before .before .before .before .text-at .ensures .1) (c .before .before .before .before .before .e .given .1) (c .before .before .before .before .before .before .before .text-at .ensures .0) (c .before .before .before .if1 .left) (λ i. omega (arith, c .before .before .before .before .before .before .before .before .before .before .before .shared-slice-known .given i)) (c .before .before .has-room .ensures) (not-true _ (c .before .if2 .taken)) (c .refuse2 .ensures)
 
 returns-3 : tie.Need-returns-3
-returns-3 c = text-done _ _ _ _ _ (c .before .before .before .before .before .before .before .before .before .before .before .texts-at .ensures .1) (c .before .before .before .before .before .before .before .before .before .e .given .1) (c .before .before .before .before .before .before .before .before .before .before .before .texts-at .ensures .0) (c .before .before .before .before .before .before .before .if1 .left) (λ i. omega (arith, c .before .before .before .before .before .before .before .before .before .before .before .before .before .before .before .before .shared-slice-known .given i)) (c .before .before .before .before .before .before .has-room .ensures) (not-false _ (c .before .before .before .before .before .if2 .left)) (c .before .before .before .write-contents .ensures) (c .accept .ensures)
+returns-3 c = text-done _ _ _ _ _ (c .before .before .before .before .before .before .before .before .before .before .before .text-at .ensures .1) (c .before .before .before .before .before .before .before .before .before .e .given .1) (c .before .before .before .before .before .before .before .before .before .before .before .text-at .ensures .0) (c .before .before .before .before .before .before .before .if1 .left) (λ i. omega (arith, c .before .before .before .before .before .before .before .before .before .before .before .before .before .before .before .shared-slice-known .given i)) (c .before .before .before .before .before .before .has-room .ensures) (not-false _ (c .before .before .before .before .before .if2 .left)) (c .before .before .before .write-contents .ensures) (c .accept .ensures)
 
 returns-4 : tie.Need-returns-4
-returns-4 c = text-deep _ _ _ _ _ (c .before .before .before .texts-at .ensures .1) (c .before .enum-told .given .1) (c .refuse3 .ensures)
+returns-4 c = text-deep _ _ _ _ _ (c .before .before .before .text-at .ensures .1) (c .before .enum-told .given .1) (c .refuse3 .ensures)
 
 returns-5 : tie.Need-returns-5
-returns-5 c = text-broken _ _ _ _ _ (c .before .before .before .texts-at .ensures .1) (c .before .enum-told2 .given .1) (c .refuse4 .ensures)
+returns-5 c = text-broken _ _ _ _ _ (c .before .before .before .text-at .ensures .1) (c .before .enum-told2 .given .1) (c .refuse4 .ensures)
 
 pub import-text-spec : {M : Type 1} → statement M
 import-text-spec =
     tie.close
     (tie.spec
-    (λ c. search needs)
-    texts-at-requires
+    text-at-requires
     (λ c. search needs)
     (λ c κs. search needs)
     returns

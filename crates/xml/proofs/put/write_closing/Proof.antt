@@ -1,5 +1,6 @@
-use Rattle.xml.specs.Text.{closeNode}
-use Rattle.xml.proofs.Puts.{written-then, written-same, node-is}
+use Rattle.texts.specs.Text.{closeNode}
+use Rattle.texts.proofs.Stores.{written-then}
+use Rattle.xml.proofs.Puts.{written-same, node-is}
 use borrow.Author.Needs.{needs}
 use Rattle.xml.proofs.put.write_closing.Statement.{statement}
 use Rattle.xml.proofs.put.write_closing.Tie as tie

@@ -1,6 +1,7 @@
 use mathlib.Core.Path.{sym}
 use native.Mathlib.Omega.{arith}
-use Rattle.xml.proofs.Puts.{written-then, written-same, byte-after, byte-end, last-two, last-3, fewer-2, fewer-3}
+use Rattle.texts.proofs.Stores.{written-then}
+use Rattle.xml.proofs.Puts.{written-same, byte-after, byte-end, last-two, last-3, fewer-2, fewer-3}
 use borrow.Author.Needs.{needs}
 use Rattle.xml.proofs.put.write_long.Statement.{statement}
 use Rattle.xml.proofs.put.write_long.Tie as tie

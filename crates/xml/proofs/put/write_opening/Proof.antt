@@ -1,5 +1,6 @@
-use Rattle.xml.specs.Text.{openNode}
-use Rattle.xml.proofs.Puts.{written-then, written-same, node-is}
+use Rattle.texts.specs.Text.{openNode}
+use Rattle.texts.proofs.Stores.{written-then}
+use Rattle.xml.proofs.Puts.{written-same, node-is}
 use borrow.Author.Needs.{needs}
 use Rattle.xml.proofs.put.write_opening.Statement.{statement}
 use Rattle.xml.proofs.put.write_opening.Tie as tie

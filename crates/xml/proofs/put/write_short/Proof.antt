@@ -1,6 +1,7 @@
 use mathlib.Core.Path.{sym}
 use native.Mathlib.Omega.{arith}
-use Rattle.xml.proofs.Puts.{written-then, written-same, byte-after, digits-1, digits-2, width-1, width-2}
+use Rattle.texts.proofs.Stores.{written-then}
+use Rattle.xml.proofs.Puts.{written-same, byte-after, digits-1, digits-2, width-1, width-2}
 use borrow.Author.Needs.{needs}
 use Rattle.xml.proofs.put.write_short.Statement.{statement}
 use Rattle.xml.proofs.put.write_short.Tie as tie

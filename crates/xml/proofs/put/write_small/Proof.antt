@@ -1,6 +1,7 @@
 use mathlib.Core.Path.{sym}
 use native.Mathlib.Omega.{arith}
-use Rattle.xml.proofs.Puts.{written-then, written-same, byte-after, last-1, fewer-1}
+use Rattle.texts.proofs.Stores.{written-then}
+use Rattle.xml.proofs.Puts.{written-same, byte-after, last-1, fewer-1}
 use borrow.Author.Needs.{needs}
 use Rattle.xml.proofs.put.write_small.Statement.{statement}
 use Rattle.xml.proofs.put.write_small.Tie as tie

@@ -1,5 +1,6 @@
 use native.Mathlib.Omega.{arith}
-use Rattle.xml.proofs.Puts.{written-then, written-same, token-is, byte-end, kind-end}
+use Rattle.texts.proofs.Stores.{written-then}
+use Rattle.xml.proofs.Puts.{written-same, token-is, byte-end, kind-end}
 use borrow.Author.Needs.{needs}
 use Rattle.xml.proofs.put.write_token.Statement.{statement}
 use Rattle.xml.proofs.put.write_token.Tie as tie

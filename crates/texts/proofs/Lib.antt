@@ -1,0 +1,9 @@
+pub mod Stores
+pub mod Decimal
+pub mod Round
+pub mod Words
+pub mod Scans
+pub mod Imports
+pub mod Rows
+pub mod Takes
+pub mod Held

@@ -1,0 +1,4 @@
+-- What the inner contracts cite.
+pub mod Scanning
+pub mod Importing
+pub mod Contents
