@@ -112,6 +112,16 @@ module _ (s : List ℕ) (p own first : ℕ) (t : Tables) {sign number by i j n :
   unfolding countSign addSign
   sign-other h ek em = cc (ne-eqb (first + j) 0 h)
 
+-- A use by number 0, in a clause of number 0.
+pub sign-use : (s : List ℕ) (p own first : ℕ) (t : Tables) {sign number i : ℕ} → sign ≡ getD s p 0 → number ≡ getD s (p + 1) 0 → i ≡ number → first ≡ 0 → sign ≡ 3
+    → {more : List ℕ} → more ≡ addAt (t .0) (own + i) 1 → (more, t .1) ≡ countSign s p own first t
+unfolding slotOf byOf amountOf
+sign-use s p own first t {sign} {number} {i} es eb ei h e em =
+    let slot : i ≡ slotOf sign number = rw e ei in
+    let by : 0 ≡ byOf sign (getD s (p + 2) 0) = rw e in
+    let amount : 1 ≡ amountOf sign = rw e in
+    sign-plain s p own first t es eb refl slot by amount (omega arith) em
+
 -- count_code: a turn, by fuel.
 module _ (s : List ℕ) (p e own first : ℕ) (t : Tables) where
   abbrev past : ℕ

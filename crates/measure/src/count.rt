@@ -57,7 +57,7 @@ fn step(sign: u8) -> usize
     2
 }
 
-// Counts the sign at p, in a clause whose number gives keys from `first` on.
+// Counts the sign at p, in a clause whose number gives keys from `first` on. Most are 03 in a clause of number 0.
 fn count_sign(
     body: &[u8],
     p: usize,
@@ -70,6 +70,12 @@ fn count_sign(
     ensures { λ r. ⌜ (now (counts .exit), now (entries .exit)) ≡ countSign (now (body .entry)) p own first (now (counts .entry), now (entries .entry)) ⌝ }
 {
     let sign = byte_at(body, p);
+    if first == 0 {
+        if sign == 3 {
+            add_at(counts, own + to_usize(byte_at(body, p + 1)), 1);
+            return;
+        }
+    }
     let q = own + slot(sign, byte_at(body, p + 1));
     let key = first + by(sign, byte_at(body, p + 2));
     if key == 0 {

@@ -29,20 +29,21 @@ ghost use Rattle.measure.specs.Inner.Weighing.{window, weighAt, onceBy, KeptBel
 ghost use Rattle.measure.specs.Inner.Descent.{downAt, downRow, goesOn, StepIn, Childless};
 ghost use Rattle.measure.specs.Inner.Learning.{Learnt, Decides};
 
-// Works out the weight of what stands at position q of the source, behind that of the row that it belongs to.
+// Works out the weight of what stands at position q of the source, behind that of the row that it belongs to, which is given.
 fn weigh(
     counts: &[u16; 1024],
     q: usize,
+    weight: usize,
     weights: &mut [usize; 66],
     depth: usize,
     top: usize,
 ) -> usize
-    requires { ⌜ (q < 1024) × (depth < 65) × (66 ≤ length (now weights)) ⌝ }
+    requires { ⌜ (q < 1024) × (depth < 65) × (66 ≤ length (now weights)) × (weight ≡ getD (now weights) depth 0) ⌝ }
     ensures kept { λ r. ⌜ KeptBelow (now (weights .entry)) (now (weights .exit)) (depth + 1) ⌝ }
     ensures is { λ r. ⌜ (r ≤ top) × (getD (now (weights .exit)) (depth + 1) 0 ≡ r)
         × (window 1 (now (weights .exit)) (depth + 1) ≡ weighAt (now (counts .entry), []) top 1 q (window 1 (now (weights .entry)) depth)) ⌝ }
 {
-    let part = add_share(0, weights[depth], count_in(counts, q), top);
+    let part = add_share(0, weight, count_in(counts, q), top);
     weights[depth + 1] = part;
     part
 }
@@ -83,7 +84,8 @@ fn step_at(
 }
 
 // The operands of a row and all that stands below them. The rows above wait in two tables, the outermost first, in a third
-// stands where the operand of each row starts; where it ends is kept. In a fourth stands the weight of each row.
+// stands where the operand of each row starts; where it ends is kept. In a fourth stands the weight of each row; that of this one is
+// also at hand.
 fn measure_rows(
     source: &[u8],
     index: &[u16; TABLE],
@@ -108,6 +110,7 @@ fn measure_rows(
     let mut lasts = [0u16; 64];
     let mut starts = [0usize; 64];
     let mut weights = [1usize; 66];
+    let mut weight = 1;
     let mut depth = 0;
     let mut q = from;
     let mut end = stop;
@@ -122,6 +125,7 @@ fn measure_rows(
             depth -= 1;
             q = firsts[depth] as usize;
             end = lasts[depth] as usize;
+            weight = weights[depth];
             keep_end(ends, source[q - 1], starts[depth], to);
             continue;
         }
@@ -129,7 +133,7 @@ fn measure_rows(
         if out_of_levels(index, kind, levels - depth) {
             return Measured::Deep;
         }
-        let part = weigh(counts, q, &mut weights, depth, top);
+        let part = weigh(counts, q, weight, &mut weights, depth, top);
         starts[depth] = to;
         match step_at(source, index, counts, kind, tree, to, part, sum, cost, top) {
             Step::Broken => {
@@ -146,6 +150,7 @@ fn measure_rows(
                 firsts[depth] = q as u16;
                 lasts[depth] = end as u16;
                 depth += 1;
+                weight = part;
                 q = first;
                 end = last;
             }

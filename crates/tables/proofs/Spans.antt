@@ -6,8 +6,8 @@ use mathlib.Core.Option.{some}
 use native.Mathlib.Omega.{arith}
 use lib.ListN.{length, getD, set, drop, length-append, length-set, length-drop}
 use lib.Seq.{slice, getD-set-same, getD-set-other, getD-drop}
-use lib.Dec.{leb}
-use borrow.Author.Tests.{leb-true, leb-false}
+use lib.Dec.{leb, eqb}
+use borrow.Author.Tests.{leb-true, leb-false, eqb-true, eqb-false}
 use Rattle.fields.specs.Fields.{pairAt}
 use Rattle.fields.specs.Inner.Places.{fieldEnd}
 use Rattle.fields.proofs.Truth.{by-test, none-some, some-inj}
@@ -21,7 +21,7 @@ use Rattle.reader.specs.Inner.Positions.{KindsIn}
 use Rattle.reader.proofs.Built.{sound-front, indexed-front}
 use Rattle.tables.specs.Inner.Stands.{Stands}
 use Rattle.tables.specs.Inner.Table.{spanEntry, SpansAt, SpansAllAt}
-use Rattle.tables.specs.Inner.Filling.{targetIndex, Below, Beside, CodeAsks, Spanned, FieldAsks}
+use Rattle.tables.specs.Inner.Filling.{targetIndex, Below, Beside, LeafEnds, CodeAsks, Spanned, FieldAsks}
 use Rattle.tables.proofs.Standing.{stands-head, stands-both}
 
 empty-cons : {A : Type 0} {y : ℕ} {s : List ℕ} → [] ≡ y ∷ s → A
@@ -320,3 +320,41 @@ pub ends-as : {s index b : List ℕ} {k at n : ℕ} {t₀ : List ℕ} {r : ℕ} 
     → ((l : Language) (given : Uses) (a : Code) → CodeAsks s index b k at n l given a → Spanned t₀ v at a r)
     → (l : Language) (given : Uses) (a : Code) → CodeAsks s index b k at n l given a → Spanned t₀ u at a r
 ends-as u v e h l given a w = rw e (h l given a w)
+
+-- leaf_end
+pub leaf-none : (b : List ℕ) (at : ℕ) → LeafEnds b at 0
+leaf-none b at = record {
+  inside = λ h. absurd (omega arith);
+  leaf = λ h. absurd (omega arith);
+  argument = λ h. absurd (omega arith);
+  other = λ h. absurd (omega arith);
+}
+
+module _ (b : List ℕ) (at : ℕ) (there : at < length b) where
+  pub leaf-argument : getD b at 0 ≡ 3 → LeafEnds b at (at + 2)
+  leaf-argument e = record { inside = λ h. there; leaf = λ h d. omega arith; argument = λ h d. refl; other = λ h d. absurd (d e) }
+
+  pub leaf-other : (getD b at 0 ≡ 1 → ⊥) → (getD b at 0 ≡ 3 → ⊥) → LeafEnds b at (at + 3)
+  leaf-other n e = record { inside = λ h. there; leaf = λ h. n; argument = λ h d. absurd (e d); other = λ h d. refl }
+
+-- A leaf has no spans.
+pub span-leafed : (s index b : List ℕ) (k at n : ℕ) (t : List ℕ) (r : ℕ) → LeafEnds b at r → (r ≡ 0 → ⊥)
+    → (l : Language) (given : Uses) (a : Code) → CodeAsks s index b k at n l given a → Spanned t t at a r
+span-leafed s index b k at n t r w pos l given a asks =
+    let more : 0 < r = omega (arith, pos) in
+    by-test (eqb (getD b at 0) 3)
+    (λ e.
+    let h : getD b at 0 ≡ 3 = eqb-true _ _ e in
+    rw (w .argument more h) (span-argument s index b k at n t h l given a asks))
+    (λ e.
+    let h : getD b at 0 ≡ 3 → ⊥ = eqb-false _ _ e in
+    rw (w .other more h) (span-leaf s index b k at n t h (w .leaf more) l given a asks))
+
+-- Where a leaf ends, a code ends that is short enough.
+pub leaf-low : (b : List ℕ) (at r : ℕ) → length b ≤ 4096 → LeafEnds b at r → (r ≡ 0 → ⊥) → r ≤ 4102
+leaf-low b at r h w pos =
+    let more : 0 < r = omega (arith, pos) in
+    let i = w .inside more in
+    by-test (eqb (getD b at 0) 3)
+    (λ e. let q = w .argument more (eqb-true _ _ e) in omega arith)
+    (λ e. let q = w .other more (eqb-false _ _ e) in omega arith)

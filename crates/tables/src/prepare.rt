@@ -30,7 +30,7 @@ ghost use Rattle.translation.specs.Inner.ItemIndex.{Mapped};
 ghost use Rattle.fields.specs.Inner.Writing.{spliced};
 ghost use Rattle.reader.specs.Inner.Index.{tableLength};
 ghost use Rattle.tables.specs.Inner.Table.{spansStart, clauseNumber, Checked, Ready};
-ghost use Rattle.tables.specs.Inner.Filling.{targetIndex, Begun, Filled, Beside, mappedBy, CodeAsks, Spanned, FieldAsks, FieldSpanned, AllSpanned, withClause, Itemed};
+ghost use Rattle.tables.specs.Inner.Filling.{targetIndex, Begun, Filled, Beside, mappedBy, LeafEnds, CodeAsks, Spanned, FieldAsks, FieldSpanned, AllSpanned, withClause, Itemed};
 
 // Puts bytes into the table, from a position on.
 fn put_bytes(s: &[u8], a: usize, table: &mut [u16])
@@ -69,8 +69,25 @@ fn set_span(table: &mut [u16], at: usize, end: usize)
     table[SPANS + at] = end as u16;
 }
 
+// Where the leaf of a code at a position of the body ends; 0 where a production's code stands there, or nothing.
+fn leaf_end(body: &[u8], at: usize) -> usize
+    requires { ⌜ at ≤ 4102 ⌝ }
+    ensures { λ r. ⌜ LeafEnds (now (body .entry)) at r ⌝ }
+{
+    if body.len() <= at {
+        return 0;
+    }
+    if body[at] == 1 {
+        return 0;
+    }
+    if body[at] == 3 {
+        return at + 2;
+    }
+    at + 3
+}
+
 // Keeps where the code of a kind at a position of the body ends, and where each production's code in it does, and answers
-// where it ends. It calls itself on the operands, one level fewer. The index of the target stands in the table.
+// where it ends. It calls itself on the operands that are productions, one level fewer. The index of the target stands in the table.
 fn span_code(
     target: &[u8],
     body: &[u8],
@@ -105,6 +122,12 @@ fn span_code(
     let mut q = place + 4;
     let mut c = at + 2;
     while q < stop {
+        let e = leaf_end(body, c);
+        if e != 0 {
+            c = e;
+            q += 1;
+            continue;
+        }
         c = span_code(target, body, target[q], c, levels - 1, table);
         q += 1;
     }

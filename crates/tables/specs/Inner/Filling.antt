@@ -54,6 +54,13 @@ pub record Hinted (b t u : List ℕ) : Type 0 where
   pub same : (j : ℕ) → j < hintsStart → getD u j 0 ≡ getD t j 0
   pub hint : (i : ℕ) → 0 < hintEntry u i → isPlace b (hintEntry u i) ≡ true
 
+-- Where r is not 0, a leaf of a code stands in the body b at `at` and ends at r: two bytes behind 03, three behind 02 and 04.
+pub record LeafEnds (b : List ℕ) (at r : ℕ) : Type 0 where
+  pub inside : 0 < r → at < length b
+  pub leaf : 0 < r → byteAt b at ≡ 1 → ⊥
+  pub argument : 0 < r → byteAt b at ≡ 3 → r ≡ at + 2
+  pub other : 0 < r → (byteAt b at ≡ 3 → ⊥) → r ≡ at + 3
+
 -- The code a of a kind of language l, whose bytes are s, stands in the body from `at` on.
 pub record CodeAsks (s index b : List ℕ) (k at n : ℕ) (l : Language) (given : Uses) (a : Code) : Type 0 where
   pub indexed : Indexed index s l

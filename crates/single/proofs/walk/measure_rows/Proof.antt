@@ -5,7 +5,7 @@ use Rattle.measure.proofs.Laws.{step-row, deeper}
 use Rattle.measure.proofs.Windows.{kept-all}
 use Rattle.measure.specs.Inner.Descent.{downRow}
 use Rattle.measure.specs.Inner.Weighing.{weighAt, onceBy}
-use lib.ListN.{length}
+use lib.ListN.{length, getD}
 use native.Mathlib.Omega.{arith}
 use mathlib.Core.List.{[]}
 use mathlib.Core.Path.{_≡_, refl, sym, _∙_}
@@ -21,15 +21,15 @@ use Rattle.single.proofs.walk.step_at.Reads as step-at-reads
 use Rattle.single.proofs.walk.weigh.Reads as weigh-reads
 
 abbrev Inv-loop : tie.InvT-loop
-Inv-loop source index counts from stop tree at levels own one top ends₀ firsts₀ lasts₀ starts₀ weights₀ depth₀ q₀ end₀ to₀ sum₀ cost₀ ends firsts lasts starts weights depth q end to sum cost =
-    Open source index (weighAt (counts, []) top 1) tree top levels 1 (downRow source index (weighAt (counts, []) top 1) tree top levels (onceBy 0) from stop at own one) firsts lasts weights depth depth q end to sum cost × Learning source index tree levels ends₀ firsts lasts starts ends depth q end to × (length ends ≡ length ends₀)
+Inv-loop source index counts from stop tree at levels own one top ends₀ firsts₀ lasts₀ starts₀ weights₀ weight₀ depth₀ q₀ end₀ to₀ sum₀ cost₀ ends firsts lasts starts weights weight depth q end to sum cost =
+    Open source index (weighAt (counts, []) top 1) tree top levels 1 (downRow source index (weighAt (counts, []) top 1) tree top levels (onceBy 0) from stop at own one) firsts lasts weights depth depth q end to sum cost × Learning source index tree levels ends₀ firsts lasts starts ends depth q end to × (length ends ≡ length ends₀) × (weight ≡ getD weights depth 0)
 
 abbrev μ-loop : tie.MeasureT-loop
-μ-loop source index counts from stop tree at levels own one top ends₀ firsts₀ lasts₀ starts₀ weights₀ depth₀ q₀ end₀ to₀ sum₀ cost₀ ends firsts lasts starts weights depth q end to sum cost =
+μ-loop source index counts from stop tree at levels own one top ends₀ firsts₀ lasts₀ starts₀ weights₀ weight₀ depth₀ q₀ end₀ to₀ sum₀ cost₀ ends firsts lasts starts weights weight depth q end to sum cost =
     2 * (length tree - to) + depth
 
 loop-holds : tie.Need-loop-holds Inv-loop μ-loop
-loop-holds c = (row-start _ _ _ _ _ _ _ _ _ _ _ _ _ _ (c .before .before .before .pre .1) (c .before .before .before .pre .2) (c .before .before .before .pre .3) (c .before .before .before .pre .4) refl refl (omega arith) refl, learn-start _ _ _ _ _ _ _ _ _ _ _ refl, refl)
+loop-holds c = (row-start _ _ _ _ _ _ _ _ _ _ _ _ _ _ (c .before .before .before .pre .1) (c .before .before .before .pre .2) (c .before .before .before .pre .3) (c .before .before .before .pre .4) refl refl (omega arith) refl, learn-start _ _ _ _ _ _ _ _ _ _ _ refl, refl, refl)
 
 same-length : tie.Need-same-length Inv-loop μ-loop
 same-length c = c .before .before .loop .inv .2
@@ -58,6 +58,12 @@ array-read-end c = omega (arith, c .before .before .loop .inv .0 .shallow, c .be
 cast-end : tie.Need-cast-end Inv-loop μ-loop
 cast-end c = let w = c .before .before .loop .inv .0 .waiting (c .before .before .loop .depth - 1) (omega (arith, c .if2 .left)) in omega (arith, w .1)
 
+mul-weight : tie.Need-mul-weight Inv-loop μ-loop
+mul-weight c = omega (arith, c .before .before .loop .inv .0 .shallow, c .before .before .before .before .before .before .pre .5)
+
+array-read-weight : tie.Need-array-read-weight Inv-loop μ-loop
+array-read-weight c = omega (arith, c .before .before .loop .inv .0 .shallow, c .before .before .before .before .before .before .pre .5)
+
 sub-keep-end : tie.Need-sub-keep-end Inv-loop μ-loop
 sub-keep-end c = let z = learn-in _ _ _ _ (c .before .before .before .loop .inv .1) (c .before .if2 .left) in omega (arith, z .0)
 
@@ -77,7 +83,7 @@ loop-less : tie.Need-loop-less Inv-loop μ-loop
 loop-less c = omega (arith, c .before .before .before .before .before .if2 .left)
 
 loop-again : tie.Need-loop-again Inv-loop μ-loop
-loop-again c = (open-back _ _ _ _ _ _ _ (c .before .before .before .before .before .before .before .loop .inv .0) (kept-all _ _) (c .before .before .before .before .before .before .if1 .taken) (c .before .before .before .before .before .if2 .left), learn-back _ _ _ _ (c .before .before .before .before .before .before .before .loop .inv .1) (c .before .before .before .before .before .before .if1 .taken) (c .before .before .before .before .before .if2 .left) (c .before .before .before .before .before .before .before .loop .inv .0 .inside) (c .before .before .keep-end .ensures), c .before .ends .given ∙ c .before .before .before .before .before .before .before .loop .inv .2)
+loop-again c = (open-back _ _ _ _ _ _ _ (c .before .before .before .before .before .before .before .loop .inv .0) (kept-all _ _) (c .before .before .before .before .before .before .if1 .taken) (c .before .before .before .before .before .if2 .left), learn-back _ _ _ _ (c .before .before .before .before .before .before .before .loop .inv .1) (c .before .before .before .before .before .before .if1 .taken) (c .before .before .before .before .before .if2 .left) (c .before .before .before .before .before .before .before .loop .inv .0 .inside) (c .before .before .keep-end .ensures), c .before .ends .given ∙ c .before .before .before .before .before .before .before .loop .inv .2, refl)
 
 shared-slice-read-kind : tie.Need-shared-slice-read-kind Inv-loop μ-loop
 shared-slice-read-kind c = open-in _ _ _ _ _ _ _ (c .before .before .loop .inv .0) (c .before .if1 .left) (c .before .before .before .before .before .before .pre .0 .short) .0
@@ -95,7 +101,7 @@ returns-2 : tie.Need-returns-2 Inv-loop μ-loop
 returns-2 c = ((open-deep _ _ _ _ _ _ _ (c .before .before .before .before .loop .inv .0) (c .before .before .before .if1 .left) (sym (c .before .out-of-levels .ensures) ∙ c .if3 .taken), tt), c .before .before .before .before .loop .inv .1 .learnt)
 
 weigh-requires : tie.Need-weigh-requires Inv-loop μ-loop
-weigh-requires c κs = let z = open-in _ _ _ _ _ _ _ (c .before .before .before .before .before .loop .inv .0) (c .before .before .before .before .if1 .left) (c .before .before .before .before .before .before .before .before .before .pre .0 .short) in (z .2, omega (arith, c .before .before .before .before .before .loop .inv .0 .shallow, c .before .before .before .before .before .before .before .before .before .pre .5), omega (arith, c .before .before .before .before .before .loop .inv .0 .long))
+weigh-requires c κs = let z = open-in _ _ _ _ _ _ _ (c .before .before .before .before .before .loop .inv .0) (c .before .before .before .before .if1 .left) (c .before .before .before .before .before .before .before .before .before .pre .0 .short) in (z .2, omega (arith, c .before .before .before .before .before .loop .inv .0 .shallow, c .before .before .before .before .before .before .before .before .before .pre .5), omega (arith, c .before .before .before .before .before .loop .inv .0 .long), c .before .before .before .before .before .loop .inv .3)
 
 mul-starts : tie.Need-mul-starts Inv-loop μ-loop
 mul-starts c = omega (arith, c .before .before .before .before .before .before .loop .inv .0 .shallow, c .before .before .before .before .before .before .before .before .before .before .pre .5)
@@ -119,7 +125,7 @@ loop-less-2 : tie.Need-loop-less-2 Inv-loop μ-loop
 loop-less-2 c = let z = step-row _ _ _ _ _ (c .before .before .first .given .1) (c .before .before .before .before .step-at .ensures .1 .0) in omega (arith, z .0, z .1)
 
 loop-again-2 : tie.Need-loop-again-2 Inv-loop μ-loop
-loop-again-2 c = (open-on _ _ _ _ _ _ _ (c .before .before .before .before .before .before .before .before .before .before .before .loop .inv .0) (c .before .before .before .before .before .before .before .before .before .before .if1 .left) (sym (c .before .before .before .before .before .before .before .before .out-of-levels .ensures) ∙ c .before .before .before .before .before .before .before .if3 .left) _ (c .before .before .before .before .before .weigh .ensures .1 .2) _ (c .before .before .before .before .step-at .ensures .0 _ _ (c .before .before .before .before .before .weigh .ensures .1 .1)) (c .before .before .first .given .1) (c .before .before .before .before .step-at .ensures .1 .0) _ (c .before .before .before .before .before .weigh .ensures .0) (c .if4 .taken), learn-on _ _ _ _ (c .before .before .before .before .before .before .before .before .before .before .before .loop .inv .1) (c .before .before .before .before .before .before .before .before .before .before .if1 .left) (sym (c .before .before .before .before .before .before .before .before .out-of-levels .ensures) ∙ c .before .before .before .before .before .before .before .if3 .left) _ (c .before .before .before .before .step-at .ensures .1 .1 .0) (c .before .before .first .given .1) (step-row _ _ _ _ _ (c .before .before .first .given .1) (c .before .before .before .before .step-at .ensures .1 .0) .0) (c .if4 .taken), c .before .before .before .before .before .before .before .before .before .before .before .loop .inv .2)
+loop-again-2 c = (open-on _ _ _ _ _ _ _ (c .before .before .before .before .before .before .before .before .before .before .before .loop .inv .0) (c .before .before .before .before .before .before .before .before .before .before .if1 .left) (sym (c .before .before .before .before .before .before .before .before .out-of-levels .ensures) ∙ c .before .before .before .before .before .before .before .if3 .left) _ (c .before .before .before .before .before .weigh .ensures .1 .2) _ (c .before .before .before .before .step-at .ensures .0 _ _ (c .before .before .before .before .before .weigh .ensures .1 .1)) (c .before .before .first .given .1) (c .before .before .before .before .step-at .ensures .1 .0) _ (c .before .before .before .before .before .weigh .ensures .0) (c .if4 .taken), learn-on _ _ _ _ (c .before .before .before .before .before .before .before .before .before .before .before .loop .inv .1) (c .before .before .before .before .before .before .before .before .before .before .if1 .left) (sym (c .before .before .before .before .before .before .before .before .out-of-levels .ensures) ∙ c .before .before .before .before .before .before .before .if3 .left) _ (c .before .before .before .before .step-at .ensures .1 .1 .0) (c .before .before .first .given .1) (step-row _ _ _ _ _ (c .before .before .first .given .1) (c .before .before .before .before .step-at .ensures .1 .0) .0) (c .if4 .taken), c .before .before .before .before .before .before .before .before .before .before .before .loop .inv .2, c .before .before .before .before .before .before .before .before .before .before .before .loop .inv .3 ∙ sym (c .before .before .before .before .before .weigh .ensures .0 .same _ (omega arith)))
 
 cast-firsts : tie.Need-cast-firsts Inv-loop μ-loop
 cast-firsts c = let z = open-in _ _ _ _ _ _ _ (c .before .before .before .before .before .before .before .before .before .before .before .loop .inv .0) (c .before .before .before .before .before .before .before .before .before .before .if1 .left) (c .before .before .before .before .before .before .before .before .before .before .before .before .before .before .before .pre .0 .short) in omega (arith, z .2)
@@ -146,7 +152,7 @@ loop-less-3 : tie.Need-loop-less-3 Inv-loop μ-loop
 loop-less-3 c = let z = step-row _ _ _ _ _ (c .before .before .first .given .1) (c .before .before .before .before .step-at .ensures .1 .0) in omega (arith, z .0, z .1)
 
 loop-again-3 : tie.Need-loop-again-3 Inv-loop μ-loop
-loop-again-3 c = (open-down _ _ _ _ _ _ _ (c .before .before .before .before .before .before .before .before .before .before .before .loop .inv .0) (c .before .before .before .before .before .before .before .before .before .before .if1 .left) (sym (c .before .before .before .before .before .before .before .before .out-of-levels .ensures) ∙ c .before .before .before .before .before .before .before .if3 .left) _ (c .before .before .before .before .before .weigh .ensures .1 .2) _ (c .before .before .before .before .step-at .ensures .0 _ _ (c .before .before .before .before .before .weigh .ensures .1 .1)) (c .before .before .first .given .1) (c .before .before .before .before .step-at .ensures .1 .0) _ (c .before .before .before .before .before .weigh .ensures .0) refl (c .before .before .before .before .before .before .before .before .before .before .before .before .before .before .before .pre .0 .short) (c .before .before .before .before .before .before .before .before .before .before .before .before .before .before .before .pre .5) (deeper _ _ _ _ (c .before .before .before .before .before .before .before .before .before .before .before .loop .inv .0 .shallow) (sym (c .before .before .before .before .before .before .before .before .out-of-levels .ensures) ∙ c .before .before .before .before .before .before .before .if3 .left) _ (c .before .before .before .before .step-at .ensures .1 .1 .1) (c .before .before .first .given .1) (c .if4 .left)), let z = open-in _ _ _ _ _ _ _ (c .before .before .before .before .before .before .before .before .before .before .before .loop .inv .0) (c .before .before .before .before .before .before .before .before .before .before .if1 .left) (c .before .before .before .before .before .before .before .before .before .before .before .before .before .before .before .pre .0 .short) in learn-down _ _ _ _ (c .before .before .before .before .before .before .before .before .before .before .before .loop .inv .1) (c .before .before .before .before .before .before .before .before .before .before .if1 .left) (sym (c .before .before .before .before .before .before .before .before .out-of-levels .ensures) ∙ c .before .before .before .before .before .before .before .if3 .left) _ (c .before .before .before .before .step-at .ensures .1 .1 .0) (c .before .before .first .given .1) (step-row _ _ _ _ _ (c .before .before .first .given .1) (c .before .before .before .before .step-at .ensures .1 .0) .0) (c .before .before .before .before .before .before .before .before .before .before .before .loop .inv .0 .first-long) (c .before .before .before .before .before .before .before .before .before .before .before .loop .inv .0 .last-long) (c .before .before .before .before .before .before .before .before .before .before .before .before .before .before .before .pre .5) (deeper _ _ _ _ (c .before .before .before .before .before .before .before .before .before .before .before .loop .inv .0 .shallow) (sym (c .before .before .before .before .before .before .before .before .out-of-levels .ensures) ∙ c .before .before .before .before .before .before .before .if3 .left) _ (c .before .before .before .before .step-at .ensures .1 .1 .1) (c .before .before .first .given .1) (c .if4 .left)) (z .0) (z .1), c .before .before .before .before .before .before .before .before .before .before .before .loop .inv .2)
+loop-again-3 c = (open-down _ _ _ _ _ _ _ (c .before .before .before .before .before .before .before .before .before .before .before .loop .inv .0) (c .before .before .before .before .before .before .before .before .before .before .if1 .left) (sym (c .before .before .before .before .before .before .before .before .out-of-levels .ensures) ∙ c .before .before .before .before .before .before .before .if3 .left) _ (c .before .before .before .before .before .weigh .ensures .1 .2) _ (c .before .before .before .before .step-at .ensures .0 _ _ (c .before .before .before .before .before .weigh .ensures .1 .1)) (c .before .before .first .given .1) (c .before .before .before .before .step-at .ensures .1 .0) _ (c .before .before .before .before .before .weigh .ensures .0) refl (c .before .before .before .before .before .before .before .before .before .before .before .before .before .before .before .pre .0 .short) (c .before .before .before .before .before .before .before .before .before .before .before .before .before .before .before .pre .5) (deeper _ _ _ _ (c .before .before .before .before .before .before .before .before .before .before .before .loop .inv .0 .shallow) (sym (c .before .before .before .before .before .before .before .before .out-of-levels .ensures) ∙ c .before .before .before .before .before .before .before .if3 .left) _ (c .before .before .before .before .step-at .ensures .1 .1 .1) (c .before .before .first .given .1) (c .if4 .left)), let z = open-in _ _ _ _ _ _ _ (c .before .before .before .before .before .before .before .before .before .before .before .loop .inv .0) (c .before .before .before .before .before .before .before .before .before .before .if1 .left) (c .before .before .before .before .before .before .before .before .before .before .before .before .before .before .before .pre .0 .short) in learn-down _ _ _ _ (c .before .before .before .before .before .before .before .before .before .before .before .loop .inv .1) (c .before .before .before .before .before .before .before .before .before .before .if1 .left) (sym (c .before .before .before .before .before .before .before .before .out-of-levels .ensures) ∙ c .before .before .before .before .before .before .before .if3 .left) _ (c .before .before .before .before .step-at .ensures .1 .1 .0) (c .before .before .first .given .1) (step-row _ _ _ _ _ (c .before .before .first .given .1) (c .before .before .before .before .step-at .ensures .1 .0) .0) (c .before .before .before .before .before .before .before .before .before .before .before .loop .inv .0 .first-long) (c .before .before .before .before .before .before .before .before .before .before .before .loop .inv .0 .last-long) (c .before .before .before .before .before .before .before .before .before .before .before .before .before .before .before .pre .5) (deeper _ _ _ _ (c .before .before .before .before .before .before .before .before .before .before .before .loop .inv .0 .shallow) (sym (c .before .before .before .before .before .before .before .before .out-of-levels .ensures) ∙ c .before .before .before .before .before .before .before .if3 .left) _ (c .before .before .before .before .step-at .ensures .1 .1 .1) (c .before .before .first .given .1) (c .if4 .left)) (z .0) (z .1), c .before .before .before .before .before .before .before .before .before .before .before .loop .inv .2, sym (c .before .before .before .before .before .weigh .ensures .1 .1))
 
 pub measure-rows-spec : {M : Type 1} → statement M
 measure-rows-spec =
@@ -164,6 +170,8 @@ measure-rows-spec =
     mul-end
     array-read-end
     cast-end
+    mul-weight
+    array-read-weight
     sub-keep-end
     shared-slice-read-keep-end
     mul-keep-end
