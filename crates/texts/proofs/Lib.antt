@@ -4,6 +4,7 @@ pub mod Round
 pub mod Words
 pub mod Scans
 pub mod Imports
+pub mod Unwinding
 pub mod Rows
 pub mod Takes
 pub mod Held

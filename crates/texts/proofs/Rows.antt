@@ -31,6 +31,7 @@ use Rattle.texts.specs.Inner.Scanning.{closes, Stands, Tokens, TellsToke
 use Rattle.texts.specs.Inner.Importing.{Inside, Imports, Elements, ImportsTree, rowKinds}
 use Rattle.texts.proofs.Scans.{tokens-not, class-high}
 use Rattle.texts.proofs.Imports.{thenRest, rowRest, rest-made, then-rest, inside-deep, inside-broken, inside-end, imports-deep, imports-broken, imports-end, at-token, at-no-token, at-deep, at-no-element, at-kinds, at-past, at-opened}
+use Rattle.texts.proofs.Unwinding.{unwindBy, unwind-stop, unwind-none, unwind-one, unwind-same}
 
 -- kind_at
 pub root-kind : (k : ℕ) (s : List ℕ) (d q : ℕ) → q < length (rowKinds k s d) → d ≡ 0 → k ≡ getD (rowKinds k s d) q 0
@@ -68,35 +69,15 @@ module _ (l : Language) (levels : ℕ) (kinds : List ℕ) (q e : ℕ) (u : List 
       ∙ then-rest (readText l levels (getD kinds q 0) u) (λ a r. andThen (readAll (readText l levels) (slice (q + 1) e kinds) r) λ t v. done (cons a t) v)
       (rowRest l levels kinds (q + 1) e) (λ a r. rest-made (readAll (readText l levels) (slice (q + 1) e kinds) r) (cons a))
 
--- The rows that wait, the deepest first: f says what is left behind each, of what the row below it left.
-unfoldable pub unwind : (ℕ → List ℕ → Rest) → ℕ → Rest → Rest
-unwind f zero r = r
-unwind f (suc d) r = unwind f d (thenRest r (f d))
+-- The rows that wait.
+abbrev unwind : (ℕ → List ℕ → Rest) → ℕ → Rest → Rest
+unwind = unwindBy thenRest
 
 unwind-deep : (f : ℕ → List ℕ → Rest) (d : ℕ) → unwind f d deep ≡ deep
-unfolding unwind
-unwind-deep f zero = refl
-unwind-deep f (suc d) = unwind-deep f d
+unwind-deep f d = unwind-stop thenRest f d deep (λ h. refl)
 
 unwind-broken : (f : ℕ → List ℕ → Rest) (d : ℕ) → unwind f d broken ≡ broken
-unfolding unwind
-unwind-broken f zero = refl
-unwind-broken f (suc d) = unwind-broken f d
-
-unwind-none : (f : ℕ → List ℕ → Rest) (r : Rest) → unwind f 0 r ≡ r
-unfolding unwind
-unwind-none f r = refl
-
-unwind-one : (f : ℕ → List ℕ → Rest) (d : ℕ) (r : Rest) → unwind f (suc d) r ≡ unwind f d (thenRest r (f d))
-unfolding unwind
-unwind-one f d r = refl
-
--- Only what stands at the rows that wait counts.
-unwind-same : (f g : ℕ → List ℕ → Rest) (d : ℕ) (r : Rest) → ((j : ℕ) → j < d → g j ≡ f j) → unwind g d r ≡ unwind f d r
-unfolding unwind
-unwind-same f g zero r same = refl
-unwind-same f g (suc d) r same =
-    ap (λ (h : List ℕ → Rest). unwind g d (thenRest r h)) (same d (omega arith)) ∙ unwind-same f g d (thenRest r (f d)) (λ j h. same j (omega arith))
+unwind-broken f d = unwind-stop thenRest f d broken (λ h. refl)
 
 -- Behind a tree of the row at depth d: its closing tag, and the rest of that row.
 unfoldable pub goesOn : Language → ℕ → List ℕ → List ℕ → ℕ → ℕ → ℕ → ℕ → ℕ → List ℕ → Rest
@@ -173,7 +154,7 @@ module _ (s index : List ℕ) (k : ℕ) (text : List ℕ) where
         last-long = hl;
         tag-long = ht;
         size-long = hs;
-        comes = λ l z. unwind-none (waitsIn l k s text firsts lasts tags sizes) _ ∙ rest-made (readText l treeLevels k text) (λ a. cons a nil);
+        comes = λ l z. unwind-none thenRest (waitsIn l k s text firsts lasts tags sizes) _ ∙ rest-made (readText l treeLevels k text) (λ a. cons a nil);
       }
 
   module _ {firsts lasts tags sizes : List ℕ} {d q e to : ℕ} (o : Open s index k text firsts lasts tags sizes d q e to) where
@@ -190,7 +171,7 @@ module _ (s index : List ℕ) (k : ℕ) (text : List ℕ) where
     open-done h y = (
       inside-end text to (o .inside),
       λ l z. rest-end (readText l treeLevels k text) text to
-          (sym (ap (λ (j : ℕ). unwind (waitsIn l k s text firsts lasts tags sizes) j (rest (drop to text))) y ∙ unwind-none _ (rest (drop to text)))
+          (sym (ap (λ (j : ℕ). unwind (waitsIn l k s text firsts lasts tags sizes) j (rest (drop to text))) y ∙ unwind-none thenRest _ (rest (drop to text)))
           ∙ (ap (left l) (sym (row-done l (treeLevels - d) (rowKinds k s d) q e (drop to text) h)) ∙ o .comes l z)),
     )
 
@@ -202,7 +183,7 @@ module _ (s index : List ℕ) (k : ℕ) (text : List ℕ) where
       above : (l : Language) → Indexed index s l → unwind (waitsIn l k s text firsts lasts tags sizes) c (waitsIn l k s text firsts lasts tags sizes c (drop to text)) ≡ restOf (readText l treeLevels k text)
       above l z =
           let y : suc c ≡ d = omega arith in
-          sym (unwind-one (waitsIn l k s text firsts lasts tags sizes) c (rest (drop to text)))
+          sym (unwind-one thenRest (waitsIn l k s text firsts lasts tags sizes) c (rest (drop to text)))
           ∙ (ap (λ (j : ℕ). unwind (waitsIn l k s text firsts lasts tags sizes) j (rest (drop to text))) y
           ∙ (ap (left l) (sym (row-done l (treeLevels - d) (rowKinds k s d) q e (drop to text) done-row)) ∙ o .comes l z))
 
@@ -347,9 +328,9 @@ module _ (s index : List ℕ) (k : ℕ) (text : List ℕ) where
                     ap (λ (i : ℕ). unwind (then l) (d + 1) (rowRest l i (rowKinds k s (d + 1)) first last (drop a text))) m
                     ∙ (ap (λ (ks : List ℕ). unwind (then l) (d + 1) (rowRest l (treeLevels - d - 1) ks first last (drop a text))) (below-root k s (d + 1) (λ y. omega arith))
                     ∙ (ap (λ (i : ℕ). unwind (then l) i r) (sym b)
-                    ∙ (unwind-one (then l) d r
+                    ∙ (unwind-one thenRest (then l) d r
                     ∙ (ap (λ (h : List ℕ → Rest). unwind (then l) d (thenRest r h)) (here l)
-                    ∙ (unwind-same (waitsIn l k s text firsts lasts tags sizes) (then l) d (thenRest r (goesOn l k s text d (q + 1) e to size)) (others l)
+                    ∙ (unwind-same thenRest (waitsIn l k s text firsts lasts tags sizes) (then l) d (thenRest r (goesOn l k s text d (q + 1) e to size)) (others l)
                     ∙ (ap (left l) (sym (down l z)) ∙ o .comes l z))))))
 
                 waits : length s ≤ 1024 → (i : ℕ) → i < d + 1

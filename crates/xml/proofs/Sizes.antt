@@ -22,6 +22,7 @@ use Rattle.reader.specs.declared.node.Syntax.the-variants.{Tree}
 use Rattle.texts.specs.Text.{nodeTag, openNode, closeNode, export, exportAll}
 use Rattle.texts.specs.Inner.Importing.{rowKinds}
 use Rattle.texts.proofs.Rows.{below-root, row-long, row-in}
+use Rattle.texts.proofs.Unwinding.{unwindBy, unwind-stop, unwind-none, unwind-one, unwind-same}
 use Rattle.xml.specs.declared.measure.Measured.{Measured}
 use Rattle.xml.specs.declared.measure.Measured.the-variants.{End, Deep, Broken}
 use Rattle.xml.specs.Inner.Measuring.{Sum, Within, Measures, MeasuresTree, MeasuresTrees}
@@ -78,40 +79,20 @@ module _ (l : Language) (levels : ℕ) (kinds : List ℕ) (q e : ℕ) (u : List 
       ap (λ (ks : List ℕ). sizedOf (λ t. length (exportAll l ks t)) (readAll (read tree l [] levels) ks u)) next
       ∙ first-sized l levels (getD kinds q 0) (slice (q + 1) e kinds) (read tree l [] levels (getD kinds q 0) u)
 
--- The rows that wait, the deepest first, read on from where the one below them ended.
-unfoldable pub unwind : (ℕ → List ℕ → Sized) → ℕ → Sized → Sized
-unwind f zero x = x
-unwind f (suc d) x = unwind f d (thenSized x (f d))
+-- The rows that wait.
+abbrev unwind : (ℕ → List ℕ → Sized) → ℕ → Sized → Sized
+unwind = unwindBy thenSized
 
 unwind-deep : (f : ℕ → List ℕ → Sized) (d : ℕ) → unwind f d too-deep ≡ too-deep
-unfolding unwind
-unwind-deep f zero = refl
-unwind-deep f (suc d) = unwind-deep f d
+unwind-deep f d = unwind-stop thenSized f d too-deep (λ h. refl)
 
 unwind-broken : (f : ℕ → List ℕ → Sized) (d : ℕ) → unwind f d no-tree ≡ no-tree
-unfolding unwind
-unwind-broken f zero = refl
-unwind-broken f (suc d) = unwind-broken f d
-
-unwind-none : (f : ℕ → List ℕ → Sized) (x : Sized) → unwind f 0 x ≡ x
-unfolding unwind
-unwind-none f x = refl
-
-unwind-one : (f : ℕ → List ℕ → Sized) (d : ℕ) (x : Sized) → unwind f (suc d) x ≡ unwind f d (thenSized x (f d))
-unfolding unwind
-unwind-one f d x = refl
+unwind-broken f d = unwind-stop thenSized f d no-tree (λ h. refl)
 
 unwind-add : (f : ℕ → List ℕ → Sized) (d n : ℕ) (x : Sized) → unwind f d (add n x) ≡ add n (unwind f d x)
-unfolding unwind
+unfolding unwindBy
 unwind-add f zero n x = refl
 unwind-add f (suc d) n x = ap (unwind f d) (add-then n x (f d)) ∙ unwind-add f d n (thenSized x (f d))
-
--- Only what stands at the rows that wait counts.
-unwind-same : (f g : ℕ → List ℕ → Sized) (d : ℕ) (x : Sized) → ((j : ℕ) → j < d → g j ≡ f j) → unwind g d x ≡ unwind f d x
-unfolding unwind
-unwind-same f g zero x same = refl
-unwind-same f g (suc d) x same =
-    ap (λ (h : List ℕ → Sized). unwind g d (thenSized x h)) (same d (omega arith)) ∙ unwind-same f g d (thenSized x (f d)) (λ j h. same j (omega arith))
 
 -- The rest of the row at depth d, and of those that wait in tables.
 unfoldable pub rowAt : Language → ℕ → List ℕ → ℕ → ℕ → ℕ → List ℕ → Sized
@@ -173,7 +154,7 @@ module _ (s index : List ℕ) (k : ℕ) (b : List ℕ) where
         counted = λ l z. record {
           size = 0;
           count = sum-zero;
-          comes = add-none (unwind (waitsIn l k s firsts lasts) 0 (rowSized l treeLevels (k ∷ []) 0 1 b)) ∙ unwind-none (waitsIn l k s firsts lasts) (rowSized l treeLevels (k ∷ []) 0 1 b);
+          comes = add-none (unwind (waitsIn l k s firsts lasts) 0 (rowSized l treeLevels (k ∷ []) 0 1 b)) ∙ unwind-none thenSized (waitsIn l k s firsts lasts) (rowSized l treeLevels (k ∷ []) 0 1 b);
         };
       }
 
@@ -193,7 +174,7 @@ module _ (s index : List ℕ) (k : ℕ) (b : List ℕ) where
           let v : g .size + 0 ≡ g .size = omega arith in
           sized-end (exportAll l (k ∷ [])) (readAll (read tree l [] treeLevels) (k ∷ []) b) b to (g .size) n
           (ap (got (drop to b)) (sym v)
-          ∙ (ap (add (g .size)) (sym (ap (λ (j : ℕ). unwind (waitsIn l k s firsts lasts) j (got (drop to b) 0)) y ∙ unwind-none (waitsIn l k s firsts lasts) (got (drop to b) 0)))
+          ∙ (ap (add (g .size)) (sym (ap (λ (j : ℕ). unwind (waitsIn l k s firsts lasts) j (got (drop to b) 0)) y ∙ unwind-none thenSized (waitsIn l k s firsts lasts) (got (drop to b) 0)))
           ∙ ended l z h)) (g .count),
     )
 
@@ -218,7 +199,7 @@ module _ (s index : List ℕ) (k : ℕ) (b : List ℕ) where
                   size = o .counted l z .size;
                   count = o .counted l z .count;
                   comes = ap (add (o .counted l z .size))
-                      (ap (unwind f c) (sym (add-none (f c (drop to b)))) ∙ (sym (unwind-one f c (got (drop to b) 0)) ∙ ap (λ (j : ℕ). unwind f j (got (drop to b) 0)) y))
+                      (ap (unwind f c) (sym (add-none (f c (drop to b)))) ∙ (sym (unwind-one thenSized f c (got (drop to b) 0)) ∙ ap (λ (j : ℕ). unwind f j (got (drop to b) 0)) y))
                       ∙ ended l z done-row;
                 };
           }
@@ -355,9 +336,9 @@ module _ (s index : List ℕ) (k : ℕ) (b : List ℕ) where
                       ap (λ (j : ℕ). unwind (then l) (d + 1) (rowSized l j (rowKinds k s (d + 1)) (place + 4) (place + 2 + size) (drop (to + 1) b))) v
                       ∙ (ap (λ (ks : List ℕ). unwind (then l) (d + 1) (rowSized l (treeLevels - d - 1) ks (place + 4) (place + 2 + size) (drop (to + 1) b))) (below-root k s (d + 1) (λ y. omega arith))
                       ∙ (ap (λ (j : ℕ). unwind (then l) j (below l)) (sym r)
-                      ∙ (unwind-one (then l) d (below l)
+                      ∙ (unwind-one thenSized (then l) d (below l)
                       ∙ (ap (λ (h : List ℕ → Sized). unwind (then l) d (thenSized (below l) h)) (here l)
-                      ∙ unwind-same (waitsIn l k s firsts lasts) (then l) d (thenSized (below l) (rowAt l k s d (q + 1) e)) (others l)))))
+                      ∙ unwind-same thenSized (waitsIn l k s firsts lasts) (then l) d (thenSized (below l) (rowAt l k s d (q + 1) e)) (others l)))))
 
                   waits : length s ≤ 1024 → (j : ℕ) → j < d + 1
                       → (getD (set firsts d (q + 1)) j 0 ≤ 1024) × (getD (set lasts d e) j 0 ≤ 1024) × KindsIn (rowKinds k s j) (getD (set firsts d (q + 1)) j 0) (getD (set lasts d e) j 0)
