@@ -358,3 +358,8 @@ read-same x s index u b l z bytes zero k at h = past-same s index b l z x k at h
 read-same x s index u b l z bytes (suc n) k at h =
     level-same s index u b l z bytes (readAt x s index u b n) (Meant.read (syntaxOf x) l (usesIn u) n)
     (λ j e i. read-same x s index u b l z bytes n j e i) x k at h
+
+-- The same of what was read by position.
+pub read-meant : (x : Syntax) (s index u b : List ℕ) (l : Language) → Indexed index s l → ((i : ℕ) → getD b i 0 < 256)
+    → (n k at : ℕ) → k < 32 → (r : Read) → r ≡ readAt x s index u b n k at → restAt b r ≡ restOf (Meant.read (syntaxOf x) l (usesIn u) n k (drop at b))
+read-meant x s index u b l z bytes n k at h r e = ap (restAt b) e ∙ read-same x s index u b l z bytes n k at h

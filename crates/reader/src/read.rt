@@ -16,7 +16,7 @@ ghost use Prim.Native.Nat.{ℕ, _+_, _-_, _<_, _≤_};
 ghost use mathlib.Core.List.{List};
 ghost use lib.ListN.{length, getD, drop};
 ghost use Rattle.language.specs.Language.{Language};
-ghost use Rattle.reader.specs.Syntax.{read as readCode};
+ghost use Rattle.reader.specs.Syntax.{read as readCode, code};
 ghost use Rattle.reader.specs.Inner.Positions.{classPlace, productionPlace, operandsFrom, readAt, KindsIn, EndsBy, restAt, restOf, syntaxOf, usesIn};
 ghost use Rattle.reader.specs.Inner.Index.{Sound, Ready, Indexed};
 
@@ -209,4 +209,38 @@ pub fn read(
     ensures within { λ r. ⌜ EndsBy (length (now (bytes .entry))) r ⌝ }
 {
     read_at(syntax, language, index, uses, kind, bytes, at, levels)
+}
+
+// The same for a code: a function of its own, since the compiler merges one that has a single caller into it.
+pub fn read_code(
+    language: &[u8],
+    index: &[u16],
+    uses: &[u8],
+    kind: u8,
+    bytes: &[u8],
+    at: usize,
+    levels: usize,
+) -> Read
+    requires { ⌜ Ready (now index) (now language) kind (now bytes) at ⌝ }
+    ensures is { λ r. ⌜ ((l : Language) → Indexed (now (index .entry)) (now (language .entry)) l
+        → restAt (now (bytes .entry)) r ≡ restOf (readCode code l (usesIn (now (uses .entry))) levels kind (drop at (now (bytes .entry))))) ⌝ }
+    ensures within { λ r. ⌜ EndsBy (length (now (bytes .entry))) r ⌝ }
+{
+    if levels == 0 {
+        return past_levels(Syntax::Code, language, index, kind, bytes, at);
+    }
+    match node_at(Syntax::Code, language, index, uses, kind, bytes, at) {
+        Node::Leaf(r) => r,
+        Node::Operands(q, stop, to) => operands(
+            Syntax::Code,
+            language,
+            index,
+            uses,
+            q,
+            stop,
+            bytes,
+            to,
+            levels - 1,
+        ),
+    }
 }

@@ -61,6 +61,9 @@ const WEIGHTS: usize = 16896;
 // The same for the numbers below 16.
 const FEW: usize = 1056;
 
+// Trees from this length on keep where their long subtrees end.
+const LONG_TREE: usize = 4096;
+
 // Lengths and costs are counted up to here at least.
 const LEAST_TOP: usize = 4294967296;
 
@@ -161,7 +164,7 @@ fn measure_single(
 }
 
 // The same, with tables for the numbers that the body has.
-fn measured(
+fn measure_numbered(
     source: &[u8],
     body: &[u8],
     table: &[u16; TABLE],
@@ -176,11 +179,6 @@ fn measured(
         → Measures (now (ends .exit)) f kind number (now (tree .entry)) top r) ⌝ }
 {
     let width = width_of(body);
-    if width == 1 {
-        if 0 < top {
-            return measure_single(source, body, table, kind, tree, top, ends);
-        }
-    }
     let mut entries = [0u16; ENTRIES];
     if width <= 16 {
         let mut weights = [0usize; FEW];
@@ -291,8 +289,62 @@ fn top_over(room: usize) -> usize
     room + 1
 }
 
-// The run of a tree of a kind by a number, through a translation that was accepted and whose table is filled: 14 to 17. Where long
-// subtrees of a long tree end is kept in a table. The cost is 0 before.
+// The run of a tree by number 0, which its kind has, where the body has no other number: 15 to 17. Where long subtrees of a long
+// tree end is kept in a table. The cost is 0 before.
+fn run_single(
+    source: &[u8],
+    body: &[u8],
+    table: &[u16; TABLE],
+    kind: u8,
+    number: u8,
+    tree: &[u8],
+    output: &mut [u8],
+    cost: &mut u32,
+) -> Answer
+    requires { ⌜ (kind < 32) × (now cost ≡ 0) × (1 ≡ widthOf (now body)) × ((t : List ℕ) × (f : Translation) × Prepared (now source) t (now body) (now table) f × (isSome (mappingOf (f .body) kind number) ≡ true)) ⌝ }
+    ensures { λ r. ⌜ ((t : List ℕ) (f : Translation) → Prepared (now (source .entry)) t (now (body .entry)) (now (table .entry)) f → isSome (mappingOf (f .body) kind number) ≡ true
+        → Ran f kind number (now (tree .entry)) (now (output .entry)) (now (output .exit)) (now (cost .exit)) (r .outcome)) ⌝ }
+{
+    let top = top_over(output.len());
+    if tree.len() < LONG_TREE {
+        let mut ends = [0u32; 2];
+        let result = measure_single(source, body, table, kind, tree, top, &mut ends);
+        return finish(result, table, kind, number, tree, &ends, output, cost);
+    }
+    let mut ends = [0u32; 8192];
+    let result = measure_single(source, body, table, kind, tree, top, &mut ends);
+    finish(result, table, kind, number, tree, &ends, output, cost)
+}
+
+// The same by a number, which its kind has, where the body may have others. Its tables are large and stay out of the frames of a
+// run that has no use for them.
+fn run_numbered(
+    source: &[u8],
+    body: &[u8],
+    table: &[u16; TABLE],
+    kind: u8,
+    number: u8,
+    tree: &[u8],
+    output: &mut [u8],
+    cost: &mut u32,
+) -> Answer
+    requires { ⌜ (kind < 32) × (now cost ≡ 0) × ((t : List ℕ) × (f : Translation) × Prepared (now source) t (now body) (now table) f × (isSome (mappingOf (f .body) kind number) ≡ true)) ⌝ }
+    ensures { λ r. ⌜ ((t : List ℕ) (f : Translation) → Prepared (now (source .entry)) t (now (body .entry)) (now (table .entry)) f → isSome (mappingOf (f .body) kind number) ≡ true
+        → Ran f kind number (now (tree .entry)) (now (output .entry)) (now (output .exit)) (now (cost .exit)) (r .outcome)) ⌝ }
+{
+    let top = top_over(output.len());
+    if tree.len() < LONG_TREE {
+        let mut ends = [0u32; 2];
+        let result = measure_numbered(source, body, table, kind, number, tree, top, &mut ends);
+        return finish(result, table, kind, number, tree, &ends, output, cost);
+    }
+    let mut ends = [0u32; 8192];
+    let result = measure_numbered(source, body, table, kind, number, tree, top, &mut ends);
+    finish(result, table, kind, number, tree, &ends, output, cost)
+}
+
+// The run of a tree of a kind by a number, through a translation that was accepted and whose table is filled: 14 to 17. The cost is 0
+// before.
 fn run_parts(
     source: &[u8],
     body: &[u8],
@@ -310,15 +362,10 @@ fn run_parts(
     if !has_number(source, body, kind, number) {
         return refuse(Reason::UnknownRoot);
     }
-    let top = top_over(output.len());
-    if tree.len() < 4096 {
-        let mut ends = [0u32; 2];
-        let result = measured(source, body, table, kind, number, tree, top, &mut ends);
-        return finish(result, table, kind, number, tree, &ends, output, cost);
+    if width_of(body) == 1 {
+        return run_single(source, body, table, kind, number, tree, output, cost);
     }
-    let mut ends = [0u32; 8192];
-    let result = measured(source, body, table, kind, number, tree, top, &mut ends);
-    finish(result, table, kind, number, tree, &ends, output, cost)
+    run_numbered(source, body, table, kind, number, tree, output, cost)
 }
 
 // Checks a translation. The indexes that this takes are made in the front of a table that is all zero, where it is lent as a

@@ -31,9 +31,8 @@ use fields::walk::whole_end;
 use fields::walk::whole_key;
 use language::entries::CLASS;
 use reader::node::Read;
-use reader::node::Syntax;
 use reader::node::USES;
-use reader::read::read;
+use reader::read::read_code;
 use translation::body::CLAUSE;
 
 // Puts the kinds of the arguments of the production of this key behind the uses of the mappings, and says where they end.
@@ -115,16 +114,7 @@ fn code_reads(
     ensures { λ r. ⌜ ((l : Language) → Indexed (now (targets .entry)) (now (target .entry)) l
         → r ≡ isSome (wholeCode (readCode code l (usesIn (now (uses .entry))) codeLevels kind (slice p e (now (body .entry)))))) ⌝ }
 {
-    let end = read(
-        Syntax::Code,
-        target,
-        targets,
-        uses,
-        kind,
-        &body[p..e],
-        0,
-        16,
-    );
+    let end = read_code(target, targets, uses, kind, &body[p..e], 0, 16);
     ends_at(end, e - p)
 }
 
