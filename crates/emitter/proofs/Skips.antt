@@ -350,10 +350,31 @@ module _ (x : Syntax) (t b : List ℕ) (l : Language) (given : Uses) (firsts las
     pub room : (n ≡ 2 → ⊥) → d < 64
     room h = omega (arith, m .deep)
 
+    -- Its arguments are the row that is read next.
+    row-of : {c i : ℕ} → c ≡ nameLength x → i ≤ d + 1 → Wait x t b l given i (place + 4) (place + 2 + n) (to + c)
+    row-of {c} ec h = record {
+      codes = m .codes;
+      kinds = m .kinds;
+      known = placed .kinds;
+      ends = omega (arith, counted);
+      typed = m .typed;
+      stands = subst (λ (a : ℕ). Stands b (to + a) (allBytes x (m .codes))) (sym ec) (m .stands);
+      deep = omega (arith, m .deep);
+    }
+
+    -- Nothing of its row follows them: they take its place.
+    pub replaced : {c : ℕ} → q + 1 ≡ e → c ≡ nameLength x → Going x t b l given firsts lasts end d (place + 4) (place + 2 + n) (to + c)
+    unfolding row-of
+    replaced h ec = record {
+      row = row-of ec (omega arith);
+      rest = subst (λ (a : ℕ). Rest x t b l given firsts lasts end d (to + a + length (allBytes x (m .codes)))) (sym ec)
+          (behind x t b l given firsts lasts end h (m .next));
+    }
+
     -- What follows them goes on the stack.
     pub pushed : {c : ℕ} → (n ≡ 2 → ⊥) → c ≡ nameLength x → length firsts ≡ 64 → length lasts ≡ 64
         → Going x t b l given (set firsts d (q + 1)) (set lasts d e) end (d + 1) (place + 4) (place + 2 + n) (to + c)
-    unfolding Rest moved
+    unfolding Rest moved row-of
     pushed {c} h ec ef el =
         let r = room h in
         let w = moved x t b l given (sym (getD-set-same firsts d (q + 1) 0 (omega arith))) (sym (getD-set-same lasts d e 0 (omega arith))) (m .next .row) in
@@ -361,15 +382,7 @@ module _ (x : Syntax) (t b : List ℕ) (l : Language) (given : Uses) (firsts las
         let y : Rest x t b l given (set firsts d (q + 1)) (set lasts d e) end (suc d) (to + nameLength x + length (allBytes x (m .codes))) = (w, k) in
         let i : suc d ≡ d + 1 = omega arith in
         record {
-          row = record {
-            codes = m .codes;
-            kinds = m .kinds;
-            known = placed .kinds;
-            ends = omega (arith, counted);
-            typed = m .typed;
-            stands = subst (λ (a : ℕ). Stands b (to + a) (allBytes x (m .codes))) (sym ec) (m .stands);
-            deep = m .deep;
-          };
+          row = row-of ec (omega arith);
           rest = subst (λ (a : ℕ). Rest x t b l given (set firsts d (q + 1)) (set lasts d e) end (d + 1) (to + a + length (allBytes x (m .codes)))) (sym ec)
               (subst (λ (a : ℕ). Rest x t b l given (set firsts d (q + 1)) (set lasts d e) end a (to + nameLength x + length (allBytes x (m .codes)))) i y);
         }
@@ -508,6 +521,10 @@ module _ {x : Syntax} {t b : List ℕ} {from at : ℕ} {firsts lasts : List ℕ}
             pub turn-none : {c : ℕ} → n ≡ 2 → c ≡ nameLength x → Holds x t b from at firsts lasts d (q + 1) e (to + c)
             turn-none h ec f given u k a =
                 name-next x t b (f .source) given firsts lasts (at + length (bytesOf x u)) d q e to kind (named-for f given u k a) es byte ep en h ec
+
+            pub turn-replaced : {c : ℕ} → q + 1 ≡ e → c ≡ nameLength x → Holds x t b from at firsts lasts d (place + 4) (place + 2 + n) (to + c)
+            turn-replaced h ec f given u k a =
+                replaced x t b (f .source) given firsts lasts (at + length (bytesOf x u)) d q e to kind (named-for f given u k a) es byte ep en h ec
 
             pub turn-room : (n ≡ 2 → ⊥) → d < 64
             turn-room h =

@@ -58,7 +58,8 @@ pub fn leaf_number(input: &[u8], at: usize) -> usize
     0
 }
 
-// Where the term ends that starts at a position and whose kind stands in the source at q.
+// Where the term ends that starts at a position and whose kind stands in the source at q. Behind the last term of a row nothing is
+// left to do, so its operands take the row's place.
 pub fn skip(syntax: Syntax, table: &[u16; TABLE], input: &[u8], from: usize, at: usize) -> usize
     requires { ⌜ ((f : Translation) × (given : Uses) × (u : Terms.Code) × (k : ℕ) × SkipAsks syntax (now table) (now input) from at f given u k) ⌝ }
     ensures { λ r. ⌜ ((f : Translation) (given : Uses) (u : Terms.Code) (k : ℕ) → SkipAsks syntax (now (table .entry)) (now (input .entry)) from at f given u k
@@ -88,7 +89,10 @@ pub fn skip(syntax: Syntax, table: &[u16; TABLE], input: &[u8], from: usize, at:
                 let place = index_at(table, 32 + (kind * 256 + name));
                 to += name_length(syntax);
                 let n = source_at(table, place + 1);
-                if n != 2 {
+                if q == end {
+                    q = place + 4;
+                    end = place + 2 + n;
+                } else if n != 2 {
                     firsts[depth] = q as u16;
                     lasts[depth] = end as u16;
                     depth += 1;

@@ -2,7 +2,7 @@ use Prim.Native.Nat.{_+_, _-_, _*_}
 use mathlib.Core.Path.{_≡_, refl}
 use native.Mathlib.Omega.{arith}
 use lib.ListN.{length}
-use Rattle.emitter.proofs.Skips.{Holds, name-some, set-long, asked-in, started, turn-done, turn-popped, popped-in, depth-in, turn-row, turn-to, turn-kind, turn-leaf-in, turn-leaf, turn-name-in, turn-sign-in, turn-place, turn-end, turn-none, turn-room, turn-pushed}
+use Rattle.emitter.proofs.Skips.{Holds, name-some, set-long, asked-in, started, turn-done, turn-popped, popped-in, depth-in, turn-row, turn-to, turn-kind, turn-leaf-in, turn-leaf, turn-name-in, turn-sign-in, turn-place, turn-end, turn-none, turn-room, turn-replaced, turn-pushed}
 use Rattle.emitter.proofs.skip.skip.Statement.{statement}
 use Rattle.emitter.proofs.skip.skip.Tie as tie
 use Rattle.emitter.proofs.skip.skip.Reads as reads
@@ -111,27 +111,6 @@ add-source-at c = omega (arith, turn-place (c .before .before .before .before .b
 source-at-requires-2 : tie.Need-source-at-requires-2 Inv-loop μ-loop
 source-at-requires-2 c κs = omega (arith, turn-place (c .before .before .before .before .before .before .before .before .before .before .pre) (c .before .before .before .before .before .before .before .before .loop .inv .2) (c .before .before .before .before .before .before .before .if1 .left) (c .before .before .before .before .before .before .source-at .ensures .0) (c .before .before .before .before .before .is-leaf .ensures) (c .before .before .before .before .if3 .left) (c .before .before .before .sign-length .ensures .0) (omega (arith, c .before .before .before .before .before .before .before .before .before .shared-slice-known .given (c .before .before .before .before .before .before .before .before .loop .to + c .before .before .before .sign-length .result))) (c .before .index-at .ensures .0))
 
-cast-firsts : tie.Need-cast-firsts Inv-loop μ-loop
-cast-firsts c = let r = turn-row (c .before .before .before .before .before .before .before .before .before .before .before .before .pre) (c .before .before .before .before .before .before .before .before .before .before .loop .inv .2) (c .before .before .before .before .before .before .before .before .before .if1 .left) in omega (arith, r .0, r .1)
-
-mul-firsts : tie.Need-mul-firsts Inv-loop μ-loop
-mul-firsts c = omega (arith, depth-in (c .before .before .before .before .before .before .before .before .before .before .before .before .pre) (c .before .before .before .before .before .before .before .before .before .before .loop .inv .2))
-
-array-write-firsts : tie.Need-array-write-firsts Inv-loop μ-loop
-array-write-firsts c = omega (arith, turn-room (c .before .before .before .before .before .before .before .before .before .before .before .before .pre) (c .before .before .before .before .before .before .before .before .before .before .loop .inv .2) (c .before .before .before .before .before .before .before .before .before .if1 .left) (c .before .before .before .before .before .before .before .before .source-at .ensures .0) (c .before .before .before .before .before .before .before .is-leaf .ensures) (c .before .before .before .before .before .before .if3 .left) (c .before .before .before .before .before .sign-length .ensures .0) (omega (arith, c .before .before .before .before .before .before .before .before .before .before .before .shared-slice-known .given (c .before .before .before .before .before .before .before .before .before .before .loop .to + c .before .before .before .before .before .sign-length .result))) (c .before .before .before .index-at .ensures .0) (c .before .source-at2 .ensures .0) (c .if4 .taken))
-
-cast-lasts : tie.Need-cast-lasts Inv-loop μ-loop
-cast-lasts c = let r = turn-row (c .before .before .before .before .before .before .before .before .before .before .before .before .pre) (c .before .before .before .before .before .before .before .before .before .before .loop .inv .2) (c .before .before .before .before .before .before .before .before .before .if1 .left) in omega (arith, r .0, r .1)
-
-mul-lasts : tie.Need-mul-lasts Inv-loop μ-loop
-mul-lasts c = omega (arith, depth-in (c .before .before .before .before .before .before .before .before .before .before .before .before .pre) (c .before .before .before .before .before .before .before .before .before .before .loop .inv .2))
-
-array-write-lasts : tie.Need-array-write-lasts Inv-loop μ-loop
-array-write-lasts c = omega (arith, turn-room (c .before .before .before .before .before .before .before .before .before .before .before .before .pre) (c .before .before .before .before .before .before .before .before .before .before .loop .inv .2) (c .before .before .before .before .before .before .before .before .before .if1 .left) (c .before .before .before .before .before .before .before .before .source-at .ensures .0) (c .before .before .before .before .before .before .before .is-leaf .ensures) (c .before .before .before .before .before .before .if3 .left) (c .before .before .before .before .before .sign-length .ensures .0) (omega (arith, c .before .before .before .before .before .before .before .before .before .before .before .shared-slice-known .given (c .before .before .before .before .before .before .before .before .before .before .loop .to + c .before .before .before .before .before .sign-length .result))) (c .before .before .before .index-at .ensures .0) (c .before .source-at2 .ensures .0) (c .if4 .taken))
-
-add-depth : tie.Need-add-depth Inv-loop μ-loop
-add-depth c = omega (arith, depth-in (c .before .before .before .before .before .before .before .before .before .before .before .before .pre) (c .before .before .before .before .before .before .before .before .before .before .loop .inv .2))
-
 add-q-2 : tie.Need-add-q-2 Inv-loop μ-loop
 add-q-2 c = omega (arith, turn-place (c .before .before .before .before .before .before .before .before .before .before .before .before .pre) (c .before .before .before .before .before .before .before .before .before .before .loop .inv .2) (c .before .before .before .before .before .before .before .before .before .if1 .left) (c .before .before .before .before .before .before .before .before .source-at .ensures .0) (c .before .before .before .before .before .before .before .is-leaf .ensures) (c .before .before .before .before .before .before .if3 .left) (c .before .before .before .before .before .sign-length .ensures .0) (omega (arith, c .before .before .before .before .before .before .before .before .before .before .before .shared-slice-known .given (c .before .before .before .before .before .before .before .before .before .before .loop .to + c .before .before .before .before .before .sign-length .result))) (c .before .before .before .index-at .ensures .0))
 
@@ -145,13 +124,49 @@ loop-less-3 : tie.Need-loop-less-3 Inv-loop μ-loop
 loop-less-3 c = omega (arith, turn-name-in (c .before .before .before .before .before .before .before .before .before .before .before .before .pre) (c .before .before .before .before .before .before .before .before .before .before .loop .inv .2) (c .before .before .before .before .before .before .before .before .before .if1 .left) (c .before .before .before .before .before .before .before .before .source-at .ensures .0) (c .before .before .before .before .before .before .before .is-leaf .ensures) (c .before .before .before .before .before .before .if3 .left) (c .before .before .name-length .ensures .0), name-some (c .before .before .before .before .before .before .before .before .before .before .before .before .args .syntax) (c .before .before .name-length .ensures .0))
 
 loop-again-3 : tie.Need-loop-again-3 Inv-loop μ-loop
-loop-again-3 c = (set-long (c .before .before .before .before .before .before .before .before .before .before .loop .firsts) (c .before .before .before .before .before .before .before .before .before .before .loop .depth) (c .before .before .before .before .before .before .before .before .before .before .loop .q + 1) (c .before .before .before .before .before .before .before .before .before .before .loop .inv .0), set-long (c .before .before .before .before .before .before .before .before .before .before .loop .lasts) (c .before .before .before .before .before .before .before .before .before .before .loop .depth) (c .before .before .before .before .before .before .before .before .before .before .loop .end) (c .before .before .before .before .before .before .before .before .before .before .loop .inv .1), turn-pushed (c .before .before .before .before .before .before .before .before .before .before .before .before .pre) (c .before .before .before .before .before .before .before .before .before .before .loop .inv .2) (c .before .before .before .before .before .before .before .before .before .if1 .left) (c .before .before .before .before .before .before .before .before .source-at .ensures .0) (c .before .before .before .before .before .before .before .is-leaf .ensures) (c .before .before .before .before .before .before .if3 .left) (c .before .before .before .before .before .sign-length .ensures .0) (omega (arith, c .before .before .before .before .before .before .before .before .before .before .before .shared-slice-known .given (c .before .before .before .before .before .before .before .before .before .before .loop .to + c .before .before .before .before .before .sign-length .result))) (c .before .before .before .index-at .ensures .0) (c .before .source-at2 .ensures .0) (c .if4 .taken) (c .before .before .name-length .ensures .0) (c .before .before .before .before .before .before .before .before .before .before .loop .inv .0) (c .before .before .before .before .before .before .before .before .before .before .loop .inv .1))
+loop-again-3 c = (c .before .before .before .before .before .before .before .before .before .before .loop .inv .0, c .before .before .before .before .before .before .before .before .before .before .loop .inv .1, turn-replaced (c .before .before .before .before .before .before .before .before .before .before .before .before .pre) (c .before .before .before .before .before .before .before .before .before .before .loop .inv .2) (c .before .before .before .before .before .before .before .before .before .if1 .left) (c .before .before .before .before .before .before .before .before .source-at .ensures .0) (c .before .before .before .before .before .before .before .is-leaf .ensures) (c .before .before .before .before .before .before .if3 .left) (c .before .before .before .before .before .sign-length .ensures .0) (omega (arith, c .before .before .before .before .before .before .before .before .before .before .before .shared-slice-known .given (c .before .before .before .before .before .before .before .before .before .before .loop .to + c .before .before .before .before .before .sign-length .result))) (c .before .before .before .index-at .ensures .0) (c .before .source-at2 .ensures .0) (c .if4 .taken) (c .before .before .name-length .ensures .0))
+
+cast-firsts : tie.Need-cast-firsts Inv-loop μ-loop
+cast-firsts c = let r = turn-row (c .before .before .before .before .before .before .before .before .before .before .before .before .before .pre) (c .before .before .before .before .before .before .before .before .before .before .before .loop .inv .2) (c .before .before .before .before .before .before .before .before .before .before .if1 .left) in omega (arith, r .0, r .1)
+
+mul-firsts : tie.Need-mul-firsts Inv-loop μ-loop
+mul-firsts c = omega (arith, depth-in (c .before .before .before .before .before .before .before .before .before .before .before .before .before .pre) (c .before .before .before .before .before .before .before .before .before .before .before .loop .inv .2))
+
+array-write-firsts : tie.Need-array-write-firsts Inv-loop μ-loop
+array-write-firsts c = omega (arith, turn-room (c .before .before .before .before .before .before .before .before .before .before .before .before .before .pre) (c .before .before .before .before .before .before .before .before .before .before .before .loop .inv .2) (c .before .before .before .before .before .before .before .before .before .before .if1 .left) (c .before .before .before .before .before .before .before .before .before .source-at .ensures .0) (c .before .before .before .before .before .before .before .before .is-leaf .ensures) (c .before .before .before .before .before .before .before .if3 .left) (c .before .before .before .before .before .before .sign-length .ensures .0) (omega (arith, c .before .before .before .before .before .before .before .before .before .before .before .before .shared-slice-known .given (c .before .before .before .before .before .before .before .before .before .before .before .loop .to + c .before .before .before .before .before .before .sign-length .result))) (c .before .before .before .before .index-at .ensures .0) (c .before .before .source-at2 .ensures .0) (c .if5 .taken))
+
+cast-lasts : tie.Need-cast-lasts Inv-loop μ-loop
+cast-lasts c = let r = turn-row (c .before .before .before .before .before .before .before .before .before .before .before .before .before .pre) (c .before .before .before .before .before .before .before .before .before .before .before .loop .inv .2) (c .before .before .before .before .before .before .before .before .before .before .if1 .left) in omega (arith, r .0, r .1)
+
+mul-lasts : tie.Need-mul-lasts Inv-loop μ-loop
+mul-lasts c = omega (arith, depth-in (c .before .before .before .before .before .before .before .before .before .before .before .before .before .pre) (c .before .before .before .before .before .before .before .before .before .before .before .loop .inv .2))
+
+array-write-lasts : tie.Need-array-write-lasts Inv-loop μ-loop
+array-write-lasts c = omega (arith, turn-room (c .before .before .before .before .before .before .before .before .before .before .before .before .before .pre) (c .before .before .before .before .before .before .before .before .before .before .before .loop .inv .2) (c .before .before .before .before .before .before .before .before .before .before .if1 .left) (c .before .before .before .before .before .before .before .before .before .source-at .ensures .0) (c .before .before .before .before .before .before .before .before .is-leaf .ensures) (c .before .before .before .before .before .before .before .if3 .left) (c .before .before .before .before .before .before .sign-length .ensures .0) (omega (arith, c .before .before .before .before .before .before .before .before .before .before .before .before .shared-slice-known .given (c .before .before .before .before .before .before .before .before .before .before .before .loop .to + c .before .before .before .before .before .before .sign-length .result))) (c .before .before .before .before .index-at .ensures .0) (c .before .before .source-at2 .ensures .0) (c .if5 .taken))
+
+add-depth : tie.Need-add-depth Inv-loop μ-loop
+add-depth c = omega (arith, depth-in (c .before .before .before .before .before .before .before .before .before .before .before .before .before .pre) (c .before .before .before .before .before .before .before .before .before .before .before .loop .inv .2))
+
+add-q-3 : tie.Need-add-q-3 Inv-loop μ-loop
+add-q-3 c = omega (arith, turn-place (c .before .before .before .before .before .before .before .before .before .before .before .before .before .pre) (c .before .before .before .before .before .before .before .before .before .before .before .loop .inv .2) (c .before .before .before .before .before .before .before .before .before .before .if1 .left) (c .before .before .before .before .before .before .before .before .before .source-at .ensures .0) (c .before .before .before .before .before .before .before .before .is-leaf .ensures) (c .before .before .before .before .before .before .before .if3 .left) (c .before .before .before .before .before .before .sign-length .ensures .0) (omega (arith, c .before .before .before .before .before .before .before .before .before .before .before .before .shared-slice-known .given (c .before .before .before .before .before .before .before .before .before .before .before .loop .to + c .before .before .before .before .before .before .sign-length .result))) (c .before .before .before .before .index-at .ensures .0))
+
+add-end-4 : tie.Need-add-end-4 Inv-loop μ-loop
+add-end-4 c = omega (arith, turn-place (c .before .before .before .before .before .before .before .before .before .before .before .before .before .pre) (c .before .before .before .before .before .before .before .before .before .before .before .loop .inv .2) (c .before .before .before .before .before .before .before .before .before .before .if1 .left) (c .before .before .before .before .before .before .before .before .before .source-at .ensures .0) (c .before .before .before .before .before .before .before .before .is-leaf .ensures) (c .before .before .before .before .before .before .before .if3 .left) (c .before .before .before .before .before .before .sign-length .ensures .0) (omega (arith, c .before .before .before .before .before .before .before .before .before .before .before .before .shared-slice-known .given (c .before .before .before .before .before .before .before .before .before .before .before .loop .to + c .before .before .before .before .before .before .sign-length .result))) (c .before .before .before .before .index-at .ensures .0))
+
+add-end-5 : tie.Need-add-end-5 Inv-loop μ-loop
+add-end-5 c = omega (arith, turn-end (c .before .before .before .before .before .before .before .before .before .before .before .before .before .pre) (c .before .before .before .before .before .before .before .before .before .before .before .loop .inv .2) (c .before .before .before .before .before .before .before .before .before .before .if1 .left) (c .before .before .before .before .before .before .before .before .before .source-at .ensures .0) (c .before .before .before .before .before .before .before .before .is-leaf .ensures) (c .before .before .before .before .before .before .before .if3 .left) (c .before .before .before .before .before .before .sign-length .ensures .0) (omega (arith, c .before .before .before .before .before .before .before .before .before .before .before .before .shared-slice-known .given (c .before .before .before .before .before .before .before .before .before .before .before .loop .to + c .before .before .before .before .before .before .sign-length .result))) (c .before .before .before .before .index-at .ensures .0) (c .before .before .source-at2 .ensures .0))
 
 loop-less-4 : tie.Need-loop-less-4 Inv-loop μ-loop
-loop-less-4 c = omega (arith, turn-name-in (c .before .before .before .before .before .before .before .before .before .before .before .before .pre) (c .before .before .before .before .before .before .before .before .before .before .loop .inv .2) (c .before .before .before .before .before .before .before .before .before .if1 .left) (c .before .before .before .before .before .before .before .before .source-at .ensures .0) (c .before .before .before .before .before .before .before .is-leaf .ensures) (c .before .before .before .before .before .before .if3 .left) (c .before .before .name-length .ensures .0), name-some (c .before .before .before .before .before .before .before .before .before .before .before .before .args .syntax) (c .before .before .name-length .ensures .0))
+loop-less-4 c = omega (arith, turn-name-in (c .before .before .before .before .before .before .before .before .before .before .before .before .before .pre) (c .before .before .before .before .before .before .before .before .before .before .before .loop .inv .2) (c .before .before .before .before .before .before .before .before .before .before .if1 .left) (c .before .before .before .before .before .before .before .before .before .source-at .ensures .0) (c .before .before .before .before .before .before .before .before .is-leaf .ensures) (c .before .before .before .before .before .before .before .if3 .left) (c .before .before .before .name-length .ensures .0), name-some (c .before .before .before .before .before .before .before .before .before .before .before .before .before .args .syntax) (c .before .before .before .name-length .ensures .0))
 
 loop-again-4 : tie.Need-loop-again-4 Inv-loop μ-loop
-loop-again-4 c = (c .before .before .before .before .before .before .before .before .before .before .loop .inv .0, c .before .before .before .before .before .before .before .before .before .before .loop .inv .1, turn-none (c .before .before .before .before .before .before .before .before .before .before .before .before .pre) (c .before .before .before .before .before .before .before .before .before .before .loop .inv .2) (c .before .before .before .before .before .before .before .before .before .if1 .left) (c .before .before .before .before .before .before .before .before .source-at .ensures .0) (c .before .before .before .before .before .before .before .is-leaf .ensures) (c .before .before .before .before .before .before .if3 .left) (c .before .before .before .before .before .sign-length .ensures .0) (omega (arith, c .before .before .before .before .before .before .before .before .before .before .before .shared-slice-known .given (c .before .before .before .before .before .before .before .before .before .before .loop .to + c .before .before .before .before .before .sign-length .result))) (c .before .before .before .index-at .ensures .0) (c .before .source-at2 .ensures .0) (c .if4 .left) (c .before .before .name-length .ensures .0))
+loop-again-4 c = (set-long (c .before .before .before .before .before .before .before .before .before .before .before .loop .firsts) (c .before .before .before .before .before .before .before .before .before .before .before .loop .depth) (c .before .before .before .before .before .before .before .before .before .before .before .loop .q + 1) (c .before .before .before .before .before .before .before .before .before .before .before .loop .inv .0), set-long (c .before .before .before .before .before .before .before .before .before .before .before .loop .lasts) (c .before .before .before .before .before .before .before .before .before .before .before .loop .depth) (c .before .before .before .before .before .before .before .before .before .before .before .loop .end) (c .before .before .before .before .before .before .before .before .before .before .before .loop .inv .1), turn-pushed (c .before .before .before .before .before .before .before .before .before .before .before .before .before .pre) (c .before .before .before .before .before .before .before .before .before .before .before .loop .inv .2) (c .before .before .before .before .before .before .before .before .before .before .if1 .left) (c .before .before .before .before .before .before .before .before .before .source-at .ensures .0) (c .before .before .before .before .before .before .before .before .is-leaf .ensures) (c .before .before .before .before .before .before .before .if3 .left) (c .before .before .before .before .before .before .sign-length .ensures .0) (omega (arith, c .before .before .before .before .before .before .before .before .before .before .before .before .shared-slice-known .given (c .before .before .before .before .before .before .before .before .before .before .before .loop .to + c .before .before .before .before .before .before .sign-length .result))) (c .before .before .before .before .index-at .ensures .0) (c .before .before .source-at2 .ensures .0) (c .if5 .taken) (c .before .before .before .name-length .ensures .0) (c .before .before .before .before .before .before .before .before .before .before .before .loop .inv .0) (c .before .before .before .before .before .before .before .before .before .before .before .loop .inv .1))
+
+loop-less-5 : tie.Need-loop-less-5 Inv-loop μ-loop
+loop-less-5 c = omega (arith, turn-name-in (c .before .before .before .before .before .before .before .before .before .before .before .before .before .pre) (c .before .before .before .before .before .before .before .before .before .before .before .loop .inv .2) (c .before .before .before .before .before .before .before .before .before .before .if1 .left) (c .before .before .before .before .before .before .before .before .before .source-at .ensures .0) (c .before .before .before .before .before .before .before .before .is-leaf .ensures) (c .before .before .before .before .before .before .before .if3 .left) (c .before .before .before .name-length .ensures .0), name-some (c .before .before .before .before .before .before .before .before .before .before .before .before .before .args .syntax) (c .before .before .before .name-length .ensures .0))
+
+loop-again-5 : tie.Need-loop-again-5 Inv-loop μ-loop
+loop-again-5 c = (c .before .before .before .before .before .before .before .before .before .before .before .loop .inv .0, c .before .before .before .before .before .before .before .before .before .before .before .loop .inv .1, turn-none (c .before .before .before .before .before .before .before .before .before .before .before .before .before .pre) (c .before .before .before .before .before .before .before .before .before .before .before .loop .inv .2) (c .before .before .before .before .before .before .before .before .before .before .if1 .left) (c .before .before .before .before .before .before .before .before .before .source-at .ensures .0) (c .before .before .before .before .before .before .before .before .is-leaf .ensures) (c .before .before .before .before .before .before .before .if3 .left) (c .before .before .before .before .before .before .sign-length .ensures .0) (omega (arith, c .before .before .before .before .before .before .before .before .before .before .before .before .shared-slice-known .given (c .before .before .before .before .before .before .before .before .before .before .before .loop .to + c .before .before .before .before .before .before .sign-length .result))) (c .before .before .before .before .index-at .ensures .0) (c .before .before .source-at2 .ensures .0) (c .if5 .left) (c .before .before .before .name-length .ensures .0))
 
 returns : tie.Need-returns Inv-loop μ-loop
 returns c = turn-done (c .before .before .before .before .pre) (c .before .before .loop .inv .2) (c .before .if1 .taken) (c .if2 .taken)
@@ -192,6 +207,11 @@ skip-spec =
     add-to-2
     add-source-at
     source-at-requires-2
+    add-q-2
+    add-end-2
+    add-end-3
+    loop-less-3
+    loop-again-3
     cast-firsts
     mul-firsts
     array-write-firsts
@@ -199,11 +219,11 @@ skip-spec =
     mul-lasts
     array-write-lasts
     add-depth
-    add-q-2
-    add-end-2
-    add-end-3
-    loop-less-3
-    loop-again-3
+    add-q-3
+    add-end-4
+    add-end-5
     loop-less-4
     loop-again-4
+    loop-less-5
+    loop-again-5
     returns)
