@@ -24,7 +24,7 @@ use Rattle.reader.specs.Syntax as Meant
 use Rattle.reader.specs.Operations.{wholeTree, treeOf, checkTree}
 use Rattle.reader.specs.declared.node.Read.{Read}
 use Rattle.reader.specs.declared.node.Read.the-variants.{End, Deep, Broken}
-use Rattle.reader.specs.Inner.Positions.{EndsBy, restAt, restOf, usesIn}
+use Rattle.reader.specs.Inner.Positions.{EndsBy, restAt, restOf}
 use Rattle.translation.proofs.Accepted.{refused-not}
 use Rattle.checks.specs.Inner.Chains.{wholeAt}
 use Rattle.reader.proofs.Meaning.{done-of, deep-of, broken-of}
@@ -64,21 +64,16 @@ module _ (b : List ℕ) (g : Meant.Read C.Code) where
   whole-is Deep y h = cc (deep-of g (sym y))
   whole-is Broken y h = cc (broken-of g (sym y))
 
--- A tree has no uses.
-pub no-uses : usesIn [] ≡ []
-unfolding usesIn
-no-uses = refl
-
 -- check_kind
 module _ (b : List ℕ) (k : ℕ) (l : Language) {r : Bool} (er : r ≡ isIn l k) {o : Outcome} where
   pub kind-out : r ≡ false → o ≡ Refused Why.UnknownRoot → o ≡ checked (treeOf l k b)
   unfolding treeOf
   kind-out h i = cc
 
-  pub kind-in : (f : Read) → r ≡ true → restAt b f ≡ restOf (Meant.read Meant.tree l (usesIn []) 64 k b) → EndsBy (length b) f → o ≡ wholeAt f (length b)
+  pub kind-in : (f : Read) → r ≡ true → restAt b f ≡ restOf (Meant.read Meant.tree l [] 64 k b) → EndsBy (length b) f → o ≡ wholeAt f (length b)
       → o ≡ checked (treeOf l k b)
   unfolding treeOf
-  kind-in f h y i j = cc (whole-is b (Meant.read Meant.tree l [] 64 k b) f (rw no-uses at y) i)
+  kind-in f h y i j = cc (whole-is b (Meant.read Meant.tree l [] 64 k b) f y i)
 
 not-below : {k : ℕ} → 31 < k → k < 32 → ⊥
 not-below h i = omega arith

@@ -20,8 +20,7 @@ use reader::index::INDEX;
 use reader::index::build;
 use reader::kinds::is_in;
 use reader::node::Read;
-use reader::node::Syntax;
-use reader::read::read;
+use reader::read::read_tree;
 
 // What was read, with nothing after it.
 fn whole_tree(read: Read, length: usize) -> Answer
@@ -51,10 +50,7 @@ fn check_kind(language: &[u8], kind: u8, tree: &[u8], index: &mut [u16]) -> Answ
     if !is_in(language, kind) {
         return refuse(Reason::UnknownRoot);
     }
-    whole_tree(
-        read(Syntax::Tree, language, index, &[], kind, tree, 0, 64),
-        tree.len(),
-    )
+    whole_tree(read_tree(language, index, kind, tree, 0, 64), tree.len())
 }
 
 // Check a tree: 1 to 4 for the language, 14 for the root, then 15 and 16 in reading order. Where it is accepted, the

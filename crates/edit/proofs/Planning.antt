@@ -24,8 +24,7 @@ use Rattle.reader.specs.Operations.{treeLevels, wholeTree}
 use Rattle.reader.specs.declared.node.Read.{Read}
 use Rattle.reader.specs.declared.node.Read.the-variants.{End, Deep, Broken}
 use Rattle.reader.specs.Inner.Index.{Ready}
-use Rattle.reader.specs.Inner.Positions.{EndsBy, restAt, restOf, rest, deep, broken, usesIn}
-use Rattle.checks.proofs.TreeChain.{no-uses}
+use Rattle.reader.specs.Inner.Positions.{EndsBy, restAt, restOf, rest, deep, broken}
 use Rattle.reader.proofs.Members.{in-below}
 use Rattle.reader.proofs.Sound.{read-done}
 use Rattle.index.specs.Spans.{Span, span, size, spans, entries, indexOf}
@@ -255,12 +254,12 @@ module _ (x s b i path block : List ℕ) (kind of start old numbers : ℕ) (l : 
   abbrev After : (plan index : List ℕ) → Result Code → Result Code
   After plan index o = (o >>= λ u. newPlan path u t) >>= λ v. inRooms (length plan) (length index) v
 
-  module _ (n : ℕ) (en : n ≡ 64 - numbers) (r : Read) (er : restAt block r ≡ restOf (Meant.read tree l (usesIn []) n of block)) where
+  module _ (n : ℕ) (en : n ≡ 64 - numbers) (r : Read) (er : restAt block r ≡ restOf (Meant.read tree l [] n of block)) where
     abbrev what : Meant.Read Code
     what = Meant.read tree l [] (treeLevels - length path) of block
 
     read-is : restAt block r ≡ restOf what
-    read-is = (rw no-uses at er) ∙ ap (λ (m : ℕ). restOf (Meant.read tree l [] m of block)) (en ∙ ap (λ (m : ℕ). 64 - m) (w .numbers-are))
+    read-is = er ∙ ap (λ (m : ℕ). restOf (Meant.read tree l [] m of block)) (en ∙ ap (λ (m : ℕ). 64 - m) (w .numbers-are))
 
     pub block-deep : (plan index : List ℕ) → r ≡ Deep → (e : Edited) → Refuses TooDeep e → Gives (After plan index (newBlock l path (blockOf start of a) block)) plan plan index index e
     block-deep plan index q e c =

@@ -14,8 +14,7 @@ use index::build::write_index;
 use index::entries::entry_from;
 use reader::index::INDEX;
 use reader::node::Read;
-use reader::node::Syntax;
-use reader::read::read;
+use reader::read::read_tree;
 ghost use mathlib.Core.Path.{_≡_};
 ghost use mathlib.Core.Bool.{Bool};
 ghost use mathlib.Core.List.{List};
@@ -169,16 +168,7 @@ fn replace_block(
         → Reaches (now (places .entry)) (now (language .entry)) (now (tree .entry)) (now (index .entry)) path kind of start old numbers l t a
         → Gives (blockIn (length (now (plan .entry))) (length (now («plan_index» .entry))) l path (blockOf start of a) (now (block .entry)) t) (now (plan .entry)) (now (plan .exit)) (now («plan_index» .entry)) (now («plan_index» .exit)) r) ⌝ }
 {
-    match read(
-        Syntax::Tree,
-        language,
-        places,
-        &[],
-        of,
-        block,
-        0,
-        levels_left(numbers),
-    ) {
+    match read_tree(language, places, of, block, 0, levels_left(numbers)) {
         Read::End(e) => {
             if e != block.len() {
                 return refuse_edit(Reason::IllegalTree);

@@ -21,13 +21,12 @@ use Rattle.reader.specs.Syntax.{done, tree, write, readAll, read}
 use Rattle.reader.specs.Operations.{treeLevels}
 use Rattle.reader.specs.Inner.Index.{Sound, Indexed}
 use Rattle.reader.specs.Inner.Positions as At
-use Rattle.reader.specs.Inner.Positions.{productionPlace, EndsBy, KindsIn, restAt, restOf, usesIn}
+use Rattle.reader.specs.Inner.Positions.{productionPlace, EndsBy, KindsIn, restAt, restOf}
 use Rattle.reader.specs.declared.node.Read.{Read}
 use Rattle.reader.specs.declared.node.Read.the-variants.{End, Deep, Broken}
 use Rattle.reader.specs.declared.node.Syntax.the-variants.{Tree}
 use Rattle.reader.proofs.Laws.{name-in, kinds-in}
 use Rattle.reader.proofs.Sound.{read-done}
-use Rattle.checks.proofs.TreeChain.{no-uses}
 use Rattle.card.specs.Card.{Card, sees}
 use Rattle.card.specs.Inner.Sets.{inSet}
 use Rattle.putting.proofs.Reading.{two, read-token, read-deep, read-production, found-name, same-done, then-done}
@@ -84,9 +83,9 @@ module _ (x : Bool) (b : List ℕ) (at : ℕ) (o : List ℕ) (n : ℕ) (there : 
 
 -- end_at
 module _ (s index : List ℕ) (k : ℕ) (b : List ℕ) (at levels : ℕ) (f : Read)
-    (is : (l : Language) → Indexed index s l → restAt b f ≡ restOf (read tree l (usesIn []) levels k (drop at b))) where
+    (is : (l : Language) → Indexed index s l → restAt b f ≡ restOf (read tree l [] levels k (drop at b))) where
   same-rest : (l : Language) (a : Code) (r : List ℕ) → Indexed index s l → read tree l [] levels k (drop at b) ≡ done a r → restAt b f ≡ At.rest r
-  same-rest l a r z e = (rw no-uses at (is l z)) ∙ ap restOf e
+  same-rest l a r z e = is l z ∙ ap restOf e
 
   pub ends-there : {e : ℕ} → f ≡ End e → EndsBy (length b) f → EndsTree s index k b at levels e
   ends-there {e} h i = record {

@@ -19,13 +19,12 @@ use Rattle.reader.specs.Code.{Code, node, token, Codes, nil, cons}
 use Rattle.reader.specs.Syntax as Meant
 use Rattle.reader.specs.Syntax.{done, deep, broken, andThen, tree, readAll, readOperands, readNode, readToken, read}
 use Rattle.reader.specs.Inner.Index.{Sound, Indexed}
-use Rattle.reader.specs.Inner.Positions.{productionPlace, KindsIn, restAt, restOf, usesIn}
+use Rattle.reader.specs.Inner.Positions.{productionPlace, KindsIn, restAt, restOf}
 use Rattle.reader.specs.declared.node.Read.{Read}
 use Rattle.reader.specs.declared.node.Read.the-variants as At
 use Rattle.reader.specs.declared.node.Syntax.the-variants.{Tree}
 use Rattle.reader.proofs.Laws.{name-in, kinds-in, class-in}
 use Rattle.reader.proofs.Meaning.{done-of, deep-of, broken-of}
-use Rattle.checks.proofs.TreeChain.{no-uses}
 use Rattle.card.specs.Card.{Card}
 use Rattle.card.specs.Inner.Sets.{inSet}
 use Rattle.putting.proofs.Reading.{class-known, class-none, production-none, production-known, found-name, two, read-class, read-past, token-cut, level-read, none-read}
@@ -110,19 +109,16 @@ module _ (c : Range) (x : Bool) (b : List ℕ) (at n : ℕ) (behind : n ≤ at) 
 
 -- measure_hidden
 module _ (s index : List ℕ) (k : ℕ) (b : List ℕ) (at levels n : ℕ) (behind : n ≤ at) (f : Read)
-    (is : (l : Language) → Indexed index s l → restAt b f ≡ restOf (read tree l (usesIn []) levels k (drop at b))) where
-  same : (l : Language) → Indexed index s l → restAt b f ≡ restOf (read tree l [] levels k (drop at b))
-  same l z = rw no-uses at (is l z)
-
+    (is : (l : Language) → Indexed index s l → restAt b f ≡ restOf (read tree l [] levels k (drop at b))) where
   pub hidden-deep : f ≡ At.Deep → Within b Deep × MeasuresHidden s index k b at levels n Deep
-  hidden-deep h = (within-deep b, λ l card z e. measures-deep (deep-of _ (sym (same l z) ∙ ap (restAt b) h)))
+  hidden-deep h = (within-deep b, λ l card z e. measures-deep (deep-of _ (sym (is l z) ∙ ap (restAt b) h)))
 
   pub hidden-broken : f ≡ At.Broken → Within b Broken × MeasuresHidden s index k b at levels n Broken
-  hidden-broken h = (within-broken b, λ l card z e. measures-broken (broken-of _ (sym (same l z) ∙ ap (restAt b) h)))
+  hidden-broken h = (within-broken b, λ l card z e. measures-broken (broken-of _ (sym (is l z) ∙ ap (restAt b) h)))
 
   module _ {e : ℕ} (h : f ≡ At.End e) where
     hidden-reads : (l : Language) → Indexed index s l → (a : Code) × (read tree l [] levels k (drop at b) ≡ done a (drop e b))
-    hidden-reads l z = done-of _ (drop e b) (sym (same l z) ∙ ap (restAt b) h)
+    hidden-reads l z = done-of _ (drop e b) (sym (is l z) ∙ ap (restAt b) h)
 
     pub hidden-not : ((i : ℕ) → getD b i 0 < 256) → e ≤ at → Within b Broken × MeasuresHidden s index k b at levels n Broken
     hidden-not bytes i = (

@@ -8,7 +8,7 @@ use reader::node::Read;
 use reader::node::Syntax;
 use reader::node::place_at;
 use reader::node::production_place;
-use reader::read::read;
+use reader::read::read_tree;
 ghost use mathlib.Core.Option.{some};
 ghost use Prim.Native.Nat.{ℕ, _-_, _<_, _≤_};
 ghost use lib.ListN.{length, drop};
@@ -77,7 +77,7 @@ fn measure_hidden(
     ensures { λ r. ⌜ Within (now (tree .entry)) r
         × MeasuresHidden (now (language .entry)) (now (index .entry)) kind (now (tree .entry)) at levels n r ⌝ }
 {
-    match read(Syntax::Tree, language, index, &[], kind, tree, at, levels) {
+    match read_tree(language, index, kind, tree, at, levels) {
         Read::End(e) => {
             if e <= at {
                 return Measured::Broken;

@@ -7,7 +7,7 @@ use reader::node::Read;
 use reader::node::Syntax;
 use reader::node::place_at;
 use reader::node::production_place;
-use reader::read::read;
+use reader::read::read_tree;
 ghost use mathlib.Core.Bool.{cond};
 ghost use mathlib.Core.List.{[], _∷_};
 ghost use Prim.Native.Nat.{ℕ, _+_, _≤_};
@@ -42,7 +42,7 @@ fn end_at(language: &[u8], index: &[u16], kind: u8, tree: &[u8], at: usize, leve
     requires { ⌜ Ready (now index) (now language) kind (now tree) at ⌝ }
     ensures { λ r. ⌜ EndsTree (now (language .entry)) (now (index .entry)) kind (now (tree .entry)) at levels r ⌝ }
 {
-    match read(Syntax::Tree, language, index, &[], kind, tree, at, levels) {
+    match read_tree(language, index, kind, tree, at, levels) {
         Read::End(e) => e,
         Read::Deep => at,
         Read::Broken => at,

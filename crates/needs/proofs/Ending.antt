@@ -6,18 +6,16 @@ use native.Mathlib.Omega.{arith}
 use lib.ListN.{length, drop, length-drop}
 use Rattle.language.specs.Language.{Language}
 use Rattle.reader.specs.Code.{Code}
-use Rattle.reader.specs.Typing.{Uses}
 use Rattle.reader.specs.Syntax as Meant
 use Rattle.reader.specs.Syntax.{write, tree}
 use Rattle.reader.specs.Operations.{treeLevels}
 use Rattle.reader.specs.declared.node.Read.{Read}
 use Rattle.reader.specs.declared.node.Read.the-variants.{End, Deep, Broken}
 use Rattle.reader.specs.Inner.Index.{Ready}
-use Rattle.reader.specs.Inner.Positions.{EndsBy, restAt, restOf, rest, deep, broken, usesIn}
+use Rattle.reader.specs.Inner.Positions.{EndsBy, restAt, restOf, rest, deep, broken}
 use Rattle.reader.proofs.Larger.{apart}
 use Rattle.reader.proofs.Members.{in-below}
 use Rattle.reader.proofs.RoundTrip.{round, as-tree}
-use Rattle.checks.proofs.TreeChain.{no-uses}
 use Rattle.index.specs.Inner.Lying.{There}
 use Rattle.index.proofs.Lying.{past-inside, past-is}
 
@@ -35,9 +33,9 @@ module _ (index s b : List ℕ) (at k : ℕ) (l : Language) (t : Code) (h : Ther
       ap (Meant.read Meant.tree l [] treeLevels k) (h .lies .is)
       ∙ round l (apart l (h .index-of .apart)) (h .lies .typed) as-tree treeLevels (h .lies .rest) (h .lies .within)
 
-  module _ (f : Read) (ef : restAt b f ≡ restOf (Meant.read Meant.tree l (usesIn []) 64 k (drop at b))) where
+  module _ (f : Read) (ef : restAt b f ≡ restOf (Meant.read Meant.tree l [] 64 k (drop at b))) where
     left : restAt b f ≡ rest (h .lies .rest)
-    left = ef ∙ (ap (λ (uses : Uses). restOf (Meant.read Meant.tree l uses 64 k (drop at b))) no-uses ∙ ap restOf read-is)
+    left = ef ∙ ap restOf read-is
 
     pub ends-there : (e : ℕ) → f ≡ End e → EndsBy (length b) f → e ≡ at + length (write tree t)
     ends-there e q inside =

@@ -363,3 +363,9 @@ read-same x s index u b l z bytes (suc n) k at h =
 pub read-meant : (x : Syntax) (s index u b : List ℕ) (l : Language) → Indexed index s l → ((i : ℕ) → getD b i 0 < 256)
     → (n k at : ℕ) → k < 32 → (r : Read) → r ≡ readAt x s index u b n k at → restAt b r ≡ restOf (Meant.read (syntaxOf x) l (usesIn u) n k (drop at b))
 read-meant x s index u b l z bytes n k at h r e = ap (restAt b) e ∙ read-same x s index u b l z bytes n k at h
+
+-- Of trees, which have no uses.
+pub tree-meant : (s index b : List ℕ) (l : Language) → Indexed index s l → ((i : ℕ) → getD b i 0 < 256)
+    → (n k at : ℕ) → k < 32 → (r : Read) → r ≡ readAt Tree s index [] b n k at → restAt b r ≡ restOf (Meant.read Meant.tree l [] n k (drop at b))
+unfolding usesIn
+tree-meant s index b l z bytes n k at h r e = read-meant Tree s index [] b l z bytes n k at h r e

@@ -8,7 +8,7 @@ ghost use mathlib.Core.Bool.{cond};
 ghost use lib.Dec.{eqb};
 ghost use lib.ListN.{length, getD};
 ghost use Rattle.language.specs.Inner.Entries.{IsClass};
-ghost use Rattle.reader.specs.Inner.Positions.{nameLength, productionPlace, tokenAt, nameAt, argumentIs, argumentAt, numberedAt, treeNode, codeLeaf, codeNode, nodeAt, leafAt, pastAt, EndsBy, NodeIn};
+ghost use Rattle.reader.specs.Inner.Positions.{nameLength, productionPlace, tokenAt, nameAt, argumentIs, argumentAt, numberedAt, treeNode, codeLeaf, codeNode, leafAt, pastAt, EndsBy, NodeIn};
 ghost use Rattle.reader.specs.Inner.Index.{Ready, indexLength};
 
 // Trees are written without signs, codes with them.
@@ -175,7 +175,7 @@ fn numbered(uses: &[u8], kind: u8, bytes: &[u8], at: usize) -> Read
 }
 
 // A node of a tree: a class has a token, any other kind a name.
-fn tree_node(language: &[u8], index: &[u16], kind: u8, bytes: &[u8], at: usize) -> Node
+pub fn tree_node(language: &[u8], index: &[u16], kind: u8, bytes: &[u8], at: usize) -> Node
     requires { ⌜ Ready (now index) (now language) kind (now bytes) at ⌝ }
     ensures { λ r. ⌜ (r ≡ treeNode (now (language .entry)) (now (index .entry)) kind (now (bytes .entry)) at) × NodeIn (now (language .entry)) (now (bytes .entry)) r ⌝ }
 {
@@ -223,7 +223,14 @@ fn code_leaf(language: &[u8], index: &[u16], uses: &[u8], kind: u8, bytes: &[u8]
 }
 
 // A node of a code: its sign says what follows.
-fn code_node(language: &[u8], index: &[u16], uses: &[u8], kind: u8, bytes: &[u8], at: usize) -> Node
+pub fn code_node(
+    language: &[u8],
+    index: &[u16],
+    uses: &[u8],
+    kind: u8,
+    bytes: &[u8],
+    at: usize,
+) -> Node
     requires { ⌜ Ready (now index) (now language) kind (now bytes) at ⌝ }
     ensures { λ r. ⌜ (r ≡ codeNode (now (language .entry)) (now (index .entry)) (now (uses .entry)) kind (now (bytes .entry)) at) × NodeIn (now (language .entry)) (now (bytes .entry)) r ⌝ }
 {
@@ -252,25 +259,6 @@ pub fn leaf_at(
     match syntax {
         Syntax::Tree => Read::Broken,
         Syntax::Code => code_leaf(language, index, uses, kind, bytes, at),
-    }
-}
-
-// What stands at a position, in either syntax.
-pub fn node_at(
-    syntax: Syntax,
-    language: &[u8],
-    index: &[u16],
-    uses: &[u8],
-    kind: u8,
-    bytes: &[u8],
-    at: usize,
-) -> Node
-    requires { ⌜ Ready (now index) (now language) kind (now bytes) at ⌝ }
-    ensures { λ r. ⌜ (r ≡ nodeAt syntax (now (language .entry)) (now (index .entry)) (now (uses .entry)) kind (now (bytes .entry)) at) × NodeIn (now (language .entry)) (now (bytes .entry)) r ⌝ }
-{
-    match syntax {
-        Syntax::Tree => tree_node(language, index, kind, bytes, at),
-        Syntax::Code => code_node(language, index, uses, kind, bytes, at),
     }
 }
 

@@ -2,22 +2,23 @@
 use crate::node::Node;
 use crate::node::Read;
 use crate::node::Syntax;
+use crate::node::code_node;
 use crate::node::leaf_at;
 use crate::node::name_length;
-use crate::node::node_at;
 use crate::node::past_levels;
 use crate::node::place_at;
 use crate::node::production_place;
 use crate::node::token;
+use crate::node::tree_node;
 use fields::bytes::pair_in;
 use fields::bytes::to_usize;
 ghost use mathlib.Core.Path.{_≡_};
 ghost use Prim.Native.Nat.{ℕ, _+_, _-_, _<_, _≤_};
-ghost use mathlib.Core.List.{List};
+ghost use mathlib.Core.List.{[]};
 ghost use lib.ListN.{length, getD, drop};
 ghost use Rattle.language.specs.Language.{Language};
-ghost use Rattle.reader.specs.Syntax.{read as readCode, code};
-ghost use Rattle.reader.specs.Inner.Positions.{classPlace, productionPlace, operandsFrom, readAt, KindsIn, EndsBy, restAt, restOf, syntaxOf, usesIn};
+ghost use Rattle.reader.specs.Syntax as Meant;
+ghost use Rattle.reader.specs.Inner.Positions.{classPlace, productionPlace, operandsFrom, readAt, KindsIn, EndsBy, restAt, restOf, usesIn};
 ghost use Rattle.reader.specs.Inner.Index.{Sound, Ready, Indexed};
 
 // The place of the class that a token of the kind is read by: 0 in a code, where a sign stands before it.
@@ -159,30 +160,30 @@ fn row(
     operands(syntax, language, index, uses, from, stop, bytes, at, levels)
 }
 
-// A code of the kind at a position, with so many levels left; a token is no level.
-pub fn read_at(
-    syntax: Syntax,
+// A tree of the kind at a position, of the language that the index is of, with so many levels left; a token is no level.
+pub fn read_tree(
     language: &[u8],
     index: &[u16],
-    uses: &[u8],
     kind: u8,
     bytes: &[u8],
     at: usize,
     levels: usize,
 ) -> Read
     requires { ⌜ Ready (now index) (now language) kind (now bytes) at ⌝ }
-    ensures { λ r. ⌜ (r ≡ readAt syntax (now (language .entry)) (now (index .entry)) (now (uses .entry)) (now (bytes .entry)) levels kind at) × EndsBy (length (now (bytes .entry))) r ⌝ }
+    ensures is { λ r. ⌜ ((l : Language) → Indexed (now (index .entry)) (now (language .entry)) l
+        → restAt (now (bytes .entry)) r ≡ restOf (Meant.read Meant.tree l [] levels kind (drop at (now (bytes .entry))))) ⌝ }
+    ensures within { λ r. ⌜ EndsBy (length (now (bytes .entry))) r ⌝ }
 {
     if levels == 0 {
-        return past_levels(syntax, language, index, kind, bytes, at);
+        return past_levels(Syntax::Tree, language, index, kind, bytes, at);
     }
-    match node_at(syntax, language, index, uses, kind, bytes, at) {
+    match tree_node(language, index, kind, bytes, at) {
         Node::Leaf(r) => r,
         Node::Operands(q, stop, to) => operands(
-            syntax,
+            Syntax::Tree,
             language,
             index,
-            uses,
+            &[],
             q,
             stop,
             bytes,
@@ -192,26 +193,7 @@ pub fn read_at(
     }
 }
 
-// A code of the kind at a position, of the language that the index is of.
-pub fn read(
-    syntax: Syntax,
-    language: &[u8],
-    index: &[u16],
-    uses: &[u8],
-    kind: u8,
-    bytes: &[u8],
-    at: usize,
-    levels: usize,
-) -> Read
-    requires { ⌜ Ready (now index) (now language) kind (now bytes) at ⌝ }
-    ensures is { λ r. ⌜ ((l : Language) → Indexed (now (index .entry)) (now (language .entry)) l
-        → restAt (now (bytes .entry)) r ≡ restOf (readCode (syntaxOf syntax) l (usesIn (now (uses .entry))) levels kind (drop at (now (bytes .entry))))) ⌝ }
-    ensures within { λ r. ⌜ EndsBy (length (now (bytes .entry))) r ⌝ }
-{
-    read_at(syntax, language, index, uses, kind, bytes, at, levels)
-}
-
-// The same for a code: a function of its own, since the compiler merges one that has a single caller into it.
+// A code of the kind at a position, whose uses are given.
 pub fn read_code(
     language: &[u8],
     index: &[u16],
@@ -223,13 +205,13 @@ pub fn read_code(
 ) -> Read
     requires { ⌜ Ready (now index) (now language) kind (now bytes) at ⌝ }
     ensures is { λ r. ⌜ ((l : Language) → Indexed (now (index .entry)) (now (language .entry)) l
-        → restAt (now (bytes .entry)) r ≡ restOf (readCode code l (usesIn (now (uses .entry))) levels kind (drop at (now (bytes .entry))))) ⌝ }
+        → restAt (now (bytes .entry)) r ≡ restOf (Meant.read Meant.code l (usesIn (now (uses .entry))) levels kind (drop at (now (bytes .entry))))) ⌝ }
     ensures within { λ r. ⌜ EndsBy (length (now (bytes .entry))) r ⌝ }
 {
     if levels == 0 {
         return past_levels(Syntax::Code, language, index, kind, bytes, at);
     }
-    match node_at(Syntax::Code, language, index, uses, kind, bytes, at) {
+    match code_node(language, index, uses, kind, bytes, at) {
         Node::Leaf(r) => r,
         Node::Operands(q, stop, to) => operands(
             Syntax::Code,

@@ -12,11 +12,11 @@ use Rattle.reader.specs.Syntax as Meant
 use Rattle.reader.specs.declared.node.Syntax.the-variants.{Tree}
 use Rattle.reader.specs.declared.node.Read.the-variants.{End}
 use Rattle.reader.specs.Inner.Index.{Indexed}
-use Rattle.reader.specs.Inner.Positions.{usesIn, readAt, restAt}
+use Rattle.reader.specs.Inner.Positions.{readAt}
 use Rattle.reader.specs.Inner.Ends.{Kept}
 use Rattle.reader.proofs.RoundTrip.{Apart, round, as-tree}
 use Rattle.reader.proofs.Larger.{deep-done}
-use Rattle.reader.proofs.Meaning.{done-of, read-same}
+use Rattle.reader.proofs.Meaning.{done-of, tree-meant}
 use Rattle.reader.proofs.Sound.{More, more-levels}
 use Rattle.measure.specs.Inner.Learning.{Learnt}
 use Rattle.tables.specs.Inner.Stands.{Stands}
@@ -44,12 +44,11 @@ module _ (s index b : List ℕ) (l : Language) (indexed : Indexed index s l) (ap
   -- Where the reader ends, any tree of the kind that stands there ends.
   read-ends : (n k at e : ℕ) → k < 32 → readAt Tree s index [] b n k at ≡ End e → e ≤ length b
       → (u : Code) → Typed l [] u k → Stands b at (Meant.write Meant.tree u) → e ≡ at + length (Meant.write Meant.tree u)
-  unfolding usesIn
   read-ends n k at e small r i u typed stands =
       let v = Meant.write Meant.tree u in
       let to = at + length v in
       let m = n + levels u in
-      let d = done-of (Meant.read Meant.tree l [] n k (drop at b)) (drop e b) (sym (read-same Tree s index [] b l indexed bytes n k at small) ∙ ap (restAt b) r) in
+      let d = done-of (Meant.read Meant.tree l [] n k (drop at b)) (drop e b) (sym (tree-meant s index b l indexed bytes n k at small (End e) (sym r))) in
       let first : Meant.read Meant.tree l [] m k (drop at b) ≡ Meant.done (d .0) (drop e b) =
       more-done (more-levels Meant.tree l [] n m k (drop at b) (omega arith)) (d .1) in
       let second : Meant.read Meant.tree l [] m k (drop at b) ≡ Meant.done u (drop to b) =
