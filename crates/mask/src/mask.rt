@@ -27,7 +27,7 @@ ghost use Rattle.mask.specs.Inner.Masking.{GivesTree, GivesKind};
 // measured while the tree is read, before a byte is written.
 fn mask_read(
     language: &[u8],
-    index: &[u16],
+    index: &[u16; INDEX],
     seen: u32,
     kind: u8,
     tree: &[u8],

@@ -4,6 +4,7 @@ use card::set::in_set;
 use fields::bytes::pair_in;
 use fields::bytes::to_usize;
 use language::range::in_range;
+use reader::index::INDEX;
 use reader::node::Read;
 use reader::node::Syntax;
 use reader::node::place_at;
@@ -66,7 +67,7 @@ fn measure_token(
 // The tree of a hidden kind: one byte.
 fn measure_hidden(
     language: &[u8],
-    index: &[u16],
+    index: &[u16; INDEX],
     kind: u8,
     tree: &[u8],
     at: usize,
@@ -92,7 +93,7 @@ fn measure_hidden(
 // Measures the tokens that a row of trees starts with, whose kinds stand in the language from `from` up to `stop`.
 fn measure_tokens(
     language: &[u8],
-    index: &[u16],
+    index: &[u16; INDEX],
     seen: u32,
     from: usize,
     stop: usize,
@@ -142,7 +143,7 @@ fn measure_tokens(
 // is left to do, so its arguments are measured here.
 fn measure_all(
     language: &[u8],
-    index: &[u16],
+    index: &[u16; INDEX],
     seen: u32,
     from: usize,
     stop: usize,
@@ -242,7 +243,13 @@ fn measure_all(
 }
 
 // The tree of a kind that starts with the first byte.
-pub fn measure_tree(language: &[u8], index: &[u16], seen: u32, kind: u8, tree: &[u8]) -> Measured
+pub fn measure_tree(
+    language: &[u8],
+    index: &[u16; INDEX],
+    seen: u32,
+    kind: u8,
+    tree: &[u8],
+) -> Measured
     requires { ⌜ Ready (now index) (now language) kind (now tree) 0 ⌝ }
     ensures { λ r. ⌜ Within (now (tree .entry)) r
         × MeasuresTree (now (language .entry)) (now (index .entry)) seen kind (now (tree .entry)) 0 64 0 r ⌝ }

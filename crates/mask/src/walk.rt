@@ -3,6 +3,7 @@
 use card::set::in_set;
 use fields::bytes::pair_in;
 use fields::bytes::to_usize;
+use reader::index::INDEX;
 use reader::node::Read;
 use reader::node::Syntax;
 use reader::node::place_at;
@@ -38,7 +39,14 @@ pub struct Reached {
 }
 
 // Where the legal tree of a kind ends that starts at a position.
-fn end_at(language: &[u8], index: &[u16], kind: u8, tree: &[u8], at: usize, levels: usize) -> usize
+fn end_at(
+    language: &[u8],
+    index: &[u16; INDEX],
+    kind: u8,
+    tree: &[u8],
+    at: usize,
+    levels: usize,
+) -> usize
     requires { ⌜ Ready (now index) (now language) kind (now tree) at ⌝ }
     ensures { λ r. ⌜ EndsTree (now (language .entry)) (now (index .entry)) kind (now (tree .entry)) at levels r ⌝ }
 {
@@ -79,7 +87,7 @@ fn put_token(seen: bool, tree: &[u8], at: usize, out: &mut [u8], n: usize) -> us
 // Puts the tokens that a row of trees starts with, whose kinds stand in the language from `from` up to `stop`.
 fn put_tokens(
     language: &[u8],
-    index: &[u16],
+    index: &[u16; INDEX],
     seen: u32,
     from: usize,
     stop: usize,
@@ -128,7 +136,7 @@ fn put_tokens(
 // the last tree nothing is left to do, so its arguments are put here.
 fn mask_all(
     language: &[u8],
-    index: &[u16],
+    index: &[u16; INDEX],
     seen: u32,
     from: usize,
     stop: usize,
@@ -210,7 +218,7 @@ fn mask_all(
 // Puts the masked form of a legal tree of a kind, and gives its length.
 pub fn mask_tree(
     language: &[u8],
-    index: &[u16],
+    index: &[u16; INDEX],
     seen: u32,
     kind: u8,
     tree: &[u8],

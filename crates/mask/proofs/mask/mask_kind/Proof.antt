@@ -34,7 +34,6 @@ mask-kind-spec =
     returns
     (λ c. search needs)
     build-requires
-    (λ c. search needs)
     mask-read-requires
     (λ c. search needs)
     returns-2)

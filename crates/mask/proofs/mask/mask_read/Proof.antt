@@ -10,19 +10,19 @@ use Rattle.mask.proofs.measure.measure_tree.Reads as measure-tree-reads
 use Rattle.mask.proofs.walk.mask_tree.Reads as mask-tree-reads
 
 returns : tie.Need-returns
-returns c = read-left (c .before .before .before .before .before .before .before .before .before .before .args .language .now) (c .before .before .before .before .before .before .before .before .before .before .args .index .now) (c .before .before .before .before .before .before .before .before .before .before .args .seen) (c .before .before .before .before .before .before .before .before .before .before .args .kind) (c .before .before .before .before .before .before .before .before .before .before .args .tree .now) (c .before .before .before .before .before .before .before .before .before .before .args .output .now) (c .before .before .before .before .before .measure-tree .ensures .1) (c .before .before .before .e .given .1) (c .before .before .before .before .before .measure-tree .ensures .0) (c .before .if1 .taken) (c .refuse .ensures)
+returns c = read-left (c .before .before .before .before .before .before .before .before .before .args .language .now) (c .before .before .before .before .before .before .before .before .before .args .index .now) (c .before .before .before .before .before .before .before .before .before .args .seen) (c .before .before .before .before .before .before .before .before .before .args .kind) (c .before .before .before .before .before .before .before .before .before .args .tree .now) (c .before .before .before .before .before .before .before .before .before .args .output .now) (c .before .before .before .before .before .measure-tree .ensures .1) (c .before .before .before .e .given .1) (c .before .before .before .before .before .measure-tree .ensures .0) (c .before .if1 .taken) (c .refuse .ensures)
 
 returns-2 : tie.Need-returns-2
-returns-2 c = read-long (c .before .before .before .before .before .before .before .before .before .before .before .args .language .now) (c .before .before .before .before .before .before .before .before .before .before .before .args .index .now) (c .before .before .before .before .before .before .before .before .before .before .before .args .seen) (c .before .before .before .before .before .before .before .before .before .before .before .args .kind) (c .before .before .before .before .before .before .before .before .before .before .before .args .tree .now) (c .before .before .before .before .before .before .before .before .before .before .before .args .output .now) (c .before .before .before .before .before .before .measure-tree .ensures .1) (c .before .before .before .before .e .given .1) (c .before .before .if1 .left) (c .before .if2 .taken) (c .refuse2 .ensures)
+returns-2 c = read-long (c .before .before .before .before .before .before .before .before .before .before .args .language .now) (c .before .before .before .before .before .before .before .before .before .before .args .index .now) (c .before .before .before .before .before .before .before .before .before .before .args .seen) (c .before .before .before .before .before .before .before .before .before .before .args .kind) (c .before .before .before .before .before .before .before .before .before .before .args .tree .now) (c .before .before .before .before .before .before .before .before .before .before .args .output .now) (c .before .before .before .before .before .before .measure-tree .ensures .1) (c .before .before .before .before .e .given .1) (c .before .before .if1 .left) (c .before .if2 .taken) (c .refuse2 .ensures)
 
 returns-3 : tie.Need-returns-3
-returns-3 c = read-done (c .before .before .before .before .before .before .before .before .before .before .before .before .before .before .before .args .language .now) (c .before .before .before .before .before .before .before .before .before .before .before .before .before .before .before .args .index .now) (c .before .before .before .before .before .before .before .before .before .before .before .before .before .before .before .args .seen) (c .before .before .before .before .before .before .before .before .before .before .before .before .before .before .before .args .kind) (c .before .before .before .before .before .before .before .before .before .before .before .before .before .before .before .args .tree .now) (c .before .before .before .before .before .before .before .before .before .before .before .before .before .before .before .args .output .now) (c .before .before .before .before .before .before .before .before .before .before .measure-tree .ensures .1) (c .before .before .before .before .before .before .before .before .e .given .1) (c .before .before .before .before .before .before .if1 .left) (c .before .before .before .before .before .if2 .left) (c .before .before .before .mask-tree .ensures) (c .accept .ensures)
+returns-3 c = read-done (c .before .before .before .before .before .before .before .before .before .before .before .before .before .before .args .language .now) (c .before .before .before .before .before .before .before .before .before .before .before .before .before .before .args .index .now) (c .before .before .before .before .before .before .before .before .before .before .before .before .before .before .args .seen) (c .before .before .before .before .before .before .before .before .before .before .before .before .before .before .args .kind) (c .before .before .before .before .before .before .before .before .before .before .before .before .before .before .args .tree .now) (c .before .before .before .before .before .before .before .before .before .before .before .before .before .before .args .output .now) (c .before .before .before .before .before .before .before .before .before .before .measure-tree .ensures .1) (c .before .before .before .before .before .before .before .before .e .given .1) (c .before .before .before .before .before .before .if1 .left) (c .before .before .before .before .before .if2 .left) (c .before .before .before .mask-tree .ensures) (c .accept .ensures)
 
 returns-4 : tie.Need-returns-4
-returns-4 c = read-deep (c .before .before .before .before .before .before .before .before .args .language .now) (c .before .before .before .before .before .before .before .before .args .index .now) (c .before .before .before .before .before .before .before .before .args .seen) (c .before .before .before .before .before .before .before .before .args .kind) (c .before .before .before .before .before .before .before .before .args .tree .now) (c .before .before .before .before .before .before .before .before .args .output .now) (c .before .before .before .measure-tree .ensures .1) (c .before .enum-told .given .1) (c .refuse3 .ensures)
+returns-4 c = read-deep (c .before .before .before .before .before .before .before .args .language .now) (c .before .before .before .before .before .before .before .args .index .now) (c .before .before .before .before .before .before .before .args .seen) (c .before .before .before .before .before .before .before .args .kind) (c .before .before .before .before .before .before .before .args .tree .now) (c .before .before .before .before .before .before .before .args .output .now) (c .before .before .before .measure-tree .ensures .1) (c .before .enum-told .given .1) (c .refuse3 .ensures)
 
 returns-5 : tie.Need-returns-5
-returns-5 c = read-broken (c .before .before .before .before .before .before .before .before .args .language .now) (c .before .before .before .before .before .before .before .before .args .index .now) (c .before .before .before .before .before .before .before .before .args .seen) (c .before .before .before .before .before .before .before .before .args .kind) (c .before .before .before .before .before .before .before .before .args .tree .now) (c .before .before .before .before .before .before .before .before .args .output .now) (c .before .before .before .measure-tree .ensures .1) (c .before .enum-told2 .given .1) (c .refuse4 .ensures)
+returns-5 c = read-broken (c .before .before .before .before .before .before .before .args .language .now) (c .before .before .before .before .before .before .before .args .index .now) (c .before .before .before .before .before .before .before .args .seen) (c .before .before .before .before .before .before .before .args .kind) (c .before .before .before .before .before .before .before .args .tree .now) (c .before .before .before .before .before .before .before .args .output .now) (c .before .before .before .measure-tree .ensures .1) (c .before .enum-told2 .given .1) (c .refuse4 .ensures)
 
 pub mask-read-spec : {M : Type 1} → statement M
 mask-read-spec =

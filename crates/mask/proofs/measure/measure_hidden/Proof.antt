@@ -9,7 +9,7 @@ use Rattle.mask.proofs.measure.measure_hidden.Lts as lts
 use Rattle.reader.proofs.read.read_tree.Reads as read-tree-reads
 
 returns : tie.Need-returns
-returns c = hidden-not (c .before .before .before .before .before .before .before .before .args .language .now) (c .before .before .before .before .before .before .before .before .args .index .now) (c .before .before .before .before .before .before .before .before .args .kind) (c .before .before .before .before .before .before .before .before .args .tree .now) (c .before .before .before .before .before .before .before .before .args .at) (c .before .before .before .before .before .before .before .before .args .levels) (c .before .before .before .before .before .before .before .before .args .n) (c .before .before .before .before .before .before .before .before .pre .1) _ (c .before .before .before .before .read-tree .ensures .0) (c .before .before .e .given .1) (λ i. omega (arith, c .before .before .before .before .before .shared-slice-known3 .given i)) (c .if1 .taken)
+returns c = hidden-not (c .before .before .before .before .before .before .before .before .args .language .now) (c .before .before .before .before .before .before .before .before .args .index .now) (c .before .before .before .before .before .before .before .before .args .kind) (c .before .before .before .before .before .before .before .before .args .tree .now) (c .before .before .before .before .before .before .before .before .args .at) (c .before .before .before .before .before .before .before .before .args .levels) (c .before .before .before .before .before .before .before .before .args .n) (c .before .before .before .before .before .before .before .before .pre .1) _ (c .before .before .before .before .read-tree .ensures .0) (c .before .before .e .given .1) (λ i. omega (arith, c .before .before .before .before .before .before .shared-slice-known2 .given i)) (c .if1 .taken)
 
 returns-2 : tie.Need-returns-2
 returns-2 c = hidden-end (c .before .before .before .before .before .before .before .before .args .language .now) (c .before .before .before .before .before .before .before .before .args .index .now) (c .before .before .before .before .before .before .before .before .args .kind) (c .before .before .before .before .before .before .before .before .args .tree .now) (c .before .before .before .before .before .before .before .before .args .at) (c .before .before .before .before .before .before .before .before .args .levels) (c .before .before .before .before .before .before .before .before .args .n) (c .before .before .before .before .before .before .before .before .pre .1) _ (c .before .before .before .before .read-tree .ensures .0) (c .before .before .e .given .1) (end-in _ (c .before .before .e .given .1) (c .before .before .before .before .read-tree .ensures .1)) (c .if1 .left)
