@@ -3,19 +3,19 @@ use Prim.Native.Nat.{ℕ}
 use mathlib.Core.Path.{_≡_, refl, ap, sym, _∙_}
 use mathlib.Core.Bool.{true}
 use mathlib.Core.List.{List, map}
-use Rattle.fields.specs.Keyed.{holds, within}
-use Rattle.fields.proofs.Truth.{Mem, all-mem, mem-all}
-use Rattle.reader.specs.Code.{Code}
-use Rattle.reader.specs.Syntax.{write, code}
-use Rattle.translation.specs.Translation.{Item, mapping, clause, Translation, numbersOf}
-use Rattle.translation.specs.Running.{paired, run, clausesOf}
-use Rattle.translation.proofs.Lookup.{mem-mapped}
-use Rattle.translation.proofs.Fitting.{clause-code}
-use Rattle.operators.specs.Operators.{entryWithin, lowNumber, numbersLow, joinFits, joinItem}
-use Rattle.operators.specs.Inner.Paired.{reached, pairedItem}
-use Rattle.operators.proofs.Proper.{Sound}
-use Rattle.operators.proofs.SumSound.{Part, part-code}
-use Rattle.operators.proofs.JoinRises.{join-item}
+use Rattle.format_fields.specs.Keyed.{holds, within}
+use Rattle.format_fields.proofs.Truth.{Mem, all-mem, mem-all}
+use Rattle.tree_reader.specs.Code.{Code}
+use Rattle.tree_reader.specs.Syntax.{write, code}
+use Rattle.format_translation.specs.Translation.{Item, mapping, clause, Translation, numbersOf}
+use Rattle.format_translation.specs.Running.{paired, run, clausesOf}
+use Rattle.format_translation.proofs.Lookup.{mem-mapped}
+use Rattle.format_translation.proofs.Fitting.{clause-code}
+use Rattle.reduce_operators.specs.Operators.{entryWithin, lowNumber, numbersLow, joinFits, joinItem}
+use Rattle.reduce_operators.specs.Inner.Paired.{reached, pairedItem}
+use Rattle.reduce_operators.proofs.Proper.{Sound}
+use Rattle.reduce_operators.proofs.SumSound.{Part, part-code}
+use Rattle.reduce_operators.proofs.JoinRises.{join-item}
 use Rattle.laws.proofs.Subsets.{Lies}
 
 -- Where the join after a translation fits, so does the join after one that lies in it.

@@ -4,14 +4,14 @@ use mathlib.Core.Path.{_≡_, ap, sym, _∙_}
 use mathlib.Core.Bool.{true}
 use mathlib.Core.List.{List}
 use lib.ListN.{length}
-use Rattle.fields.specs.Outcome.{Result, value, numberOf, lengthOf, written, outputAfter}
-use Rattle.fields.specs.Fields.{Field}
-use Rattle.translation.specs.Translation.{Translation}
-use Rattle.translation.specs.TranslationFile.{encodeTranslation}
-use Rattle.pack.specs.Terms.{Term, translations, scoped}
-use Rattle.signs.specs.Evaluation.{Constants, constantsOf, nothingBound, evaluate}
-use Rattle.reducer.specs.Operations.{reduceBytes, reduce}
-use Rattle.evaluator.proofs.Evaluated.{GoodConstants}
+use Rattle.outcome.specs.Outcome.{Result, value, numberOf, lengthOf, written, outputAfter}
+use Rattle.format_fields.specs.Fields.{Field}
+use Rattle.format_translation.specs.Translation.{Translation}
+use Rattle.format_translation.specs.TranslationFile.{encodeTranslation}
+use Rattle.format_pack.specs.Terms.{Term, translations, scoped}
+use Rattle.reduce_signs.specs.Evaluation.{Constants, constantsOf, nothingBound, evaluate}
+use Rattle.reduce_operation.specs.Operations.{reduceBytes, reduce}
+use Rattle.reduce_terms.proofs.Evaluated.{GoodConstants}
 use Rattle.laws.specs.Packed.{packed, putOut, WithinLimits, AcceptedToo, AcceptedAlike, EqualWhereAccepted, Compared}
 use Rattle.laws.proofs.Reductions.{accepted-value, value-accepted, put-out, reduction, reduction-good, reduce-other, value-under}
 

@@ -7,28 +7,28 @@ use mathlib.Core.List.{List, []}
 use mathlib.Core.Option.{Option, none, some, Option·getD}
 use lib.ListN.{length}
 use lib.Dec.{ltb}
-use Rattle.fields.specs.Outcome.{value, refuseIf, _>>=_}
-use Rattle.fields.specs.declared.outcome.Reason.the-variants.{TooLong, OutOfOrder, ClassIsResult, WrongMapping, WrongClauses, IllegalCode, UnknownRoot}
-use Rattle.fields.specs.Fields.{hasOver}
-use Rattle.fields.specs.Lists.{all, isSome}
-use Rattle.fields.proofs.Truth.{true-not, all-mem, mem-all, some-is}
-use Rattle.language.specs.Language.{Language, isIn, clashes}
-use Rattle.language.specs.LanguageFile.{languageLimit, whole}
-use Rattle.reader.specs.Code.{Code, token}
-use Rattle.reader.specs.Syntax.{tree, code, write, Read, done, readLevel, readCodeLevel, earlier, current, readBy}
-use Rattle.reader.specs.Operations.{treeLevels, treeOf}
-use Rattle.reader.proofs.Sound.{More, rules-more}
-use Rattle.reader.proofs.Larger.{deep-done}
-use Rattle.translation.specs.Translation.{Translation, Item, mapping, clause, mappingOf, clauseOf, mapped}
-use Rattle.translation.specs.Running.{run, codeLevels, usesOf, wholeCode, readClause, clausesOf, transform}
-use Rattle.translation.specs.WellFormed.{mappingFits, clausesFit, codeFits, codesFit, wellFormed}
-use Rattle.translation.specs.TranslationFile.{partsOf, translationLimit, isLanguageTag, allRising, translationOf}
-use Rattle.translation.specs.Operations.{fitted, runBytes}
-use Rattle.translation.proofs.Lookup.{clause-mem}
-use Rattle.translation.proofs.Fitting.{whole-done, refuse-value}
-use Rattle.evaluator.proofs.Evaluated.{step-value, value-inj}
+use Rattle.outcome.specs.Outcome.{value, refuseIf, _>>=_}
+use Rattle.outcome.specs.declared.Reason.the-variants.{TooLong, OutOfOrder, ClassIsResult, WrongMapping, WrongClauses, IllegalCode, UnknownRoot}
+use Rattle.format_fields.specs.Fields.{hasOver}
+use Rattle.format_fields.specs.Lists.{all, isSome}
+use Rattle.format_fields.proofs.Truth.{true-not, all-mem, mem-all, some-is}
+use Rattle.format_language.specs.Language.{Language, isIn, clashes}
+use Rattle.format_language.specs.LanguageFile.{languageLimit, whole}
+use Rattle.tree_reader.specs.Code.{Code, token}
+use Rattle.tree_reader.specs.Syntax.{tree, code, write, Read, done, readLevel, readCodeLevel, earlier, current, readBy}
+use Rattle.tree_reader.specs.Operations.{treeLevels, treeOf}
+use Rattle.tree_reader.proofs.Sound.{More, rules-more}
+use Rattle.tree_reader.proofs.Larger.{deep-done}
+use Rattle.format_translation.specs.Translation.{Translation, Item, mapping, clause, mappingOf, clauseOf, mapped}
+use Rattle.format_translation.specs.Running.{run, codeLevels, usesOf, wholeCode, readClause, clausesOf, transform}
+use Rattle.format_translation.specs.WellFormed.{mappingFits, clausesFit, codeFits, codesFit, wellFormed}
+use Rattle.format_translation.specs.TranslationFile.{partsOf, translationLimit, isLanguageTag, allRising, translationOf}
+use Rattle.format_translation.specs.Operations.{fitted, runBytes}
+use Rattle.format_translation.proofs.Lookup.{clause-mem}
+use Rattle.format_translation.proofs.Fitting.{whole-done, refuse-value}
+use Rattle.reduce_terms.proofs.Evaluated.{step-value, value-inj}
 use Rattle.laws.specs.Earlier.{LawOfRules, codeBy, clausesBy, codeFitsBy, wellFormedBy, translationBy, treeBy, runBy, RunByCurrent, SessionsStay}
-use Rattle.checks.proofs.Legal.{tree-done}
+use Rattle.check_operations.proofs.Legal.{tree-done}
 
 more-done : (o p : Read Code) (a : Code) (r : List ℕ) → More o p → o ≡ done a r → p ≡ done a r
 more-done o p a r (inl e) d = deep-done (sym e ∙ d)

@@ -1,25 +1,25 @@
 -- Every starred example holds, and every case of the four laws meets what its law asks for, by computation.
 use mathlib.Core.Path.{_≡_, refl}
 use mathlib.Core.Bool.{true, _&&_}
-use Rattle.fields.specs.Fields.{encodeField, encodeFields, pairAt, splitFields, fieldsOf, saysOver, hasOver}
-use Rattle.fields.specs.Lists.{all, any, keep, first, concatMap, traverse, countUp, sameNumbers}
-use Rattle.fields.specs.Keyed as Keyed
-use Rattle.language.specs.Language.{entryKey, inRange, sameRange, legalToo, rangeWithin, sameEntry, rangeAt, rangeOf, argumentsAt, argumentsOf, resultIs, mentions, isIn, classIsResult, clashes}
-use Rattle.language.specs.LanguageFile.{rangeWhole, rangeIn, stepBytes, classOf, productionOf, entryOf, entryField, entriesOf, encodeLanguage, languageOf}
-use Rattle.reader.specs.Syntax.{write, readAll, readOperands, readNode, readToken, useOf, readArgument, readNumbered, readUse, readTreeLevel, readCodeLevel, readLevel, pastLevels, readBy}
-use Rattle.reader.specs.Operations.{treeOf}
-use Rattle.translation.specs.Translation.{itemKey, sameItem, targetAt, mappingOf, codeAt, clauseOf, mapped, numberAt, numbersOf, plainKey, numberOf}
-use Rattle.translation.specs.Running.{fromOne, substitute, run, usesOf, readClause, clausesOf, transform}
-use Rattle.translation.specs.WellFormed.{kinds, kindsMapped, reachesTarget, classKept, mappingFits, hasClause, hasProduction, clausesFit, codeFits, codesFit, wellFormed}
-use Rattle.translation.specs.TranslationFile.{mappingField, numberedMapping, clauseField, numberedClause, itemOf, itemField, grouped, itemsIn, bodyOf, partsIn, partsOf, translationFields, encodeTranslation, allRising, translationOf}
-use Rattle.translation.specs.Operations.{runBytes}
-use Rattle.operators.specs.Operators.{languagesFit, languageUnion, languageSum, languageWithout, numberKept, numbersAgree, translationsFit, translationUnion, translationSum, entryWithin, joinFits, lowNumber, numbersLow, joinItem, isOf, translationWithout, joined, translationJoin, argumentsFrom, identityClause, identityOf}
-use Rattle.operators.specs.Limits.{codeIsDeep, languageExceeds, translationExceeds}
-use Rattle.pack.specs.Terms.{writeTerm, termLevels, languageSign, translationSign, readSign, readTerm, scoped}
-use Rattle.pack.specs.Pack.{partOf, inGroups, packWith, packIn, packParts, packOf, termOf}
-use Rattle.signs.specs.Evaluation.{evaluate}
-use Rattle.reducer.specs.Operations.{ready, work, reduceBytes}
-use Rattle.fields.proofs.Truth.{and-both}
+use Rattle.format_fields.specs.Fields.{encodeField, encodeFields, pairAt, splitFields, fieldsOf, saysOver, hasOver}
+use Rattle.format_fields.specs.Lists.{all, any, keep, first, concatMap, traverse, countUp, sameNumbers}
+use Rattle.format_fields.specs.Keyed as Keyed
+use Rattle.format_language.specs.Language.{entryKey, inRange, sameRange, legalToo, rangeWithin, sameEntry, rangeAt, rangeOf, argumentsAt, argumentsOf, resultIs, mentions, isIn, classIsResult, clashes}
+use Rattle.format_language.specs.LanguageFile.{rangeWhole, rangeIn, stepBytes, classOf, productionOf, entryOf, entryField, entriesOf, encodeLanguage, languageOf}
+use Rattle.tree_reader.specs.Syntax.{write, readAll, readOperands, readNode, readToken, useOf, readArgument, readNumbered, readUse, readTreeLevel, readCodeLevel, readLevel, pastLevels, readBy}
+use Rattle.tree_reader.specs.Operations.{treeOf}
+use Rattle.format_translation.specs.Translation.{itemKey, sameItem, targetAt, mappingOf, codeAt, clauseOf, mapped, numberAt, numbersOf, plainKey, numberOf}
+use Rattle.format_translation.specs.Running.{fromOne, substitute, run, usesOf, readClause, clausesOf, transform}
+use Rattle.format_translation.specs.WellFormed.{kinds, kindsMapped, reachesTarget, classKept, mappingFits, hasClause, hasProduction, clausesFit, codeFits, codesFit, wellFormed}
+use Rattle.format_translation.specs.TranslationFile.{mappingField, numberedMapping, clauseField, numberedClause, itemOf, itemField, grouped, itemsIn, bodyOf, partsIn, partsOf, translationFields, encodeTranslation, allRising, translationOf}
+use Rattle.format_translation.specs.Operations.{runBytes}
+use Rattle.reduce_operators.specs.Operators.{languagesFit, languageUnion, languageSum, languageWithout, numberKept, numbersAgree, translationsFit, translationUnion, translationSum, entryWithin, joinFits, lowNumber, numbersLow, joinItem, isOf, translationWithout, joined, translationJoin, argumentsFrom, identityClause, identityOf}
+use Rattle.reduce_operators.specs.Limits.{codeIsDeep, languageExceeds, translationExceeds}
+use Rattle.format_pack.specs.Terms.{writeTerm, termLevels, languageSign, translationSign, readSign, readTerm, scoped}
+use Rattle.format_pack.specs.Pack.{partOf, inGroups, packWith, packIn, packParts, packOf, termOf}
+use Rattle.reduce_signs.specs.Evaluation.{evaluate}
+use Rattle.reduce_operation.specs.Operations.{ready, work, reduceBytes}
+use Rattle.format_fields.proofs.Truth.{and-both}
 use Rattle.laws.specs.Examples.{holds, times, rows}
 use Rattle.laws.specs.Cases.{met, cases}
 

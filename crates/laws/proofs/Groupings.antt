@@ -5,28 +5,28 @@ use mathlib.Core.Bool.{true}
 use mathlib.Core.Option.{some}
 use mathlib.Core.List.{List, map}
 use native.Mathlib.Omega.{arith}
-use Rattle.fields.specs.Outcome.{value}
-use Rattle.fields.proofs.Truth.{Mem, none-some}
-use Rattle.fields.proofs.Keyed.{rising-ext}
-use Rattle.language.specs.Language.{Language, argumentsOf}
-use Rattle.language.proofs.Lookup.{mem-arguments}
-use Rattle.reader.specs.Code.{Code, Codes}
-use Rattle.reader.specs.Typing.{Uses, kindAt, Typed, TypedAll, typed-node, typed-token, typed-argument, typed-nil, typed-cons}
-use Rattle.reader.specs.Syntax.{write, code}
-use Rattle.reader.proofs.Larger.{typed-larger}
-use Rattle.translation.specs.Translation.{Item, mapping, clause, Translation, itemKey, mappingOf, mapped}
-use Rattle.translation.specs.Running.{paired, run, clausesOf}
-use Rattle.translation.proofs.Lookup.{mapping-mem, mem-mapping, number-mem, mem-number}
-use Rattle.translation.proofs.Running.{ByZero, ByZeroAll, pair-whole}
-use Rattle.translation.proofs.Preserved.{use-kind}
-use Rattle.translation.proofs.Fitting.{fit-carries}
-use Rattle.pack.specs.Terms.{Term, translations, join}
-use Rattle.operators.specs.Operators.{numbersLow, joined}
-use Rattle.operators.specs.Inner.Paired.{reached, pairedItem}
-use Rattle.signs.specs.Evaluation.{Constants, nothingBound, evaluate}
-use Rattle.operators.proofs.JoinRises.{mem-join, join-cases, joined-rises}
-use Rattle.operators.proofs.JoinSound.{target-larger, join-lies}
-use Rattle.evaluator.proofs.Evaluated.{GoodConstants}
+use Rattle.outcome.specs.Outcome.{value}
+use Rattle.format_fields.proofs.Truth.{Mem, none-some}
+use Rattle.format_fields.proofs.Keyed.{rising-ext}
+use Rattle.format_language.specs.Language.{Language, argumentsOf}
+use Rattle.format_language.proofs.Lookup.{mem-arguments}
+use Rattle.tree_reader.specs.Code.{Code, Codes}
+use Rattle.tree_reader.specs.Typing.{Uses, kindAt, Typed, TypedAll, typed-node, typed-token, typed-argument, typed-nil, typed-cons}
+use Rattle.tree_reader.specs.Syntax.{write, code}
+use Rattle.tree_reader.proofs.Larger.{typed-larger}
+use Rattle.format_translation.specs.Translation.{Item, mapping, clause, Translation, itemKey, mappingOf, mapped}
+use Rattle.format_translation.specs.Running.{paired, run, clausesOf}
+use Rattle.format_translation.proofs.Lookup.{mapping-mem, mem-mapping, number-mem, mem-number}
+use Rattle.format_translation.proofs.Running.{ByZero, ByZeroAll, pair-whole}
+use Rattle.format_translation.proofs.Preserved.{use-kind}
+use Rattle.format_translation.proofs.Fitting.{fit-carries}
+use Rattle.format_pack.specs.Terms.{Term, translations, join}
+use Rattle.reduce_operators.specs.Operators.{numbersLow, joined}
+use Rattle.reduce_operators.specs.Inner.Paired.{reached, pairedItem}
+use Rattle.reduce_signs.specs.Evaluation.{Constants, nothingBound, evaluate}
+use Rattle.reduce_operators.proofs.JoinRises.{mem-join, join-cases, joined-rises}
+use Rattle.reduce_operators.proofs.JoinSound.{target-larger, join-lies}
+use Rattle.reduce_terms.proofs.Evaluated.{GoodConstants}
 use Rattle.laws.proofs.Joined.{mapped-to, mapping-low, SoundJoin, sound-value, mapped-pair, pair-mapped, code-joined, code-runs}
 use Rattle.laws.proofs.Signs.{operands-join, join-value, value-good}
 

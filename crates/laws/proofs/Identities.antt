@@ -4,22 +4,22 @@ use mathlib.Core.Path.{_≡_, ap, sym, subst, _∙_}
 use mathlib.Core.Logic.{_⊎_, inl, inr, ⊎-elim}
 use mathlib.Core.Bool.{true}
 use mathlib.Core.List.{map}
-use Rattle.fields.specs.Outcome.{value}
-use Rattle.fields.specs.Lists.{keep, concatMap}
-use Rattle.fields.proofs.Truth.{Mem, keep-cases, mem-keep, mem-map, map-cases, mem-append, append-cases, mem-concat, concat-cases}
-use Rattle.fields.proofs.Keyed.{union-cases}
-use Rattle.language.specs.Language.{Entry, production, Language, entryKey, isIn}
-use Rattle.language.proofs.Lookup.{in-larger, in-union}
-use Rattle.translation.specs.Translation.{Item, mapping, Body, Translation}
-use Rattle.translation.specs.WellFormed.{kinds}
-use Rattle.pack.specs.Terms.{Term, languages, sum, identity}
-use Rattle.operators.specs.Operators.{languageUnion, translationUnion, identityClause, identityOf}
-use Rattle.operators.proofs.Proper.{Proper, good-proper, GoodTranslation}
-use Rattle.operators.proofs.SumSound.{LanguagesFit, fit-languages, languages-fit, proper-union, fit-translations, union-covers, Covers}
-use Rattle.operators.proofs.ItemParts.{mapping-parts, mapping-clause}
-use Rattle.operators.proofs.IdentitySound.{sound-identity}
-use Rattle.signs.specs.Evaluation.{Constants, nothingBound, evaluate}
-use Rattle.evaluator.proofs.Evaluated.{GoodConstants}
+use Rattle.outcome.specs.Outcome.{value}
+use Rattle.format_fields.specs.Lists.{keep, concatMap}
+use Rattle.format_fields.proofs.Truth.{Mem, keep-cases, mem-keep, mem-map, map-cases, mem-append, append-cases, mem-concat, concat-cases}
+use Rattle.format_fields.proofs.Keyed.{union-cases}
+use Rattle.format_language.specs.Language.{Entry, production, Language, entryKey, isIn}
+use Rattle.format_language.proofs.Lookup.{in-larger, in-union}
+use Rattle.format_translation.specs.Translation.{Item, mapping, Body, Translation}
+use Rattle.format_translation.specs.WellFormed.{kinds}
+use Rattle.format_pack.specs.Terms.{Term, languages, sum, identity}
+use Rattle.reduce_operators.specs.Operators.{languageUnion, translationUnion, identityClause, identityOf}
+use Rattle.reduce_operators.proofs.Proper.{Proper, good-proper, GoodTranslation}
+use Rattle.reduce_operators.proofs.SumSound.{LanguagesFit, fit-languages, languages-fit, proper-union, fit-translations, union-covers, Covers}
+use Rattle.reduce_operators.proofs.ItemParts.{mapping-parts, mapping-clause}
+use Rattle.reduce_operators.proofs.IdentitySound.{sound-identity}
+use Rattle.reduce_signs.specs.Evaluation.{Constants, nothingBound, evaluate}
+use Rattle.reduce_terms.proofs.Evaluated.{GoodConstants}
 use Rattle.laws.proofs.Subsets.{Subset, Lies, InEither, short-language, lies-within, good-within, sum-whole}
 use Rattle.laws.proofs.Signs.{sum-value, value-sum, identity-value, value-identity, value-good, value-whole}
 

@@ -4,20 +4,20 @@ use mathlib.Core.Path.{_≡_, sym, subst, _∙_}
 use mathlib.Core.Bool.{true, false}
 use mathlib.Core.Option.{some}
 use mathlib.Core.List.{List, []}
-use Rattle.fields.proofs.Truth.{Mem}
-use Rattle.language.specs.Language.{argumentsOf}
-use Rattle.reader.specs.Code.{Code}
-use Rattle.reader.specs.Typing.{Uses, Typed}
-use Rattle.translation.specs.Translation.{Item, mapping, Body, Translation, numberOf, mappingOf, mapped}
-use Rattle.translation.specs.Running.{paired, run, clausesOf, transform}
-use Rattle.translation.proofs.Lookup.{mapping-mem}
-use Rattle.translation.proofs.Running.{ByZero, pair-first, pair-second}
-use Rattle.operators.specs.Operators.{numbersLow, joined}
-use Rattle.operators.specs.Limits.{codeIsDeep}
-use Rattle.operators.proofs.Accepted.{code-shallow}
-use Rattle.operators.proofs.Proper.{Sound}
-use Rattle.operators.proofs.JoinRises.{low-is}
-use Rattle.operators.proofs.JoinSound.{join-mapped, join-chained, join-clauses, join-codes, join-runs}
+use Rattle.format_fields.proofs.Truth.{Mem}
+use Rattle.format_language.specs.Language.{argumentsOf}
+use Rattle.tree_reader.specs.Code.{Code}
+use Rattle.tree_reader.specs.Typing.{Uses, Typed}
+use Rattle.format_translation.specs.Translation.{Item, mapping, Body, Translation, numberOf, mappingOf, mapped}
+use Rattle.format_translation.specs.Running.{paired, run, clausesOf, transform}
+use Rattle.format_translation.proofs.Lookup.{mapping-mem}
+use Rattle.format_translation.proofs.Running.{ByZero, pair-first, pair-second}
+use Rattle.reduce_operators.specs.Operators.{numbersLow, joined}
+use Rattle.reduce_operators.specs.Limits.{codeIsDeep}
+use Rattle.reduce_operators.proofs.Accepted.{code-shallow}
+use Rattle.reduce_operators.proofs.Proper.{Sound}
+use Rattle.reduce_operators.proofs.JoinRises.{low-is}
+use Rattle.reduce_operators.proofs.JoinSound.{join-mapped, join-chained, join-clauses, join-codes, join-runs}
 use Rattle.laws.proofs.Signs.{Joins}
 
 -- The kind that a kind with this number maps to.

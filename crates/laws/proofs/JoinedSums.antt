@@ -3,21 +3,21 @@ use Prim.Native.Nat.{ℕ}
 use mathlib.Core.Path.{_≡_, refl, ap, sym, subst, _∙_}
 use mathlib.Core.Logic.{inl, inr, ⊎-elim}
 use mathlib.Core.Bool.{true, false}
-use Rattle.fields.specs.Outcome.{value}
-use Rattle.fields.proofs.Truth.{Mem}
-use Rattle.language.specs.Language.{isIn}
-use Rattle.translation.specs.Translation.{Item, mapping, clause, Translation, numbersOf}
-use Rattle.pack.specs.Terms.{Term, translations, sum, join}
-use Rattle.operators.specs.Operators.{numbersLow, joinFits, joined}
-use Rattle.operators.specs.Limits.{isDeep, codeIsDeep}
-use Rattle.operators.specs.Inner.Paired.{reached, pairedItem}
-use Rattle.operators.proofs.Proper.{Sound, GoodTranslation}
-use Rattle.operators.proofs.SumSound.{Part, part-code}
-use Rattle.operators.proofs.ItemParts.{mapping-parts, mapping-clause}
-use Rattle.operators.proofs.JoinRises.{mem-join, join-cases, joined-rises}
-use Rattle.operators.proofs.JoinSound.{clause-source, sound-join}
-use Rattle.signs.specs.Evaluation.{Constants, nothingBound, evaluate}
-use Rattle.evaluator.proofs.Evaluated.{GoodConstants}
+use Rattle.outcome.specs.Outcome.{value}
+use Rattle.format_fields.proofs.Truth.{Mem}
+use Rattle.format_language.specs.Language.{isIn}
+use Rattle.format_translation.specs.Translation.{Item, mapping, clause, Translation, numbersOf}
+use Rattle.format_pack.specs.Terms.{Term, translations, sum, join}
+use Rattle.reduce_operators.specs.Operators.{numbersLow, joinFits, joined}
+use Rattle.reduce_operators.specs.Limits.{isDeep, codeIsDeep}
+use Rattle.reduce_operators.specs.Inner.Paired.{reached, pairedItem}
+use Rattle.reduce_operators.proofs.Proper.{Sound, GoodTranslation}
+use Rattle.reduce_operators.proofs.SumSound.{Part, part-code}
+use Rattle.reduce_operators.proofs.ItemParts.{mapping-parts, mapping-clause}
+use Rattle.reduce_operators.proofs.JoinRises.{mem-join, join-cases, joined-rises}
+use Rattle.reduce_operators.proofs.JoinSound.{clause-source, sound-join}
+use Rattle.reduce_signs.specs.Evaluation.{Constants, nothingBound, evaluate}
+use Rattle.reduce_terms.proofs.Evaluated.{GoodConstants}
 use Rattle.laws.proofs.Subsets.{Subset, Lies, InEither, lies-within}
 use Rattle.laws.proofs.Alike.{part-fits, part-low, reached-alike, paired-alike}
 use Rattle.laws.proofs.Signs.{Joins, join-value, value-join, value-good, sum-parts, value-whole}

@@ -4,20 +4,20 @@ use mathlib.Core.Path.{_≡_, refl, ap, sym, subst, _∙_}
 use mathlib.Core.Logic.{inl, inr}
 use mathlib.Core.Bool.{Bool, true, false, cond}
 use mathlib.Core.List.{List, [], _∷_, _++_, map}
-use Rattle.fields.specs.Outcome.{value}
-use Rattle.fields.specs.Lists.{keep, concatMap}
-use Rattle.fields.proofs.Truth.{Mem, by-test, keep-cases, mem-keep}
-use Rattle.language.specs.Language.{Language}
-use Rattle.translation.specs.Translation.{Item, mapping, clause, Translation, numbersOf}
-use Rattle.pack.specs.Terms.{Term, languages, translations, join, without}
-use Rattle.operators.specs.Operators.{languageWithout, isOf, translationWithout, joinItem, joined}
-use Rattle.operators.specs.Limits.{translationExceeds}
-use Rattle.operators.specs.Inner.Paired.{reached, pairedItem}
-use Rattle.signs.specs.Evaluation.{Constants, nothingBound, evaluate}
-use Rattle.operators.proofs.Proper.{Sound}
-use Rattle.operators.proofs.SumSound.{sound-without}
-use Rattle.operators.proofs.JoinRises.{join-item}
-use Rattle.evaluator.proofs.Evaluated.{GoodConstants}
+use Rattle.outcome.specs.Outcome.{value}
+use Rattle.format_fields.specs.Lists.{keep, concatMap}
+use Rattle.format_fields.proofs.Truth.{Mem, by-test, keep-cases, mem-keep}
+use Rattle.format_language.specs.Language.{Language}
+use Rattle.format_translation.specs.Translation.{Item, mapping, clause, Translation, numbersOf}
+use Rattle.format_pack.specs.Terms.{Term, languages, translations, join, without}
+use Rattle.reduce_operators.specs.Operators.{languageWithout, isOf, translationWithout, joinItem, joined}
+use Rattle.reduce_operators.specs.Limits.{translationExceeds}
+use Rattle.reduce_operators.specs.Inner.Paired.{reached, pairedItem}
+use Rattle.reduce_signs.specs.Evaluation.{Constants, nothingBound, evaluate}
+use Rattle.reduce_operators.proofs.Proper.{Sound}
+use Rattle.reduce_operators.proofs.SumSound.{sound-without}
+use Rattle.reduce_operators.proofs.JoinRises.{join-item}
+use Rattle.reduce_terms.proofs.Evaluated.{GoodConstants}
 use Rattle.laws.proofs.Subsets.{Lies, lies-within}
 use Rattle.laws.proofs.Alike.{part-fits, part-low, item-alike}
 use Rattle.laws.proofs.Signs.{join-value, value-join, without-value, value-without, value-good}
@@ -62,7 +62,7 @@ paired-of l f g (clause r p i c) j = refl
 module _ (g : Translation) (l : Language) where
   -- What is left of a translation lies in it.
   pub lies-without : Lies (translationWithout g l) g
-  unfolding translationWithout languageWithout Rattle.fields.specs.Keyed.without isOf
+  unfolding translationWithout languageWithout Rattle.format_fields.specs.Keyed.without isOf
   lies-without = record {
     source = λ a m. keep-cases _ a (g .source) m .0;
     target = λ a m. m;

@@ -1,7 +1,7 @@
 -- The four laws of paper 02, 2026-11, hold.
 use mathlib.Core.Bool.{_&&_}
-use Rattle.fields.proofs.Truth.{and-both, both-and}
-use Rattle.pack.specs.Terms.{Term, languages, translations, join, identity, without, sum, scoped}
+use Rattle.format_fields.proofs.Truth.{and-both, both-and}
+use Rattle.format_pack.specs.Terms.{Term, languages, translations, join, identity, without, sum, scoped}
 use Rattle.laws.specs.Laws.{LawOfJoinedSums, LawOfJoinsWithout, LawOfIdentities, LawOfGroupings}
 use Rattle.laws.proofs.Comparing.{ScopedToo, accepted-too, accepted-alike, equal-where-accepted}
 use Rattle.laws.proofs.JoinedSums.{joined-sum}

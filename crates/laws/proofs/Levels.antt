@@ -7,16 +7,16 @@ use mathlib.Core.List.{List, [], _++_}
 use mathlib.Core.Option.{some}
 use native.Mathlib.Omega.{arith}
 use borrow.Author.Tests.{eq-eqb}
-use Rattle.fields.specs.Lists.{any, isSome}
-use Rattle.fields.proofs.Truth.{and-both, not-true, not-both, none-some, mem-any, is-some}
-use Rattle.language.specs.Language.{Language, production, rangeOf, argumentsOf, resultIs, isIn, isUndefined, clashes}
-use Rattle.language.proofs.Lookup.{arguments-mem}
-use Rattle.reader.specs.Code.{Code, levels}
-use Rattle.reader.specs.Typing.{Uses, kindAt, Typed, typed-node, typed-token, typed-argument}
-use Rattle.reader.specs.Syntax.{Syntax, deep, read, write, tree, code}
-use Rattle.reader.proofs.RoundTrip.{Written, as-tree, as-code, round}
-use Rattle.reader.proofs.Sound.{read-done, more-levels}
-use Rattle.reader.proofs.Larger.{apart}
+use Rattle.format_fields.specs.Lists.{any, isSome}
+use Rattle.format_fields.proofs.Truth.{and-both, not-true, not-both, none-some, mem-any, is-some}
+use Rattle.format_language.specs.Language.{Language, production, rangeOf, argumentsOf, resultIs, isIn, isUndefined, clashes}
+use Rattle.format_language.proofs.Lookup.{arguments-mem}
+use Rattle.tree_reader.specs.Code.{Code, levels}
+use Rattle.tree_reader.specs.Typing.{Uses, kindAt, Typed, typed-node, typed-token, typed-argument}
+use Rattle.tree_reader.specs.Syntax.{Syntax, deep, read, write, tree, code}
+use Rattle.tree_reader.proofs.RoundTrip.{Written, as-tree, as-code, round}
+use Rattle.tree_reader.proofs.Sound.{read-done, more-levels}
+use Rattle.tree_reader.proofs.Larger.{apart}
 use Rattle.laws.specs.Levels.{usesIn, LawOfLevels, UndefinedHasNoTree}
 
 -- Either syntax can write the arguments that it has.

@@ -8,21 +8,21 @@ use native.Mathlib.Omega.{arith}
 use lib.ListN.{length, drop}
 use lib.Seq.{take-append-seam}
 use lib.Dec.{ltb}
-use Rattle.fields.specs.Outcome.{Result, value, refused, reasonNumber, numberOf, written, outputAfter}
-use Rattle.fields.specs.Fields.{Field}
-use Rattle.fields.specs.declared.outcome.Reason.{Reason}
-use Rattle.fields.specs.declared.outcome.Reason.the-variants.{TooLong, BrokenField, OutOfOrder, ClassIsResult, WrongMapping, WrongClauses, IllegalCode, IllegalTerm as TermRefused, BuffersTooShort, UnboundVariable, ValueTooLarge, SumUnfit, JoinUnfit, UnknownRoot, IllegalTree, TooDeep, OutputTooShort, BrokenTable, ScoreOutOfRange, NotAnExport, NoBlock, NotIndexed, NoSource, LimitOutOfRange, Hidden, NumberUnfit}
-use Rattle.fields.proofs.Truth.{some-inj}
-use Rattle.translation.specs.Translation.{Translation}
-use Rattle.translation.specs.TranslationFile.{encodeTranslation}
-use Rattle.pack.specs.Terms.{Sort, translations, Term, writeTerm, termLevels, readTerm, scoped}
-use Rattle.pack.specs.Pack.{Pack, packOf, packLimit, termLimit, termOf}
-use Rattle.signs.specs.Evaluation.{Constants, constantsOf, nothingBound, evaluate}
-use Rattle.reducer.specs.Operations.{ready, work, reduceBytes}
-use Rattle.pack.proofs.TermCodec.{read-write, read-sound}
-use Rattle.pack.proofs.PackCodec.{pack-term, pack-short, pack-good}
-use Rattle.evaluator.proofs.Evaluated.{step-value, value-inj, GoodConstants}
-use Rattle.reducer.proofs.Operation.{whole-term, ready-value}
+use Rattle.outcome.specs.Outcome.{Result, value, refused, reasonNumber, numberOf, written, outputAfter}
+use Rattle.format_fields.specs.Fields.{Field}
+use Rattle.outcome.specs.declared.Reason.{Reason}
+use Rattle.outcome.specs.declared.Reason.the-variants.{TooLong, BrokenField, OutOfOrder, ClassIsResult, WrongMapping, WrongClauses, IllegalCode, IllegalTerm as TermRefused, BuffersTooShort, UnboundVariable, ValueTooLarge, SumUnfit, JoinUnfit, UnknownRoot, IllegalTree, TooDeep, OutputTooShort, BrokenTable, ScoreOutOfRange, NotAnExport, NoBlock, NotIndexed, NoSource, LimitOutOfRange, Hidden, NumberUnfit}
+use Rattle.format_fields.proofs.Truth.{some-inj}
+use Rattle.format_translation.specs.Translation.{Translation}
+use Rattle.format_translation.specs.TranslationFile.{encodeTranslation}
+use Rattle.format_pack.specs.Terms.{Sort, translations, Term, writeTerm, termLevels, readTerm, scoped}
+use Rattle.format_pack.specs.Pack.{Pack, packOf, packLimit, termLimit, termOf}
+use Rattle.reduce_signs.specs.Evaluation.{Constants, constantsOf, nothingBound, evaluate}
+use Rattle.reduce_operation.specs.Operations.{ready, work, reduceBytes}
+use Rattle.format_pack.proofs.TermCodec.{read-write, read-sound}
+use Rattle.format_pack.proofs.PackCodec.{pack-term, pack-short, pack-good}
+use Rattle.reduce_terms.proofs.Evaluated.{step-value, value-inj, GoodConstants}
+use Rattle.reduce_operation.proofs.Operation.{whole-term, ready-value}
 use Rattle.laws.specs.Packed.{packed, putOut}
 
 -- No refusal has the number 0.

@@ -9,35 +9,35 @@ use native.Mathlib.Omega.{arith}
 use lib.ListN.{length}
 use lib.Dec.{ltb}
 use borrow.Author.Tests.{ltb-true, ltb-false}
-use Rattle.fields.specs.Outcome.{Result, value, refused, _>>=_, refuseIf, reasonNumber, numberOf, written, outputAfter}
-use Rattle.fields.specs.Fields.{Field}
-use Rattle.fields.specs.Lists.{isSome}
-use Rattle.fields.specs.declared.outcome.Reason.{Reason}
-use Rattle.fields.specs.declared.outcome.Reason.the-variants.{UnknownRoot, IllegalTree, TooDeep, OutputTooShort}
-use Rattle.fields.specs.declared.outcome.Outcome.the-variants.{Accepted, Refused}
-use Rattle.fields.proofs.Truth.{by-test, false-true, none-some, some-inj, some-is}
-use Rattle.fields.proofs.Codec.{refused-value}
-use Rattle.language.specs.Language.{Language, isIn, clashes}
-use Rattle.language.proofs.Lookup.{none-clashes}
-use Rattle.reader.specs.Code.{Code, levels}
-use Rattle.reader.specs.Typing.{Typed}
-use Rattle.reader.specs.Syntax.{done, deep, read, write, tree}
-use Rattle.reader.specs.Operations.{treeLevels, treeOf}
-use Rattle.reader.proofs.Larger.{typed-larger}
-use Rattle.checks.proofs.Legal.{tree-right, tree-of}
-use Rattle.translation.specs.Translation.{Translation, mappingOf, mapped}
-use Rattle.translation.specs.Running.{paired, transform}
-use Rattle.translation.specs.TranslationFile.{encodeTranslation, translationOf}
-use Rattle.translation.specs.Operations.{fitted, runBytes, runTree}
-use Rattle.translation.proofs.Preserved.{kept-tree, typed-run}
-use Rattle.translation.proofs.Fitting.{refuse-value, fit-carries}
-use Rattle.pack.specs.Terms.{Term, translations, join}
-use Rattle.operators.specs.Operators.{joined}
-use Rattle.signs.specs.Evaluation.{constantsOf}
-use Rattle.reducer.specs.Operations.{reduceBytes, reduce}
-use Rattle.operators.proofs.Proper.{Sound, GoodTranslation, good-back}
-use Rattle.operators.proofs.JoinSound.{target-larger, join-lies}
-use Rattle.evaluator.proofs.Evaluated.{step-value, value-inj}
+use Rattle.outcome.specs.Outcome.{Result, value, refused, _>>=_, refuseIf, reasonNumber, numberOf, written, outputAfter}
+use Rattle.format_fields.specs.Fields.{Field}
+use Rattle.format_fields.specs.Lists.{isSome}
+use Rattle.outcome.specs.declared.Reason.{Reason}
+use Rattle.outcome.specs.declared.Reason.the-variants.{UnknownRoot, IllegalTree, TooDeep, OutputTooShort}
+use Rattle.outcome.specs.declared.Outcome.the-variants.{Accepted, Refused}
+use Rattle.format_fields.proofs.Truth.{by-test, false-true, none-some, some-inj, some-is}
+use Rattle.format_fields.proofs.Codec.{refused-value}
+use Rattle.format_language.specs.Language.{Language, isIn, clashes}
+use Rattle.format_language.proofs.Lookup.{none-clashes}
+use Rattle.tree_reader.specs.Code.{Code, levels}
+use Rattle.tree_reader.specs.Typing.{Typed}
+use Rattle.tree_reader.specs.Syntax.{done, deep, read, write, tree}
+use Rattle.tree_reader.specs.Operations.{treeLevels, treeOf}
+use Rattle.tree_reader.proofs.Larger.{typed-larger}
+use Rattle.check_operations.proofs.Legal.{tree-right, tree-of}
+use Rattle.format_translation.specs.Translation.{Translation, mappingOf, mapped}
+use Rattle.format_translation.specs.Running.{paired, transform}
+use Rattle.format_translation.specs.TranslationFile.{encodeTranslation, translationOf}
+use Rattle.format_translation.specs.Operations.{fitted, runBytes, runTree}
+use Rattle.format_translation.proofs.Preserved.{kept-tree, typed-run}
+use Rattle.format_translation.proofs.Fitting.{refuse-value, fit-carries}
+use Rattle.format_pack.specs.Terms.{Term, translations, join}
+use Rattle.reduce_operators.specs.Operators.{joined}
+use Rattle.reduce_signs.specs.Evaluation.{constantsOf}
+use Rattle.reduce_operation.specs.Operations.{reduceBytes, reduce}
+use Rattle.reduce_operators.proofs.Proper.{Sound, GoodTranslation, good-back}
+use Rattle.reduce_operators.proofs.JoinSound.{target-larger, join-lies}
+use Rattle.reduce_terms.proofs.Evaluated.{step-value, value-inj}
 use Rattle.laws.specs.Packed.{packed, putOut}
 use Rattle.laws.specs.Runs.{Legal, mapsTo, targetIn, ReducesTo, OfTree, of-root, of-bytes, of-levels, SameRun, RunsOfJoin, LawOfRuns, hasNumber}
 use Rattle.laws.proofs.Levels.{law-of-levels}

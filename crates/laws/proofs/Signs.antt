@@ -1,16 +1,16 @@
 -- What an accepted sum, join, identity or translation without a language was made of, and how one is made.
 use mathlib.Core.Path.{_≡_, ap, subst, _∙_}
 use mathlib.Core.Bool.{Bool, true, false}
-use Rattle.fields.specs.Outcome.{value, _>>=_}
-use Rattle.language.specs.Language.{Language}
-use Rattle.translation.specs.Translation.{Translation}
-use Rattle.pack.specs.Terms.{Sort, Term, languages, translations, sum, join, identity, without}
-use Rattle.operators.specs.Operators.{languagesFit, languageUnion, languageSum, translationsFit, translationUnion, translationSum, numbersLow, joinFits, joined, translationJoin, identityOf, translationWithout}
-use Rattle.operators.specs.Limits.{translationExceeds}
-use Rattle.signs.specs.Evaluation.{Constants, Value, nothingBound, exceeds, limited, sumOf, evaluate}
-use Rattle.operators.proofs.Proper.{GoodTranslation}
-use Rattle.operators.proofs.SumSound.{fit-translations, translations-fit, sound-union}
-use Rattle.evaluator.proofs.Evaluated.{step-value, limited-value, language-sum, translation-sum, translation-join, Good, GoodConstants, nothing-good, evaluate-good}
+use Rattle.outcome.specs.Outcome.{value, _>>=_}
+use Rattle.format_language.specs.Language.{Language}
+use Rattle.format_translation.specs.Translation.{Translation}
+use Rattle.format_pack.specs.Terms.{Sort, Term, languages, translations, sum, join, identity, without}
+use Rattle.reduce_operators.specs.Operators.{languagesFit, languageUnion, languageSum, translationsFit, translationUnion, translationSum, numbersLow, joinFits, joined, translationJoin, identityOf, translationWithout}
+use Rattle.reduce_operators.specs.Limits.{translationExceeds}
+use Rattle.reduce_signs.specs.Evaluation.{Constants, Value, nothingBound, exceeds, limited, sumOf, evaluate}
+use Rattle.reduce_operators.proofs.Proper.{GoodTranslation}
+use Rattle.reduce_operators.proofs.SumSound.{fit-translations, translations-fit, sound-union}
+use Rattle.reduce_terms.proofs.Evaluated.{step-value, limited-value, language-sum, translation-sum, translation-join, Good, GoodConstants, nothing-good, evaluate-good}
 use Rattle.laws.proofs.Subsets.{Lies, InEither, lies-within, lie-fit, sum-lies, lies-sum, either-sum, sum-whole}
 
 -- Whether two values of either sort fit.

@@ -7,22 +7,22 @@ use mathlib.Core.List.{List, [], _∷_, map}
 use native.Mathlib.Omega.{arith}
 use lib.ListN.{length}
 use borrow.Author.Tests.{le-ltb}
-use Rattle.fields.specs.Fields.{Field, field, encodeFields}
-use Rattle.fields.specs.Keyed.{union}
-use Rattle.fields.proofs.Truth.{Mem, false-any}
-use Rattle.fields.proofs.Keyed.{Rising, From, Agree, from-mem, from-agree, rising-ext, union-cases, union-mem}
-use Rattle.fields.proofs.Codec.{contentsOf, encode-length}
-use Rattle.language.specs.Language.{Entry, Language, entryKey, isIn}
-use Rattle.language.specs.LanguageFile.{entryField, encodeLanguage, languageLimit}
-use Rattle.language.proofs.Lookup.{in-larger, in-union}
-use Rattle.translation.specs.Translation.{Item, mapping, Translation, itemKey}
-use Rattle.translation.specs.TranslationFile.{itemField, translationFields, encodeTranslation, translationLimit}
-use Rattle.translation.proofs.Lookup.{mem-mapping}
-use Rattle.operators.specs.Operators.{languageUnion, translationUnion}
-use Rattle.operators.specs.Limits.{codeIsDeep, languageExceeds, translationExceeds}
-use Rattle.operators.proofs.Accepted.{code-shallow}
-use Rattle.operators.proofs.Proper.{Proper, Sound, GoodTranslation}
-use Rattle.operators.proofs.SumSound.{LanguagesFit, NumbersKept, TranslationsFit, shared-mapping, union-covers, sound-union}
+use Rattle.format_fields.specs.Fields.{Field, field, encodeFields}
+use Rattle.format_fields.specs.Keyed.{union}
+use Rattle.format_fields.proofs.Truth.{Mem, false-any}
+use Rattle.format_fields.proofs.Keyed.{Rising, From, Agree, from-mem, from-agree, rising-ext, union-cases, union-mem}
+use Rattle.format_fields.proofs.Codec.{contentsOf, encode-length}
+use Rattle.format_language.specs.Language.{Entry, Language, entryKey, isIn}
+use Rattle.format_language.specs.LanguageFile.{entryField, encodeLanguage, languageLimit}
+use Rattle.format_language.proofs.Lookup.{in-larger, in-union}
+use Rattle.format_translation.specs.Translation.{Item, mapping, Translation, itemKey}
+use Rattle.format_translation.specs.TranslationFile.{itemField, translationFields, encodeTranslation, translationLimit}
+use Rattle.format_translation.proofs.Lookup.{mem-mapping}
+use Rattle.reduce_operators.specs.Operators.{languageUnion, translationUnion}
+use Rattle.reduce_operators.specs.Limits.{codeIsDeep, languageExceeds, translationExceeds}
+use Rattle.reduce_operators.proofs.Accepted.{code-shallow}
+use Rattle.reduce_operators.proofs.Proper.{Proper, Sound, GoodTranslation}
+use Rattle.reduce_operators.proofs.SumSound.{LanguagesFit, NumbersKept, TranslationsFit, shared-mapping, union-covers, sound-union}
 
 -- All members of one list are members of another.
 abbrev pub Subset : {A : Type 0} → List A → List A → Type 0
@@ -68,7 +68,7 @@ module _ {A : Type 0} (key : A → ℕ) (encode : A → Field) where
       go (inr r) = r
 
   size-less : (n k : ℕ) (l m : List A) → From key n l → From key k m → Subset l m → size l ≤ size m
-  unfolding size encodeFields Rattle.fields.specs.Lists.concatMap
+  unfolding size encodeFields Rattle.format_fields.specs.Lists.concatMap
   size-less n k [] m f g h = omega arith
   size-less n k (x ∷ l) [] f g h = absurd (h x (inl refl))
   size-less n k (x ∷ l) (y ∷ m) f g h =

@@ -4,14 +4,14 @@ use mathlib.Core.Path.{_≡_, refl, ap, sym, subst, _∙_}
 use mathlib.Core.Logic.{inl, inr, ⊎-elim}
 use mathlib.Core.Bool.{true}
 use mathlib.Core.List.{List}
-use Rattle.fields.specs.Outcome.{value}
-use Rattle.fields.proofs.Truth.{and-both, both-and, mem-append, append-cases}
-use Rattle.translation.specs.Translation.{Translation}
-use Rattle.pack.specs.Terms.{Term, translations, scoped}
-use Rattle.operators.specs.Operators.{translationUnion}
-use Rattle.signs.specs.Evaluation.{Constants, nothingBound, evaluate}
-use Rattle.operators.proofs.Proper.{GoodTranslation}
-use Rattle.evaluator.proofs.Evaluated.{value-inj, GoodConstants}
+use Rattle.outcome.specs.Outcome.{value}
+use Rattle.format_fields.proofs.Truth.{and-both, both-and, mem-append, append-cases}
+use Rattle.format_translation.specs.Translation.{Translation}
+use Rattle.format_pack.specs.Terms.{Term, translations, scoped}
+use Rattle.reduce_operators.specs.Operators.{translationUnion}
+use Rattle.reduce_signs.specs.Evaluation.{Constants, nothingBound, evaluate}
+use Rattle.reduce_operators.proofs.Proper.{GoodTranslation}
+use Rattle.reduce_terms.proofs.Evaluated.{value-inj, GoodConstants}
 use Rattle.laws.specs.Sums.{Sum, alone, plus, asTerm, builtFrom, In, SumOver, LawOfSums}
 use Rattle.laws.proofs.Comparing.{ScopedToo, ValueToo, accepted-alike}
 use Rattle.laws.proofs.Subsets.{Lies, lies-itself, lies-further, lies-equal}

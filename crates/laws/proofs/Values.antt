@@ -2,15 +2,15 @@
 use Prim.Native.Nat.{ℕ}
 use mathlib.Core.Path.{_≡_, ap, sym, _∙_}
 use mathlib.Core.List.{List}
-use Rattle.fields.specs.Outcome.{value, checked}
-use Rattle.fields.specs.declared.outcome.Outcome.the-variants.{Accepted}
-use Rattle.translation.specs.TranslationFile.{encodeTranslation, translationOf}
-use Rattle.translation.specs.Operations.{checkTranslation}
-use Rattle.operators.proofs.Proper.{good-back}
-use Rattle.signs.specs.Evaluation.{constantsOf, nothingBound, evaluate}
-use Rattle.reducer.specs.Operations.{ready, work, reduceBytes}
-use Rattle.evaluator.proofs.Evaluated.{step-value, value-inj}
-use Rattle.reducer.proofs.Operation.{ready-value}
+use Rattle.outcome.specs.Outcome.{value, checked}
+use Rattle.outcome.specs.declared.Outcome.the-variants.{Accepted}
+use Rattle.format_translation.specs.TranslationFile.{encodeTranslation, translationOf}
+use Rattle.format_translation.specs.Operations.{checkTranslation}
+use Rattle.reduce_operators.proofs.Proper.{good-back}
+use Rattle.reduce_signs.specs.Evaluation.{constantsOf, nothingBound, evaluate}
+use Rattle.reduce_operation.specs.Operations.{ready, work, reduceBytes}
+use Rattle.reduce_terms.proofs.Evaluated.{step-value, value-inj}
+use Rattle.reduce_operation.proofs.Operation.{ready-value}
 use Rattle.laws.proofs.Reductions.{constants-good}
 use Rattle.laws.proofs.Signs.{value-good}
 

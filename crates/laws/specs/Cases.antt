@@ -4,12 +4,12 @@ use mathlib.Core.Bool.{Bool, true, false, not, _&&_}
 use mathlib.Core.List.{List, [], _∷_}
 use lib.ListN.{length}
 use lib.Dec.{ltb}
-use Rattle.fields.specs.Outcome.{Result, value, refused}
-use Rattle.fields.specs.Lists.{sameNumbers}
-use Rattle.fields.specs.Fields.{Field, field}
-use Rattle.pack.specs.Terms.{Term, languages, translations, constant, make, join, identity, without, sum, termLevels}
-use Rattle.pack.specs.Pack.{packLimit, termLimit}
-use Rattle.reducer.specs.Operations.{reduceBytes}
+use Rattle.outcome.specs.Outcome.{Result, value, refused}
+use Rattle.format_fields.specs.Lists.{sameNumbers}
+use Rattle.format_fields.specs.Fields.{Field, field}
+use Rattle.format_pack.specs.Terms.{Term, languages, translations, constant, make, join, identity, without, sum, termLevels}
+use Rattle.format_pack.specs.Pack.{packLimit, termLimit}
+use Rattle.reduce_operation.specs.Operations.{reduceBytes}
 use Rattle.laws.specs.Packed.{packed}
 use Rattle.laws.specs.Examples.{c, k, twice, rest}
 

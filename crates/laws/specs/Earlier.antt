@@ -6,21 +6,21 @@ use mathlib.Core.List.{List, []}
 use mathlib.Core.Option.{Option, Option·getD}
 use lib.ListN.{length}
 use lib.Dec.{ltb}
-use Rattle.fields.specs.Outcome.{Result, value, refuseIf, _>>=_}
-use Rattle.fields.specs.declared.outcome.Reason.the-variants.{TooLong, OutOfOrder, ClassIsResult, WrongMapping, WrongClauses, IllegalCode, UnknownRoot}
-use Rattle.fields.specs.Fields.{hasOver}
-use Rattle.fields.specs.Lists.{all, isSome}
-use Rattle.language.specs.Language.{Language, isIn, clashes}
-use Rattle.language.specs.LanguageFile.{languageLimit, whole}
-use Rattle.reader.specs.Code.{Code, token}
-use Rattle.reader.specs.Typing.{Uses}
-use Rattle.reader.specs.Syntax.{Syntax, tree, code, write, done, Rule, earlier, current, readBy, read}
-use Rattle.reader.specs.Operations.{treeLevels, wholeTree}
-use Rattle.translation.specs.Translation.{Translation, Item, mapping, clause, mappingOf, clauseOf, mapped}
-use Rattle.translation.specs.Running.{Clauses, run, codeLevels, usesOf, wholeCode}
-use Rattle.translation.specs.WellFormed.{mappingFits, clausesFit}
-use Rattle.translation.specs.TranslationFile.{partsOf, translationLimit, isLanguageTag, allRising}
-use Rattle.translation.specs.Operations.{fitted, runBytes}
+use Rattle.outcome.specs.Outcome.{Result, value, refuseIf, _>>=_}
+use Rattle.outcome.specs.declared.Reason.the-variants.{TooLong, OutOfOrder, ClassIsResult, WrongMapping, WrongClauses, IllegalCode, UnknownRoot}
+use Rattle.format_fields.specs.Fields.{hasOver}
+use Rattle.format_fields.specs.Lists.{all, isSome}
+use Rattle.format_language.specs.Language.{Language, isIn, clashes}
+use Rattle.format_language.specs.LanguageFile.{languageLimit, whole}
+use Rattle.tree_reader.specs.Code.{Code, token}
+use Rattle.tree_reader.specs.Typing.{Uses}
+use Rattle.tree_reader.specs.Syntax.{Syntax, tree, code, write, done, Rule, earlier, current, readBy, read}
+use Rattle.tree_reader.specs.Operations.{treeLevels, wholeTree}
+use Rattle.format_translation.specs.Translation.{Translation, Item, mapping, clause, mappingOf, clauseOf, mapped}
+use Rattle.format_translation.specs.Running.{Clauses, run, codeLevels, usesOf, wholeCode}
+use Rattle.format_translation.specs.WellFormed.{mappingFits, clausesFit}
+use Rattle.format_translation.specs.TranslationFile.{partsOf, translationLimit, isLanguageTag, allRising}
+use Rattle.format_translation.specs.Operations.{fitted, runBytes}
 
 -- Whatever the earlier rule reads, as a tree or as a code, the current rule reads to the same term and rest.
 abbrev pub LawOfRules : Type 0

@@ -3,11 +3,11 @@ use Prim.Native.Nat.{ℕ, zero, suc}
 use mathlib.Core.Bool.{Bool, _&&_}
 use mathlib.Core.List.{List, [], _∷_}
 use lib.Dec.{eqb}
-use Rattle.fields.specs.Outcome.{Result, value, refused, _>>=_, numberOf, written}
-use Rattle.fields.specs.Lists.{sameNumbers}
-use Rattle.fields.specs.Fields.{Field, field, encodeFields}
-use Rattle.translation.specs.Operations.{runBytes}
-use Rattle.reducer.specs.Operations.{reduceBytes}
+use Rattle.outcome.specs.Outcome.{Result, value, refused, _>>=_, numberOf, written}
+use Rattle.format_fields.specs.Lists.{sameNumbers}
+use Rattle.format_fields.specs.Fields.{Field, field, encodeFields}
+use Rattle.format_translation.specs.Operations.{runBytes}
+use Rattle.reduce_operation.specs.Operations.{reduceBytes}
 
 -- A pack that is reduced with the least workspace and output, or then run on a tree: the number and the bytes that
 -- come of it, no bytes where it is refused.

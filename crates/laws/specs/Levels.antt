@@ -4,10 +4,10 @@ use Prim.Native.Nat.{ℕ, _<_, _≤_}
 use mathlib.Core.Path.{_≡_}
 use mathlib.Core.Bool.{true, false}
 use mathlib.Core.List.{List, [], _++_}
-use Rattle.language.specs.Language.{Language, isUndefined, clashes}
-use Rattle.reader.specs.Code.{Code, levels}
-use Rattle.reader.specs.Typing.{Uses, Typed}
-use Rattle.reader.specs.Syntax.{Syntax, Read, done, deep, read, write, tree, code}
+use Rattle.format_language.specs.Language.{Language, isUndefined, clashes}
+use Rattle.tree_reader.specs.Code.{Code, levels}
+use Rattle.tree_reader.specs.Typing.{Uses, Typed}
+use Rattle.tree_reader.specs.Syntax.{Syntax, Read, done, deep, read, write, tree, code}
 
 -- The uses of arguments that a syntax can write: a tree has none.
 abbrev pub usesIn : Syntax → Uses → Uses

@@ -3,12 +3,12 @@ use Prim.Native.Nat.{ℕ, _≤_}
 use mathlib.Core.Path.{_≡_}
 use mathlib.Core.List.{List, [], _∷_, _++_}
 use lib.ListN.{length, take}
-use Rattle.fields.specs.Outcome.{numberOf, lengthOf}
-use Rattle.fields.specs.Fields.{Field, field, encodeFields}
-use Rattle.fields.specs.declared.outcome.Outcome.{Outcome}
-use Rattle.pack.specs.Terms.{Term, translations, writeTerm, termLevels}
-use Rattle.pack.specs.Pack.{packLimit, termLimit}
-use Rattle.reducer.specs.Operations.{Reduced, reduce}
+use Rattle.outcome.specs.Outcome.{numberOf, lengthOf}
+use Rattle.format_fields.specs.Fields.{Field, field, encodeFields}
+use Rattle.outcome.specs.declared.Outcome.{Outcome}
+use Rattle.format_pack.specs.Terms.{Term, translations, writeTerm, termLevels}
+use Rattle.format_pack.specs.Pack.{packLimit, termLimit}
+use Rattle.reduce_operation.specs.Operations.{Reduced, reduce}
 
 -- The pack of these fields with a term as its field 32 (paper 01, "Rules", on the laws of joins and sums).
 abbrev pub packed : List Field → Term translations → List ℕ

@@ -5,22 +5,22 @@ use mathlib.Core.Path.{_≡_}
 use mathlib.Core.Bool.{Bool, true, false}
 use mathlib.Core.List.{List, []}
 use lib.ListN.{length}
-use Rattle.fields.specs.Outcome.{Result, value, refused, numberOf}
-use Rattle.fields.specs.Lists.{isSome}
-use Rattle.fields.specs.Fields.{Field}
-use Rattle.fields.specs.declared.outcome.Outcome.the-variants.{Refused}
-use Rattle.fields.specs.declared.outcome.Reason.{Reason}
-use Rattle.fields.specs.declared.outcome.Reason.the-variants.{UnknownRoot, IllegalTree, TooDeep}
-use Rattle.language.specs.Language.{Language}
-use Rattle.reader.specs.Code.{Code}
-use Rattle.reader.specs.Typing.{Typed}
-use Rattle.reader.specs.Syntax.{write, tree}
-use Rattle.translation.specs.Translation.{Translation, mappingOf, mapped}
-use Rattle.translation.specs.Running.{paired}
-use Rattle.translation.specs.TranslationFile.{translationOf}
-use Rattle.translation.specs.Operations.{Ran, runTree}
-use Rattle.pack.specs.Terms.{Term, translations, join}
-use Rattle.reducer.specs.Operations.{reduce}
+use Rattle.outcome.specs.Outcome.{Result, value, refused, numberOf}
+use Rattle.format_fields.specs.Lists.{isSome}
+use Rattle.format_fields.specs.Fields.{Field}
+use Rattle.outcome.specs.declared.Outcome.the-variants.{Refused}
+use Rattle.outcome.specs.declared.Reason.{Reason}
+use Rattle.outcome.specs.declared.Reason.the-variants.{UnknownRoot, IllegalTree, TooDeep}
+use Rattle.format_language.specs.Language.{Language}
+use Rattle.tree_reader.specs.Code.{Code}
+use Rattle.tree_reader.specs.Typing.{Typed}
+use Rattle.tree_reader.specs.Syntax.{write, tree}
+use Rattle.format_translation.specs.Translation.{Translation, mappingOf, mapped}
+use Rattle.format_translation.specs.Running.{paired}
+use Rattle.format_translation.specs.TranslationFile.{translationOf}
+use Rattle.format_translation.specs.Operations.{Ran, runTree}
+use Rattle.format_pack.specs.Terms.{Term, translations, join}
+use Rattle.reduce_operation.specs.Operations.{reduce}
 use Rattle.laws.specs.Packed.{packed, putOut}
 
 -- The bytes are a legal tree of the kind, at any depth.

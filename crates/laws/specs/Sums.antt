@@ -2,7 +2,7 @@
 use mathlib.Core.Path.{_≡_}
 use mathlib.Core.Logic.{_⊎_}
 use mathlib.Core.List.{List, [], _∷_, _++_}
-use Rattle.pack.specs.Terms.{Term, translations, sum}
+use Rattle.format_pack.specs.Terms.{Term, translations, sum}
 use Rattle.laws.specs.Packed.{AcceptedAlike, Compared}
 
 -- A sum: a term alone, or two sums under the sign 53.

@@ -7,7 +7,7 @@ use native.Mathlib.Omega.{arith}
 use lib.Dec.{ltb, leb}
 use borrow.Author.Tests.{ltb-true, ltb-false, leb-true, leb-false}
 use Rattle.io.specs.Digits.{digits, Fewest}
-use Rattle.fields.proofs.Truth.{by-test}
+use Rattle.format_fields.proofs.Truth.{by-test}
 use Rattle.listing.specs.Text.{width, decimal}
 use Rattle.listing.specs.Inner.Putting.{Puts}
 

@@ -7,10 +7,10 @@ use native.Mathlib.Omega.{arith}
 use lib.ListN.{length, take, drop, length-drop}
 use lib.Seq.{take-all, length-take-le}
 use borrow.Author.Tests.{le-leb, lt-leb, ne-eqb}
-use Rattle.fields.specs.Lists.{concatMap}
-use Rattle.fields.specs.Fields.{byteAt, pairAt}
-use Rattle.fields.specs.Inner.Places.{fieldEnd, isWhole, contentsAt, placesFrom}
-use Rattle.fields.proofs.Places.{pass-done, pass-next}
+use Rattle.format_fields.specs.Lists.{concatMap}
+use Rattle.format_fields.specs.Fields.{byteAt, pairAt}
+use Rattle.format_fields.specs.Inner.Places.{fieldEnd, isWhole, contentsAt, placesFrom}
+use Rattle.format_fields.proofs.Places.{pass-done, pass-next}
 use Rattle.listing.specs.Text.{marked, pairOf, clauseLine, numberedLine}
 use Rattle.listing.specs.Inner.Walk.{contentsLine, numberedContents, fieldLine, lineAt, clauseLines}
 use Rattle.listing.specs.Inner.Putting.{Puts}

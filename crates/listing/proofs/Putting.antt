@@ -6,8 +6,8 @@ use native.Mathlib.Numerals.{add-one}
 use native.Mathlib.Omega.{arith}
 use lib.ListN.{length, take, set, getD, replicate, length-set, length-append, length-replicate}
 use lib.Seq.{take-suc, take-all, take-set-le, getD-set-same}
-use Rattle.fields.specs.Lists.{concatMap}
-use Rattle.fields.proofs.Codec.{concat-append}
+use Rattle.format_fields.specs.Lists.{concatMap}
+use Rattle.format_fields.proofs.Codec.{concat-append}
 use Rattle.listing.specs.Text.{capital, pairOf, decimal, marked}
 use Rattle.listing.specs.Inner.Putting.{Puts}
 

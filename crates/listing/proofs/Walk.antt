@@ -6,14 +6,14 @@ use mathlib.Core.List.{List, [], _∷_, map}
 use native.Mathlib.Omega.{arith}
 use lib.ListN.{length}
 use borrow.Author.Tests.{le-leb}
-use Rattle.fields.specs.Lists.{all, concatMap}
-use Rattle.fields.specs.Fields.{Field, field}
-use Rattle.fields.specs.Inner.Places.{isWhole, fieldAt, places}
-use Rattle.fields.proofs.Lists.{all-true}
-use Rattle.fields.proofs.Codec.{cond-some, fields-encode}
-use Rattle.fields.proofs.Split.{fields-at-places}
-use Rattle.translation.specs.Translation.{Item, mapping, clause, Body, Translation}
-use Rattle.translation.specs.TranslationFile.{itemField, translationFields, encodeTranslation}
+use Rattle.format_fields.specs.Lists.{all, concatMap}
+use Rattle.format_fields.specs.Fields.{Field, field}
+use Rattle.format_fields.specs.Inner.Places.{isWhole, fieldAt, places}
+use Rattle.format_fields.proofs.Lists.{all-true}
+use Rattle.format_fields.proofs.Codec.{cond-some, fields-encode}
+use Rattle.format_fields.proofs.Split.{fields-at-places}
+use Rattle.format_translation.specs.Translation.{Item, mapping, clause, Body, Translation}
+use Rattle.format_translation.specs.TranslationFile.{itemField, translationFields, encodeTranslation}
 use Rattle.listing.specs.Text.{itemLine}
 use Rattle.listing.specs.Inner.Walk.{contentsLine, numberedContents, fieldLine, lineAt, clauseLines}
 

@@ -6,15 +6,15 @@ use native.Mathlib.Omega.{arith}
 use lib.ListN.{length, take, drop, length-append}
 use lib.Seq.{take-append-seam, length-take-le}
 use Rattle.io.specs.Counts.{Counts}
-use Rattle.fields.specs.Outcome.{Result, value, refused, _>>=_, reasonNumber, numberOf, written, outputAfter}
-use Rattle.fields.specs.declared.outcome.Reason.{Reason}
-use Rattle.fields.specs.declared.outcome.Reason.the-variants.{TooLong, BrokenField, OutOfOrder, ClassIsResult, WrongMapping, WrongClauses, IllegalCode, IllegalTerm, BuffersTooShort, UnboundVariable, ValueTooLarge, SumUnfit, JoinUnfit, UnknownRoot, IllegalTree, TooDeep, OutputTooShort, BrokenTable, ScoreOutOfRange, NotAnExport, NoBlock, NotIndexed, NoSource, LimitOutOfRange, Hidden, NumberUnfit}
-use Rattle.fields.specs.declared.outcome.Outcome.{Outcome}
-use Rattle.fields.specs.declared.outcome.Outcome.the-variants.{Accepted, Refused}
-use Rattle.translation.specs.Translation.{Translation}
-use Rattle.translation.specs.TranslationFile.{encodeTranslation}
-use Rattle.signs.specs.Evaluation.{constantsOf, nothingBound, evaluate}
-use Rattle.reducer.specs.Operations.{Ready, ready, work, reduceBytes, reduce}
+use Rattle.outcome.specs.Outcome.{Result, value, refused, _>>=_, reasonNumber, numberOf, written, outputAfter}
+use Rattle.outcome.specs.declared.Reason.{Reason}
+use Rattle.outcome.specs.declared.Reason.the-variants.{TooLong, BrokenField, OutOfOrder, ClassIsResult, WrongMapping, WrongClauses, IllegalCode, IllegalTerm, BuffersTooShort, UnboundVariable, ValueTooLarge, SumUnfit, JoinUnfit, UnknownRoot, IllegalTree, TooDeep, OutputTooShort, BrokenTable, ScoreOutOfRange, NotAnExport, NoBlock, NotIndexed, NoSource, LimitOutOfRange, Hidden, NumberUnfit}
+use Rattle.outcome.specs.declared.Outcome.{Outcome}
+use Rattle.outcome.specs.declared.Outcome.the-variants.{Accepted, Refused}
+use Rattle.format_translation.specs.Translation.{Translation}
+use Rattle.format_translation.specs.TranslationFile.{encodeTranslation}
+use Rattle.reduce_signs.specs.Evaluation.{constantsOf, nothingBound, evaluate}
+use Rattle.reduce_operation.specs.Operations.{Ready, ready, work, reduceBytes, reduce}
 use Rattle.listing.specs.Text.{acceptedWord, refusedWord, marked, firstLine}
 use Rattle.listing.specs.Listing.{reduced, textOf, listing}
 use Rattle.listing.specs.Inner.Walk.{clauseLines, outcomeText}

@@ -2,12 +2,12 @@
 use Prim.Native.Nat.{ℕ}
 use mathlib.Core.List.{List, _++_}
 use lib.ListN.{length}
-use Rattle.fields.specs.Lists.{concatMap}
-use Rattle.fields.specs.Outcome.{Result, value, refused, _>>=_, reasonNumber}
-use Rattle.translation.specs.Translation.{Translation}
-use Rattle.translation.specs.TranslationFile.{encodeTranslation}
-use Rattle.signs.specs.Evaluation.{constantsOf, nothingBound, evaluate}
-use Rattle.reducer.specs.Operations.{ready}
+use Rattle.format_fields.specs.Lists.{concatMap}
+use Rattle.outcome.specs.Outcome.{Result, value, refused, _>>=_, reasonNumber}
+use Rattle.format_translation.specs.Translation.{Translation}
+use Rattle.format_translation.specs.TranslationFile.{encodeTranslation}
+use Rattle.reduce_signs.specs.Evaluation.{constantsOf, nothingBound, evaluate}
+use Rattle.reduce_operation.specs.Operations.{ready}
 use Rattle.listing.specs.Text.{acceptedWord, refusedWord, firstLine, itemLine}
 
 -- The translation that a pack is reduced to with a workspace of 65,536 and an output of 4,096 bytes, or why not:

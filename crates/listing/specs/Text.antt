@@ -4,8 +4,8 @@ use mathlib.Core.Bool.{cond}
 use mathlib.Core.List.{List, [], _∷_, _++_}
 use lib.Dec.{ltb}
 use Rattle.io.specs.Digits.{digits}
-use Rattle.fields.specs.Lists.{concatMap}
-use Rattle.translation.specs.Translation.{Item, mapping, clause}
+use Rattle.format_fields.specs.Lists.{concatMap}
+use Rattle.format_translation.specs.Translation.{Item, mapping, clause}
 
 -- The first word of what is accepted, ended by one space.
 abbrev pub acceptedWord : List ℕ

@@ -2,11 +2,11 @@
 use crate::text::put;
 use crate::text::put_hex;
 use crate::text::put_number;
-use fields::bytes::byte_at;
-use fields::walk::field_end;
+use format_fields::bytes::byte_at;
+use format_fields::walk::field_end;
 ghost use Prim.Native.Nat.{_+_, _*_, _-_, _<_, _≤_};
 ghost use lib.ListN.{length};
-ghost use Rattle.fields.specs.Inner.Places.{EndsAt};
+ghost use Rattle.format_fields.specs.Inner.Places.{EndsAt};
 ghost use Rattle.listing.specs.Inner.Walk as Walk;
 ghost use Rattle.listing.specs.Inner.Putting.{Puts};
 

@@ -5,7 +5,7 @@ mod text;
 
 use libc::STDOUT_FILENO;
 use outcome::put_outcome;
-use reducer::reduce::reduce;
+use reduce_operation::reduce::reduce;
 ghost use mathlib.Core.Path.{_≡_};
 ghost use Prim.Native.Nat.{_≤_};
 ghost use lib.ListN.{length, take};

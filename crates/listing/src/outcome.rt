@@ -2,8 +2,8 @@
 use crate::clauses::put_clauses;
 use crate::text::put_bytes;
 use crate::text::put_number;
-use fields::outcome::Outcome;
-use fields::outcome::number;
+use outcome::Outcome;
+use outcome::number;
 ghost use mathlib.Core.Path.{_≡_};
 ghost use Prim.Native.Nat.{ℕ, _+_, _<_, _≤_};
 ghost use lib.ListN.{length};

@@ -3,7 +3,7 @@ ghost use mathlib.Core.Path.{_≡_};
 ghost use mathlib.Core.List.{[], _∷_};
 ghost use Prim.Native.Nat.{_+_, _*_, _<_, _≤_};
 ghost use lib.ListN.{length};
-ghost use Rattle.fields.specs.Lists.{concatMap};
+ghost use Rattle.format_fields.specs.Lists.{concatMap};
 ghost use Rattle.listing.specs.Text as Text;
 ghost use Rattle.listing.specs.Inner.Putting.{Puts};
 

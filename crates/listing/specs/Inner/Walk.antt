@@ -5,12 +5,12 @@ use mathlib.Core.Bool.{cond, _&&_}
 use mathlib.Core.List.{List, [], _++_}
 use lib.ListN.{length, take, drop}
 use lib.Dec.{leb, eqb}
-use Rattle.fields.specs.Lists.{concatMap}
-use Rattle.fields.specs.Fields.{byteAt}
-use Rattle.fields.specs.Outcome.{reasonNumber}
-use Rattle.fields.specs.declared.outcome.Outcome.{Outcome}
-use Rattle.fields.specs.declared.outcome.Outcome.the-variants.{Accepted, Refused}
-use Rattle.fields.specs.Inner.Places.{isWhole, contentsAt, places}
+use Rattle.format_fields.specs.Lists.{concatMap}
+use Rattle.format_fields.specs.Fields.{byteAt}
+use Rattle.outcome.specs.Outcome.{reasonNumber}
+use Rattle.outcome.specs.declared.Outcome.{Outcome}
+use Rattle.outcome.specs.declared.Outcome.the-variants.{Accepted, Refused}
+use Rattle.format_fields.specs.Inner.Places.{isWhole, contentsAt, places}
 use Rattle.listing.specs.Text.{acceptedWord, refusedWord, firstLine, clauseLine, numberedLine}
 
 -- The line of a clause of number 0, from the contents of its field: result, name, code.

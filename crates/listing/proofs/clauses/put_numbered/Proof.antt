@@ -7,7 +7,7 @@ use Rattle.listing.proofs.clauses.put_numbered.Statement.{statement}
 use Rattle.listing.proofs.clauses.put_numbered.Tie as tie
 use Rattle.listing.proofs.clauses.put_numbered.Reads as reads
 use Rattle.listing.proofs.clauses.put_numbered.Lts as lts
-use Rattle.fields.proofs.bytes.byte_at.Reads as byte-at-reads
+use Rattle.format_fields.proofs.bytes.byte_at.Reads as byte-at-reads
 use Rattle.listing.proofs.text.put.Reads as put-reads
 use Rattle.listing.proofs.text.put_hex.Reads as put-hex-reads
 use Rattle.listing.proofs.text.put_number.Reads as put-number-reads

@@ -3,7 +3,7 @@ use Prim.Native.Nat.{_+_, _*_, _-_, _≤_}
 use mathlib.Core.Path.{_≡_}
 use native.Mathlib.Omega.{arith}
 use lib.ListN.{length, take}
-use Rattle.fields.specs.Lists.{concatMap}
+use Rattle.format_fields.specs.Lists.{concatMap}
 use Rattle.listing.specs.Text.{pairOf}
 use Rattle.listing.specs.Inner.Putting.{Puts}
 use Rattle.listing.proofs.Putting.{puts-nothing, each-again, each-done}

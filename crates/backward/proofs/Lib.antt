@@ -1,4 +1,0 @@
-pub mod Ordering
-pub mod Within
-pub mod Finding
-pub mod Theorems

@@ -1,4 +1,0 @@
-pub mod Trees
-pub mod Sources
-pub mod Operations
-pub mod Laws

@@ -1,1 +1,0 @@
-// The search back: its definitions, and the theorems on them.

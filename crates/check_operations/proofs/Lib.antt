@@ -1,0 +1,5 @@
+pub mod TreeChain
+pub mod TranslationChain
+pub mod Legal
+pub mod Reading
+pub mod Answering

@@ -1,3 +1,0 @@
-pub mod TreeChain
-pub mod TranslationChain
-pub mod Legal

@@ -1,3 +1,0 @@
-// The operations that check a tree and a translation.
-pub mod translations;
-pub mod trees;

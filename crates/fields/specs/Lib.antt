@@ -1,5 +1,0 @@
-pub mod Outcome
-pub mod Lists
-pub mod Fields
-pub mod Keyed
-pub mod Inner

@@ -1,0 +1,4 @@
+pub mod Lists
+pub mod Fields
+pub mod Keyed
+pub mod Inner

@@ -1,0 +1,15 @@
+pub mod Running
+pub mod Preserved
+pub mod Lookup
+pub mod Fitting
+pub mod Codec
+pub mod Items
+pub mod Whole
+pub mod Found
+pub mod Cuts
+pub mod Rising
+pub mod IndexedItems
+pub mod Accepted
+pub mod Uses
+pub mod PlainWalk
+pub mod PlainUses

@@ -1,2 +1,0 @@
-// Translations with number 0 only.
-pub mod body;

@@ -1,0 +1,294 @@
+-- The operation score by its chain of tests: a law for each return of `prepare`, `score_kind` and `score`.
+use Prim.Native.Nat.{ℕ, _+_, _-_, _<_, _≤_}
+use mathlib.Core.Path.{_≡_, refl, sym, ap, _∙_}
+use mathlib.Core.Bool.{Bool, true, false, not, cond}
+use mathlib.Core.Logic.{_⊎_, ⊎-elim}
+use mathlib.Core.List.{List, [], _∷_}
+use mathlib.Core.Option.{Option, none, some}
+use native.Mathlib.Omega.{arith}
+use lib.ListN.{length, getD, drop, drop-of-length-le, replicate}
+use lib.Dec.{eqb, ltb}
+use lib.IntN.{ℤ, pos}
+use borrow.Author.Tests.{eq-eqb, eqb-true}
+use Rattle.format_fields.specs.Lists.{any, isSome}
+use Rattle.format_fields.specs.Fields.{pairAt, fieldsOf}
+use Rattle.outcome.specs.Outcome.{Result, value, refused, refuseIf, _>>=_, checked}
+use Rattle.outcome.specs.declared.Outcome.{Outcome}
+use Rattle.outcome.specs.declared.Outcome.the-variants.{Accepted, Refused}
+use Rattle.outcome.specs.declared.Reason.{Reason}
+use Rattle.outcome.specs.declared.Reason.the-variants as Why
+use Rattle.format_fields.specs.Inner.Places.{places, keyAt, slotAt}
+use Rattle.format_fields.proofs.Truth.{by-test, false-true, all-mem, mem-all, any-mem, mem-any, some-is, Mem}
+use Rattle.format_fields.proofs.Split.{front}
+use Rattle.format_language.specs.Language.{Language, argumentsOf, productionKey, isIn}
+use Rattle.format_language.specs.LanguageFile.{entriesOf, languageOf}
+use Rattle.format_language.specs.Operations.{checkLanguage}
+use Rattle.format_language.specs.Inner.Entries.{entryWhole, IsClass, IsProduction, RisingEntries}
+use Rattle.format_language.proofs.Facts.{entry-facts}
+use Rattle.format_language.proofs.Holds.{holds-entries}
+use Rattle.format_language.proofs.Chain.{rising-is}
+use Rattle.format_language.proofs.Codec.{GoodLanguage, language-good}
+use Rattle.tree_reader.specs.Code as Terms
+use Rattle.tree_reader.specs.Syntax as Meant
+use Rattle.tree_reader.specs.Operations.{wholeTree, treeOf}
+use Rattle.tree_reader.specs.Inner.Index.{Indexed, putAll}
+use Rattle.tree_reader.proofs.Indexed.{build-is, production-key}
+use Rattle.tree_reader.proofs.Larger.{apart}
+use Rattle.tree_reader.proofs.Placed.{puts-place, found}
+use Rattle.tree_reader.proofs.Members.{in-below}
+use Rattle.format_translation.proofs.Accepted.{refused-not}
+use Rattle.check_operations.proofs.TreeChain.{Accepts}
+use Rattle.score_tree.specs.LoadTable.{Table, loadsOf, tableOf, figureOf}
+use Rattle.score_tree.specs.Linear.{form, passes}
+use Rattle.score_tree.specs.Operations.{scoreOf, scoreBytes, scoreIn, scoreTree}
+use Rattle.score_tree.specs.Inner.Kept.{Small, Kept}
+use Rattle.score_tree.specs.Inner.Terms.{World}
+use Rattle.score_tree.specs.Inner.Answering.{Answers, Held, Ground, ground, groundOf, Prepared, scoreOn}
+use Rattle.score_tree.specs.Inner.Walks.{Says}
+use Rattle.score_tree.specs.declared.walk.Met.{Met}
+use Rattle.score_tree.specs.declared.walk.Met.the-variants.{Scored, Outside, Deep, Broken}
+use Rattle.score_tree.proofs.Terms.{placed}
+use Rattle.score_tree.proofs.Trees.{says-scored, says-outside, says-deep, says-broken}
+
+-- An answer is that of any result that is the same.
+pub answers-same : {a b : Result ℤ} {o : Outcome} {z : ℤ} → a ≡ b → Answers a o z → Answers b o z
+answers-same e h = rw (← e) h
+
+-- The index that was built, and the figures that were kept, are those of the language and its table.
+module _ (s : List ℕ) (fig : List ℤ) (l : Language) (w : Table) (bytes : (i : ℕ) → getD s i 0 < 256) (held : Held s fig l w)
+    (zeros after : List ℕ) (long : length zeros ≡ 8224) (zero : (j : ℕ) → getD zeros j 0 ≡ 0) (built : after ≡ putAll 0x11 s zeros (places s)) where
+  pub index-is : Indexed after s l
+  index-is = build-is s zeros bytes (held .short) long zero l (held .entries) built
+
+  entry-at : (p : ℕ) → Mem p (places s) → IsClass s p ⊎ IsProduction s p
+  entry-at p m = entry-facts s p (all-mem (entryWhole s) (places s) (holds-entries s l (held .entries) .whole) p m)
+
+  -- Where the production of a name stands.
+  record Spot (k n : ℕ) : Type 0 where
+    place : ℕ
+    is : getD after (productionKey k n) 0 ≡ place + 1
+    there : any (eqb place) (places s) ≡ true
+    production : IsProduction s place
+    kind : getD s (place + 3) 0 ≡ k
+    name : getD s (place + 4) 0 ≡ n
+
+  spot : (k n : ℕ) → k < 32 → n < 256 → 0 < getD after (productionKey k n) 0 → Spot k n
+  unfolding slotAt keyAt
+  spot k n h i more =
+      let at = puts-place 0x11 s (places s) zeros (productionKey k n) (omega (arith, long)) (zero (productionKey k n)) in
+      let same : getD after (productionKey k n) 0 ≡ _ = ap (λ (a : List ℕ). getD a (productionKey k n) 0) built ∙ at in
+      let (p, is, key, here) = found 0x11 (λ p. any (eqb p) (places s)) s (productionKey k n) (places s)
+      (mem-all _ (places s) (λ p m. mem-any (eqb p) (places s) p m (eq-eqb p p refl))) (rw same at more) in
+      let (r, m, e) = any-mem (eqb p) (places s) here in
+      ⊎-elim
+      (λ c.
+      let o : slotAt 0x11 s p ≡ getD s (p + 3) 0 = cc (eq-eqb _ _ (c .tag)) in
+      let d = c .kind in
+      absurd (omega (arith, o, key, d)))
+      (λ c.
+      let o = production-key s p c in
+      let b = bytes (p + 4) in
+      record { place = p; is = same ∙ is; there = here; production = c; kind = omega (arith, o, key); name = omega (arith, o, key) })
+      (entry-at p (rw (eqb-true p r e) m))
+
+  -- The size of a production's field.
+  sized-at : (k n : ℕ) (ks : List ℕ) → k < 32 → n < 256 → argumentsOf l k n ≡ some ks
+      → (pairAt s (getD after (productionKey k n) 0) ≡ length ks + 2) × (length ks ≤ 8)
+  sized-at k n ks h i e =
+      let p = placed index-is k n h i ks e in
+      let t = spot k n h i (p .some) in
+      let c = t .production .two in
+      let d = t .production .ten in
+      let q : pairAt s (getD after (productionKey k n) 0) ≡ pairAt s (t .place + 1) = ap (pairAt s) (t .is) in
+      (omega (arith, p .size, q), omega (arith, p .size, q))
+
+  pub world-is : World s after fig l (figureOf w)
+  world-is = record {
+    indexed = index-is;
+    apart = apart l (held .apart);
+    small = held .kept .small;
+    long = held .kept .long;
+    sized = sized-at;
+    is = λ k n ks h i e j g.
+        let p = placed index-is k n h i ks e in
+        let t = spot k n h i (p .some) in
+        let q : pairAt s (getD after (productionKey k n) 0) ≡ pairAt s (t .place + 1) = ap (pairAt s) (t .is) in
+        let at : getD after (productionKey k n) 0 + 3 + j ≡ t .place + 4 + j = omega (arith, t .is) in
+        ap (λ (m : ℕ). getD fig m (pos 0)) at
+        ∙ (held .kept .is (t .place) (t .there) (t .production .tag) j (omega (arith, sized-at k n ks h i e .0, q))
+        ∙ (ap (λ (m : ℕ). figureOf w m (getD s (t .place + 4) 0) j) (t .kind) ∙ ap (λ (m : ℕ). figureOf w k m j) (t .name)));
+  }
+
+-- score_kind
+module _ (l : Language) (w : Table) (k : ℕ) (b : List ℕ) where
+  whole : (t : Terms.Code) (e : ℕ) → Meant.read Meant.tree l [] 64 k b ≡ Meant.done t (drop e b) → e ≡ length b → scoreOf w t ≡ scoreOn l w k b
+  unfolding scoreOn
+  whole t e d n =
+      let f : Meant.read Meant.tree l [] 64 k b ≡ Meant.done t [] = d ∙ ap (Meant.done t) (drop-of-length-le b {i = e} (omega arith)) in
+      rw f refl
+
+module _ (l : Language) (w : Table) (k : ℕ) (b : List ℕ) (r : Met) (er : Says b (figureOf w) (Meant.read Meant.tree l [] 64 k b) r) {o : Outcome} {x : ℤ} where
+  pub kind-deep : r ≡ Deep → Answers (refused Why.TooDeep) o x → Answers (scoreOn l w k b) o x
+  unfolding scoreOn
+  kind-deep e a = let d = says-deep b (figureOf w) (Meant.read Meant.tree l [] 64 k b) r er e in answers-same (rw d refl) a
+
+  pub kind-broken : r ≡ Broken → Answers (refused Why.IllegalTree) o x → Answers (scoreOn l w k b) o x
+  unfolding scoreOn
+  kind-broken e a = let d = says-broken b (figureOf w) (Meant.read Meant.tree l [] 64 k b) r er e in answers-same (rw d refl) a
+
+  more : (t : Terms.Code) (e : ℕ) → Meant.read Meant.tree l [] 64 k b ≡ Meant.done t (drop e b) → e ≤ length b → (e ≡ length b → ⊥) → Answers (refused Why.IllegalTree) o x → Answers (scoreOn l w k b) o x
+  unfolding scoreOn
+  more t e d n m a =
+      let i : e < length b = omega (arith, n, m) in
+      let f : Meant.read Meant.tree l [] 64 k b ≡ Meant.done t (getD b e 0 ∷ drop (e + 1) b) = d ∙ ap (Meant.done t) (front b e i) in
+      answers-same (rw f refl) a
+
+  module _ (u : ℤ) (e : ℕ) (q : r ≡ Scored u e) where
+    pub kind-more : (e ≡ length b → ⊥) → Answers (refused Why.IllegalTree) o x → Answers (scoreOn l w k b) o x
+    kind-more m a = let (g, f) = says-scored b (figureOf w) (Meant.read Meant.tree l [] 64 k b) r er u e q in more (g .code) e (g .is) (g .inside) m a
+
+    -- v is what the machine reads of the score
+    pub kind-scored : e ≡ length b → (v : ℤ) → v ≡ u → Answers (value v) o x → Answers (scoreOn l w k b) o x
+    unfolding scoreOf
+    kind-scored n v ev a =
+        let (g, f) = says-scored b (figureOf w) (Meant.read Meant.tree l [] 64 k b) r er u e q in
+        let given : scoreOf w (g .code) ≡ value u = rw (g .fits, f) refl in
+        answers-same (ap value ev ∙ (sym given ∙ whole l w k b (g .code) e (g .is) n)) a
+
+  module _ (e : ℕ) (q : r ≡ Outside e) where
+    pub kind-out-more : (e ≡ length b → ⊥) → Answers (refused Why.IllegalTree) o x → Answers (scoreOn l w k b) o x
+    kind-out-more m a = let g = says-outside b (figureOf w) (Meant.read Meant.tree l [] 64 k b) r er e q in more (g .code) e (g .is) (g .inside) m a
+
+    pub kind-out : e ≡ length b → Answers (refused Why.ScoreOutOfRange) o x → Answers (scoreOn l w k b) o x
+    unfolding scoreOf
+    kind-out n a =
+        let g = says-outside b (figureOf w) (Meant.read Meant.tree l [] 64 k b) r er e q in
+        let given : scoreOf w (g .code) ≡ refused Why.ScoreOutOfRange = rw (g .fits) refl in
+        answers-same (sym given ∙ whole l w k b (g .code) e (g .is) n) a
+
+-- prepare
+pub refused-is : {A : Type 0} (m : Result A) {r : Reason} → checked m ≡ Refused r → m ≡ refused r
+refused-is (value a) {r} e = refused-not {n = 0} {r = r} (sym e)
+refused-is (refused q) e = ap refused (inj e)
+  where
+    inj : {p q : Reason} → Refused p ≡ Refused q → p ≡ q
+    inj e = cc
+
+pub zeros-small : (n : ℕ) → Small (replicate n (pos 0))
+unfolding Small
+zeros-small n i = by-test (ltb i n)
+    (λ h. rw (lib.ListN.getD-replicate n i (pos 0) (pos 0) (borrow.Author.Tests.ltb-true i n h)) (omega arith))
+    (λ h. rw (lib.ListN.List·getD-eq-default (replicate n (pos 0)) (pos 0) {n = i} (rw lib.ListN.length-replicate (borrow.Author.Tests.ltb-false i n h))) (omega arith))
+
+module _ (s : List ℕ) (root : ℕ) (t : List ℕ) where
+  -- Nothing is owed of a value where it is refused.
+  pub none-held : {fig : List ℤ} {r : Reason} → Refused r ≡ checked (groundOf s root t) → (g : Ground) → groundOf s root t ≡ value g → Prepared s fig root g
+  none-held {fig} {r} e g h = refused-not {n = 0} {r = r} (e ∙ ap checked h)
+
+  pub language-refused : {p : Outcome} {r : Reason} → p ≡ checkLanguage s → p ≡ Refused r → Refused r ≡ checked (groundOf s root t)
+  unfolding checkLanguage groundOf
+  language-refused e h = let d = refused-is (languageOf s) (sym e ∙ h) in rw d refl
+
+  module _ (a : Accepts s) where
+    good : GoodLanguage (a .language)
+    good = language-good s (a .language) (a .is) .1
+
+    pub rising-entries : RisingEntries s
+    rising-entries =
+        let h = holds-entries s (a .language) (a .entries) in
+        record { whole = h .whole; rises = rising-is s (a .language) h ∙ good .rises }
+
+    module _ {x : Bool} (ex : x ≡ isSome (loadsOf (a .language) (fieldsOf t))) where
+      pub table-broken : x ≡ false → Refused Why.BrokenTable ≡ checked (groundOf s root t)
+      unfolding groundOf tableOf
+      table-broken h = rw (a .is) (go (loadsOf (a .language) (fieldsOf t)) refl (sym ex ∙ h))
+        where
+          go : (m : Option Table) → loadsOf (a .language) (fieldsOf t) ≡ m → isSome m ≡ false
+              → Refused Why.BrokenTable ≡ checked (tableOf (a .language) t >>= λ w. refuseIf (not (isIn (a .language) root)) Why.UnknownRoot (value (ground (a .language) w)))
+          go none e f = rw e refl
+          go (some w) e f = false-true (sym f)
+
+      module _ (h : x ≡ true) where
+        there : (w : Table) × (loadsOf (a .language) (fieldsOf t) ≡ some w)
+        there = some-is (loadsOf (a .language) (fieldsOf t)) (sym ex ∙ h)
+
+        on-table : groundOf s root t ≡ refuseIf (not (isIn (a .language) root)) Why.UnknownRoot (value (ground (a .language) (there .0)))
+        unfolding groundOf tableOf
+        on-table = rw (a .is, there .1) refl
+
+        pub root-past : 31 < root → Refused Why.UnknownRoot ≡ checked (groundOf s root t)
+        root-past p = by-test (isIn (a .language) root)
+            (λ j. let m = in-below s root (a .language) (a .entries) j in absurd (omega arith))
+            (λ j. rw (on-table, j) refl)
+
+        module _ {y : Bool} (ey : y ≡ isIn (a .language) root) where
+          pub root-out : y ≡ false → Refused Why.UnknownRoot ≡ checked (groundOf s root t)
+          root-out j = rw (on-table, sym ey ∙ j) refl
+
+          module _ (j : y ≡ true) where
+            ground-is : groundOf s root t ≡ value (ground (a .language) (there .0))
+            ground-is = rw (on-table, sym ey ∙ j) refl
+
+            pub ground-accepted : Accepted 0 ≡ checked (groundOf s root t)
+            ground-accepted = rw ground-is refl
+
+            pub ground-held : (fig : List ℤ) → ((l : Language) (w : Table) → entriesOf s ≡ some l → loadsOf l (fieldsOf t) ≡ some w → Kept fig s w) → root < 32
+                → (g : Ground) → groundOf s root t ≡ value g → Prepared s fig root g
+            ground-held fig f small g e =
+                let d : value (ground (a .language) (there .0)) ≡ value g = sym ground-is ∙ e in
+                let same : ground (a .language) (there .0) ≡ g = cc in
+                rw (← same) (record {
+                  held = record { entries = a .entries; apart = good .apart; short = a .short; kept = f (a .language) (there .0) (a .entries) (there .1) };
+                  kind = small;
+                })
+
+-- The chain of an operation on a tree, by what was prepared.
+module _ {A B : Type 0} (s : List ℕ) (root : ℕ) (t : List ℕ) (tree : Language → Result A) (f : Table → A → Result B) where
+  pub by-ground : (languageOf s >>= λ l. tableOf l t >>= λ w. refuseIf (not (isIn l root)) Why.UnknownRoot (tree l) >>= λ u. f w u)
+      ≡ (groundOf s root t >>= λ g. tree (g .language) >>= λ u. f (g .table) u)
+  unfolding groundOf
+  by-ground = go (languageOf s)
+    where
+      last : (c : Bool) (l : Language) (w : Table)
+          → (refuseIf (not c) Why.UnknownRoot (tree l) >>= λ u. f w u) ≡ (refuseIf (not c) Why.UnknownRoot (value (ground l w)) >>= λ g. tree (g .language) >>= λ u. f (g .table) u)
+      last true l w = refl
+      last false l w = refl
+
+      next : (l : Language) (m : Result Table)
+          → (m >>= λ w. refuseIf (not (isIn l root)) Why.UnknownRoot (tree l) >>= λ u. f w u)
+          ≡ ((m >>= λ w. refuseIf (not (isIn l root)) Why.UnknownRoot (value (ground l w))) >>= λ g. tree (g .language) >>= λ u. f (g .table) u)
+      next l (value w) = last (isIn l root) l w
+      next l (refused r) = refl
+
+      go : (m : Result Language)
+          → (m >>= λ l. tableOf l t >>= λ w. refuseIf (not (isIn l root)) Why.UnknownRoot (tree l) >>= λ u. f w u)
+          ≡ ((m >>= λ l. tableOf l t >>= λ w. refuseIf (not (isIn l root)) Why.UnknownRoot (value (ground l w))) >>= λ g. tree (g .language) >>= λ u. f (g .table) u)
+      go (value l) = next l (tableOf l t)
+      go (refused r) = refl
+
+-- What was prepared, by its outcome.
+pub ground-there : (s : List ℕ) (root : ℕ) (t : List ℕ) {p : Outcome} {n : ℕ} → p ≡ checked (groundOf s root t) → p ≡ Accepted n → (g : Ground) × (groundOf s root t ≡ value g)
+ground-there s root t e h = go (groundOf s root t) (sym e ∙ h)
+  where
+    go : {n : ℕ} (m : Result Ground) → checked m ≡ Accepted n → (g : Ground) × (m ≡ value g)
+    go (value g) q = (g, refl)
+    go {n} (refused r) q = refused-not {n = n} {r = r} q
+
+-- score
+module _ (s : List ℕ) (root : ℕ) (b t : List ℕ) where
+  answer-is : {a : Result ℤ} {o : Outcome} {z : ℤ} → Answers a o z → a ≡ scoreBytes s root b t → (o ≡ scoreTree s root b t .outcome) × (z ≡ scoreTree s root b t .score)
+  unfolding scoreTree
+  answer-is h e = (h .answer ∙ ap checked e, h .given ∙ ap scoreIn e)
+
+  chain : scoreBytes s root b t ≡ (groundOf s root t >>= λ g. scoreOn (g .language) (g .table) root b)
+  unfolding scoreBytes treeOf scoreOn
+  chain = by-ground s root t (λ l. wholeTree (Meant.read Meant.tree l [] 64 root b)) (λ w u. scoreOf w u)
+
+  pub ground-refused : {o p : Outcome} {r : Reason} {z : ℤ} → p ≡ checked (groundOf s root t) → p ≡ Refused r → Answers (refused r) o z
+      → (o ≡ scoreTree s root b t .outcome) × (z ≡ scoreTree s root b t .score)
+  ground-refused e h a = let d = refused-is (groundOf s root t) (sym e ∙ h) in answer-is a (sym (chain ∙ ap (λ (m : Result Ground). m >>= λ g. scoreOn (g .language) (g .table) root b) d))
+
+  pub ground-scored : {o : Outcome} {z : ℤ} (g : Ground) → groundOf s root t ≡ value g → Answers (scoreOn (g .language) (g .table) root b) o z
+      → (o ≡ scoreTree s root b t .outcome) × (z ≡ scoreTree s root b t .score)
+  ground-scored g e a =
+      answer-is a (sym (chain ∙ ap (λ (m : Result Ground). m >>= λ g. scoreOn (g .language) (g .table) root b) e))

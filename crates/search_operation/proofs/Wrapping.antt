@@ -1,0 +1,265 @@
+-- The search over the parts of a translation: what it hands to `find`.
+use Prim.Native.Nat.{ℕ, zero, suc, _+_, _≤_, _<_}
+use mathlib.Core.Path.{_≡_, refl, ap, sym, _∙_}
+use mathlib.Core.Bool.{Bool, true, false, cond, not, _&&_}
+use mathlib.Core.List.{List, [], _∷_, map, append-nil}
+use mathlib.Core.Option.{Option, none, some}
+use native.Mathlib.Omega.{arith}
+use lib.ListN.{length, getD, replicate}
+use lib.Seq.{slice}
+use lib.Dec.{eqb, leb}
+use borrow.Author.Tests.{le-ltb, le-leb, lt-leb}
+use Rattle.format_fields.specs.Fields.{byteAt}
+use Rattle.format_fields.specs.Inner.Places.{places, fieldEnd}
+use Rattle.outcome.specs.Outcome.{Result, value, refused, refuseIf, _>>=_, written, outputAfter}
+use Rattle.outcome.specs.declared.Outcome.{Outcome}
+use Rattle.outcome.specs.declared.Outcome.the-variants.{Accepted, Refused}
+use Rattle.outcome.specs.declared.Reason.{Reason}
+use Rattle.outcome.specs.declared.Reason.the-variants.{UnknownRoot, LimitOutOfRange, NumberUnfit}
+use Rattle.format_fields.proofs.Codec.{bytes-from, value-inj}
+use Rattle.format_fields.proofs.Truth.{Mem, map-cases, refuted}
+use Rattle.format_fields.proofs.Keyed.{Rising}
+use Rattle.format_language.specs.Language.{Language, Entry, class, production, Range, rangeOf, argumentsOf, isIn}
+use Rattle.format_language.specs.LanguageFile.{entriesOf, languageLimit, languageOf}
+use Rattle.format_language.specs.Inner.Entries.{entryAt, classRange}
+use Rattle.format_language.proofs.Lookup.{range-mem, arguments-mem, class-in}
+use Rattle.format_language.proofs.Holds.{holds-entries}
+use Rattle.tree_reader.specs.Code.{Code}
+use Rattle.tree_reader.specs.Syntax.{write, tree}
+use Rattle.tree_reader.specs.Operations.{treeOf, checkTree}
+use Rattle.tree_reader.specs.Inner.Index.{Indexed}
+use Rattle.tree_reader.proofs.Members.{in-below}
+use Rattle.format_translation.specs.Translation.{Translation, Body, itemKey, mappingOf, mapped}
+use Rattle.format_translation.specs.Running.{clausesOf}
+use Rattle.format_translation.specs.TranslationFile.{bodyOf, translationOf}
+use Rattle.format_translation.specs.Operations.{checkTranslation}
+use Rattle.format_translation.specs.Inner.Parts.{sourceIn, targetIn, bodyIn}
+use Rattle.format_translation.specs.Inner.ItemIndex.{IndexedItems, mappedAt}
+use Rattle.format_translation.proofs.IndexedItems.{mapped-is}
+use Rattle.format_translation.proofs.Cuts.{pieces-in, body-in-short}
+use Rattle.format_translation.proofs.Accepted.{refused-not}
+use Rattle.format_translation.proofs.Codec.{translation-whole, rises-parts}
+use Rattle.check_operations.proofs.Legal as Legal
+use Rattle.check_operations.proofs.Legal.{tree-right, accepted-tree, refused-tree}
+use Rattle.format_translation.proofs.Preserved.{Carries}
+use Rattle.format_translation.proofs.Fitting.{fit-carries}
+use Rattle.format_translation.proofs.Lookup.{mem-mapping, mem-mapped}
+use Rattle.format_translation.specs.Plain.{plain}
+use Rattle.format_translation.proofs.PlainUses.{mapping-zero}
+use Rattle.run_table.specs.Inner.Table.{Ready, Checked}
+use Rattle.run_table.proofs.Clauses as Clauses
+use Rattle.search_sources.proofs.Answers.{Named}
+use Rattle.search_levels.specs.Inner.Setting.{Targeted, Setting, Seeks}
+use Rattle.search_levels.proofs.Lying.{some-byte}
+use Rattle.search_levels.proofs.Truths.{blank-true}
+use Rattle.search_sources.specs.Operations.{isLimit, ready, foundIn, searchBytes, searchTree}
+use Rattle.search_operation.specs.Inner.Finding.{Searchable, Rooted, Mapped, Placed, Answers, readyIn, readyFrom, Leaves}
+
+-- A name in a file is a byte.
+class-production : {A : Type 0} {k r p : ℕ} {c : Range} {ks : List ℕ} → production r p ks ≡ class k c → A
+class-production e = let z : _≡_ {A = ℕ} 0 1 = cc in absurd (omega arith)
+
+production-name : {r p q s : ℕ} {ks js : List ℕ} → production r p ks ≡ production s q js → p ≡ q
+production-name e = cc
+
+pub named-of : (s : List ℕ) (l : Language) → entriesOf s ≡ some l → ((i : ℕ) → getD s i 0 < 256) → Named l
+unfolding entryAt
+named-of s l e narrow k p ks known =
+    let h = holds-entries s l e in
+    let m : Mem (production k p ks) (map (entryAt s) (places s)) = rw (h .entries) (arguments-mem l k p ks known) in
+    let z = map-cases (entryAt s) (production k p ks) (places s) m in
+    at-place (z .0) (z .2)
+  where
+    named-byte : (b : Bool) (r q : ℕ) (c : Range) (js : List ℕ) → production k p ks ≡ cond b (class r c) (production r q js) → p ≡ q
+    named-byte true r q c js y = class-production y
+    named-byte false r q c js y = production-name y
+
+    at-place : (q : ℕ) → production k p ks ≡ entryAt s q → p < 256
+    at-place q d =
+        let n = narrow (q + 4) in
+        let x : p ≡ byteAt s (q + 4) = named-byte (eqb (byteAt s q) 0x11) (byteAt s (q + 3)) (byteAt s (q + 4)) (classRange s q) (slice (q + 5) (fieldEnd s q) s) d in
+        rw x n
+
+-- Bytes that are all zero.
+pub all-zero : (w : List ℕ) (n : ℕ) → length w ≡ n → ((i : ℕ) → getD w i 0 ≡ 0) → w ≡ replicate n 0
+all-zero w n e h = go w h ∙ ap (λ (m : ℕ). replicate m 0) e
+  where
+    go : (w : List ℕ) → ((i : ℕ) → getD w i 0 ≡ 0) → w ≡ replicate (length w) 0
+    go [] h = refl
+    go (b ∷ w) h = let x : b ≡ 0 = h 0 in let r = go w (λ i. h (suc i)) in λ i. x i ∷ r i
+
+pub placed-rooted : {source target body places kinds bytes : List ℕ} {k : ℕ} {f : Translation} {u : Code} → Checked source target body f → Placed target places kinds bytes k f u
+    → Rooted source target bytes f u
+placed-rooted {body = body} z w = record { body = body; checked = z; whole = w .whole }
+
+module _ (source target body table index places kinds bytes memory free : List ℕ) (k : ℕ) (f : Translation) (u : Code) (z : Searchable source target body f)
+    (w : Placed target places kinds bytes k f u) (small : k < 32) where
+  rises : Rising itemKey (f .body)
+  rises = Clauses.body-rises (z .checked)
+
+  carries : Carries (f .source) (f .target) (mappingOf (f .body)) (clausesOf f)
+  carries = fit-carries f rises (Clauses.fits (z .checked))
+
+  has-zero : (j : ℕ) → isIn (f .source) j ≡ true → mappingOf (f .body) j 0 ≡ some (mapped (f .body) j 0)
+  has-zero j i =
+      let (t, m) = Clauses.fits (z .checked) .maps j i in
+      mem-mapping (f .body) rises j 0 t m ∙ ap some (sym (mem-mapped (f .body) rises j 0 t m))
+
+  class-there : (j : ℕ) (c : Range) → rangeOf (f .source) j ≡ some c → (d : Range) × (rangeOf (f .target) (mapped (f .body) j 0) ≡ some d)
+  class-there j c e =
+      let d = carries .tokens j 0 (mapped (f .body) j 0) c (has-zero j (class-in (f .source) j c (range-mem (f .source) j c e))) e in
+      (d .0, d .1)
+
+  some-bytes : 0 < length bytes
+  some-bytes = let x = some-byte (w .lies .typed) in let y = ap length (w .whole) in omega arith
+
+  pub placed-seeks : Ready table f → Indexed index source (f .source) → ((i : ℕ) → getD source i 0 < 256) → ((i : ℕ) → getD bytes i 0 < 256)
+      → length free ≡ 32 → ((i : ℕ) → getD memory i 0 ≡ 0) → ((i : ℕ) → getD free i 0 ≡ 0)
+      → Seeks table source index target places kinds bytes memory free k 0 f (some u)
+  placed-seeks ready indexed narrow-source narrow long blank empty = record {
+    setting = record {
+      targeted = record {
+        ready = ready;
+        target-index = w .target-index;
+        maps = w .kinds-are .maps;
+        plain = mapping-zero (f .body) (z .by-zero);
+        has-zero = has-zero;
+        narrow = narrow;
+      };
+      source-index = indexed;
+      apart = translation-whole (z .checked .file) f (z .checked .accepted) .1 .source-apart;
+      named = named-of source (f .source) (z .checked .pieces .source) narrow-source;
+      tokens = class-there;
+    };
+    truthful = blank-true f bytes memory free long blank empty;
+    kind = small;
+    asked = (some-bytes, w .lies);
+  }
+
+-- The target is a language by itself.
+pub target-language : {source target body : List ℕ} {f : Translation} → Checked source target body f → languageOf target ≡ value (f .target)
+unfolding languageOf
+target-language {f = f} z =
+    let w = translation-whole (z .file) f (z .accepted) .1 in
+    rw (le-ltb languageLimit (length _) (z .pieces .target-short), z .pieces .target, rises-parts f (w .rises) .1, w .target-apart)
+
+-- kinds_of
+pub kinds-mapped : (body index kinds : List ℕ) (b : Body) → IndexedItems index body b → ((k : ℕ) → k < 32 → getD kinds k 0 ≡ mappedAt body index k) → Mapped kinds b
+kinds-mapped body index kinds b x maps = record { maps = λ k small. maps k small ∙ mapped-is body index b x k small }
+
+-- search_in
+module _ (source target body kinds bytes : List ℕ) (k limit : ℕ) (f : Translation) (z : Checked source target body f) (maps : Mapped kinds (f .body)) (small : k < 32)
+    (root : ℕ) (root-is : root ≡ getD kinds k 0) (c : Outcome) (told : c ≡ checkTree target root bytes) where
+  root-mapped : root ≡ mapped (f .body) k 0
+  root-mapped = root-is ∙ maps .maps k small
+
+  pub stage-refused : (r : Reason) → c ≡ Refused r → readyIn f k bytes limit ≡ refused r
+  unfolding readyIn
+  stage-refused r h =
+      let q = refused-tree target root bytes (λ l u. refuseIf (not (isLimit limit)) LimitOutOfRange (value f)) {r = r} (sym told ∙ h) in
+      rw (target-language z, root-mapped) at q
+
+  module _ (n : ℕ) (h : c ≡ Accepted n) where
+    abbrev checked : Legal.Checked target root bytes
+    checked = accepted-tree target root bytes (sym told ∙ h)
+
+    same-language : checked .language ≡ f .target
+    same-language = value-inj (sym (checked .is) ∙ target-language z)
+
+    pub tree-is : treeOf (f .target) (mapped (f .body) k 0) bytes ≡ value (checked .subject)
+    tree-is = ap (λ (l : Language). treeOf l (mapped (f .body) k 0) bytes) (sym same-language) ∙ (ap (λ (j : ℕ). treeOf (checked .language) j bytes) (sym root-mapped) ∙ checked .tree-is)
+
+    pub limit-refused : isLimit limit ≡ false → readyIn f k bytes limit ≡ refused LimitOutOfRange
+    unfolding readyIn
+    limit-refused e = rw (tree-is, e)
+
+    pub stage-passed : isLimit limit ≡ true → readyIn f k bytes limit ≡ value f
+    unfolding readyIn
+    stage-passed e = rw (tree-is, e)
+
+    pub stage-placed : (places : List ℕ) → ((i : ℕ) → getD bytes i 0 < 256)
+        → ((n : ℕ) (l : Language) → c ≡ Accepted n → entriesOf target ≡ some l → Indexed places target l) → Placed target places kinds bytes k f (checked .subject)
+    stage-placed places narrow indexed =
+        let r = tree-right (f .target) (mapped (f .body) k 0) bytes (checked .subject) tree-is in
+        let e = r .1 .2 (bytes-from bytes (λ i q. narrow i)) .0 in
+        record {
+          target-index = record { indexed = indexed n (f .target) h (z .pieces .target); apart = translation-whole (z .file) f (z .accepted) .1 .target-apart };
+          kinds-are = maps;
+          lies = record { rest = []; is = e; inside = omega arith; typed = r .1 .0; within = r .1 .1; known = r .0 };
+          whole = e ∙ append-nil (write tree (checked .subject));
+        }
+
+pub limit-low : (n : ℕ) → n < 1 → isLimit n ≡ false
+limit-low n h = rw (lt-leb 1 n h)
+
+pub limit-high : (n : ℕ) → 16 < n → isLimit n ≡ false
+limit-high n h = rw (lt-leb n 16 h) (and-false (leb 1 n))
+  where
+    and-false : (b : Bool) → (b && false) ≡ false
+    and-false true = refl
+    and-false false = refl
+
+pub limit-good : (n : ℕ) → 1 ≤ n → n ≤ 16 → isLimit n ≡ true
+limit-good n h i = rw (le-leb 1 n h, le-leb n 16 i)
+
+-- What is left at a refusal, and behind a search.
+module _ (stage : Result Translation) (k : ℕ) (bytes : List ℕ) (limit : ℕ) (o workspace : List ℕ) (out : Outcome) where
+  pub leaves-refused : (r : Reason) → stage ≡ refused r → out ≡ Refused r → Leaves stage k bytes limit o o workspace workspace out
+  leaves-refused r e h = rw e (record { answer = h; output = refl; memory = refl })
+
+  pub leaves-found : (f : Translation) (after left : List ℕ) → stage ≡ value f → Answers (foundIn f k bytes limit (length o)) o after out → left ≡ replicate (length workspace) 0
+      → Leaves stage k bytes limit o after workspace left out
+  leaves-found f after left e h i = rw e (record { answer = h .answer; output = h .left; memory = i })
+
+-- search_from
+pub root-past : (source target body : List ℕ) (f : Translation) → Searchable source target body f → (root : ℕ) → 31 < root → isIn (f .source) root ≡ false
+root-past source target body f z root h =
+    refuted (isIn (f .source) root) (λ e. let x = in-below source root (f .source) (z .checked .pieces .source) e in omega arith)
+
+module _ (f : Translation) (root : ℕ) (bytes : List ℕ) (limit : ℕ) (workspace o : List ℕ) (out : Outcome) where
+  pub from-unknown : isIn (f .source) root ≡ false → out ≡ Refused UnknownRoot → Leaves (readyFrom f root bytes limit) root bytes limit o o workspace workspace out
+  unfolding readyFrom
+  from-unknown e i = leaves-refused (readyFrom f root bytes limit) root bytes limit o workspace out UnknownRoot (rw e) i
+
+  pub from-known : (after left : List ℕ) → isIn (f .source) root ≡ true → Leaves (readyIn f root bytes limit) root bytes limit o after workspace left out
+      → Leaves (readyFrom f root bytes limit) root bytes limit o after workspace left out
+  unfolding readyFrom
+  from-known after left e h = rw e h
+
+-- search
+module _ (s : List ℕ) (f : Translation) (is : translationOf s ≡ value f) where
+  pub parts-searchable : plain (f .body) ≡ true → {x y z : List ℕ} → x ≡ sourceIn s → y ≡ targetIn s → z ≡ bodyIn s → Searchable x y z f
+  parts-searchable e ex ey ez =
+      rw (ex, ey, ez) (record { checked = record { pieces = pieces-in s f is; short = body-in-short s f is; file = s; accepted = is }; by-zero = e })
+
+  pub body-there : {x : List ℕ} → x ≡ bodyIn s → bodyOf x ≡ some (f .body)
+  body-there ex = ap bodyOf ex ∙ pieces-in s f is .body
+
+-- What is answered and left is as the definition says.
+abbrev pub AsSearched : List ℕ → ℕ → List ℕ → ℕ → (workspace left o after : List ℕ) → Outcome → Type 0
+AsSearched s root bytes limit workspace left o after out =
+    (out ≡ searchTree s root bytes limit workspace o .outcome) × (after ≡ searchTree s root bytes limit workspace o .output)
+    × (left ≡ searchTree s root bytes limit workspace o .workspace)
+
+module _ (s : List ℕ) (root : ℕ) (bytes : List ℕ) (limit : ℕ) (workspace o : List ℕ) (out : Outcome) where
+  pub as-leaves : (after left : List ℕ) → Leaves (ready s root bytes limit) root bytes limit o after workspace left out → AsSearched s root bytes limit workspace left o after out
+  unfolding searchTree searchBytes
+  as-leaves after left h = (h .answer, h .output, h .memory)
+
+  pub search-refused : (c : Outcome) (r : Reason) → c ≡ checkTranslation s → c ≡ Refused r → out ≡ Refused r → AsSearched s root bytes limit workspace workspace o o out
+  unfolding checkTranslation ready
+  search-refused c r ec h i = as-leaves o workspace (leaves-refused (ready s root bytes limit) root bytes limit o workspace out r (go (translationOf s) refl (sym ec ∙ h)) i)
+    where
+      go : (q : Result Translation) → translationOf s ≡ q → Rattle.outcome.specs.Outcome.checked q ≡ Refused r → ready s root bytes limit ≡ refused r
+      go (value f) e d = refused-not {n = 0} {r = r} (sym d)
+      go (refused x) e d = rw e (cc)
+
+  module _ (f : Translation) (is : translationOf s ≡ value f) where
+    pub search-numbered : plain (f .body) ≡ false → out ≡ Refused NumberUnfit → AsSearched s root bytes limit workspace workspace o o out
+    unfolding ready
+    search-numbered e i = as-leaves o workspace (leaves-refused (ready s root bytes limit) root bytes limit o workspace out NumberUnfit (rw (is, e)) i)
+
+    pub search-plain : (after left : List ℕ) → plain (f .body) ≡ true → Leaves (readyFrom f root bytes limit) root bytes limit o after workspace left out
+        → AsSearched s root bytes limit workspace left o after out
+    unfolding ready readyFrom readyIn
+    search-plain after left e h = as-leaves after left (rw (is, e) h)

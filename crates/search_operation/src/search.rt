@@ -1,0 +1,286 @@
+// The operation that searches back. It measures the first source tree and writes it only where it fits.
+use check_operations::translations::check_translation;
+use check_operations::trees::check_indexed;
+use format_fields::bytes::byte_at;
+use format_translation::index::build_items;
+use format_translation::index::map_kinds;
+use format_translation::index::put_uses;
+use format_translation::parts::body_of;
+use format_translation::parts::source_of;
+use format_translation::parts::target_of;
+use format_translation::plain::is_plain;
+use outcome::Answer;
+use outcome::Outcome;
+use outcome::Reason;
+use outcome::accept;
+use outcome::refuse;
+use run_table::prepare::begin;
+use run_table::prepare::prepare;
+use search_first::put::put_first;
+use search_levels::levels::need;
+use search_levels::memory::clear;
+use tree_reader::index::INDEX;
+use tree_reader::index::TABLE;
+use tree_reader::index::build;
+use tree_reader::kinds::is_in;
+use tree_reader::node::USES;
+ghost use mathlib.Core.Path.{_≡_};
+ghost use mathlib.Core.Option.{some};
+ghost use Prim.Native.Nat.{_<_, _≤_};
+ghost use lib.ListN.{length, replicate};
+ghost use Rattle.tree_reader.specs.Code.{Code};
+ghost use Rattle.format_translation.specs.Translation.{Translation, Body};
+ghost use Rattle.format_translation.specs.TranslationFile.{bodyOf};
+ghost use Rattle.search_levels.specs.Inner.Setting.{Seeks};
+ghost use Rattle.search_sources.specs.Operations.{foundIn, searchTree};
+ghost use Rattle.search_operation.specs.Inner.Finding.{Searchable, Rooted, Mapped, Placed, Answers, readyIn, readyFrom, Leaves};
+
+// The most levels that a search may have.
+const MOST_LEVELS: u32 = 16;
+
+// The first source tree of a kind for the whole tree, within a limit of levels: 23, 17.
+fn find(
+    table: &[u16; TABLE],
+    source: &[u8],
+    index: &[u16],
+    target: &[u8],
+    places: &[u16],
+    kinds: &[u8],
+    tree: &[u8],
+    memory: &mut [u8],
+    free: &mut [u8],
+    kind: usize,
+    limit: usize,
+    output: &mut [u8],
+) -> Answer
+    requires { ⌜ (limit ≤ 16) × ((f : Translation) × (u : Code) × Seeks (now table) (now source) (now index) (now target) (now places) (now kinds) (now tree) (now memory) (now free) kind 0 f (some u) × Rooted (now source) (now target) (now tree) f u) ⌝ }
+    ensures { λ r. ⌜ (length (now (memory .exit)) ≡ length (now (memory .entry)))
+        × ((f : Translation) (u : Code) → Seeks (now (table .entry)) (now (source .entry)) (now (index .entry)) (now (target .entry)) (now (places .entry)) (now (kinds .entry)) (now (tree .entry)) (now (memory .entry)) (now (free .entry)) kind 0 f (some u) → Rooted (now (source .entry)) (now (target .entry)) (now (tree .entry)) f u
+        → Answers (foundIn f kind (now (tree .entry)) limit (length (now (output .entry)))) (now (output .entry)) (now (output .exit)) (r .outcome)) ⌝ }
+{
+    let room = output.len();
+    let past = room + 1;
+    let needed = need(
+        table,
+        source,
+        index,
+        target,
+        places,
+        kinds,
+        tree,
+        memory,
+        free,
+        kind,
+        0,
+        limit,
+    );
+    if limit < needed {
+        return refuse(Reason::NoSource);
+    }
+    let mut spare = [0u8; 1];
+    let n = put_first(
+        table,
+        source,
+        index,
+        target,
+        places,
+        kinds,
+        tree,
+        memory,
+        free,
+        kind,
+        0,
+        limit,
+        past,
+        &mut spare,
+        0,
+    );
+    if room < n {
+        return refuse(Reason::OutputTooShort);
+    }
+    put_first(
+        table,
+        source,
+        index,
+        target,
+        places,
+        kinds,
+        tree,
+        memory,
+        free,
+        kind,
+        0,
+        limit,
+        past,
+        output,
+        0,
+    );
+    accept(n)
+}
+
+// The search for a tree that was accepted: its workspace is all zero at exit.
+fn search_placed(
+    source: &[u8],
+    target: &[u8],
+    body: &[u8],
+    places: &[u16],
+    kinds: &[u8],
+    kind: usize,
+    tree: &[u8],
+    limit: usize,
+    workspace: &mut [u8],
+    output: &mut [u8],
+) -> Answer
+    requires { ⌜ (kind < 32) × (limit ≤ 16) × ((f : Translation) × (u : Code) × Searchable (now source) (now target) (now body) f × Placed (now target) (now places) (now kinds) (now tree) kind f u) ⌝ }
+    ensures { λ r. ⌜ (now (workspace .exit) ≡ replicate (length (now (workspace .entry))) 0)
+        × ((f : Translation) (u : Code) → Searchable (now (source .entry)) (now (target .entry)) (now (body .entry)) f → Placed (now (target .entry)) (now (places .entry)) (now (kinds .entry)) (now (tree .entry)) kind f u
+        → Answers (foundIn f kind (now (tree .entry)) limit (length (now (output .entry)))) (now (output .entry)) (now (output .exit)) (r .outcome)) ⌝ }
+{
+    let mut table = [0u16; TABLE];
+    begin(source, target, &mut table);
+    let mut uses = [0u8; USES];
+    put_uses(body, &mut uses);
+    prepare(source, target, body, &uses, &mut table);
+    let mut index = [0u16; INDEX];
+    build(source, &mut index);
+    let mut free = [0u8; 32];
+    clear(workspace);
+    let answer = find(
+        &table,
+        source,
+        &index,
+        target,
+        places,
+        kinds,
+        tree,
+        workspace,
+        &mut free,
+        kind,
+        limit,
+        output,
+    );
+    clear(workspace);
+    answer
+}
+
+// Puts the kind that each kind maps to by number 0, by a body, into a table of 32.
+fn kinds_of(body: &[u8], kinds: &mut [u8])
+    requires { ⌜ (length (now body) ≤ 32768) × (length (now kinds) ≡ 32) × ((b : Body) × (bodyOf (now body) ≡ some b)) ⌝ }
+    ensures { λ _. ⌜ ((b : Body) → bodyOf (now (body .entry)) ≡ some b → Mapped (now (kinds .exit)) b) ⌝ }
+{
+    let mut items = [0u16; INDEX];
+    build_items(body, &mut items);
+    map_kinds(body, &items, kinds);
+}
+
+// The search in a translation that is searchable, for a source kind that is in it: 15, 16, 24, 23, 17.
+fn search_in(
+    source: &[u8],
+    target: &[u8],
+    body: &[u8],
+    kind: usize,
+    tree: &[u8],
+    limit: u32,
+    workspace: &mut [u8],
+    output: &mut [u8],
+) -> Answer
+    requires { ⌜ (kind < 32) × ((f : Translation) × Searchable (now source) (now target) (now body) f) ⌝ }
+    ensures { λ r. ⌜ ((f : Translation) → Searchable (now (source .entry)) (now (target .entry)) (now (body .entry)) f
+        → Leaves (readyIn f kind (now (tree .entry)) limit) kind (now (tree .entry)) limit (now (output .entry)) (now (output .exit)) (now (workspace .entry)) (now (workspace .exit)) (r .outcome)) ⌝ }
+{
+    let mut kinds = [0u8; 32];
+    kinds_of(body, &mut kinds);
+    let mut places = [0u16; INDEX];
+    let root = byte_at(&kinds, kind) as u32;
+    let answer = check_indexed(target, root, tree, &mut places);
+    let outcome = answer.outcome;
+    if let Outcome::Refused(reason) = outcome {
+        return refuse(reason);
+    }
+    if limit < 1 {
+        return refuse(Reason::LimitOutOfRange);
+    }
+    if MOST_LEVELS < limit {
+        return refuse(Reason::LimitOutOfRange);
+    }
+    search_placed(
+        source,
+        target,
+        body,
+        &places,
+        &kinds,
+        kind,
+        tree,
+        limit as usize,
+        workspace,
+        output,
+    )
+}
+
+// The search in a translation that is searchable: 14 for the source kind, 15, 16, 24, 23, 17.
+fn search_from(
+    source: &[u8],
+    target: &[u8],
+    body: &[u8],
+    root: u32,
+    tree: &[u8],
+    limit: u32,
+    workspace: &mut [u8],
+    output: &mut [u8],
+) -> Answer
+    requires { ⌜ ((f : Translation) × Searchable (now source) (now target) (now body) f) ⌝ }
+    ensures { λ r. ⌜ ((f : Translation) → Searchable (now (source .entry)) (now (target .entry)) (now (body .entry)) f
+        → Leaves (readyFrom f root (now (tree .entry)) limit) root (now (tree .entry)) limit (now (output .entry)) (now (output .exit)) (now (workspace .entry)) (now (workspace .exit)) (r .outcome)) ⌝ }
+{
+    if 31 < root {
+        return refuse(Reason::UnknownRoot);
+    }
+    if !is_in(source, root as u8) {
+        return refuse(Reason::UnknownRoot);
+    }
+    search_in(
+        source,
+        target,
+        body,
+        root as usize,
+        tree,
+        limit,
+        workspace,
+        output,
+    )
+}
+
+// Search back: 1 to 7 for the translation, 26 where it has any number but 0, 14 for the source kind, 15 and 16 for the target
+// tree, 24, 23, 17.
+pub fn search(
+    translation: &[u8],
+    root: u32,
+    tree: &[u8],
+    limit: u32,
+    workspace: &mut [u8],
+    output: &mut [u8],
+) -> Answer
+    ensures { λ r. ⌜ (r .outcome ≡ searchTree (now (translation .entry)) root (now (tree .entry)) limit (now (workspace .entry)) (now (output .entry)) .outcome)
+        × (now (output .exit) ≡ searchTree (now (translation .entry)) root (now (tree .entry)) limit (now (workspace .entry)) (now (output .entry)) .output)
+        × (now (workspace .exit) ≡ searchTree (now (translation .entry)) root (now (tree .entry)) limit (now (workspace .entry)) (now (output .entry)) .workspace) ⌝ }
+{
+    let answer = check_translation(translation);
+    let outcome = answer.outcome;
+    if let Outcome::Refused(reason) = outcome {
+        return refuse(reason);
+    }
+    let body = body_of(translation);
+    if !is_plain(body) {
+        return refuse(Reason::NumberUnfit);
+    }
+    search_from(
+        source_of(translation),
+        target_of(translation),
+        body,
+        root,
+        tree,
+        limit,
+        workspace,
+        output,
+    )
+}

@@ -1,0 +1,9 @@
+pub mod Order
+pub mod Answers
+pub mod Tokens
+pub mod Memory
+pub mod Matching
+pub mod Ordering
+pub mod Within
+pub mod Finding
+pub mod Theorems

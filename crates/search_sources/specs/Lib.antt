@@ -1,0 +1,5 @@
+pub mod Inner
+pub mod Trees
+pub mod Sources
+pub mod Operations
+pub mod Laws

@@ -1,6 +1,0 @@
-pub mod Translation
-pub mod Running
-pub mod WellFormed
-pub mod TranslationFile
-pub mod Operations
-pub mod Inner
