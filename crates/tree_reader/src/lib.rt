@@ -3,4 +3,5 @@ pub mod ends;
 pub mod index;
 pub mod kinds;
 pub mod node;
+pub mod operands;
 pub mod read;
