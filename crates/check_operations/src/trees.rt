@@ -17,6 +17,7 @@ use outcome::accept;
 use outcome::refuse;
 use tree_reader::index::INDEX;
 use tree_reader::node::Read;
+use tree_reader::read::TREE_LEVELS;
 use tree_reader::read::read_tree;
 
 // What was read, with nothing after it.
@@ -47,7 +48,7 @@ pub fn check_indexed(language: &[u8], root: u32, tree: &[u8], index: &mut [u16])
     if let Outcome::Refused(reason) = open_language(language, root, index) {
         return refuse(reason);
     }
-    let read = read_tree(language, index, root as u8, tree, 0, 64);
+    let read = read_tree(language, index, root as u8, tree, 0, TREE_LEVELS);
     whole_tree(read, tree.len())
 }
 
