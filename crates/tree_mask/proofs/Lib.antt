@@ -3,3 +3,4 @@ pub mod Measures
 pub mod Answers
 pub mod Laws
 pub mod Examples
+pub mod Walks

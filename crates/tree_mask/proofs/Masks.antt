@@ -25,13 +25,12 @@ use Rattle.tree_reader.specs.Inner.Positions.{productionPlace, EndsBy, KindsIn,
 use Rattle.tree_reader.specs.declared.node.Read.{Read}
 use Rattle.tree_reader.specs.declared.node.Read.the-variants.{End, Deep, Broken}
 use Rattle.tree_reader.specs.declared.node.Syntax.the-variants.{Tree}
-use Rattle.tree_reader.proofs.Laws.{name-in, kinds-in}
 use Rattle.tree_reader.proofs.Sound.{read-done}
 use Rattle.format_card.specs.Card.{Card, sees}
 use Rattle.format_card.specs.Inner.Sets.{inSet}
-use Rattle.check_operations.proofs.Reading.{two, read-token, read-deep, read-production, found-name, same-done, then-done}
+use Rattle.check_operations.proofs.Reading.{two, read-token, read-deep, read-production, same-done, then-done}
 use Rattle.tree_mask.specs.Mask.{hiddenBlock, masked, maskedAll}
-use Rattle.tree_mask.specs.Inner.Masking.{Puts, EndsTree, MasksTree, MasksTrees, Goes, MasksWhole}
+use Rattle.tree_mask.specs.Inner.Masking.{Puts, EndsTree, MasksTree, MasksTrees, MasksWhole}
 
 -- Texts put one behind the other, and the same text said in another way.
 pub puts-same : {v u o o′ : List ℕ} {n m : ℕ} → v ≡ u → Puts v o o′ n m → Puts u o o′ n m
@@ -177,15 +176,6 @@ module _ (s index b : List ℕ) (kinds k at : ℕ) (o : List ℕ) (n levels : �
           record { left = t .left; put = puts-same v w }
 
       module _ (pos : place ≡ 0 → ⊥) where
-        pub at-name : at < length b
-        at-name = found-name s index b k at kind bytes ej ec ep pos .0
-
-        pub at-place : Sound index s → (place + 4 ≤ length s) × (length s ≤ 1024)
-        at-place z = name-in index s z refl kind (bytes at) (found-name s index b k at kind bytes ej ec ep pos .1) pos
-
-        pub at-kinds : {size : ℕ} → Sound index s → size ≡ pairAt s place → KindsIn s (place + 4) (place + 2 + size)
-        at-kinds z e = kinds-in index s z refl kind (bytes at) (found-name s index b k at kind bytes ej ec ep pos .1) pos e
-
         pub not-deep : levels ≡ 0 → (l : Language) (a : Code) (rest : List ℕ) → Indexed index s l
             → read tree l [] levels k (drop at b) ≡ done a rest → ⊥
         not-deep h l a rest z f = read-deep s index b k at kind bytes ej ec ep l z levels a rest f pos h
@@ -272,11 +262,6 @@ pub all-last : (s index : List ℕ) (kinds q stop : ℕ) (b : List ℕ) (to leve
     → {o₁ : List ℕ} {e m : ℕ} → MasksTree s index kinds k b to levels o o₁ n e m → MasksTrees s index kinds q stop b to levels o o₁ n e m
 all-last s index kinds q stop b to levels o n ek last there {o₁} {e} {m} step =
     all-next s index kinds q stop b to levels o n ek (omega arith) there step (all-done s index kinds (q + 1) stop b e levels o₁ m (omega arith))
-
--- Nothing is left.
-pub goes-done : (s index : List ℕ) (kinds from stop : ℕ) (b : List ℕ) (at levels : ℕ) (o : List ℕ) (n q to : ℕ) (o₁ : List ℕ) (m : ℕ)
-    → Goes s index kinds from stop b at levels o n q stop to levels o₁ m → stop ≤ q → MasksTrees s index kinds from stop b at levels o o₁ n to m
-goes-done s index kinds from stop b at levels o n q to o₁ m g h = g o₁ to m (all-done s index kinds q stop b to levels o₁ m h)
 
 -- mask_tree
 module _ (s index b : List ℕ) (kinds k : ℕ) (o : List ℕ) where

@@ -270,13 +270,13 @@ module _ (s index b : List ℕ) (kinds : ℕ) (row : Row) (w : Walkable s index 
     pub kind-in : (row .kind < length s) × (getD s (row .kind) 0 < 32)
     kind-in = w .kinds (row .kind) (omega arith) more
 
-    stop-in : row .stop ≤ length s
+    pub stop-in : row .stop ≤ length s
     stop-in = let i = w .kinds (row .stop - 1) (omega arith) (omega arith) in omega (arith, i .0)
 
     pub row-short : row .kind < 65536
     row-short = omega (arith, kind-in .0, w .sound .short)
 
-    next-kinds : KindsIn s (row .kind + 1) (row .stop)
+    pub next-kinds : KindsIn s (row .kind + 1) (row .stop)
     next-kinds x h i = w .kinds x (omega arith) i
 
     module _ {k : ℕ} (ek : k ≡ getD s (row .kind) 0) where

@@ -1,7 +1,6 @@
 // The length of the masked form of a tree. The tree is read at the same time, so that it is checked and measured in one
 // pass.
 use crate::row::Row;
-use crate::row::TREE_LEVELS;
 use crate::row::inner_row;
 use crate::row::next_row;
 use crate::row::whole_row;
@@ -14,6 +13,7 @@ use tree_reader::node::Read;
 use tree_reader::node::Syntax;
 use tree_reader::node::place_at;
 use tree_reader::node::production_place;
+use tree_reader::read::TREE_LEVELS;
 use tree_reader::read::read_tree;
 ghost use mathlib.Core.Path.{_≡_};
 ghost use mathlib.Core.Bool.{true};

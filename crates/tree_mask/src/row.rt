@@ -1,9 +1,10 @@
 // A row of trees that a walk goes over.
 use tree_reader::operands::operands_of;
+use tree_reader::read::TREE_LEVELS;
 ghost use mathlib.Core.Path.{_≡_};
 ghost use Prim.Native.Nat.{_+_, _<_, _≤_};
 ghost use lib.ListN.{length};
-ghost use Rattle.tree_mask.specs.Inner.Rows.{wholeRow, nextRow, innerRow};
+ghost use Rattle.tree_mask.specs.Inner.Rows.{wholeRow, nextRow, endRow, innerRow};
 
 // How far the walk is: the kind of the next tree stands in the language at `kind`, and the kinds end at `stop`; the tree starts
 // at `tree` and may have so many levels; the masked form of the trees before it ends at `text`.
@@ -14,9 +15,6 @@ pub struct Row {
     pub levels: usize,
     pub text: usize,
 }
-
-// The levels of a tree.
-pub const TREE_LEVELS: usize = 64;
 
 // The row that the whole tree is by itself, of whatever kind.
 pub fn whole_row() -> Row
@@ -42,6 +40,19 @@ pub fn next_row(row: Row, tree: usize, text: usize) -> Row
         tree: tree,
         levels: row.levels,
         text: text,
+    }
+}
+
+// The row at its end.
+pub fn end_row(row: Row) -> Row
+    ensures { λ r. ⌜ r ≡ endRow row ⌝ }
+{
+    Row {
+        kind: row.stop,
+        stop: row.stop,
+        tree: row.tree,
+        levels: row.levels,
+        text: row.text,
     }
 }
 

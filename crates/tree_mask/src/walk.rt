@@ -1,7 +1,11 @@
 // The walk over a legal tree that puts its masked form into an output. Where the output is too short, the masked form is
 // only measured to its end.
+use crate::row::Row;
+use crate::row::end_row;
+use crate::row::inner_row;
+use crate::row::next_row;
+use crate::row::whole_row;
 use format_card::set::in_set;
-use format_fields::bytes::pair_in;
 use format_fields::bytes::to_usize;
 use tree_reader::index::INDEX;
 use tree_reader::node::Read;
@@ -9,34 +13,21 @@ use tree_reader::node::Syntax;
 use tree_reader::node::place_at;
 use tree_reader::node::production_place;
 use tree_reader::read::read_tree;
-ghost use mathlib.Core.Bool.{cond};
+ghost use mathlib.Core.Path.{_≡_};
+ghost use mathlib.Core.Bool.{true, cond};
 ghost use mathlib.Core.List.{[], _∷_};
-ghost use Prim.Native.Nat.{ℕ, _+_, _≤_};
-ghost use lib.ListN.{length, drop, take};
-ghost use Rattle.tree_reader.specs.Inner.Index.{Sound, Ready};
-ghost use Rattle.tree_reader.specs.Inner.Positions.{KindsIn};
+ghost use Prim.Native.Nat.{ℕ, _+_, _<_, _≤_};
+ghost use lib.Dec.{eqb};
+ghost use lib.ListN.{length, getD, drop, take};
+ghost use Rattle.tree_reader.specs.Inner.Index.{Ready};
+ghost use Rattle.tree_reader.specs.Inner.Positions.{productionPlace};
+ghost use Rattle.format_card.specs.Inner.Sets.{inSet};
 ghost use Rattle.tree_mask.specs.Mask.{hiddenBlock};
-ghost use Rattle.tree_mask.specs.Inner.Masking.{Puts, EndsTree, MasksTrees, Goes, MasksWhole};
+ghost use Rattle.tree_mask.specs.Inner.Rows.{Walkable};
+ghost use Rattle.tree_mask.specs.Inner.Masking.{Puts, EndsTree, MasksRow, Goes, Advances, MasksWhole};
 
 // The byte that stands for a hidden block.
 const HIDDEN: u8 = 0xFF;
-
-// The levels below the root: trees handed in have at most 64.
-const BELOW: usize = 63;
-
-// Where trees end, and where their masked forms do.
-pub struct Ends {
-    pub tree: usize,
-    pub text: usize,
-}
-
-// How far a row of trees is put: where the next kind stands in the language, where its tree starts, and where its masked
-// form will.
-pub struct Reached {
-    pub kind: usize,
-    pub tree: usize,
-    pub text: usize,
-}
 
 // Where the legal tree of a kind ends that starts at a position.
 fn end_at(
@@ -84,135 +75,123 @@ fn put_token(seen: bool, tree: &[u8], at: usize, out: &mut [u8], n: usize) -> us
     n + 2
 }
 
-// Puts the tokens that a row of trees starts with, whose kinds stand in the language from `from` up to `stop`.
+// Puts the tokens that a row starts with.
 fn put_tokens(
     language: &[u8],
     index: &[u16; INDEX],
     seen: u32,
-    from: usize,
-    stop: usize,
     tree: &[u8],
-    at: usize,
+    row: Row,
     out: &mut [u8],
-    n: usize,
-) -> Reached
-    requires { ⌜ Sound (now index) (now language) × KindsIn (now language) from stop × (at ≤ length (now tree)) × (n ≤ at) ⌝ }
-    ensures { λ r. ⌜ (from ≤ r .kind) × (r .tree ≤ length (now (tree .entry))) × (r .text ≤ r .tree)
-        × ((levels : ℕ) → Goes (now (language .entry)) (now (index .entry)) seen from stop (now (tree .entry)) at levels (now (out .entry)) n (r .kind) stop (r .tree) levels (now (out .exit)) (r .text))
-        × (stop ≤ r .kind → (levels : ℕ) → MasksTrees (now (language .entry)) (now (index .entry)) seen from stop (now (tree .entry)) at levels (now (out .entry)) (now (out .exit)) n (r .tree) (r .text)) ⌝ }
+) -> Row
+    requires { ⌜ Walkable (now language) (now index) (now tree) row ⌝ }
+    ensures { λ r. ⌜ Walkable (now (language .entry)) (now (index .entry)) (now (tree .entry)) r × (r .levels ≡ row .levels)
+        × Goes (now (language .entry)) (now (index .entry)) seen (now (tree .entry)) row (now (out .entry)) r (now (out .exit)) ⌝ }
 {
-    let mut q = from;
-    let mut to = at;
-    let mut m = n;
-    while q < stop {
+    let mut next = row;
+    while next.kind < next.stop {
+        let q = next.kind;
         let kind = language[q];
         if place_at(index, to_usize(kind)) == 0 {
-            return Reached {
-                kind: q,
-                tree: to,
-                text: m,
-            };
+            return next;
         }
-        if tree.len() - to < 2 {
-            return Reached {
-                kind: q,
-                tree: to,
-                text: m,
-            };
+        let at = next.tree;
+        if tree.len() - at < 2 {
+            return next;
         }
-        m = put_token(in_set(seen, kind), tree, to, out, m);
-        to += 2;
-        q += 1;
+        let text = put_token(in_set(seen, kind), tree, at, out, next.text);
+        next = next_row(next, at + 2, text);
     }
-    Reached {
-        kind: q,
-        tree: to,
-        text: m,
-    }
+    next
 }
 
-// Puts the masked forms of the trees whose kinds stand in the language from `from` up to `stop`, one after the other.
-// Tokens are put here, and those that the arguments of another tree start with; its other arguments one call deeper. Behind
-// the last tree nothing is left to do, so its arguments are put here.
-fn mask_all(
+// The next tree of a row, a production of a kind that is seen: behind the last tree of the row nothing is left to do, so its
+// operands are the next row; those of another one are put one call deeper, but for the tokens that they start with.
+fn mask_node(
     language: &[u8],
     index: &[u16; INDEX],
     seen: u32,
-    from: usize,
-    stop: usize,
     tree: &[u8],
-    at: usize,
-    levels: usize,
+    row: Row,
+    kind: u8,
+    place: usize,
     out: &mut [u8],
-    n: usize,
-) -> Ends
-    requires { ⌜ Sound (now index) (now language) × KindsIn (now language) from stop × (at ≤ length (now tree)) × (n ≤ at) ⌝ }
-    ensures { λ r. ⌜ (r .tree ≤ length (now (tree .entry))) × (r .text ≤ r .tree)
-        × MasksTrees (now (language .entry)) (now (index .entry)) seen from stop (now (tree .entry)) at levels (now (out .entry)) (now (out .exit)) n (r .tree) (r .text) ⌝ }
+) -> Row
+    requires { ⌜ Walkable (now language) (now index) (now tree) row × (row .kind < row .stop) × (kind ≡ getD (now language) (row .kind) 0) × (inSet seen kind ≡ true)
+        × (place ≡ 0 → ⊥) × (place ≡ cond (eqb (getD (now index) kind 0) 0) (productionPlace Syntax.Tree (now index) kind (now tree) (row .tree)) 0) ⌝ }
+    ensures { λ r. ⌜ Advances (now (language .entry)) (now (index .entry)) seen (now (tree .entry)) row (now (out .entry)) r (now (out .exit)) ⌝ }
 {
-    let mut q = from;
-    let mut end = stop;
-    let mut to = at;
-    let mut m = n;
-    let mut left = levels;
-    while q < end {
-        let kind = language[q];
-        let class = place_at(index, to_usize(kind));
-        let place = production_place(Syntax::Tree, index, class, kind, tree, to);
-        if place == 0 {
-            if tree.len() - to < 2 {
-                return Ends { tree: to, text: m };
-            }
-            m = put_token(in_set(seen, kind), tree, to, out, m);
-            to += 2;
-            q += 1;
-        } else if !in_set(seen, kind) {
-            let e = end_at(language, index, kind, tree, to, left);
-            if e <= to {
-                return Ends { tree: to, text: m };
-            }
-            put(HIDDEN, out, m);
-            m += 1;
-            to = e;
-            q += 1;
-        } else {
-            if left == 0 {
-                return Ends { tree: to, text: m };
-            }
-            put(tree[to], out, m);
-            let first = place + 4;
-            let last = place + 2 + pair_in(language, place);
-            m += 1;
-            to += 1;
-            q += 1;
-            if q == end {
-                q = first;
-                end = last;
-                left -= 1;
-            } else if first < last {
-                let row = put_tokens(language, index, seen, first, last, tree, to, out, m);
-                to = row.tree;
-                m = row.text;
-                if row.kind < last {
-                    let inner = mask_all(
-                        language,
-                        index,
-                        seen,
-                        row.kind,
-                        last,
-                        tree,
-                        to,
-                        left - 1,
-                        out,
-                        m,
-                    );
-                    to = inner.tree;
-                    m = inner.text;
-                }
-            }
-        }
+    if row.levels == 0 {
+        return end_row(row);
     }
-    Ends { tree: to, text: m }
+    let at = row.tree;
+    put(tree[at], out, row.text);
+    let inner = inner_row(language, place, row);
+    if row.kind + 1 == row.stop {
+        return inner;
+    }
+    let rest = put_tokens(language, index, seen, tree, inner, out);
+    if rest.stop <= rest.kind {
+        return next_row(row, rest.tree, rest.text);
+    }
+    let ends = mask_row(language, index, seen, tree, rest, out);
+    next_row(row, ends.tree, ends.text)
+}
+
+// The next tree of a row: a token and a hidden block are put here.
+fn mask_next(
+    language: &[u8],
+    index: &[u16; INDEX],
+    seen: u32,
+    tree: &[u8],
+    row: Row,
+    out: &mut [u8],
+) -> Row
+    requires { ⌜ Walkable (now language) (now index) (now tree) row × (row .kind < row .stop) ⌝ }
+    ensures { λ r. ⌜ Advances (now (language .entry)) (now (index .entry)) seen (now (tree .entry)) row (now (out .entry)) r (now (out .exit)) ⌝ }
+{
+    let q = row.kind;
+    let at = row.tree;
+    let kind = language[q];
+    let class = place_at(index, to_usize(kind));
+    let place = production_place(Syntax::Tree, index, class, kind, tree, at);
+    let sees = in_set(seen, kind);
+    if place == 0 {
+        if tree.len() - at < 2 {
+            return end_row(row);
+        }
+        let text = put_token(sees, tree, at, out, row.text);
+        return next_row(row, at + 2, text);
+    }
+    if !sees {
+        let e = end_at(language, index, kind, tree, at, row.levels);
+        if e <= at {
+            return end_row(row);
+        }
+        put(HIDDEN, out, row.text);
+        return next_row(row, e, row.text + 1);
+    }
+    mask_node(language, index, seen, tree, row, kind, place, out)
+}
+
+// Puts the masked forms of the trees of a row, one after the other, and gives the row at its end.
+fn mask_row(
+    language: &[u8],
+    index: &[u16; INDEX],
+    seen: u32,
+    tree: &[u8],
+    row: Row,
+    out: &mut [u8],
+) -> Row
+    requires { ⌜ Walkable (now language) (now index) (now tree) row ⌝ }
+    ensures { λ r. ⌜ Walkable (now (language .entry)) (now (index .entry)) (now (tree .entry)) r
+        × MasksRow (now (language .entry)) (now (index .entry)) seen (now (tree .entry)) row (now (out .entry)) (now (out .exit)) (r .tree) (r .text) ⌝ }
+{
+    let mut next = row;
+    while next.kind < next.stop {
+        next = mask_next(language, index, seen, tree, next, out);
+    }
+    next
 }
 
 // Puts the masked form of a legal tree of a kind, and gives its length.
@@ -240,18 +219,7 @@ pub fn mask_tree(
         return put_token(true, tree, 0, out, 0);
     }
     put(tree[0], out, 0);
-    let stop = place + 2 + pair_in(language, place);
-    let ends = mask_all(
-        language,
-        index,
-        seen,
-        place + 4,
-        stop,
-        tree,
-        1,
-        BELOW,
-        out,
-        1,
-    );
+    let row = inner_row(language, place, whole_row());
+    let ends = mask_row(language, index, seen, tree, row, out);
     ends.text
 }

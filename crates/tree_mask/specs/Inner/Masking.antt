@@ -17,6 +17,8 @@ use Rattle.format_card.specs.Card.{Card}
 use Rattle.format_card.specs.Inner.Sets.{Holds}
 use Rattle.check_operations.specs.Inner.Answering.{Gives}
 use Rattle.tree_mask.specs.Mask.{masked, maskedAll}
+use Rattle.tree_mask.specs.declared.row.Row.{Row}
+use Rattle.tree_mask.specs.Inner.Rows.{Walkable, Nearer}
 
 -- The text v takes the bytes from n up to m; it stands there if the output o has room for it.
 pub record Puts (v o o′ : List ℕ) (n m : ℕ) : Type 0 where
@@ -46,10 +48,19 @@ MasksTrees s index kinds q p b at levels o o′ n e m =
     → readAll (read tree l [] levels) (slice q p s) (drop at b) ≡ done t rest
     → Masks (maskedAll l card (slice q p s) t) b rest o o′ n e m
 
--- What is put for the trees that are left, whose kinds stand from q up to p, completes what is put for all.
-abbrev pub Goes : List ℕ → List ℕ → ℕ → ℕ → ℕ → List ℕ → ℕ → ℕ → List ℕ → ℕ → ℕ → ℕ → ℕ → ℕ → List ℕ → ℕ → Type 0
-Goes s index kinds from stop b at levels o n q p to left o₁ m =
-    (o₂ : List ℕ) (e h : ℕ) → MasksTrees s index kinds q p b to left o₁ o₂ m e h → MasksTrees s index kinds from stop b at levels o o₂ n e h
+-- The masked forms of the trees of a row.
+abbrev pub MasksRow : List ℕ → List ℕ → ℕ → List ℕ → Row → List ℕ → List ℕ → ℕ → ℕ → Type 0
+MasksRow s index kinds b row o o′ e m = MasksTrees s index kinds (row .kind) (row .stop) b (row .tree) (row .levels) o o′ (row .text) e m
+
+-- What is put for the trees of the row `next` completes what is put for those of `row`.
+abbrev pub Goes : List ℕ → List ℕ → ℕ → List ℕ → Row → List ℕ → Row → List ℕ → Type 0
+Goes s index kinds b row o next o₁ = (o₂ : List ℕ) (e h : ℕ) → MasksRow s index kinds b next o₁ o₂ e h → MasksRow s index kinds b row o o₂ e h
+
+-- A step of the walk: a row with less to go, whose masked forms complete those of the row.
+pub record Advances (s index : List ℕ) (kinds : ℕ) (b : List ℕ) (row : Row) (o : List ℕ) (next : Row) (o₁ : List ℕ) : Type 0 where
+  pub walk : Walkable s index b next
+  pub nearer : Nearer row next
+  pub goes : Goes s index kinds b row o next o₁
 
 -- The masked form of the tree of kind k that the bytes b are.
 abbrev pub MasksWhole : List ℕ → List ℕ → ℕ → ℕ → List ℕ → List ℕ → List ℕ → ℕ → Type 0

@@ -16,6 +16,10 @@ wholeRow = record { kind = 0; stop = 0; tree = 0; levels = treeLevels; text = 0 
 unfoldable pub nextRow : Row → ℕ → ℕ → Row
 nextRow row e m = record { kind = row .kind + 1; stop = row .stop; tree = e; levels = row .levels; text = m }
 
+-- The row at its end.
+unfoldable pub endRow : Row → Row
+endRow row = record { kind = row .stop; stop = row .stop; tree = row .tree; levels = row .levels; text = row .text }
+
 -- The row of the operands of its next tree, whose production's field stands before `place`.
 unfoldable pub innerRow : List ℕ → ℕ → Row → Row
 innerRow s place row = record { kind = place + 4; stop = place + 2 + pairAt s place; tree = row .tree + 1; levels = row .levels - 1; text = row .text + 1 }
