@@ -17,7 +17,8 @@ use Rattle.tree_block.specs.Legal.{LegalPart, BlocksAreLegal, EmptyPathI
 use Rattle.tree_index.specs.Operations.{indexedTree}
 use Rattle.tree_index.specs.Inner.Lying.{Lies}
 use Rattle.tree_index.proofs.Lying.{past-inside, part-is}
-use Rattle.tree_index.proofs.Checking.{tree-bytes, tree-lies, language-facts}
+use Rattle.check_operations.proofs.Opening.{language-facts}
+use Rattle.tree_index.proofs.Checking.{tree-bytes, tree-lies}
 use Rattle.tree_index.proofs.Owning.{Owned, indexed-owned}
 use Rattle.tree_block.proofs.Reaching.{reached-inj, path-lies}
 

@@ -25,7 +25,8 @@ use Rattle.check_operations.proofs.Legal.{tree-done, tree-of}
 use Rattle.tree_index.specs.Spans.{size, spans, indexOf}
 use Rattle.tree_index.specs.Operations.{isLong, indexedTree}
 use Rattle.tree_index.specs.Inner.Lying.{Lies}
-use Rattle.tree_index.proofs.Checking.{tree-bytes, tree-lies, language-facts}
+use Rattle.check_operations.proofs.Opening.{language-facts}
+use Rattle.tree_index.proofs.Checking.{tree-bytes, tree-lies}
 use Rattle.tree_index.proofs.Owning.{OwnedBy, indexed-owned}
 use Rattle.format_card.specs.Card.{Card, sees, cardOf}
 use Rattle.format_card.proofs.Refusals.{together-value}

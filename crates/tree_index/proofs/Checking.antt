@@ -1,7 +1,6 @@
 -- A tree that was accepted lies in its bytes, and the language's index is at hand.
 use Prim.Native.Nat.{ℕ, _<_}
-use mathlib.Core.Path.{_≡_, refl, sym, ap, _∙_}
-use mathlib.Core.Bool.{false}
+use mathlib.Core.Path.{_≡_, sym, _∙_}
 use mathlib.Core.List.{List, [], append-nil}
 use mathlib.Core.Option.{some}
 use native.Mathlib.Omega.{arith}
@@ -10,16 +9,15 @@ use Rattle.format_fields.specs.Fields.{byteAt}
 use Rattle.outcome.specs.Outcome.{value}
 use Rattle.outcome.specs.declared.Outcome.{Outcome}
 use Rattle.outcome.specs.declared.Outcome.the-variants.{Accepted}
-use Rattle.format_fields.proofs.Codec.{bytes-from, value-inj}
-use Rattle.format_language.specs.Language.{Language, clashes}
-use Rattle.format_language.specs.LanguageFile.{entriesOf, languageOf}
-use Rattle.format_language.specs.Operations.{checkLanguage}
+use Rattle.format_fields.proofs.Codec.{bytes-from}
+use Rattle.format_language.specs.Language.{Language}
+use Rattle.format_language.specs.LanguageFile.{entriesOf}
 use Rattle.tree_reader.specs.Code.{Code}
 use Rattle.tree_reader.specs.Syntax.{write, tree}
 use Rattle.tree_reader.specs.Operations.{treeOf, checkTree}
 use Rattle.tree_reader.specs.Inner.Index.{Indexed}
 use Rattle.tree_reader.proofs.Members.{in-below}
-use Rattle.check_operations.proofs.TreeChain.{accepts}
+use Rattle.check_operations.proofs.Opening.{language-facts}
 use Rattle.check_operations.proofs.Legal.{tree-right, Checked, accepted-tree}
 use Rattle.tree_index.specs.Inner.Lying.{Lies, There}
 
@@ -38,17 +36,6 @@ tree-lies l k b t bytes e =
       within = w .1 .1;
       known = w .0;
     }
-
--- What is known of a language that was accepted.
-accepted-language : (s : List ℕ) (l : Language) → languageOf s ≡ value l → checkLanguage s ≡ Accepted 0
-unfolding checkLanguage
-accepted-language s l e = rw e
-
-pub language-facts : (s : List ℕ) (l : Language) → languageOf s ≡ value l → (entriesOf s ≡ some l) × (clashes l l ≡ false)
-language-facts s l e =
-    let a = accepts s {o = checkLanguage s} refl {n = 0} (accepted-language s l e) in
-    let z : a .language ≡ l = value-inj (sym (a .is) ∙ e) in
-    (a .entries ∙ ap some z, rw z at (a .apart))
 
 module _ (s : List ℕ) (root : ℕ) (b : List ℕ) {o : Outcome} (eo : o ≡ checkTree s root b) {n : ℕ} (accepted : o ≡ Accepted n) where
   pub checked-tree : Checked s root b

@@ -23,10 +23,11 @@ use Rattle.tree_reader.proofs.Members.{in-below}
 use Rattle.format_translation.proofs.Fitting.{refuse-value}
 use Rattle.format_translation.proofs.Accepted.{refused-not}
 use Rattle.check_operations.proofs.Legal.{tree-right, Checked, refused-tree}
+use Rattle.check_operations.proofs.Opening.{language-facts}
 use Rattle.tree_index.specs.Spans.{indexOf}
 use Rattle.tree_index.specs.Operations.{longest, isLong, indexedTree, checkIndexed}
 use Rattle.tree_index.specs.Inner.Lying.{There}
-use Rattle.tree_index.proofs.Checking.{checked-tree, language-facts, tree-lies}
+use Rattle.tree_index.proofs.Checking.{checked-tree, tree-lies}
 
 -- check_own
 module _ (s : List ℕ) (root : ℕ) (b i : List ℕ) {out : Outcome} (eo : out ≡ checkTree s root b) where

@@ -1,10 +1,10 @@
 -- Entries in bytes: what stands in an index, and a law for each return of the functions of entries.rt.
 use Prim.Native.Nat.{ℕ, suc, _+_, _-_, _*_, _/_, _%_, _<_, _≤_}
 use mathlib.Core.Path.{_≡_, refl, sym, ap, _∙_}
-use mathlib.Core.List.{List, [], _∷_, _++_, append-assoc}
+use mathlib.Core.List.{List, _∷_, _++_}
 use native.Mathlib.Omega.{arith}
-use lib.ListN.{length, getD, drop, take, set, length-drop}
-use lib.Seq.{sets-eq, drop-drop}
+use lib.ListN.{length, getD, drop, length-drop}
+use lib.Seq.{drop-drop}
 use Rattle.format_fields.specs.Fields.{pairAt, twoBytes}
 use Rattle.format_fields.specs.Inner.Writing.{spliced}
 use Rattle.format_fields.proofs.Split.{front, pair-drop}

@@ -1,5 +1,5 @@
-// The walk over a legal tree that puts its masked form into an output. Where the output is too short, the masked form is
-// only measured to its end.
+// The walk over a legal tree that puts its masked form into an output. The tree was measured before, so that it is legal and
+// the output has room: the tests of both do not fail then.
 use crate::row::Row;
 use crate::row::end_row;
 use crate::row::inner_row;
