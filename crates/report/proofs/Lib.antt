@@ -1,0 +1,14 @@
+pub mod Sets
+pub mod Typing
+pub mod Languages
+pub mod Codes
+pub mod Transformation
+pub mod WellFormed
+pub mod Sums
+pub mod Compositions
+pub mod Identities
+pub mod Differences
+pub mod Restriction
+pub mod Runs
+pub mod Values
+pub mod Functional
