@@ -12,3 +12,5 @@ pub mod Restriction
 pub mod Runs
 pub mod Values
 pub mod Functional
+pub mod Reduction
+pub mod Files

@@ -75,15 +75,17 @@ module _ (f : Translation) (one : OneNumber (f .body)) (ws : WellFormedLanguage 
       let d = read-done code (f .target) (usesOf f n p) codeLevels (mapped (f .body) n 0) c (a .0) [] (a .1) in
       let e = mem-arguments (f .source) (formed-rises (f .source) ws) n p ks (o .0 .1) in
       let z : write code (a .0) ≡ c = sym (append-nil (write code (a .0))) ∙ sym (d .2 (bytes n p c m) .0) in
-      let y : write code (clausesOf f n p 0) ≡ c = ap (write code) (clause-code f r n p 0 c (a .0) m (a .1)) ∙ z in
-      (y, record {
-        arguments = ks;
-        kind = t;
-        entry = mem-in _ _ (o .0 .1);
-        to = mem-in _ _ (o .1 .1);
-        typed = code-has (f .body) mapped-zero ks (fit-carries f r fits .nodes n p 0 t ks e (mem-mapping (f .body) r n 0 t (o .1 .1)));
-        stands = mem-in _ _ (subst (λ (x : List ℕ). Mem (clause n p 0 x) (f .body)) (sym y) m);
-      })
+      let y : write code (clausesOf f n p 0) ≡ c = ap (write code) (clause-code f r n p 0 c (a .0) m (a .1)) ∙ z in (
+        y,
+        record {
+          arguments = ks;
+          kind = t;
+          entry = mem-in _ _ (o .0 .1);
+          to = mem-in _ _ (o .1 .1);
+          typed = code-has (f .body) mapped-zero ks (fit-carries f r fits .nodes n p 0 t ks e (mem-mapping (f .body) r n 0 t (o .1 .1)));
+          stands = mem-in _ _ (subst (λ (x : List ℕ). Mem (clause n p 0 x) (f .body)) (sym y) m);
+        },
+      )
 
   -- C.2 and C.6 (iii) to (v).
   fits-maps : Maps f
