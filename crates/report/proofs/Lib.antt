@@ -14,3 +14,4 @@ pub mod Values
 pub mod Functional
 pub mod Reduction
 pub mod Files
+pub mod Conditions

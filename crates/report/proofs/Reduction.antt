@@ -13,16 +13,16 @@ use Rattle.format_fields.proofs.Truth.{Mem}
 use Rattle.format_fields.proofs.Keyed.{Rising}
 use Rattle.format_fields.proofs.Codec.{Bytes, refused-value, step-value}
 use Rattle.format_language.specs.Language.{Language}
-use Rattle.format_translation.specs.Translation.{clause, Body, Translation, itemKey}
+use Rattle.format_translation.specs.Translation.{Item, clause, Body, Translation, itemKey}
 use Rattle.format_translation.specs.WellFormed.{wellFormed}
 use Rattle.format_translation.proofs.Fitting.{Fitting, formed-fits}
 use Rattle.reduce_operators.specs.Operators.{languagesFit, languageUnion, languageSum, languageWithout, translationsFit, translationUnion, translationSum, translationWithout, numbersLow, joinFits, joined, translationJoin, identityOf}
-use Rattle.reduce_operators.specs.Limits.{languageExceeds, translationExceeds}
+use Rattle.reduce_operators.specs.Limits.{languageExceeds, translationExceeds, codeIsDeep}
 use Rattle.reduce_operators.proofs.Proper.{kinds-below}
 use Rattle.reduce_operators.proofs.SumSound.{fit-languages, languages-fit, fit-translations, translations-fit}
 use Rattle.format_pack.specs.Terms.{Sort, languages, translations, Term, constant, sourceOf, targetOf, make, join, identity, variable, without, sum, bind}
 use Rattle.reduce_signs.specs.Evaluation.{Constants, Value, Environment, nothingBound, bound, there, exceeds, limited, sumOf, withoutOf, evaluate}
-use Rattle.reduce_terms.proofs.Evaluated.{limited-value, language-sum, translation-sum, translation-join}
+use Rattle.reduce_terms.proofs.Evaluated.{within, limited-value, language-sum, translation-sum, translation-join}
 use Rattle.report.specs.Languages.{WellFormedLanguage, Compatible, IsSum, IsDifference, LiesWithin}
 use Rattle.report.specs.WellFormed.{OneNumber, WellFormed}
 use Rattle.report.specs.Translations.{CompatibleX, IsSumX, IsDifferenceX, IsComposition, IsIdentity}
@@ -139,6 +139,10 @@ small-x (idx-x x p) q = q .1
 small-x (let-x x y) q = q .2
 small-x (letx-x x y) q = q .2
 
+-- A small translation has no code that is too deep.
+pub shallow : (f : Translation) → SmallX f → (a : Item) → Mem a (f .body) → codeIsDeep f a ≡ false
+shallow f e = within f e .codes
+
 -- The two environments as one, as the project has it.
 abbrev both : EnvironmentOf Language → EnvironmentOf Translation → Environment
 both α β languages v = α v
@@ -186,7 +190,7 @@ module _ (c : Constants) where
     complete-x : {α : EnvironmentOf Language} {β : EnvironmentOf Translation} {t : Term translations} {f : Translation} → Everywhere WellFormedLanguage α → Everywhere WellFormed β
         → (d : ReducesX c α β t f) → WithinX d → evaluate c (both α β) t ≡ value f
     complete-x {α} {β} {t} {f} g h (con-x {x = x} {y = y} {n = n} dx dy p w) q =
-        make-value c (both α β) x y n f (complete-l g h dx (q .0)) (complete-l g h dy (q .1)) p (formed-tests f w (q .2)) (q .2)
+        make-value c (both α β) x y n f (complete-l g h dx (q .0)) (complete-l g h dy (q .1)) p (formed-tests f w (shallow f (q .2))) (q .2)
     complete-x {α} {β} {t} {f} g h (var-x {w = v} p) q = variable-value c (both α β) translations v f p q
     complete-x {α} {β} {t} {f} g h (res-x {x = x} {y = y} {f = a} {l = b} dx dy p) q =
         without-value c (both α β) translations x y a f b (complete-x g h dx (q .0)) (complete-l g h dy (q .1))
@@ -197,7 +201,7 @@ module _ (c : Constants) where
         let wa = value-x g h dx in
         let wb = value-x g h dy in
         join-value c (both α β) x y a b f (complete-x g h dx (q .0)) (complete-x g h dy (q .1))
-        (join-is-that a b f wa wb (formed-fitting a wa (small-x dx (q .0))) (formed-fitting b wb (small-x dy (q .1))) w p) (q .2)
+        (join-is-that a b f wa wb (formed-fitting a wa (shallow a (small-x dx (q .0)))) (formed-fitting b wb (shallow b (small-x dy (q .1)))) w p) (q .2)
     complete-x {α} {β} {t} {f} g h (idx-x {x = x} {l = a} dx p) q =
         identity-value c (both α β) x a f (complete-l g h dx (q .0)) (identity-one a (identityOf a) f (identity-is a (value-l g h dx)) p) (q .1)
     complete-x {α} {β} {t} {f} g h (let-x {v = v} {x = x} {y = y} {l = a} dx dy) q =
@@ -255,7 +259,7 @@ module _ (c : Constants) (α : EnvironmentOf Language) (β : EnvironmentOf Trans
   join-sound x y f g h p q t z dx dy =
       let r = translation-join f g h t in
       let l = within-lies (g .target) (f .source) (r .0) in
-      let d = joined-is f g p q (formed-fitting f p (small-x (dx .0) (dx .1))) (formed-fitting g q (small-x (dy .0) (dy .1))) l in
+      let d = joined-is f g p q (formed-fitting f p (shallow f (small-x (dx .0) (dx .1)))) (formed-fitting g q (shallow g (small-x (dy .0) (dy .1)))) l in
       (comp-x (dx .0) (dy .0) l (subst (IsComposition f g) (r .1) d), (dx .1, dy .1, z))
 
   make-sound : (x y : Term languages) (n : ℕ) (f : Translation) → Derived c α β languages x (f .source) → Derived c α β languages y (f .target)

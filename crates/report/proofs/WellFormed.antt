@@ -27,10 +27,9 @@ use Rattle.format_translation.specs.WellFormed.{wellFormed}
 use Rattle.format_translation.proofs.Codec.{itemWhole}
 use Rattle.format_translation.proofs.Lookup.{mem-mapping, mem-mapped, mapping-mem}
 use Rattle.format_translation.proofs.Fitting.{Fitting, fit-tests, uses-are, fit-carries, clause-code}
-use Rattle.reduce_operators.specs.Limits.{isDeep, codeIsDeep, translationExceeds}
+use Rattle.reduce_operators.specs.Limits.{isDeep, codeIsDeep}
 use Rattle.reduce_operators.proofs.Proper.{Proper, proper-apart, Sound, kinds-below}
 use Rattle.reduce_operators.proofs.ItemParts.{clause-parts}
-use Rattle.reduce_terms.proofs.Evaluated.{within}
 use Rattle.report.specs.Sets.{_∈_}
 use Rattle.report.specs.Languages.{has-production, WellFormedLanguage}
 use Rattle.report.specs.Typing.{HasKind, Mapped}
@@ -164,13 +163,13 @@ module _ (f : Translation) (w : WellFormed f) where
       let b = clause-entry n p j c m in
       both-and (isKind n) (ltb j 256) (lt-ltb n 32 (w .source .writable _ (b .1) .0)) (lt-ltb j 256 (omega arith))
 
-  module _ (small : translationExceeds f ≡ false) where
+  module _ (shallow : (a : Item) → Mem a (f .body) → codeIsDeep f a ≡ false) where
     code-read : (n p : ℕ) (a : Code) → Mem (clause n p 0 (write code a)) (f .body) → Reconstructor f n p a → readClause f n p 0 (write code a) ≡ done a []
     unfolding readClause codeIsDeep
     code-read n p a m x =
         let u = uses-are f n p (x .arguments) (mem-arguments (f .source) (formed-rises (f .source) (w .source)) n p (x .arguments) (in-mem (x .entry))) in
         let t = mem-mapped (f .body) body-rises n 0 (x .kind) (in-mem (x .to)) in
-        let d : isDeep (readClause f n p 0 (write code a)) ≡ false = within f small .codes (clause n p 0 (write code a)) m in
+        let d : isDeep (readClause f n p 0 (write code a)) ≡ false = shallow (clause n p 0 (write code a)) m in
         let us = map (mappingOf (f .body)) (x .arguments) in
         let z = codeLevels + levels a in
         let e : write code a ≡ write code a ++ [] = sym (append-nil (write code a)) in

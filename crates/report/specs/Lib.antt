@@ -6,3 +6,7 @@ pub mod WellFormed
 pub mod Translations
 pub mod Reduction
 pub mod Limits
+pub mod Propositions
+pub mod Conditions
+pub mod Agreement
+pub mod Numbers
