@@ -15,3 +15,8 @@ pub mod Functional
 pub mod Reduction
 pub mod Files
 pub mod Conditions
+pub mod Composing
+pub mod Propositions
+pub mod Agreement
+pub mod Numbers
+pub mod Example
