@@ -1,17 +1,15 @@
 -- The project's definitions are the report's.
 use Prim.Native.Nat.{ℕ}
-use mathlib.Core.Path.{_≡_, refl, ap, sym, subst, _∙_}
+use mathlib.Core.Path.{_≡_, refl, ap, subst, _∙_}
 use mathlib.Core.Logic.{_↔_}
 use mathlib.Core.List.{List}
-use mathlib.Core.Option.{some}
 use Rattle.outcome.specs.Outcome.{value}
 use Rattle.format_fields.proofs.Codec.{step-value, value-inj}
 use Rattle.format_language.specs.Language.{Language}
 use Rattle.format_language.proofs.Codec.{language-back}
-use Rattle.format_translation.specs.Translation.{mapping, Translation, numberOf, mappingOf}
+use Rattle.format_translation.specs.Translation.{Translation}
 use Rattle.format_translation.specs.Running.{transform}
 use Rattle.format_translation.specs.TranslationFile.{encodeTranslation}
-use Rattle.format_translation.proofs.Lookup.{mapping-mem}
 use Rattle.format_pack.specs.Terms.{languages, translations, Term, sourceOf, join, identity, without}
 use Rattle.format_pack.specs.Pack.{Pack, packOf}
 use Rattle.reduce_operators.specs.Operators.{identityOf, translationWithout}
@@ -21,14 +19,13 @@ use Rattle.reduce_terms.proofs.Evaluated.{fair-good}
 use Rattle.reduce_operation.specs.Operations.{Ready, ready, work, reduceBytes}
 use Rattle.reduce_operation.proofs.Operation.{ready-value}
 use Rattle.report.specs.Languages.{LiesWithin}
-use Rattle.report.specs.WellFormed.{WellFormed}
-use Rattle.report.specs.Translations.{IsDifferenceX, IsComposition, IsIdentity}
+use Rattle.report.specs.Translations.{IsIdentity}
 use Rattle.report.specs.Reduction.{EnvironmentOf, empty, src-l, ReducesX, res-x, comp-x, idx-x}
 use Rattle.report.specs.Agreement.{InBytes, AcceptedLanguage, LanguageAccepted, AcceptedTranslation, TranslationAccepted, LegalIsTyped, CodeIsTyped, TransformationIsRun, OneValue, BoundFormed, ValuesFormed, OneNumberPack, Reduced, ReduceIsFigure, FigureIsReduce, WithoutIsComposition, WithoutIsTerm}
-use Rattle.report.proofs.Sets.{mem-in, mem-bytes}
+use Rattle.report.proofs.Sets.{mem-bytes}
 use Rattle.report.proofs.Typing.{code-has, code-typed, typed-legal, legal-typed}
 use Rattle.report.proofs.Languages.{within-larger, formed-proper, formed-rises}
-use Rattle.report.proofs.WellFormed.{body-rises, mapping-zero, formed-sound, formed-tests}
+use Rattle.report.proofs.WellFormed.{mapped-number, body-rises, formed-sound, formed-tests}
 use Rattle.report.proofs.Identities.{identity-formed, identity-is}
 use Rattle.report.proofs.Differences.{without-is-x}
 use Rattle.report.proofs.Restriction.{restriction}
@@ -36,16 +33,16 @@ use Rattle.report.proofs.Runs.{transforms-run}
 use Rattle.report.proofs.Values.{value-l, value-x}
 use Rattle.report.proofs.Functional.{Inverted, inverted-l, inverted-x, reduces-one}
 use Rattle.report.proofs.Reduction.{shallow, ConstantsFit, evaluate-reduces}
-use Rattle.report.proofs.Files.{accepted-language, accepted, accepted-formed, pack-constants}
+use Rattle.report.proofs.Files.{held-language, accepted, accepted-formed, pack-constants}
 
-pub accepted-language-formed : AcceptedLanguage
-accepted-language-formed file l b e = accepted-language file l (mem-bytes file b) e
+pub accepted-language : AcceptedLanguage
+accepted-language file l b e = held-language file l (mem-bytes file b) e
 
 pub language-accepted : LanguageAccepted
 language-accepted l w s = language-back l (fair-good languages l (formed-proper l w) s)
 
-pub accepted-translation-formed : AcceptedTranslation
-accepted-translation-formed file f b e one = accepted-formed f (accepted file f (mem-bytes file b) e) one
+pub accepted-translation : AcceptedTranslation
+accepted-translation file f b e one = accepted-formed f (accepted file f (mem-bytes file b) e) one
 
 pub translation-accepted : TranslationAccepted
 translation-accepted f w s = (formed-tests f w (shallow f s), good-back f (fair-good translations f (formed-sound f w (shallow f s)) s))
@@ -53,12 +50,8 @@ translation-accepted f w s = (formed-tests f w (shallow f s), good-back f (fair-
 pub legal-is-typed : LegalIsTyped
 legal-is-typed l w a n = (λ x. legal-typed (formed-rises l w) x, λ x. typed-legal x)
 
--- A kind is mapped by number 0 only.
-mapped-zero : (f : Translation) → WellFormed f → (k j t : ℕ) → mappingOf (f .body) k j ≡ some t → j ≡ 0
-mapped-zero f w k j t e = mapping-zero f w k j t (mapping-mem (f .body) k j t e)
-
 pub code-is-typed : CodeIsTyped
-code-is-typed f w ks a t = (λ x. code-typed (formed-rises (f .target) (w .target)) (f .body) (body-rises f w) ks x, λ x. code-has (f .body) (mapped-zero f w) ks x)
+code-is-typed f w ks a t = (λ x. code-typed (formed-rises (f .target) (w .target)) (f .body) (body-rises f w) ks x, λ x. code-has (f .body) (mapped-number (f .body) (w .one-number)) ks x)
 
 pub transformation-is-run : TransformationIsRun
 unfolding transform

@@ -1,7 +1,7 @@
 -- C.15 defines a translation: the items of the second, each taken on by the first, in the order that they have.
 use Prim.Native.Nat.{ℕ, suc, _+_, _*_, _≤_}
 use mathlib.Core.Path.{_≡_, refl, ap, sym, subst, _∙_}
-use mathlib.Core.Logic.{inl, inr, _↔_}
+use mathlib.Core.Logic.{inl, inr}
 use mathlib.Core.List.{List, [], _∷_}
 use native.Mathlib.Omega.{arith}
 use Rattle.format_fields.proofs.Truth.{Mem}
@@ -12,7 +12,6 @@ use Rattle.tree_reader.specs.Syntax.{write, code}
 use Rattle.format_translation.specs.Translation.{Item, mapping, clause, Body, Translation, plainKey, numberOf, itemKey}
 use Rattle.report.specs.Sets.{_∈_, here, later}
 use Rattle.report.specs.Languages.{LiesWithin}
-use Rattle.report.specs.Typing.{HasKind, Mapped}
 use Rattle.report.specs.Transformation.{Reconstructor, Transforms}
 use Rattle.report.specs.WellFormed.{WellFormed}
 use Rattle.report.specs.Translations.{Composed, composed-kind, composed-code, IsComposition}

@@ -3,7 +3,6 @@ use Prim.Native.Nat.{ℕ}
 use mathlib.Core.Path.{_≡_, refl, sym, subst, _∙_}
 use mathlib.Core.List.{List}
 use Rattle.format_fields.proofs.Keyed.{is-rising}
-use Rattle.format_language.specs.Language.{class, production, Range}
 use Rattle.tree_reader.specs.Code.{Code}
 use Rattle.tree_reader.specs.Syntax.{write, code}
 use Rattle.format_translation.specs.Translation.{Item, mapping, clause, Body, Translation, numberOf, itemKey}

@@ -1,12 +1,10 @@
 -- C.6 against the project's test, condition by condition.
 use Prim.Native.Nat.{ℕ}
 use mathlib.Core.Path.{_≡_, refl, ap, sym, subst, _∙_}
-use mathlib.Core.Logic.{_↔_}
 use mathlib.Core.Bool.{Bool, true, false, not, _&&_, Bool·beq}
 use mathlib.Core.Option.{Option, none, some}
 use mathlib.Core.List.{List}
 use native.Mathlib.Omega.{arith}
-use Rattle.outcome.specs.Outcome.{value}
 use Rattle.outcome.specs.declared.Reason.the-variants.{WrongMapping, WrongClauses, IllegalCode as CodeRefused}
 use Rattle.format_fields.specs.Lists.{all, isSome}
 use Rattle.format_fields.proofs.Truth.{Mem, none-some, some-inj, false-true, and-both, both-and, same-truth, all-mem, mem-all, some-is, is-some, mem-count, true-not}
@@ -14,18 +12,18 @@ use Rattle.format_fields.proofs.Keyed.{Rising, is-rising}
 use Rattle.format_language.specs.Language.{Entry, class, production, Range, rangeWithin, isIn, rangeOf, argumentsOf}
 use Rattle.format_language.proofs.Lookup.{range-mem, mem-range, arguments-mem, mem-arguments}
 use Rattle.format_language.proofs.Ranges.{all-within, value-within}
-use Rattle.format_translation.specs.Translation.{Item, mapping, clause, Translation, numberOf, itemKey, mappingOf, clauseOf, numbersOf}
-use Rattle.format_translation.specs.WellFormed.{kinds, kindsMapped, reachesTarget, liesIn, keepsRange, classKept, mappingFits, hasClause, hasProduction, clausesFit, codesFit, wellFormed}
+use Rattle.format_translation.specs.Translation.{Item, mapping, clause, Translation, itemKey, mappingOf, clauseOf, numbersOf}
+use Rattle.format_translation.specs.WellFormed.{kinds, kindsMapped, reachesTarget, keepsRange, classKept, mappingFits, hasClause, hasProduction, clausesFit, codesFit, wellFormed}
 use Rattle.format_translation.proofs.Lookup.{mapping-mem, clause-mem, mem-mapping, mem-clause, number-mem, mem-number}
-use Rattle.format_translation.proofs.Fitting.{Fitting, tests-fit, refuse-value}
+use Rattle.format_translation.proofs.Fitting.{tests-fit, refuse-value}
 use Rattle.reduce_operators.proofs.Proper.{kinds-below}
 use Rattle.report.specs.Sets.{_∈_}
 use Rattle.report.specs.Languages.{has-production}
 use Rattle.report.specs.WellFormed.{Maps, KeepsRanges, Covers, HasCodes, WellFormed}
-use Rattle.report.specs.Conditions.{Noted, FiveIsMapping, HasProductions, SixIsClauses, Shallow, SevenIsCodes, OrderIsOneCode, RangesAreProduced, RegularNotAsked, toClass}
+use Rattle.report.specs.Conditions.{Noted, FiveIsMapping, HasProductions, SixIsClauses, Shallow, SevenIsCodes, OrderIsOneCode, RangesAreProduced}
 use Rattle.report.proofs.Sets.{mem-in, in-mem, mem-bytes}
 use Rattle.report.proofs.Languages.{nonterminal-in, in-nonterminal, formed-proper, formed-rises, kind-below}
-use Rattle.report.proofs.WellFormed.{code-one, ranges-produced, fits-formed, formed-tests}
+use Rattle.report.proofs.WellFormed.{mapping-number, clause-number, code-one, ranges-produced, fits-formed, formed-tests}
 
 -- Two tests that agree.
 beq-true : (a b : Bool) → Bool·beq a b ≡ true → b ≡ true → a ≡ true
@@ -53,12 +51,10 @@ module _ (f : Translation) (n : Noted f) where
   rises = is-rising itemKey (f .body) (n .in-order)
 
   mapping-zero : (k j t : ℕ) → Mem (mapping k j t) (f .body) → j ≡ 0
-  unfolding numberOf
-  mapping-zero k j t m = n .one-number (mapping k j t) (mem-in _ _ m)
+  mapping-zero k j t m = mapping-number (f .body) (n .one-number) k j t m
 
   clause-zero : (k p j : ℕ) (c : List ℕ) → Mem (clause k p j c) (f .body) → j ≡ 0
-  unfolding numberOf
-  clause-zero k p j c m = n .one-number (clause k p j c) (mem-in _ _ m)
+  clause-zero k p j c m = clause-number (f .body) (n .one-number) k p j c m
 
   -- From the test of the mapping.
   module _ (e : mappingFits f ≡ true) where

@@ -2,21 +2,19 @@
 use Prim.Native.Nat.{ℕ}
 use mathlib.Core.Path.{_≡_, refl, sym, subst, _∙_}
 use mathlib.Core.Bool.{true}
-use mathlib.Core.Logic.{_↔_}
 use mathlib.Core.List.{List}
-use Rattle.format_fields.proofs.Truth.{Mem, mem-keep, keep-cases, some-is, is-some}
+use Rattle.format_fields.proofs.Truth.{mem-keep, keep-cases, some-is, is-some}
 use Rattle.format_fields.proofs.Keyed.{Rising, is-rising, rising-is, keep-from}
-use Rattle.format_language.specs.Language.{Entry, class, production, Language, entryKey, Range, argumentsOf}
+use Rattle.format_language.specs.Language.{Entry, production, Language, entryKey, argumentsOf}
 use Rattle.format_language.proofs.Lookup.{arguments-mem, mem-arguments}
 use Rattle.tree_reader.specs.Code.{Code}
 use Rattle.format_translation.specs.Translation.{Item, mapping, clause, Body, Translation, itemKey}
 use Rattle.reduce_operators.specs.Operators.{languageWithout, isOf, translationWithout}
 use Rattle.reduce_operators.proofs.SumSound.{proper-without}
 use Rattle.report.specs.Sets.{_∈_}
-use Rattle.report.specs.Languages.{Nonterminal, has-class, has-production, is-argument, IsDifference}
-use Rattle.report.specs.Typing.{HasKind, Mapped}
+use Rattle.report.specs.Languages.{Nonterminal, has-production, is-argument, IsDifference}
 use Rattle.report.specs.Transformation.{Reconstructor}
-use Rattle.report.specs.WellFormed.{Maps, KeepsRanges, Covers, HasCodes, FromRegular, WellFormed}
+use Rattle.report.specs.WellFormed.{KeepsRanges, WellFormed}
 use Rattle.report.specs.Translations.{Holds, ItemOf, kind-of, production-of, IsDifferenceX}
 use Rattle.report.proofs.Sets.{mem-in, in-mem}
 use Rattle.report.proofs.Typing.{has-larger, picked-in}
@@ -79,9 +77,6 @@ module _ (f : Translation) (l s : Language) (b : Body) (w : WellFormed f) (d : I
             (x .0, x .1, less-reconstructs (of-production (q .1) .1) (x .2));
         one-code = code-one less (is-rising itemKey b (h .in-order)) source (w .target);
       }
-
-  less-regular : FromRegular f → FromRegular less
-  less-regular a n t m r p ks x = a n t (h .members (mapping n 0 t) .0 m .0) r p ks (was _ x)
 
 difference-parts : (f : Translation) (l : Language) (h : Translation) → IsDifferenceX f l h → h ≡ record { source = h .source; target = f .target; body = h .body }
 difference-parts f l h d = same-parts h (record { source = h .source; target = f .target; body = h .body }) refl (d .target) refl

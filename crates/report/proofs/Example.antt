@@ -13,7 +13,7 @@ use Rattle.format_fields.specs.Lists.{all, any, keep, first, concatMap, travers
 use Rattle.format_fields.specs.Keyed as Keyed
 use Rattle.format_fields.proofs.Truth.{Mem, all-mem}
 use Rattle.format_fields.proofs.Codec.{Bytes}
-use Rattle.format_language.specs.Language.{Entry, class, production, range, entryKey, inRange, sameRange, legalToo, rangeWithin, sameEntry, rangeAt, rangeOf, argumentsAt, argumentsOf, resultIs, mentions, isIn, classIsResult, clashes}
+use Rattle.format_language.specs.Language.{class, production, range, entryKey, inRange, sameRange, legalToo, rangeWithin, sameEntry, rangeAt, rangeOf, argumentsAt, argumentsOf, resultIs, mentions, isIn, classIsResult, clashes}
 use Rattle.format_language.specs.LanguageFile.{rangeWhole, rangeIn, stepBytes, classOf, productionOf, entryOf, entryField, entriesOf, encodeLanguage}
 use Rattle.tree_reader.specs.Syntax.{readAll, readOperands, readNode, readToken, useOf, readArgument, readNumbered, readUse, readCodeLevel, readLevel, pastLevels, readBy}
 use Rattle.format_translation.specs.Translation.{itemKey, targetAt, mappingOf, codeAt, clauseOf, mapped, numberAt, numbersOf, plainKey, numberOf}
@@ -22,8 +22,8 @@ use Rattle.format_translation.specs.Running.{usesOf, readClause}
 use Rattle.format_translation.specs.WellFormed.{kinds, kindsMapped, reachesTarget, classKept, mappingFits, hasClause, hasProduction, clausesFit, codeFits, codesFit, wellFormed}
 use Rattle.format_translation.specs.TranslationFile.{mappingField, numberedMapping, clauseField, numberedClause, itemOf, itemField, grouped, itemsIn, partsIn, partsOf, translationFields, encodeTranslation, allRising, translationOf}
 use Rattle.format_translation.proofs.PlainUses.{item-zero}
-use Rattle.report.specs.Sets.{_∈_, here, later}
-use Rattle.report.specs.WellFormed.{OneNumber, Regular, FromRegular, WellFormed}
+use Rattle.report.specs.Sets.{here, later}
+use Rattle.report.specs.WellFormed.{Regular, WellFormed}
 use Rattle.report.specs.Conditions.{toClass, RegularNotAsked}
 use Rattle.report.proofs.Sets.{in-mem}
 use Rattle.report.proofs.Files.{accepted, accepted-formed}

@@ -1,5 +1,5 @@
 -- What a file of bytes holds: entries that can be written, and codes in bytes.
-use Prim.Native.Nat.{ℕ, zero, suc, _+_, _*_, _<_, _≤_}
+use Prim.Native.Nat.{ℕ, zero, suc, _+_, _<_}
 use mathlib.Core.Path.{_≡_, refl, sym, subst}
 use mathlib.Core.Logic.{inl, inr}
 use mathlib.Core.Bool.{Bool, true, false, cond, _&&_, _||_}
@@ -14,10 +14,10 @@ use Rattle.format_fields.specs.Fields.{Field, field, byteAt, pairAt, fieldsOf, 
 use Rattle.format_fields.specs.Lists.{all, traverse, concatMap}
 use Rattle.format_fields.proofs.Truth.{Mem, none-some, some-inj, and-both, all-mem}
 use Rattle.format_fields.proofs.Keyed.{Rising, is-rising}
-use Rattle.format_fields.proofs.Codec.{Each, Bytes, InBytes, contentsOf, two-tags, four-tags, cond-some, each-at, before-inv, bytes-at, fields-sound}
+use Rattle.format_fields.proofs.Codec.{Each, Bytes, InBytes, contentsOf, two-tags, four-tags, cond-some, each-at, before-inv, fields-sound}
 use Rattle.format_language.specs.Language.{Entry, class, production, Language}
 use Rattle.format_language.specs.LanguageFile.{isKind, rangeWhole, rangeIn, classOf, productionOf, entryOf, entriesOf, languageOf}
-use Rattle.format_language.proofs.Codec.{entryWhole, language-whole, language-good, GoodLanguage}
+use Rattle.format_language.proofs.Codec.{entryWhole, language-good, GoodLanguage}
 use Rattle.format_translation.specs.Translation.{Item, mapping, clause, Body, Translation, itemKey}
 use Rattle.format_translation.specs.TranslationFile as File
 use Rattle.format_translation.specs.TranslationFile.{mappingField, isNumber, numberedMapping, clauseField, numberedClause, itemOf, grouped, itemsIn, bodyOf, translationOf}
@@ -30,10 +30,10 @@ use Rattle.reduce_signs.specs.Evaluation.{constantsOf}
 use Rattle.report.specs.Sets.{_∈_, here, later}
 use Rattle.report.specs.Languages.{Writable, WellFormedLanguage}
 use Rattle.report.specs.WellFormed.{OneNumber, WellFormed}
-use Rattle.report.proofs.Sets.{mem-in, in-mem}
+use Rattle.report.proofs.Sets.{in-mem}
 use Rattle.report.proofs.Languages.{proper-formed}
 use Rattle.report.proofs.WellFormed.{ByteCodes, fits-formed}
-use Rattle.report.proofs.Reduction.{BodyFits, ConstantsFit}
+use Rattle.report.proofs.Reduction.{ConstantsFit}
 
 -- Each entry that is read from fields in bytes has a property that those of its field have.
 each-read : {A : Type 0} (decode : Field → Option A) (P : A → Type 0) → ((f : Field) (a : A) → decode f ≡ some a → Bytes (contentsOf f) → P a)
@@ -51,10 +51,16 @@ each-mem P (b ∷ l) h a (inr m) = each-mem P l (h .1) a m
 cond-has : {A : Type 0} (P : A → Type 0) (t : Bool) (x a : A) → P x → cond t (some x) none ≡ some a → P a
 cond-has P t x a h e = subst P (cond-some t x a e .1) h
 
--- The numbers of an entry are in bytes: a highest value in two, a name in one.
+-- The numbers of an entry are in bytes: a highest value and a step in two, a name in one.
 abbrev NumbersFit : Entry → Type 0
-NumbersFit (class k c) = c .high < 65536
+NumbersFit (class k c) = (c .high < 65536) × (c .step < 65536)
 NumbersFit (production r p ks) = p < 256
+
+-- What stands in bytes is below 256, and 0 past the end.
+bytes-at : (s : List ℕ) → Bytes s → (i : ℕ) → byteAt s i < 256
+bytes-at [] b i = omega arith
+bytes-at (x ∷ s) b zero = b .0
+bytes-at (x ∷ s) b (suc i) = bytes-at s (b .1) i
 
 pair-below : (c : List ℕ) → Bytes c → (i : ℕ) → pairAt c i < 65536
 unfolding pairAt
@@ -62,7 +68,11 @@ pair-below c b i = let x = bytes-at c b i in let y = bytes-at c b (i + 1) in ome
 
 range-fits : (k : ℕ) (c : List ℕ) → Bytes c → NumbersFit (class k (rangeIn c))
 unfolding rangeIn
-range-fits k c b = pair-below c b 3
+range-fits k c b = (pair-below c b 3, step (eqb (length c) 7))
+  where
+    step : (t : Bool) → cond t (pairAt c 5) 1 < 65536
+    step true = pair-below c b 5
+    step false = omega arith
 
 entry-numbers : (f : Field) (a : Entry) → entryOf f ≡ some a → Bytes (contentsOf f) → NumbersFit a
 unfolding entryOf classOf productionOf
@@ -76,7 +86,7 @@ unfolding entryWhole rangeWhole
 whole-writable (class k c) w n =
     let x = and-both (isKind k) (leb (c .low) (c .high) && ltb 0 (c .step)) w in
     let y = and-both (leb (c .low) (c .high)) (ltb 0 (c .step)) (x .1) in
-    (ltb-true k 32 (x .0), leb-true (c .low) (c .high) (y .0), n, ltb-true 0 (c .step) (y .1))
+    (ltb-true k 32 (x .0), leb-true (c .low) (c .high) (y .0), n .0, ltb-true 0 (c .step) (y .1), n .1)
 whole-writable (production r p ks) w n =
     let x = and-both (isKind r) (leb (length ks) 8 && all isKind ks) w in
     let y = and-both (leb (length ks) 8) (all isKind ks) (x .1) in
@@ -95,8 +105,8 @@ numbers-formed : (l : Language) → Proper l → Each NumbersFit l → WellForme
 numbers-formed l p n = proper-formed l p (λ a m. whole-writable a (p .whole a (in-mem m)) (each-mem NumbersFit l n a (in-mem m)))
 
 -- B.2: a language that is accepted is well formed.
-pub accepted-language : (s : List ℕ) (l : Language) → Bytes s → languageOf s ≡ value l → WellFormedLanguage l
-accepted-language s l b e = let g = language-good s l e in numbers-formed l (good-proper l (g .1)) (entries-numbers s l b (g .0))
+pub held-language : (s : List ℕ) (l : Language) → Bytes s → languageOf s ≡ value l → WellFormedLanguage l
+held-language s l b e = let g = language-good s l e in numbers-formed l (good-proper l (g .1)) (entries-numbers s l b (g .0))
 
 -- The code of an item is in bytes.
 abbrev CodeBytes : Item → Type 0

@@ -1,14 +1,14 @@
 -- Identities (C.17, C.18).
-use Prim.Native.Nat.{ℕ, zero, suc, _+_}
+use Prim.Native.Nat.{ℕ, suc, _+_}
 use mathlib.Core.Path.{_≡_, refl, ap, sym, subst, _∙_}
 use mathlib.Core.Logic.{inl, inr, ⊎-elim}
-use mathlib.Core.List.{List, [], _∷_, _++_, map}
+use mathlib.Core.List.{List, [], _∷_, map}
 use native.Mathlib.Omega.{arith}
 use Rattle.format_fields.specs.Lists.{keep, concatMap}
 use Rattle.format_fields.proofs.Truth.{Mem, mem-keep, keep-cases, mem-map, map-cases, mem-append, append-cases, mem-concat, concat-cases, mem-count}
 use Rattle.format_fields.proofs.Keyed.{is-rising, rising-is}
-use Rattle.format_language.specs.Language.{Entry, class, production, Language, Range, isIn}
-use Rattle.tree_reader.specs.Code.{Code, node, argument, Codes, nil, cons}
+use Rattle.format_language.specs.Language.{Entry, class, production, Language, isIn}
+use Rattle.tree_reader.specs.Code.{node, argument, Codes, cons}
 use Rattle.tree_reader.specs.Syntax.{write, code}
 use Rattle.format_translation.specs.Translation.{Item, mapping, clause, Body, Translation, numberOf, itemKey}
 use Rattle.format_translation.specs.WellFormed.{kinds}
@@ -16,7 +16,7 @@ use Rattle.reduce_operators.specs.Operators.{argumentsFrom, identityClause, ide
 use Rattle.reduce_operators.proofs.IdentitySound.{sound-identity}
 use Rattle.report.specs.Sets.{_∈_, here, later}
 use Rattle.report.specs.Languages.{Nonterminal, is-argument, has-production, WellFormedLanguage}
-use Rattle.report.specs.Typing.{Picked, picked-first, picked-later, HasKind, has-argument, has-node, HaveKinds, have-none, have-more, Mapped}
+use Rattle.report.specs.Typing.{Picked, picked-first, picked-later, has-argument, has-node, HaveKinds, have-none, have-more, Mapped}
 use Rattle.report.specs.Transformation.{Reconstructor}
 use Rattle.report.specs.WellFormed.{FromRegular, KeepsRanges, WellFormed}
 use Rattle.report.specs.Translations.{Holds, gapsFrom, Unchanged, same-kind, same-production, IsIdentity}

@@ -1,17 +1,17 @@
 -- Appendix B: what is proved there (B.5, B.7, B.9), and that the operators of the project are these.
 use Prim.Native.Nat.{ℕ, _<_}
 use mathlib.Core.Path.{_≡_, refl, ap, sym}
-use mathlib.Core.Logic.{_⊎_, inl, inr, ⊎-elim}
+use mathlib.Core.Logic.{_⊎_, ⊎-elim}
 use mathlib.Core.Bool.{true, not, _&&_}
 use mathlib.Core.List.{List}
 use native.Mathlib.Omega.{arith}
 use lib.ListN.{length}
 use lib.Dec.{eqb, leb, ltb}
-use borrow.Author.Tests.{eqb-true, eq-eqb, lt-ltb, le-leb, ltb-true, leb-true}
+use borrow.Author.Tests.{eqb-true, eq-eqb, lt-ltb, le-leb}
 use Rattle.format_fields.specs.Lists.{any, all}
 use Rattle.format_fields.specs.Keyed.{without, within, holds}
-use Rattle.format_fields.proofs.Truth.{Mem, false-true, and-both, both-and, or-cases, any-mem, mem-any, all-mem, mem-all, mem-keep, refuted}
-use Rattle.format_fields.proofs.Keyed.{Rising, Agree, is-rising, rising-is, from-agree, union-from, without-cases, holds-mem}
+use Rattle.format_fields.proofs.Truth.{Mem, false-true, and-both, both-and, or-cases, any-mem, mem-any, all-mem, mem-all, mem-keep, keep-cases, not-true, not-both, refuted}
+use Rattle.format_fields.proofs.Keyed.{Rising, Agree, is-rising, rising-is, from-agree, union-from, holds-mem, mem-holds}
 use Rattle.format_language.specs.Language.{Entry, class, production, Language, entryKey, sameEntry, Range, rangeWithin, mentions, isIn}
 use Rattle.format_language.specs.LanguageFile.{isKind, rangeWhole}
 use Rattle.format_language.proofs.Lookup.{same-equal, equal-same, class-in, result-in, argument-in}
@@ -196,12 +196,18 @@ mem-without : (a : Entry) (l m : Language) → Mem a l → (Mem a m → ⊥) →
 unfolding without
 mem-without a l m x h = mem-keep (λ b. not (holds sameEntry m b)) a l x (ap not (refuted (holds sameEntry m a) (λ e. h (holds-mem sameEntry same-equal equal-same m a e))))
 
+without-cases : (a : Entry) (l m : Language) → Mem a (without sameEntry l m) → Mem a l × (Mem a m → ⊥)
+unfolding without
+without-cases a l m x =
+    let r = keep-cases (λ b. not (holds sameEntry m b)) a l x in
+    (r .0, λ y. not-both (mem-holds sameEntry same-equal equal-same m a y) (not-true (holds sameEntry m a) (r .1)))
+
 pub without-is : (l m : Language) → Proper l → IsDifference l m (languageWithout l m)
 unfolding languageWithout
 without-is l m p = record {
   in-order = rising-is entryKey _ (proper-without l m p .rises);
   members = λ a. (
-    λ x. let r = without-cases sameEntry same-equal equal-same a l m (in-mem x) in (mem-in _ _ (r .0), λ y. r .1 (in-mem y)),
+    λ x. let r = without-cases a l m (in-mem x) in (mem-in _ _ (r .0), λ y. r .1 (in-mem y)),
     λ x. mem-in _ _ (mem-without a l m (in-mem (x .0)) (λ y. x .1 (mem-in _ _ y))),
   );
 }

@@ -1,6 +1,5 @@
 -- The propositions that hold with other numbers.
 use mathlib.Core.Path.{_≡_, subst}
-use mathlib.Core.List.{List}
 use Rattle.outcome.specs.Outcome.{value}
 use Rattle.format_fields.proofs.Truth.{all-mem}
 use Rattle.format_fields.proofs.Keyed.{is-rising}
@@ -10,7 +9,7 @@ use Rattle.format_translation.specs.WellFormed.{wellFormed}
 use Rattle.format_translation.proofs.Codec.{itemWhole, rises-parts, translation-whole}
 use Rattle.format_translation.proofs.Preserved.{typed-substitute, kept-tree, typed-run}
 use Rattle.format_translation.proofs.Fitting.{fit-carries, fit-tests}
-use Rattle.reduce_operators.specs.Operators.{translationUnion, joined}
+use Rattle.reduce_operators.specs.Operators.{joined}
 use Rattle.reduce_operators.proofs.Proper.{good-proper, Sound, kinds-below, formed-sound}
 use Rattle.reduce_operators.proofs.SumSound.{fit-translations, sound-union}
 use Rattle.reduce_operators.proofs.JoinSound.{sound-join}

@@ -1,5 +1,4 @@
 -- The propositions of the report.
-use mathlib.Core.Path.{_≡_}
 use Rattle.reduce_operators.specs.Operators.{languageUnion, languageWithout, translationUnion, identityOf}
 use Rattle.report.specs.Propositions.{PropositionB5, PropositionB7, PropositionB9, PropositionC8, LemmaC10, PropositionC11, PropositionC14, PropositionC16, PropositionC18, DefinitionB4, DefinitionB6, DefinitionC13, DefinitionC15, DefinitionC17}
 use Rattle.report.proofs.Languages.{sum-formed, difference-formed, within-kinds, sum-one, difference-one, formed-proper, formed-rises, compatible-fit, union-is, without-is}

@@ -27,7 +27,7 @@ use Rattle.report.specs.Languages.{WellFormedLanguage, Compatible, IsSum
 use Rattle.report.specs.WellFormed.{OneNumber, WellFormed}
 use Rattle.report.specs.Translations.{CompatibleX, IsSumX, IsDifferenceX, IsComposition, IsIdentity}
 use Rattle.report.specs.Reduction.{EnvironmentOf, empty, extended, ReducesL, con-l, var-l, res-l, add-l, src-l, tgt-l, let-l, letx-l, ReducesX, con-x, var-x, res-x, add-x, comp-x, idx-x, let-x, letx-x}
-use Rattle.report.specs.Limits.{SmallL, SmallX, WithinL, WithinX}
+use Rattle.report.specs.Limits.{SmallX, WithinL, WithinX}
 use Rattle.report.proofs.Languages.{sum-one, difference-one, formed-proper, formed-rises, fit-compatible, compatible-fit, union-is, without-is, within-lies, lies-within}
 use Rattle.report.proofs.WellFormed.{fits-formed, formed-fitting, formed-tests}
 use Rattle.report.proofs.Sums.{sum-one-x, fit-compatible-x, compatible-fit-x, union-is-x}
@@ -116,18 +116,7 @@ unfolding joinFits
 join-is-that f g h p q a b k d =
     join-value-x f g h (numbers-low f p) (numbers-low g q) (lies-within (g .target) (f .source) k) (composition-one f g (joined f g) h (joined-is f g p q a b k) d)
 
--- What a reduction within the limits gives is small.
-small-l : {c : Constants} {α : EnvironmentOf Language} {β : EnvironmentOf Translation} {t : Term languages} {l : Language} (d : ReducesL c α β t l) → WithinL d → SmallL l
-unfolding WithinL
-small-l (con-l p w) q = q
-small-l (var-l p) q = q
-small-l (res-l x y p) q = q .2
-small-l (add-l x y w p) q = q .2
-small-l (src-l x p) q = q .1
-small-l (tgt-l x p) q = q .1
-small-l (let-l x y) q = q .2
-small-l (letx-l x y) q = q .2
-
+-- What a reduction of a translation term within the limits gives is small.
 small-x : {c : Constants} {α : EnvironmentOf Language} {β : EnvironmentOf Translation} {t : Term translations} {f : Translation} (d : ReducesX c α β t f) → WithinX d → SmallX f
 unfolding WithinX
 small-x (con-x x y p w) q = q .2

@@ -5,16 +5,15 @@ use mathlib.Core.Logic.{_↔_}
 use mathlib.Core.List.{List, [], _∷_}
 use native.Mathlib.Omega.{arith}
 use Rattle.format_language.specs.Language.{Entry, production, Language}
-use Rattle.tree_reader.specs.Code.{Code, node, token, argument, Codes, nil, cons}
-use Rattle.tree_reader.specs.Syntax.{write, code}
-use Rattle.format_translation.specs.Translation.{Item, mapping, clause, Translation, numberOf}
+use Rattle.tree_reader.specs.Code.{Code, node, argument, Codes, cons}
+use Rattle.format_translation.specs.Translation.{Item, mapping, clause, Translation}
 use Rattle.report.specs.Sets.{_∈_}
 use Rattle.report.specs.Languages.{IsDifference}
 use Rattle.report.specs.Typing.{Picked, picked-first, picked-later, Gaps, HasKind, has-argument, has-token, has-node, HaveKinds, have-none, have-more}
 use Rattle.report.specs.Transformation.{Fillings, Substitutes, substitutes-node, substitutes-token, substitutes-argument, SubstitutesAll, substitutes-none, substitutes-more, At, at-first, at-later, Reconstructor, Transforms, transforms-node, transforms-argument, TransformsAll, transforms-none, transforms-more}
 use Rattle.report.specs.WellFormed.{WellFormed}
 use Rattle.report.specs.Translations.{Holds, ItemOf, kind-of, production-of, IsDifferenceX, Composed, composed-kind, composed-code, IsComposition, gapsFrom, same-kind, IsIdentity}
-use Rattle.report.proofs.Sets.{mem-in, in-mem}
+use Rattle.report.proofs.Sets.{in-mem}
 use Rattle.report.proofs.Languages.{kinds-larger, difference-one}
 use Rattle.report.proofs.Sums.{Part, part-reconstructs}
 use Rattle.report.proofs.Identities.{unchanged-kind, identity-formed, identity-reconstructs}

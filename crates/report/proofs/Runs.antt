@@ -1,15 +1,15 @@
 -- C.9: what the transformation relation gives is the project's run; and C.15: the project's join is the composition.
-use Prim.Native.Nat.{ℕ, zero, suc}
-use mathlib.Core.Path.{_≡_, refl, ap, sym, subst, _∙_}
+use Prim.Native.Nat.{ℕ}
+use mathlib.Core.Path.{_≡_, refl, subst}
 use mathlib.Core.Logic.{_↔_}
 use mathlib.Core.Bool.{true}
-use mathlib.Core.List.{List, []}
+use mathlib.Core.List.{List}
 use native.Mathlib.Omega.{arith}
 use borrow.Author.Tests.{lt-ltb}
 use Rattle.format_fields.proofs.Truth.{Mem, mem-all}
 use Rattle.format_fields.proofs.Keyed.{rising-is}
 use Rattle.format_language.specs.Language.{production, Language}
-use Rattle.tree_reader.specs.Code.{Code, node, Codes, nil, cons}
+use Rattle.tree_reader.specs.Code.{Code, Codes, nil, cons}
 use Rattle.tree_reader.specs.Syntax.{write, code}
 use Rattle.format_translation.specs.Translation.{Item, mapping, clause, Translation, numberOf, itemKey, mapped, numbersOf}
 use Rattle.format_translation.specs.Running.{Replacing, paired, substitute, substituteAll, fromOne, Clauses, run, runOperand, clausesOf}
@@ -20,7 +20,7 @@ use Rattle.reduce_operators.specs.Inner.Paired.{reached, pairedItem}
 use Rattle.reduce_operators.proofs.JoinRises.{mem-join, join-cases, joined-rises}
 use Rattle.report.specs.Sets.{_∈_}
 use Rattle.report.specs.Languages.{LiesWithin}
-use Rattle.report.specs.Typing.{Picked, picked-first, picked-later, Gaps, HasKind, has-argument, has-token, has-node, HaveKinds, have-none, have-more, Mapped}
+use Rattle.report.specs.Typing.{Picked, picked-first, picked-later, Gaps, HasKind, has-argument, has-token, has-node, HaveKinds, have-none, have-more}
 use Rattle.report.specs.Transformation.{Fillings, Substitutes, substitutes-node, substitutes-token, substitutes-argument, SubstitutesAll, substitutes-none, substitutes-more, At, at-first, at-later, Reconstructor, Transforms, transforms-node, transforms-token, transforms-argument, TransformsAll, transforms-none, transforms-more}
 use Rattle.report.specs.WellFormed.{WellFormed}
 use Rattle.report.specs.Translations.{Composed, composed-kind, composed-code, IsComposition}

@@ -2,12 +2,10 @@
 use Prim.Native.Nat.{ℕ}
 use mathlib.Core.Path.{_≡_, refl, ap, sym, subst, _∙_}
 use mathlib.Core.Logic.{_⊎_, inl, inr, ⊎-elim}
-use mathlib.Core.Bool.{true}
 use mathlib.Core.List.{List}
 use native.Mathlib.Omega.{arith}
-use Rattle.format_fields.proofs.Truth.{Mem}
 use Rattle.format_fields.proofs.Keyed.{Agree, is-rising, rising-is, union-from}
-use Rattle.format_language.specs.Language.{Entry, class, production, Language, entryKey}
+use Rattle.format_language.specs.Language.{Entry, class, production, Language}
 use Rattle.tree_reader.specs.Code.{Code}
 use Rattle.tree_reader.specs.Syntax.{write, code}
 use Rattle.format_translation.specs.Translation.{Item, mapping, clause, Translation, plainKey, numberOf, itemKey}
@@ -16,16 +14,15 @@ use Rattle.reduce_operators.specs.Operators.{languageUnion, translationUnion}
 use Rattle.reduce_operators.proofs.SumSound.{TranslationsFit, union-covers}
 use Rattle.reduce_operators.proofs.ItemParts.{mapping-parts, clause-parts}
 use Rattle.report.specs.Sets.{_∈_}
-use Rattle.report.specs.Languages.{Nonterminal, has-class, has-production, is-argument, Compatible, IsSum}
-use Rattle.report.specs.Typing.{Picked, HasKind, Mapped}
+use Rattle.report.specs.Languages.{Nonterminal, has-class, has-production, is-argument, IsSum}
+use Rattle.report.specs.Typing.{HasKind, Mapped}
 use Rattle.report.specs.Transformation.{Reconstructor}
-use Rattle.report.specs.WellFormed.{Regular, FromRegular, Maps, KeepsRanges, Covers, HasCodes, WellFormed}
+use Rattle.report.specs.WellFormed.{FromRegular, Maps, KeepsRanges, Covers, HasCodes, WellFormed}
 use Rattle.report.specs.Translations.{Holds, CompatibleX, IsSumX}
 use Rattle.report.proofs.Sets.{mem-in, in-mem, in-either, either-in, one-way}
 use Rattle.report.proofs.Typing.{has-larger, picked-in}
-use Rattle.report.proofs.Languages.{kinds-larger, sum-formed, within-larger, sum-one, nonterminal-in, in-nonterminal, fit-compatible, compatible-fit, union-is, formed-rises}
+use Rattle.report.proofs.Languages.{kinds-larger, sum-formed, within-larger, sum-one, in-nonterminal, fit-compatible, compatible-fit, union-is, formed-rises}
 use Rattle.report.proofs.Codes.{written-one}
-use Rattle.report.proofs.Transformation.{mapping-one}
 use Rattle.report.proofs.WellFormed.{code-one, ranges-produced, body-rises, mapping-zero, clause-zero, mapping-kinds, clause-entry}
 
 -- The kinds of a sum.

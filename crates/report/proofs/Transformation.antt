@@ -1,14 +1,12 @@
 -- Appendix C.2 and what is proved there: C.8, C.10 and C.11, of any well-formed translation.
-use Prim.Native.Nat.{ℕ, suc}
-use mathlib.Core.Path.{_≡_, refl, ap, sym, subst, _∙_}
+use Prim.Native.Nat.{ℕ}
+use mathlib.Core.Path.{_≡_, refl, ap, subst}
 use mathlib.Core.List.{List}
 use Rattle.format_language.specs.Language.{production, Language}
 use Rattle.tree_reader.specs.Code.{Code, node, token, argument, Codes, nil, cons}
-use Rattle.tree_reader.specs.Syntax.{write, code}
-use Rattle.format_translation.specs.Translation.{mapping, clause, Body, Translation, plainKey, numberOf, itemKey}
-use Rattle.reduce_operators.proofs.ItemParts.{mapping-parts, clause-parts}
+use Rattle.format_translation.specs.Translation.{mapping, Translation, plainKey, numberOf, itemKey}
+use Rattle.reduce_operators.proofs.ItemParts.{mapping-parts}
 use Rattle.report.specs.Sets.{_∈_}
-use Rattle.report.specs.Languages.{has-production}
 use Rattle.report.specs.Typing.{Picked, picked-first, picked-later, Gaps, HasKind, has-argument, has-token, has-node, HaveKinds, have-none, have-more, Through, Mapped}
 use Rattle.report.specs.Transformation.{Fillings, Substitutes, substitutes-node, substitutes-token, substitutes-argument, SubstitutesAll, substitutes-none, substitutes-more, At, at-first, at-later, Reconstructor, Transforms, transforms-node, transforms-token, transforms-argument, TransformsAll, transforms-none, transforms-more}
 use Rattle.report.specs.WellFormed.{WellFormed}

@@ -1,10 +1,10 @@
 -- Typing by the rules of C.5: in a larger language, with other gaps, and that it is the project's.
 use Prim.Native.Nat.{ℕ, zero, suc}
-use mathlib.Core.Path.{_≡_, refl, ap, sym, subst, _∙_}
+use mathlib.Core.Path.{_≡_}
 use mathlib.Core.List.{List, [], _∷_, map}
 use mathlib.Core.Option.{some}
 use lib.ListN.{getElem?}
-use Rattle.format_fields.proofs.Truth.{Mem, none-some}
+use Rattle.format_fields.proofs.Truth.{none-some}
 use Rattle.format_fields.proofs.Keyed.{Rising}
 use Rattle.format_language.specs.Language.{Language, entryKey}
 use Rattle.format_language.proofs.Lookup.{range-mem, mem-range, arguments-mem, mem-arguments}
@@ -12,9 +12,9 @@ use Rattle.tree_reader.specs.Code.{Code, Codes}
 use Rattle.tree_reader.specs.Typing.{Uses, kindBy, kindAt, Typed, TypedAll, typed-node, typed-token, typed-argument, typed-nil, typed-cons}
 use Rattle.format_translation.specs.Translation.{mapping, Body, itemKey, mappingOf}
 use Rattle.format_translation.proofs.Lookup.{mapping-mem, mem-mapping}
-use Rattle.report.specs.Sets.{_∈_}
+use Rattle.report.specs.Sets.{_∈_, here, later}
 use Rattle.report.specs.Languages.{LiesWithin}
-use Rattle.report.specs.Typing.{Picked, picked-first, picked-later, Gaps, HasKind, has-argument, has-token, has-node, HaveKinds, have-none, have-more, Through, Mapped, Legal}
+use Rattle.report.specs.Typing.{Picked, picked-first, picked-later, Gaps, HasKind, has-argument, has-token, has-node, HaveKinds, have-none, have-more, Mapped, Legal}
 use Rattle.report.proofs.Sets.{mem-in, in-mem}
 
 -- A code keeps its kind in a language that the first lies within, with gaps of the same kinds.
@@ -53,17 +53,10 @@ module _ {l : Language} (rises : Rising entryKey l) {u : Uses} {ρ : Gaps} (h : 
     have-typed have-none = typed-nil
     have-typed (have-more x y) = typed-cons (has-typed x) (have-typed y)
 
--- The argument kind at a place, in the list.
-picked-at : {ks : List ℕ} {i n : ℕ} → Picked ks (suc i) n → getElem? ks i ≡ some n
-picked-at {ks} {i} {n} p = go p
-  where
-    go : {ks : List ℕ} {i n : ℕ} → Picked ks (suc i) n → getElem? ks i ≡ some n
-    go picked-first = refl
-    go (picked-later q) = go q
-
+-- A kind at a place is in the list.
 pub picked-in : {ks : List ℕ} {i n : ℕ} → Picked ks i n → n ∈ ks
-picked-in picked-first = Rattle.report.specs.Sets.here
-picked-in (picked-later p) = Rattle.report.specs.Sets.later (picked-in p)
+picked-in picked-first = here
+picked-in (picked-later p) = later (picked-in p)
 
 -- The uses of a production's arguments are the gaps τ ∘ α|.
 mapped-use : (b : Body) → Rising itemKey b → {ks : List ℕ} {i n t : ℕ} → Picked ks i n → mapping n 0 t ∈ b → kindAt (map (mappingOf b) ks) i 0 ≡ some t

@@ -1,5 +1,5 @@
 -- C.6 and the project's test are the same, condition by condition.
-use Prim.Native.Nat.{ℕ, suc, _+_, _<_}
+use Prim.Native.Nat.{ℕ, _+_, _<_}
 use mathlib.Core.Path.{_≡_, refl, ap, sym, subst, _∙_}
 use mathlib.Core.Logic.{inl, inr}
 use mathlib.Core.Bool.{true, false, _&&_}
@@ -11,34 +11,44 @@ use borrow.Author.Tests.{lt-ltb}
 use Rattle.outcome.specs.Outcome.{value}
 use Rattle.format_fields.proofs.Truth.{Mem, false-true, some-inj, both-and}
 use Rattle.format_fields.proofs.Keyed.{Rising, is-rising, rising-is}
-use Rattle.format_language.specs.Language.{class, production, Language, Range}
+use Rattle.format_language.specs.Language.{production}
 use Rattle.format_language.specs.LanguageFile.{isKind}
 use Rattle.format_language.proofs.Lookup.{range-mem, mem-range, mem-arguments}
 use Rattle.format_language.proofs.Ranges.{all-within, value-within}
 use Rattle.tree_reader.specs.Code.{Code, levels}
-use Rattle.tree_reader.specs.Typing.{Typed}
 use Rattle.tree_reader.specs.Syntax.{Read, done, read, write, code}
 use Rattle.tree_reader.proofs.RoundTrip.{round, as-code}
 use Rattle.tree_reader.proofs.Sound.{More, more-levels, read-done}
 use Rattle.format_fields.proofs.Codec.{Bytes}
-use Rattle.format_translation.specs.Translation.{Item, mapping, clause, Translation, plainKey, numberOf, itemKey, mappingOf, mapped}
+use Rattle.format_translation.specs.Translation.{Item, mapping, clause, Body, Translation, plainKey, numberOf, itemKey, mappingOf, mapped}
 use Rattle.format_translation.specs.Running.{readClause, usesOf, codeLevels, clausesOf}
 use Rattle.format_translation.specs.WellFormed.{wellFormed}
 use Rattle.format_translation.proofs.Codec.{itemWhole}
 use Rattle.format_translation.proofs.Lookup.{mem-mapping, mem-mapped, mapping-mem}
 use Rattle.format_translation.proofs.Fitting.{Fitting, fit-tests, uses-are, fit-carries, clause-code}
 use Rattle.reduce_operators.specs.Limits.{isDeep, codeIsDeep}
-use Rattle.reduce_operators.proofs.Proper.{Proper, proper-apart, Sound, kinds-below}
+use Rattle.reduce_operators.proofs.Proper.{proper-apart, Sound, kinds-below}
 use Rattle.reduce_operators.proofs.ItemParts.{clause-parts}
 use Rattle.report.specs.Sets.{_∈_}
 use Rattle.report.specs.Languages.{has-production, WellFormedLanguage}
-use Rattle.report.specs.Typing.{HasKind, Mapped}
 use Rattle.report.specs.Transformation.{Reconstructor}
 use Rattle.report.specs.WellFormed.{OneNumber, Maps, FromProduced, KeepsRanges, Covers, HasCodes, OneCode, WellFormed}
 use Rattle.report.proofs.Sets.{mem-in, in-mem, one-of-key}
 use Rattle.report.proofs.Typing.{code-has, code-typed}
 use Rattle.report.proofs.Languages.{nonterminal-in, in-nonterminal, formed-proper, formed-rises, kind-below}
 use Rattle.report.proofs.Codes.{written-one, has-bytes, picked-few}
+
+-- Items of a body with number 0 only.
+pub mapping-number : (b : Body) → OneNumber b → (k j t : ℕ) → Mem (mapping k j t) b → j ≡ 0
+unfolding numberOf
+mapping-number b one k j t m = one (mapping k j t) (mem-in _ _ m)
+
+pub clause-number : (b : Body) → OneNumber b → (n p j : ℕ) (c : List ℕ) → Mem (clause n p j c) b → j ≡ 0
+unfolding numberOf
+clause-number b one n p j c m = one (clause n p j c) (mem-in _ _ m)
+
+pub mapped-number : (b : Body) → OneNumber b → (k j t : ℕ) → mappingOf b k j ≡ some t → j ≡ 0
+mapped-number b one k j t e = mapping-number b one k j t (mapping-mem b k j t e)
 
 -- The codes of a body are in bytes.
 abbrev pub ByteCodes : Translation → Type 0
@@ -59,10 +69,6 @@ ranges-produced f h n t m p c x = let d = h n t c x m in p (d .0) (d .1)
 
 -- What fits is well formed.
 module _ (f : Translation) (one : OneNumber (f .body)) (ws : WellFormedLanguage (f .source)) (wt : WellFormedLanguage (f .target)) (r : Rising itemKey (f .body)) (bytes : ByteCodes f) (fits : Fitting f) where
-  mapped-zero : (k j t : ℕ) → mappingOf (f .body) k j ≡ some t → j ≡ 0
-  unfolding numberOf
-  mapped-zero k j t e = one (mapping k j t) (mem-in _ _ (mapping-mem (f .body) k j t e))
-
   -- A clause's code, as the project reads it, is the reconstructor.
   pub clause-reconstructs : (n p : ℕ) (c : List ℕ) → Mem (clause n p 0 c) (f .body) → (write code (clausesOf f n p 0) ≡ c) × Reconstructor f n p (clausesOf f n p 0)
   unfolding readClause
@@ -81,7 +87,7 @@ module _ (f : Translation) (one : OneNumber (f .body)) (ws : WellFormedLanguage 
           kind = t;
           entry = mem-in _ _ (o .0 .1);
           to = mem-in _ _ (o .1 .1);
-          typed = code-has (f .body) mapped-zero ks (fit-carries f r fits .nodes n p 0 t ks e (mem-mapping (f .body) r n 0 t (o .1 .1)));
+          typed = code-has (f .body) (mapped-number (f .body) one) ks (fit-carries f r fits .nodes n p 0 t ks e (mem-mapping (f .body) r n 0 t (o .1 .1)));
           stands = mem-in _ _ (subst (λ (x : List ℕ). Mem (clause n p 0 x) (f .body)) (sym y) m);
         },
       )
@@ -132,12 +138,10 @@ module _ (f : Translation) (w : WellFormed f) where
   body-rises = is-rising itemKey (f .body) (w .in-order)
 
   pub mapping-zero : (k j t : ℕ) → Mem (mapping k j t) (f .body) → j ≡ 0
-  unfolding numberOf
-  mapping-zero k j t m = w .one-number (mapping k j t) (mem-in _ _ m)
+  mapping-zero k j t m = mapping-number (f .body) (w .one-number) k j t m
 
   pub clause-zero : (n p j : ℕ) (c : List ℕ) → Mem (clause n p j c) (f .body) → j ≡ 0
-  unfolding numberOf
-  clause-zero n p j c m = w .one-number (clause n p j c) (mem-in _ _ m)
+  clause-zero n p j c m = clause-number (f .body) (w .one-number) n p j c m
 
   pub mapping-kinds : (k j t : ℕ) → Mem (mapping k j t) (f .body) → (k < 32) × (t < 32)
   mapping-kinds k j t m =

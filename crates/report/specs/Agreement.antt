@@ -31,25 +31,27 @@ use Rattle.report.specs.Limits.{SmallL, SmallX, WithinX}
 abbrev pub InBytes : List ℕ → Type 0
 InBytes s = (x : ℕ) → x ∈ s → x < 256
 
--- B.2: a language that is accepted is well formed, and a well-formed one of at most 1,024 bytes is accepted.
+-- B.2: a language that is accepted is well formed.
 abbrev pub AcceptedLanguage : Type 0
 AcceptedLanguage = (file : List ℕ) (l : Language) → InBytes file → languageOf file ≡ value l → WellFormedLanguage l
 
+-- B.2: a well-formed language of at most 1,024 bytes is accepted.
 abbrev pub LanguageAccepted : Type 0
 LanguageAccepted = (l : Language) → WellFormedLanguage l → SmallL l → languageOf (encodeLanguage l) ≡ value l
 
--- C.6: a translation that is accepted is well formed, and a well-formed one within the limits is accepted. (By conditions:
--- `Conditions`.)
+-- C.6: a translation that is accepted is well formed. (By conditions: `Conditions`.)
 abbrev pub AcceptedTranslation : Type 0
 AcceptedTranslation = (file : List ℕ) (f : Translation) → InBytes file → translationOf file ≡ value f → OneNumber (f .body) → WellFormed f
 
+-- C.6: a well-formed translation within the limits is accepted.
 abbrev pub TranslationAccepted : Type 0
 TranslationAccepted = (f : Translation) → WellFormed f → SmallX f → (wellFormed f ≡ value f) × (translationOf (encodeTranslation f) ≡ value f)
 
--- C.5: the typing of trees, and that of codes of clauses, is the project's.
+-- C.5: the typing of trees is the project's.
 abbrev pub LegalIsTyped : Type 0
 LegalIsTyped = (l : Language) → WellFormedLanguage l → (a : Code) (n : ℕ) → Legal l a n ↔ Typed l [] a n
 
+-- C.5: the typing of the codes of clauses is the project's.
 abbrev pub CodeIsTyped : Type 0
 CodeIsTyped =
     (f : Translation) → WellFormed f → (ks : List ℕ) (a : Code) (t : ℕ)
@@ -105,12 +107,13 @@ FigureIsReduce =
     → (bytes : List ℕ) → reduceBytes pack workspace output ≡ value bytes → (r : Ready) → ready pack workspace output ≡ value r
     → (f : Translation) → ReducesX (constantsOf (r .pack)) empty empty (r .term) f → encodeTranslation f ≡ bytes
 
--- Appendix A, [RES]: X \ L is X ∘ (idx(src(X)) \ L), of translations and of terms.
+-- Appendix A, [RES]: X \ L is X ∘ (idx(src(X)) \ L), of translations.
 abbrev pub WithoutIsComposition : Type 0
 WithoutIsComposition =
     (f : Translation) → WellFormed f → (l : Language) (i j h : Translation) → IsIdentity (f .source) i → IsDifferenceX i l j
     → IsDifferenceX f l h ↔ IsComposition f j h
 
+-- Appendix A, [RES]: the same of terms, which reduce alike.
 abbrev pub WithoutIsTerm : Type 0
 WithoutIsTerm =
     (c : Constants) (α : EnvironmentOf Language) (β : EnvironmentOf Translation) → BoundFormed α β

@@ -8,14 +8,15 @@ use Rattle.reduce_operators.specs.Limits.{languageExceeds, translationExceeds}
 use Rattle.reduce_signs.specs.Evaluation.{Constants}
 use Rattle.report.specs.Reduction.{EnvironmentOf, ReducesL, con-l, var-l, res-l, add-l, src-l, tgt-l, let-l, letx-l, ReducesX, con-x, var-x, res-x, add-x, comp-x, idx-x, let-x, letx-x}
 
--- 1,024 bytes of a language; 4,096 of a translation, and 16 levels of each code.
+-- A language of at most 1,024 bytes.
 abbrev pub SmallL : Language → Type 0
 SmallL l = languageExceeds l ≡ false
 
+-- A translation of at most 4,096 bytes, its languages of 1,024, its codes of 16 levels.
 abbrev pub SmallX : Translation → Type 0
 SmallX f = translationExceeds f ≡ false
 
--- The value of each rule that was applied is small.
+-- The value of each rule that was applied is small: in a reduction of a language term, and in one of a translation term.
 unfoldable mutual
   pub WithinL : {c : Constants} {α : EnvironmentOf Language} {β : EnvironmentOf Translation} {t : Term languages} {l : Language} → ReducesL c α β t l → Type 0
   WithinL (con-l {l = l} p w) = SmallL l

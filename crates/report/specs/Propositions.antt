@@ -58,20 +58,24 @@ PropositionC16 =
 abbrev pub PropositionC18 : Type 0
 PropositionC18 = (l : Language) (h : Translation) → WellFormedLanguage l → IsIdentity l h → WellFormed h × FromRegular h
 
--- B.4, B.6, C.13, C.15 and C.17 define something: there is such a language or translation, and one only.
+-- B.4 defines something: there is such a language, and one only.
 abbrev pub DefinitionB4 : Type 0
 DefinitionB4 = (l m : Language) → Compatible l m → WellFormedLanguage l → WellFormedLanguage m → (s : Language) × IsSum l m s × ((t : Language) → IsSum l m t → s ≡ t)
 
+-- B.6 does, whatever is taken away.
 abbrev pub DefinitionB6 : Type 0
 DefinitionB6 = (l m : Language) → WellFormedLanguage l → (s : Language) × IsDifference l m s × ((t : Language) → IsDifference l m t → s ≡ t)
 
+-- C.13 does, where the two are compatible.
 abbrev pub DefinitionC13 : Type 0
 DefinitionC13 = (f g : Translation) → CompatibleX f g → WellFormed f → WellFormed g → (h : Translation) × IsSumX f g h × ((k : Translation) → IsSumX f g k → h ≡ k)
 
+-- C.15 does, where the target of the second lies within the source of the first.
 abbrev pub DefinitionC15 : Type 0
 DefinitionC15 =
     (f g : Translation) → LiesWithin (g .target) (f .source) → WellFormed f → WellFormed g
     → (h : Translation) × IsComposition f g h × ((k : Translation) → IsComposition f g k → h ≡ k)
 
+-- C.17 does.
 abbrev pub DefinitionC17 : Type 0
 DefinitionC17 = (l : Language) → WellFormedLanguage l → (h : Translation) × IsIdentity l h × ((k : Translation) → IsIdentity l k → h ≡ k)

@@ -13,13 +13,13 @@ abbrev pub Fillings : Type 1
 Fillings = ℕ → Code → Type 0
 
 mutual
-  -- ρ ⊢ A ▷ A′.
+  -- C.7, ρ ⊢ A ▷ A′: the substitute relation.
   pub data Substitutes (ρ : Fillings) : Code → Code → Type 0 where
-    -- (i)
+    -- C.7 (i)
     substitutes-node : {n p : ℕ} {t u : Codes} → SubstitutesAll ρ t u → Substitutes ρ (node n p t) (node n p u)
-    -- (ii)
+    -- C.7 (ii)
     substitutes-token : {w : ℕ} → Substitutes ρ (token w) (token w)
-    -- (iii)
+    -- C.7 (iii)
     substitutes-argument : {i : ℕ} {a : Code} → ρ i a → Substitutes ρ (argument i 0) a
 
   -- The premise of (i): ρ ⊢ Aᵢ ▷ A′ᵢ for each i.
@@ -27,7 +27,7 @@ mutual
     substitutes-none : SubstitutesAll ρ nil nil
     substitutes-more : {a b : Code} {t u : Codes} → Substitutes ρ a b → SubstitutesAll ρ t u → SubstitutesAll ρ (cons a t) (cons b u)
 
--- (i ↦ Aᵢ): the code at place i, counted from 1.
+-- C.7 (iv), (i ↦ Aᵢ): the code at place i, counted from 1.
 pub data At : Codes → ℕ → Code → Type 0 where
   at-first : {a : Code} {t : Codes} → At (cons a t) (suc zero) a
   at-later : {a b : Code} {t : Codes} {i : ℕ} → At t (suc i) a → At (cons b t) (suc (suc i)) a
@@ -43,14 +43,14 @@ pub record Reconstructor (f : Translation) (n p : ℕ) (a : Code) : Type 0 where
   pub stands : clause n p 0 (write code a) ∈ f .body
 
 mutual
-  -- A ⟶ A′ by the reconstructors of f.
+  -- C.7, A ⟶ A′ by the reconstructors of f: the transformation relation.
   pub data Transforms (f : Translation) : Code → Code → Type 0 where
-    -- (iv)
+    -- C.7 (iv)
     transforms-node : {n p : ℕ} {t u : Codes} {a b : Code}
         → TransformsAll f t u → Reconstructor f n p a → Substitutes (At u) a b → Transforms f (node n p t) b
-    -- (v)
+    -- C.7 (v)
     transforms-token : {w : ℕ} → Transforms f (token w) (token w)
-    -- (vi)
+    -- C.7 (vi)
     transforms-argument : {i : ℕ} → Transforms f (argument i 0) (argument i 0)
 
   -- The premise of (iv): Aᵢ ⟶ A′ᵢ for each i.

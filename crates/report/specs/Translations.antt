@@ -20,12 +20,12 @@ pub record Holds (b : Body) (P : Item → Type 0) : Type 0 where
 
 -- C.12, f ∼ g.
 pub record CompatibleX (f g : Translation) : Type 0 where
-  -- (i)
+  -- C.12 (i)
   pub sources : Compatible (f .source) (g .source)
   pub targets : Compatible (f .target) (g .target)
-  -- (ii)
+  -- C.12 (ii)
   pub same-kind : {n t u : ℕ} → mapping n 0 t ∈ f .body → mapping n 0 u ∈ g .body → t ≡ u
-  -- (iii)
+  -- C.12 (iii)
   pub same-code : {n p : ℕ} {a b : Code} → Reconstructor f n p a → Reconstructor g n p b → a ≡ b
 
 -- C.13, h = f ⊕ g: everything is united.
@@ -48,7 +48,9 @@ pub record IsDifferenceX (f : Translation) (l : Language) (h : Translation) : Ty
 
 -- C.15, an item of f ∘ g: τ′(τ(n)), and (p, T(A)) for each (p, A) ∈ c(n).
 pub data Composed (f g : Translation) : Item → Type 0 where
+  -- C.15, τ′ ∘ τ.
   composed-kind : {n u t : ℕ} → mapping n 0 u ∈ g .body → mapping u 0 t ∈ f .body → Composed f g (mapping n 0 t)
+  -- C.15, c′ ∘ c.
   composed-code : {n p : ℕ} {a b : Code} → Reconstructor g n p a → Transforms f a b → Composed f g (clause n p 0 (write code b))
 
 -- C.15, h = f ∘ g: source of the second, target of the first.
@@ -57,14 +59,16 @@ pub record IsComposition (f g h : Translation) : Type 0 where
   pub target : h .target ≡ f .target
   pub body : Holds (h .body) (Composed f g)
 
--- [i, i + 1, ..], one for each argument kind.
+-- C.17, [i, i + 1, ..], one for each argument kind.
 unfoldable pub gapsFrom : ℕ → List ℕ → Codes
 gapsFrom i [] = nil
 gapsFrom i (k ∷ ks) = cons (argument i 0) (gapsFrom (suc i) ks)
 
 -- C.17, an item of id(l): n ↦ n, and (n, p, [1, 2, .., |α|]) for each (p, α) ∈ π(n).
 pub data Unchanged (l : Language) : Item → Type 0 where
+  -- C.17, n ↦ n.
   same-kind : {n : ℕ} → Nonterminal l n → Unchanged l (mapping n 0 n)
+  -- C.17, idc.
   same-production : {n p : ℕ} {ks : List ℕ} → production n p ks ∈ l → Unchanged l (clause n p 0 (write code (node n p (gapsFrom 1 ks))))
 
 -- C.17, h = id(l).

@@ -9,9 +9,12 @@ use Rattle.tree_reader.specs.Code.{Code, node, token, argument, Codes, nil, con
 use Rattle.format_translation.specs.Translation.{mapping, Body}
 use Rattle.report.specs.Sets.{_∈_}
 
--- C.3, α|ⁱ = k: the argument kind at place i, counted from 1. (C.4, their number, is the length of the list.)
+-- C.3, α|ⁱ = k: the argument kind at place i, counted from 1. The list has no terminals to pass over; C.4, the number of its kinds,
+-- is its length.
 pub data Picked : List ℕ → ℕ → ℕ → Type 0 where
+  -- C.3, its first rule.
   picked-first : {k : ℕ} {ks : List ℕ} → Picked (k ∷ ks) (suc zero) k
+  -- C.3, its second rule.
   picked-later : {j k i : ℕ} {ks : List ℕ} → Picked ks (suc i) k → Picked (j ∷ ks) (suc (suc i)) k
 
 -- A gap type function ρ: ρ i n says that ρ(i) = n.
@@ -21,8 +24,11 @@ Gaps = ℕ → ℕ → Type 0
 mutual
   -- C.5, ρ ⊢ A : n over the language l: its three rules.
   pub data HasKind (l : Language) (ρ : Gaps) : Code → ℕ → Type 0 where
+    -- C.5, the first rule: ρ(i) = n.
     has-argument : {i n : ℕ} → ρ i n → HasKind l ρ (argument i 0) n
+    -- C.5, the second: ω ∈ π(n), which is regular.
     has-token : {w n : ℕ} {c : Range} → class n c ∈ l → inRange c w ≡ true → HasKind l ρ (token w) n
+    -- C.5, the third: (p, α) ∈ π(n).
     has-node : {n p : ℕ} {t : Codes} {ks : List ℕ} → production n p ks ∈ l → HaveKinds l ρ t ks → HasKind l ρ (node n p t) n
 
   -- The premise of the third rule: ρ ⊢ Aⱼ : α|ʲ for each j, and as many codes as kinds.

@@ -21,10 +21,11 @@ pub record Maps (f : Translation) : Type 0 where
   pub each : (n : ℕ) → Nonterminal (f .source) n → (t : ℕ) × (mapping n 0 t ∈ f .body)
   pub only : (n t : ℕ) → mapping n 0 t ∈ f .body → Nonterminal (f .source) n × Nonterminal (f .target) t
 
--- π(n) is a set of productions, maybe none; and π(n) is a regular language, maybe empty. An undefined nonterminal is both (B.1).
+-- B.1: π(n) is a set of productions, maybe none. An undefined nonterminal is both this and the next.
 abbrev pub Produced : Language → ℕ → Type 0
 Produced l n = (c : Range) → class n c ∈ l → ⊥
 
+-- B.1: π(n) is a regular language, maybe empty.
 abbrev pub Regular : Language → ℕ → Type 0
 Regular l n = (p : ℕ) (ks : List ℕ) → production n p ks ∈ l → ⊥
 
@@ -58,14 +59,18 @@ pub record WellFormed (f : Translation) : Type 0 where
   pub one-number : OneNumber (f .body)
   -- A set of items is written in one way, as a set of entries is (01, "Translations").
   pub in-order : rising itemKey (f .body) ≡ true
-  -- (i)
+  -- C.6 (i)
   pub source : WellFormedLanguage (f .source)
   pub target : WellFormedLanguage (f .target)
   -- C.2
   pub maps : Maps f
-  -- (ii) second half, and (iii) to (vi)
+  -- C.6 (ii), second half
   pub from-produced : FromProduced f
+  -- C.6 (iii)
   pub keeps-ranges : KeepsRanges f
+  -- C.6 (iv)
   pub covers : Covers f
+  -- C.6 (v)
   pub has-codes : HasCodes f
+  -- C.6 (vi)
   pub one-code : OneCode f
