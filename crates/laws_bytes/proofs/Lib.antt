@@ -3,3 +3,4 @@ pub mod Values
 pub mod Opened
 pub mod Searches
 pub mod Dropped
+pub mod Edits

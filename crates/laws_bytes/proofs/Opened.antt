@@ -42,7 +42,7 @@ class-production {r = r} {q = q} {p = p} {c = c} {ks = ks} e = absurd (clash e)
     clash : class q c ≡ production r p ks → ⊥
     clash e = let z : _≡_ {A = ℕ} 0 1 = cc in omega arith
 
-no-use : (i j : ℕ) {k : ℕ} {A : Type 0} → kindAt [] i j ≡ some k → A
+pub no-use : (i j : ℕ) {k : ℕ} {A : Type 0} → kindAt [] i j ≡ some k → A
 no-use zero j e = none-some e
 no-use (suc i) j e = none-some e
 
