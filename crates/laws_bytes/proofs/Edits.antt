@@ -121,7 +121,7 @@ module _ (l : Language) (c : Card) where
       let (also, y, ey, fy) = opened path (sees c k) (argumentOf l q t i) b d in
       let r = entered g i p q x y seen ex ey in
       let fy′ : blockAt (sees c) l path (blockOf (y .start) (x .kind) (y .subtree)) ≡ reached b =
-          ap (λ (z : ℕ). blockAt (sees c) l path (blockOf (y .start) z (y .subtree))) (sym (r .kinds)) ∙ fy in
+      ap (λ (z : ℕ). blockAt (sees c) l path (blockOf (y .start) z (y .subtree))) (sym (r .kinds)) ∙ fy in
       let w = along path (x .kind) (x .subtree) (y .subtree) (r .agree) (x .start) (y .start) a b fx fy′ in
       record { kinds = w .kinds; seen = w .seen; changed = λ u h. r .changed path u (w .changed u h) }
 

@@ -30,7 +30,7 @@ EditsStayAlike =
     → editPlan language root first index path card block ≡ value u → editPlan language root second other path card block ≡ value v
     → Agree l c root u v
     × ((o p : List ℕ) → length o ≡ length p
-        → Alike (maskTree language root card (write tree u) o) (maskTree language root card (write tree v) p))
+    → Alike (maskTree language root card (write tree u) o) (maskTree language root card (write tree v) p))
 
 -- The bytes of a new plan before and behind the block are those of the old one; the card sees the block, and the path leads to it.
 pub record OnlyTheBlock (language : List ℕ) (root : ℕ) (bytes index path block plan : List ℕ) (c : Card) : Type 0 where
