@@ -1,7 +1,7 @@
 use borrow.Author.Needs.{needs}
 use borrow.Author.Tests.{lt-ltb, le-ltb}
-use Rattle.listing.proofs.text.capital.Statement.{statement}
-use Rattle.listing.proofs.text.capital.Tie as tie
+use Rattle.program_text.proofs.text.capital.Statement.{statement}
+use Rattle.program_text.proofs.text.capital.Tie as tie
 
 returns : tie.Need-returns
 returns c = cc (lt-ltb _ _ (c .if1 .taken))

@@ -1,7 +1,7 @@
 use borrow.Author.Needs.{needs}
-use Rattle.listing.proofs.Putting.{put-one}
-use Rattle.listing.proofs.text.put.Statement.{statement}
-use Rattle.listing.proofs.text.put.Tie as tie
+use Rattle.program_text.proofs.Putting.{put-one}
+use Rattle.program_text.proofs.text.put.Statement.{statement}
+use Rattle.program_text.proofs.text.put.Tie as tie
 
 returns : tie.Need-returns
 returns c = put-one _ _ _ (search needs)

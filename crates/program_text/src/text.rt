@@ -4,8 +4,8 @@ ghost use mathlib.Core.List.{[], _∷_};
 ghost use Prim.Native.Nat.{_+_, _*_, _<_, _≤_};
 ghost use lib.ListN.{length};
 ghost use Rattle.format_fields.specs.Lists.{concatMap};
-ghost use Rattle.listing.specs.Text as Text;
-ghost use Rattle.listing.specs.Inner.Putting.{Puts};
+ghost use Rattle.program_text.specs.Text as Text;
+ghost use Rattle.program_text.specs.Inner.Putting.{Puts};
 
 // A byte.
 pub fn put(byte: u8, text: &mut [u8], at: usize) -> usize
@@ -78,4 +78,13 @@ pub fn put_hex(bytes: &[u8], text: &mut [u8], at: usize) -> usize
         i += 1;
     }
     end
+}
+
+// The first line: a word and a number.
+pub fn put_first(word: &[u8], n: u64, text: &mut [u8]) -> usize
+    requires { ⌜ (n < 10000) × (length (now word) + 5 ≤ length (now text)) ⌝ }
+    ensures { λ r. ⌜ Puts (Text.firstLine (now (word .entry)) n) (now (text .entry)) (now (text .exit)) 0 r × (r ≤ length (now (word .entry)) + 5) ⌝ }
+{
+    let end = put_bytes(word, text, 0);
+    put_number(n, b'\n', text, end)
 }

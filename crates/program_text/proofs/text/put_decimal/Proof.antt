@@ -1,8 +1,8 @@
 use borrow.Author.Needs.{needs}
 use native.Mathlib.Omega.{arith}
-use Rattle.listing.proofs.Decimal.{short, puts-decimal}
-use Rattle.listing.proofs.text.put_decimal.Statement.{statement}
-use Rattle.listing.proofs.text.put_decimal.Tie as tie
+use Rattle.program_text.proofs.Decimal.{short, puts-decimal}
+use Rattle.program_text.proofs.text.put_decimal.Statement.{statement}
+use Rattle.program_text.proofs.text.put_decimal.Tie as tie
 
 put-bytes-requires : tie.Need-put-bytes-requires
 put-bytes-requires c κs = omega (arith, c .before .before .decimal .ensures .0 .1, short _ _ (c .before .before .before .before .before .pre .0) (c .before .before .decimal .ensures .1 .0))

@@ -1,8 +1,8 @@
 use borrow.Author.Needs.{needs}
 use native.Mathlib.Omega.{arith}
-use Rattle.listing.proofs.Putting.{puts-marked}
-use Rattle.listing.proofs.text.put_number.Statement.{statement}
-use Rattle.listing.proofs.text.put_number.Tie as tie
+use Rattle.program_text.proofs.Putting.{puts-marked}
+use Rattle.program_text.proofs.text.put_number.Statement.{statement}
+use Rattle.program_text.proofs.text.put_number.Tie as tie
 
 put-requires : tie.Need-put-requires
 put-requires c κs = omega (arith, c .before .before .before .put-decimal .ensures .0 .long, c .before .before .before .put-decimal .ensures .1)

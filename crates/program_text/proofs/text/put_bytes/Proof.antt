@@ -3,10 +3,10 @@ use Prim.Native.Nat.{_+_, _-_, _≤_}
 use mathlib.Core.Path.{_≡_}
 use native.Mathlib.Omega.{arith}
 use lib.ListN.{length, take}
-use Rattle.listing.specs.Inner.Putting.{Puts}
-use Rattle.listing.proofs.Putting.{puts-nothing, bytes-again, bytes-done}
-use Rattle.listing.proofs.text.put_bytes.Statement.{statement}
-use Rattle.listing.proofs.text.put_bytes.Tie as tie
+use Rattle.program_text.specs.Inner.Putting.{Puts}
+use Rattle.program_text.proofs.Putting.{puts-nothing, bytes-again, bytes-done}
+use Rattle.program_text.proofs.text.put_bytes.Statement.{statement}
+use Rattle.program_text.proofs.text.put_bytes.Tie as tie
 
 abbrev Inv-loop : tie.InvT-loop
 Inv-loop bytes text₀ at end₀ i₀ text end i = ((i ≤ length bytes) × ((end ≡ at + i) × (length text ≡ length text₀))) × Puts (take i bytes) text₀ text at end

@@ -8,8 +8,8 @@ use lib.ListN.{length, take, set, getD, replicate, length-set, length-append, le
 use lib.Seq.{take-suc, take-all, take-set-le, getD-set-same}
 use Rattle.format_fields.specs.Lists.{concatMap}
 use Rattle.format_fields.proofs.Codec.{concat-append}
-use Rattle.listing.specs.Text.{capital, pairOf, decimal, marked}
-use Rattle.listing.specs.Inner.Putting.{Puts}
+use Rattle.program_text.specs.Text.{capital, pairOf, decimal, marked, firstLine}
+use Rattle.program_text.specs.Inner.Putting.{Puts}
 
 -- The length of a buffer of zeros, without counting them.
 pub zeros : (n : ℕ) → n ≡ length {A = ℕ} (replicate n 0)
@@ -85,3 +85,8 @@ module _ (f : ℕ → List ℕ) (b o o′ : List ℕ) (p q i : ℕ) (x : Puts (c
 pub puts-marked : (n m : ℕ) (o o′ o″ : List ℕ) (p q r : ℕ) → Puts (decimal n) o o′ p q → Puts (m ∷ []) o′ o″ q r → Puts (marked n m) o o″ p r
 unfolding marked
 puts-marked n m o o′ o″ p q r x y = puts-then (decimal n) (m ∷ []) o o′ o″ p q r x y
+
+-- `put_first`
+pub puts-first : (word : List ℕ) (n : ℕ) (o o′ o″ : List ℕ) (p q r : ℕ) → Puts word o o′ p q → Puts (marked n 10) o′ o″ q r → Puts (firstLine word n) o o″ p r
+unfolding firstLine
+puts-first word n o o′ o″ p q r x y = puts-then word (marked n 10) o o′ o″ p q r x y

@@ -8,8 +8,8 @@ use lib.Dec.{ltb, leb}
 use borrow.Author.Tests.{ltb-true, ltb-false, leb-true, leb-false}
 use Rattle.io.specs.Digits.{digits, Fewest}
 use Rattle.format_fields.proofs.Truth.{by-test}
-use Rattle.listing.specs.Text.{width, decimal}
-use Rattle.listing.specs.Inner.Putting.{Puts}
+use Rattle.program_text.specs.Text.{width, decimal}
+use Rattle.program_text.specs.Inner.Putting.{Puts}
 
 -- The fewest digits of a number below a power are no more than its exponent.
 most : (n k j : ℕ) → 1 ≤ j → n < 10 ^ j → Fewest 10 1 n k → k ≤ j

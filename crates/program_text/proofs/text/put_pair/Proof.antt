@@ -1,8 +1,8 @@
 use borrow.Author.Needs.{needs}
 use native.Mathlib.Omega.{arith}
-use Rattle.listing.proofs.Putting.{puts-pair}
-use Rattle.listing.proofs.text.put_pair.Statement.{statement}
-use Rattle.listing.proofs.text.put_pair.Tie as tie
+use Rattle.program_text.proofs.Putting.{puts-pair}
+use Rattle.program_text.proofs.text.put_pair.Statement.{statement}
+use Rattle.program_text.proofs.text.put_pair.Tie as tie
 
 put-requires-2 : tie.Need-put-requires-2
 put-requires-2 c κs = omega (arith, c .before .before .before .before .put .ensures .end, c .before .before .before .before .put .ensures .long)

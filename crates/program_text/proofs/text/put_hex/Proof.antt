@@ -4,11 +4,11 @@ use mathlib.Core.Path.{_≡_}
 use native.Mathlib.Omega.{arith}
 use lib.ListN.{length, take}
 use Rattle.format_fields.specs.Lists.{concatMap}
-use Rattle.listing.specs.Text.{pairOf}
-use Rattle.listing.specs.Inner.Putting.{Puts}
-use Rattle.listing.proofs.Putting.{puts-nothing, each-again, each-done}
-use Rattle.listing.proofs.text.put_hex.Statement.{statement}
-use Rattle.listing.proofs.text.put_hex.Tie as tie
+use Rattle.program_text.specs.Text.{pairOf}
+use Rattle.program_text.specs.Inner.Putting.{Puts}
+use Rattle.program_text.proofs.Putting.{puts-nothing, each-again, each-done}
+use Rattle.program_text.proofs.text.put_hex.Statement.{statement}
+use Rattle.program_text.proofs.text.put_hex.Tie as tie
 
 abbrev Inv-loop : tie.InvT-loop
 Inv-loop bytes text₀ at end₀ i₀ text end i = ((i ≤ length bytes) × ((end ≡ at + 2 * i) × (length text ≡ length text₀))) × Puts (concatMap pairOf (take i bytes)) text₀ text at end
