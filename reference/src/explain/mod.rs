@@ -25,7 +25,8 @@ pub(crate) use pack::pack_parts;
 pub(crate) use piece::{Piece, Spot};
 pub(crate) use table::table_spots;
 pub(crate) use term::{read_term, Sign};
-pub(crate) use translation::translation_pieces;
+pub(crate) use translation::{decoded, translation_pieces};
+pub(crate) use tree::{known_root, place_name};
 
 /// Why an input is refused, and where.
 #[derive(Clone, Debug, PartialEq, Eq)]

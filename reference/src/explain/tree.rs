@@ -118,7 +118,7 @@ impl Reader<'_> {
             return self.fault(Refusal::Tree, format!("the tree ends where kind {kind} is needed"));
         };
         let Some(place) = self.grammar.place(kind, name) else {
-            return self.fault(Refusal::Tree, format!("there is no production {kind}.{name}"));
+            return self.fault(Refusal::Tree, self.grammar.no_production(kind, name.into()));
         };
         self.at += 1;
         self.read_arguments(self.grammar.production(place).arguments(), levels - 1)

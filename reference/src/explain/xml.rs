@@ -91,7 +91,7 @@ impl Reader<'_> {
             return self.fault(
                 Refusal::Text,
                 start,
-                format!("there is no production {kind}.{name}"),
+                self.grammar.no_production(kind, name),
             );
         };
         self.expect(">")?;
