@@ -4,8 +4,8 @@
 use crate::body::{MAPPING_TAG, NUMBERED_CLAUSE_TAG, NUMBERED_MAPPING_TAG};
 use crate::code::Symbol;
 use crate::explain::{
-    self, language_entry, pack_parts, read_term, table_spots, translation_pieces, Fault, Piece,
-    Sign, Spot,
+    self, card_kinds, language_entry, pack_parts, read_term, table_spots, translation_pieces,
+    Fault, Piece, Sign, Spot,
 };
 use crate::field::two_bytes;
 use crate::grammar::Grammar;
@@ -142,6 +142,15 @@ fn load(spot: &Spot) -> String {
         spot.contents[2..].chunks_exact(2).map(|two| signed(two).to_string()).collect();
     let (constant, factors) = (&figures[0], figures[1..].join(" "));
     format!("{}: constant {constant}, factors ({factors})", spot.name())
+}
+
+/// A card in words, whether or not its kinds rise.
+pub fn card(bytes: &[u8]) -> Result<String, Fault> {
+    let kinds = card_kinds(bytes)?;
+    let mut lines = Lines::default();
+    lines.title(0, "card", bytes.len());
+    kinds.iter().for_each(|kind| lines.add(1, &format!("kind {kind}")));
+    Ok(lines.text)
 }
 
 /// A pack in words.

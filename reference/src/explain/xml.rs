@@ -1,6 +1,7 @@
 //! Faults of exports, and of texts that are imported.
 
-use super::tree::{check, known_root, place_name};
+use super::nodes::place_name;
+use super::tree::{check, known_root};
 use super::{language, translation, Fault, Piece};
 use crate::grammar::Grammar;
 use crate::language::Class;
