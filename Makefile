@@ -12,7 +12,7 @@ BUILT_ARCHIVE := $(if $(ALGEBRA_LIB_DIR),,$(CURDIR)/target/staticlib/libalgebra.
 ALGEBRA_LIB_DIR ?= target/staticlib
 export ALGEBRA_LIB_DIR := $(abspath $(ALGEBRA_LIB_DIR))
 ARCHIVE := $(ALGEBRA_LIB_DIR)/libalgebra.a
-COMMAND := client/command/target/release/algebra
+COMMAND := target/release/algebra
 SHARED := target/lib/$(SONAME)
 PROVED := crates.txt $(shell find crates -name '*.rt' -o -name '*.antt')
 

@@ -315,7 +315,8 @@ mod tests {
     fn sentences_have_words_beside_numbers() {
         let names = names("1 block\n2 minutes\n1.4 twice");
         let spoken = names.speak("production 1.4 of kind 1, path 1.4, and class 2: 1 to 240.");
-        let words = "production 1.4 (twice) of kind 1 (block), path 1.4, and class 2 (minutes): 1 to 240.";
+        let words =
+            "production 1.4 (twice) of kind 1 (block), path 1.4, and class 2 (minutes): 1 to 240.";
         assert_eq!(spoken, words);
         assert_eq!(names.speak("kind 3 and clause 1.4.2\n"), "kind 3 and clause 1.4.2 (twice)\n");
     }

@@ -3,45 +3,20 @@
 use algebra::Refusal;
 use reference::explain::Fault;
 
-/// A fault that was found: the number that it comes to, and the lines that tell where and what.
-#[derive(Clone, Debug, PartialEq, Eq)]
-pub struct Finding {
-    pub number: u32,
-    lines: String,
-}
-
-impl Finding {
-    /// A fault at a place.
-    pub fn new(refusal: Refusal, place: &str, what: &str) -> Finding {
-        Finding { number: refusal.number(), lines: format!("where: {place}\nfault: {what}\n") }
-    }
-
-    /// The refusal, by its number.
-    pub fn refusal(&self) -> Refusal {
-        Refusal::try_from(self.number).expect("both implementations have the same numbers")
-    }
-
-    /// The lines that tell where and what.
-    pub fn lines(&self) -> &str {
-        &self.lines
-    }
-}
-
-impl From<Fault> for Finding {
-    fn from(fault: Fault) -> Finding {
-        Finding { number: fault.reason as u32, lines: format!("{fault}\n") }
-    }
-}
-
 /// The lines of an explanation, with a note if both implementations do not answer alike.
-pub fn explanation(answer: Result<(), Refusal>, finding: Option<&Finding>) -> String {
+pub fn explanation(answer: Result<(), Refusal>, fault: Option<&Fault>) -> String {
     let number = answer.err().map_or(0, Refusal::number);
-    let found = finding.map_or(0, |finding| finding.number);
-    let lines = finding.map_or("", |finding| &finding.lines);
+    let found = fault.map_or(0, |fault| fault.reason as u32);
+    let lines = fault.map_or(String::new(), |fault| format!("{fault}\n"));
     if number == found {
-        return lines.to_string();
+        return lines;
     }
     format!("note: the second implementation answers {found}, not {number}\n{lines}")
+}
+
+/// The refusal of a fault, by its number.
+pub fn refusal(fault: &Fault) -> Refusal {
+    Refusal::try_from(fault.reason as u32).expect("both implementations have the same numbers")
 }
 
 #[cfg(test)]
@@ -50,14 +25,14 @@ mod tests {
 
     #[test]
     fn a_different_number_is_told() {
-        let finding = reference::explain::language(&[1]).map(Finding::from);
-        let finding = finding.as_ref();
-        let lines = explanation(Err(Refusal::BrokenField), finding);
+        let fault = reference::explain::language(&[1]);
+        let fault = fault.as_ref();
+        let lines = explanation(Err(Refusal::BrokenField), fault);
         assert!(lines.starts_with("where: byte 0 of the language\nfault: "), "{lines}");
         let note = "note: the second implementation answers 2, not 0\nwhere: ";
-        assert!(explanation(Ok(()), finding).starts_with(note));
+        assert!(explanation(Ok(()), fault).starts_with(note));
         let note = "note: the second implementation answers 2, not 3\nwhere: ";
-        assert!(explanation(Err(Refusal::OutOfOrder), finding).starts_with(note));
+        assert!(explanation(Err(Refusal::OutOfOrder), fault).starts_with(note));
         let note = "note: the second implementation answers 0, not 3\n";
         assert_eq!(explanation(Err(Refusal::OutOfOrder), None), note);
         assert_eq!(explanation(Ok(()), None), "");

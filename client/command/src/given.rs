@@ -50,6 +50,11 @@ impl From<Block<'_>> for Given {
 }
 
 impl Given {
+    /// What a check gives.
+    pub fn nothing() -> Given {
+        Given::Bytes(vec![])
+    }
+
     /// The figure of the first line: a score or two, or the length of the result.
     pub fn figure(&self) -> Figure {
         match self {

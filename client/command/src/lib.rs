@@ -2,20 +2,19 @@
 #![forbid(unsafe_code)]
 
 mod arguments;
-mod card;
-mod edits;
 mod explanation;
 mod given;
-mod grammar;
 mod help;
 mod index_job;
 mod input;
 mod job;
-mod loose;
+mod options;
 mod output;
-mod reading;
+mod rows;
 mod search_job;
 mod steps;
+mod suggest;
+mod table;
 mod tree_job;
 mod verbs;
 mod work;

@@ -1,25 +1,25 @@
 //! What each verb prints.
 
-use crate::arguments::{misuse, Call, Sort, Verb};
-use crate::explanation::{explanation, Finding};
+use crate::arguments::Call;
+use crate::explanation::{explanation, refusal};
 use crate::given::{Figure, Given};
-use crate::job::{operand, root, sort_of, tree, Job};
+use crate::job::{operand, root, sort_of, tree, Load};
+use crate::options::Sort;
 use crate::output::write_file;
+use crate::table::{Act, Verb};
 use crate::work::work;
-use crate::{card, steps, Failure, Printed, Streams, ACCEPTED, REFUSED};
+use crate::{job, Failure, Printed, Streams, ACCEPTED, REFUSED};
 use algebra::{Refusal, LANGUAGE_BYTES, PACK_BYTES};
+use reference::explain::Fault;
 use reference::listing::clause_lines;
 use reference::show;
 use std::fmt::Display;
 
 /// Carries out a call.
 pub fn carry_out(call: &Call, streams: &mut Streams) -> Result<Printed, Failure> {
-    match call.verb {
-        Verb::List => list(call, streams),
-        Verb::Show => show(call, streams),
-        Verb::Explain => explain(call, streams),
-        Verb::Steps => steps::steps(call, streams),
-        verb => operate(verb, call, streams),
+    match call.verb.act {
+        Act::Operation(load) => operate(load, call, streams),
+        Act::Other(act) => act(call, streams),
     }
 }
 
@@ -44,9 +44,9 @@ fn figure(answer: &Result<Given, Refusal>) -> Result<Figure, Refusal> {
 }
 
 /// Calls the library, and prints or writes the result.
-fn operate(verb: Verb, call: &Call, streams: &mut Streams) -> Result<Printed, Failure> {
-    let job = Job::load(verb, call, streams)?;
-    let answer = work(job.tree_length(), streams, || job.answer())?;
+fn operate(load: Load, call: &Call, streams: &mut Streams) -> Result<Printed, Failure> {
+    let job = load(call, streams)?;
+    let answer = work(job.length(), streams, || job.answer())?;
     let first = figure(&answer);
     let Ok(given) = answer else { return Ok(printed(first, "")) };
     let (figures, hexadecimal) = (given.figures(), call.options.hexadecimal);
@@ -66,8 +66,8 @@ fn operate(verb: Verb, call: &Call, streams: &mut Streams) -> Result<Printed, Fa
 }
 
 /// Prints what the listing program prints.
-fn list(call: &Call, streams: &mut Streams) -> Result<Printed, Failure> {
-    let job = Job::load(Verb::List, call, streams)?;
+pub fn list(call: &Call, streams: &mut Streams) -> Result<Printed, Failure> {
+    let job = job::load_reduce(call, streams)?;
     Ok(match work(0, streams, || job.answer())? {
         Ok(given) => printed(Ok(given.figure()), &clause_lines(given.bytes())),
         Err(refusal) => {
@@ -78,25 +78,28 @@ fn list(call: &Call, streams: &mut Streams) -> Result<Printed, Failure> {
 }
 
 /// Prints the answer of an operation, and where the fault is.
-fn explain(call: &Call, streams: &mut Streams) -> Result<Printed, Failure> {
-    let job = Job::load(call.explained.unwrap_or(call.verb), call, streams)?;
+pub fn explain(call: &Call, streams: &mut Streams) -> Result<Printed, Failure> {
+    let verb = Verb::named(&call.operands[0]);
+    let Some((verb, load)) = verb.and_then(|verb| Some((verb, verb.load()?))) else {
+        return Err(call.misuse("a verb that can be explained is needed"));
+    };
+    let job = load(&call.of(verb)?, streams)?;
     let task = || (figure(&job.answer()), job.fault());
-    let (answer, fault) = work(job.tree_length(), streams, task)?;
+    let (answer, fault) = work(job.length(), streams, task)?;
     Ok(printed(answer, &explanation(answer.map(|_| ()), fault.as_ref())))
 }
 
 /// Prints a file or a tree in words.
-fn show(call: &Call, streams: &mut Streams) -> Result<Printed, Failure> {
+pub fn show(call: &Call, streams: &mut Streams) -> Result<Printed, Failure> {
     if call.operands.len() == 1 {
         return show_file(call, streams);
     }
     if call.options.sort.is_some() {
-        return Err(misuse(Some(Verb::Show), "--as does not go with a tree"));
+        return Err(call.misuse("--as does not go with a tree"));
     }
     let (root, language) = (root(call)?, operand(call, 0, LANGUAGE_BYTES, streams)?);
     let tree = tree(call, streams)?;
-    let task = || show::tree(&language, root, &tree).map_err(Finding::from);
-    work(tree.len(), streams, task).map(shown)
+    work(tree.len(), streams, || show::tree(&language, root, &tree)).map(shown)
 }
 
 /// Prints a file in words.
@@ -105,22 +108,22 @@ fn show_file(call: &Call, streams: &mut Streams) -> Result<Printed, Failure> {
     let Some(sort) = call.options.sort.or(sort_of(&file)) else {
         let name = call.operands[0].display();
         let what = format!("{name}: the first byte does not tell what the file is");
-        return Err(misuse(Some(Verb::Show), &what));
+        return Err(call.misuse(&what));
     };
     let task = || match sort {
-        Sort::Language => show::language(&file).map_err(Finding::from),
-        Sort::Translation => show::translation(&file).map_err(Finding::from),
-        Sort::Pack => show::pack(&file).map_err(Finding::from),
-        Sort::Table => show::table(&file).map_err(Finding::from),
-        Sort::Card => card::shown(&file),
+        Sort::Language => show::language(&file),
+        Sort::Translation => show::translation(&file),
+        Sort::Pack => show::pack(&file),
+        Sort::Table => show::table(&file),
+        Sort::Card => show::card(&file),
     };
     work(0, streams, task).map(shown)
 }
 
 /// What is printed for something that can be shown, or not.
-fn shown(text: Result<String, Finding>) -> Printed {
+fn shown(text: Result<String, Fault>) -> Printed {
     match text {
         Ok(text) => Printed { output: text.into(), messages: String::new(), status: ACCEPTED },
-        Err(finding) => printed(Err::<usize, _>(finding.refusal()), finding.lines()),
+        Err(fault) => printed(Err::<usize, _>(refusal(&fault)), &format!("{fault}\n")),
     }
 }

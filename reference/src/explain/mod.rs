@@ -1,11 +1,14 @@
 //! Where an input is at fault. Each function looks for what its operation refuses, number by
 //! number, and gives the first place at which it stands; `None` means accepted.
 
-mod block;
 mod body;
+mod card;
 mod code;
 mod differences;
+mod edit;
 mod language;
+mod loose;
+mod nodes;
 mod pack;
 mod piece;
 mod score;
@@ -20,13 +23,17 @@ mod xml;
 use crate::outcome::Refusal;
 use std::fmt;
 
+pub use edit::Indexed;
+
+pub(crate) use card::card_kinds;
 pub(crate) use language::language_entry;
+pub(crate) use nodes::place_name;
 pub(crate) use pack::pack_parts;
 pub(crate) use piece::{Piece, Spot};
 pub(crate) use table::table_spots;
 pub(crate) use term::{read_term, Sign};
 pub(crate) use translation::{decoded, translation_pieces};
-pub(crate) use tree::{known_root, place_name};
+pub(crate) use tree::known_root;
 
 /// Why an input is refused, and where.
 #[derive(Clone, Debug, PartialEq, Eq)]
@@ -104,9 +111,30 @@ pub fn import(language: &[u8], root: u32, text: &[u8], output: usize) -> Option<
     xml::check_import(language, root, text, output).err()
 }
 
-/// Looks for a fault of a language, a root, a tree, its index and a path.
-pub fn block(language: &[u8], root: u32, tree: &[u8], index: &[u8], path: &[u8]) -> Option<Fault> {
-    block::check(language, root, tree, index, path).err()
+/// Looks for a fault of a language, a load table, a root and a loose plan, and of its scores.
+pub fn score_loose(language: &[u8], root: u32, plan: &[u8], table: &[u8]) -> Option<Fault> {
+    loose::check(language, root, plan, table).err()
+}
+
+/// Looks for a fault of a tree, and of the length of an output for its index.
+pub fn index(indexed: &Indexed, output: usize) -> Option<Fault> {
+    indexed.check_index(output).err()
+}
+
+/// Looks for a fault of a tree, its index and a path.
+pub fn block(indexed: &Indexed, path: &[u8]) -> Option<Fault> {
+    indexed.check_block(path).err()
+}
+
+/// Looks for a fault of an edit, with outputs of so many bytes each.
+pub fn edit(indexed: &Indexed, path: &[u8], block: &[u8], output: usize) -> Option<Fault> {
+    indexed.check_edit(path, block, output).err()
+}
+
+/// Looks for a fault of a language, a root, a card and a tree, and of the length of an output for
+/// the masked plan.
+pub fn mask(language: &[u8], root: u32, card: &[u8], tree: &[u8], output: usize) -> Option<Fault> {
+    card::check_mask(language, root, card, tree, output).err()
 }
 
 /// Looks for a fault of a translation, a root of its source, a tree of its target and a limit of

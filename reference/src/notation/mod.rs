@@ -11,12 +11,13 @@ pub use layout::Nested;
 pub use read::assemble;
 pub use tokens::Misread;
 
-use crate::card::read_card_fields;
-use crate::explain::Fault;
+pub(crate) use code::between as shapes_in_pack;
+
+use crate::explain::{card_kinds, Fault, Piece};
 use crate::index::ENTRY_BYTES;
 use crate::language::Kinds;
 use crate::names::Names;
-use crate::nodes::{read as read_nodes, Form, Node};
+use crate::plans::{self, Form, Node};
 use write::Lines;
 
 /// The letters for the arguments of a clause.
@@ -44,7 +45,7 @@ pub fn dump(source: Source, names: &Names) -> Result<String, Fault> {
         Source::Card(file) => card(file, names),
         Source::Index(file) => Ok(index(file)),
         Source::Plan { language, root, plan, form } => {
-            let node = read_nodes(language, root, plan, form)?;
+            let node = plans::read(language, root, plan, form)?;
             Ok(plan_text(&node, form, names))
         }
     }
@@ -67,9 +68,15 @@ pub fn node_line(node: &Node, names: &Names) -> String {
     write::node_text(node, names).line()
 }
 
+/// What a source and a target tell of their productions.
+pub(crate) fn shapes(source: &Piece, target: &Piece) -> write::Between {
+    let shapes = |piece: &Piece| code::Shapes::of(&[piece]);
+    write::Between { source: shapes(source), target: shapes(target) }
+}
+
 /// A card in the notation, whether or not its kinds rise.
 fn card(bytes: &[u8], names: &Names) -> Result<String, Fault> {
-    let kinds = read_card_fields(bytes)?;
+    let kinds = card_kinds(bytes)?;
     let mut lines = Lines::new("card", names);
     kinds.iter().for_each(|kind| lines.add(1, &format!("kind {}", names.kind(*kind))));
     Ok(lines.text)
@@ -93,6 +100,6 @@ fn index(bytes: &[u8]) -> String {
 
 /// The kinds that a card shows, whether or not they rise.
 pub fn seen(card: &[u8]) -> Result<Kinds, Fault> {
-    let kinds = read_card_fields(card)?;
+    let kinds = card_kinds(card)?;
     Ok(kinds.iter().fold(0, |seen, &kind| seen | crate::language::bit(kind)))
 }

@@ -119,7 +119,8 @@ impl Reader<'_> {
     fn number(&mut self, name: &str, least: i64, most: i64) -> Read<i64> {
         let number = self.atom().and_then(|text| text.parse::<i64>().ok());
         let inside = number.filter(|number| (least..=most).contains(number));
-        let number = inside.ok_or_else(|| self.expected(&format!("{name} from {least} to {most}")))?;
+        let number =
+            inside.ok_or_else(|| self.expected(&format!("{name} from {least} to {most}")))?;
         self.step();
         Ok(number)
     }
@@ -176,6 +177,15 @@ impl Reader<'_> {
                 Err(self.expected("a production such as 1.4, or its word"))
             }
         }
+    }
+
+    /// Refuses a production, which stood at a place, whose result is no kind.
+    fn check_result(&mut self, result: u8, start: usize) -> Read<()> {
+        if usize::from(result) < KINDS {
+            return Ok(());
+        }
+        self.at = start;
+        Err(self.expected("a production of a kind from 0 to 31"))
     }
 
     /// Bytes of two digits each.
@@ -257,7 +267,9 @@ impl Reader<'_> {
     /// A production of a language.
     fn language_production(&mut self) -> Read<Vec<u8>> {
         self.step();
+        let start = self.at;
         let mut contents = self.known_production()?.to_vec();
+        self.check_result(contents[0], start)?;
         self.mark('(')?;
         while !self.skip_mark(')') {
             if contents.len() == 10 {
@@ -320,10 +332,7 @@ impl Reader<'_> {
             self.at = start;
             return Err(self.expected("a production such as 1.4, or its word"));
         };
-        if usize::from(result) >= KINDS {
-            self.at = start;
-            return Err(self.expected("a production of a kind from 0 to 31"));
-        }
+        self.check_result(result, start)?;
         self.letters.clear();
         if self.skip_mark('(') {
             self.read_letters()?;
@@ -409,10 +418,9 @@ impl Reader<'_> {
 
     /// Steps over a comma, unless the brackets close here.
     fn comma(&mut self) -> Read<()> {
-        match self.peek() {
-            Token::Mark(')') => Ok(()),
-            _ if self.skip_mark(',') => Ok(()),
-            _ => Err(self.expected(", or )")),
+        match *self.peek() == Token::Mark(')') || self.skip_mark(',') {
+            true => Ok(()),
+            false => Err(self.expected(", or )")),
         }
     }
 
@@ -645,8 +653,7 @@ fn numbered_production(text: &str) -> Option<(Option<u8>, u8, u8)> {
     };
     let name = digits(parts.next()?)?;
     let number = parts.next().map_or(Some(0), |text| digits(text).filter(|number| *number != 0))?;
-    let known = kind.is_none_or(|kind| usize::from(kind) < KINDS);
-    (known && parts.next().is_none()).then_some((kind, name, number))
+    parts.next().is_none().then_some((kind, name, number))
 }
 
 /// A word with a number other than 0 behind a point.

@@ -10,7 +10,7 @@ use crate::explain::{
 use crate::field::two_bytes;
 use crate::language::{CLASS_TAG, LANGUAGE_LIMIT, PRODUCTION_TAG};
 use crate::names::Names;
-use crate::nodes::{Node, Sort};
+use crate::plans::{Node, Sort};
 use crate::score::signed;
 
 /// Bytes as two digits each, with spaces between them.
@@ -54,7 +54,13 @@ pub struct Between {
 }
 
 /// The line of a field of a body; a long code goes on below it, behind so much indentation.
-pub fn body_line(spot: &Spot, body: &[Spot], between: &Between, names: &Names, indent: usize) -> String {
+pub fn body_line(
+    spot: &Spot,
+    body: &[Spot],
+    between: &Between,
+    names: &Names,
+    indent: usize,
+) -> String {
     match (spot.tag, spot.contents) {
         (MAPPING_TAG, [source, target]) => {
             format!("mapping {} to {}", names.kind(*source), names.kind(*target))
@@ -216,8 +222,7 @@ pub fn translation(bytes: &[u8], names: &Names) -> Result<String, Fault> {
         lines.add(1, name);
         lines.language(2, piece);
     }
-    let shapes = |piece: &Piece| Shapes::of(&[piece]);
-    let between = Between { source: shapes(&pieces.source), target: shapes(&pieces.target) };
+    let between = super::shapes(&pieces.source, &pieces.target);
     lines.add(1, "body");
     lines.body(2, &pieces.body, &between);
     Ok(lines.text)

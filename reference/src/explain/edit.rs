@@ -1,13 +1,16 @@
-//! Where an index, a path or an edit is at fault.
+//! Faults of an index, of a path to a block, and of an edit.
 
-use crate::card;
-use crate::explanation::Finding;
-use crate::grammar::{two_bytes, Grammar};
-use crate::reading::{arguments, path_to, place_name, Node, Reader};
-use algebra::{Refusal, ENTRY_BYTES, INDEXED_BYTES, TREE_LEVELS};
-use reference::explain;
+use super::nodes::{arguments, path_to, place_name, Node, Reader};
+use super::{card, translation, tree, Fault, Piece};
+use crate::field::two_bytes;
+use crate::grammar::Grammar;
+use crate::index::{ENTRY_BYTES, INDEXED_BYTES};
+use crate::language::{bit, Language};
+use crate::outcome::Refusal;
+use crate::tree::TREE_LEVELS;
 
 /// A tree with its index, and the card of the one who looks at it, if they are given.
+#[derive(Clone, Copy, Debug)]
 pub struct Indexed<'a> {
     pub language: &'a [u8],
     pub root: u32,
@@ -16,34 +19,30 @@ pub struct Indexed<'a> {
     pub card: Option<&'a [u8]>,
 }
 
-/// A tree that was read: its grammar, and its nodes in reading order.
+/// A tree that was read: its language, and its nodes in reading order.
 struct Read {
-    grammar: Grammar,
+    language: Language,
     nodes: Vec<Node>,
 }
 
 impl Indexed<'_> {
     /// Looks for a fault of a tree, and of the length of an output for its index.
-    pub fn index_fault(&self, output: usize) -> Option<Finding> {
-        let read = self.read();
-        read.and_then(|read| fits("index", ENTRY_BYTES * read.nodes.len(), output)).err()
+    pub fn check_index(&self, output: usize) -> Result<(), Fault> {
+        let nodes = self.read()?.nodes;
+        fits("index", ENTRY_BYTES * nodes.len(), output)
     }
 
     /// Looks for a fault of a tree, its index and a path.
-    pub fn block_fault(&self, path: &[u8]) -> Option<Finding> {
-        self.read().and_then(|read| self.find(&read, path)).err()
+    pub fn check_block(&self, path: &[u8]) -> Result<(), Fault> {
+        self.find(&self.read()?, path).map(|_| ())
     }
 
     /// Looks for a fault of an edit, with outputs of so many bytes each.
-    pub fn edit_fault(&self, path: &[u8], block: &[u8], output: usize) -> Option<Finding> {
-        self.check_edit(path, block, output).err()
-    }
-
-    /// The tests of an edit in order.
-    fn check_edit(&self, path: &[u8], block: &[u8], output: usize) -> Result<(), Finding> {
+    pub fn check_edit(&self, path: &[u8], block: &[u8], output: usize) -> Result<(), Fault> {
         let read = self.read()?;
         let old = &read.nodes[self.find(&read, path)?];
-        let reader = Reader { grammar: &read.grammar, input: "block", bytes: block, values: 1 };
+        let grammar = Grammar::new(&read.language);
+        let reader = Reader::new(&grammar, "block", block, 1);
         let new = reader.nodes(old.kind, TREE_LEVELS - path.len())?;
         let length = self.tree.len() - old.length + block.len();
         check_length("new plan", length)?;
@@ -54,25 +53,24 @@ impl Indexed<'_> {
     }
 
     /// Reads the tree, which must be legal and short enough, and compares its index.
-    fn read(&self) -> Result<Read, Finding> {
+    fn read(&self) -> Result<Read, Fault> {
         if let Some(card) = self.card {
             card::check_with_language(self.language, card)?;
         }
-        if let Some(fault) = explain::tree(self.language, self.root, self.tree) {
-            return Err(fault.into());
-        }
+        tree::check(self.language, self.root, self.tree)?;
         check_length("tree", self.tree.len())?;
-        let grammar = Grammar::new(self.language);
-        let reader = Reader { grammar: &grammar, input: "tree", bytes: self.tree, values: 1 };
+        let language = translation::decoded(&Piece::whole("language", self.language))?;
+        let grammar = Grammar::new(&language);
+        let reader = Reader::new(&grammar, "tree", self.tree, 1);
         let nodes = reader.nodes(self.root as u8, TREE_LEVELS)?;
         if let Some(index) = self.index {
             check_index(&nodes, index)?;
         }
-        Ok(Read { grammar, nodes })
+        Ok(Read { language, nodes })
     }
 
     /// The place of the node to which a path leads.
-    fn find(&self, read: &Read, path: &[u8]) -> Result<usize, Finding> {
+    fn find(&self, read: &Read, path: &[u8]) -> Result<usize, Fault> {
         let mut place = 0;
         self.check_shown(&read.nodes[place], &[])?;
         for (at, &number) in path.iter().enumerate() {
@@ -85,30 +83,30 @@ impl Indexed<'_> {
     }
 
     /// The node to which a path leads must be shown by the card, if there is one.
-    fn check_shown(&self, node: &Node, path: &[u8]) -> Result<(), Finding> {
+    fn check_shown(&self, node: &Node, path: &[u8]) -> Result<(), Fault> {
         match self.card {
-            Some(card) if !card::shows(card, node.kind) => {
+            Some(card) if card::kinds(card) & bit(node.kind) == 0 => {
                 let what = format!("the block there is of kind {}, which is hidden", node.kind);
-                let place = format!("the path, {}", behind(path));
-                Err(Finding::new(Refusal::Hidden, &place, &what))
+                let piece = Piece::whole("path", path).named(behind(path));
+                Err(piece.fault_somewhere(Refusal::Hidden, what))
             }
             _ => Ok(()),
         }
     }
 
     /// The fault of the path number at a place: the node that has so many arguments and not this.
-    fn no_block(&self, read: &Read, node: usize, path: &[u8], at: usize, count: usize) -> Finding {
-        let (Node { kind, start, .. }, number) = (&read.nodes[node], path[at]);
-        let what = match (read.grammar.class(*kind), number) {
+    fn no_block(&self, read: &Read, node: usize, path: &[u8], at: usize, count: usize) -> Fault {
+        let (Node { kind, start, .. }, number) = (read.nodes[node], path[at]);
+        let is_class = read.language.class_kinds() & bit(kind) != 0;
+        let what = match (is_class, number) {
             (_, 0) => "the number is 0, and arguments count from 1".to_string(),
-            (Some(_), _) => format!("a token of class {kind} has no argument {number}"),
-            (None, _) => {
-                let name = self.tree[*start];
+            (true, _) => format!("a token of class {kind} has no argument {number}"),
+            (false, _) => {
+                let name = self.tree[start];
                 format!("production {kind}.{name} has no argument {number}: it has {count}")
             }
         };
-        let place = format!("byte {at} of the path, {}", behind(&path[..at]));
-        Finding::new(Refusal::NoBlock, &place, &what)
+        Piece::whole("path", path).named(behind(&path[..at])).fault(Refusal::Path, at, what)
     }
 }
 
@@ -122,25 +120,25 @@ fn behind(path: &[u8]) -> String {
 }
 
 /// A tree of so many bytes must be short enough for an index.
-fn check_length(name: &str, length: usize) -> Result<(), Finding> {
+fn check_length(name: &'static str, length: usize) -> Result<(), Fault> {
     if length <= INDEXED_BYTES {
         return Ok(());
     }
     let what = format!("it has {length} bytes, more than {INDEXED_BYTES}");
-    Err(Finding::new(Refusal::NotIndexed, &format!("the {name}"), &what))
+    Err(Piece::whole(name, &[]).fault_somewhere(Refusal::Index, what))
 }
 
 /// A result of so many bytes must fit the output.
-fn fits(name: &str, length: usize, output: usize) -> Result<(), Finding> {
+fn fits(name: &str, length: usize, output: usize) -> Result<(), Fault> {
     if length <= output {
         return Ok(());
     }
     let what = format!("its length is {output}, and that of the {name} {length}");
-    Err(Finding::new(Refusal::OutputTooShort, "the output", &what))
+    Err(Piece::whole("output", &[]).fault_somewhere(Refusal::Output, what))
 }
 
 /// Compares an index with the nodes of its tree, entry by entry.
-fn check_index(nodes: &[Node], index: &[u8]) -> Result<(), Finding> {
+fn check_index(nodes: &[Node], index: &[u8]) -> Result<(), Fault> {
     let entries = index.chunks(ENTRY_BYTES);
     let wrong = entries.zip(nodes).position(|(entry, node)| {
         entry.len() < ENTRY_BYTES
@@ -154,15 +152,13 @@ fn check_index(nodes: &[Node], index: &[u8]) -> Result<(), Finding> {
     if index.len() == own {
         return Ok(());
     }
-    let place = format!("byte {} of the index", index.len().min(own));
     let what = format!("it has {} bytes, and that of the tree has {own}", index.len());
-    Err(Finding::new(Refusal::NotIndexed, &place, &what))
+    Err(Piece::whole("index", index).fault(Refusal::Index, index.len().min(own), what))
 }
 
 /// The fault of an entry that is not that of its node.
-fn wrong_entry(nodes: &[Node], index: &[u8], entry: usize) -> Finding {
+fn wrong_entry(nodes: &[Node], index: &[u8], entry: usize) -> Fault {
     let (at, node) = (ENTRY_BYTES * entry, &nodes[entry]);
-    let place = format!("byte {at} of the index, {}", place_name(&path_to(nodes, entry)));
     let told = match index[at..] {
         [a, b, c, d, ..] => {
             format!("it has start {}, length {}", two_bytes(a, b), two_bytes(c, d))
@@ -170,5 +166,6 @@ fn wrong_entry(nodes: &[Node], index: &[u8], entry: usize) -> Finding {
         _ => "the entry is cut off".to_string(),
     };
     let what = format!("{told}; the node has start {}, length {}", node.start, node.length);
-    Finding::new(Refusal::NotIndexed, &place, &what)
+    let place = place_name(&path_to(nodes, entry));
+    Piece::whole("index", index).named(place).fault(Refusal::Index, at, what)
 }
