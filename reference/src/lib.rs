@@ -37,6 +37,7 @@ pub mod files;
 pub mod generate;
 pub mod laws;
 pub mod listing;
+pub mod packing;
 pub mod show;
 pub mod stack;
 pub mod steps;
