@@ -41,7 +41,7 @@ $(BUILT_ARCHIVE): $(PROVED)
 	rt staticlib algebra
 
 command: $(ARCHIVE)
-	cargo build --quiet --release --offline --manifest-path client/command/Cargo.toml
+	cargo build --quiet --release --offline --package algebra-command
 
 examples: $(ARCHIVE)
 	bash examples/write

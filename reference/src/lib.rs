@@ -40,6 +40,7 @@ pub mod listing;
 pub mod names;
 pub mod notation;
 pub mod plans;
+pub mod packing;
 pub mod show;
 pub mod stack;
 pub mod steps;

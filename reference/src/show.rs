@@ -133,6 +133,37 @@ fn translation(bytes: &[u8], names: &Names) -> Result<String, Fault> {
     Ok(lines.text)
 }
 
+/// Where two translations differ: what an entry is called, and the entry as each has it.
+#[derive(Clone, Debug, PartialEq, Eq)]
+pub struct Difference {
+    pub name: String,
+    pub first: Option<String>,
+    pub second: Option<String>,
+}
+
+/// The first mapping or clause in which two translations differ, or else the first entry of their
+/// sources, or of their targets. `None` if they are equal, or cannot be read.
+pub fn difference(first: &[u8], second: &[u8]) -> Option<Difference> {
+    let (one, other) = (translation_pieces(first).ok()?, translation_pieces(second).ok()?);
+    first_difference("", &one.body, &other.body)
+        .or_else(|| first_difference(" of the source", &one.source, &other.source))
+        .or_else(|| first_difference(" of the target", &one.target, &other.target))
+}
+
+/// The first entry, by its key, in which two rows of rising fields differ.
+fn first_difference(within: &str, first: &Piece, second: &Piece) -> Option<Difference> {
+    let (first, second) = (first.spots(), second.spots());
+    let lacks = |spot: &&Spot, others: &[Spot]| {
+        !others.iter().any(|other| (other.tag, other.contents) == (spot.tag, spot.contents))
+    };
+    let one = first.iter().find(|spot| lacks(spot, &second));
+    let other = second.iter().find(|spot| lacks(spot, &first));
+    let spot = [one, other].into_iter().flatten().min_by_key(|spot| spot.key())?;
+    let at = |spots: &[Spot]| spots.iter().find(|found| found.key() == spot.key()).map(entry);
+    let name = format!("{}{within}", spot.name());
+    Some(Difference { name, first: at(&first), second: at(&second) })
+}
+
 /// A load table in words.
 fn table(bytes: &[u8], names: &Names) -> Result<String, Fault> {
     let piece = Piece::whole("table", bytes);

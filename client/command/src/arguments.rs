@@ -48,7 +48,8 @@ fn with_suggestion<'a>(what: &str, word: &str, known: impl Iterator<Item = &'a s
 
 /// Reads the arguments.
 pub fn parse(arguments: &[OsString]) -> Result<Request, Failure> {
-    let mut sorted = sort_out(arguments)?;
+    let verb = arguments.iter().find_map(|word| Verb::named(word));
+    let mut sorted = sort_out(arguments).map_err(|what| misuse(verb, &what))?;
     if sorted.version {
         return Ok(Request::Version);
     }
@@ -87,7 +88,7 @@ fn all_options() -> impl Iterator<Item = &'static Opt> {
 }
 
 /// Sorts the arguments out; only the options that are known say whether a value follows.
-fn sort_out(arguments: &[OsString]) -> Result<Sorted, Failure> {
+fn sort_out(arguments: &[OsString]) -> Result<Sorted, String> {
     let (mut sorted, mut only_words) = (Sorted::default(), false);
     let mut arguments = arguments.iter();
     while let Some(argument) = arguments.next() {
@@ -108,7 +109,7 @@ fn sort_out(arguments: &[OsString]) -> Result<Sorted, Failure> {
 fn option<'a>(
     text: &str,
     rest: &mut impl Iterator<Item = &'a OsString>,
-) -> Result<(String, OsString), Failure> {
+) -> Result<(String, OsString), String> {
     let (name, value) = match text.split_once('=') {
         Some((name, value)) if name.starts_with("--") => (name, Some(OsString::from(value))),
         _ => (text, None),
@@ -116,15 +117,15 @@ fn option<'a>(
     let Some(known) = all_options().find(|option| option.name == name) else {
         let what = format!("{name} is no option");
         let names = all_options().map(|option| option.name).chain(["--help", "--version"]);
-        return Err(misuse(None, &with_suggestion(&what, name, names)));
+        return Err(with_suggestion(&what, name, names));
     };
     let value = match (known.value, value) {
-        (None, Some(_)) => return Err(misuse(None, &format!("{name} takes no value"))),
+        (None, Some(_)) => return Err(format!("{name} takes no value")),
         (None, None) => OsString::new(),
         (Some(_), Some(value)) => value,
         (Some(_), None) => {
             let next = rest.next().cloned();
-            next.ok_or_else(|| misuse(None, &format!("a value must follow {name}")))?
+            next.ok_or_else(|| format!("a value must follow {name}"))?
         }
     };
     Ok((name.to_string(), value))
@@ -187,7 +188,7 @@ impl Call {
 
     /// Says what is wrong with the files that are read and written, if anything.
     fn check_files(&self, form: &[Operand]) -> Result<(), &'static str> {
-        let Options { output, index, new_index, card, .. } = &self.options;
+        let Options { output, index, new_index, card, pack, .. } = &self.options;
         let last = form.len().saturating_sub(1);
         let operands = self.operands.iter().enumerate();
         let files = operands.filter(|(place, _)| matches!(form[(*place).min(last)].is, Is::File));
@@ -198,8 +199,14 @@ impl Call {
         if new_index.as_deref().is_some_and(|name| name == "-") {
             return Err("the new index must be written to a file");
         }
+        if pack.as_deref().is_some_and(|name| name == "-") {
+            return Err("the pack must be written to a file");
+        }
         if same_file(output, new_index) {
             return Err("-o and --new-index are one file");
+        }
+        if same_file(output, pack) {
+            return Err("-o and --pack are one file");
         }
         Ok(())
     }

@@ -3,10 +3,11 @@
 use crate::arguments::{number, Call};
 use crate::given::Given;
 use crate::input::read_file;
-use crate::job::{operand, root, tree, Job, TREE_BYTES};
+use crate::job::{operand, root, tree, Job, Refused, TREE_BYTES};
+use crate::language_file::LanguageFile;
 use crate::tree_job::CARD_BYTES;
 use crate::{Failure, Streams};
-use algebra::{in_output, Edited, Refusal, ENTRY_BYTES, INDEXED_BYTES, LANGUAGE_BYTES};
+use algebra::{in_output, Edited, Refusal, ENTRY_BYTES, INDEXED_BYTES};
 use reference::explain::{self, Fault, Indexed};
 use std::borrow::Cow;
 use std::ffi::{OsStr, OsString};
@@ -22,7 +23,7 @@ const INDEX_BYTES: usize = ENTRY_BYTES * INDEXED_BYTES;
 /// The inputs of one operation.
 pub struct IndexJob {
     operation: Operation,
-    language: Vec<u8>,
+    language: LanguageFile,
     root: u32,
     tree: Vec<u8>,
     /// The index that is stored; without it one is built.
@@ -70,7 +71,7 @@ fn path_of(text: &OsStr) -> Option<Vec<u8>> {
 impl IndexJob {
     /// Reads language, root and tree, and the index if one is named.
     fn load(call: &Call, streams: &mut Streams, operation: Operation) -> Result<IndexJob, Failure> {
-        let (root, language) = (root(call)?, operand(call, 0, LANGUAGE_BYTES, streams)?);
+        let (root, language) = (root(call)?, LanguageFile::load(call, streams)?);
         let tree = tree(call, streams)?;
         let index = optional(&call.options.index, call, INDEX_BYTES, streams)?;
         let limit = call.options.limit.unwrap_or(INDEX_BYTES).min(INDEX_BYTES);
@@ -100,26 +101,31 @@ impl IndexJob {
 
     /// The index that is stored, or else the one that is built. Where that is refused there is none,
     /// and what takes it is refused before it is looked at.
-    fn index(&self) -> Cow<'_, [u8]> {
+    fn index(&self, language: &[u8]) -> Cow<'_, [u8]> {
         match &self.index {
             Some(index) => Cow::Borrowed(index),
-            None => Cow::Owned(self.built(INDEX_BYTES).unwrap_or_default()),
+            None => Cow::Owned(self.built(language, INDEX_BYTES).unwrap_or_default()),
         }
     }
 
     /// The index that is built, in an output of so many bytes.
-    fn built(&self, limit: usize) -> Result<Vec<u8>, Refusal> {
-        let IndexJob { language, root, tree, .. } = self;
-        in_output(limit, |output| algebra::index(language, *root, tree, output))
+    fn built(&self, language: &[u8], limit: usize) -> Result<Vec<u8>, Refusal> {
+        in_output(limit, |output| algebra::index(language, self.root, &self.tree, output))
     }
 
     /// What an edit gives.
-    fn edited(&self, path: &[u8], card: &[u8], block: &[u8]) -> Result<Edited, Refusal> {
-        let IndexJob { language, root, tree, limit, .. } = self;
-        let (mut plan, mut index) = (vec![0; *limit], vec![0; *limit]);
-        let old = self.index();
+    fn edited(
+        &self,
+        language: &[u8],
+        path: &[u8],
+        card: &[u8],
+        block: &[u8],
+    ) -> Result<Edited, Refusal> {
+        let (mut plan, mut index) = (vec![0; self.limit], vec![0; self.limit]);
+        let (tree, old) = (&self.tree, self.index(language));
+        let (root, outputs) = (self.root, (&mut plan, &mut index));
         let lengths =
-            algebra::edit(language, *root, tree, &old, path, card, block, &mut plan, &mut index)?;
+            algebra::edit(language, root, tree, &old, path, card, block, outputs.0, outputs.1)?;
         plan.truncate(lengths.0);
         index.truncate(lengths.1);
         Ok(Edited { plan, index })
@@ -131,23 +137,29 @@ impl Job for IndexJob {
         self.tree.len()
     }
 
-    fn answer(&self) -> Result<Given, Refusal> {
-        let IndexJob { language, root, tree, .. } = self;
-        match &self.operation {
-            Operation::Index => self.built(self.limit).map(Given::Bytes),
+    fn answer(&self) -> Result<Given, Refused> {
+        let language = &self.language.language()?[..];
+        Ok(match &self.operation {
+            Operation::Index => Given::Bytes(self.built(language, self.limit)?),
             Operation::Block { path } => {
-                algebra::block(language, *root, tree, &self.index(), path).map(Given::from)
+                let index = self.index(language);
+                algebra::block(language, self.root, &self.tree, &index, path)?.into()
             }
             Operation::Edit { path, card, block } => {
                 let card = card.clone().unwrap_or_else(|| algebra::card(0..KINDS));
-                self.edited(path, &card, block).map(Given::Edited)
+                Given::Edited(self.edited(language, path, &card, block)?)
             }
-        }
+        })
     }
 
     fn fault(&self) -> Option<Fault> {
-        let IndexJob { language, root, tree, index, limit, .. } = self;
-        let indexed = Indexed { language, root: *root, tree, index: index.as_deref(), card: None };
+        let IndexJob { root, tree, index, limit, .. } = self;
+        let language = match self.language.explained() {
+            Ok(language) => language,
+            Err(fault) => return Some(fault),
+        };
+        let index = index.as_deref();
+        let indexed = Indexed { language: &language, root: *root, tree, index, card: None };
         match &self.operation {
             Operation::Index => explain::index(&indexed, *limit),
             Operation::Block { path } => explain::block(&indexed, path),

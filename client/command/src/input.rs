@@ -130,6 +130,15 @@ fn read_all(
     Ok(bytes)
 }
 
+/// What a file is called.
+pub fn file_name(name: &OsStr) -> String {
+    if name == "-" {
+        "standard input".into()
+    } else {
+        name.display().to_string()
+    }
+}
+
 /// Reads the file with a name, of which no more than the limit and one byte matter.
 pub fn read_file(
     name: &OsStr,
@@ -137,7 +146,7 @@ pub fn read_file(
     limit: usize,
     streams: &mut Streams,
 ) -> Result<Vec<u8>, Failure> {
-    let shown = if name == "-" { "standard input".into() } else { name.display().to_string() };
+    let shown = file_name(name);
     let mut progress = Progress::new(streams.terminal, streams.messages);
     let show = |bytes: usize| progress.show(bytes, || format!("reading {shown}: {bytes} bytes"));
     let decoder = Decoder::new(hexadecimal);

@@ -18,6 +18,30 @@ const RUN_BYTES: usize = 1 << 28;
 /// Trees may have any length.
 pub const TREE_BYTES: usize = usize::MAX - 1;
 
+/// A refusal, and the files that it speaks of where that is to be told.
+#[derive(Clone, Debug, PartialEq, Eq)]
+pub struct Refused {
+    pub refusal: Refusal,
+    pub files: Vec<String>,
+}
+
+impl From<Refusal> for Refused {
+    fn from(refusal: Refusal) -> Refused {
+        Refused { refusal, files: vec![] }
+    }
+}
+
+impl Refused {
+    /// The line that names the files, if there are any.
+    pub fn files_line(&self) -> String {
+        match &self.files[..] {
+            [] => String::new(),
+            [file] => format!("file: {file}\n"),
+            [files @ .., last] => format!("files: {} and {last}\n", files.join(", ")),
+        }
+    }
+}
+
 /// An operation with its inputs.
 pub trait Job: Sync {
     /// The length of the tree or of its text, if there is one.
@@ -26,7 +50,7 @@ pub trait Job: Sync {
     }
 
     /// What the library answers.
-    fn answer(&self) -> Result<Given, Refusal>;
+    fn answer(&self) -> Result<Given, Refused>;
 
     /// Where a second reading finds a fault, if it does.
     fn fault(&self) -> Option<Fault>;
@@ -90,8 +114,9 @@ pub fn load_check_language(call: &Call, streams: &mut Streams) -> Result<Box<dyn
 }
 
 impl Job for CheckLanguage {
-    fn answer(&self) -> Result<Given, Refusal> {
-        algebra::check_language(&self.0).map(|()| Given::nothing())
+    fn answer(&self) -> Result<Given, Refused> {
+        algebra::check_language(&self.0)?;
+        Ok(Given::nothing())
     }
 
     fn fault(&self) -> Option<Fault> {
@@ -108,8 +133,9 @@ pub fn load_check_translation(call: &Call, streams: &mut Streams) -> Result<Box<
 }
 
 impl Job for CheckTranslation {
-    fn answer(&self) -> Result<Given, Refusal> {
-        algebra::check_translation(&self.0).map(|()| Given::nothing())
+    fn answer(&self) -> Result<Given, Refused> {
+        algebra::check_translation(&self.0)?;
+        Ok(Given::nothing())
     }
 
     fn fault(&self) -> Option<Fault> {
@@ -130,9 +156,9 @@ pub fn load_reduce(call: &Call, streams: &mut Streams) -> Result<Box<dyn Job>, F
 }
 
 impl Job for Reduce {
-    fn answer(&self) -> Result<Given, Refusal> {
+    fn answer(&self) -> Result<Given, Refused> {
         let room = self.limit.min(TRANSLATION_BYTES);
-        in_output(room, |output| algebra::reduce(&self.pack, output)).map(Given::Bytes)
+        Ok(Given::Bytes(in_output(room, |output| algebra::reduce(&self.pack, output))?))
     }
 
     fn fault(&self) -> Option<Fault> {
@@ -142,28 +168,32 @@ impl Job for Reduce {
 
 /// A load table joined onto a translation.
 struct JoinTable {
-    translation: Vec<u8>,
+    translator: Translator,
     table: Vec<u8>,
     limit: usize,
 }
 
 /// Reads the inputs of a load table's join.
 pub fn load_join_table(call: &Call, streams: &mut Streams) -> Result<Box<dyn Job>, Failure> {
-    let translation = operand(call, 0, TRANSLATION_BYTES, streams)?;
+    let translator = Translator::load(call, streams)?;
     let table = operand(call, 1, TABLE_BYTES, streams)?;
     let limit = call.options.limit.unwrap_or(TABLE_BYTES);
-    Ok(Box::new(JoinTable { translation, table, limit }))
+    Ok(Box::new(JoinTable { translator, table, limit }))
 }
 
 impl Job for JoinTable {
-    fn answer(&self) -> Result<Given, Refusal> {
-        let JoinTable { translation, table, limit } = self;
-        let call = |output: &mut [u8]| algebra::join_table(translation, table, output);
-        in_output((*limit).min(TABLE_BYTES), call).map(Given::Bytes)
+    fn answer(&self) -> Result<Given, Refused> {
+        let JoinTable { translator, table, limit } = self;
+        let translation = translator.translation()?;
+        let call = |output: &mut [u8]| algebra::join_table(&translation, table, output);
+        Ok(Given::Bytes(in_output((*limit).min(TABLE_BYTES), call)?))
     }
 
     fn fault(&self) -> Option<Fault> {
-        explain::join_table(&self.translation, &self.table, self.limit)
+        match self.translator.explained() {
+            Ok(found) => explain::join_table(&found, &self.table, self.limit),
+            Err(fault) => Some(fault),
+        }
     }
 }
 
@@ -174,13 +204,27 @@ pub enum Translator {
 }
 
 impl Translator {
+    /// A file of a sort.
+    pub fn new(file: Vec<u8>, sort: Option<Sort>) -> Translator {
+        match sort {
+            Some(Sort::Pack) => Translator::Pack(file),
+            _ => Translator::Translation(file),
+        }
+    }
+
     /// Reads the first operand, which is told by its first byte unless the options say what it is.
     pub fn load(call: &Call, streams: &mut Streams) -> Result<Translator, Failure> {
         let file = operand(call, 0, PACK_BYTES, streams)?;
-        Ok(match call.options.sort.or(sort_of(&file)) {
-            Some(Sort::Pack) => Translator::Pack(file),
-            _ => Translator::Translation(file),
-        })
+        let sort = call.options.sort.or(sort_of(&file));
+        Ok(Translator::new(file, sort))
+    }
+
+    /// Checks a translation by the library, and reduces a pack.
+    pub fn checked(&self) -> Result<Cow<'_, [u8]>, Refusal> {
+        if let Translator::Translation(translation) = self {
+            algebra::check_translation(translation)?;
+        }
+        self.translation()
     }
 
     /// The translation, for which the library reduces a pack.
@@ -237,8 +281,8 @@ impl Job for Run {
         self.tree.len()
     }
 
-    fn answer(&self) -> Result<Given, Refusal> {
-        self.ran().map(Given::Ran)
+    fn answer(&self) -> Result<Given, Refused> {
+        Ok(Given::Ran(self.ran()?))
     }
 
     fn fault(&self) -> Option<Fault> {

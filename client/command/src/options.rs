@@ -36,6 +36,12 @@ pub struct Options {
     pub new_index: Option<OsString>,
     /// The file that has the card of an edit.
     pub card: Option<OsString>,
+    /// The target of a translation or pack is meant, where a language is asked for.
+    pub target: bool,
+    /// The file that the pack of a result is written to.
+    pub pack: Option<OsString>,
+    /// A text is tidied before it is imported.
+    pub tidy: bool,
 }
 
 /// A row of the table of options.
@@ -79,6 +85,9 @@ fn sort(value: &OsStr, allowed: &[(&str, Sort)]) -> Result<Option<Sort>, String>
 
 /// What a file with a translation may be.
 const TRANSLATORS: [(&str, Sort); 2] = [("translation", Sort::Translation), ("pack", Sort::Pack)];
+/// What a file with a language may be.
+const LANGUAGES: [(&str, Sort); 3] =
+    [("language", Sort::Language), ("translation", Sort::Translation), ("pack", Sort::Pack)];
 /// What any file may be.
 const SORTS: [(&str, Sort); 5] = [
     ("language", Sort::Language),
@@ -137,6 +146,54 @@ pub static AS_TRANSLATOR: Opt = Opt {
     often: false,
     set: |options, value| {
         options.sort = sort(value, &TRANSLATORS)?;
+        Ok(())
+    },
+};
+
+pub static AS_LANGUAGE: Opt = Opt {
+    name: "--as",
+    value: Some("SORT"),
+    help:
+        "take the first file as a 'language', a 'translation' or a 'pack', whatever its first byte",
+    often: false,
+    set: |options, value| {
+        options.sort = sort(value, &LANGUAGES)?;
+        Ok(())
+    },
+};
+
+pub static TARGET: Opt = Opt {
+    name: "--target",
+    value: None,
+    help:
+        "where a translation or a pack is given for a language, take its target; without it, its \
+           source",
+    often: false,
+    set: |options, _| {
+        options.target = true;
+        Ok(())
+    },
+};
+
+pub static PACK: Opt = Opt {
+    name: "--pack",
+    value: Some("FILE"),
+    help: "write the pack that was reduced to the file, before the result is written",
+    often: false,
+    set: |options, value| {
+        options.pack = file(value);
+        Ok(())
+    },
+};
+
+pub static TIDY: Opt = Opt {
+    name: "--tidy",
+    value: None,
+    help: "drop a byte order mark, a declaration and spaces between tags from the text first, and \
+           say so on the standard error",
+    often: false,
+    set: |options, _| {
+        options.tidy = true;
         Ok(())
     },
 };

@@ -2,15 +2,20 @@
 
 use crate::index_job::IndexJob;
 use crate::job;
-use crate::options::{AS_ANY, AS_TRANSLATOR, CARD, INDEX, LIMIT, NEW_INDEX, NUMBER, OUTPUT, XML};
+use crate::options::{
+    AS_ANY, AS_LANGUAGE, AS_TRANSLATOR, CARD, INDEX, LIMIT, NEW_INDEX, NUMBER, OUTPUT,
+    PACK as PACK_OUT, TARGET, TIDY, XML,
+};
 use crate::search_job::Search;
 use crate::table::{Act, Is, Operand, Times, Verb};
+use crate::term_job::TermJob;
 use crate::tree_job::TreeJob;
-use crate::{steps, verbs};
+use crate::{same, steps, verbs};
 
 const FILE: Operand = Operand::file("FILE");
 const LANGUAGE: Operand = Operand::file("LANGUAGE");
-const TRANSLATION: Operand = Operand::file("TRANSLATION");
+const F: Operand = Operand::file("F");
+const G: Operand = Operand::file("G");
 const PACK: Operand = Operand::file("PACK");
 const TRANSLATOR: Operand = Operand::file("TRANSLATION-OR-PACK");
 const TREE: Operand = Operand::file("TREE");
@@ -21,7 +26,7 @@ const BLOCK: Operand = Operand::file("BLOCK");
 const CARD_FILE: Operand = Operand::file("CARD");
 const ROOT: Operand = Operand::word("ROOT");
 const PATH: Operand = Operand::word("PATH");
-const LEVELS: Operand = Operand::word("LEVELS");
+const LEVELS: Operand = Operand::word("LEVELS").times(Times::Perhaps);
 const VERB: Operand = Operand { name: "VERB", is: Is::Verb, times: Times::Once };
 const OPERANDS: Operand = Operand::word("OPERAND").times(Times::Any);
 
@@ -48,7 +53,7 @@ pub static VERBS: &[Verb] = &[
     Verb {
         name: "check-tree",
         forms: &[&[LANGUAGE, ROOT, TREE]],
-        options: &[],
+        options: &[&AS_LANGUAGE, &TARGET],
         summary: "Check a tree of a root kind",
         details: "ROOT is the number of a kind, 0 to 31.",
         refusals: "1 to 4, 14 to 16",
@@ -76,9 +81,81 @@ pub static VERBS: &[Verb] = &[
         act: Act::Operation(job::load_run),
     },
     Verb {
+        name: "join",
+        forms: &[&[F, G]],
+        options: &[&OUTPUT, &PACK_OUT],
+        summary: "Join two translations: G runs first, and F on what it gives",
+        details: "F and G are translations or packs. The command puts a pack together whose term is \
+                  their join, and reduces it: the translation is printed in hexadecimal digits below \
+                  the first line. A refusal names the files that it speaks of.",
+        refusals: "1 to 13, 26",
+        act: Act::Operation(TermJob::load_join),
+    },
+    Verb {
+        name: "sum",
+        forms: &[&[F, G.times(Times::Often)]],
+        options: &[&OUTPUT, &PACK_OUT],
+        summary: "Add two or more translations",
+        details: "All are translations or packs. The order does not matter. Where they do not fit, \
+                  the files are named up to the first that does not fit those before it.",
+        refusals: "1 to 13, 26",
+        act: Act::Operation(TermJob::load_sum),
+    },
+    Verb {
+        name: "without",
+        forms: &[&[F, LANGUAGE]],
+        options: &[&OUTPUT, &PACK_OUT, &TARGET],
+        summary: "Take the words of a language out of a translation",
+        details: "F is a translation or a pack. The classes and productions of the language go from \
+                  its source, with their mappings and clauses; its target stays. For the language a \
+                  translation or a pack is taken too.",
+        refusals: "1 to 13, 26",
+        act: Act::Operation(TermJob::load_without),
+    },
+    Verb {
+        name: "identity",
+        forms: &[&[LANGUAGE]],
+        options: &[&OUTPUT, &PACK_OUT, &TARGET],
+        summary: "Make the translation of a language to itself",
+        details: "For the language a translation or a pack is taken too.",
+        refusals: "1 to 13, 26",
+        act: Act::Operation(TermJob::load_identity),
+    },
+    Verb {
+        name: "source",
+        forms: &[&[F]],
+        options: &[&OUTPUT, &PACK_OUT],
+        summary: "Take the source language of a translation or a pack",
+        details: "The language is printed in hexadecimal digits below the first line. The pack is \
+                  that of the identity of the source.",
+        refusals: "1 to 13, 26",
+        act: Act::Operation(TermJob::load_source),
+    },
+    Verb {
+        name: "target",
+        forms: &[&[F]],
+        options: &[&OUTPUT, &PACK_OUT],
+        summary: "Take the target language of a translation or a pack",
+        details: "The language is printed in hexadecimal digits below the first line. The pack is \
+                  that of the identity of the target.",
+        refusals: "1 to 13, 26",
+        act: Act::Operation(TermJob::load_target),
+    },
+    Verb {
+        name: "same",
+        forms: &[&[F, G]],
+        options: &[],
+        summary: "Tell whether two translations are the same",
+        details: "F and G are translations or packs. They are the same if both reduce to the same \
+                  bytes: then the status is 0. Where not, it is 1, and the first clause or mapping \
+                  that differs is shown as each has it, or else the first entry of their languages.",
+        refusals: "1 to 13, 26",
+        act: Act::Other(same::same),
+    },
+    Verb {
         name: "score",
         forms: &[&[LANGUAGE, ROOT, TREE, TABLE]],
-        options: &[],
+        options: &[&AS_LANGUAGE, &TARGET],
         summary: "Score a tree by a load table",
         details: "ROOT is the number of a kind, 0 to 31, and TABLE a load table of the language. A \
                   token scores its value, a production its constant plus each factor times that \
@@ -90,7 +167,7 @@ pub static VERBS: &[Verb] = &[
     Verb {
         name: "score-loose",
         forms: &[&[LANGUAGE, ROOT, PLAN, TABLE]],
-        options: &[],
+        options: &[&AS_LANGUAGE, &TARGET],
         summary: "Score a loose plan, whose tokens are not settled",
         details: "ROOT is the number of a kind, 0 to 31, and TABLE a load table of the language. PLAN \
                   is a tree with two values in the place of each token, the least and the greatest, \
@@ -102,19 +179,19 @@ pub static VERBS: &[Verb] = &[
     },
     Verb {
         name: "join-table",
-        forms: &[&[TRANSLATION, TABLE]],
-        options: &[&OUTPUT, &LIMIT],
-        summary: "Join a load table onto a translation",
-        details: "TABLE is a load table of the translation's target. The joined table is one of its \
+        forms: &[&[TRANSLATOR, TABLE]],
+        options: &[&OUTPUT, &LIMIT, &AS_TRANSLATOR],
+        summary: "Join a load table onto a translation or a pack",
+        details: "A pack is reduced first. TABLE is a load table of the translation's target. The joined table is one of its \
                   source: where it scores a tree, and TABLE the tree's run, both scores are equal. \
                   It is printed in hexadecimal digits below the first line.",
-        refusals: "1 to 7, 11, 17, 18, 26",
+        refusals: "1 to 7, 11, 17, 18, 26; of a pack also 8 to 10, 12, 13",
         act: Act::Operation(job::load_join_table),
     },
     Verb {
         name: "export",
         forms: &[&[LANGUAGE, ROOT, TREE]],
-        options: &[&OUTPUT, &LIMIT],
+        options: &[&OUTPUT, &LIMIT, &AS_LANGUAGE, &TARGET],
         summary: "Write a tree as XML",
         details: "ROOT is the number of a kind, 0 to 31. Production 1.4 is an element x1.4 around its \
                   arguments, a token of kind 2 with value 5 is <t2>5</t2>. The text is printed below \
@@ -126,7 +203,7 @@ pub static VERBS: &[Verb] = &[
     Verb {
         name: "import",
         forms: &[&[LANGUAGE, ROOT, TEXT]],
-        options: &[&OUTPUT, &LIMIT],
+        options: &[&TIDY, &OUTPUT, &LIMIT, &AS_LANGUAGE, &TARGET],
         summary: "Read a tree from XML that export wrote",
         details: "ROOT is the number of a kind, 0 to 31. TEXT is a file that export -o wrote, or the \
                   same text: anything else in it, such as a space or a line end, is refused. It is \
@@ -138,7 +215,7 @@ pub static VERBS: &[Verb] = &[
     Verb {
         name: "index",
         forms: &[&[LANGUAGE, ROOT, TREE]],
-        options: &[&OUTPUT, &LIMIT],
+        options: &[&OUTPUT, &LIMIT, &AS_LANGUAGE, &TARGET],
         summary: "Build the index of a tree",
         details: "ROOT is the number of a kind, 0 to 31. An index has for each node of the tree, \
                   tokens too, in reading order its start and its length, two bytes each. It is \
@@ -149,7 +226,7 @@ pub static VERBS: &[Verb] = &[
     Verb {
         name: "block",
         forms: &[&[LANGUAGE, ROOT, TREE, PATH]],
-        options: &[&INDEX, &OUTPUT],
+        options: &[&INDEX, &OUTPUT, &AS_LANGUAGE, &TARGET],
         summary: "Look up one block of a tree",
         details: "ROOT is the number of a kind, 0 to 31. PATH leads from the root to the block: \
                   argument numbers, from 1, with points between them, such as 2.1; - or an empty \
@@ -162,7 +239,7 @@ pub static VERBS: &[Verb] = &[
     Verb {
         name: "edit",
         forms: &[&[LANGUAGE, ROOT, TREE, PATH, BLOCK]],
-        options: &[&CARD, &INDEX, &OUTPUT, &NEW_INDEX, &LIMIT],
+        options: &[&CARD, &INDEX, &OUTPUT, &NEW_INDEX, &LIMIT, &AS_LANGUAGE, &TARGET],
         summary: "Replace one block of a tree",
         details: "ROOT is the number of a kind, 0 to 31, and PATH leads to a block as for the verb \
                   block. BLOCK is a tree of the same kind, which takes its place. Below the first \
@@ -174,7 +251,7 @@ pub static VERBS: &[Verb] = &[
     Verb {
         name: "mask",
         forms: &[&[LANGUAGE, ROOT, TREE, CARD_FILE]],
-        options: &[&OUTPUT, &LIMIT],
+        options: &[&OUTPUT, &LIMIT, &AS_LANGUAGE, &TARGET],
         summary: "Hide the blocks of a tree that a card does not show",
         details: "ROOT is the number of a kind, 0 to 31, and CARD a field 27 with the kinds that a \
                   person may see. In the masked plan each block of another kind, root and tokens \
@@ -192,7 +269,9 @@ pub static VERBS: &[Verb] = &[
                   the number of a kind of the source, 0 to 31, and TREE a tree of the target, of the \
                   kind to which ROOT is mapped. Of the source trees of at most LEVELS levels, 1 to \
                   16, that run to it, the first in byte order is printed in hexadecimal digits below \
-                  the first line. Where a clause drops an argument, its place takes the first legal \
+                  the first line. Without LEVELS it is that of the fewest levels at which there is \
+                  one, and the second line says how many: with more, plans come first that say more \
+                  of it in words of the target. Where a clause drops an argument, its place takes the first legal \
                   tree within the levels that are left.",
         refusals: "1 to 7, 14 to 17, 23, 24, 26; of a pack also 8 to 13",
         act: Act::Operation(Search::load),
@@ -211,7 +290,7 @@ pub static VERBS: &[Verb] = &[
     Verb {
         name: "show",
         forms: &[&[FILE], &[LANGUAGE, ROOT, TREE]],
-        options: &[&AS_ANY],
+        options: &[&AS_ANY, &TARGET],
         summary: "Show a file or a tree in words",
         details: "Prints a line for each entry of a language, a translation, a pack, a load table or \
                   a card, or for each node of a tree. What the file is, its first byte tells. A file \
@@ -223,7 +302,7 @@ pub static VERBS: &[Verb] = &[
     Verb {
         name: "explain",
         forms: &[&[VERB, OPERANDS]],
-        options: &[&NUMBER, &LIMIT, &AS_TRANSLATOR, &INDEX, &CARD],
+        options: &[&NUMBER, &LIMIT, &AS_LANGUAGE, &TARGET, &INDEX, &CARD],
         summary: "Tell where the fault is that an operation refuses",
         details: "VERB is one that answers 'accepted' or 'refused', with its operands and options. \
                   Below the first line stands where the fault is (the byte, counted from 0, the \

@@ -4,7 +4,11 @@
 pub fn nearest<'a>(word: &str, known: impl Iterator<Item = &'a str>) -> Option<&'a str> {
     let far = |name: &&str| distance(word, name);
     let found = known.min_by_key(far)?;
-    let most = if word.chars().count() < 5 { 1 } else { 2 };
+    let most = match word.trim_start_matches('-').chars().count() {
+        0..3 => 0,
+        3..5 => 1,
+        _ => 2,
+    };
     (distance(word, found) <= most).then_some(found)
 }
 
@@ -41,6 +45,6 @@ mod tests {
             (found("check-three"), found("--limits")),
             (Some("check-tree"), Some("--limit"))
         );
-        assert_eq!((found("fly"), found("")), (None, None));
+        assert_eq!((found("fly"), found(""), found("-o")), (None, None, None));
     }
 }

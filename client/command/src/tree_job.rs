@@ -3,9 +3,10 @@
 use crate::arguments::Call;
 use crate::given::Given;
 use crate::input::read_file;
-use crate::job::{operand, root, run_limit, tree, Job, TREE_BYTES};
+use crate::job::{operand, root, run_limit, tree, Job, Refused, TREE_BYTES};
+use crate::language_file::LanguageFile;
 use crate::{Failure, Streams};
-use algebra::{in_output, Refusal, LANGUAGE_BYTES, TABLE_BYTES};
+use algebra::{in_output, TABLE_BYTES};
 use reference::explain::{self, Fault};
 
 /// The place of a load table among the operands of a score, and of a card among those of a mask.
@@ -17,7 +18,7 @@ pub const CARD_BYTES: usize = 3 + u16::MAX as usize;
 /// The inputs of one operation.
 pub struct TreeJob {
     operation: Operation,
-    language: Vec<u8>,
+    language: LanguageFile,
     root: u32,
     /// The tree, or for an import its text.
     tree: Vec<u8>,
@@ -46,7 +47,7 @@ impl TreeJob {
         streams: &mut Streams,
         read: impl FnOnce(&Call, &mut Streams) -> Result<Operation, Failure>,
     ) -> Result<Box<dyn Job>, Failure> {
-        let (root, language) = (root(call)?, operand(call, 0, LANGUAGE_BYTES, streams)?);
+        let (root, language) = (root(call)?, LanguageFile::load(call, streams)?);
         let tree = tree(call, streams)?;
         let operation = read(call, streams)?;
         Ok(Box::new(TreeJob { operation, language, root, tree }))
@@ -78,7 +79,7 @@ impl TreeJob {
 
     /// Reads the inputs of an import.
     pub fn load_import(call: &Call, streams: &mut Streams) -> Result<Box<dyn Job>, Failure> {
-        let (root, language) = (root(call)?, operand(call, 0, LANGUAGE_BYTES, streams)?);
+        let (root, language) = (root(call)?, LanguageFile::load(call, streams)?);
         let (tree, limit) = (text(call, streams)?, run_limit(call));
         Ok(Box::new(TreeJob { operation: Operation::Import { limit }, language, root, tree }))
     }
@@ -97,42 +98,49 @@ impl Job for TreeJob {
         self.tree.len()
     }
 
-    fn answer(&self) -> Result<Given, Refusal> {
-        let TreeJob { operation, language, root, tree } = self;
-        match operation {
+    fn answer(&self) -> Result<Given, Refused> {
+        let TreeJob { operation, root, tree, .. } = self;
+        let (language, root) = (&self.language.language()?[..], *root);
+        Ok(match operation {
             Operation::Check => {
-                algebra::check_tree(language, *root, tree).map(|()| Given::nothing())
+                algebra::check_tree(language, root, tree)?;
+                Given::nothing()
             }
             Operation::Score { table } => {
-                algebra::score(language, *root, tree, table).map(Given::Score)
+                Given::Score(algebra::score(language, root, tree, table)?)
             }
             Operation::ScoreLoose { table } => {
-                algebra::score_loose(language, *root, tree, table).map(Given::Scores)
+                Given::Scores(algebra::score_loose(language, root, tree, table)?)
             }
             Operation::Export { limit } => {
-                algebra::export_to_vec(language, *root, tree, *limit).map(Given::Text)
+                Given::Text(algebra::export_to_vec(language, root, tree, *limit)?)
             }
             Operation::Import { limit } => {
-                algebra::import_to_vec(language, *root, tree, *limit).map(Given::Bytes)
+                Given::Bytes(algebra::import_to_vec(language, root, tree, *limit)?)
             }
             Operation::Mask { card, limit } => {
                 let room = limit.unwrap_or(tree.len()).min(tree.len());
-                in_output(room, |output| algebra::mask(language, *root, card, tree, output))
-                    .map(Given::Bytes)
+                let call = |output: &mut [u8]| algebra::mask(language, root, card, tree, output);
+                Given::Bytes(in_output(room, call)?)
             }
-        }
+        })
     }
 
     fn fault(&self) -> Option<Fault> {
-        let TreeJob { operation, language, root, tree } = self;
+        let TreeJob { operation, root, tree, .. } = self;
+        let language = match self.language.explained() {
+            Ok(language) => language,
+            Err(fault) => return Some(fault),
+        };
+        let (language, root) = (&language[..], *root);
         match operation {
-            Operation::Check => explain::tree(language, *root, tree),
-            Operation::Score { table } => explain::score(language, *root, tree, table),
-            Operation::ScoreLoose { table } => explain::score_loose(language, *root, tree, table),
-            Operation::Export { limit } => explain::export(language, *root, tree, *limit),
-            Operation::Import { limit } => explain::import(language, *root, tree, *limit),
+            Operation::Check => explain::tree(language, root, tree),
+            Operation::Score { table } => explain::score(language, root, tree, table),
+            Operation::ScoreLoose { table } => explain::score_loose(language, root, tree, table),
+            Operation::Export { limit } => explain::export(language, root, tree, *limit),
+            Operation::Import { limit } => explain::import(language, root, tree, *limit),
             Operation::Mask { card, limit } => {
-                explain::mask(language, *root, card, tree, limit.unwrap_or(tree.len()))
+                explain::mask(language, root, card, tree, limit.unwrap_or(tree.len()))
             }
         }
     }

@@ -3,13 +3,14 @@
 use crate::arguments::Call;
 use crate::explanation::{explanation, refusal};
 use crate::given::{Figure, Given};
-use crate::job::{operand, root, sort_of, tree, Load};
+use crate::job::{operand, root, sort_of, tree, Load, Refused};
+use crate::language_file::LanguageFile;
 use crate::options::Sort;
 use crate::output::write_file;
 use crate::table::{Act, Verb};
 use crate::work::work;
 use crate::{job, Failure, Printed, Streams, ACCEPTED, REFUSED};
-use algebra::{Refusal, LANGUAGE_BYTES, PACK_BYTES};
+use algebra::{Refusal, PACK_BYTES};
 use reference::explain::Fault;
 use reference::listing::clause_lines;
 use reference::show;
@@ -39,8 +40,13 @@ pub fn printed(answer: Result<impl Display, Refusal>, lines: &str) -> Printed {
 }
 
 /// The figure of an answer's first line.
-fn figure(answer: &Result<Given, Refusal>) -> Result<Figure, Refusal> {
-    answer.as_ref().map(Given::figure).map_err(|refusal| *refusal)
+fn figure(answer: &Result<Given, Refused>) -> Result<Figure, Refusal> {
+    answer.as_ref().map(Given::figure).map_err(|refused| refused.refusal)
+}
+
+/// What is printed for a refusal, with the files that it speaks of and other lines.
+pub fn refused(refused: &Refused, lines: &str) -> Printed {
+    printed(Err::<usize, _>(refused.refusal), &(refused.files_line() + lines))
 }
 
 /// Calls the library, and prints or writes the result.
@@ -48,10 +54,14 @@ fn operate(load: Load, call: &Call, streams: &mut Streams) -> Result<Printed, Fa
     let job = load(call, streams)?;
     let answer = work(job.length(), streams, || job.answer())?;
     let first = figure(&answer);
-    let Ok(given) = answer else { return Ok(printed(first, "")) };
+    let given = match answer {
+        Ok(given) => given,
+        Err(found) => return Ok(refused(&found, "")),
+    };
     let (figures, hexadecimal) = (given.figures(), call.options.hexadecimal);
-    if let (Some(file), Some(index)) = (&call.options.new_index, given.written_index(hexadecimal)) {
-        write_file(file, &index)?;
+    let besides = call.options.new_index.as_ref().or(call.options.pack.as_ref());
+    if let (Some(file), Some(bytes)) = (besides, given.written_besides(hexadecimal)) {
+        write_file(file, &bytes)?;
     }
     let Some(file) = &call.options.output else {
         return Ok(printed(first, &(figures + &given.shown())));
@@ -70,7 +80,7 @@ pub fn list(call: &Call, streams: &mut Streams) -> Result<Printed, Failure> {
     let job = job::load_reduce(call, streams)?;
     Ok(match work(0, streams, || job.answer())? {
         Ok(given) => printed(Ok(given.figure()), &clause_lines(given.bytes())),
-        Err(refusal) => {
+        Err(Refused { refusal, .. }) => {
             let output = format!("refused {}\n", refusal.number()).into_bytes();
             Printed { output, messages: String::new(), status: REFUSED }
         }
@@ -84,9 +94,13 @@ pub fn explain(call: &Call, streams: &mut Streams) -> Result<Printed, Failure> {
         return Err(call.misuse("a verb that can be explained is needed"));
     };
     let job = load(&call.of(verb)?, streams)?;
-    let task = || (figure(&job.answer()), job.fault());
-    let (answer, fault) = work(job.length(), streams, task)?;
-    Ok(printed(answer, &explanation(answer.map(|_| ()), fault.as_ref())))
+    let (answer, fault) = work(job.length(), streams, || (job.answer(), job.fault()))?;
+    let (first, fault) = (figure(&answer), fault.as_ref());
+    let lines = explanation(first.map(|_| ()), fault);
+    Ok(match answer {
+        Ok(_) => printed(first, &lines),
+        Err(found) => refused(&found, &lines),
+    })
 }
 
 /// Prints a file or a tree in words.
@@ -97,9 +111,10 @@ pub fn show(call: &Call, streams: &mut Streams) -> Result<Printed, Failure> {
     if call.options.sort.is_some() {
         return Err(call.misuse("--as does not go with a tree"));
     }
-    let (root, language) = (root(call)?, operand(call, 0, LANGUAGE_BYTES, streams)?);
+    let (root, language) = (root(call)?, LanguageFile::load(call, streams)?);
     let tree = tree(call, streams)?;
-    work(tree.len(), streams, || show::tree(&language, root, &tree)).map(shown)
+    let task = || language.explained().and_then(|language| show::tree(&language, root, &tree));
+    work(tree.len(), streams, task).map(shown)
 }
 
 /// Prints a file in words.

@@ -99,6 +99,7 @@ impl Folder {
             });
         }
         arguments.extend(options.iter().map(OsString::from));
+        arguments.extend(first_file(verbs).map(OsString::from));
         arguments.extend(hexadecimal.then(|| "--hex".into()));
         Printed { hexadecimal, ..called(&arguments, &input) }
     }
@@ -129,6 +130,16 @@ impl Folder {
         }
         let text = String::from_utf8(file).expect("hexadecimal text");
         decoded(&text).expect("hexadecimal text")
+    }
+}
+
+/// The option that says what the first file of a verb is, whatever its first byte, if it takes one.
+fn first_file(verbs: &[&str]) -> Option<&'static str> {
+    match *verbs.last()? {
+        "check-tree" | "score" | "score-loose" | "export" | "import" => Some("--as=language"),
+        "index" | "block" | "edit" | "mask" => Some("--as=language"),
+        "join-table" => Some("--as=translation"),
+        _ => None,
     }
 }
 
