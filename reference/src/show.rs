@@ -4,10 +4,10 @@
 use crate::body::CLAUSE_TAG;
 use crate::explain::{
     card_kinds, language_entry, pack_parts, read_term, table_spots, translation_pieces, Fault,
-    Piece, Sign,
+    Piece, Pieces, Sign, Spot,
 };
 use crate::index::ENTRY_BYTES;
-use crate::language::{bit, Language, KINDS, LANGUAGE_LIMIT};
+use crate::language::{bit, Language, CLASS_TAG, KINDS, LANGUAGE_LIMIT, PRODUCTION_TAG};
 use crate::names::Names;
 use crate::notation::write::{body_line, hexadecimal, language_line, raw, table_line, Between};
 use crate::notation::{shapes, shapes_in_pack, Source};
@@ -143,25 +143,35 @@ pub struct Difference {
 
 /// The first mapping or clause in which two translations differ, or else the first entry of their
 /// sources, or of their targets. `None` if they are equal, or cannot be read.
-pub fn difference(first: &[u8], second: &[u8]) -> Option<Difference> {
+pub fn difference(first: &[u8], second: &[u8], names: &Names) -> Option<Difference> {
     let (one, other) = (translation_pieces(first).ok()?, translation_pieces(second).ok()?);
-    first_difference("", &one.body, &other.body)
-        .or_else(|| first_difference(" of the source", &one.source, &other.source))
-        .or_else(|| first_difference(" of the target", &one.target, &other.target))
+    let differ = |within: &str, first: &Piece, second: &Piece| {
+        let (first, second) = (first.spots(), second.spots());
+        let spot = first_difference(&first, &second)?;
+        let entry = |spots: &[Spot], pieces: &Pieces| {
+            let found = spots.iter().find(|found| found.key() == spot.key())?;
+            let between = shapes(&pieces.source, &pieces.target);
+            Some(match found.tag {
+                CLASS_TAG | PRODUCTION_TAG => language_line(found, names),
+                _ => body_line(found, spots, &between, names, 0),
+            })
+        };
+        let name = names.speak(&format!("{}{within}", spot.name()));
+        Some(Difference { name, first: entry(&first, &one), second: entry(&second, &other) })
+    };
+    differ("", &one.body, &other.body)
+        .or_else(|| differ(" of the source", &one.source, &other.source))
+        .or_else(|| differ(" of the target", &one.target, &other.target))
 }
 
 /// The first entry, by its key, in which two rows of rising fields differ.
-fn first_difference(within: &str, first: &Piece, second: &Piece) -> Option<Difference> {
-    let (first, second) = (first.spots(), second.spots());
+fn first_difference<'a>(first: &[Spot<'a>], second: &[Spot<'a>]) -> Option<Spot<'a>> {
     let lacks = |spot: &&Spot, others: &[Spot]| {
         !others.iter().any(|other| (other.tag, other.contents) == (spot.tag, spot.contents))
     };
-    let one = first.iter().find(|spot| lacks(spot, &second));
-    let other = second.iter().find(|spot| lacks(spot, &first));
-    let spot = [one, other].into_iter().flatten().min_by_key(|spot| spot.key())?;
-    let at = |spots: &[Spot]| spots.iter().find(|found| found.key() == spot.key()).map(entry);
-    let name = format!("{}{within}", spot.name());
-    Some(Difference { name, first: at(&first), second: at(&second) })
+    let one = first.iter().find(|spot| lacks(spot, second));
+    let other = second.iter().find(|spot| lacks(spot, first));
+    [one, other].into_iter().flatten().min_by_key(|spot| spot.key()).copied()
 }
 
 /// A load table in words.

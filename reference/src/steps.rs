@@ -51,6 +51,71 @@ fn terms_in_turn(pack: &[u8], sign: &Sign, number: u32, lets: &[u8]) -> Vec<(Vec
     }
 }
 
+/// A sign of a pack's term, in the order in which the term is written.
+#[derive(Clone, Debug, PartialEq, Eq)]
+pub struct Valued {
+    pub depth: usize,
+    pub sign: u8,
+    /// What the sign stands for.
+    pub meaning: String,
+    /// Whether its value is a language.
+    pub language: bool,
+    /// How many signs, this one too, are worked out up to its own value.
+    pub turn: usize,
+    /// A pack that reduces to the value, or for a language to its identity.
+    pub pack: Vec<u8>,
+}
+
+/// The signs of a pack's term; `None` if the pack has no term that can be read.
+pub fn signs(pack: &[u8]) -> Option<Vec<Valued>> {
+    let parts = pack_parts(pack).ok()?;
+    let sign = read_term(&parts.term, parts.languages.len(), parts.bodies.len()).ok()?;
+    let before = &pack[..parts.term.start() - HEADER];
+    let mut signs = Signs { pack, before, list: vec![], turns: 0 };
+    signs.add(&sign, 0, &[]);
+    Some(signs.list)
+}
+
+/// Gathers the signs of a term.
+struct Signs<'a> {
+    pack: &'a [u8],
+    before: &'a [u8],
+    list: Vec<Valued>,
+    turns: usize,
+}
+
+impl Signs<'_> {
+    /// Adds a sign at a depth, behind the bytes of the lets around it, each for a translation.
+    fn add(&mut self, sign: &Sign, depth: usize, lets: &[u8]) {
+        let language = sign.sign < TRANSLATION_SIGNS;
+        let identity: &[u8] = if language { &[IDENTITY_SIGN] } else { &[] };
+        let term = [lets, identity, &self.pack[sign.at..sign.end]].concat();
+        let pack = [self.before, &field(TERM_TAG, &term)].concat();
+        let place = self.list.len();
+        let (meaning, sign_byte) = (sign.meaning(), sign.sign);
+        self.list.push(Valued { depth, sign: sign_byte, meaning, language, turn: 0, pack });
+        let is_let = matches!(sign.sign, 0x46 | 0x47 | 0x56 | 0x57);
+        for (number, operand) in sign.operands.iter().enumerate() {
+            let inside = match is_let && number == 1 {
+                true => {
+                    let mut value = self.pack[sign.at..sign.operands[0].end].to_vec();
+                    value[0] |= TRANSLATION_SIGNS;
+                    [lets, &value].concat()
+                }
+                false => lets.to_vec(),
+            };
+            self.add(operand, depth + 1, &inside);
+        }
+        self.turns += 1;
+        self.list[place].turn = self.turns;
+    }
+}
+
+/// Signs from this one on are terms for translations.
+const TRANSLATION_SIGNS: u8 = 0x50;
+/// The sign of an identity.
+const IDENTITY_SIGN: u8 = 0x55;
+
 /// The kind that a translation maps a kind to by a number.
 pub fn mapped_kind(translation: &[u8], kind: u32, number: u32) -> Option<u32> {
     let pieces = translation_pieces(translation).ok()?;

@@ -5,6 +5,7 @@ use crate::options::{Opt, Options, COMMON};
 use crate::suggest::nearest;
 use crate::table::{Is, Operand, Times, Verb, VERBS};
 use crate::Failure;
+use reference::names::Names;
 use std::ffi::{OsStr, OsString};
 
 /// A verb with what it is to work on.
@@ -14,6 +15,8 @@ pub struct Call {
     /// The files and other operands, in order.
     pub operands: Vec<OsString>,
     pub options: Options,
+    /// The words of the names files.
+    pub names: Names,
 }
 
 /// What the arguments ask for.
@@ -68,7 +71,7 @@ pub fn parse(arguments: &[OsString]) -> Result<Request, Failure> {
         return Ok(Request::Help(Some(verb)));
     }
     let options = taken(verb, sorted.options)?;
-    let call = Call { verb, operands: sorted.words, options };
+    let call = Call { verb, operands: sorted.words, options, names: Names::default() };
     call.check()?;
     Ok(Request::Call(Box::new(call)))
 }

@@ -9,6 +9,9 @@ use crate::tree_job::CARD_BYTES;
 use crate::{Failure, Streams};
 use algebra::{in_output, Edited, Refusal, ENTRY_BYTES, INDEXED_BYTES};
 use reference::explain::{self, Fault, Indexed};
+use reference::names::Names;
+use reference::plans::Form;
+use reference::show;
 use std::borrow::Cow;
 use std::ffi::{OsStr, OsString};
 
@@ -47,7 +50,7 @@ fn optional(
     streams: &mut Streams,
 ) -> Result<Option<Vec<u8>>, Failure> {
     let Some(name) = name else { return Ok(None) };
-    read_file(name, call.options.hexadecimal, limit, streams).map(Some)
+    read_file(name, call.options.format(), limit, streams).map(Some)
 }
 
 /// A path: argument numbers with points between them, or `-` or nothing for the empty one.
@@ -167,6 +170,11 @@ impl Job for IndexJob {
                 explain::edit(&Indexed { card: card.as_deref(), ..indexed }, path, block, *limit)
             }
         }
+    }
+
+    fn around(&self, names: &Names) -> Option<String> {
+        let language = self.language.explained().ok()?;
+        show::around(&language, self.root, &self.tree, Form::Settled, names)
     }
 }
 
