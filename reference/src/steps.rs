@@ -3,7 +3,10 @@
 use crate::body::{MAPPING_TAG, NUMBERED_MAPPING_TAG};
 use crate::explain::{pack_parts, read_term, translation_pieces, Sign, Spot};
 use crate::field::HEADER;
+use crate::code::{symbols, Symbol};
 use crate::files::field;
+use crate::plans::{self, Node, Sort};
+use crate::translation::{read_translation, Translation};
 use crate::pack::TERM_TAG;
 
 /// One of the translations that a join runs in turn.
@@ -131,6 +134,59 @@ pub fn mapped_kind(translation: &[u8], kind: u32, number: u32) -> Option<u32> {
     found.map(|(_, target)| u32::from(target))
 }
 
+/// A clause that a run applies: the path to the production that it is for, and what it is.
+#[derive(Clone, Debug, PartialEq, Eq)]
+pub struct Applied {
+    pub path: Vec<usize>,
+    pub kind: u8,
+    pub name: u8,
+    pub number: u8,
+}
+
+/// The clauses that the run of a tree applies, in the order in which their codes are written, at most
+/// so many; their number is the cost of the run.
+pub fn applied(
+    translation: &[u8],
+    root: u32,
+    number: u32,
+    tree: &[u8],
+    most: usize,
+) -> Option<Vec<Applied>> {
+    let translation_read = read_translation(translation).ok()?;
+    let node = plans::read_deep(languages(translation)?.0, root, tree)?;
+    let mut list = vec![];
+    let mut path = vec![];
+    put_applied(&translation_read, &node, number as u8, most, &mut path, &mut list);
+    Some(list)
+}
+
+/// Appends the clauses that the run of a node by a number applies.
+fn put_applied(
+    translation: &Translation,
+    node: &Node,
+    number: u8,
+    most: usize,
+    path: &mut Vec<usize>,
+    list: &mut Vec<Applied>,
+) {
+    let Sort::Production(name) = node.sort else { return };
+    if list.len() == most {
+        return;
+    }
+    let (kind, key) = (node.kind, u16::from_be_bytes([node.kind, name]));
+    list.push(Applied { path: path.clone(), kind, name, number });
+    let mut clauses = translation.body.clauses.iter();
+    let Some(clause) = clauses.find(|clause| clause.place() == (key, number)) else { return };
+    for symbol in symbols(clause.code) {
+        if let Symbol::Argument(argument, by) = symbol {
+            let place = usize::from(argument);
+            path.push(place + 1);
+            put_applied(translation, &node.arguments[place], by, most, path, list);
+            path.pop();
+        }
+    }
+}
+
 /// The source and the target of a translation.
 pub fn languages(translation: &[u8]) -> Option<(&[u8], &[u8])> {
     let pieces = translation_pieces(translation).ok()?;
@@ -191,6 +247,36 @@ mod tests {
         let join = [&[0x54][..], &VARIABLE, &IDENTITY].concat();
         let steps = steps(&pack(&[language_c()], &[], &join), 0).expect("the term can be read");
         assert_eq!(steps[0].pack, pack(&[language_c()], &[], &IDENTITY));
+    }
+
+    #[test]
+    fn the_clauses_that_a_run_applies() {
+        let list = applied(&sum(), 1, 0, &[4, 1, 0, 5], 9).expect("a run");
+        let told: Vec<_> = list.iter().map(|one| (one.path.clone(), one.kind, one.name)).collect();
+        assert_eq!(told, [(vec![], 1, 4), (vec![1], 1, 1), (vec![1], 1, 1)]);
+        assert_eq!(applied(&sum(), 1, 0, &[4, 1, 0, 5], 2).map(|list| list.len()), Some(2));
+        let run = crate::run(&sum(), 1, 0, &[4, 1, 0, 5], &mut [0; 7]);
+        assert_eq!(run.cost, 3);
+    }
+
+    #[test]
+    fn the_signs_of_a_term_with_their_turns() {
+        let join = [&[0x54][..], &VARIABLE, &IDENTITY].concat();
+        let term = [&[0x57, 1][..], &IDENTITY, &join].concat();
+        let list = signs(&pack(&[language_c()], &[], &term)).expect("the term can be read");
+        let told: Vec<_> = list.iter().map(|sign| (sign.depth, sign.sign, sign.turn)).collect();
+        let expected = [
+            (0, 0x57, 7),
+            (1, 0x55, 2),
+            (2, 0x40, 1),
+            (1, 0x54, 6),
+            (2, 0x51, 3),
+            (2, 0x55, 5),
+            (3, 0x40, 4),
+        ];
+        assert_eq!(told, expected);
+        let reduced = |pack: &[u8]| crate::reduce(pack, &mut [0; 65_536], &mut [0; 4096]).number();
+        assert!(list.iter().all(|sign| reduced(&sign.pack) == 0));
     }
 
     #[test]

@@ -172,6 +172,15 @@ impl Job for IndexJob {
         }
     }
 
+    fn result_in(&self, given: &Given) -> Option<(Vec<u8>, u32)> {
+        let language = self.language.language().ok()?.into_owned();
+        match given {
+            Given::Block { kind, .. } => Some((language, *kind)),
+            Given::Edited(_) => Some((language, self.root)),
+            _ => None,
+        }
+    }
+
     fn around(&self, names: &Names) -> Option<String> {
         let language = self.language.explained().ok()?;
         show::around(&language, self.root, &self.tree, Form::Settled, names)

@@ -14,7 +14,7 @@ use reference::explain::{self, Fault};
 use reference::names::Names;
 use reference::plans::Form;
 use reference::show;
-use reference::steps::languages;
+use reference::steps::{languages, mapped_kind};
 use std::borrow::Cow;
 use std::ffi::OsStr;
 
@@ -59,6 +59,11 @@ pub trait Job: Sync {
 
     /// Where a second reading finds a fault, if it does.
     fn fault(&self) -> Option<Fault>;
+
+    /// The language and the kind of the tree that an answer gives, if it gives one.
+    fn result_in(&self, _: &Given) -> Option<(Vec<u8>, u32)> {
+        None
+    }
 
     /// The plan around its fault, if it is the plan that is at fault.
     fn around(&self, _: &Names) -> Option<String> {
@@ -312,6 +317,12 @@ impl Job for Run {
             Ok(found) => explain::run(&found, *root, *number, tree, *limit),
             Err(fault) => Some(fault),
         }
+    }
+
+    fn result_in(&self, _: &Given) -> Option<(Vec<u8>, u32)> {
+        let translation = self.translator.translation().ok()?;
+        let kind = mapped_kind(&translation, self.root, self.number)?;
+        Some((languages(&translation)?.1.to_vec(), kind))
     }
 
     fn around(&self, names: &Names) -> Option<String> {

@@ -90,6 +90,11 @@ impl Job for Search {
         }
     }
 
+    fn result_in(&self, _: &Given) -> Option<(Vec<u8>, u32)> {
+        let translation = self.translator.translation().ok()?;
+        Some((languages(&translation)?.0.to_vec(), self.root))
+    }
+
     fn around(&self, names: &Names) -> Option<String> {
         let translation = self.translator.explained().ok()?;
         let root = mapped_kind(&translation, self.root, 0)?;

@@ -149,6 +149,12 @@ impl Job for TreeJob {
         }
     }
 
+    fn result_in(&self, _: &Given) -> Option<(Vec<u8>, u32)> {
+        let imports = matches!(self.operation, Operation::Import { .. });
+        let language = self.language.language().ok().filter(|_| imports)?;
+        Some((language.into_owned(), self.root))
+    }
+
     fn around(&self, names: &Names) -> Option<String> {
         let form = match self.operation {
             Operation::Import { .. } => return None,

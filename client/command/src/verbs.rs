@@ -11,6 +11,8 @@ use crate::{job, Failure, Printed, Streams, ACCEPTED, REFUSED};
 use algebra::Refusal;
 use reference::explain::Fault;
 use reference::listing::clause_lines;
+use reference::notation::{clause_words, node_words};
+use reference::plans::read_deep;
 use std::fmt::Display;
 
 /// Carries out a call.
@@ -77,7 +79,8 @@ fn operate(load: Load, call: &Call, streams: &mut Streams) -> Result<Printed, Fa
         write_file(file, &bytes)?;
     }
     let Some(file) = &call.options.output else {
-        return Ok(printed(first, &(figures + &given.shown())));
+        let words = work(given.bytes().len(), streams, || words(call, job.as_ref(), &given))?;
+        return Ok(printed(first, &(figures + &given.shown() + &words)));
     };
     let bytes = given.written(hexadecimal);
     if file == "-" {
@@ -88,11 +91,27 @@ fn operate(load: Load, call: &Call, streams: &mut Streams) -> Result<Printed, Fa
     Ok(printed(first, &figures))
 }
 
+/// A tree that is given in words, where there are names.
+fn words(call: &Call, job: &dyn Job, given: &Given) -> String {
+    let node = || {
+        let (language, kind) = job.result_in(given)?;
+        read_deep(&language, kind, given.bytes())
+    };
+    match (!call.names.is_empty()).then(node).flatten() {
+        Some(node) => format!("{}\n", node_words(&node, &call.names, 0)),
+        None => String::new(),
+    }
+}
+
 /// Prints what the listing program prints.
 pub fn list(call: &Call, streams: &mut Streams) -> Result<Printed, Failure> {
     let job = job::load_reduce(call, streams)?;
     Ok(match work(0, streams, || job.answer())? {
-        Ok(given) => printed(Ok(given.figure()), &clause_lines(given.bytes())),
+        Ok(given) => {
+            let words = (!call.names.is_empty()).then(|| clause_words(given.bytes(), &call.names));
+            let lines = words.flatten().unwrap_or_else(|| clause_lines(given.bytes()));
+            printed(Ok(given.figure()), &lines)
+        }
         Err(Refused { refusal, .. }) => {
             let output = format!("refused {}\n", refusal.number()).into_bytes();
             Printed { output, messages: String::new(), status: REFUSED }

@@ -13,7 +13,8 @@ pub use tokens::Misread;
 
 pub(crate) use code::between as shapes_in_pack;
 
-use crate::explain::{card_kinds, Fault, Piece};
+use crate::body::CLAUSE_TAG;
+use crate::explain::{card_kinds, pack_parts, read_term, translation_pieces, Fault, Piece};
 use crate::index::ENTRY_BYTES;
 use crate::language::Kinds;
 use crate::names::Names;
@@ -61,6 +62,29 @@ fn plan_text(node: &Node, form: Form, names: &Names) -> String {
     let mut lines = Lines::new(&format!("{sort} {}", names.kind(node.kind)), names);
     lines.nested(1, &write::node_text(node, names));
     lines.text
+}
+
+/// A node as text on as many lines as it needs, each but the first behind so many spaces.
+pub fn node_words(node: &Node, names: &Names, indent: usize) -> String {
+    let mut text = String::new();
+    write::node_text(node, names).put(indent, &mut text);
+    text
+}
+
+/// The term of a pack as text on one line, if it can be read.
+pub fn term_line(pack: &[u8]) -> Option<String> {
+    let parts = pack_parts(pack).ok()?;
+    let sign = read_term(&parts.term, parts.languages.len(), parts.bodies.len()).ok()?;
+    Some(write::term_text(&sign).line())
+}
+
+/// The clauses of a translation as text, a line for each, if it can be read.
+pub fn clause_words(translation: &[u8], names: &Names) -> Option<String> {
+    let pieces = translation_pieces(translation).ok()?;
+    let (between, spots) = (shapes(&pieces.source, &pieces.target), pieces.body.spots());
+    let clauses = spots.iter().filter(|spot| spot.key().0 == CLAUSE_TAG);
+    let line = |spot| format!("{}\n", write::body_line(spot, &spots, &between, names, 0));
+    Some(clauses.map(line).collect())
 }
 
 /// A node as text on one line.
