@@ -2,6 +2,7 @@
 #![forbid(unsafe_code)]
 
 mod arguments;
+mod completion;
 mod explanation;
 mod given;
 mod help;
@@ -9,6 +10,7 @@ mod index_job;
 mod input;
 mod job;
 mod language_file;
+mod manual;
 mod options;
 mod output;
 mod rows;
@@ -18,6 +20,7 @@ mod steps;
 mod suggest;
 mod table;
 mod term_job;
+mod tidy;
 mod tree_job;
 mod verbs;
 mod work;
