@@ -40,10 +40,9 @@ test:
 
 library: $(ARCHIVE)
 
-# The libraries and the listing program first, two at a time; then the archive, which proves the C interface.
+# All that is needed is proved in one go, four crates at a time, with a line for each; then the archive is built.
 $(BUILT_ARCHIVE): $(PROVED)
-	rt check runner listing
-	rt staticlib algebra
+	@bash crates/prove
 
 command: $(ARCHIVE)
 	cargo build --quiet --release --offline --package algebra-command
