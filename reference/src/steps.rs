@@ -1,13 +1,13 @@
 //! A join taken apart into the steps that run one after the other.
 
 use crate::body::{MAPPING_TAG, NUMBERED_MAPPING_TAG};
+use crate::code::{symbols, Symbol};
 use crate::explain::{pack_parts, read_term, translation_pieces, Sign, Spot};
 use crate::field::HEADER;
-use crate::code::{symbols, Symbol};
 use crate::files::field;
+use crate::pack::TERM_TAG;
 use crate::plans::{self, Node, Sort};
 use crate::translation::{read_translation, Translation};
-use crate::pack::TERM_TAG;
 
 /// One of the translations that a join runs in turn.
 #[derive(Clone, Debug, PartialEq, Eq)]

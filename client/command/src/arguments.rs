@@ -7,6 +7,8 @@ use crate::table::{Is, Operand, Times, Verb, VERBS};
 use crate::Failure;
 use reference::names::Names;
 use std::ffi::{OsStr, OsString};
+use std::fs;
+use std::path::{Path, PathBuf};
 
 /// A verb with what it is to work on.
 #[derive(Clone, Debug, PartialEq, Eq)]
@@ -215,11 +217,18 @@ impl Call {
     }
 }
 
-/// Whether two options name one file.
+/// Whether two options name one file, which need not be there yet.
 fn same_file(one: &Option<OsString>, other: &Option<OsString>) -> bool {
     let (Some(one), Some(other)) = (one, other) else { return false };
-    let found = |name: &OsString| std::fs::canonicalize(name).ok();
     one == other || found(one).is_some_and(|one| found(other) == Some(one))
+}
+
+/// Where a file is, or would be: its folder must be there.
+fn found(name: &OsStr) -> Option<PathBuf> {
+    let (path, here) = (Path::new(name), Path::new("."));
+    let folder = path.parent().filter(|folder| !folder.as_os_str().is_empty()).unwrap_or(here);
+    let beside = || Some(fs::canonicalize(folder).ok()?.join(path.file_name()?));
+    fs::canonicalize(path).ok().or_else(beside)
 }
 
 /// Whether so many operands are of a form.
@@ -240,6 +249,7 @@ fn counts(forms: &[&[Operand]]) -> String {
     let of = |form: &&[Operand]| match bounds(form) {
         (least, None) => format!("{least} or more"),
         (least, Some(most)) if least == most => least.to_string(),
+        (least, Some(most)) if least + 1 == most => format!("{least} or {most}"),
         (least, Some(most)) => format!("{least} to {most}"),
     };
     let counts: Vec<String> = forms.iter().map(of).collect();

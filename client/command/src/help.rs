@@ -7,22 +7,22 @@ use crate::table::{Verb, VERBS};
 pub const WIDTH: usize = 80;
 
 /// What stands above the verbs.
-const HEADING: &str =
+pub const HEADING: &str =
     "algebra: checks, reduces, runs and shows session languages and their translations";
 
 /// What stands below the verbs.
-const ANSWERS: &str =
+pub const ANSWERS: &str =
     "The first line is 'accepted' with the length of the result (or a score, or two), or 'refused' \
      with a number and a sentence. The status is 0 for accepted, 1 for refused, and 2 if there is \
      no answer: wrong arguments, a file that cannot be read or written.";
 
 /// What is to be known of arguments.
-const ARGUMENTS: &str =
+pub const ARGUMENTS: &str =
     "A file is given by its name, or as - for the standard input. Options may stand anywhere, with \
      their values behind them or behind =; -- ends them. Options of every verb:";
 
 /// The options that are no rows, since they ask for no verb.
-const ASKING: [(&str, &str); 2] =
+pub const ASKING: [(&str, &str); 2] =
     [("--help", "tell more about the verb"), ("--version", "tell the version of the command")];
 
 /// Words in lines of at most so many columns; each line but the first begins with so many spaces, and

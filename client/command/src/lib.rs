@@ -2,6 +2,7 @@
 #![forbid(unsafe_code)]
 
 mod arguments;
+mod completion;
 mod draw;
 mod evaluate;
 mod explaining;
@@ -14,8 +15,10 @@ mod index_job;
 mod input;
 mod job;
 mod language_file;
+mod manual;
 mod options;
 mod output;
+mod page;
 mod picture;
 mod rows;
 mod same;
@@ -24,6 +27,7 @@ mod steps;
 mod suggest;
 mod table;
 mod term_job;
+mod tidy;
 mod tree_job;
 mod verbs;
 mod words;

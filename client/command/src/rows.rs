@@ -10,7 +10,7 @@ use crate::search_job::Search;
 use crate::table::{Act, Is, Operand, Times, Verb};
 use crate::term_job::TermJob;
 use crate::tree_job::TreeJob;
-use crate::{draw, evaluate, explaining, files, same, steps, verbs};
+use crate::{completion, draw, evaluate, explaining, files, manual, same, steps, verbs};
 
 const FILE: Operand = Operand::file("FILE");
 const LANGUAGE: Operand = Operand::file("LANGUAGE");
@@ -27,6 +27,7 @@ const CARD_FILE: Operand = Operand::file("CARD");
 const ROOT: Operand = Operand::word("ROOT");
 const PATH: Operand = Operand::word("PATH");
 const LEVELS: Operand = Operand::word("LEVELS").times(Times::Perhaps);
+const SHELL: Operand = Operand::word("SHELL");
 const VERB: Operand = Operand { name: "VERB", is: Is::Verb, times: Times::Once };
 const OPERANDS: Operand = Operand::word("OPERAND").times(Times::Any);
 
@@ -206,8 +207,8 @@ pub static VERBS: &[Verb] = &[
         options: &[&TIDY, &OUTPUT, &LIMIT, &AS_LANGUAGE, &TARGET],
         summary: "Read a tree from XML that export wrote",
         details: "ROOT is the number of a kind, 0 to 31. TEXT is a file that export -o wrote, or the \
-                  same text: anything else in it, such as a space or a line end, is refused. It is \
-                  read as it is, also with --hex, which is for the language and the result. The tree \
+                  same text: anything else in it, such as a space or a line end, is refused, unless \
+                  --tidy drops it. It is read as it is, also with --hex, which is for the language and the result. The tree \
                   is printed in hexadecimal digits below the first line.",
         refusals: "1 to 4, 14, 16, 17, 20",
         act: Act::Operation(TreeJob::load_import),
@@ -377,5 +378,23 @@ pub static VERBS: &[Verb] = &[
                   to be run: then that is said.",
         refusals: "",
         act: Act::Other(steps::steps),
+    },
+    Verb {
+        name: "manual",
+        forms: &[&[]],
+        options: &[],
+        summary: "Print the manual page",
+        details: "The page is in the format of man: algebra manual > algebra.1; man ./algebra.1",
+        refusals: "",
+        act: Act::Other(manual::manual),
+    },
+    Verb {
+        name: "completion",
+        forms: &[&[SHELL]],
+        options: &[],
+        summary: "Print the completion of the command for a shell",
+        details: "SHELL is bash or zsh. In bash: source <(algebra completion bash)",
+        refusals: "",
+        act: Act::Other(completion::completion),
     },
 ];

@@ -43,13 +43,13 @@ impl Search {
     /// What it finds within the least number of levels at which there is a source tree, and that
     /// number.
     fn least(&self, translation: &[u8]) -> Result<Given, Refusal> {
-        for levels in 1..SEARCH_LEVELS as u32 {
+        for levels in 1..SEARCH_LEVELS {
             match self.within(translation, levels) {
                 Err(Refusal::NoSource) => (),
                 found => return found.map(|tree| Given::Found { tree, levels }),
             }
         }
-        let levels = SEARCH_LEVELS as u32;
+        let levels = SEARCH_LEVELS;
         self.within(translation, levels).map(|tree| Given::Found { tree, levels })
     }
 
@@ -60,12 +60,12 @@ impl Search {
 
     /// Where it finds a fault within the least number of levels at which there is a source tree.
     fn least_fault(&self, translation: &[u8]) -> Option<Fault> {
-        let found = (1..SEARCH_LEVELS as u32).map(|levels| self.fault_within(translation, levels));
+        let found = (1..SEARCH_LEVELS).map(|levels| self.fault_within(translation, levels));
         let none = |fault: &Option<Fault>| {
             fault.as_ref().is_some_and(|fault| fault.reason as u32 == Refusal::NoSource.number())
         };
         let mut other = found.skip_while(none);
-        other.next().unwrap_or_else(|| self.fault_within(translation, SEARCH_LEVELS as u32))
+        other.next().unwrap_or_else(|| self.fault_within(translation, SEARCH_LEVELS))
     }
 }
 

@@ -6,6 +6,7 @@ use crate::input::read_file;
 use crate::job::{operand, root, run_limit, tree, Job, Refused, TREE_BYTES};
 use crate::language_file::LanguageFile;
 use crate::options::Format;
+use crate::tidy::{tidied, Tidied};
 use crate::{Failure, Streams};
 use algebra::{in_output, TABLE_BYTES};
 use reference::explain::{self, Fault};
@@ -38,9 +39,18 @@ enum Operation {
     Mask { card: Vec<u8>, limit: Option<usize> },
 }
 
-/// The text, which is the third operand and never hexadecimal.
+/// The text, which is the third operand and never hexadecimal. What is dropped from it is said.
 fn text(call: &Call, streams: &mut Streams) -> Result<Vec<u8>, Failure> {
-    read_file(&call.operands[2], Format::Bytes, TREE_BYTES, streams)
+    let text = read_file(&call.operands[2], Format::Bytes, TREE_BYTES, streams)?;
+    if !call.options.tidy {
+        return Ok(text);
+    }
+    let Tidied { text, dropped } = tidied(&text);
+    if !dropped.is_empty() {
+        // A message that cannot be written has no other place to go.
+        let _ = writeln!(streams.messages, "dropped: {}", dropped.join(", "));
+    }
+    Ok(text)
 }
 
 impl TreeJob {

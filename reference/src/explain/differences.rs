@@ -146,8 +146,8 @@ fn outside(outer: &Translation, inner: &Translation) -> Option<String> {
 
 /// A number of a join's operand that is above 15.
 fn high_number(outer: &Translation, inner: &Translation) -> Option<String> {
-    let named = [("first", outer), ("second", inner)].into_iter();
-    let (name, operand) = named.filter(|(_, operand)| has_high_number(operand)).next()?;
+    let mut named = [("first", outer), ("second", inner)].into_iter();
+    let (name, operand) = named.find(|(_, operand)| has_high_number(operand))?;
     let highest = operand.body.others.iter().max_by_key(|other| other.number)?;
     let (kind, number) = (highest.kind, highest.number);
     Some(format!("kind {kind} of the {name} operand has number {number}, which is above 15"))
