@@ -154,7 +154,7 @@ fn examples(ending: &str) -> Vec<PathBuf> {
 /// The names of the folder of an example, if it has some.
 fn names_of(path: &Path) -> Names {
     let mut names = Names::default();
-    if let Ok(text) = std::fs::read_to_string(path.with_file_name("names")) {
+    if let Ok(text) = std::fs::read_to_string(path.with_file_name("words.names")) {
         names.add(&text).expect("the names of an example");
     }
     names
@@ -183,4 +183,69 @@ fn examples_come_back() {
         }
     }
     assert!(count > 40, "{count}");
+}
+
+/// What is said of a text that is wrong.
+fn misread(text: &str) -> String {
+    let mut names = Names::default();
+    names.add("1 block\n2 minutes\n1.1 row\n1.4 twice\n").expect("names");
+    assemble(text, &names).expect_err(text).to_string()
+}
+
+#[test]
+fn what_is_wrong_is_told_with_its_place() {
+    let sorts = "language, translation, pack, table, card, tree, loose, masked or index";
+    for (text, what) in [
+        ("", format!("line 1, column 1: {sorts} was expected, and the end of the text stands here")),
+        ("plan", format!("line 1, column 1: {sorts} was expected, and plan stands here")),
+        (
+            "language\n  class 2: 1 240",
+            "line 2, column 14: to was expected, and 240 stands here".to_string(),
+        ),
+        (
+            "language\n  class 32: 1 to 2",
+            "line 2, column 9: a kind from 0 to 31 was expected, and 32 stands here".to_string(),
+        ),
+        (
+            "language\n  production 1.4 (1",
+            "line 2, column 20: a kind was expected, and the end of the text stands here".to_string(),
+        ),
+        (
+            "language\n  class minuets: 1 to 2",
+            "line 2, column 9: minuets names no kind; minutes is near to it".to_string(),
+        ),
+        (
+            "tree block\n  twise(row(5))",
+            "line 2, column 3: twise names no production; twice is near to it".to_string(),
+        ),
+        (
+            "tree 1\n  1.4(1.1(70000))",
+            "line 2, column 11: a value from 0 to 65535 was expected, and 70000 stands here"
+                .to_string(),
+        ),
+        (
+            "tree 1\n  1.1(5) 1.1(6)",
+            "line 2, column 10: the end of the line was expected, and 1.1 stands here".to_string(),
+        ),
+        (
+            "pack\n  body 1\n",
+            "line 2, column 8: the number of a body, from 0 to 0 was expected, and 1 stands here"
+                .to_string(),
+        ),
+        (
+            "pack\n  term\n    identity(w0)",
+            "line 3, column 14: a language term was expected, and w0 stands here".to_string(),
+        ),
+        (
+            "card\n  kind 1 kind 2",
+            "line 2, column 10: the end of the line was expected, and kind stands here".to_string(),
+        ),
+        (
+            "card\nkind 1\nseen 2",
+            "line 3, column 1: nothing more was expected, and seen stands here".to_string(),
+        ),
+        ("card;", "line 1, column 5: ';' is no part of the notation".to_string()),
+    ] {
+        assert_eq!(misread(text), what, "{text}");
+    }
 }

@@ -100,7 +100,7 @@ impl Folder {
         }
         arguments.extend(options.iter().map(OsString::from));
         arguments.extend(first_file(verbs).map(OsString::from));
-        arguments.extend(hexadecimal.then(|| "--hex".into()));
+        arguments.push(if hexadecimal { "--hex" } else { "--bytes" }.into());
         Printed { hexadecimal, ..called(&arguments, &input) }
     }
 
