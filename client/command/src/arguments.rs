@@ -5,6 +5,7 @@ use crate::options::{Opt, Options, COMMON};
 use crate::suggest::nearest;
 use crate::table::{Is, Operand, Times, Verb, VERBS};
 use crate::Failure;
+use reference::names::Names;
 use std::ffi::{OsStr, OsString};
 use std::fs;
 use std::path::{Path, PathBuf};
@@ -16,6 +17,8 @@ pub struct Call {
     /// The files and other operands, in order.
     pub operands: Vec<OsString>,
     pub options: Options,
+    /// The words of the names files.
+    pub names: Names,
 }
 
 /// What the arguments ask for.
@@ -70,7 +73,7 @@ pub fn parse(arguments: &[OsString]) -> Result<Request, Failure> {
         return Ok(Request::Help(Some(verb)));
     }
     let options = taken(verb, sorted.options)?;
-    let call = Call { verb, operands: sorted.words, options };
+    let call = Call { verb, operands: sorted.words, options, names: Names::default() };
     call.check()?;
     Ok(Request::Call(Box::new(call)))
 }

@@ -9,6 +9,9 @@ use crate::tree_job::CARD_BYTES;
 use crate::{Failure, Streams};
 use algebra::{in_output, Edited, Refusal, ENTRY_BYTES, INDEXED_BYTES};
 use reference::explain::{self, Fault, Indexed};
+use reference::names::Names;
+use reference::plans::Form;
+use reference::show;
 use std::borrow::Cow;
 use std::ffi::{OsStr, OsString};
 
@@ -47,7 +50,7 @@ fn optional(
     streams: &mut Streams,
 ) -> Result<Option<Vec<u8>>, Failure> {
     let Some(name) = name else { return Ok(None) };
-    read_file(name, call.options.hexadecimal, limit, streams).map(Some)
+    read_file(name, call.options.format(), limit, streams).map(Some)
 }
 
 /// A path: argument numbers with points between them, or `-` or nothing for the empty one.
@@ -167,6 +170,20 @@ impl Job for IndexJob {
                 explain::edit(&Indexed { card: card.as_deref(), ..indexed }, path, block, *limit)
             }
         }
+    }
+
+    fn result_in(&self, given: &Given) -> Option<(Vec<u8>, u32)> {
+        let language = self.language.language().ok()?.into_owned();
+        match given {
+            Given::Block { kind, .. } => Some((language, *kind)),
+            Given::Edited(_) => Some((language, self.root)),
+            _ => None,
+        }
+    }
+
+    fn around(&self, names: &Names) -> Option<String> {
+        let language = self.language.explained().ok()?;
+        show::around(&language, self.root, &self.tree, Form::Settled, names)
     }
 }
 

@@ -11,7 +11,12 @@ use algebra::{
     WORKSPACE_BYTES,
 };
 use reference::explain::{self, Fault};
+use reference::names::Names;
+use reference::plans::Form;
+use reference::show;
+use reference::steps::{languages, mapped_kind};
 use std::borrow::Cow;
+use std::ffi::OsStr;
 
 /// The length of the output of a run or a search, unless the arguments give one.
 const RUN_BYTES: usize = 1 << 28;
@@ -54,6 +59,16 @@ pub trait Job: Sync {
 
     /// Where a second reading finds a fault, if it does.
     fn fault(&self) -> Option<Fault>;
+
+    /// The language and the kind of the tree that an answer gives, if it gives one.
+    fn result_in(&self, _: &Given) -> Option<(Vec<u8>, u32)> {
+        None
+    }
+
+    /// The plan around its fault, if it is the plan that is at fault.
+    fn around(&self, _: &Names) -> Option<String> {
+        None
+    }
 }
 
 /// Reads the inputs of an operation.
@@ -78,15 +93,26 @@ pub fn operand(
     limit: usize,
     streams: &mut Streams,
 ) -> Result<Vec<u8>, Failure> {
-    read_file(&call.operands[place], call.options.hexadecimal, limit, streams)
+    read_file(&call.operands[place], call.options.format(), limit, streams)
 }
 
 /// The root, which is the second operand.
 pub fn root(call: &Call) -> Result<u32, Failure> {
-    let text = &call.operands[1];
-    number("root", text).map_err(|_| {
-        let what = format!("the root {} is no kind, a number from 0 to 31", text.display());
-        call.misuse(&what)
+    kind(call, "root", &call.operands[1])
+}
+
+/// A kind by its number or its word.
+pub fn kind(call: &Call, name: &str, text: &OsStr) -> Result<u32, Failure> {
+    let word = text.to_str().unwrap_or_default();
+    if let Some(kind) = call.names.kind_named(word) {
+        return Ok(kind.into());
+    }
+    number(name, text).map_err(|_| match call.names.is_empty() {
+        true => {
+            let what = format!("the {name} {} is no kind, a number from 0 to 31", text.display());
+            call.misuse(&what)
+        }
+        false => call.misuse(&call.names.no_kind(&text.display().to_string())),
     })
 }
 
@@ -291,5 +317,16 @@ impl Job for Run {
             Ok(found) => explain::run(&found, *root, *number, tree, *limit),
             Err(fault) => Some(fault),
         }
+    }
+
+    fn result_in(&self, _: &Given) -> Option<(Vec<u8>, u32)> {
+        let translation = self.translator.translation().ok()?;
+        let kind = mapped_kind(&translation, self.root, self.number)?;
+        Some((languages(&translation)?.1.to_vec(), kind))
+    }
+
+    fn around(&self, names: &Names) -> Option<String> {
+        let translation = self.translator.explained().ok()?;
+        show::around(languages(&translation)?.0, self.root, &self.tree, Form::Settled, names)
     }
 }

@@ -11,6 +11,10 @@ pub enum Sort {
     Pack,
     Table,
     Card,
+    Tree,
+    Loose,
+    Masked,
+    Index,
 }
 
 /// The options of a call.
@@ -20,6 +24,14 @@ pub struct Options {
     pub given: Vec<&'static str>,
     /// Files are hexadecimal text.
     pub hexadecimal: bool,
+    /// Files are bytes, whatever they look like.
+    pub bytes: bool,
+    /// The files that have words for kinds and productions.
+    pub names: Vec<OsString>,
+    /// The class whose tokens count as length in a picture.
+    pub class: Option<OsString>,
+    /// The page that steps are written to.
+    pub page: Option<OsString>,
     /// The file that the result is written to.
     pub output: Option<OsString>,
     /// The length of the output that is lent.
@@ -42,6 +54,26 @@ pub struct Options {
     pub pack: Option<OsString>,
     /// A text is tidied before it is imported.
     pub tidy: bool,
+}
+
+/// How files are read.
+#[derive(Clone, Copy, Debug, PartialEq, Eq)]
+pub enum Format {
+    /// As hexadecimal text where they look like it, and else as bytes.
+    Told,
+    Hexadecimal,
+    Bytes,
+}
+
+impl Options {
+    /// How files are read.
+    pub fn format(&self) -> Format {
+        match (self.hexadecimal, self.bytes) {
+            (true, _) => Format::Hexadecimal,
+            (false, true) => Format::Bytes,
+            (false, false) => Format::Told,
+        }
+    }
 }
 
 /// A row of the table of options.
@@ -89,13 +121,20 @@ const TRANSLATORS: [(&str, Sort); 2] = [("translation", Sort::Translation), ("pa
 const LANGUAGES: [(&str, Sort); 3] =
     [("language", Sort::Language), ("translation", Sort::Translation), ("pack", Sort::Pack)];
 /// What any file may be.
-const SORTS: [(&str, Sort); 5] = [
+const SORTS: [(&str, Sort); 9] = [
     ("language", Sort::Language),
     ("translation", Sort::Translation),
     ("pack", Sort::Pack),
     ("table", Sort::Table),
     ("card", Sort::Card),
+    ("tree", Sort::Tree),
+    ("loose", Sort::Loose),
+    ("masked", Sort::Masked),
+    ("index", Sort::Index),
 ];
+/// What a plan may be.
+const PLANS: [(&str, Sort); 3] =
+    [("tree", Sort::Tree), ("loose", Sort::Loose), ("masked", Sort::Masked)];
 
 pub static HEX: Opt = Opt {
     name: "--hex",
@@ -111,8 +150,77 @@ pub static HEX: Opt = Opt {
     },
 };
 
+pub static BYTES: Opt = Opt {
+    name: "--bytes",
+    value: None,
+    help: "files are bytes, also those that look like hexadecimal text, which without this option \
+           are read as such, with a note",
+    often: false,
+    set: |options, _| {
+        options.bytes = true;
+        Ok(())
+    },
+};
+
+pub static NAMES: Opt = Opt {
+    name: "--names",
+    value: Some("FILE"),
+    help: "a file with words for kinds and productions, in lines such as '2 minutes' and '1.4 twice'; \
+           it may be given more than once, and ALGEBRA_NAMES may name files with : between them",
+    often: true,
+    set: |options, value| {
+        options.names.extend(file(value));
+        Ok(())
+    },
+};
+
 /// The options that every verb takes.
-pub static COMMON: &[&Opt] = &[&HEX];
+pub static COMMON: &[&Opt] = &[&HEX, &BYTES, &NAMES];
+
+pub static CLASS: Opt = Opt {
+    name: "--class",
+    value: Some("KIND"),
+    help: "only tokens of this class count as length; without it, all do",
+    often: false,
+    set: |options, value| {
+        options.class = file(value);
+        Ok(())
+    },
+};
+
+pub static PAGE: Opt = Opt {
+    name: "--html",
+    value: Some("FILE"),
+    help: "write a page with the trees of each step drawn to the file, which stands by itself",
+    often: false,
+    set: |options, value| {
+        options.page = file(value);
+        Ok(())
+    },
+};
+
+pub static AS_PLAN: Opt = Opt {
+    name: "--as",
+    value: Some("SORT"),
+    help: "the plan is a 'tree', 'loose' (two values for each token) or 'masked' (by the card of \
+           --card)",
+    often: false,
+    set: |options, value| {
+        options.sort = sort(value, &PLANS)?;
+        Ok(())
+    },
+};
+
+pub static SEEN: Opt = Opt {
+    name: "--card",
+    value: Some("FILE"),
+    help: "the card by which a masked plan was masked",
+    often: false,
+    set: |options, value| {
+        options.card = file(value);
+        Ok(())
+    },
+};
 
 pub static OUTPUT: Opt = Opt {
     name: "-o",
@@ -201,9 +309,8 @@ pub static TIDY: Opt = Opt {
 pub static AS_ANY: Opt = Opt {
     name: "--as",
     value: Some("SORT"),
-    help:
-        "take the file as a 'language', a 'translation', a 'pack', a 'table' or a 'card', whatever \
-           its first byte",
+    help: "take the file as a 'language', a 'translation', a 'pack', a 'table', a 'card' or an \
+           'index', whatever its first byte; a plan as a 'tree', 'loose' or 'masked'",
     often: false,
     set: |options, value| {
         options.sort = sort(value, &SORTS)?;

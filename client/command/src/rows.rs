@@ -3,14 +3,14 @@
 use crate::index_job::IndexJob;
 use crate::job;
 use crate::options::{
-    AS_ANY, AS_LANGUAGE, AS_TRANSLATOR, CARD, INDEX, LIMIT, NEW_INDEX, NUMBER, OUTPUT,
-    PACK as PACK_OUT, TARGET, TIDY, XML,
+    AS_ANY, AS_LANGUAGE, AS_PLAN, AS_TRANSLATOR, CARD, CLASS, INDEX, LIMIT, NEW_INDEX, NUMBER,
+    OUTPUT, PACK as PACK_OUT, PAGE, SEEN, TARGET, TIDY, XML,
 };
 use crate::search_job::Search;
 use crate::table::{Act, Is, Operand, Times, Verb};
 use crate::term_job::TermJob;
 use crate::tree_job::TreeJob;
-use crate::{completion, manual, same, steps, verbs};
+use crate::{completion, draw, evaluate, explaining, files, manual, same, steps, verbs};
 
 const FILE: Operand = Operand::file("FILE");
 const LANGUAGE: Operand = Operand::file("LANGUAGE");
@@ -290,33 +290,86 @@ pub static VERBS: &[Verb] = &[
     },
     Verb {
         name: "show",
-        forms: &[&[FILE], &[LANGUAGE, ROOT, TREE]],
-        options: &[&AS_ANY, &TARGET],
-        summary: "Show a file or a tree in words",
-        details: "Prints a line for each entry of a language, a translation, a pack, a load table or \
-                  a card, or for each node of a tree. What the file is, its first byte tells. A file \
-                  is shown whether or not it is accepted, unless it is refused with 1 or 2; a load \
-                  table is shown if it has whole fields 24 only, and a tree if it is legal.",
+        forms: &[&[FILE], &[LANGUAGE, ROOT, PLAN]],
+        options: &[&AS_ANY, &SEEN, &TARGET],
+        summary: "Show a file or a plan in words",
+        details: "Prints a line for each entry of a language, a translation, a pack, a load table, a \
+                  card or an index, or for each node of a plan: a tree, or with --as a loose or a \
+                  masked plan. What a file is, its first byte tells. A file is shown whether or not \
+                  it is accepted, unless it is refused with 1 or 2; below it stands the refusal, if \
+                  it is refused. A load table is shown if it has whole fields 24 only, and a plan if \
+                  it is legal. Codes are nested as dump writes them.",
         refusals: "",
-        act: Act::Other(verbs::show),
+        act: Act::Other(files::show),
+    },
+    Verb {
+        name: "dump",
+        forms: &[&[FILE], &[LANGUAGE, ROOT, PLAN]],
+        options: &[&AS_ANY, &SEEN, &TARGET, &OUTPUT],
+        summary: "Write a file or a plan as text that assemble reads",
+        details: "The text has no lengths: those assemble counts. What show shows, dump writes, and \
+                  assemble gives it back byte for byte. A clause is '1.4: 1.2(#1, #1)', or where \
+                  there are names 'twice(x) = sequence(x, x)'; #2.1 and y.1 are the second argument \
+                  by number 1.",
+        refusals: "",
+        act: Act::Other(files::dump),
+    },
+    Verb {
+        name: "assemble",
+        forms: &[&[TEXT]],
+        options: &[&OUTPUT],
+        summary: "Make a file from text that dump wrote, or that was written so",
+        details: "The first word says what the text is: language, translation, pack, table, card, \
+                  tree, loose, masked or index. Every length is counted. What is wrong in the text \
+                  is told with its line and column, and with what was expected there. Whether the \
+                  file is accepted, the checks tell.",
+        refusals: "",
+        act: Act::Other(files::assemble),
+    },
+    Verb {
+        name: "draw",
+        forms: &[&[LANGUAGE, ROOT, PLAN]],
+        options: &[&AS_PLAN, &SEEN, &TARGET, &CLASS, &OUTPUT],
+        summary: "Draw a session, in the terminal or as a picture",
+        details: "Blocks are nested, and each leaf has a bar as long as its tokens. With -o the \
+                  picture is written as SVG: blocks as boxes over a strip whose parts are as wide as \
+                  their tokens, coloured by production, with a legend. Of a loose plan least and \
+                  greatest are drawn, of a masked plan the hidden blocks as such. There are colours \
+                  where the output is a terminal and NO_COLOR is not set.",
+        refusals: "1 to 4, 14 to 16",
+        act: Act::Other(draw::draw),
     },
     Verb {
         name: "explain",
         forms: &[&[VERB, OPERANDS]],
         options: &[&NUMBER, &LIMIT, &AS_LANGUAGE, &TARGET, &INDEX, &CARD],
         summary: "Tell where the fault is that an operation refuses",
-        details: "VERB is one that answers 'accepted' or 'refused', with its operands and options. \
-                  Below the first line stands where the fault is (the byte, counted from 0, the \
-                  field, the clause, the path of argument numbers in a tree, the operand in a term) \
-                  and what it is. These lines come from a second implementation; if it does not come \
-                  to the same number, that is said.",
+        details: "VERB is one that answers 'accepted' or 'refused', with its operands and options; \
+                  without one, the files tell which is meant. Below the first line stands where the \
+                  fault is (the byte, counted from 0, or the line and column of a text, the field, \
+                  the clause, the path of argument numbers in a tree, the operand in a term) and \
+                  what it is; perhaps a hint, which length or tag would mend the file; and the tree \
+                  around a fault in it. These lines come from a second implementation; if it does \
+                  not come to the same number, that is said.\nWith a number alone, as in explain 13, \
+                  that refusal is explained with an example.",
         refusals: "",
-        act: Act::Other(verbs::explain),
+        act: Act::Other(explaining::explain),
+    },
+    Verb {
+        name: "evaluate",
+        forms: &[&[PACK]],
+        options: &[],
+        summary: "Tell the value of each sign of a pack's term",
+        details: "Prints the term, a line for each sign, with the value that the library gives for \
+                  it: how many bytes, classes, productions and clauses it has; or where the term is \
+                  refused, and why.",
+        refusals: "1 to 13, 26",
+        act: Act::Other(evaluate::evaluate),
     },
     Verb {
         name: "steps",
         forms: &[&[PACK, ROOT, TREE]],
-        options: &[&NUMBER, &LIMIT, &XML],
+        options: &[&NUMBER, &LIMIT, &XML, &PAGE],
         summary: "Show a join's runs in turn beside the run of the join",
         details: "Where the pack's term is a join, runs its operands in turn, the second first, and \
                   prints each tree between them; then the result of the last run and that of the \

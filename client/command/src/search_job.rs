@@ -6,6 +6,10 @@ use crate::job::{root, run_limit, tree, Job, Refused, Translator};
 use crate::{Failure, Streams};
 use algebra::{Refusal, SEARCH_LEVELS};
 use reference::explain::{self, Fault};
+use reference::names::Names;
+use reference::plans::Form;
+use reference::show;
+use reference::steps::{languages, mapped_kind};
 
 /// The place of the levels among the operands.
 const LEVELS_PLACE: usize = 3;
@@ -84,5 +88,16 @@ impl Job for Search {
             (Ok(found), Some(levels)) => self.fault_within(&found, levels),
             (Ok(found), None) => self.least_fault(&found),
         }
+    }
+
+    fn result_in(&self, _: &Given) -> Option<(Vec<u8>, u32)> {
+        let translation = self.translator.translation().ok()?;
+        Some((languages(&translation)?.0.to_vec(), self.root))
+    }
+
+    fn around(&self, names: &Names) -> Option<String> {
+        let translation = self.translator.explained().ok()?;
+        let root = mapped_kind(&translation, self.root, 0)?;
+        show::around(languages(&translation)?.1, root, &self.tree, Form::Settled, names)
     }
 }

@@ -5,10 +5,14 @@ use crate::given::Given;
 use crate::input::read_file;
 use crate::job::{operand, root, run_limit, tree, Job, Refused, TREE_BYTES};
 use crate::language_file::LanguageFile;
+use crate::options::Format;
 use crate::tidy::{tidied, Tidied};
 use crate::{Failure, Streams};
 use algebra::{in_output, TABLE_BYTES};
 use reference::explain::{self, Fault};
+use reference::names::Names;
+use reference::plans::Form;
+use reference::show;
 
 /// The place of a load table among the operands of a score, and of a card among those of a mask.
 const TABLE_PLACE: usize = 3;
@@ -37,7 +41,7 @@ enum Operation {
 
 /// The text, which is the third operand and never hexadecimal. What is dropped from it is said.
 fn text(call: &Call, streams: &mut Streams) -> Result<Vec<u8>, Failure> {
-    let text = read_file(&call.operands[2], false, TREE_BYTES, streams)?;
+    let text = read_file(&call.operands[2], Format::Bytes, TREE_BYTES, streams)?;
     if !call.options.tidy {
         return Ok(text);
     }
@@ -153,5 +157,21 @@ impl Job for TreeJob {
                 explain::mask(language, root, card, tree, limit.unwrap_or(tree.len()))
             }
         }
+    }
+
+    fn result_in(&self, _: &Given) -> Option<(Vec<u8>, u32)> {
+        let imports = matches!(self.operation, Operation::Import { .. });
+        let language = self.language.language().ok().filter(|_| imports)?;
+        Some((language.into_owned(), self.root))
+    }
+
+    fn around(&self, names: &Names) -> Option<String> {
+        let form = match self.operation {
+            Operation::Import { .. } => return None,
+            Operation::ScoreLoose { .. } => Form::Loose,
+            _ => Form::Settled,
+        };
+        let language = self.language.explained().ok()?;
+        show::around(&language, self.root, &self.tree, form, names)
     }
 }

@@ -179,6 +179,7 @@ fn called(arguments: &[OsString], mut input: &[u8]) -> Printed {
         output: &mut output,
         messages: &mut messages,
         terminal: false,
+        colour: false,
     };
     let status = command(arguments, &mut streams);
     let messages = String::from_utf8(messages).expect("text");

@@ -153,7 +153,7 @@ impl<'a> Reader<'a> {
             return self.fault(Refusal::Tree, what);
         };
         let Some(place) = self.grammar.place(kind, name) else {
-            return self.fault(Refusal::Tree, format!("there is no production {kind}.{name}"));
+            return self.fault(Refusal::Tree, self.grammar.no_production(kind, name.into()));
         };
         self.at += 1;
         self.read_arguments(self.grammar.production(place).arguments(), levels - 1)

@@ -89,11 +89,7 @@ impl Reader<'_> {
         let (start, name) = (self.at, self.read_number()?);
         let place = u8::try_from(name).ok().and_then(|name| self.grammar.place(kind, name));
         let Some(place) = place else {
-            return self.fault(
-                Refusal::Text,
-                start,
-                format!("there is no production {kind}.{name}"),
-            );
+            return self.fault(Refusal::Text, start, self.grammar.no_production(kind, name));
         };
         self.expect(">")?;
         self.length += 1;
