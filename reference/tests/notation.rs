@@ -154,7 +154,7 @@ fn examples(ending: &str) -> Vec<PathBuf> {
 /// The names of the folder of an example, if it has some.
 fn names_of(path: &Path) -> Names {
     let mut names = Names::default();
-    if let Ok(text) = std::fs::read_to_string(path.with_file_name("words.names")) {
+    if let Ok(text) = std::fs::read_to_string(path.with_file_name("names")) {
         names.add(&text).expect("the names of an example");
     }
     names
