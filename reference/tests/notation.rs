@@ -196,7 +196,10 @@ fn misread(text: &str) -> String {
 fn what_is_wrong_is_told_with_its_place() {
     let sorts = "language, translation, pack, table, card, tree, loose, masked or index";
     for (text, what) in [
-        ("", format!("line 1, column 1: {sorts} was expected, and the end of the text stands here")),
+        (
+            "",
+            format!("line 1, column 1: {sorts} was expected, and the end of the text stands here"),
+        ),
         ("plan", format!("line 1, column 1: {sorts} was expected, and plan stands here")),
         (
             "language\n  class 2: 1 240",
@@ -208,7 +211,8 @@ fn what_is_wrong_is_told_with_its_place() {
         ),
         (
             "language\n  production 1.4 (1",
-            "line 2, column 20: a kind was expected, and the end of the text stands here".to_string(),
+            "line 2, column 20: a kind was expected, and the end of the text stands here"
+                .to_string(),
         ),
         (
             "language\n  class minuets: 1 to 2",
