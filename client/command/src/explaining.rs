@@ -19,7 +19,7 @@ pub fn explain(call: &Call, streams: &mut Streams) -> Result<Printed, Failure> {
     if let Some(text) = number_text(&call.operands) {
         return Ok(Printed { output: text.into(), ..Printed::default() });
     }
-    let call = meant(call, streams)?;
+    let call = meant(call)?;
     let Some(load) = call.verb.load() else {
         return Err(call.misuse("a verb that can be explained is needed"));
     };
@@ -53,12 +53,12 @@ fn number_text(operands: &[std::ffi::OsString]) -> Option<String> {
 }
 
 /// The call that is to be explained: that of a verb, or the one that fits the files.
-fn meant(call: &Call, streams: &mut Streams) -> Result<Call, Failure> {
+fn meant(call: &Call) -> Result<Call, Failure> {
     match Verb::named(&call.operands[0]) {
         Some(verb) if verb.name == "list" => call.of(named("reduce")),
         Some(verb) if verb.load().is_some() => call.of(verb),
         Some(_) => Err(call.misuse("a verb that can be explained is needed")),
-        None => guessed(call, streams),
+        None => guessed(call),
     }
 }
 
@@ -68,11 +68,19 @@ fn named(name: &str) -> &'static Verb {
 }
 
 /// The call that fits the files: a check or a reduction of one, a check or a run of a tree.
-fn guessed(call: &Call, streams: &mut Streams) -> Result<Call, Failure> {
+fn guessed(call: &Call) -> Result<Call, Failure> {
     if !std::path::Path::new(&call.operands[0]).is_file() {
         return Err(call.misuse("a verb that can be explained is needed, a number or a file"));
     }
-    let sort = call.options.sort.or(sort_of(&operand(call, 0, PACK_BYTES, streams)?));
+    let (mut input, mut output, mut unheard) = (std::io::empty(), std::io::sink(), std::io::sink());
+    let mut quiet = Streams {
+        input: &mut input,
+        output: &mut output,
+        messages: &mut unheard,
+        terminal: false,
+        colour: false,
+    };
+    let sort = call.options.sort.or(sort_of(&operand(call, 0, PACK_BYTES, &mut quiet)?));
     let name = match (sort, call.operands.len()) {
         (Some(Sort::Language), 1) => "check-language",
         (Some(Sort::Translation), 1) => "check-translation",

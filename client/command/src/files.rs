@@ -143,7 +143,7 @@ pub fn show(call: &Call, streams: &mut Streams) -> Result<Printed, Failure> {
     let (text, answer) = work(loaded.length(), streams, task)?;
     let text = match text {
         Ok(text) => text,
-        Err(fault) => return Ok(faulty(call, &fault)),
+        Err(fault) => return Ok(faulty(call, &answer.and_then(|found| found.1).unwrap_or(fault))),
     };
     let Some((refusal, fault)) = answer else {
         return Ok(Printed { output: text.into(), ..Printed::default() });
@@ -160,7 +160,10 @@ pub fn dump(call: &Call, streams: &mut Streams) -> Result<Printed, Failure> {
     let task = || loaded.with(|source| dumped(source, &call.names));
     let text = match work(loaded.length(), streams, task)? {
         Ok(text) => text,
-        Err(fault) => return Ok(faulty(call, &fault)),
+        Err(fault) => {
+            let hinted = work(0, streams, || loaded.refused())?.and_then(|found| found.1);
+            return Ok(faulty(call, &hinted.unwrap_or(fault)));
+        }
     };
     match &call.options.output {
         Some(file) if file != "-" => {

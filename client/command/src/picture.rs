@@ -6,8 +6,8 @@ use std::fmt::Write;
 
 /// The colours of productions, in the order in which they come up.
 const COLOURS: [&str; 10] = [
-    "#4477aa", "#ee6677", "#228833", "#ccbb44", "#66ccee", "#aa3377", "#bb5566", "#004488",
-    "#999933", "#882255",
+    "#4477aa", "#bb3355", "#228833", "#997700", "#117788", "#aa3377", "#775544", "#004488",
+    "#666633", "#882255",
 ];
 /// The width of the strip, and the space around it.
 const STRIP: f64 = 920.0;
@@ -188,7 +188,8 @@ impl<'a> Picture<'a> {
         let strip = top + ROW * deepest.unwrap_or(0) as f64 + 8.0;
         let legend = strip + STRIP_HEIGHT + 34.0;
         let width = edges[edges.len() - 1] + MARGIN;
-        let height = legend + 22.0 * self.keys.len() as f64 + 10.0;
+        let entries = self.keys.len() + usize::from(self.has_hidden());
+        let height = legend + 22.0 * entries as f64 + 10.0;
         let mut text = format!(
             "<svg xmlns=\"http://www.w3.org/2000/svg\" width=\"{width:.0}\" height=\"{height:.0}\" \
              viewBox=\"0 0 {width:.0} {height:.0}\" font-family=\"sans-serif\" font-size=\"13\">\n"
@@ -261,6 +262,11 @@ impl<'a> Picture<'a> {
         }
     }
 
+    /// Whether a block is hidden.
+    fn has_hidden(&self) -> bool {
+        self.leaves.iter().any(|leaf| leaf.hidden)
+    }
+
     /// Appends what each colour stands for, and how long it is in all.
     fn put_legend(&self, top: f64, text: &mut String) {
         for (place, key) in self.keys.iter().enumerate() {
@@ -268,21 +274,23 @@ impl<'a> Picture<'a> {
             let label = of.first().map_or("", |leaf| &leaf.label);
             let least = of.iter().map(|leaf| leaf.least).sum();
             let greatest = of.iter().map(|leaf| leaf.greatest).sum();
-            let (y, colour) = (top + 22.0 * place as f64, COLOURS[place % COLOURS.len()]);
             let told = format!("{label}: {}", between(least, greatest));
-            let _ = writeln!(
-                text,
-                "<rect x=\"{MARGIN}\" y=\"{y:.1}\" width=\"14\" height=\"14\" fill=\"{colour}\"/>"
-            );
-            let _ = writeln!(
-                text,
-                "<text x=\"{:.1}\" y=\"{:.1}\">{}</text>",
-                MARGIN + 22.0,
-                y + 12.0,
-                escaped(&told)
-            );
+            put_entry(&told, COLOURS[place % COLOURS.len()], top + 22.0 * place as f64, text);
+        }
+        if self.has_hidden() {
+            put_entry("hidden", "url(#hidden)", top + 22.0 * self.keys.len() as f64, text);
         }
     }
+}
+
+/// Appends an entry of the legend.
+fn put_entry(told: &str, fill: &str, y: f64, text: &mut String) {
+    let _ = writeln!(
+        text,
+        "<rect x=\"{MARGIN}\" y=\"{y:.1}\" width=\"14\" height=\"14\" fill=\"{fill}\"/>"
+    );
+    let (x, y) = (MARGIN + 22.0, y + 12.0);
+    let _ = writeln!(text, "<text x=\"{x:.1}\" y=\"{y:.1}\">{}</text>", escaped(told));
 }
 
 /// One figure, or two where they differ.
