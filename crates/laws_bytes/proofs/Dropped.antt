@@ -25,7 +25,7 @@ use Rattle.format_translation.proofs.Running.{ByZero, ByZeroAll}
 use Rattle.format_translation.proofs.Fitting.{uses-are}
 use Rattle.format_translation.proofs.PlainUses.{use-zero, typed-zero}
 use Rattle.search_sources.specs.Sources.{before, searchOf}
-use Rattle.search_sources.specs.Laws.{Gives}
+use Rattle.search_sources.specs.Inner.Giving.{Gives}
 use Rattle.search_sources.specs.Inner.Order.{Earlier, EarlierAll, by-operands, at-first, after}
 use Rattle.search_sources.proofs.Ordering.{Ordered, equal, first, second, order, earlier-before, one-way}
 use Rattle.search_sources.proofs.Theorems.{found-gives, nothing-before}

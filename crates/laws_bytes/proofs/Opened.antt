@@ -33,7 +33,7 @@ use Rattle.format_translation.proofs.Lookup.{mem-mapping, mem-mapped}
 use Rattle.format_translation.proofs.Preserved.{Carries}
 use Rattle.format_translation.proofs.Fitting.{Fitting, formed-fits, fit-carries}
 use Rattle.format_translation.proofs.Codec.{WholeTranslation, PartsIn, translation-whole, rises-parts}
-use Rattle.search_sources.specs.Laws.{ByteNames}
+use Rattle.search_sources.specs.Inner.Giving.{ByteNames}
 use Rattle.laws_bytes.specs.Files.{OfBytes}
 
 class-production : {A : Type 0} {r q p : ℕ} {c : Range} {ks : List ℕ} → class q c ≡ production r p ks → A

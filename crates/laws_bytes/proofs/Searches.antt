@@ -31,7 +31,7 @@ use Rattle.format_translation.proofs.Fitting.{refuse-value}
 use Rattle.format_translation.proofs.Codec.{translation-whole}
 use Rattle.search_sources.specs.Sources.{before, searchOf}
 use Rattle.search_sources.specs.Operations.{isLimit, ready, found, foundIn, searchBytes}
-use Rattle.search_sources.specs.Laws.{Gives, ByteNames}
+use Rattle.search_sources.specs.Inner.Giving.{Gives, ByteNames}
 use Rattle.search_sources.proofs.Theorems.{found-gives, nothing-before, none-gives}
 use Rattle.laws_bytes.specs.Files.{OfBytes}
 use Rattle.laws_bytes.specs.Searches.{Source, FoundRuns, NothingEarlier, NoneExactly}

@@ -1,5 +1,5 @@
--- What is said of every tree that is found (paper 02, 2026-09): it runs to the target tree, nothing that does comes before
--- it, and where none is found, none does.
+-- What is shown of every tree that is found (paper 02, 2026-09), on trees: it runs to the target tree, nothing that does comes before
+-- it, and where none is found, none does. `laws_bytes/Searches` says it of bytes.
 use Prim.Native.Nat.{ℕ, _<_, _≤_}
 use mathlib.Core.Path.{_≡_}
 use mathlib.Core.Bool.{false}
