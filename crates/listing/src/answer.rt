@@ -1,24 +1,13 @@
 // The text of what reduce answers.
 use crate::clauses::put_clauses;
-use crate::text::put_bytes;
-use crate::text::put_number;
 use outcome::Outcome;
 use outcome::number;
+use program_text::text::put_first;
 ghost use mathlib.Core.Path.{_≡_};
 ghost use Prim.Native.Nat.{ℕ, _+_, _<_, _≤_};
 ghost use lib.ListN.{length};
-ghost use Rattle.listing.specs.Text.{firstLine};
 ghost use Rattle.listing.specs.Inner.Walk.{outcomeText};
-ghost use Rattle.listing.specs.Inner.Putting.{Puts};
-
-// The first line: a word and a number.
-fn put_first(word: &[u8], n: u64, text: &mut [u8]) -> usize
-    requires { ⌜ (n < 10000) × (length (now word) + 5 ≤ length (now text)) ⌝ }
-    ensures { λ r. ⌜ Puts (firstLine (now (word .entry)) n) (now (text .entry)) (now (text .exit)) 0 r × (r ≤ length (now (word .entry)) + 5) ⌝ }
-{
-    let end = put_bytes(word, text, 0);
-    put_number(n, b'\n', text, end)
-}
+ghost use Rattle.program_text.specs.Inner.Putting.{Puts};
 
 // The whole text: the first line and, where it is accepted, a line for each clause of the output's translation.
 pub fn put_outcome(outcome: Outcome, output: &[u8], text: &mut [u8]) -> usize

@@ -1,7 +1,6 @@
 // The listing program (paper 01, "Strap examples"): prints what the pack in the file plan.pack is reduced to.
 mod answer;
 mod clauses;
-mod text;
 
 use answer::put_outcome;
 use libc::STDOUT_FILENO;

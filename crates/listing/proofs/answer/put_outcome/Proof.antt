@@ -2,7 +2,8 @@ use borrow.Author.Needs.{needs}
 use mathlib.Core.Path.{sym}
 use native.Mathlib.Omega.{arith}
 use lib.Seq.{length-take-le}
-use Rattle.listing.proofs.WholeText.{number-small, clauses-fit, text-accepted, text-refused}
+use Rattle.program_text.proofs.Numbers.{number-low}
+use Rattle.listing.proofs.WholeText.{clauses-fit, text-accepted, text-refused}
 use Rattle.listing.proofs.answer.put_outcome.Statement.{statement}
 use Rattle.listing.proofs.answer.put_outcome.Tie as tie
 
@@ -16,7 +17,7 @@ put-clauses-requires : tie.Need-put-clauses-requires
 put-clauses-requires c κs = clauses-fit _ _ _ _ _ _ (c .before .before .before .before .before .before .before .before .before .before .before .before .pre .0 _ (c .before .before .before .before .before .before .before .before .outcome .given .1)) (c .before .before .before .before .before .before .before .before .before .before .before .before .pre .1 .0) (c .before .before .before .before .put-first .ensures .1) (c .before .before .before .before .put-first .ensures .0) (c .before .before .before .before .before .before .before .before .before .before .before .before .pre .1 .1)
 
 put-first-requires-2 : tie.Need-put-first-requires-2
-put-first-requires-2 c κs = (omega (arith, c .before .number .ensures, number-small (c .before .before .before .before .before .before .before .args .outcome)), omega arith)
+put-first-requires-2 c κs = (omega (arith, c .before .number .ensures, number-low (c .before .before .before .before .before .before .before .args .outcome)), omega arith)
 
 returns : tie.Need-returns
 returns c = text-accepted _ _ _ _ (c .before .before .before .before .before .before .before .before .before .before .before .outcome .given .1) _ _ _ _ _ (c .before .before .before .before .before .before .before .put-first .ensures .0) (c .before .before .put-clauses .ensures)
