@@ -236,27 +236,36 @@ fn no_word<'a>(sort: &str, word: &str, known: impl Iterator<Item = &'a String>) 
     }
 }
 
-/// The one of some words that is nearest to a word, if one is near at all.
+/// The known word that is nearest to one, if few letters differ.
 pub fn nearest<'a>(word: &str, known: impl Iterator<Item = &'a str>) -> Option<&'a str> {
-    let far = 1 + word.chars().count() / 3;
-    let distances = known.map(|other| (distance(word, other), other));
-    distances.filter(|(distance, _)| *distance <= far).min().map(|(_, other)| other)
+    let far = |name: &&str| distance(word, name);
+    let found = known.min_by_key(far)?;
+    let most = match word.trim_start_matches('-').chars().count() {
+        0..3 => 0,
+        3..5 => 1,
+        _ => 2,
+    };
+    (distance(word, found) <= most).then_some(found)
 }
 
-/// How many letters must be put in, left out or replaced to make one word of another.
+/// How many letters must be put in, left out, changed or exchanged with their neighbour.
 fn distance(one: &str, other: &str) -> usize {
-    let other: Vec<char> = other.chars().collect();
-    let mut row: Vec<usize> = (0..=other.len()).collect();
-    for (place, letter) in one.chars().enumerate() {
-        let mut corner = row[0];
-        row[0] = place + 1;
-        for at in 0..other.len() {
-            let replaced = corner + usize::from(letter != other[at]);
-            corner = row[at + 1];
-            row[at + 1] = replaced.min(row[at] + 1).min(corner + 1);
+    let (one, other): (Vec<char>, Vec<char>) = (one.chars().collect(), other.chars().collect());
+    let mut rows = vec![(0..=other.len()).collect::<Vec<usize>>()];
+    for (i, letter) in one.iter().enumerate() {
+        let above = &rows[i];
+        let mut row = vec![i + 1];
+        for (j, wanted) in other.iter().enumerate() {
+            let changed = above[j] + usize::from(letter != wanted);
+            let mut least = changed.min(above[j + 1] + 1).min(row[j] + 1);
+            if i > 0 && j > 0 && *letter == other[j - 1] && one[i - 1] == *wanted {
+                least = least.min(rows[i - 1][j - 1] + 1);
+            }
+            row.push(least);
         }
+        rows.push(row);
     }
-    row[other.len()]
+    rows[one.len()][other.len()]
 }
 
 #[cfg(test)]
@@ -319,5 +328,17 @@ mod tests {
             "production 1.4 (twice) of kind 1 (block), path 1.4, and class 2 (minutes): 1 to 240.";
         assert_eq!(spoken, words);
         assert_eq!(names.speak("kind 3 and clause 1.4.2\n"), "kind 3 and clause 1.4.2 (twice)\n");
+    }
+
+    #[test]
+    fn words_that_are_near_are_found() {
+        let known = ["reduce", "run", "check-tree", "--limit"];
+        let found = |word: &str| nearest(word, known.into_iter());
+        assert_eq!((found("redcue"), found("rnu")), (Some("reduce"), Some("run")));
+        assert_eq!(
+            (found("check-three"), found("--limits")),
+            (Some("check-tree"), Some("--limit"))
+        );
+        assert_eq!((found("fly"), found(""), found("-o")), (None, None, None));
     }
 }

@@ -316,6 +316,7 @@ fn a_body_at_fault_is_shown_with_its_sign() {
 fn a_length_that_passes_the_end_is_shown_at_the_length() {
     let file = [&field(0x11, &[2, 0, 1, 0, 9])[..], &[0x12, 0, 4, 1, 2, 1]].concat();
     let expected = "where: byte 9 of the language\n\
-                    fault: field 12 states the length 4, and 3 is left";
+                    fault: field 12 states the length 4, and 3 is left\n\
+                    hint: with length 3 in place of 4, field 12 at byte 8 makes the rest whole";
     assert_eq!(text(explain::language(&file)), expected);
 }

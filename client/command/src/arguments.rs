@@ -2,10 +2,9 @@
 
 use crate::help::usage;
 use crate::options::{Opt, Options, COMMON};
-use crate::suggest::nearest;
 use crate::table::{Is, Operand, Times, Verb, VERBS};
 use crate::Failure;
-use reference::names::Names;
+use reference::names::{nearest, Names};
 use std::ffi::{OsStr, OsString};
 use std::fs;
 use std::path::{Path, PathBuf};

@@ -1,14 +1,13 @@
 //! Completion for shells, from the table of verbs.
 
 use crate::arguments::Call;
-use crate::options::{Opt, COMMON};
-use crate::table::{Is, Verb, VERBS};
+use crate::options::{Opt, COMMON, SORTS};
+use crate::table::{Verb, VERBS};
 use crate::{Failure, Printed, Streams};
 
-/// The words that follow the option --as.
-const SORTS: &str = "language translation pack table card";
-/// The options that ask for no verb.
-const ASKING: &str = "--help --version";
+/// The scripts, with signs in the places of what the table says.
+const BASH: &str = include_str!("completion/bash.template");
+const ZSH: &str = include_str!("completion/zsh.template");
 
 /// Prints the completion for a shell.
 pub fn completion(call: &Call, _: &mut Streams) -> Result<Printed, Failure> {
@@ -20,18 +19,9 @@ pub fn completion(call: &Call, _: &mut Streams) -> Result<Printed, Failure> {
     Ok(Printed { output: output.into_bytes(), ..Printed::default() })
 }
 
-/// The names of all verbs.
-fn names(between: &str) -> String {
-    VERBS.iter().map(|verb| verb.name).collect::<Vec<_>>().join(between)
-}
-
-/// The verbs whose first operand is a verb.
-fn on_verbs(between: &str) -> String {
-    let on_verb = |verb: &&Verb| {
-        verb.forms.iter().any(|form| form.first().is_some_and(|of| of.is == Is::Verb))
-    };
-    let names: Vec<&str> = VERBS.iter().filter(on_verb).map(|verb| verb.name).collect();
-    [&names[..], &["help"]].concat().join(between)
+/// A line for each verb, or what else is written for it.
+fn for_each_verb(write: impl Fn(&Verb) -> String, between: &str) -> String {
+    VERBS.iter().map(write).collect::<Vec<_>>().join(between)
 }
 
 /// The options of a verb, with those of every verb.
@@ -39,9 +29,14 @@ fn options(verb: &Verb) -> impl Iterator<Item = &'static Opt> {
     verb.options.iter().chain(COMMON).copied()
 }
 
-/// The names of the options after which a value of a sort is asked for.
-fn before(value: &str, between: &str) -> String {
-    let all = VERBS.iter().flat_map(options).filter(|option| option.value == Some(value));
+/// The words that follow the option --as.
+fn sorts() -> String {
+    SORTS.map(|(word, _)| word).join(" ")
+}
+
+/// The names of the options that a file follows.
+fn before_files(between: &str) -> String {
+    let all = VERBS.iter().flat_map(options).filter(|option| option.value == Some("FILE"));
     let mut names: Vec<&str> = all.map(|option| option.name).collect();
     names.sort_unstable();
     names.dedup();
@@ -52,46 +47,12 @@ fn before(value: &str, between: &str) -> String {
 fn bash() -> String {
     let case = |verb: &Verb| {
         let names: Vec<&str> = options(verb).map(|option| option.name).collect();
-        format!("        {}) options='{}' ;;\n", verb.name, names.join(" "))
+        format!("        {}) options='{}' ;;", verb.name, names.join(" "))
     };
-    let cases: String = VERBS.iter().map(case).collect();
-    format!(
-        "# Completion of the command algebra for bash.\n\
-         _algebra() {{\n    \
-             local word=${{COMP_WORDS[COMP_CWORD]}} before=${{COMP_WORDS[COMP_CWORD - 1]}} verb= options= given\n    \
-             COMPREPLY=()\n    \
-             case $before in\n        \
-                 --as) COMPREPLY=($(compgen -W '{SORTS}' -- \"$word\")); return ;;\n        \
-                 {}) COMPREPLY=($(compgen -f -- \"$word\")); return ;;\n    \
-             esac\n    \
-             for given in \"${{COMP_WORDS[@]:1:COMP_CWORD - 1}}\"; do\n        \
-                 case $given in\n            \
-                     {} | help) verb=$given; break ;;\n        \
-                 esac\n    \
-             done\n    \
-             case $verb in\n{cases}    esac\n    \
-             case $word in\n        \
-                 -*) COMPREPLY=($(compgen -W \"$options {ASKING}\" -- \"$word\")); return ;;\n    \
-             esac\n    \
-             case $verb:$before in\n        \
-                 :*) COMPREPLY=($(compgen -W '{} help' -- \"$word\")) ;;\n        \
-                 {}) COMPREPLY=($(compgen -W '{}' -- \"$word\")) ;;\n        \
-                 *) COMPREPLY=($(compgen -f -- \"$word\")) ;;\n    \
-             esac\n\
-         }}\n\
-         complete -o filenames -F _algebra algebra\n",
-        before("FILE", " | "),
-        names(" | "),
-        names(" "),
-        on_verbs_twice(),
-        names(" "),
-    )
-}
-
-/// The patterns of a verb behind which the name of another is asked for.
-fn on_verbs_twice() -> String {
-    let pair = |name: &str| format!("{name}:{name}");
-    on_verbs(" ").split(' ').map(pair).collect::<Vec<_>>().join(" | ")
+    BASH.replace("@SORTS@", &sorts())
+        .replace("@BEFORE-FILES@", &before_files(" | "))
+        .replace("@VERBS@", &for_each_verb(|verb| verb.name.to_string(), " "))
+        .replace("@CASES@", &for_each_verb(case, "\n"))
 }
 
 /// A name and the first part of a text, between quotes of zsh.
@@ -102,33 +63,30 @@ fn quoted(name: &str, text: &str) -> String {
 
 /// Completion for zsh.
 fn zsh() -> String {
-    let verbs: Vec<String> = VERBS.iter().map(|verb| quoted(verb.name, verb.summary)).collect();
     let case = |verb: &Verb| {
         let options: Vec<String> =
             options(verb).map(|option| quoted(option.name, option.help)).collect();
-        format!("        {}) options=({}) ;;\n", verb.name, options.join(" "))
+        format!("        {}) options=({}) ;;", verb.name, options.join(" "))
     };
-    let cases: String = VERBS.iter().map(case).collect();
-    format!(
-        "#compdef algebra\n\
-         # Completion of the command algebra for zsh.\n\
-         _algebra() {{\n    \
-             local -a verbs options\n    \
-             verbs=({})\n    \
-             case $words[2] in\n{cases}    esac\n    \
-             if [[ $words[CURRENT-1] == --as ]]; then\n        \
-                 compadd {SORTS}\n    \
-             elif [[ $words[CURRENT] == -* ]]; then\n        \
-                 options+=('--help:tell more' '--version:tell the version')\n        \
-                 _describe option options\n    \
-             elif (( CURRENT == 2 )) || [[ $CURRENT == 3 && $words[2] == ({}) ]]; then\n        \
-                 _describe verb verbs\n    \
-             else\n        \
-                 _files\n    \
-             fi\n\
-         }}\n\
-         _algebra \"$@\"\n",
-        verbs.join(" "),
-        on_verbs("|"),
-    )
+    let verb = |verb: &Verb| format!("        {}", quoted(verb.name, verb.summary));
+    ZSH.replace("@SORTS@", &sorts())
+        .replace("@VERBS@", &for_each_verb(verb, "\n"))
+        .replace("@CASES@", &for_each_verb(case, "\n"))
+}
+
+#[cfg(test)]
+mod tests {
+    use super::*;
+
+    #[test]
+    fn no_sign_is_left() {
+        for script in [bash(), zsh()] {
+            for sign in ["@SORTS@", "@BEFORE-FILES@", "@VERBS@", "@CASES@"] {
+                assert!(!script.contains(sign), "{sign}");
+            }
+            for verb in VERBS {
+                assert!(script.contains(&format!("        {}) options=", verb.name)));
+            }
+        }
+    }
 }

@@ -25,23 +25,29 @@ pub const ARGUMENTS: &str =
 pub const ASKING: [(&str, &str); 2] =
     [("--help", "tell more about the verb"), ("--version", "tell the version of the command")];
 
-/// Words in lines of at most so many columns; each line but the first begins with so many spaces, and
-/// the first has so many columns taken already.
-fn filled(text: &str, taken: usize, indent: usize) -> String {
-    let (mut lines, mut line, mut room) = (String::new(), String::new(), WIDTH - taken);
-    for word in text.split_whitespace() {
-        if !line.is_empty() && line.chars().count() + 1 + word.chars().count() > room {
-            lines.push_str(&line);
+/// Pieces with spaces between them, in lines of at most 80 columns: the first has so many columns taken
+/// already, and each further one begins with so many spaces.
+fn laid<'a>(pieces: impl IntoIterator<Item = &'a str>, taken: usize, indent: usize) -> String {
+    let (mut lines, mut column, mut first) = (String::new(), taken, true);
+    for piece in pieces {
+        let columns = piece.chars().count();
+        if !first && column + 1 + columns > WIDTH {
             lines.push('\n');
             lines.push_str(&" ".repeat(indent));
-            (line, room) = (String::new(), WIDTH - indent);
+            column = indent;
+        } else if !first {
+            lines.push(' ');
+            column += 1;
         }
-        if !line.is_empty() {
-            line.push(' ');
-        }
-        line.push_str(word);
+        lines.push_str(piece);
+        (column, first) = (column + columns, false);
     }
-    lines + &line + "\n"
+    lines + "\n"
+}
+
+/// A text in lines, as above.
+fn filled(text: &str, taken: usize, indent: usize) -> String {
+    laid(text.split_whitespace(), taken, indent)
 }
 
 /// A paragraph for each line of a text.
@@ -66,41 +72,13 @@ fn option_entries(options: &[&Opt]) -> String {
 
 /// The lines that say how a verb, or the command, is used.
 pub fn usage(verb: Option<&Verb>) -> String {
-    let text = match verb {
-        Some(verb) => {
-            // A value stays in the line of its option.
-            let synopsis = verb.synopsis().replace(" [", "\n[");
-            let kept = |part: &str| match part.starts_with('[') {
-                true => part.replace(' ', "\u{a0}"),
-                false => part.to_string(),
-            };
-            let parts: Vec<String> = synopsis.split('\n').map(kept).collect();
-            format!("algebra {} {}", verb.name, parts.join(" "))
-        }
-        None => "algebra VERB OPERANDS [OPTIONS]; algebra --help tells the verbs".to_string(),
+    let Some(verb) = verb else {
+        return "usage: algebra VERB OPERANDS [OPTIONS]; algebra --help tells the verbs"
+            .to_string();
     };
-    let text = wrapped(&text);
-    format!("usage: {}", text.trim_end())
-}
-
-/// A usage in lines; what is held together by spaces that do not break stays so.
-fn wrapped(text: &str) -> String {
-    let mut lines = String::new();
-    let mut length = 7;
-    for (place, word) in text.split(' ').enumerate() {
-        let columns = word.chars().count();
-        if place > 0 && length + 1 + columns > WIDTH {
-            lines.push_str("\n      ");
-            length = 6;
-        }
-        if place > 0 {
-            lines.push(' ');
-            length += 1;
-        }
-        lines.push_str(&word.replace('\u{a0}', " "));
-        length += columns;
-    }
-    lines
+    let (head, pieces) = (["usage:", "algebra", verb.name], verb.pieces());
+    let lines = laid(head.into_iter().chain(pieces.iter().map(String::as_str)), 0, 7);
+    lines.trim_end().to_string()
 }
 
 /// The help for a verb.

@@ -24,7 +24,6 @@ mod rows;
 mod same;
 mod search_job;
 mod steps;
-mod suggest;
 mod table;
 mod term_job;
 mod tidy;

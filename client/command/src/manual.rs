@@ -36,7 +36,7 @@ fn verb_section(verb: &Verb) -> String {
         "" => String::new(),
         numbers => format!(".PP\nRefusals: {}.\n", plain(numbers)),
     };
-    let usage = plain(&format!("algebra {} {}", verb.name, verb.synopsis()));
+    let usage = plain(&format!("algebra {} {}", verb.name, verb.pieces().join(" ")));
     let paragraph = |line: &str| format!(".PP\n{}\n", plain(line));
     let details: String = verb.details.lines().map(paragraph).collect();
     let (summary, options) = (plain(verb.summary), options(verb.options));

@@ -121,7 +121,7 @@ const TRANSLATORS: [(&str, Sort); 2] = [("translation", Sort::Translation), ("pa
 const LANGUAGES: [(&str, Sort); 3] =
     [("language", Sort::Language), ("translation", Sort::Translation), ("pack", Sort::Pack)];
 /// What any file may be.
-const SORTS: [(&str, Sort); 9] = [
+pub const SORTS: [(&str, Sort); 9] = [
     ("language", Sort::Language),
     ("translation", Sort::Translation),
     ("pack", Sort::Pack),

@@ -10,7 +10,7 @@ use crate::Printed;
 use reference::names::Names;
 use reference::notation::{node_words, term_line};
 use reference::plans::read_deep;
-use reference::steps::{applied, languages, steps, Step};
+use reference::steps::{applied, languages, steps, Applied, Step};
 use std::fmt::Write;
 
 /// So many clauses that a run applies are listed.
@@ -64,7 +64,8 @@ pub fn page(
     page.tree("The tree", start, source);
     let in_turn = page.in_turn(&steps, start);
     let joined = run(&translation, start, number, limit);
-    page.run("The join in one run", &translation, start, number);
+    let term = term_line(pack).unwrap_or_default();
+    page.run("The join in one run", &term, &translation, start, number);
     if let Ok(result) = &joined {
         page.tree("What it gives", result, target);
     }
@@ -117,7 +118,7 @@ impl Page<'_> {
             let term = term_line(&step.pack).unwrap_or_default();
             let refused = |refusal| (place, refusal);
             let translation = algebra::reduce_to_vec(&step.pack).map_err(refused)?;
-            self.run(&format!("{title}: {term}"), &translation, &current, step.number);
+            self.run(&title, &term, &translation, &current, step.number);
             let next = run(&translation, &current, step.number, self.limit);
             self.text.push_str("</section>\n");
             current = next.map_err(refused)?;
@@ -128,20 +129,28 @@ impl Page<'_> {
     }
 
     /// Adds a run: its answer, and which clauses were applied where. The section stays open.
-    fn run(&mut self, title: &str, translation: &[u8], start: &Rooted, number: u32) {
+    fn run(&mut self, title: &str, term: &str, translation: &[u8], start: &Rooted, number: u32) {
         let ran = algebra::run_to_vec(translation, start.kind, number, &start.tree, self.limit);
         let answer = answer_line(ran.as_ref().map(|ran| ran.tree.len()).map_err(|found| *found));
         let _ = writeln!(
             self.text,
-            "<section>\n<h2>{}</h2>\n<p>{}</p>",
-            escaped(title),
+            "<section>\n<h2>{title}</h2>\n<pre>{}</pre>\n<p>{}</p>",
+            escaped(term),
             escaped(&answer)
         );
         let Ok(ran) = ran else { return };
         let _ = writeln!(self.text, "<p>Cost {}: the clauses that were applied.</p>", ran.cost);
         let list = applied(translation, start.kind, number, &start.tree, LISTED);
+        self.clauses(&list.unwrap_or_default());
+        if ran.cost as usize > LISTED {
+            let _ = writeln!(self.text, "<p>and {} more</p>", ran.cost as usize - LISTED);
+        }
+    }
+
+    /// Adds a table of the clauses that a run applied.
+    fn clauses(&mut self, list: &[Applied]) {
         self.text.push_str("<table><tr><th></th><th>clause</th><th>at</th></tr>\n");
-        for (place, one) in list.unwrap_or_default().iter().enumerate() {
+        for (place, one) in list.iter().enumerate() {
             let path: Vec<String> = one.path.iter().map(usize::to_string).collect();
             let at = if path.is_empty() { "the root".to_string() } else { path.join(".") };
             let by = if one.number == 0 { String::new() } else { format!(".{}", one.number) };
@@ -154,9 +163,6 @@ impl Page<'_> {
             );
         }
         self.text.push_str("</table>\n");
-        if ran.cost as usize > LISTED {
-            let _ = writeln!(self.text, "<p>and {} more</p>", ran.cost as usize - LISTED);
-        }
     }
 
     /// Adds the law, and whether its conditions hold here.

@@ -106,14 +106,12 @@ impl Verb {
         }
     }
 
-    /// The operands and options, as usage has them.
-    pub fn synopsis(&self) -> String {
-        let form = |form: &&[Operand]| -> String {
-            form.iter().map(Operand::shape).collect::<Vec<_>>().join(" ")
-        };
-        let forms: Vec<String> = self.forms.iter().map(form).collect();
-        let options = self.options.iter().map(|option| format!(" [{}]", option.shape()));
-        forms.join(" | ") + &options.collect::<String>()
+    /// The operands and options, as usage has them; each option is one piece with its value.
+    pub fn pieces(&self) -> Vec<String> {
+        let forms: Vec<Vec<String>> =
+            self.forms.iter().map(|form| form.iter().map(Operand::shape).collect()).collect();
+        let options = self.options.iter().map(|option| format!("[{}]", option.shape()));
+        forms.join(&"|".to_string()).into_iter().chain(options).collect()
     }
 }
 

@@ -42,8 +42,11 @@ pub fn hinted(fault: Fault, inputs: &[(&str, &[u8])]) -> Fault {
     Fault { hint, ..fault }
 }
 
-/// What is said of the change that mends a file.
+/// What is said of the change that mends a file whose fields are not whole.
 fn hint(input: &str, bytes: &[u8], fault: &Fault) -> Option<String> {
+    if rank(input, bytes).is_some() {
+        return None;
+    }
     let at = fault.byte.unwrap_or(bytes.len());
     let mut fields = vec![];
     put_fields(bytes, 0, bytes.len(), &mut fields);
