@@ -20,7 +20,7 @@ use Rattle.format_translation.proofs.clause.code_start.Reads as code-start-read
 use Rattle.format_translation.proofs.index.mapped_by.Reads as mapped-by-reads
 
 put-arguments-requires : tie.Need-put-arguments-requires
-put-arguments-requires c κs = 
+put-arguments-requires c κs =
     let z = c .before .before .before .before .before .before .before .before .before .before .before .pre .3 .1 in
     let k = c .before .whole-key .ensures .0 in
     let body : List ℕ = c .before .before .before .before .before .before .before .before .before .before .before .args .body .now in
