@@ -32,12 +32,13 @@ use Rattle.format_translation.specs.Translation.{Body, Translation, mapping, ma
 use Rattle.format_translation.specs.TranslationFile.{bodyOf}
 use Rattle.format_translation.specs.Running.{usesOf, readClause, wholeCode}
 use Rattle.format_translation.specs.WellFormed.{codeFits}
-use Rattle.format_translation.specs.Inner.Items.{itemWhole, itemAt, ItemFacts, plain-mapping, plain-clause, numbered-mapping, numbered-clause, isClauseTag}
-use Rattle.format_translation.specs.Inner.ItemIndex.{Mapped}
+use Rattle.format_translation.specs.Inner.Items.{itemWhole, itemAt, ItemFacts, plain-mapping, plain-clause, numbered-mapping, numbered-clause, isClauseTag, codeStart, clauseNumber}
+use Rattle.format_translation.specs.Inner.ItemIndex.{Mapped, mappedBy}
 use Rattle.check_wellformed.specs.Inner.Ready.{Ready, indexOf}
-use Rattle.check_wellformed.specs.Inner.Tests.{endsAt, isClauseAt, codeStart, clauseNumber, ClauseAt, kindIn, Behind}
+use Rattle.check_wellformed.specs.Inner.Tests.{endsAt, isClauseAt, ClauseAt, Behind}
 use Rattle.format_translation.proofs.Lookup.{mapping-mem}
 use Rattle.format_translation.proofs.Items.{item-facts, clause-is, numbered-clause-is}
+use Rattle.format_translation.proofs.Clauses.{mapped-is}
 use Rattle.format_translation.proofs.Found.{cut, cut-is}
 use Rattle.check_wellformed.proofs.Bounds.{bounded, within, mapped-below}
 use Rattle.check_wellformed.proofs.Source.{source-indexed}
@@ -52,33 +53,6 @@ module _ (n : ℕ) {r : Read} where
 
   pub broken-ends : r ≡ Broken → false ≡ endsAt r n
   broken-ends h = cc
-
--- clause_number, code_start and kind_in
-module _ (b : List ℕ) (p : ℕ) where
-  pub number-plain : getD b p 0 ≡ 0x23 → 0 ≡ clauseNumber b p
-  unfolding clauseNumber
-  number-plain h = cc (eq-eqb _ _ h)
-
-  pub number-other : (getD b p 0 ≡ 0x23 → ⊥) → (x : ℕ) → x ≡ getD b (p + 5) 0 → x ≡ clauseNumber b p
-  unfolding clauseNumber
-  number-other h x e = cc (ne-eqb _ _ h)
-
-  pub start-plain : getD b p 0 ≡ 0x23 → p + 5 ≡ codeStart b p
-  unfolding codeStart
-  start-plain h = cc (eq-eqb _ _ h)
-
-  pub start-other : (getD b p 0 ≡ 0x23 → ⊥) → p + 6 ≡ codeStart b p
-  unfolding codeStart
-  start-other h = cc (ne-eqb _ _ h)
-
-module _ (u : List ℕ) (key : ℕ) where
-  pub kind-none : getD u key 0 ≡ 0 → 0 ≡ kindIn u key
-  unfolding kindIn
-  kind-none h = cc (eq-eqb _ _ h)
-
-  pub kind-some : (getD u key 0 ≡ 0 → ⊥) → getD u key 0 - 1 ≡ kindIn u key
-  unfolding kindIn
-  kind-some h = cc (ne-eqb _ _ h)
 
 -- What is known of a clause by its place.
 pub clause-at : (b : List ℕ) (p : ℕ) → isClauseAt b p ≡ true → ClauseAt b p
@@ -97,7 +71,6 @@ clause-at b p h = let w = and-both (itemWhole b p) (isClauseTag (getD b p 0)) h 
           starts = rw (m .tag) (omega arith);
           past = rw (m .tag) (m .past);
           ends = m .ends;
-          other = λ n. absurd (n (m .tag));
           key = λ e. omega arith;
           is = rw (m .tag) (clause-is b p m);
         }
@@ -111,7 +84,6 @@ clause-at b p h = let w = and-both (itemWhole b p) (isClauseTag (getD b p 0)) h 
           starts = rw (m .tag) (omega arith);
           past = rw (m .tag) (m .past);
           ends = m .ends;
-          other = λ n. omega arith;
           key = λ e. omega arith;
           is = rw (m .tag) (numbered-clause-is b p m);
         }
@@ -156,34 +128,34 @@ module _ (is s : List ℕ) (l : Language) (z : Indexed is s l) (bytes : (i : ℕ
       let i : getD is key 0 ≡ 0 = sym ep ∙ h in
       record { bytes = rw i (sym (append-nil (take 8192 u))); fits = omega arith; room = e; kept = refl }
 
-  module _ (there : place ≡ 0 → ⊥) (pair : ℕ) (eq : pair ≡ pairAt s place) where
-    stop-is : place + 2 + pair ≡ fieldEnd s (place - 1)
+  module _ (there : place ≡ 0 → ⊥) (first last : ℕ) (ef : first ≡ place + 4) (el : last ≡ place + 2 + pairAt s place) where
+    stop-is : last ≡ fieldEnd s (place - 1)
     unfolding fieldEnd
-    stop-is = let i : place - 1 + 1 ≡ place = omega arith in rw i (omega arith)
+    stop-is = let i : place - 1 + 1 ≡ place = omega arith in rw i (omega (arith, el))
 
-    found-is : Option·getD (argumentsBefore s (getD is key 0)) [] ≡ slice (place + 4) (place + 2 + pair) s
-    found-is = rw (← ep) (arguments-value (place + 2 + pair) stop-is there)
+    found-is : Option·getD (argumentsBefore s (getD is key 0)) [] ≡ slice first last s
+    found-is = rw (← ep, ef) (arguments-value last stop-is there)
 
-    pub put-empty : place + 2 + pair ≤ place + 4 → (u : List ℕ) → length u ≡ 8200 → Behind u u (Option·getD (argumentsBefore s (getD is key 0)) []) 8192
+    pub put-empty : last ≤ first → (u : List ℕ) → length u ≡ 8200 → Behind u u (Option·getD (argumentsBefore s (getD is key 0)) []) 8192
     put-empty h u e =
         let i : Option·getD (argumentsBefore s (getD is key 0)) [] ≡ [] =
-        found-is ∙ drop-of-length-le (take (place + 2 + pair) s) {i = place + 4} (simp length-take (omega arith)) in
+        found-is ∙ drop-of-length-le (take last s) {i = first} (simp length-take (omega arith)) in
         record { bytes = rw i (sym (append-nil (take 8192 u))); fits = omega arith; room = e; kept = refl }
 
-    pub put-inside : place + 4 < place + 2 + pair → Inside s (place + 4) (place + 2 + pair)
+    pub put-inside : first < last → Inside s first last
     put-inside h =
         let i : 0 < getD is (productionKey k n) 0 = rw (← place-is) (omega arith) in
         let w : KindsIn s (place + 4) (place + 2 + pairAt s place) = rw place-is (z .sound .operands k n hk hn i) in
-        let v = w (place + 1 + pair) (omega arith) (omega arith) in
+        let v = w (last - 1) (omega (arith, ef, el)) (omega (arith, ef, el)) in
         record { rise = omega arith; fits = omega (arith, v .0) }
 
-    pub never-full : (u : List ℕ) → length u ≡ 8200 → length u < 8192 + length (slice (place + 4) (place + 2 + pair) s) → ⊥
-    never-full u e h = omega (arith, few-arguments (place + 2 + pair) stop-is there)
+    pub never-full : (u : List ℕ) → length u ≡ 8200 → length u < 8192 + length (slice first last s) → ⊥
+    never-full u e h = let k : length (slice first last s) ≤ 8 = rw ef (few-arguments last stop-is there) in omega (arith, k)
 
-    pub put-behind : (u u′ : List ℕ) (r : ℕ) → length u ≡ 8200 → Written (slice (place + 4) (place + 2 + pair) s) u u′ 8192 r
+    pub put-behind : (u u′ : List ℕ) (r : ℕ) → length u ≡ 8200 → Written (slice first last s) u u′ 8192 r
         → Behind u u′ (Option·getD (argumentsBefore s (getD is key 0)) []) r
     put-behind u u′ r e w =
-        let v = slice (place + 4) (place + 2 + pair) s in
+        let v = slice first last s in
         let fits : 8192 + length v ≤ length u = omega (arith, w .end, w .fits) in
         let l : length (take 8192 u) ≡ 8192 = length-take-le 8192 u (omega arith) in
         let i : length (take 8192 u ++ v) ≡ r = omega (arith, length-append (take 8192 u) v, l, w .end) in
@@ -250,18 +222,6 @@ maps-same b bytes m e u z (k ∷ l) h =
         (λ q. z .is k j h (ltb-true _ _ q))
         (λ q. past k j q ∙ sym (none-past b bytes m e k j (ltb-false _ _ q)))
 
--- The kind that is looked up is what the kind maps to.
-kind-is : (u : List ℕ) (m : Body) → Mapped u m → (k j : ℕ) → k < 32 → j < 256 → kindIn u (k * 256 + j) ≡ mapped m k j
-unfolding kindIn mapped mappedIn
-kind-is u m z k j h i = go (getD u (k * 256 + j) 0) refl
-  where
-    told : kindBefore (getD u (k * 256 + j) 0) ≡ mappingOf m k j
-    told = rw (lt-ltb j 256 i) at (z .is k j h i)
-
-    go : (x : ℕ) → getD u (k * 256 + j) 0 ≡ x → kindIn u (k * 256 + j) ≡ Option·getD (mappingOf m k j) 0
-    go zero q = rw (← told, q) refl
-    go (suc x) q = let y : suc x - 1 ≡ x = omega arith in rw (← told, q, ne-eqb (suc x) 0 (λ w. omega arith), y) refl
-
 -- The key of a clause.
 pub clause-key : (b : List ℕ) (p : ℕ) → ClauseAt b p → keyAt 0x22 b p ≡ productionKey (getD b (p + 3) 0) (getD b (p + 4) 0)
 unfolding keyAt pairAt
@@ -311,9 +271,9 @@ module _ (s t it b u : List ℕ) (f : Translation) (z : Ready s t it b u f)
     }
 
   module _ (p : ℕ) (c : ClauseAt b p) (result number kind : ℕ) (er : result ≡ getD b (p + 3) 0) (en : number ≡ clauseNumber b p)
-      (ek : kind ≡ kindIn u (result * 256 + number)) where
+      (ek : kind ≡ mappedBy u result number) where
     kind-mapped : kind ≡ mapped (f .body) (getD b (p + 3) 0) (clauseNumber b p)
-    kind-mapped = ek ∙ rw (er, en) (kind-is u (f .body) (z .uses) (getD b (p + 3) 0) (clauseNumber b p) (c .result) (c .number))
+    kind-mapped = ek ∙ rw (er, en) (mapped-is u (f .body) (z .uses) (getD b (p + 3) 0) (clauseNumber b p) (c .result) (c .number))
 
     pub kind-below : kind < 32
     kind-below = rw kind-mapped (mapped-below b body-bytes (f .body) (z .body) (getD b (p + 3) 0) (clauseNumber b p))

@@ -10,26 +10,13 @@ use lib.Seq.{getD-drop}
 use Rattle.format_language.specs.Language.{Language}
 use Rattle.format_language.specs.LanguageFile.{entriesOf}
 use Rattle.tree_reader.specs.Inner.Index.{Built, Around, Indexed}
-use Rattle.tree_reader.proofs.Built.{built-indexed}
+use Rattle.tree_reader.proofs.Built.{built-indexed, built-below}
 use Rattle.format_translation.specs.Translation.{Body, Translation}
 use Rattle.format_translation.specs.TranslationFile.{bodyOf, allRising}
 use Rattle.format_translation.specs.Inner.ItemIndex.{Mapped}
 use Rattle.format_translation.specs.Inner.Pieces.{Pieces}
 use Rattle.format_translation.proofs.Found.{cut, rest-is}
 use Rattle.check_wellformed.specs.Inner.Ready.{Ready}
-
--- An index stays where what is written stands behind it.
-pub built-below : (first : ℕ) (s t u : List ℕ) (a b e : ℕ) → Built first s t a → Around t u b e → a + 8224 ≤ b → Built first s u a
-built-below first s t u a b e w k h = record {
-  zeros = w .zeros;
-  long = w .long;
-  zero = w .zero;
-  is = λ j i. k .below (a + j) (omega arith) ∙ w .is j i;
-}
-
--- The second part of a table of zeros is still zero after the first index.
-pub zero-behind : (t u : List ℕ) → ((j : ℕ) → getD t j 0 ≡ 0) → Around t u 0 8224 → (j : ℕ) → j < 8224 → getD u (8224 + j) 0 ≡ 0
-zero-behind t u z k j h = k .past (8224 + j) (omega arith) ∙ z (8224 + j)
 
 -- What the tests are given, with the index of the target.
 pub own-ready : (s t it b u : List ℕ) → ((l : Language) → entriesOf t ≡ some l → Indexed it t l) → length u ≡ 8200 → ((c : Body) → bodyOf b ≡ some c → Mapped u c)

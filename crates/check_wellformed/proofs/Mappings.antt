@@ -98,7 +98,7 @@ module _ (s : List ℕ) (place : ℕ) (t : List ℕ) (goal : ℕ) where
   unfolding rangeKept
   range-there h k x ex = cc (ne-eqb place 0 h, ne-eqb goal 0 k)
 
--- kept_at
+-- class_kept
 pub kept-is : (s is t it b : List ℕ) (p e : ℕ) → e ≡ fieldEnd b p → (i place j goal : ℕ) → i ≡ getD b (p + 3) 0 → place ≡ getD is i 0
     → j ≡ getD b (e - 1) 0 → goal ≡ getD it j 0 → (x : Bool) → x ≡ rangeKept s place t goal → x ≡ keptAt s is t it b p
 unfolding keptAt

@@ -16,7 +16,10 @@ use super::clauses::clauses_match;
 use super::clauses::skip_below;
 use super::codes::codes_typed;
 use super::mapping::mapping_fits;
+use format_fields::walk::KINDS;
 use format_fields::walk::MAPPING;
+use format_fields::walk::NAMES;
+use format_language::entries::ARGUMENTS;
 use format_language::entries::CLASS;
 use format_translation::index::put_uses;
 use outcome::Answer;
@@ -29,16 +32,16 @@ use tree_reader::index::put_index;
 use tree_reader::node::USES;
 
 // How many numbers the indexes of both languages have, one behind the other.
-pub const INDEXES: usize = 16448;
+pub const INDEXES: usize = INDEX + INDEX;
 
-// How many bytes the uses have: those of the mappings, and room for the kinds of eight arguments.
-pub const USES_ROOM: usize = 8200;
+// How many bytes the uses have: those of the mappings, and room for the kinds of as many arguments as a production can have.
+pub const USES_ROOM: usize = USES + ARGUMENTS;
 
 // The least key of a production.
-const PRODUCTIONS: usize = 32;
+const PRODUCTIONS: usize = KINDS;
 
-// The least key of a clause: 256 times that of a production.
-const CLAUSES: usize = 8192;
+// The least key of a clause: the least of a production, and a number.
+const CLAUSES: usize = PRODUCTIONS * NAMES;
 
 // The three parts, with the index of the target and what kinds map to by number, are well formed: 5 to 7. What kinds map to
 // stays.

@@ -12,6 +12,7 @@ ghost use Rattle.check_wellformed.specs.Inner.Ready.{indexOf};
 ghost use Rattle.check_wellformed.specs.Inner.Matching.{Skipped, keysMatch, Sides, Asked, Cleared};
 use format_fields::bytes::to_usize;
 use format_fields::walk::MAPPING;
+use format_fields::walk::NAMES;
 use format_fields::walk::order_at;
 use format_fields::walk::whole_end;
 use format_fields::walk::whole_key;
@@ -53,18 +54,18 @@ fn clauses_end(body: &[u8], m: usize, kind: usize, key: usize, p: usize) -> usiz
     requires { ⌜ Asked (now body) m kind p × (key < 65568) ⌝ }
     ensures { λ r. ⌜ Cleared (now (body .entry)) m kind key p r ⌝ }
 {
-    let first = kind * 256;
+    let first = kind * NAMES;
     let mut at = m;
     let mut to = p;
     while at < body.len() {
         let order = order_at(body, at, MAPPING);
-        if first + 256 <= order {
+        if first + NAMES <= order {
             return to;
         }
         if body.len() <= to {
             return body.len() + 1;
         }
-        if order_at(body, to, MAPPING) != key * 256 + (order - first) {
+        if order_at(body, to, MAPPING) != key * NAMES + (order - first) {
             return body.len() + 1;
         }
         at = whole_end(body, at);
@@ -83,7 +84,7 @@ pub fn clauses_match(source: &[u8], q: usize, body: &[u8], p: usize) -> bool
     let mut m = 0;
     while from < source.len() {
         let kind = to_usize(source[from + 3]);
-        m = skip_below(body, m, MAPPING, kind * 256);
+        m = skip_below(body, m, MAPPING, kind * NAMES);
         to = clauses_end(body, m, kind, whole_key(source, from, CLASS), to);
         if body.len() < to {
             return false;

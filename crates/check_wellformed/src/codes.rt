@@ -19,20 +19,23 @@ ghost use Rattle.format_translation.specs.WellFormed.{codeFits};
 ghost use Rattle.format_translation.specs.Inner.Items.{itemAt};
 ghost use Rattle.check_wellformed.specs.Inner.Ready.{Ready, indexOf, usesRoom};
 ghost use Rattle.check_wellformed.specs.Inner.Matching.{Skipped};
-ghost use Rattle.check_wellformed.specs.Inner.Tests.{endsAt, isClauseAt, ClauseAt, codeStart, clauseNumber, kindIn, Behind};
+ghost use Rattle.check_wellformed.specs.Inner.Tests.{endsAt, isClauseAt, ClauseAt, Behind};
 use super::clauses::place_of;
 use super::clauses::skip_below;
-use format_fields::bytes::pair_in;
-use format_fields::bytes::to_usize;
 use format_fields::copy::Stored;
 use format_fields::copy::put;
 use format_fields::walk::MAPPING;
 use format_fields::walk::whole_end;
 use format_fields::walk::whole_key;
 use format_language::entries::CLASS;
-use format_translation::body::CLAUSE;
+use format_translation::clause::clause_number;
+use format_translation::clause::code_start;
+use format_translation::index::mapped_by;
 use tree_reader::node::Read;
 use tree_reader::node::USES;
+use tree_reader::operands::first_operand;
+use tree_reader::operands::last_operand;
+use tree_reader::read::CODE_LEVELS;
 use tree_reader::read::read_code;
 
 // Puts the kinds of the arguments of the production of this key behind the uses of the mappings, and says where they end.
@@ -46,47 +49,15 @@ fn put_arguments(source: &[u8], q: usize, key: usize, uses: &mut [u8]) -> usize
     if place == 0 {
         return USES;
     }
-    let stop = place + 2 + pair_in(source, place);
-    if stop <= place + 4 {
+    let first = first_operand(place);
+    let last = last_operand(source, place);
+    if last <= first {
         return USES;
     }
-    let Stored::To(end) = put(source, place + 4, stop, uses, USES) else {
+    let Stored::To(end) = put(source, first, last, uses, USES) else {
         return USES;
     };
     end
-}
-
-// The number of the clause at p.
-fn clause_number(body: &[u8], p: usize) -> usize
-    requires { ⌜ ClauseAt (now body) p ⌝ }
-    ensures { λ r. ⌜ r ≡ clauseNumber (now (body .entry)) p ⌝ }
-{
-    if body[p] == CLAUSE {
-        return 0;
-    }
-    to_usize(body[p + 5])
-}
-
-// Where the code of the clause at p starts.
-fn code_start(body: &[u8], p: usize) -> usize
-    requires { ⌜ ClauseAt (now body) p ⌝ }
-    ensures { λ r. ⌜ r ≡ codeStart (now (body .entry)) p ⌝ }
-{
-    if body[p] == CLAUSE {
-        return p + 5;
-    }
-    p + 6
-}
-
-// The kind at a key of the uses; 0 where there is none.
-fn kind_in(uses: &[u8], key: usize) -> u8
-    requires { ⌜ key < length (now uses) ⌝ }
-    ensures { λ r. ⌜ r ≡ kindIn (now (uses .entry)) key ⌝ }
-{
-    if uses[key] == 0 {
-        return 0;
-    }
-    uses[key] - 1
 }
 
 // What was read ends at n.
@@ -114,7 +85,7 @@ fn code_reads(
     ensures { λ r. ⌜ ((l : Language) → Indexed (now (targets .entry)) (now (target .entry)) l
         → r ≡ isSome (wholeCode (readCode code l (usesIn (now (uses .entry))) codeLevels kind (slice p e (now (body .entry)))))) ⌝ }
 {
-    let end = read_code(target, targets, uses, kind, &body[p..e], 0, 16);
+    let end = read_code(target, targets, uses, kind, &body[p..e], 0, CODE_LEVELS);
     ends_at(end, e - p)
 }
 
@@ -134,7 +105,7 @@ fn code_typed(
     ensures { λ r. ⌜ ((f : Translation) → Ready (now (source .entry)) (now (target .entry)) (now (targets .entry)) (now (body .entry)) (now (uses .entry)) f
         → (r ≡ codeFits f (itemAt (now (body .entry)) p)) × Ready (now (source .entry)) (now (target .entry)) (now (targets .entry)) (now (body .entry)) (now (uses .exit)) f) ⌝ }
 {
-    let kind = kind_in(uses, to_usize(body[p + 3]) * 256 + clause_number(body, p));
+    let kind = mapped_by(uses, body[p + 3], clause_number(body, p));
     let end = put_arguments(source, q, whole_key(body, p, MAPPING), uses);
     code_reads(
         target,

@@ -11,6 +11,7 @@ ghost use Rattle.tree_reader.specs.Inner.Positions.{KindsIn};
 ghost use Rattle.check_wellformed.specs.Inner.Tests.{markAll, mentionedAt, markEntries};
 use format_fields::bytes::to_usize;
 use format_fields::walk::whole_end;
+use format_language::entries::CLASS;
 
 // Marks a kind in the table.
 fn mark(kinds: &mut [bool], kind: u8)
@@ -38,7 +39,7 @@ fn mark_entry(s: &[u8], p: usize, e: usize, kinds: &mut [bool])
     ensures { λ r. ⌜ now (kinds .exit) ≡ markAll (now (kinds .entry)) (mentionedAt (now (s .entry)) p) ⌝ }
 {
     mark(kinds, s[p + 3]);
-    if s[p] == 0x11 {
+    if s[p] == CLASS {
         return;
     }
     mark_part(s, p + 5, e, kinds);

@@ -20,6 +20,8 @@ use super::clauses::place_of;
 use super::clauses::skip_below;
 use super::kinds::mark_entries;
 use format_fields::bytes::to_usize;
+use format_fields::walk::KINDS;
+use format_fields::walk::NAMES;
 use format_fields::walk::whole_end;
 use format_language::entries::CLASS;
 use format_language::range::range_within;
@@ -31,7 +33,7 @@ fn mapped_if(uses: &[u8], kinds: &[bool], k: usize) -> bool
     requires { ⌜ (k < 32) × (usesLength ≤ length (now uses)) × (length (now kinds) ≡ 32) ⌝ }
     ensures { λ r. ⌜ r ≡ mappedIf (now (uses .entry)) (now (kinds .entry)) k ⌝ }
 {
-    if uses[k * 256] == 0 {
+    if uses[k * NAMES] == 0 {
         return !kinds[k];
     }
     kinds[k]
@@ -43,7 +45,7 @@ fn kinds_mapped(uses: &[u8], kinds: &[bool]) -> bool
     ensures { λ r. ⌜ r ≡ all (mappedIf (now (uses .entry)) (now (kinds .entry))) (countUp 32 0) ⌝ }
 {
     let mut k = 0;
-    while k < 32 {
+    while k < KINDS {
         if !mapped_if(uses, kinds, k) {
             return false;
         }
@@ -79,7 +81,7 @@ fn range_kept(source: &[u8], place: usize, target: &[u8], goal: usize) -> bool
 
 // The mapping at p, which ends at e, takes a class to a class that contains its range. The class of its kind in the source, if
 // there is one, stands at q.
-fn kept_at(
+fn class_kept(
     source: &[u8],
     q: usize,
     target: &[u8],
@@ -121,7 +123,7 @@ fn mappings_fit(
             return false;
         }
         from = skip_below(source, from, CLASS, to_usize(body[p + 3]));
-        if !kept_at(source, from, target, targets, body, p, e) {
+        if !class_kept(source, from, target, targets, body, p, e) {
             return false;
         }
         p = e;
@@ -134,12 +136,12 @@ pub fn mapping_fits(source: &[u8], target: &[u8], targets: &[u16], body: &[u8], 
     requires { ⌜ ((f : Translation) × Ready (now source) (now target) (now targets) (now body) (now uses) f) ⌝ }
     ensures { λ r. ⌜ ((f : Translation) → Ready (now (source .entry)) (now (target .entry)) (now (targets .entry)) (now (body .entry)) (now (uses .entry)) f → r ≡ mappingFits f) ⌝ }
 {
-    let mut marked = [false; 32];
+    let mut marked = [false; KINDS];
     mark_entries(source, &mut marked);
     if !kinds_mapped(uses, &marked) {
         return false;
     }
-    let mut reached = [false; 32];
+    let mut reached = [false; KINDS];
     mark_entries(target, &mut reached);
     mappings_fit(source, target, targets, body, &marked, &reached)
 }

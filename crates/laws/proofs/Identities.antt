@@ -16,7 +16,7 @@ use Rattle.format_pack.specs.Terms.{Term, languages, sum, identity}
 use Rattle.reduce_operators.specs.Operators.{languageUnion, translationUnion, identityClause, identityOf}
 use Rattle.reduce_operators.proofs.Proper.{Proper, good-proper, GoodTranslation}
 use Rattle.reduce_operators.proofs.SumSound.{LanguagesFit, fit-languages, languages-fit, proper-union, fit-translations, union-covers, Covers}
-use Rattle.reduce_operators.proofs.ItemParts.{mapping-parts, mapping-clause}
+use Rattle.format_translation.proofs.ItemParts.{mapping-parts, mapping-clause}
 use Rattle.reduce_operators.proofs.IdentitySound.{sound-identity}
 use Rattle.reduce_signs.specs.Evaluation.{Constants, nothingBound, evaluate}
 use Rattle.reduce_terms.proofs.Evaluated.{GoodConstants}

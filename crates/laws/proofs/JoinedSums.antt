@@ -13,7 +13,7 @@ use Rattle.reduce_operators.specs.Limits.{isDeep, codeIsDeep}
 use Rattle.reduce_operators.specs.Inner.Paired.{reached, pairedItem}
 use Rattle.reduce_operators.proofs.Proper.{Sound, GoodTranslation}
 use Rattle.reduce_operators.proofs.SumSound.{Part, part-code}
-use Rattle.reduce_operators.proofs.ItemParts.{mapping-parts, mapping-clause}
+use Rattle.format_translation.proofs.ItemParts.{mapping-parts, mapping-clause}
 use Rattle.reduce_operators.proofs.JoinRises.{mem-join, join-cases, joined-rises}
 use Rattle.reduce_operators.proofs.JoinSound.{clause-source, sound-join}
 use Rattle.reduce_signs.specs.Evaluation.{Constants, nothingBound, evaluate}

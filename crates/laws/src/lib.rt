@@ -1,1 +1,1 @@
-// The two laws and the starred examples, as theorems over the definitions of the operations.
+// The laws of the papers and the starred examples, as theorems over the definitions of the operations.

@@ -4,6 +4,8 @@ use format_fields::walk::field_end;
 use program_text::text::put;
 use program_text::text::put_hex;
 use program_text::text::put_number;
+use format_translation::body::CLAUSE;
+use format_translation::body::NUMBERED_CLAUSE;
 ghost use Prim.Native.Nat.{_+_, _*_, _-_, _<_, _≤_};
 ghost use lib.ListN.{length};
 ghost use Rattle.format_fields.specs.Inner.Places.{EndsAt};
@@ -41,13 +43,13 @@ fn put_contents(tag: u8, contents: &[u8], text: &mut [u8], at: usize) -> usize
     ensures { λ r. ⌜ Puts (Walk.fieldLine tag (now (contents .entry))) (now (text .entry)) (now (text .exit)) at r
         × (r ≤ at + 3 * length (now (contents .entry)) + 9) ⌝ }
 {
-    if tag == 0x23 {
+    if tag == CLAUSE {
         if contents.len() < 2 {
             return at;
         }
         return put_clause(contents, text, at);
     }
-    if tag == 0x29 {
+    if tag == NUMBERED_CLAUSE {
         if contents.len() < 3 {
             return at;
         }

@@ -30,8 +30,9 @@ use Rattle.format_translation.proofs.Accepted.{accepts}
 use Rattle.format_translation.proofs.Lookup.{mapping-mem}
 use Rattle.run_table.specs.Inner.Table.{Ready, Checked}
 use Rattle.reduce_operators.specs.Operators.{numbersLow, joinFits, joined, translationJoin}
+use Rattle.format_translation.specs.Plain.{plain}
 use Rattle.reduce_operators.specs.Inner.Numbers.{mappingBelow}
-use Rattle.reduce_operators.proofs.Numbering.{low-mappings}
+use Rattle.reduce_operators.proofs.Numbering.{low-mappings, plain-below}
 use Rattle.reduce_operators.specs.Limits.{codeIsDeep, languageExceeds, translationExceeds}
 use Rattle.format_fields.specs.declared.copy.Stored.{Stored}
 use Rattle.format_fields.specs.declared.copy.Stored.the-variants.{Full}
@@ -46,7 +47,7 @@ use Rattle.reduce_operators.specs.Inner.Assembled.{assembled}
 use Rattle.reduce_operators.proofs.Accepted.{accepted-good, whole-over, body-in, body-over, assembled-given}
 use Rattle.reduce_operators.proofs.Given.{assembled-is, gives-refused}
 use Rattle.reduce_operators.proofs.TranslationLaws.{spelt-good}
-use Rattle.reduce_join.specs.Inner.Joining.{Held, Joining, Fitted, joinedBody, measured}
+use Rattle.reduce_join.specs.Inner.Joining.{Held, Joining, Fitted, joinedBody, checkedLength}
 
 -- Bytes that were given whole.
 pub record Whole (v o′ : List ℕ) (n : ℕ) : Type 0 where
@@ -75,11 +76,11 @@ front-length v o′ n w = sym (length-take-le n o′ (w .room))
 
 -- `measure`
 module _ (v : List ℕ) (c o : Outcome) (e : o ≡ c) where
-  pub measure-accepted : {n : ℕ} → o ≡ Accepted n → Accepted (length v) ≡ measured v c
-  measure-accepted h = ap (measured v) (sym h ∙ e)
+  pub length-accepted : {n : ℕ} → o ≡ Accepted n → Accepted (length v) ≡ checkedLength v c
+  length-accepted h = ap (checkedLength v) (sym h ∙ e)
 
-  pub measure-refused : {w : Reason} → o ≡ Refused w → Refused ValueTooLarge ≡ measured v c
-  measure-refused h = ap (measured v) (sym h ∙ e)
+  pub length-refused : {w : Reason} → o ≡ Refused w → Refused ValueTooLarge ≡ checkedLength v c
+  length-refused h = ap (checkedLength v) (sym h ∙ e)
 
 -- The value of a join of translations that files hold.
 module _ (f g : Translation) (hf : Held f) (hg : Held g) (fits : joinFits f g ≡ true) (low-first : numbersLow f ≡ true) (low-second : numbersLow g ≡ true) where
@@ -163,17 +164,17 @@ module _ (f g : Translation) (hf : Held f) (hg : Held g) (fits : joinFits f g �
       stands : Whole (encodeTranslation (joined f g)) o′ n
       stands = subst (λ (v : List ℕ). Whole v o′ n) made (given-whole _ o o′ r given n e)
 
-      pub finish-checked : (x : Outcome) → x ≡ measured (take n o′) (checkTranslation (take n o′)) → Gives (translationBytes (value (joined f g))) o o′ x
+      pub finish-checked : (x : Outcome) → x ≡ checkedLength (take n o′) (checkTranslation (take n o′)) → Gives (translationBytes (value (joined f g))) o o′ x
       unfolding joined
       finish-checked x ex = go (checkTranslation (take n o′)) refl
         where
           go : (c : Outcome) → checkTranslation (take n o′) ≡ c → Gives (translationBytes (value (joined f g))) o o′ x
           go (Accepted m) k =
               let sound = checked-sound (stands .short) (ap checkTranslation (sym (stands .bytes)) ∙ k) in
-              let q : x ≡ r = ex ∙ (ap (measured (take n o′)) k ∙ (ap Accepted (ap length (stands .bytes) ∙ sym (stands .long)) ∙ sym e)) in
+              let q : x ≡ r = ex ∙ (ap (checkedLength (take n o′)) k ∙ (ap Accepted (ap length (stands .bytes) ∙ sym (stands .long)) ∙ sym e)) in
               rw q (assembled-given (joined f g) sound (second-good .source-short) (first-good .target-short) s t b o o′ r es et eb given)
           go (Refused w) k =
-              let q : x ≡ Refused ValueTooLarge = ex ∙ ap (measured (take n o′)) k in
+              let q : x ≡ Refused ValueTooLarge = ex ∙ ap (checkedLength (take n o′)) k in
               rw q (gives-refused _ o o′ ValueTooLarge (checked-exceeds (stands .short) (ap checkTranslation (sym (stands .bytes)) ∙ k)) (given .long))
 
 -- The parts that are spelt, read.
@@ -230,9 +231,9 @@ low-not c e h = rw (← e, h) refl
 pub low-both : {a b c d : Bool} → a ≡ b → a ≡ true → d ≡ c → d ≡ (b && c)
 low-both e h g = rw (← e, h) g
 
-pub limit-one : (s : List ℕ) (b : Bool) → ((c : Body) → bodyOf s ≡ some c → b ≡ all (mappingBelow 1) c) → b ≡ true
+pub limit-one : (s : List ℕ) (b : Bool) → ((c : Body) → bodyOf s ≡ some c → b ≡ plain c) → b ≡ true
     → (c : Body) → bodyOf s ≡ some c → all (mappingBelow 1) c ≡ true
-limit-one s b h e c q = sym (h c q) ∙ e
+limit-one s b h e c q = plain-below c (sym (h c q) ∙ e)
 
 -- Numbers of mappings are below a limit that all items have.
 mapped-below : (b : Body) (limit : ℕ) → all (mappingBelow limit) b ≡ true → (k j : ℕ) → isSome (mappingOf b k j) ≡ true → j < limit

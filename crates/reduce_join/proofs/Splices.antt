@@ -12,7 +12,7 @@ use Rattle.format_fields.specs.Fields.{encodeField}
 use Rattle.format_fields.specs.declared.copy.Stored.{Stored}
 use Rattle.format_fields.specs.declared.copy.Stored.the-variants.{To, Full}
 use Rattle.format_fields.specs.Inner.Writing.{spliced, Stores}
-use Rattle.format_fields.proofs.Splices.{nothing-spliced}
+use Rattle.format_fields.proofs.Splices.{stored-to, stored-full}
 use Rattle.format_translation.specs.Translation.{mapping, clause}
 use Rattle.format_translation.specs.TranslationFile.{itemField}
 use Rattle.reduce_join.specs.Inner.Joining.{headLength, clauseHead}
@@ -27,28 +27,6 @@ head-before o n k fits h v e =
     let d : drop (n + length h) (take (n + k) o ++ rest) ≡ rest = drop-at (take (n + k) o) rest (n + length h) (omega (arith, l, e)) in
     let s : n + k + length v ≡ n + length (h ++ v) = omega (arith, length-append h v, e) in
     rw (t, d, s) (ap (λ (x : List ℕ). take n o ++ x) (sym (append-assoc h v (drop (n + length (h ++ v)) o))))
-
--- What was written in whole.
-pub stored-to : (v o o′ : List ℕ) (n m : ℕ) → m ≡ n + length v → m ≤ length o → o′ ≡ spliced o n v → Stores v o o′ n (To m)
-stored-to v o o′ n m e f b = record {
-  done = λ k q. let d : m ≡ k = cc in record { end = sym d ∙ e; fits = omega (arith, d, f); bytes = b };
-  full = λ q. let z : _≡_ {A = ℕ} 0 1 = cc in absurd (omega arith);
-}
-
-pub stored-full : (v o o′ : List ℕ) (n : ℕ) → length o < n + length v → Stores v o o′ n Full
-stored-full v o o′ n h = record {
-  done = λ m q. let z : _≡_ {A = ℕ} 0 1 = cc in absurd (omega arith);
-  full = λ q. h;
-}
-
--- Nothing is written.
-pub stored-nothing : (o : List ℕ) (n : ℕ) → n ≤ length o → Stores [] o o n (To n)
-stored-nothing o n h = stored-to [] o o n n (omega arith) h (nothing-spliced o n)
-
--- What there is room for is written.
-pub stored-there : (v o o′ : List ℕ) (n : ℕ) (r : Stored) → Stores v o o′ n r → n + length v ≤ length o → o′ ≡ spliced o n v
-stored-there v o o′ n (To m) w h = w .done m refl .bytes
-stored-there v o o′ n Full w h = absurd (omega (arith, w .full refl))
 
 -- What the emitter put in.
 module _ (v o o′ : List ℕ) (n m : ℕ) (w : Wrote v o o′ n m) where

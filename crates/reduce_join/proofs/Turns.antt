@@ -37,7 +37,8 @@ use Rattle.reduce_operators.proofs.JoinRises.{join-item, numbers-listed}
 use Rattle.reduce_operators.proofs.SameItem.{items-append}
 use Rattle.format_translation.proofs.Lookup.{mem-mapping}
 use Rattle.reduce_join.specs.Inner.Joining.{Joining, Reached, headLength, clauseHead, between, ClauseAsks, ReachAsks, NumberAsks, pairedField, numberField, joinedField, joinedBody}
-use Rattle.reduce_join.proofs.Splices.{head-before, stored-to, stored-full, stored-nothing, stored-there, clause-field, head-length}
+use Rattle.format_fields.proofs.Splices.{stored-to, stored-full, stored-nothing, stored-there}
+use Rattle.reduce_join.proofs.Splices.{head-before, clause-field, head-length}
 use Rattle.reduce_join.proofs.Operands.{first-sound, number-low}
 
 -- The number of the item at p, by its key.

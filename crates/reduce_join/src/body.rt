@@ -21,6 +21,7 @@ use format_fields::bytes::to_usize;
 use format_fields::copy::Stored;
 use format_fields::copy::put;
 use format_fields::walk::MAPPING;
+use format_fields::walk::NAMES;
 use format_fields::walk::NUMBERED;
 use format_fields::walk::field_end;
 use format_fields::walk::order_at;
@@ -28,18 +29,24 @@ use format_fields::walk::whole_end;
 use format_translation::body::CLAUSE;
 use format_translation::body::NUMBERED_CLAUSE;
 use format_translation::body::is_clause;
+use format_translation::clause::CLAUSE_HEAD;
+use format_translation::clause::NUMBERED_HEAD;
 use run_emit::run::run;
 use tree_reader::index::TABLE;
 use tree_reader::node::Syntax;
+use tree_reader::read::CODE_LEVELS;
+
+// A join pairs numbers below this one: so many times that of the second plus that of the first.
+pub const LOW_NUMBERS: usize = 16;
 
 // How many bytes stand before the code in the field of a clause of this number.
 fn head_length(number: usize) -> usize
     ensures { λ r. ⌜ (r ≡ headLength number) × (5 ≤ r) × (r ≤ 6) ⌝ }
 {
     if number == 0 {
-        return 5;
+        return CLAUSE_HEAD;
     }
-    6
+    NUMBERED_HEAD
 }
 
 // The field of a mapping, into the output from n on.
@@ -64,10 +71,10 @@ fn put_head(result: u8, name: u8, number: usize, size: usize, out: &mut [u8], n:
     let low = (size % 256) as u8;
     if number == 0 {
         let plain = [CLAUSE, high, low, result, name];
-        return put(&plain, 0, 5, out, n);
+        return put(&plain, 0, CLAUSE_HEAD, out, n);
     }
     let head = [NUMBERED_CLAUSE, high, low, result, name, number as u8];
-    put(&head, 0, 6, out, n)
+    put(&head, 0, NUMBERED_HEAD, out, n)
 }
 
 // The run of a code through the first by a number, its uses kept, into the output from n on.
@@ -84,7 +91,17 @@ fn put_run(
         → Stores (write code (transform f number u)) (now (out .entry)) (now (out .exit)) n r) ⌝ }
 {
     let ends = [0u32; 2];
-    let m = run(Syntax::Code, table, input, &ends, kind, number, 16, out, n);
+    let m = run(
+        Syntax::Code,
+        table,
+        input,
+        &ends,
+        kind,
+        number,
+        CODE_LEVELS,
+        out,
+        n,
+    );
     if out.len() < m {
         return Stored::Full;
     }
@@ -108,7 +125,7 @@ fn join_clause(
     ensures { λ r. ⌜ ((f g : Translation) → ClauseAsks (now (table .entry)) (now («second_body» .entry)) p e kind i j f g
         → Stores (pairedField f g (now («second_body» .entry)) p j) (now (out .entry)) (now (out .exit)) n r) ⌝ }
 {
-    let number = 16 * i + to_usize(j);
+    let number = LOW_NUMBERS * i + to_usize(j);
     let start = n + head_length(number);
     if out.len() < start {
         return Stored::Full;
@@ -141,7 +158,7 @@ fn join_number(
     ensures { λ r. ⌜ ((f g : Translation) → NumberAsks (now (table .entry)) (now («first_uses» .entry)) (now («second_body» .entry)) p e kind i j f g
         → Stores (numberField f g (now («second_body» .entry)) p j) (now (out .entry)) (now (out .exit)) n r) ⌝ }
 {
-    let to = byte_at(first_uses, 256 * to_usize(kind) + to_usize(j));
+    let to = byte_at(first_uses, NAMES * to_usize(kind) + to_usize(j));
     if to == 0 {
         return Stored::To(n);
     }
@@ -149,7 +166,7 @@ fn join_number(
         return join_clause(table, second_body, p, e, kind, i, j, out, n);
     }
     let source = byte_at(second_body, p + 3);
-    put_mapping(source, 16 * i + to_usize(j), to - 1, out, n)
+    put_mapping(source, LOW_NUMBERS * i + to_usize(j), to - 1, out, n)
 }
 
 // The kind of the first's source that the item of number i at p of the second's body, which ends at e, reaches: where a mapping
@@ -160,7 +177,7 @@ fn kind_reached(second_body: &[u8], second_uses: &[u8], p: usize, e: usize, i: u
 {
     if is_clause(byte_at(second_body, p)) {
         let result = to_usize(byte_at(second_body, p + 3));
-        return byte_at(second_uses, 256 * result + i) - 1;
+        return byte_at(second_uses, NAMES * result + i) - 1;
     }
     byte_at(second_body, e - 1)
 }
@@ -181,7 +198,7 @@ fn join_item(
         → Stores (joinedField f g (now («second_body» .entry)) p) (now (out .entry)) (now (out .exit)) n r) ⌝ }
 {
     let e = whole_end(second_body, p);
-    let i = order_at(second_body, p, MAPPING) % 256;
+    let i = order_at(second_body, p, MAPPING) % NAMES;
     let kind = kind_reached(second_body, second_uses, p, e, i);
     let mut at = n;
     let mut j = 0u8;

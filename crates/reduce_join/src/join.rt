@@ -16,14 +16,17 @@ ghost use Rattle.format_fields.specs.Inner.Writing.{Stores};
 ghost use Rattle.reduce_operators.specs.Inner.Values.{exactTranslation, Gives, translationBytes};
 ghost use Rattle.reduce_operators.specs.Inner.Numbers.{mappingBelow};
 ghost use Rattle.reduce_operators.specs.Inner.EncodedParts.{EncodedParts};
-ghost use Rattle.reduce_join.specs.Inner.Joining.{Held, Fitted, joinedBody, measured};
+ghost use Rattle.reduce_join.specs.Inner.Joining.{Held, Fitted, joinedBody, checkedLength};
+use super::body::LOW_NUMBERS;
 use super::body::join_items;
 use check_operations::translations::check_translation;
 use format_fields::copy::Stored;
 use format_translation::index::put_uses;
+use format_translation::parts::TRANSLATION_LIMIT;
 use format_translation::parts::body_of;
 use format_translation::parts::source_of;
 use format_translation::parts::target_of;
+use format_translation::plain::is_plain;
 use outcome::Outcome;
 use outcome::Reason;
 use reduce_merge::within::lies_within;
@@ -34,8 +37,8 @@ use run_table::prepare::prepare;
 use tree_reader::index::TABLE;
 use tree_reader::node::USES;
 
-// A join pairs numbers below this one, 16 times that of the second plus that of the first.
-const LOW_NUMBERS: usize = 16;
+// The same limit as a byte, as the numbers of a body are.
+const LOW_LIMIT: u8 = LOW_NUMBERS as u8;
 
 // Whether two bodies have low numbers only.
 fn numbers_low(first_body: &[u8], second_body: &[u8]) -> bool
@@ -54,10 +57,10 @@ fn number_limit(body: &[u8]) -> u8
     requires { ⌜ ((b : Body) × (bodyOf (now body) ≡ some b)) ⌝ }
     ensures { λ r. ⌜ (r ≤ 16) × ((b : Body) → bodyOf (now (body .entry)) ≡ some b → all (mappingBelow 16) b ≡ true → all (mappingBelow r) b ≡ true) ⌝ }
 {
-    if numbers_below(body, 1) {
+    if is_plain(body) {
         return 1;
     }
-    16
+    LOW_LIMIT
 }
 
 // The body of the join of two translations that fit, by the source, target and body of the first and the body of the
@@ -91,8 +94,8 @@ fn join_body(
 }
 
 // The length of a joined value, or 11 where the check refuses it: a code of it goes too deep.
-fn measure(value: &[u8]) -> Outcome
-    ensures { λ r. ⌜ r ≡ measured (now (value .entry)) (checkTranslation (now (value .entry))) ⌝ }
+fn checked_length(value: &[u8]) -> Outcome
+    ensures { λ r. ⌜ r ≡ checkedLength (now (value .entry)) (checkTranslation (now (value .entry))) ⌝ }
 {
     let answer = check_translation(value);
     let outcome = answer.outcome;
@@ -109,7 +112,7 @@ fn finish(source: &[u8], target: &[u8], body: &[u8], out: &mut [u8]) -> Outcome
         → now (body .entry) ≡ joinedBody f g → Gives (translationBytes (value (joined f g))) (now (out .entry)) (now (out .exit)) r) ⌝ }
 {
     match assemble(source, target, body, out) {
-        Outcome::Accepted(n) => measure(&out[..n]),
+        Outcome::Accepted(n) => checked_length(&out[..n]),
         Outcome::Refused(reason) => Outcome::Refused(reason),
     }
 }
@@ -127,7 +130,7 @@ fn join_fitting(
     ensures { λ r. ⌜ ((f g : Translation) → Fitted (now («first_source» .entry)) (now («first_target» .entry)) (now («first_body» .entry)) (now («second_source» .entry)) (now («second_body» .entry)) f g
         → Gives (translationBytes (value (joined f g))) (now (out .entry)) (now (out .exit)) r) ⌝ }
 {
-    let mut body = [0u8; 4096];
+    let mut body = [0u8; TRANSLATION_LIMIT];
     let Stored::To(n) = join_body(
         first_source,
         first_target,

@@ -1,4 +1,5 @@
-// The values of the signs on languages and translations: their definitions and laws, and the operators on bytes.
+// Two files of rising fields side by side: their union and difference, whether they agree, and whether one language lies within
+// another.
 pub mod fit;
 pub mod meet;
 pub mod merge;

@@ -1,8 +1,11 @@
 // The operation reduce (paper 01, "Operations and their refusals").
+use format_fields::copy::clear;
 use format_fields::copy::put;
 use format_pack::check::check_pack;
 use format_pack::parts::term_start;
+use format_pack::term::TERM_LEVELS;
 use format_pack::term::check_term;
+use format_translation::parts::TRANSLATION_LIMIT;
 use outcome::Answer;
 use outcome::Outcome;
 use outcome::Reason;
@@ -14,7 +17,7 @@ use reduce_terms::terms::translation_term;
 ghost use mathlib.Core.Path.{_≡_};
 ghost use mathlib.Core.List.{List, []};
 ghost use Prim.Native.Nat.{ℕ, _≤_};
-ghost use lib.ListN.{length, take, replicate};
+ghost use lib.ListN.{length, take};
 ghost use Rattle.outcome.specs.Outcome.{Result, value, checked, written, outputAfter};
 ghost use Rattle.outcome.specs.declared.Outcome.the-variants.{Accepted};
 ghost use Rattle.format_translation.specs.Translation.{Translation};
@@ -26,12 +29,11 @@ ghost use Rattle.reduce_operation.specs.Operations.{Ready};
 ghost use Rattle.reduce_operation.specs.Inner.Delivery.{fileOf};
 ghost use Rattle.reduce_terms.specs.Inner.Reducing.{Says};
 
-// The least workspace and output, and the most levels of a term.
-const WORKSPACE: usize = 65536;
+// The least length of a workspace.
+pub const WORKSPACE: usize = 65536;
 
-const OUTPUT: usize = 4096;
-
-const TERM_LEVELS: usize = 12;
+// The least length of an output: any translation fits.
+const OUTPUT: usize = TRANSLATION_LIMIT;
 
 // 1 to 4, 8 and 9: the pack, its term, and the lengths of workspace and output.
 fn ready(pack: &[u8], workspace: usize, output: usize) -> Answer
@@ -86,17 +88,6 @@ fn deliver(evaluated: Evaluated, buffer: &[u8], output: &mut [u8]) -> Answer
     match evaluated {
         Evaluated::Refused(reason) => refuse(reason),
         Evaluated::To(n, _) => write(buffer, n, output),
-    }
-}
-
-// Every byte is set to zero.
-fn clear(workspace: &mut [u8])
-    ensures { λ _. ⌜ now (workspace .exit) ≡ replicate (length (now (workspace .entry))) 0 ⌝ }
-{
-    let mut i = 0;
-    while i < workspace.len() {
-        workspace[i] = 0;
-        i += 1;
     }
 }
 

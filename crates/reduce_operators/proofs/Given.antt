@@ -12,7 +12,7 @@ use Rattle.outcome.specs.declared.Outcome.{Outcome}
 use Rattle.outcome.specs.declared.Outcome.the-variants.{Accepted, Refused}
 use Rattle.outcome.specs.declared.Reason.{Reason}
 use Rattle.outcome.specs.declared.Reason.the-variants.{ValueTooLarge}
-use Rattle.format_fields.specs.Fields.{field, encodeField, encodeFields}
+use Rattle.format_fields.specs.Fields.{field, twoBytes, encodeField, encodeFields}
 use Rattle.format_fields.specs.Lists.{concatMap}
 use Rattle.format_fields.proofs.Truth.{by-test}
 use Rattle.format_fields.proofs.Codec.{refused-value}
@@ -107,6 +107,12 @@ pub field-stored : (tag : ℕ) (s o o′ : List ℕ) (n : ℕ) (x : Stored)
     → Stores ((tag ∷ (length s / 256) ∷ (length s % 256) ∷ []) ++ slice 0 (length s) s) o o′ n x → Stores (encodeField (field tag s)) o o′ n x
 unfolding encodeField
 field-stored tag s o o′ n x w = rw (slice-whole s) at w
+
+-- `put_field`: the length put into its head
+pub head-stored : (tag : ℕ) (s o o′ head : List ℕ) (n : ℕ) (x : Stored) → head ≡ spliced (tag ∷ 0 ∷ 0 ∷ []) 1 (twoBytes (length s))
+    → Stores (slice 0 3 head ++ slice 0 (length s) s) o o′ n x → Stores (encodeField (field tag s)) o o′ n x
+unfolding spliced
+head-stored tag s o o′ head n x e w = field-stored tag s o o′ n x (rw e at w)
 
 -- `assemble`: the parts one after the other
 module _ (s t b o : List ℕ) where

@@ -28,7 +28,7 @@ use Rattle.format_translation.proofs.Preserved.{Mappings, kind-use}
 use Rattle.format_translation.proofs.Fitting.{Fitting, uses-are}
 use Rattle.reduce_operators.specs.Operators.{argumentsFrom, identityClause, identityOf}
 use Rattle.reduce_operators.proofs.Proper.{Proper, proper-apart, proper-below, Sound}
-use Rattle.reduce_operators.proofs.ItemParts.{mapping-parts, clause-parts, mapping-clause}
+use Rattle.format_translation.proofs.ItemParts.{mapping-parts, clause-parts, mapping-clause}
 
 -- The arguments in order are of the kinds in order.
 get-append : (r : List ℕ) (k : ℕ) (ks : List ℕ) → getElem? (r ++ k ∷ ks) (length r) ≡ some k

@@ -32,7 +32,7 @@ use Rattle.reduce_operators.specs.Operators.{entryWithin, numbersLow, jo
 use Rattle.reduce_operators.specs.Limits.{isDeep, codeIsDeep}
 use Rattle.reduce_operators.specs.Inner.Paired.{reached, pairedItem}
 use Rattle.reduce_operators.proofs.Proper.{proper-apart, Sound}
-use Rattle.reduce_operators.proofs.ItemParts.{mapping-parts, clause-parts, mapping-clause}
+use Rattle.format_translation.proofs.ItemParts.{mapping-parts, clause-parts, mapping-clause}
 use Rattle.reduce_operators.proofs.JoinRises.{mem-join, join-cases, low-is, joined-rises}
 
 -- A reading that is not too deep with few levels is what more levels give.

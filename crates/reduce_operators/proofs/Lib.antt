@@ -9,7 +9,6 @@ pub mod SameItem
 pub mod Making
 pub mod Encoded
 pub mod IdentitySound
-pub mod ItemParts
 pub mod JoinRises
 pub mod JoinSound
 pub mod Mapped

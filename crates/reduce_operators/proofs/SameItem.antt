@@ -6,7 +6,7 @@ use mathlib.Core.Bool.{Bool, true, false, cond}
 use mathlib.Core.List.{List, [], _∷_, _++_, map}
 use mathlib.Core.Option.{some}
 use native.Mathlib.Omega.{arith}
-use lib.ListN.{length, take, length-append}
+use lib.ListN.{length, getD, take, length-append}
 use lib.Seq.{slice, length-slice}
 use lib.Dec.{ltb}
 use borrow.Author.Tests.{eq-eqb}
@@ -40,7 +40,7 @@ use Rattle.format_fields.proofs.Splices.{put-unwanted, both-full, both-then}
 use Rattle.reduce_merge.proofs.Turns.{Progress, progress-start}
 use Rattle.reduce_operators.specs.Inner.Assembled.{assembled}
 use Rattle.reduce_operators.specs.Inner.Kept.{writtenFrom}
-use Rattle.reduce_operators.specs.Inner.SameItems.{kindItem, kindItems, clauseItem}
+use Rattle.reduce_operators.specs.Inner.SameItems.{kindItem, Marks, kindItems, clauseItem}
 use Rattle.reduce_operators.proofs.Given.{gives-refused, stored-first}
 use Rattle.reduce_operators.proofs.Accepted.{exact-good, language-entries, language-written, assembled-given, body-over}
 
@@ -50,20 +50,23 @@ pub kind-stored : (l : Language) (k : ℕ) (there : Bool) → there ≡ isIn l k
 unfolding kindItem encodeField itemField
 kind-stored l k there e o o′ n x w = rw (← e) w
 
--- put_kinds: where it is
-pub record Kinding (a o out : List ℕ) (n k : ℕ) : Type 0 where
-  pub progress : (l : Language) → entriesOf a ≡ some l → Progress (kindItems l 0) (kindItems l k) o out n
+-- put_marked: where it is
+pub record Kinding (marked : List Bool) (o out : List ℕ) (n k : ℕ) : Type 0 where
+  pub progress : (l : Language) → Marks marked l → Progress (kindItems l 0) (kindItems l k) o out n
   pub room : n ≤ length out
   pub long : length out ≡ length o
   pub inside : k ≤ 32
 
-pub kinding-start : (a o : List ℕ) → Kinding a o o 0 0
-kinding-start a o = record {
+pub kinding-start : (marked : List Bool) (o : List ℕ) → Kinding marked o o 0 0
+kinding-start marked o = record {
   progress = λ l e. progress-start (kindItems l 0) o;
   room = omega arith;
   long = refl;
   inside = omega arith;
 }
+
+pub marked-at : (marked : List Bool) (l : Language) (k i : ℕ) → Marks marked l → k < 32 → i ≡ k → getD marked i false ≡ isIn l k
+marked-at marked l k i e h q = rw q (e k h)
 
 pub kinding-turn : (l : Language) (k : ℕ) → k < 32 → kindItems l k ≡ kindItem l k ++ kindItems l (k + 1)
 unfolding kindItems countUp concatMap

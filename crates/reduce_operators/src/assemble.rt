@@ -12,6 +12,10 @@ use super::limit::limited;
 use format_fields::copy::Stored;
 use format_fields::copy::put;
 use format_fields::copy::put_both;
+use format_fields::copy::put_pair;
+use format_translation::parts::SOURCE;
+use format_translation::parts::TARGET;
+use format_translation::parts::TRANSLATION_LIMIT;
 use outcome::Outcome;
 use outcome::Reason;
 
@@ -21,7 +25,8 @@ fn put_field(tag: u8, s: &[u8], out: &mut [u8], n: usize) -> Stored
     ensures { λ r. ⌜ Stores (encodeField (field tag (now (s .entry)))) (now (out .entry)) (now (out .exit)) n r ⌝ }
 {
     let size = s.len();
-    let head = [tag, (size / 256) as u8, (size % 256) as u8];
+    let mut head = [tag, 0, 0];
+    put_pair(size, &mut head, 1);
     put_both(&head, 0, 3, s, 0, size, out, n)
 }
 
@@ -31,11 +36,11 @@ pub fn assemble(source: &[u8], target: &[u8], body: &[u8], out: &mut [u8]) -> Ou
     requires { ⌜ (length (now source) ≤ 1024) × (length (now target) ≤ 1024) × (4096 ≤ length (now out)) ⌝ }
     ensures { λ r. ⌜ Gives (refuseIf (ltb 4096 (length (assembled (now (source .entry)) (now (target .entry)) (now (body .entry))))) ValueTooLarge (value (assembled (now (source .entry)) (now (target .entry)) (now (body .entry))))) (now (out .entry)) (now (out .exit)) r ⌝ }
 {
-    let Stored::To(a) = put_field(0x20, source, out, 0) else {
+    let Stored::To(a) = put_field(SOURCE, source, out, 0) else {
         return Outcome::Refused(Reason::ValueTooLarge);
     };
-    let Stored::To(b) = put_field(0x21, target, out, a) else {
+    let Stored::To(b) = put_field(TARGET, target, out, a) else {
         return Outcome::Refused(Reason::ValueTooLarge);
     };
-    limited(put(body, 0, body.len(), out, b), 4096)
+    limited(put(body, 0, body.len(), out, b), TRANSLATION_LIMIT)
 }

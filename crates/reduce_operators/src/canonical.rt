@@ -19,8 +19,14 @@ use format_fields::bytes::pair_at;
 use format_fields::copy::Stored;
 use format_fields::copy::put;
 use format_fields::copy::put_both;
+use format_language::check::LANGUAGE_LIMIT;
 use format_language::entries::CLASS;
+use format_language::entries::CLASS_LENGTH;
+use format_language::entries::STEPPED_LENGTH;
 use outcome::Outcome;
+
+// The length of a class whose step is not written, as the low byte of its length.
+const SHORT: u8 = CLASS_LENGTH as u8;
 
 // The entry at p is a class that writes a step of 1.
 fn spare_step(a: &[u8], p: usize) -> bool
@@ -30,7 +36,7 @@ fn spare_step(a: &[u8], p: usize) -> bool
     if byte_at(a, p) != CLASS {
         return false;
     }
-    if pair_at(a, p + 1) != 7 {
+    if pair_at(a, p + 1) != STEPPED_LENGTH {
         return false;
     }
     pair_at(a, p + 8) == 1
@@ -44,7 +50,7 @@ pub fn put_entry(a: &[u8], p: usize, e: usize, out: &mut [u8], n: usize) -> Stor
     if !spare_step(a, p) {
         return put(a, p, e, out, n);
     }
-    let head = [CLASS, 0, 5];
+    let head = [CLASS, 0, SHORT];
     put_both(&head, 0, 3, a, p + 3, p + 8, out, n)
 }
 
@@ -54,5 +60,5 @@ pub fn language(a: &[u8], out: &mut [u8]) -> Outcome
     ensures { λ r. ⌜ ((l : Language) → languageOf (now (a .entry)) ≡ value l
         → Gives (languageBytes (value l)) (now (out .entry)) (now (out .exit)) r) ⌝ }
 {
-    limited(put_pieces(Piece::Entry, a, out, 0), 1024)
+    limited(put_pieces(Piece::Entry, a, out, 0), LANGUAGE_LIMIT)
 }

@@ -8,6 +8,8 @@ ghost use Rattle.format_translation.specs.Translation.{Translation};
 ghost use Rattle.reduce_operators.specs.Inner.Values.{exactLanguage, exactTranslation, Gives, languageBytes, translationBytes};
 use super::limit::limited;
 use format_fields::copy::put;
+use format_language::check::LANGUAGE_LIMIT;
+use format_translation::parts::TRANSLATION_LIMIT;
 use format_translation::parts::source_of;
 use format_translation::parts::target_of;
 use outcome::Outcome;
@@ -18,7 +20,7 @@ pub fn language(a: &[u8], out: &mut [u8]) -> Outcome
     ensures { λ r. ⌜ ((l : Language) → exactLanguage (now (a .entry)) ≡ value l
         → Gives (languageBytes (value l)) (now (out .entry)) (now (out .exit)) r) ⌝ }
 {
-    limited(put(a, 0, a.len(), out, 0), 1024)
+    limited(put(a, 0, a.len(), out, 0), LANGUAGE_LIMIT)
 }
 
 // The translation itself.
@@ -27,7 +29,7 @@ pub fn translation(a: &[u8], out: &mut [u8]) -> Outcome
     ensures { λ r. ⌜ ((f : Translation) → exactTranslation (now (a .entry)) ≡ value f
         → Gives (translationBytes (value f)) (now (out .entry)) (now (out .exit)) r) ⌝ }
 {
-    limited(put(a, 0, a.len(), out, 0), 4096)
+    limited(put(a, 0, a.len(), out, 0), TRANSLATION_LIMIT)
 }
 
 // The source of a translation.

@@ -22,6 +22,7 @@ use format_fields::walk::MAPPING;
 use format_fields::walk::field_end;
 use format_translation::body::is_clause;
 use format_translation::index::known_at;
+use format_translation::parts::TRANSLATION_LIMIT;
 use outcome::Outcome;
 use outcome::Reason;
 use tree_reader::index::INDEX;
@@ -67,7 +68,7 @@ pub fn keep_parts(source: &[u8], target: &[u8], body: &[u8], out: &mut [u8]) -> 
 {
     let mut index = [0u16; INDEX];
     build(source, &mut index);
-    let mut kept = [0u8; 4096];
+    let mut kept = [0u8; TRANSLATION_LIMIT];
     let Stored::To(k) = keep_items(body, source, &index, &mut kept) else {
         return Outcome::Refused(Reason::ValueTooLarge);
     };

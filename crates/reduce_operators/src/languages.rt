@@ -7,6 +7,8 @@ ghost use Rattle.format_language.specs.Language.{Language};
 ghost use Rattle.reduce_operators.specs.Operators.{languageSum, languageWithout};
 ghost use Rattle.reduce_operators.specs.Inner.Values.{exactLanguage, Gives, languageBytes};
 use super::limit::limited;
+use format_language::check::LANGUAGE_LIMIT;
+use format_language::entries::CLASS;
 use outcome::Outcome;
 use outcome::Reason;
 use reduce_merge::fit::languages_fit;
@@ -22,7 +24,7 @@ pub fn sum(a: &[u8], b: &[u8], out: &mut [u8]) -> Outcome
     if !languages_fit(a, b) {
         return Outcome::Refused(Reason::SumUnfit);
     }
-    limited(merge(a, b, 0x11, out), 1024)
+    limited(merge(a, b, CLASS, out), LANGUAGE_LIMIT)
 }
 
 // The first language without the entries of the second.
@@ -31,5 +33,5 @@ pub fn without(a: &[u8], b: &[u8], out: &mut [u8]) -> Outcome
     ensures { λ r. ⌜ ((l m : Language) → exactLanguage (now (a .entry)) ≡ value l → exactLanguage (now (b .entry)) ≡ value m
         → Gives (languageBytes (value (languageWithout l m))) (now (out .entry)) (now (out .exit)) r) ⌝ }
 {
-    limited(remove(a, b, 0x11, out), 1024)
+    limited(remove(a, b, CLASS, out), LANGUAGE_LIMIT)
 }

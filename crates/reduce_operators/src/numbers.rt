@@ -11,10 +11,12 @@ ghost use Rattle.format_translation.specs.TranslationFile.{bodyOf};
 ghost use Rattle.format_translation.specs.Inner.ItemIndex.{Mapped};
 ghost use Rattle.reduce_operators.specs.Inner.Numbers.{mappingBelow, numberIn, keyKnown};
 use format_fields::walk::MAPPING;
+use format_fields::walk::NAMES;
 use format_fields::walk::order_at;
 use format_fields::walk::whole_end;
 use format_translation::body::is_clause;
 use format_translation::index::put_uses;
+use format_translation::plain::is_plain;
 use tree_reader::node::USES;
 
 // The mappings of a body, which stand in front, are by numbers below the limit.
@@ -27,7 +29,7 @@ pub fn numbers_below(body: &[u8], limit: usize) -> bool
         if is_clause(body[p]) {
             return true;
         }
-        if limit <= order_at(body, p, MAPPING) % 256 {
+        if limit <= order_at(body, p, MAPPING) % NAMES {
             return false;
         }
         p = whole_end(body, p);
@@ -40,7 +42,7 @@ fn number_known(uses: &[u8], key: usize) -> bool
     requires { ⌜ key < length (now uses) ⌝ }
     ensures { λ r. ⌜ r ≡ keyKnown (now (uses .entry)) key ⌝ }
 {
-    if uses[key - key % 256] == 0 {
+    if uses[key - key % NAMES] == 0 {
         return true;
     }
     uses[key] != 0
@@ -70,7 +72,7 @@ fn numbers_kept(first: &[u8], second: &[u8]) -> bool
     requires { ⌜ ((b : Body) × (bodyOf (now first) ≡ some b)) × ((c : Body) × (bodyOf (now second) ≡ some c)) × (length (now second) ≤ 32768) ⌝ }
     ensures { λ r. ⌜ ((b c : Body) → bodyOf (now (first .entry)) ≡ some b → bodyOf (now (second .entry)) ≡ some c → r ≡ all (numberIn c) b) ⌝ }
 {
-    if numbers_below(first, 1) {
+    if is_plain(first) {
         return true;
     }
     let mut uses = [0u8; USES];

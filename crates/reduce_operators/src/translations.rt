@@ -13,6 +13,10 @@ use super::assemble::assemble;
 use super::keep::keep_parts;
 use super::numbers::numbers_agree;
 use format_fields::copy::Stored;
+use format_fields::walk::MAPPING;
+use format_language::check::LANGUAGE_LIMIT;
+use format_language::entries::CLASS;
+use format_translation::parts::TRANSLATION_LIMIT;
 use format_translation::parts::body_of;
 use format_translation::parts::source_of;
 use format_translation::parts::target_of;
@@ -45,7 +49,7 @@ fn parts_fit(
     if !numbers_agree(first_body, second_body) {
         return false;
     }
-    agree(first_body, second_body, 0x22)
+    agree(first_body, second_body, MAPPING)
 }
 
 // The union of the parts of two translations that fit; 11 where it exceeds a limit.
@@ -62,16 +66,16 @@ fn unite(
     ensures { λ r. ⌜ ((f g : Translation) → EncodedParts (now («first_source» .entry)) (now («first_target» .entry)) (now («first_body» .entry)) f → EncodedParts (now («second_source» .entry)) (now («second_target» .entry)) (now («second_body» .entry)) g
         → translationsFit f g ≡ true → Gives (translationBytes (value (translationUnion f g))) (now (out .entry)) (now (out .exit)) r) ⌝ }
 {
-    let mut source = [0u8; 1024];
-    let Stored::To(i) = merge(first_source, second_source, 0x11, &mut source) else {
+    let mut source = [0u8; LANGUAGE_LIMIT];
+    let Stored::To(i) = merge(first_source, second_source, CLASS, &mut source) else {
         return Outcome::Refused(Reason::ValueTooLarge);
     };
-    let mut target = [0u8; 1024];
-    let Stored::To(j) = merge(first_target, second_target, 0x11, &mut target) else {
+    let mut target = [0u8; LANGUAGE_LIMIT];
+    let Stored::To(j) = merge(first_target, second_target, CLASS, &mut target) else {
         return Outcome::Refused(Reason::ValueTooLarge);
     };
-    let mut body = [0u8; 4096];
-    let Stored::To(k) = merge(first_body, second_body, 0x22, &mut body) else {
+    let mut body = [0u8; TRANSLATION_LIMIT];
+    let Stored::To(k) = merge(first_body, second_body, MAPPING, &mut body) else {
         return Outcome::Refused(Reason::ValueTooLarge);
     };
     assemble(&source[..i], &target[..j], &body[..k], out)
@@ -135,8 +139,8 @@ fn without_parts(source: &[u8], target: &[u8], body: &[u8], b: &[u8], out: &mut 
     ensures { λ r. ⌜ ((f : Translation) (m : Language) → EncodedParts (now (source .entry)) (now (target .entry)) (now (body .entry)) f → exactLanguage (now (b .entry)) ≡ value m
         → Gives (translationBytes (value (translationWithout f m))) (now (out .entry)) (now (out .exit)) r) ⌝ }
 {
-    let mut rest = [0u8; 1024];
-    let Stored::To(i) = remove(source, b, 0x11, &mut rest) else {
+    let mut rest = [0u8; LANGUAGE_LIMIT];
+    let Stored::To(i) = remove(source, b, CLASS, &mut rest) else {
         return Outcome::Refused(Reason::ValueTooLarge);
     };
     keep_parts(&rest[..i], target, body, out)

@@ -3,7 +3,7 @@ use crate::evaluated::Evaluated;
 use crate::evaluated::finish;
 use crate::places::Places;
 use crate::places::end_of;
-use crate::places::slot;
+use crate::places::slot_of;
 use crate::places::start_of;
 use crate::sorts::Sort;
 use format_fields::bytes::byte_at;
@@ -36,7 +36,7 @@ pub fn save(value: &[u8], n: usize, store: &mut [u8], top: usize)
 }
 
 // Copies the value of a sort that stands from start up to end.
-pub fn copy(sort: Sort, bytes: &[u8], start: usize, end: usize, out: &mut [u8]) -> Outcome
+fn copy(sort: Sort, bytes: &[u8], start: usize, end: usize, out: &mut [u8]) -> Outcome
     requires { ⌜ ((v : Value (sortOf sort)) × (valueIn (sortOf sort) (slice start end (now bytes)) ≡ value v))
         × (start ≤ end) × (end ≤ length (now bytes)) × (4096 ≤ length (now out)) ⌝ }
     ensures { λ r. ⌜ ((v : Value (sortOf sort)) → valueIn (sortOf sort) (slice start end (now (bytes .entry))) ≡ value v
@@ -79,11 +79,11 @@ pub fn variable(
     ensures { λ r. ⌜ ((e : Environment) → Held e places (take top (now (store .entry)))
         → Wrote (sortOf sort) (there UnboundVariable (e (sortOf sort) (getD (now (pack .entry)) (at + 1) 0))) (now (out .entry)) (now (out .exit)) (at + 2) r) ⌝ }
 {
-    let number = slot(sort, to_usize(byte_at(pack, at + 1)));
-    let start = start_of(places, number);
+    let slot = slot_of(sort, to_usize(byte_at(pack, at + 1)));
+    let start = start_of(places, slot);
     if start == 0 {
         return Evaluated::Refused(Reason::UnboundVariable);
     }
-    let end = end_of(places, number);
+    let end = end_of(places, slot);
     finish(copy(sort, store, start - 1, end, out), at + 2)
 }

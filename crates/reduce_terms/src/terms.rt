@@ -16,7 +16,7 @@ use reduce_signs::leaves::save;
 use reduce_signs::leaves::variable;
 use reduce_signs::places::Places;
 use reduce_signs::places::set_slot;
-use reduce_signs::places::slot;
+use reduce_signs::places::slot_of;
 use reduce_signs::sorts::Binary;
 use reduce_signs::sorts::Sort;
 use reduce_signs::sorts::Unary;
@@ -202,8 +202,8 @@ fn let_term(
     match operand(bound, pack, at + 2, below, places, store, top, out) {
         Evaluated::Refused(reason) => Evaluated::Refused(reason),
         Evaluated::To(last, next) => {
-            let number = slot(bound, to_usize(byte_at(pack, at + 1)));
-            let inner = set_slot(places, number, top + 1, last);
+            let slot = slot_of(bound, to_usize(byte_at(pack, at + 1)));
+            let inner = set_slot(places, slot, top + 1, last);
             term_of(sort, pack, next, below, inner, store, last, out)
         }
     }

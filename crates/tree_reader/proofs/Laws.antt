@@ -1,9 +1,12 @@
 -- The definitions by position, one turn at a time, in the terms of the code: a law for each return.
 use Prim.Native.Nat.{ℕ, suc, _+_, _*_, _-_, _<_, _≤_}
 use mathlib.Core.Path.{_≡_, refl, sym, ap, _∙_}
-use mathlib.Core.List.{List}
+use mathlib.Core.Logic.{inl, inr}
+use mathlib.Core.List.{List, [], _∷_}
 use mathlib.Core.Bool.{Bool, true, false, cond}
 use native.Mathlib.Omega.{arith}
+use types.Run.{OneOf}
+use denote.Enum.Declared.{tagOf}
 use lib.ListN.{length, getD, List·getD-eq-default}
 use lib.Dec.{ltb, leb, eqb}
 use borrow.Author.Tests.{ltb-true, ltb-false, leb-false, eqb-true, eqb-false, lt-ltb, le-ltb, leb-true, le-leb, lt-leb, eq-eqb, ne-eqb}
@@ -18,6 +21,7 @@ use Rattle.tree_reader.specs.declared.node.Read.the-variants.{End, Deep,
 use Rattle.tree_reader.specs.declared.node.Node.{Node}
 use Rattle.tree_reader.specs.declared.node.Node.the-variants.{Leaf, Operands}
 use Rattle.tree_reader.specs.Inner.Index.{Sound}
+use Rattle.tree_reader.proofs.node.Read.{the-type}
 use Rattle.tree_reader.specs.Inner.Positions.{nameLength, productionPlace, tokenAt, operandsAt, nameAt, argumentIs, argumentAt, numberedAt, treeNode, classPlace, codeLeaf, codeNode, nodeAt, leafAt, operandsFrom, pastAt, readAt, EndsBy, NodeIn, KindsIn}
 
 -- Past the end of a list its default stands.
@@ -216,6 +220,17 @@ module _ (f : ℕ → ℕ → Read) (s : List ℕ) (e q at : ℕ) where
     pub operands-broken : r ≡ Broken → operandsFrom f s (e - q) q at ≡ Broken
     unfolding operandsFrom
     operands-broken y = rw left (cc)
+
+-- An operand that is refused ends the row.
+pub operands-stop : (f : ℕ → ℕ → Read) (s : List ℕ) (e q at : ℕ) {r : Read} → q < e → r ≡ f (getD s q 0) at → OneOf (1 ∷ 2 ∷ []) (tagOf the-type r)
+    → r ≡ operandsFrom f s (e - q) q at
+operands-stop f s e q at {r} more er refused = go r er refused
+  where
+    go : (r : Read) → r ≡ f (getD s q 0) at → OneOf (1 ∷ 2 ∷ []) (tagOf the-type r) → r ≡ operandsFrom f s (e - q) q at
+    go (End x) y (inl z) = absurd (omega arith)
+    go (End x) y (inr z) = absurd (omega arith)
+    go Deep y z = sym (operands-deep f s e q at more y refl)
+    go Broken y z = sym (operands-broken f s e q at more y refl)
 
 -- The last operand alone.
 pub operands-last : (f : ℕ → ℕ → Read) (s : List ℕ) (e q at : ℕ) {r : Read} → q + 1 ≡ e → r ≡ f (getD s q 0) at
@@ -419,10 +434,6 @@ pub none-found : (x : Syntax) (index : List ℕ) (k : ℕ) (b : List ℕ) (at : 
     → place ≡ cond (eqb class 0) (productionPlace x index k b at) 0 → place ≡ 0 → productionPlace x index k b at ≡ 0
 none-found x index k b at {class} z e h = let w : eqb class 0 ≡ true = eq-eqb class 0 z in cc
 
--- What is known of one of two results.
-pub carried : {r u v : Read} (n : ℕ) → r ≡ u → (u ≡ v) × EndsBy n u → (r ≡ v) × EndsBy n r
-carried n e h = rw e h
-
 -- What is known of a result, once its case is known.
 pub end-in : {n e : ℕ} (r : Read) → r ≡ End e → EndsBy n r → e ≤ n
 end-in {n} r y h = rw y at h
@@ -514,10 +525,10 @@ module _ (x : Syntax) (s index u : List ℕ) (k : ℕ) (b : List ℕ) (at : ℕ)
       (λ t. absurd (pos (ep ∙ ap (λ (u : Bool). cond u (productionPlace x index k b at) 0) t)))
 
   -- The node that was found, and where its operands and their kinds stand.
-  pub named-node : {n m : ℕ} → n ≡ pairAt s place → m ≡ nameLength x → Operands (place + 4) (place + 2 + n) (at + m) ≡ nodeAt x s index u k b at
-  named-node {n} e d =
-      ap (λ (j : ℕ). Operands (place + 4) (place + 2 + n) j) (ap (λ (j : ℕ). at + j) d ∙ sym (named .next))
-      ∙ (name-known s index k b (named .name) (named .inside) refl refl (named .found) pos refl (ap (λ (i : ℕ). place + 2 + i) e) ∙ named .node)
+  pub named-node : {first last m : ℕ} → first ≡ place + 4 → last ≡ place + 2 + pairAt s place → m ≡ nameLength x → Operands first last (at + m) ≡ nodeAt x s index u k b at
+  named-node {first} {last} f l d =
+      ap (λ (j : ℕ). Operands first last j) (ap (λ (j : ℕ). at + j) d ∙ sym (named .next))
+      ∙ (name-known s index k b (named .name) (named .inside) refl refl (named .found) pos f l ∙ named .node)
 
   pub named-past : Deep ≡ pastAt x s index k b at
   named-past =
@@ -529,8 +540,8 @@ module _ (x : Syntax) (s index u : List ℕ) (k : ℕ) (b : List ℕ) (at : ℕ)
     pub named-in : (place + 4 ≤ length s) × (length s ≤ 1024)
     named-in = name-in index s z refl kind (bytes (named .name)) (named .found) pos
 
-    pub named-kinds : {n : ℕ} → n ≡ pairAt s place → KindsIn s (place + 4) (place + 2 + n)
-    named-kinds e = kinds-in index s z refl kind (bytes (named .name)) (named .found) pos e
+    pub named-kinds : {first last : ℕ} → first ≡ place + 4 → last ≡ place + 2 + pairAt s place → KindsIn s first last
+    named-kinds = kinds-from index s z refl kind (bytes (named .name)) (named .found) pos
 
   pub named-end : {m : ℕ} → m ≡ nameLength x → at + m ≤ length b
   named-end d = omega (arith, named .next, named .inside)

@@ -10,9 +10,12 @@ use crate::node::place_at;
 use crate::node::production_place;
 use crate::node::token;
 use crate::node::tree_node;
-use format_fields::bytes::pair_in;
+use crate::operands::first_operand;
+use crate::operands::last_operand;
 use format_fields::bytes::to_usize;
 ghost use mathlib.Core.Path.{_≡_};
+ghost use mathlib.Core.Bool.{cond};
+ghost use lib.Dec.{eqb};
 ghost use Prim.Native.Nat.{ℕ, _+_, _-_, _<_, _≤_};
 ghost use mathlib.Core.List.{[]};
 ghost use lib.ListN.{length, getD, drop};
@@ -38,30 +41,35 @@ fn class_place(syntax: Syntax, index: &[u16], kind: u8) -> usize
     }
 }
 
-// What stands where no production of the kind does, and no token of a class in a tree, with so many levels left.
+// What stands where no production of the kind does, with so many levels left: a token of the class whose field stands
+// before `class`, or another leaf.
 fn leaf(
     syntax: Syntax,
     language: &[u8],
     index: &[u16],
     uses: &[u8],
+    class: usize,
     kind: u8,
     bytes: &[u8],
     at: usize,
     levels: usize,
 ) -> Read
-    requires { ⌜ Ready (now index) (now language) kind (now bytes) at ⌝ }
-    ensures { λ r. ⌜ ((class : ℕ) → class ≡ classPlace syntax (now (index .entry)) kind → class ≡ 0 → productionPlace syntax (now (index .entry)) kind (now (bytes .entry)) at ≡ 0
+    requires { ⌜ Ready (now index) (now language) kind (now bytes) at × (class ≡ classPlace syntax (now index) kind) ⌝ }
+    ensures { λ r. ⌜ (cond (eqb class 0) (productionPlace syntax (now (index .entry)) kind (now (bytes .entry)) at) 0 ≡ 0
         → r ≡ readAt syntax (now (language .entry)) (now (index .entry)) (now (uses .entry)) (now (bytes .entry)) levels kind at)
         × EndsBy (length (now (bytes .entry))) r ⌝ }
 {
+    if class != 0 {
+        return token(language, class, bytes, at);
+    }
     if levels == 0 {
         return past_levels(syntax, language, index, kind, bytes, at);
     }
     leaf_at(syntax, language, index, uses, kind, bytes, at)
 }
 
-// Codes of the kinds that stand in the language from `from` up to `stop`, one after the other. Tokens of a class are
-// read here, other codes one call deeper; behind the last one nothing is left to do, so its operands are read here.
+// Codes of the kinds that stand in the language from `from` up to `stop`, one after the other. Leaves are read here, other
+// codes one call deeper; behind the last one nothing is left to do, so its operands are read here.
 fn operands(
     syntax: Syntax,
     language: &[u8],
@@ -84,60 +92,36 @@ fn operands(
         let kind = language[q];
         let class = class_place(syntax, index, kind);
         let place = production_place(syntax, index, class, kind, bytes, to);
-        if place != 0 {
-            if left == 0 {
-                return Read::Deep;
-            }
-            let first = place + 4;
-            let last = place + 2 + pair_in(language, place);
-            to += name_length(syntax);
-            q += 1;
-            if q == end {
-                q = first;
-                end = last;
-                left -= 1;
-            } else if first < last {
-                match row(
-                    syntax,
-                    language,
-                    index,
-                    uses,
-                    first,
-                    last,
-                    bytes,
-                    to,
-                    left - 1,
-                ) {
-                    Read::End(e) => {
-                        to = e;
-                    }
-                    Read::Deep => {
-                        return Read::Deep;
-                    }
-                    Read::Broken => {
-                        return Read::Broken;
-                    }
-                }
-            }
-        } else {
-            let read = if class != 0 {
-                token(language, class, bytes, to)
-            } else {
-                leaf(syntax, language, index, uses, kind, bytes, to, left)
+        q += 1;
+        if place == 0 {
+            let read = leaf(syntax, language, index, uses, class, kind, bytes, to, left);
+            let Read::End(e) = read else {
+                return read;
             };
-            match read {
-                Read::End(e) => {
-                    to = e;
-                    q += 1;
-                }
-                Read::Deep => {
-                    return Read::Deep;
-                }
-                Read::Broken => {
-                    return Read::Broken;
-                }
-            }
+            to = e;
+            continue;
         }
+        if left == 0 {
+            return Read::Deep;
+        }
+        let first = first_operand(place);
+        let last = last_operand(language, place);
+        let below = left - 1;
+        to += name_length(syntax);
+        if q == end {
+            q = first;
+            end = last;
+            left = below;
+            continue;
+        }
+        if last <= first {
+            continue;
+        }
+        let read = row(syntax, language, index, uses, first, last, bytes, to, below);
+        let Read::End(e) = read else {
+            return read;
+        };
+        to = e;
     }
     Read::End(to)
 }

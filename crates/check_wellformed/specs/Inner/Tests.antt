@@ -15,7 +15,7 @@ use Rattle.tree_reader.specs.declared.node.Read.{Read}
 use Rattle.tree_reader.specs.declared.node.Read.the-variants.{End, Deep, Broken}
 use Rattle.tree_reader.specs.Inner.Positions.{usesLength}
 use Rattle.format_translation.specs.Translation.{clause}
-use Rattle.format_translation.specs.Inner.Items.{itemWhole, itemAt, isClauseTag}
+use Rattle.format_translation.specs.Inner.Items.{itemWhole, itemAt, isClauseTag, codeStart, clauseNumber}
 use Rattle.check_wellformed.specs.Inner.Ready.{usesRoom}
 
 -- The table of kinds with the kinds of a list marked in it.
@@ -67,14 +67,6 @@ fitsAt s is t it b marked reached p =
 unfoldable pub isClauseAt : List ℕ → ℕ → Bool
 isClauseAt b p = itemWhole b p && isClauseTag (byteAt b p)
 
--- Where the code of the clause at p starts: its number, if it is not 0, stands before it.
-unfoldable pub codeStart : List ℕ → ℕ → ℕ
-codeStart b p = cond (eqb (byteAt b p) 0x23) (p + 5) (p + 6)
-
--- The number of the clause at p.
-unfoldable pub clauseNumber : List ℕ → ℕ → ℕ
-clauseNumber b p = cond (eqb (byteAt b p) 0x23) 0 (byteAt b (p + 5))
-
 -- What is known of the clause at p.
 pub record ClauseAt (b : List ℕ) (p : ℕ) : Type 0 where
   pub result : byteAt b (p + 3) < 32
@@ -82,13 +74,8 @@ pub record ClauseAt (b : List ℕ) (p : ℕ) : Type 0 where
   pub starts : p + 5 ≤ codeStart b p
   pub past : codeStart b p ≤ fieldEnd b p
   pub ends : fieldEnd b p ≤ length b
-  pub other : (byteAt b p ≡ 0x23 → ⊥) → p + 5 < length b
   pub key : byteAt b p ≡ 0x22 → ⊥
   pub is : itemAt b p ≡ clause (byteAt b (p + 3)) (byteAt b (p + 4)) (clauseNumber b p) (slice (codeStart b p) (fieldEnd b p) b)
-
--- The kind before the number at a key of the uses, and 0 where there is none.
-unfoldable pub kindIn : List ℕ → ℕ → ℕ
-kindIn u key = cond (eqb (getD u key 0) 0) 0 (getD u key 0 - 1)
 
 -- The kinds of a production's arguments were put behind the uses of the mappings, which are as they were; they end at r.
 pub record Behind (u u′ kinds : List ℕ) (r : ℕ) : Type 0 where

@@ -121,6 +121,6 @@ abbrev pub joinedBody : Translation → Translation → List ℕ
 joinedBody f g = encodeFields (map itemField (joined f g .body))
 
 -- The answer for a value by what the check of it answers: its length, or 11 where the check refuses it.
-abbrev pub measured : List ℕ → Outcome → Outcome
-measured v (Accepted n) = Accepted (length v)
-measured v (Refused r) = Refused ValueTooLarge
+abbrev pub checkedLength : List ℕ → Outcome → Outcome
+checkedLength v (Accepted n) = Accepted (length v)
+checkedLength v (Refused r) = Refused ValueTooLarge

@@ -1,7 +1,9 @@
 -- The items of an identity, in bytes.
-use Prim.Native.Nat.{ℕ, _-_}
-use mathlib.Core.Bool.{cond}
+use Prim.Native.Nat.{ℕ, _-_, _<_}
+use mathlib.Core.Path.{_≡_}
+use mathlib.Core.Bool.{Bool, false, cond}
 use mathlib.Core.List.{List, [], map}
+use lib.ListN.{getD}
 use Rattle.format_fields.specs.Lists.{concatMap, countUp}
 use Rattle.format_fields.specs.Fields.{encodeField, encodeFields}
 use Rattle.format_language.specs.Language.{Language, isIn}
@@ -14,7 +16,11 @@ use Rattle.reduce_operators.specs.Operators.{identityClause}
 unfoldable pub kindItem : Language → ℕ → List ℕ
 kindItem l k = cond (isIn l k) (encodeField (itemField (mapping k 0 k))) []
 
--- The same for each kind from k on.
+-- The kinds that are in the language are marked, and no others.
+abbrev pub Marks : List Bool → Language → Type 0
+Marks marked l = (k : ℕ) → k < 32 → getD marked k false ≡ isIn l k
+
+-- The mappings of the kinds from k on.
 unfoldable pub kindItems : Language → ℕ → List ℕ
 kindItems l k = concatMap (kindItem l) (countUp (32 - k) k)
 

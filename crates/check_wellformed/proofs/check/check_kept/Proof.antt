@@ -1,6 +1,7 @@
 use native.Mathlib.Omega.{arith}
 use Prim.Native.Nat.{_+_}
-use Rattle.check_wellformed.proofs.Kept.{zero-behind, both-long, first-stays, made-ready}
+use Rattle.tree_reader.proofs.Built.{zero-behind}
+use Rattle.check_wellformed.proofs.Kept.{both-long, first-stays, made-ready}
 use borrow.Author.Needs.{needs}
 use Rattle.check_wellformed.proofs.check.check_kept.Statement.{statement}
 use Rattle.check_wellformed.proofs.check.check_kept.Tie as tie

@@ -26,7 +26,7 @@ use Rattle.format_fields.proofs.bytes.to_usize.Reads as to-usize-reads
 use Rattle.format_fields.proofs.walk.whole_end.Reads as whole-end-reads
 use Rattle.check_wellformed.proofs.clauses.skip_below.Reads as skip-below-reads
 use Rattle.format_translation.proofs.body.is_clause.Reads as is-clause-reads
-use Rattle.check_wellformed.proofs.mapping.kept_at.Reads as kept-at-reads
+use Rattle.check_wellformed.proofs.mapping.class_kept.Reads as class-kept-reads
 use Rattle.check_wellformed.proofs.mapping.reaches_at.Reads as reaches-at-reads
 
 abbrev Inv-loop : tie.InvT-loop
@@ -62,16 +62,16 @@ shared-slice-read-to-usize c = let k = item-long _ _ (item-here _ _ (c .before .
 skip-below-requires : tie.Need-skip-below-requires Inv-loop μ-loop
 skip-below-requires c κs = along-long _ _ _ _ (c .before .before .before .before .before .before .before .before .before .loop .inv .3) (source-long _ _ _ _ _ _ (c .before .before .before .before .before .before .before .before .before .before .before .before .before .before .before .before .pre .0 .2) (λ i. omega (arith, c .before .before .before .before .before .before .before .before .before .before .before .before .before .before .before .shared-slice-known .given i)) (λ i. omega (arith, c .before .before .before .before .before .before .before .before .before .before .before .before .shared-slice-known4 .given i)))
 
-kept-at-requires : tie.Need-kept-at-requires Inv-loop μ-loop
-kept-at-requires c κs =
+class-kept-requires : tie.Need-class-kept-requires Inv-loop μ-loop
+class-kept-requires c κs =
     let z = (c .before .before .before .before .before .before .before .before .before .before .before .before .before .before .before .before .before .pre .0 .2) in
     (source-indexed _ _ _ _ _ _ z (λ i. omega (arith, c .before .before .before .before .before .before .before .before .before .before .before .before .before .before .before .before .shared-slice-known .given i)) .sound, z .target .sound, mapping-at _ _ (item-here _ _ (c .before .before .before .before .before .before .before .before .before .before .loop .inv .1) _ refl (c .before .before .before .before .before .before .before .before .before .loop-test .taken)) (sym (c .before .before .before .before .before .before .before .is-clause .ensures) ∙ c .before .before .before .before .before .before .if1 .left) .0, c .before .before .before .before .before .whole-end .ensures .is, rising-entries _ _ _ _ _ _ z (λ i. omega (arith, c .before .before .before .before .before .before .before .before .before .before .before .before .before .before .before .before .shared-slice-known .given i)) (λ i. omega (arith, c .before .before .before .before .before .before .before .before .before .before .before .before .before .shared-slice-known4 .given i)), mapping-beside _ _ _ _ (c .before .before .before .before .before .before .before .before .before .before .loop .inv .3) (λ i. omega (arith, c .before .before .before .before .before .before .before .before .before .before .before .before .before .shared-slice-known4 .given i)) (c .before .before .before .before .before .before .before .before .before .loop-test .taken) (item-here _ _ (c .before .before .before .before .before .before .before .before .before .before .loop .inv .1) _ refl (c .before .before .before .before .before .before .before .before .before .loop-test .taken)) (sym (c .before .before .before .before .before .before .before .is-clause .ensures) ∙ c .before .before .before .before .before .before .if1 .left) _ (c .before .to-usize .ensures .0) _ (c .skip-below .ensures))
 
 returns-3 : tie.Need-returns-3 Inv-loop μ-loop
-returns-3 c = every-stop _ _ _ _ (c .before .before .before .before .before .before .before .before .before .before .before .before .loop .inv .2) _ (fits-kept _ _ _ _ _ _ _ _ (sym (c .before .before .before .before .before .before .before .before .before .is-clause .ensures) ∙ c .before .before .before .before .before .before .before .before .if1 .left) _ (c .before .before .before .before .before .before .reaches-at .ensures) (not-false _ (c .before .before .before .before .before .if2 .left)) _ (c .before .kept-at .ensures)) _ (c .before .before .before .before .before .before .before .whole-end .ensures .is) (c .before .before .before .before .before .before .before .before .before .before .before .loop-test .taken) (not-true _ (c .if3 .taken))
+returns-3 c = every-stop _ _ _ _ (c .before .before .before .before .before .before .before .before .before .before .before .before .loop .inv .2) _ (fits-kept _ _ _ _ _ _ _ _ (sym (c .before .before .before .before .before .before .before .before .before .is-clause .ensures) ∙ c .before .before .before .before .before .before .before .before .if1 .left) _ (c .before .before .before .before .before .before .reaches-at .ensures) (not-false _ (c .before .before .before .before .before .if2 .left)) _ (c .before .class-kept .ensures)) _ (c .before .before .before .before .before .before .before .whole-end .ensures .is) (c .before .before .before .before .before .before .before .before .before .before .before .loop-test .taken) (not-true _ (c .if3 .taken))
 
 loop-again : tie.Need-loop-again Inv-loop μ-loop
-loop-again c = (front-next _ _ (c .before .before .before .before .before .before .before .before .before .before .before .before .loop .inv .0) (c .before .before .before .before .before .before .before .before .before .before .before .loop-test .taken) (sym (c .before .before .before .before .before .before .before .before .before .is-clause .ensures) ∙ c .before .before .before .before .before .before .before .before .if1 .left) _ (c .before .before .before .before .before .before .before .whole-end .ensures .is), items-on _ _ (c .before .before .before .before .before .before .before .before .before .before .before .before .loop .inv .1) _ (c .before .before .before .before .before .before .before .whole-end .ensures .is) (c .before .before .before .before .before .before .before .before .before .before .before .loop-test .taken), every-next _ _ _ _ (c .before .before .before .before .before .before .before .before .before .before .before .before .loop .inv .2) _ (fits-kept _ _ _ _ _ _ _ _ (sym (c .before .before .before .before .before .before .before .before .before .is-clause .ensures) ∙ c .before .before .before .before .before .before .before .before .if1 .left) _ (c .before .before .before .before .before .before .reaches-at .ensures) (not-false _ (c .before .before .before .before .before .if2 .left)) _ (c .before .kept-at .ensures)) _ (c .before .before .before .before .before .before .before .whole-end .ensures .is) (c .before .before .before .before .before .before .before .before .before .before .before .loop-test .taken) (not-false _ (c .if3 .left)), mapping-next _ _ _ _ (c .before .before .before .before .before .before .before .before .before .before .before .before .loop .inv .3) (λ i. omega (arith, c .before .before .before .before .before .before .before .before .before .before .before .before .before .before .before .shared-slice-known4 .given i)) (c .before .before .before .before .before .before .before .before .before .before .before .loop-test .taken) (item-here _ _ (c .before .before .before .before .before .before .before .before .before .before .before .before .loop .inv .1) _ refl (c .before .before .before .before .before .before .before .before .before .before .before .loop-test .taken)) (sym (c .before .before .before .before .before .before .before .before .before .is-clause .ensures) ∙ c .before .before .before .before .before .before .before .before .if1 .left) _ (c .before .before .before .to-usize .ensures .0) _ (c .before .before .skip-below .ensures) _ (c .before .before .before .before .before .before .before .whole-end .ensures .is))
+loop-again c = (front-next _ _ (c .before .before .before .before .before .before .before .before .before .before .before .before .loop .inv .0) (c .before .before .before .before .before .before .before .before .before .before .before .loop-test .taken) (sym (c .before .before .before .before .before .before .before .before .before .is-clause .ensures) ∙ c .before .before .before .before .before .before .before .before .if1 .left) _ (c .before .before .before .before .before .before .before .whole-end .ensures .is), items-on _ _ (c .before .before .before .before .before .before .before .before .before .before .before .before .loop .inv .1) _ (c .before .before .before .before .before .before .before .whole-end .ensures .is) (c .before .before .before .before .before .before .before .before .before .before .before .loop-test .taken), every-next _ _ _ _ (c .before .before .before .before .before .before .before .before .before .before .before .before .loop .inv .2) _ (fits-kept _ _ _ _ _ _ _ _ (sym (c .before .before .before .before .before .before .before .before .before .is-clause .ensures) ∙ c .before .before .before .before .before .before .before .before .if1 .left) _ (c .before .before .before .before .before .before .reaches-at .ensures) (not-false _ (c .before .before .before .before .before .if2 .left)) _ (c .before .class-kept .ensures)) _ (c .before .before .before .before .before .before .before .whole-end .ensures .is) (c .before .before .before .before .before .before .before .before .before .before .before .loop-test .taken) (not-false _ (c .if3 .left)), mapping-next _ _ _ _ (c .before .before .before .before .before .before .before .before .before .before .before .before .loop .inv .3) (λ i. omega (arith, c .before .before .before .before .before .before .before .before .before .before .before .before .before .before .before .shared-slice-known4 .given i)) (c .before .before .before .before .before .before .before .before .before .before .before .loop-test .taken) (item-here _ _ (c .before .before .before .before .before .before .before .before .before .before .before .before .loop .inv .1) _ refl (c .before .before .before .before .before .before .before .before .before .before .before .loop-test .taken)) (sym (c .before .before .before .before .before .before .before .before .before .is-clause .ensures) ∙ c .before .before .before .before .before .before .before .before .if1 .left) _ (c .before .before .before .to-usize .ensures .0) _ (c .before .before .skip-below .ensures) _ (c .before .before .before .before .before .before .before .whole-end .ensures .is))
 
 returns-4 : tie.Need-returns-4 Inv-loop μ-loop
 returns-4 c = every-done _ _ _ _ (c .before .loop .inv .2) (c .loop-test .left)
@@ -93,7 +93,7 @@ mappings-fit-spec =
     shared-slice-read-to-usize
     (λ c κs. search needs)
     skip-below-requires
-    kept-at-requires
+    class-kept-requires
     returns-3
     (λ c. search needs)
     loop-again

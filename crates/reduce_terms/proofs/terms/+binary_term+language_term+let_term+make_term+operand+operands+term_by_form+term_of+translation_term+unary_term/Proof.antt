@@ -49,7 +49,7 @@ use Rattle.reduce_signs.proofs.leaves.constant.Reads as constant-reads
 use Rattle.reduce_signs.proofs.leaves.save.Reads as save-reads
 use Rattle.reduce_signs.proofs.leaves.variable.Reads as variable-reads
 use Rattle.reduce_signs.proofs.places.set_slot.Reads as set-slot-reads
-use Rattle.reduce_signs.proofs.places.slot.Reads as slot-reads
+use Rattle.reduce_signs.proofs.places.slot_of.Reads as slot-of-reads
 use Rattle.reduce_signs.proofs.sorts.first_sort.Reads as first-sort-reads
 use Rattle.reduce_signs.proofs.sorts.operand_sort.Reads as operand-sort-reads
 use Rattle.reduce_signs.proofs.sorts.second_sort.Reads as second-sort-reads
@@ -186,7 +186,7 @@ abbrev language-term-calls : ℕ → language-term-lts.Claims
 language-term-calls t = (byte-at-reads.Asked, byte-at-reads.Learnt, language-form-reads.Asked, language-form-reads.Learnt, term-by-form-below t, term-by-form.Post)
 
 abbrev let-term-calls : ℕ → let-term-lts.Claims
-let-term-calls t = (operand-below t, operand.Post, byte-at-reads.Asked, byte-at-reads.Learnt, to-usize-reads.Asked, to-usize-reads.Learnt, slot-reads.Asked, slot-reads.Learnt, set-slot-reads.Asked, set-slot-reads.Learnt, term-of-below t, term-of.Post)
+let-term-calls t = (operand-below t, operand.Post, byte-at-reads.Asked, byte-at-reads.Learnt, to-usize-reads.Asked, to-usize-reads.Learnt, slot-of-reads.Asked, slot-of-reads.Learnt, set-slot-reads.Asked, set-slot-reads.Learnt, term-of-below t, term-of.Post)
 
 abbrev make-term-calls : ℕ → make-term-lts.Claims
 make-term-calls t = (operands-below t, operands.Post, byte-at-reads.Asked, byte-at-reads.Learnt, to-usize-reads.Asked, to-usize-reads.Learnt, apply-reads.Asked, apply-reads.Learnt, finish-reads.Asked, finish-reads.Learnt)
@@ -239,23 +239,23 @@ let-term-operand-requires t c κs = (omega arith, (let-asks (c .before .before .
 let-term-add-byte-at : (t : ℕ) → let-term-lts.Need-add-byte-at (let-term-calls t) (let-term-at t) let-term.Post
 let-term-add-byte-at t c = omega (arith, let-number (c .before .before .before .before .before .before .before .before .before .before .before .before .before .args .pack .now) (c .before .before .before .before .before .before .before .before .before .before .before .before .before .args .at) (sortOf (c .before .before .before .before .before .before .before .before .before .before .before .before .before .args .bound)) (sortOf (c .before .before .before .before .before .before .before .before .before .before .before .before .before .args .sort)) (c .before .before .before .before .before .before .before .before .before .before .before .before .before .pre .1 .2) (c .before .before .before .before .before .before .before .before .before .before .before .before .before .pre .1 .3) (c .before .before .before .before .before .before .before .before .before .before .before .before .before .pre .1 .0) .0)
 
-let-term-slot-requires : (t : ℕ) → let-term-lts.Need-slot-requires (let-term-calls t) (let-term-at t) let-term.Post
+let-term-slot-requires : (t : ℕ) → let-term-lts.Need-slot-of-requires (let-term-calls t) (let-term-at t) let-term.Post
 let-term-slot-requires t c κs = omega (arith, let-number (c .before .before .before .before .before .before .before .before .before .before .before .before .before .before .before .args .pack .now) (c .before .before .before .before .before .before .before .before .before .before .before .before .before .before .before .args .at) (sortOf (c .before .before .before .before .before .before .before .before .before .before .before .before .before .before .before .args .bound)) (sortOf (c .before .before .before .before .before .before .before .before .before .before .before .before .before .before .before .args .sort)) (c .before .before .before .before .before .before .before .before .before .before .before .before .before .before .before .pre .1 .2) (c .before .before .before .before .before .before .before .before .before .before .before .before .before .before .before .pre .1 .3) (c .before .before .before .before .before .before .before .before .before .before .before .before .before .before .before .pre .1 .0) .1, (c .to-usize .ensures .0 ∙ c .before .byte-at .ensures))
 
 let-term-add-set-slot : (t : ℕ) → let-term-lts.Need-add-set-slot (let-term-calls t) (let-term-at t) let-term.Post
 let-term-add-set-slot t c = omega (arith, let-room (c .before .before .before .before .before .before .before .before .before .before .before .before .before .before .before .before .args .pack .now) (c .before .before .before .before .before .before .before .before .before .before .before .before .before .before .before .before .args .at) (sortOf (c .before .before .before .before .before .before .before .before .before .before .before .before .before .before .before .before .args .bound)) (sortOf (c .before .before .before .before .before .before .before .before .before .before .before .before .before .before .before .before .args .sort)) (c .before .before .before .before .before .before .before .before .before .before .before .before .before .before .before .before .pre .1 .2) (c .before .before .before .before .before .before .before .before .before .before .before .before .before .before .before .before .pre .1 .3) (c .before .before .before .before .before .before .before .before .before .before .operand .ensures) (c .before .before .before .before .last .given .1) (c .before .before .before .before .before .before .before .before .before .before .before .before .before .before .before .before .pre .1 .0), c .before .before .before .before .before .before .before .before .before .before .operand .ensures .kept .long, c .before .before .before .before .before .before .before .before .before .before .before .before .before .before .before .before .good .1 .1 .1 .1 .1 .1 .0 .1)
 
 let-term-set-slot-requires : (t : ℕ) → let-term-lts.Need-set-slot-requires (let-term-calls t) (let-term-at t) let-term.Post
-let-term-set-slot-requires t c κs = (c .slot .ensures .1, c .before .before .before .before .before .before .before .before .before .before .before .before .before .before .before .before .pre .1 .0 .context .held .sized)
+let-term-set-slot-requires t c κs = (c .slot-of .ensures .1, c .before .before .before .before .before .before .before .before .before .before .before .before .before .before .before .before .pre .1 .0 .context .held .sized)
 
 let-term-term-of-requires : (t : ℕ) → let-term-lts.Need-term-of-requires (let-term-calls t) (let-term-at t) let-term.Post
-let-term-term-of-requires t c κs = (omega arith, (let-inner (c .before .before .before .before .before .before .before .before .before .before .before .before .before .before .before .before .before .before .before .args .pack .now) (c .before .before .before .before .before .before .before .before .before .before .before .before .before .before .before .before .before .before .before .args .at) (sortOf (c .before .before .before .before .before .before .before .before .before .before .before .before .before .before .before .before .before .before .before .args .bound)) (sortOf (c .before .before .before .before .before .before .before .before .before .before .before .before .before .before .before .before .before .before .before .args .sort)) (c .before .before .before .before .before .before .before .before .before .before .before .before .before .before .before .before .before .before .before .pre .1 .2) (c .before .before .before .before .before .before .before .before .before .before .before .before .before .before .before .before .before .before .before .pre .1 .3) (c .before .before .before .before .before .before .before .before .before .before .before .before .before .operand .ensures) (c .before .before .before .before .before .before .before .last .given .1) (c .before .before .before .slot .ensures .0 ∙ ap (slotOf (sortOf (c .before .before .before .before .before .before .before .before .before .before .before .before .before .before .before .before .before .before .before .args .bound))) (c .before .before .before .before .to-usize .ensures .0 ∙ c .before .before .before .before .before .byte-at .ensures)) (c .before .before .set-slot .ensures) (c .before .before .before .before .before .before .before .before .before .before .before .before .before .before .before .before .before .before .before .pre .1 .0), omega (arith, c .before .before .before .before .before .before .before .before .before .before .before .before .before .before .before .before .before .before .before .pre .1 .1, c .before .before .before .before .before .before .before .before .before .before .before .before .before .operand .ensures .long)))
+let-term-term-of-requires t c κs = (omega arith, (let-inner (c .before .before .before .before .before .before .before .before .before .before .before .before .before .before .before .before .before .before .before .args .pack .now) (c .before .before .before .before .before .before .before .before .before .before .before .before .before .before .before .before .before .before .before .args .at) (sortOf (c .before .before .before .before .before .before .before .before .before .before .before .before .before .before .before .before .before .before .before .args .bound)) (sortOf (c .before .before .before .before .before .before .before .before .before .before .before .before .before .before .before .before .before .before .before .args .sort)) (c .before .before .before .before .before .before .before .before .before .before .before .before .before .before .before .before .before .before .before .pre .1 .2) (c .before .before .before .before .before .before .before .before .before .before .before .before .before .before .before .before .before .before .before .pre .1 .3) (c .before .before .before .before .before .before .before .before .before .before .before .before .before .operand .ensures) (c .before .before .before .before .before .before .before .last .given .1) (c .before .before .before .slot-of .ensures .0 ∙ ap (slotOf (sortOf (c .before .before .before .before .before .before .before .before .before .before .before .before .before .before .before .before .before .before .before .args .bound))) (c .before .before .before .before .to-usize .ensures .0 ∙ c .before .before .before .before .before .byte-at .ensures)) (c .before .before .set-slot .ensures) (c .before .before .before .before .before .before .before .before .before .before .before .before .before .before .before .before .before .before .before .pre .1 .0), omega (arith, c .before .before .before .before .before .before .before .before .before .before .before .before .before .before .before .before .before .before .before .pre .1 .1, c .before .before .before .before .before .before .before .before .before .before .before .before .before .operand .ensures .long)))
 
 let-term-returns : (t : ℕ) → let-term-lts.Need-returns (let-term-calls t) (let-term-at t) let-term.Post
 let-term-returns t c = let-refused (c .before .before .before .before .before .before .before .before .before .before .before .before .before .args .pack .now) (c .before .before .before .before .before .before .before .before .before .before .before .before .before .args .at) (sortOf (c .before .before .before .before .before .before .before .before .before .before .before .before .before .args .bound)) (sortOf (c .before .before .before .before .before .before .before .before .before .before .before .before .before .args .sort)) (c .before .before .before .before .before .before .before .before .before .before .before .before .before .pre .1 .2) (c .before .before .before .before .before .before .before .before .before .before .before .before .before .pre .1 .3) (c .before .before .before .before .before .before .before .operand .ensures) (c .before .reason .given .1)
 
 let-term-returns-2 : (t : ℕ) → let-term-lts.Need-returns-2 (let-term-calls t) (let-term-at t) let-term.Post
-let-term-returns-2 t c = let-gives (c .before .before .before .before .before .before .before .before .before .before .before .before .before .before .before .before .before .before .before .before .before .before .before .before .args .pack .now) (c .before .before .before .before .before .before .before .before .before .before .before .before .before .before .before .before .before .before .before .before .before .before .before .before .args .at) (sortOf (c .before .before .before .before .before .before .before .before .before .before .before .before .before .before .before .before .before .before .before .before .before .before .before .before .args .bound)) (sortOf (c .before .before .before .before .before .before .before .before .before .before .before .before .before .before .before .before .before .before .before .before .before .before .before .before .args .sort)) (c .before .before .before .before .before .before .before .before .before .before .before .before .before .before .before .before .before .before .before .before .before .before .before .before .pre .1 .2) (c .before .before .before .before .before .before .before .before .before .before .before .before .before .before .before .before .before .before .before .before .before .before .before .before .pre .1 .3) (c .before .before .before .before .before .before .before .before .before .before .before .before .before .before .before .before .before .before .operand .ensures) (c .before .before .before .before .before .before .before .before .before .before .before .before .last .given .1) (c .before .before .before .before .before .before .before .before .slot .ensures .0 ∙ ap (slotOf (sortOf (c .before .before .before .before .before .before .before .before .before .before .before .before .before .before .before .before .before .before .before .before .before .before .before .before .args .bound))) (c .before .before .before .before .before .before .before .before .before .to-usize .ensures .0 ∙ c .before .before .before .before .before .before .before .before .before .before .byte-at .ensures)) (c .before .before .before .before .before .before .before .set-slot .ensures) (c .before .before .before .before .before .before .before .before .before .before .before .before .before .before .before .before .before .before .before .before .before .before .before .before .pre .1 .0) (c .before .before .before .before .term-of .ensures)
+let-term-returns-2 t c = let-gives (c .before .before .before .before .before .before .before .before .before .before .before .before .before .before .before .before .before .before .before .before .before .before .before .before .args .pack .now) (c .before .before .before .before .before .before .before .before .before .before .before .before .before .before .before .before .before .before .before .before .before .before .before .before .args .at) (sortOf (c .before .before .before .before .before .before .before .before .before .before .before .before .before .before .before .before .before .before .before .before .before .before .before .before .args .bound)) (sortOf (c .before .before .before .before .before .before .before .before .before .before .before .before .before .before .before .before .before .before .before .before .before .before .before .before .args .sort)) (c .before .before .before .before .before .before .before .before .before .before .before .before .before .before .before .before .before .before .before .before .before .before .before .before .pre .1 .2) (c .before .before .before .before .before .before .before .before .before .before .before .before .before .before .before .before .before .before .before .before .before .before .before .before .pre .1 .3) (c .before .before .before .before .before .before .before .before .before .before .before .before .before .before .before .before .before .before .operand .ensures) (c .before .before .before .before .before .before .before .before .before .before .before .before .last .given .1) (c .before .before .before .before .before .before .before .before .slot-of .ensures .0 ∙ ap (slotOf (sortOf (c .before .before .before .before .before .before .before .before .before .before .before .before .before .before .before .before .before .before .before .before .before .before .before .before .args .bound))) (c .before .before .before .before .before .before .before .before .before .to-usize .ensures .0 ∙ c .before .before .before .before .before .before .before .before .before .before .byte-at .ensures)) (c .before .before .before .before .before .before .before .set-slot .ensures) (c .before .before .before .before .before .before .before .before .before .before .before .before .before .before .before .before .before .before .before .before .before .before .before .before .pre .1 .0) (c .before .before .before .before .term-of .ensures)
 
 make-term-operands-requires : (t : ℕ) → make-term-lts.Need-operands-requires (make-term-calls t) (make-term-at t) make-term.Post
 make-term-operands-requires t c κs = (omega arith, (make-asks (c .before .before .before .before .before .args .pack .now) (c .before .before .before .before .before .args .at) (c .before .before .before .before .before .pre .1 .2) (c .before .before .before .before .before .pre .1 .3) (c .before .before .before .before .before .pre .1 .0), c .before .before .before .before .before .pre .1 .2, c .before .before .before .before .before .pre .1 .1))

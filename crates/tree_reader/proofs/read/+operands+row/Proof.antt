@@ -1,11 +1,10 @@
 use Prim.Native.Nat.{ℕ, _+_, _-_, _*_, _<_, _≤_}
 use mathlib.Core.Path.{_≡_, refl, sym, _∙_}
-use mathlib.Core.Logic.{⊎-elim}
 use native.Mathlib.Omega.{arith}
 use lib.ListN.{length}
 use borrow.Author.Needs.{needs}
 use Rattle.tree_reader.specs.Inner.Positions.{operandsFrom, readAt, KindsIn}
-use Rattle.tree_reader.proofs.Laws.{read-past, named-past, read-token, read-operands, operands-done, operands-next, operands-last, operands-deep, operands-broken, row-short, named-node, named-in, named-kinds, named-end, none-found, carried, end-in, class-at}
+use Rattle.tree_reader.proofs.Laws.{read-past, named-past, read-token, read-operands, operands-done, operands-next, operands-last, operands-deep, operands-stop, row-short, named-node, named-in, named-kinds, named-end, end-in, class-at}
 use borrow.Fn.Kinds.{In}
 use borrow.Fn.PlainCycle.{Measures, is, falls, and}
 use Rattle.tree_reader.proofs.read.operands.Reads as operands
@@ -14,10 +13,11 @@ use Rattle.tree_reader.proofs.read.+operands+row.Lts-operands as operan
 use Rattle.tree_reader.proofs.read.row.Reads as row
 use Rattle.tree_reader.proofs.read.row.Kinds as row-kinds
 use Rattle.tree_reader.proofs.read.+operands+row.Lts-row as row-lts
-use Rattle.format_fields.proofs.bytes.pair_in.Reads as pair-in-reads
 use Rattle.tree_reader.proofs.node.name_length.Reads as name-length-reads
 use Rattle.tree_reader.proofs.node.production_place.Reads as production-place-reads
 use Rattle.tree_reader.proofs.node.token.Reads as token-reads
+use Rattle.tree_reader.proofs.operands.first_operand.Reads as first-operand-reads
+use Rattle.tree_reader.proofs.operands.last_operand.Reads as last-operand-reads
 use Rattle.tree_reader.proofs.read.class_place.Reads as class-place-reads
 use Rattle.tree_reader.proofs.read.leaf.Reads as leaf-reads
 use Rattle.tree_reader.proofs.read.+operands+row.{statement}
@@ -51,7 +51,10 @@ operands-μ-loop syntax language index uses from stop bytes at levels q₀ end�
     1025 * left + (end - q)
 
 abbrev operands-calls : ℕ → operands-lts.Claims
-operands-calls t = (class-place-reads.Asked, class-place-reads.Learnt, production-place-reads.Asked, production-place-reads.Learnt, pair-in-reads.Asked, pair-in-reads.Learnt, name-length-reads.Asked, name-length-reads.Learnt, row-below t, row.Post, token-reads.Asked, token-reads.Learnt, leaf-reads.Asked, leaf-reads.Learnt)
+operands-calls t = (class-place-reads.Asked, class-place-reads.Learnt, production-place-reads.Asked, production-place-reads.Learnt, leaf-reads.Asked, leaf-reads.Learnt, first-operand-reads.Asked, first-operand-reads.Learnt, last-operand-reads.Asked, last-operand-reads.Learnt, name-length-reads.Asked, name-length-reads.Learnt, row-below t, row.Post)
+
+abbrev row-calls : ℕ → row-lts.Claims
+row-calls t = (class-place-reads.Asked, class-place-reads.Learnt, token-reads.Asked, token-reads.Learnt, operands-below t, operands.Post)
 
 operands-loop-holds : (t : ℕ) → operands-lts.Need-loop-holds (operands-calls t) (operands-at t) operands.Post operands-Inv-loop operands-μ-loop
 operands-loop-holds t c = let p = c .before .before .before .before .pre .1 in (p .2, omega arith, p .1, refl)
@@ -65,80 +68,59 @@ operands-class-place-requires t c κs = let b = c .before .before .loop .inv .2 
 operands-production-place-requires : (t : ℕ) → operands-lts.Need-production-place-requires (operands-calls t) (operands-at t) operands.Post operands-Inv-loop operands-μ-loop
 operands-production-place-requires t c κs = let b = c .before .before .before .loop .inv .2 _ (omega arith) (c .before .before .loop-test .taken) in (c .before .before .before .before .before .before .before .before .pre .1 .0 .long, b .1, c .before .before .before .loop .inv .0)
 
-operands-returns : (t : ℕ) → operands-lts.Need-returns (operands-calls t) (operands-at t) operands.Post operands-Inv-loop operands-μ-loop
-operands-returns t c = (sym (operands-deep _ _ _ _ _ (c .before .before .before .before .before .loop-test .taken) (read-past _ _ _ _ _ _ _ _ (c .if2 .taken) (named-past (c .before .before .before .before .before .before .before .before .before .before .before .args .syntax) (c .before .before .before .before .before .before .before .before .before .before .before .args .language .now) (c .before .before .before .before .before .before .before .before .before .before .before .args .index .now) (c .before .before .before .before .before .before .before .before .before .before .before .args .uses .now) _ (c .before .before .before .before .before .before .before .before .before .before .before .args .bytes .now) _ (c .before .before .before .class-place .ensures) (c .before .before .production-place .ensures) (c .before .if1 .taken))) refl) ∙ c .before .before .before .before .before .before .loop .inv .3, tt)
-
-operands-add-first : (t : ℕ) → operands-lts.Need-add-first (operands-calls t) (operands-at t) operands.Post operands-Inv-loop operands-μ-loop
-operands-add-first t c = let b = c .before .before .before .before .before .before .loop .inv .2 _ (omega arith) (c .before .before .before .before .before .loop-test .taken) in let w = named-in (c .before .before .before .before .before .before .before .before .before .before .before .args .syntax) (c .before .before .before .before .before .before .before .before .before .before .before .args .language .now) (c .before .before .before .before .before .before .before .before .before .before .before .args .index .now) (c .before .before .before .before .before .before .before .before .before .before .before .args .uses .now) _ (c .before .before .before .before .before .before .before .before .before .before .before .args .bytes .now) _ (c .before .before .before .class-place .ensures) (c .before .before .production-place .ensures) (c .before .if1 .taken) (c .before .before .before .before .before .before .before .before .before .before .before .pre .1 .0) (b .1) (λ i. omega (arith, c .before .before .before .before .before .before .before .shared-slice-known4 .given i)) in omega (arith, w .0, w .1)
-
-operands-add-last : (t : ℕ) → operands-lts.Need-add-last (operands-calls t) (operands-at t) operands.Post operands-Inv-loop operands-μ-loop
-operands-add-last t c = let b = c .before .before .before .before .before .before .loop .inv .2 _ (omega arith) (c .before .before .before .before .before .loop-test .taken) in let w = named-in (c .before .before .before .before .before .before .before .before .before .before .before .args .syntax) (c .before .before .before .before .before .before .before .before .before .before .before .args .language .now) (c .before .before .before .before .before .before .before .before .before .before .before .args .index .now) (c .before .before .before .before .before .before .before .before .before .before .before .args .uses .now) _ (c .before .before .before .before .before .before .before .before .before .before .before .args .bytes .now) _ (c .before .before .before .class-place .ensures) (c .before .before .production-place .ensures) (c .before .if1 .taken) (c .before .before .before .before .before .before .before .before .before .before .before .pre .1 .0) (b .1) (λ i. omega (arith, c .before .before .before .before .before .before .before .shared-slice-known4 .given i)) in omega (arith, w .0, w .1)
-
-operands-pair-in-requires : (t : ℕ) → operands-lts.Need-pair-in-requires (operands-calls t) (operands-at t) operands.Post operands-Inv-loop operands-μ-loop
-operands-pair-in-requires t c κs = let b = c .before .before .before .before .before .before .loop .inv .2 _ (omega arith) (c .before .before .before .before .before .loop-test .taken) in let w = named-in (c .before .before .before .before .before .before .before .before .before .before .before .args .syntax) (c .before .before .before .before .before .before .before .before .before .before .before .args .language .now) (c .before .before .before .before .before .before .before .before .before .before .before .args .index .now) (c .before .before .before .before .before .before .before .before .before .before .before .args .uses .now) _ (c .before .before .before .before .before .before .before .before .before .before .before .args .bytes .now) _ (c .before .before .before .class-place .ensures) (c .before .before .production-place .ensures) (c .before .if1 .taken) (c .before .before .before .before .before .before .before .before .before .before .before .pre .1 .0) (b .1) (λ i. omega (arith, c .before .before .before .before .before .before .before .shared-slice-known4 .given i)) in omega (arith, w .0, w .1)
-
-operands-add-last-2 : (t : ℕ) → operands-lts.Need-add-last-2 (operands-calls t) (operands-at t) operands.Post operands-Inv-loop operands-μ-loop
-operands-add-last-2 t c = let b = c .before .before .before .before .before .before .before .loop .inv .2 _ (omega arith) (c .before .before .before .before .before .before .loop-test .taken) in let w = named-in (c .before .before .before .before .before .before .before .before .before .before .before .before .args .syntax) (c .before .before .before .before .before .before .before .before .before .before .before .before .args .language .now) (c .before .before .before .before .before .before .before .before .before .before .before .before .args .index .now) (c .before .before .before .before .before .before .before .before .before .before .before .before .args .uses .now) _ (c .before .before .before .before .before .before .before .before .before .before .before .before .args .bytes .now) _ (c .before .before .before .before .class-place .ensures) (c .before .before .before .production-place .ensures) (c .before .before .if1 .taken) (c .before .before .before .before .before .before .before .before .before .before .before .before .pre .1 .0) (b .1) (λ i. omega (arith, c .before .before .before .before .before .before .before .before .shared-slice-known4 .given i)) in omega (arith, w .0, w .1, c .pair-in .ensures .1)
-
-operands-add-to : (t : ℕ) → operands-lts.Need-add-to (operands-calls t) (operands-at t) operands.Post operands-Inv-loop operands-μ-loop
-operands-add-to t c = let w = named-end (c .before .before .before .before .before .before .before .before .before .before .before .before .before .args .syntax) (c .before .before .before .before .before .before .before .before .before .before .before .before .before .args .language .now) (c .before .before .before .before .before .before .before .before .before .before .before .before .before .args .index .now) (c .before .before .before .before .before .before .before .before .before .before .before .before .before .args .uses .now) _ (c .before .before .before .before .before .before .before .before .before .before .before .before .before .args .bytes .now) _ (c .before .before .before .before .before .class-place .ensures) (c .before .before .before .before .production-place .ensures) (c .before .before .before .if1 .taken) (c .name-length .ensures .0) in omega (arith, w, c .before .before .before .before .before .before .before .before .before .shared-slice-known4 .given 0)
-
 operands-add-q : (t : ℕ) → operands-lts.Need-add-q (operands-calls t) (operands-at t) operands.Post operands-Inv-loop operands-μ-loop
-operands-add-q t c = let b = c .before .before .before .before .before .before .before .before .loop .inv .2 _ (omega arith) (c .before .before .before .before .before .before .before .loop-test .taken) in let z = c .before .before .before .before .before .before .before .before .before .before .before .before .before .pre .1 .0 in omega (arith, z .short, b .0)
-
-operands-loop-less : (t : ℕ) → operands-lts.Need-loop-less (operands-calls t) (operands-at t) operands.Post operands-Inv-loop operands-μ-loop
-operands-loop-less t c = let b = c .before .before .before .before .before .before .before .before .before .loop .inv .2 _ (omega arith) (c .before .before .before .before .before .before .before .before .loop-test .taken) in let ks = named-kinds (c .before .before .before .before .before .before .before .before .before .before .before .before .before .before .args .syntax) (c .before .before .before .before .before .before .before .before .before .before .before .before .before .before .args .language .now) (c .before .before .before .before .before .before .before .before .before .before .before .before .before .before .args .index .now) (c .before .before .before .before .before .before .before .before .before .before .before .before .before .before .args .uses .now) _ (c .before .before .before .before .before .before .before .before .before .before .before .before .before .before .args .bytes .now) _ (c .before .before .before .before .before .before .class-place .ensures) (c .before .before .before .before .before .production-place .ensures) (c .before .before .before .before .if1 .taken) (c .before .before .before .before .before .before .before .before .before .before .before .before .before .before .pre .1 .0) (b .1) (λ i. omega (arith, c .before .before .before .before .before .before .before .before .before .before .shared-slice-known4 .given i)) (c .before .before .pair-in .ensures .0) in let z = c .before .before .before .before .before .before .before .before .before .before .before .before .before .before .pre .1 .0 in omega (arith, row-short (c .before .before .before .before .before .before .before .before .before .before .before .before .before .before .args .language .now) _ _ (z .short) ks, c .before .before .before .if2 .left)
-
-operands-loop-again : (t : ℕ) → operands-lts.Need-loop-again (operands-calls t) (operands-at t) operands.Post operands-Inv-loop operands-μ-loop
-operands-loop-again t c = let b = c .before .before .before .before .before .before .before .before .before .loop .inv .2 _ (omega arith) (c .before .before .before .before .before .before .before .before .loop-test .taken) in let ks = named-kinds (c .before .before .before .before .before .before .before .before .before .before .before .before .before .before .args .syntax) (c .before .before .before .before .before .before .before .before .before .before .before .before .before .before .args .language .now) (c .before .before .before .before .before .before .before .before .before .before .before .before .before .before .args .index .now) (c .before .before .before .before .before .before .before .before .before .before .before .before .before .before .args .uses .now) _ (c .before .before .before .before .before .before .before .before .before .before .before .before .before .before .args .bytes .now) _ (c .before .before .before .before .before .before .class-place .ensures) (c .before .before .before .before .before .production-place .ensures) (c .before .before .before .before .if1 .taken) (c .before .before .before .before .before .before .before .before .before .before .before .before .before .before .pre .1 .0) (b .1) (λ i. omega (arith, c .before .before .before .before .before .before .before .before .before .before .shared-slice-known4 .given i)) (c .before .before .pair-in .ensures .0) in (named-end (c .before .before .before .before .before .before .before .before .before .before .before .before .before .before .args .syntax) (c .before .before .before .before .before .before .before .before .before .before .before .before .before .before .args .language .now) (c .before .before .before .before .before .before .before .before .before .before .before .before .before .before .args .index .now) (c .before .before .before .before .before .before .before .before .before .before .before .before .before .before .args .uses .now) _ (c .before .before .before .before .before .before .before .before .before .before .before .before .before .before .args .bytes .now) _ (c .before .before .before .before .before .before .class-place .ensures) (c .before .before .before .before .before .production-place .ensures) (c .before .before .before .before .if1 .taken) (c .before .name-length .ensures .0), omega arith, ks, operands-last _ _ _ _ _ (c .if3 .taken) (read-operands _ _ _ _ _ _ _ _ (c .before .before .before .if2 .left) (named-node (c .before .before .before .before .before .before .before .before .before .before .before .before .before .before .args .syntax) (c .before .before .before .before .before .before .before .before .before .before .before .before .before .before .args .language .now) (c .before .before .before .before .before .before .before .before .before .before .before .before .before .before .args .index .now) (c .before .before .before .before .before .before .before .before .before .before .before .before .before .before .args .uses .now) _ (c .before .before .before .before .before .before .before .before .before .before .before .before .before .before .args .bytes .now) _ (c .before .before .before .before .before .before .class-place .ensures) (c .before .before .before .before .before .production-place .ensures) (c .before .before .before .before .if1 .taken) (c .before .before .pair-in .ensures .0) (c .before .name-length .ensures .0)) refl) ∙ c .before .before .before .before .before .before .before .before .before .loop .inv .3)
-
-operands-row-requires : (t : ℕ) → operands-lts.Need-row-requires (operands-calls t) (operands-at t) operands.Post operands-Inv-loop operands-μ-loop
-operands-row-requires t c κs = let b = c .before .before .before .before .before .before .before .before .before .before .loop .inv .2 _ (omega arith) (c .before .before .before .before .before .before .before .before .before .loop-test .taken) in let ks = named-kinds (c .before .before .before .before .before .before .before .before .before .before .before .before .before .before .before .args .syntax) (c .before .before .before .before .before .before .before .before .before .before .before .before .before .before .before .args .language .now) (c .before .before .before .before .before .before .before .before .before .before .before .before .before .before .before .args .index .now) (c .before .before .before .before .before .before .before .before .before .before .before .before .before .before .before .args .uses .now) _ (c .before .before .before .before .before .before .before .before .before .before .before .before .before .before .before .args .bytes .now) _ (c .before .before .before .before .before .before .before .class-place .ensures) (c .before .before .before .before .before .before .production-place .ensures) (c .before .before .before .before .before .if1 .taken) (c .before .before .before .before .before .before .before .before .before .before .before .before .before .before .before .pre .1 .0) (b .1) (λ i. omega (arith, c .before .before .before .before .before .before .before .before .before .before .before .shared-slice-known4 .given i)) (c .before .before .before .pair-in .ensures .0) in (omega (arith, c .before .before .before .before .before .before .before .before .before .before .loop .inv .1, c .before .before .before .before .if2 .left), (c .before .before .before .before .before .before .before .before .before .before .before .before .before .before .before .pre .1 .0, ks, c .if4 .taken, named-end (c .before .before .before .before .before .before .before .before .before .before .before .before .before .before .before .args .syntax) (c .before .before .before .before .before .before .before .before .before .before .before .before .before .before .before .args .language .now) (c .before .before .before .before .before .before .before .before .before .before .before .before .before .before .before .args .index .now) (c .before .before .before .before .before .before .before .before .before .before .before .before .before .before .before .args .uses .now) _ (c .before .before .before .before .before .before .before .before .before .before .before .before .before .before .before .args .bytes .now) _ (c .before .before .before .before .before .before .before .class-place .ensures) (c .before .before .before .before .before .before .production-place .ensures) (c .before .before .before .before .before .if1 .taken) (c .before .before .name-length .ensures .0)))
-
-operands-loop-less-2 : (t : ℕ) → operands-lts.Need-loop-less-2 (operands-calls t) (operands-at t) operands.Post operands-Inv-loop operands-μ-loop
-operands-loop-less-2 t c = let t = c .before .before .before .before .before .before .before .before .before .before .before .before .before .loop-test .taken in omega arith
-
-operands-loop-again-2 : (t : ℕ) → operands-lts.Need-loop-again-2 (operands-calls t) (operands-at t) operands.Post operands-Inv-loop operands-μ-loop
-operands-loop-again-2 t c = let w = c .before .before .before .row .ensures .0 ∙ read-operands _ _ _ _ _ _ _ _ (c .before .before .before .before .before .before .before .before .if2 .left) (named-node (c .before .before .before .before .before .before .before .before .before .before .before .before .before .before .before .before .before .before .before .args .syntax) (c .before .before .before .before .before .before .before .before .before .before .before .before .before .before .before .before .before .before .before .args .language .now) (c .before .before .before .before .before .before .before .before .before .before .before .before .before .before .before .before .before .before .before .args .index .now) (c .before .before .before .before .before .before .before .before .before .before .before .before .before .before .before .before .before .before .before .args .uses .now) _ (c .before .before .before .before .before .before .before .before .before .before .before .before .before .before .before .before .before .before .before .args .bytes .now) _ (c .before .before .before .before .before .before .before .before .before .before .before .class-place .ensures) (c .before .before .before .before .before .before .before .before .before .before .production-place .ensures) (c .before .before .before .before .before .before .before .before .before .if1 .taken) (c .before .before .before .before .before .before .before .pair-in .ensures .0) (c .before .before .before .before .before .before .name-length .ensures .0)) refl in (end-in _ (c .before .e .given .1) (c .before .before .before .row .ensures .1), c .before .before .before .before .before .before .before .before .before .before .before .before .before .before .loop .inv .1, (λ x i j. c .before .before .before .before .before .before .before .before .before .before .before .before .before .before .loop .inv .2 x (omega arith) j), sym (operands-next _ _ _ _ _ (c .before .before .before .before .before .before .before .before .before .before .before .before .before .loop-test .taken) w (c .before .e .given .1)) ∙ c .before .before .before .before .before .before .before .before .before .before .before .before .before .before .loop .inv .3)
-
-operands-returns-2 : (t : ℕ) → operands-lts.Need-returns-2 (operands-calls t) (operands-at t) operands.Post operands-Inv-loop operands-μ-loop
-operands-returns-2 t c = let w = c .before .before .row .ensures .0 ∙ read-operands _ _ _ _ _ _ _ _ (c .before .before .before .before .before .before .before .if2 .left) (named-node (c .before .before .before .before .before .before .before .before .before .before .before .before .before .before .before .before .before .before .args .syntax) (c .before .before .before .before .before .before .before .before .before .before .before .before .before .before .before .before .before .before .args .language .now) (c .before .before .before .before .before .before .before .before .before .before .before .before .before .before .before .before .before .before .args .index .now) (c .before .before .before .before .before .before .before .before .before .before .before .before .before .before .before .before .before .before .args .uses .now) _ (c .before .before .before .before .before .before .before .before .before .before .before .before .before .before .before .before .before .before .args .bytes .now) _ (c .before .before .before .before .before .before .before .before .before .before .class-place .ensures) (c .before .before .before .before .before .before .before .before .before .production-place .ensures) (c .before .before .before .before .before .before .before .before .if1 .taken) (c .before .before .before .before .before .before .pair-in .ensures .0) (c .before .before .before .before .before .name-length .ensures .0)) refl in (sym (operands-deep _ _ _ _ _ (c .before .before .before .before .before .before .before .before .before .before .before .before .loop-test .taken) w (c .enum-told .given .1)) ∙ c .before .before .before .before .before .before .before .before .before .before .before .before .before .loop .inv .3, tt)
-
-operands-returns-3 : (t : ℕ) → operands-lts.Need-returns-3 (operands-calls t) (operands-at t) operands.Post operands-Inv-loop operands-μ-loop
-operands-returns-3 t c = let w = c .before .before .row .ensures .0 ∙ read-operands _ _ _ _ _ _ _ _ (c .before .before .before .before .before .before .before .if2 .left) (named-node (c .before .before .before .before .before .before .before .before .before .before .before .before .before .before .before .before .before .before .args .syntax) (c .before .before .before .before .before .before .before .before .before .before .before .before .before .before .before .before .before .before .args .language .now) (c .before .before .before .before .before .before .before .before .before .before .before .before .before .before .before .before .before .before .args .index .now) (c .before .before .before .before .before .before .before .before .before .before .before .before .before .before .before .before .before .before .args .uses .now) _ (c .before .before .before .before .before .before .before .before .before .before .before .before .before .before .before .before .before .before .args .bytes .now) _ (c .before .before .before .before .before .before .before .before .before .before .class-place .ensures) (c .before .before .before .before .before .before .before .before .before .production-place .ensures) (c .before .before .before .before .before .before .before .before .if1 .taken) (c .before .before .before .before .before .before .pair-in .ensures .0) (c .before .before .before .before .before .name-length .ensures .0)) refl in (sym (operands-broken _ _ _ _ _ (c .before .before .before .before .before .before .before .before .before .before .before .before .loop-test .taken) w (c .enum-told2 .given .1)) ∙ c .before .before .before .before .before .before .before .before .before .before .before .before .before .loop .inv .3, tt)
-
-operands-loop-less-3 : (t : ℕ) → operands-lts.Need-loop-less-3 (operands-calls t) (operands-at t) operands.Post operands-Inv-loop operands-μ-loop
-operands-loop-less-3 t c = let t = c .before .before .before .before .before .before .before .before .before .loop-test .taken in omega arith
-
-operands-loop-again-3 : (t : ℕ) → operands-lts.Need-loop-again-3 (operands-calls t) (operands-at t) operands.Post operands-Inv-loop operands-μ-loop
-operands-loop-again-3 t c = (named-end (c .before .before .before .before .before .before .before .before .before .before .before .before .before .before .before .args .syntax) (c .before .before .before .before .before .before .before .before .before .before .before .before .before .before .before .args .language .now) (c .before .before .before .before .before .before .before .before .before .before .before .before .before .before .before .args .index .now) (c .before .before .before .before .before .before .before .before .before .before .before .before .before .before .before .args .uses .now) _ (c .before .before .before .before .before .before .before .before .before .before .before .before .before .before .before .args .bytes .now) _ (c .before .before .before .before .before .before .before .class-place .ensures) (c .before .before .before .before .before .before .production-place .ensures) (c .before .before .before .before .before .if1 .taken) (c .before .before .name-length .ensures .0), c .before .before .before .before .before .before .before .before .before .before .loop .inv .1, (λ x i j. c .before .before .before .before .before .before .before .before .before .before .loop .inv .2 x (omega arith) j), sym (operands-next _ _ _ _ _ (c .before .before .before .before .before .before .before .before .before .loop-test .taken) (sym (operands-done _ _ _ _ _ (c .if4 .left)) ∙ read-operands _ _ _ _ _ _ _ _ (c .before .before .before .before .if2 .left) (named-node (c .before .before .before .before .before .before .before .before .before .before .before .before .before .before .before .args .syntax) (c .before .before .before .before .before .before .before .before .before .before .before .before .before .before .before .args .language .now) (c .before .before .before .before .before .before .before .before .before .before .before .before .before .before .before .args .index .now) (c .before .before .before .before .before .before .before .before .before .before .before .before .before .before .before .args .uses .now) _ (c .before .before .before .before .before .before .before .before .before .before .before .before .before .before .before .args .bytes .now) _ (c .before .before .before .before .before .before .before .class-place .ensures) (c .before .before .before .before .before .before .production-place .ensures) (c .before .before .before .before .before .if1 .taken) (c .before .before .before .pair-in .ensures .0) (c .before .before .name-length .ensures .0)) refl) refl) ∙ c .before .before .before .before .before .before .before .before .before .before .loop .inv .3)
-
-operands-token-requires : (t : ℕ) → operands-lts.Need-token-requires (operands-calls t) (operands-at t) operands.Post operands-Inv-loop operands-μ-loop
-operands-token-requires t c κs = let b = c .before .before .before .before .before .before .loop .inv .2 _ (omega arith) (c .before .before .before .before .before .loop-test .taken) in (c .before .before .before .before .before .before .loop .inv .0, λ h. class-at _ _ _ (c .before .before .before .before .before .before .before .before .before .before .before .pre .1 .0) (b .1) (c .before .before .before .class-place .ensures) (c .if5 .taken))
+operands-add-q t c = let b = c .before .before .before .before .loop .inv .2 _ (omega arith) (c .before .before .before .loop-test .taken) in let z = c .before .before .before .before .before .before .before .before .before .pre .1 .0 in omega (arith, z .short, b .0)
 
 operands-leaf-requires : (t : ℕ) → operands-lts.Need-leaf-requires (operands-calls t) (operands-at t) operands.Post operands-Inv-loop operands-μ-loop
-operands-leaf-requires t c κs = let b = c .before .before .before .before .before .before .loop .inv .2 _ (omega arith) (c .before .before .before .before .before .loop-test .taken) in record { sound = c .before .before .before .before .before .before .before .before .before .before .before .pre .1 .0; kind = b .1; inside = c .before .before .before .before .before .before .loop .inv .0 }
+operands-leaf-requires t c κs = let b = c .before .before .before .before .before .loop .inv .2 _ (omega arith) (c .before .before .before .before .loop-test .taken) in (record { sound = c .before .before .before .before .before .before .before .before .before .before .pre .1 .0; kind = b .1; inside = c .before .before .before .before .before .loop .inv .0 }, c .before .before .class-place .ensures)
 
-operands-add-q-2 : (t : ℕ) → operands-lts.Need-add-q-2 (operands-calls t) (operands-at t) operands.Post operands-Inv-loop operands-μ-loop
-operands-add-q-2 t c = let b = c .before .before .before .before .before .before .before .before .before .loop .inv .2 _ (omega arith) (c .before .before .before .before .before .before .before .before .loop-test .taken) in let z = c .before .before .before .before .before .before .before .before .before .before .before .before .before .before .pre .1 .0 in omega (arith, z .short, b .0)
+operands-returns : (t : ℕ) → operands-lts.Need-returns (operands-calls t) (operands-at t) operands.Post operands-Inv-loop operands-μ-loop
+operands-returns t c = (operands-stop _ _ _ _ _ (c .before .before .before .before .before .before .loop-test .taken) (c .before .leaf .ensures .0 (sym (c .before .before .before .production-place .ensures) ∙ c .before .before .if1 .taken)) (c .match .keys2) ∙ c .before .before .before .before .before .before .before .loop .inv .3, c .before .leaf .ensures .1)
+
+operands-loop-less : (t : ℕ) → operands-lts.Need-loop-less (operands-calls t) (operands-at t) operands.Post operands-Inv-loop operands-μ-loop
+operands-loop-less t c = omega (arith, c .before .before .before .before .before .before .before .before .loop-test .taken)
+
+operands-loop-again : (t : ℕ) → operands-lts.Need-loop-again (operands-calls t) (operands-at t) operands.Post operands-Inv-loop operands-μ-loop
+operands-loop-again t c = (end-in _ (c .before .read .given .1) (c .before .before .before .leaf .ensures .1), c .before .before .before .before .before .before .before .before .before .loop .inv .1, (λ x i j. c .before .before .before .before .before .before .before .before .before .loop .inv .2 x (omega arith) j), sym (operands-next _ _ _ _ _ (c .before .before .before .before .before .before .before .before .loop-test .taken) (c .before .before .before .leaf .ensures .0 (sym (c .before .before .before .before .before .production-place .ensures) ∙ c .before .before .before .before .if1 .taken)) (c .before .read .given .1)) ∙ c .before .before .before .before .before .before .before .before .before .loop .inv .3)
+
+operands-returns-2 : (t : ℕ) → operands-lts.Need-returns-2 (operands-calls t) (operands-at t) operands.Post operands-Inv-loop operands-μ-loop
+operands-returns-2 t c = (sym (operands-deep _ _ _ _ _ (c .before .before .before .before .before .loop-test .taken) (read-past _ _ _ _ _ _ _ _ (c .if2 .taken) (named-past (c .before .before .before .before .before .before .before .before .before .before .before .args .syntax) (c .before .before .before .before .before .before .before .before .before .before .before .args .language .now) (c .before .before .before .before .before .before .before .before .before .before .before .args .index .now) (c .before .before .before .before .before .before .before .before .before .before .before .args .uses .now) _ (c .before .before .before .before .before .before .before .before .before .before .before .args .bytes .now) _ (c .before .before .before .class-place .ensures) (c .before .before .production-place .ensures) (c .before .if1 .left))) refl) ∙ c .before .before .before .before .before .before .loop .inv .3, tt)
+
+operands-first-operand-requires : (t : ℕ) → operands-lts.Need-first-operand-requires (operands-calls t) (operands-at t) operands.Post operands-Inv-loop operands-μ-loop
+operands-first-operand-requires t c κs = let b = c .before .before .before .before .before .before .loop .inv .2 _ (omega arith) (c .before .before .before .before .before .loop-test .taken) in let w = named-in (c .before .before .before .before .before .before .before .before .before .before .before .args .syntax) (c .before .before .before .before .before .before .before .before .before .before .before .args .language .now) (c .before .before .before .before .before .before .before .before .before .before .before .args .index .now) (c .before .before .before .before .before .before .before .before .before .before .before .args .uses .now) _ (c .before .before .before .before .before .before .before .before .before .before .before .args .bytes .now) _ (c .before .before .before .class-place .ensures) (c .before .before .production-place .ensures) (c .before .if1 .left) (c .before .before .before .before .before .before .before .before .before .before .before .pre .1 .0) (b .1) (λ i. omega (arith, c .before .before .before .before .before .before .before .shared-slice-known4 .given i)) in omega (arith, w .0, w .1)
+
+operands-last-operand-requires : (t : ℕ) → operands-lts.Need-last-operand-requires (operands-calls t) (operands-at t) operands.Post operands-Inv-loop operands-μ-loop
+operands-last-operand-requires t c κs = let b = c .before .before .before .before .before .before .before .loop .inv .2 _ (omega arith) (c .before .before .before .before .before .before .loop-test .taken) in let w = named-in (c .before .before .before .before .before .before .before .before .before .before .before .before .args .syntax) (c .before .before .before .before .before .before .before .before .before .before .before .before .args .language .now) (c .before .before .before .before .before .before .before .before .before .before .before .before .args .index .now) (c .before .before .before .before .before .before .before .before .before .before .before .before .args .uses .now) _ (c .before .before .before .before .before .before .before .before .before .before .before .before .args .bytes .now) _ (c .before .before .before .before .class-place .ensures) (c .before .before .before .production-place .ensures) (c .before .before .if1 .left) (c .before .before .before .before .before .before .before .before .before .before .before .before .pre .1 .0) (b .1) (λ i. omega (arith, c .before .before .before .before .before .before .before .before .shared-slice-known4 .given i)) in omega (arith, w .0, w .1)
+
+operands-add-to : (t : ℕ) → operands-lts.Need-add-to (operands-calls t) (operands-at t) operands.Post operands-Inv-loop operands-μ-loop
+operands-add-to t c = let w = named-end (c .before .before .before .before .before .before .before .before .before .before .before .before .before .before .args .syntax) (c .before .before .before .before .before .before .before .before .before .before .before .before .before .before .args .language .now) (c .before .before .before .before .before .before .before .before .before .before .before .before .before .before .args .index .now) (c .before .before .before .before .before .before .before .before .before .before .before .before .before .before .args .uses .now) _ (c .before .before .before .before .before .before .before .before .before .before .before .before .before .before .args .bytes .now) _ (c .before .before .before .before .before .before .class-place .ensures) (c .before .before .before .before .before .production-place .ensures) (c .before .before .before .before .if1 .left) (c .name-length .ensures .0) in omega (arith, w, c .before .before .before .before .before .before .before .before .before .before .shared-slice-known4 .given 0)
+
+operands-loop-less-2 : (t : ℕ) → operands-lts.Need-loop-less-2 (operands-calls t) (operands-at t) operands.Post operands-Inv-loop operands-μ-loop
+operands-loop-less-2 t c = let b = c .before .before .before .before .before .before .before .before .before .before .loop .inv .2 _ (omega arith) (c .before .before .before .before .before .before .before .before .before .loop-test .taken) in let ks = named-kinds (c .before .before .before .before .before .before .before .before .before .before .before .before .before .before .before .args .syntax) (c .before .before .before .before .before .before .before .before .before .before .before .before .before .before .before .args .language .now) (c .before .before .before .before .before .before .before .before .before .before .before .before .before .before .before .args .index .now) (c .before .before .before .before .before .before .before .before .before .before .before .before .before .before .before .args .uses .now) _ (c .before .before .before .before .before .before .before .before .before .before .before .before .before .before .before .args .bytes .now) _ (c .before .before .before .before .before .before .before .class-place .ensures) (c .before .before .before .before .before .before .production-place .ensures) (c .before .before .before .before .before .if1 .left) (c .before .before .before .before .before .before .before .before .before .before .before .before .before .before .before .pre .1 .0) (b .1) (λ i. omega (arith, c .before .before .before .before .before .before .before .before .before .before .before .shared-slice-known4 .given i)) (c .before .before .before .first-operand .ensures) (c .before .before .last-operand .ensures) in omega (arith, row-short (c .before .before .before .before .before .before .before .before .before .before .before .before .before .before .before .args .language .now) _ _ (c .before .before .before .before .before .before .before .before .before .before .before .before .before .before .before .pre .1 .0 .short) ks, c .before .before .before .before .if2 .left)
+
+operands-loop-again-2 : (t : ℕ) → operands-lts.Need-loop-again-2 (operands-calls t) (operands-at t) operands.Post operands-Inv-loop operands-μ-loop
+operands-loop-again-2 t c = let b = c .before .before .before .before .before .before .before .before .before .before .loop .inv .2 _ (omega arith) (c .before .before .before .before .before .before .before .before .before .loop-test .taken) in (named-end (c .before .before .before .before .before .before .before .before .before .before .before .before .before .before .before .args .syntax) (c .before .before .before .before .before .before .before .before .before .before .before .before .before .before .before .args .language .now) (c .before .before .before .before .before .before .before .before .before .before .before .before .before .before .before .args .index .now) (c .before .before .before .before .before .before .before .before .before .before .before .before .before .before .before .args .uses .now) _ (c .before .before .before .before .before .before .before .before .before .before .before .before .before .before .before .args .bytes .now) _ (c .before .before .before .before .before .before .before .class-place .ensures) (c .before .before .before .before .before .before .production-place .ensures) (c .before .before .before .before .before .if1 .left) (c .before .name-length .ensures .0), omega arith, named-kinds (c .before .before .before .before .before .before .before .before .before .before .before .before .before .before .before .args .syntax) (c .before .before .before .before .before .before .before .before .before .before .before .before .before .before .before .args .language .now) (c .before .before .before .before .before .before .before .before .before .before .before .before .before .before .before .args .index .now) (c .before .before .before .before .before .before .before .before .before .before .before .before .before .before .before .args .uses .now) _ (c .before .before .before .before .before .before .before .before .before .before .before .before .before .before .before .args .bytes .now) _ (c .before .before .before .before .before .before .before .class-place .ensures) (c .before .before .before .before .before .before .production-place .ensures) (c .before .before .before .before .before .if1 .left) (c .before .before .before .before .before .before .before .before .before .before .before .before .before .before .before .pre .1 .0) (b .1) (λ i. omega (arith, c .before .before .before .before .before .before .before .before .before .before .before .shared-slice-known4 .given i)) (c .before .before .before .first-operand .ensures) (c .before .before .last-operand .ensures), operands-last _ _ _ _ _ (c .if3 .taken) (read-operands _ _ _ _ _ _ _ _ (c .before .before .before .before .if2 .left) (named-node (c .before .before .before .before .before .before .before .before .before .before .before .before .before .before .before .args .syntax) (c .before .before .before .before .before .before .before .before .before .before .before .before .before .before .before .args .language .now) (c .before .before .before .before .before .before .before .before .before .before .before .before .before .before .before .args .index .now) (c .before .before .before .before .before .before .before .before .before .before .before .before .before .before .before .args .uses .now) _ (c .before .before .before .before .before .before .before .before .before .before .before .before .before .before .before .args .bytes .now) _ (c .before .before .before .before .before .before .before .class-place .ensures) (c .before .before .before .before .before .before .production-place .ensures) (c .before .before .before .before .before .if1 .left) (c .before .before .before .first-operand .ensures) (c .before .before .last-operand .ensures) (c .before .name-length .ensures .0)) refl) ∙ c .before .before .before .before .before .before .before .before .before .before .loop .inv .3)
+
+operands-loop-less-3 : (t : ℕ) → operands-lts.Need-loop-less-3 (operands-calls t) (operands-at t) operands.Post operands-Inv-loop operands-μ-loop
+operands-loop-less-3 t c = omega (arith, c .before .before .before .before .before .before .before .before .before .before .loop-test .taken)
+
+operands-loop-again-3 : (t : ℕ) → operands-lts.Need-loop-again-3 (operands-calls t) (operands-at t) operands.Post operands-Inv-loop operands-μ-loop
+operands-loop-again-3 t c = let b = c .before .before .before .before .before .before .before .before .before .before .before .loop .inv .2 _ (omega arith) (c .before .before .before .before .before .before .before .before .before .before .loop-test .taken) in (named-end (c .before .before .before .before .before .before .before .before .before .before .before .before .before .before .before .before .args .syntax) (c .before .before .before .before .before .before .before .before .before .before .before .before .before .before .before .before .args .language .now) (c .before .before .before .before .before .before .before .before .before .before .before .before .before .before .before .before .args .index .now) (c .before .before .before .before .before .before .before .before .before .before .before .before .before .before .before .before .args .uses .now) _ (c .before .before .before .before .before .before .before .before .before .before .before .before .before .before .before .before .args .bytes .now) _ (c .before .before .before .before .before .before .before .before .class-place .ensures) (c .before .before .before .before .before .before .before .production-place .ensures) (c .before .before .before .before .before .before .if1 .left) (c .before .before .name-length .ensures .0), c .before .before .before .before .before .before .before .before .before .before .before .loop .inv .1, (λ x i j. c .before .before .before .before .before .before .before .before .before .before .before .loop .inv .2 x (omega arith) j), sym (operands-next _ _ _ _ _ (c .before .before .before .before .before .before .before .before .before .before .loop-test .taken) (read-operands _ _ _ _ _ _ _ _ (c .before .before .before .before .before .if2 .left) (named-node (c .before .before .before .before .before .before .before .before .before .before .before .before .before .before .before .before .args .syntax) (c .before .before .before .before .before .before .before .before .before .before .before .before .before .before .before .before .args .language .now) (c .before .before .before .before .before .before .before .before .before .before .before .before .before .before .before .before .args .index .now) (c .before .before .before .before .before .before .before .before .before .before .before .before .before .before .before .before .args .uses .now) _ (c .before .before .before .before .before .before .before .before .before .before .before .before .before .before .before .before .args .bytes .now) _ (c .before .before .before .before .before .before .before .before .class-place .ensures) (c .before .before .before .before .before .before .before .production-place .ensures) (c .before .before .before .before .before .before .if1 .left) (c .before .before .before .before .first-operand .ensures) (c .before .before .before .last-operand .ensures) (c .before .before .name-length .ensures .0)) refl) (operands-done _ _ _ _ _ (c .if4 .taken))) ∙ c .before .before .before .before .before .before .before .before .before .before .before .loop .inv .3)
+
+operands-row-requires : (t : ℕ) → operands-lts.Need-row-requires (operands-calls t) (operands-at t) operands.Post operands-Inv-loop operands-μ-loop
+operands-row-requires t c κs = let b = c .before .before .before .before .before .before .before .before .before .before .before .loop .inv .2 _ (omega arith) (c .before .before .before .before .before .before .before .before .before .before .loop-test .taken) in (omega (arith, c .before .before .before .before .before .before .before .before .before .before .before .before .before .before .before .before .pre .0, c .before .before .before .before .before .before .before .before .before .before .before .loop .inv .1, c .before .before .before .before .before .if2 .left), (c .before .before .before .before .before .before .before .before .before .before .before .before .before .before .before .before .pre .1 .0, named-kinds (c .before .before .before .before .before .before .before .before .before .before .before .before .before .before .before .before .args .syntax) (c .before .before .before .before .before .before .before .before .before .before .before .before .before .before .before .before .args .language .now) (c .before .before .before .before .before .before .before .before .before .before .before .before .before .before .before .before .args .index .now) (c .before .before .before .before .before .before .before .before .before .before .before .before .before .before .before .before .args .uses .now) _ (c .before .before .before .before .before .before .before .before .before .before .before .before .before .before .before .before .args .bytes .now) _ (c .before .before .before .before .before .before .before .before .class-place .ensures) (c .before .before .before .before .before .before .before .production-place .ensures) (c .before .before .before .before .before .before .if1 .left) (c .before .before .before .before .before .before .before .before .before .before .before .before .before .before .before .before .pre .1 .0) (b .1) (λ i. omega (arith, c .before .before .before .before .before .before .before .before .before .before .before .before .shared-slice-known4 .given i)) (c .before .before .before .before .first-operand .ensures) (c .before .before .before .last-operand .ensures), c .if4 .left, named-end (c .before .before .before .before .before .before .before .before .before .before .before .before .before .before .before .before .args .syntax) (c .before .before .before .before .before .before .before .before .before .before .before .before .before .before .before .before .args .language .now) (c .before .before .before .before .before .before .before .before .before .before .before .before .before .before .before .before .args .index .now) (c .before .before .before .before .before .before .before .before .before .before .before .before .before .before .before .before .args .uses .now) _ (c .before .before .before .before .before .before .before .before .before .before .before .before .before .before .before .before .args .bytes .now) _ (c .before .before .before .before .before .before .before .before .class-place .ensures) (c .before .before .before .before .before .before .before .production-place .ensures) (c .before .before .before .before .before .before .if1 .left) (c .before .before .name-length .ensures .0)))
+
+operands-returns-3 : (t : ℕ) → operands-lts.Need-returns-3 (operands-calls t) (operands-at t) operands.Post operands-Inv-loop operands-μ-loop
+operands-returns-3 t c = let b = c .before .before .before .before .before .before .before .before .before .before .before .before .before .loop .inv .2 _ (omega arith) (c .before .before .before .before .before .before .before .before .before .before .before .before .loop-test .taken) in (operands-stop _ _ _ _ _ (c .before .before .before .before .before .before .before .before .before .before .before .before .loop-test .taken) (c .before .row .ensures .0 ∙ read-operands _ _ _ _ _ _ _ _ (c .before .before .before .before .before .before .before .if2 .left) (named-node (c .before .before .before .before .before .before .before .before .before .before .before .before .before .before .before .before .before .before .args .syntax) (c .before .before .before .before .before .before .before .before .before .before .before .before .before .before .before .before .before .before .args .language .now) (c .before .before .before .before .before .before .before .before .before .before .before .before .before .before .before .before .before .before .args .index .now) (c .before .before .before .before .before .before .before .before .before .before .before .before .before .before .before .before .before .before .args .uses .now) _ (c .before .before .before .before .before .before .before .before .before .before .before .before .before .before .before .before .before .before .args .bytes .now) _ (c .before .before .before .before .before .before .before .before .before .before .class-place .ensures) (c .before .before .before .before .before .before .before .before .before .production-place .ensures) (c .before .before .before .before .before .before .before .before .if1 .left) (c .before .before .before .before .before .before .first-operand .ensures) (c .before .before .before .before .before .last-operand .ensures) (c .before .before .before .before .name-length .ensures .0)) refl) (c .match2 .keys2) ∙ c .before .before .before .before .before .before .before .before .before .before .before .before .before .loop .inv .3, c .before .row .ensures .1)
 
 operands-loop-less-4 : (t : ℕ) → operands-lts.Need-loop-less-4 (operands-calls t) (operands-at t) operands.Post operands-Inv-loop operands-μ-loop
-operands-loop-less-4 t c = let t = c .before .before .before .before .before .before .before .before .loop-test .taken in omega arith
+operands-loop-less-4 t c = omega (arith, c .before .before .before .before .before .before .before .before .before .before .before .before .before .before .loop-test .taken)
 
 operands-loop-again-4 : (t : ℕ) → operands-lts.Need-loop-again-4 (operands-calls t) (operands-at t) operands.Post operands-Inv-loop operands-μ-loop
-operands-loop-again-4 t c = let w = ⊎-elim (λ a. carried _ (a .2) (read-token _ _ _ _ _ _ _ _ (c .before .before .before .before .before .before .class-place .ensures) (a .0 .taken) (a .1 .ensures .0), a .1 .ensures .1)) (λ a. carried _ (a .2) ((a .1 .ensures .0) _ (c .before .before .before .before .before .before .class-place .ensures) (a .0 .left) (none-found _ _ _ _ _ (a .0 .left) (c .before .before .before .before .before .production-place .ensures) (c .before .before .before .before .if1 .left)), a .1 .ensures .1)) (c .before .before .before .if5 .came) in (end-in _ (c .before .read .given .1) (w .1), c .before .before .before .before .before .before .before .before .before .loop .inv .1, (λ x i j. c .before .before .before .before .before .before .before .before .before .loop .inv .2 x (omega arith) j), sym (operands-next _ _ _ _ _ (c .before .before .before .before .before .before .before .before .loop-test .taken) (w .0) (c .before .read .given .1)) ∙ c .before .before .before .before .before .before .before .before .before .loop .inv .3)
+operands-loop-again-4 t c = let b = c .before .before .before .before .before .before .before .before .before .before .before .before .before .before .before .loop .inv .2 _ (omega arith) (c .before .before .before .before .before .before .before .before .before .before .before .before .before .before .loop-test .taken) in (end-in _ (c .before .read2 .given .1) (c .before .before .before .row .ensures .1), c .before .before .before .before .before .before .before .before .before .before .before .before .before .before .before .loop .inv .1, (λ x i j. c .before .before .before .before .before .before .before .before .before .before .before .before .before .before .before .loop .inv .2 x (omega arith) j), sym (operands-next _ _ _ _ _ (c .before .before .before .before .before .before .before .before .before .before .before .before .before .before .loop-test .taken) (c .before .before .before .row .ensures .0 ∙ read-operands _ _ _ _ _ _ _ _ (c .before .before .before .before .before .before .before .before .before .if2 .left) (named-node (c .before .before .before .before .before .before .before .before .before .before .before .before .before .before .before .before .before .before .before .before .args .syntax) (c .before .before .before .before .before .before .before .before .before .before .before .before .before .before .before .before .before .before .before .before .args .language .now) (c .before .before .before .before .before .before .before .before .before .before .before .before .before .before .before .before .before .before .before .before .args .index .now) (c .before .before .before .before .before .before .before .before .before .before .before .before .before .before .before .before .before .before .before .before .args .uses .now) _ (c .before .before .before .before .before .before .before .before .before .before .before .before .before .before .before .before .before .before .before .before .args .bytes .now) _ (c .before .before .before .before .before .before .before .before .before .before .before .before .class-place .ensures) (c .before .before .before .before .before .before .before .before .before .before .before .production-place .ensures) (c .before .before .before .before .before .before .before .before .before .before .if1 .left) (c .before .before .before .before .before .before .before .before .first-operand .ensures) (c .before .before .before .before .before .before .before .last-operand .ensures) (c .before .before .before .before .before .before .name-length .ensures .0)) refl) (c .before .read2 .given .1)) ∙ c .before .before .before .before .before .before .before .before .before .before .before .before .before .before .before .loop .inv .3)
 
 operands-returns-4 : (t : ℕ) → operands-lts.Need-returns-4 (operands-calls t) (operands-at t) operands.Post operands-Inv-loop operands-μ-loop
-operands-returns-4 t c = let w = ⊎-elim (λ a. carried _ (a .2) (read-token _ _ _ _ _ _ _ _ (c .before .before .before .before .before .class-place .ensures) (a .0 .taken) (a .1 .ensures .0), a .1 .ensures .1)) (λ a. carried _ (a .2) ((a .1 .ensures .0) _ (c .before .before .before .before .before .class-place .ensures) (a .0 .left) (none-found _ _ _ _ _ (a .0 .left) (c .before .before .before .before .production-place .ensures) (c .before .before .before .if1 .left)), a .1 .ensures .1)) (c .before .before .if5 .came) in (sym (operands-deep _ _ _ _ _ (c .before .before .before .before .before .before .before .loop-test .taken) (w .0) (c .enum-told3 .given .1)) ∙ c .before .before .before .before .before .before .before .before .loop .inv .3, tt)
-
-operands-returns-5 : (t : ℕ) → operands-lts.Need-returns-5 (operands-calls t) (operands-at t) operands.Post operands-Inv-loop operands-μ-loop
-operands-returns-5 t c = let w = ⊎-elim (λ a. carried _ (a .2) (read-token _ _ _ _ _ _ _ _ (c .before .before .before .before .before .class-place .ensures) (a .0 .taken) (a .1 .ensures .0), a .1 .ensures .1)) (λ a. carried _ (a .2) ((a .1 .ensures .0) _ (c .before .before .before .before .before .class-place .ensures) (a .0 .left) (none-found _ _ _ _ _ (a .0 .left) (c .before .before .before .before .production-place .ensures) (c .before .before .before .if1 .left)), a .1 .ensures .1)) (c .before .before .if5 .came) in (sym (operands-broken _ _ _ _ _ (c .before .before .before .before .before .before .before .loop-test .taken) (w .0) (c .enum-told4 .given .1)) ∙ c .before .before .before .before .before .before .before .before .loop .inv .3, tt)
-
-operands-returns-6 : (t : ℕ) → operands-lts.Need-returns-6 (operands-calls t) (operands-at t) operands.Post operands-Inv-loop operands-μ-loop
-operands-returns-6 t c = (sym (operands-done _ _ _ _ _ (c .loop-test .left)) ∙ c .before .loop .inv .3, c .before .loop .inv .0)
-
-abbrev row-calls : ℕ → row-lts.Claims
-row-calls t = (class-place-reads.Asked, class-place-reads.Learnt, token-reads.Asked, token-reads.Learnt, operands-below t, operands.Post)
+operands-returns-4 t c = (sym (operands-done _ _ _ _ _ (c .loop-test .left)) ∙ c .before .loop .inv .3, c .before .loop .inv .0)
 
 row-shared-slice-read-class-place : (t : ℕ) → row-lts.Need-shared-slice-read-class-place (row-calls t) (row-at t) row.Post
 row-shared-slice-read-class-place t c = let b = c .before .before .before .before .before .before .pre .1 .1 _ (omega arith) (c .before .before .before .before .before .before .pre .1 .2) in omega (arith, b .0)
@@ -168,39 +150,28 @@ pub +operands+row-spec : {M : Type 1} → statement M
     (operands-shared-slice-read-kind t)
     (operands-class-place-requires t)
     (operands-production-place-requires t)
-    (operands-returns t)
-    (operands-add-first t)
-    (operands-add-last t)
-    (operands-pair-in-requires t)
-    (operands-add-last-2 t)
-    (λ c κs. search needs)
-    (operands-add-to t)
     (operands-add-q t)
-    (λ c. search needs)
-    (operands-loop-less t)
-    (operands-loop-again t)
-    (λ c. search needs)
-    (operands-row-requires t)
-    (λ c. search needs)
-    (operands-loop-less-2 t)
-    (operands-loop-again-2 t)
-    (λ c. search needs)
-    (operands-returns-2 t)
-    (λ c. search needs)
-    (operands-returns-3 t)
-    (operands-loop-less-3 t)
-    (operands-loop-again-3 t)
-    (operands-token-requires t)
     (operands-leaf-requires t)
     (λ c. search needs)
-    (operands-add-q-2 t)
+    (operands-returns t)
+    (operands-loop-less t)
+    (operands-loop-again t)
+    (operands-returns-2 t)
+    (operands-first-operand-requires t)
+    (operands-last-operand-requires t)
+    (λ c. search needs)
+    (λ c κs. search needs)
+    (operands-add-to t)
+    (operands-loop-less-2 t)
+    (operands-loop-again-2 t)
+    (operands-loop-less-3 t)
+    (operands-loop-again-3 t)
+    (operands-row-requires t)
+    (λ c. search needs)
+    (operands-returns-3 t)
     (operands-loop-less-4 t)
     (operands-loop-again-4 t)
-    (λ c. search needs)
-    (operands-returns-4 t)
-    (λ c. search needs)
-    (operands-returns-5 t)
-    (operands-returns-6 t))
+    (operands-returns-4 t))
     λ t. row-lts.spec (row-calls t)
     (row-at t)
     row.Post

@@ -5,10 +5,10 @@ use lib.ListN.{getD}
 use Rattle.check_wellformed.proofs.Along.{skipped-by}
 use Rattle.check_wellformed.proofs.Mappings.{kept-is, place-in}
 use borrow.Author.Needs.{needs}
-use Rattle.check_wellformed.proofs.mapping.kept_at.Statement.{statement}
-use Rattle.check_wellformed.proofs.mapping.kept_at.Tie as tie
-use Rattle.check_wellformed.proofs.mapping.kept_at.Reads as reads
-use Rattle.check_wellformed.proofs.mapping.kept_at.Lts as lts
+use Rattle.check_wellformed.proofs.mapping.class_kept.Statement.{statement}
+use Rattle.check_wellformed.proofs.mapping.class_kept.Tie as tie
+use Rattle.check_wellformed.proofs.mapping.class_kept.Reads as reads
+use Rattle.check_wellformed.proofs.mapping.class_kept.Lts as lts
 use Rattle.format_fields.proofs.bytes.to_usize.Reads as to-usize-reads
 use Rattle.tree_reader.proofs.node.place_at.Reads as place-at-reads
 use Rattle.check_wellformed.proofs.clauses.place_of.Reads as place-of-reads
@@ -23,8 +23,8 @@ range-kept-requires c κs = (place-in _ _ (c .before .before .before .before .be
 returns : tie.Need-returns
 returns c = kept-is _ _ _ _ _ _ _ (c .before .before .before .before .before .before .before .before .before .before .before .pre .3) _ _ _ _ (c .before .before .before .before .before .to-usize .ensures .0) (c .before .before .before .before .place-of .ensures) (c .before .before .to-usize2 .ensures .0) (c .before .place-at .ensures) _ (c .range-kept .ensures)
 
-pub kept-at-spec : {M : Type 1} → statement M
-kept-at-spec =
+pub class-kept-spec : {M : Type 1} → statement M
+class-kept-spec =
     tie.close
     (tie.spec
     (λ c. search needs)

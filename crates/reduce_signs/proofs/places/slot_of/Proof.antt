@@ -4,11 +4,11 @@ use Rattle.reduce_signs.specs.declared.sorts.Sort as Told
 use mathlib.Core.Path.{ap, sym}
 use native.Mathlib.Omega.{arith}
 use borrow.Author.Needs.{needs}
-use Rattle.reduce_signs.proofs.places.slot.Statement.{statement}
-use Rattle.reduce_signs.proofs.places.slot.Tie as tie
+use Rattle.reduce_signs.proofs.places.slot_of.Statement.{statement}
+use Rattle.reduce_signs.proofs.places.slot_of.Tie as tie
 
 returns-2 : tie.Need-returns-2
 returns-2 c = (ap (λ (s : Told.Sort). slotOf (sortOf s) (c .before .before .args .variable)) (sym (c .enum-told2 .given .1)), omega arith)
 
-pub slot-spec : {M : Type 1} → statement M
-slot-spec = tie.close (tie.spec (λ c. search needs) (λ c. search needs) (λ c. search needs) (λ c. search needs) returns-2)
+pub slot-of-spec : {M : Type 1} → statement M
+slot-of-spec = tie.close (tie.spec (λ c. search needs) (λ c. search needs) (λ c. search needs) (λ c. search needs) returns-2)
