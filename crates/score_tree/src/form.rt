@@ -18,9 +18,6 @@ ghost use Rattle.tree_reader.specs.Typing.{Uses};
 ghost use Rattle.score_tree.specs.Linear.{Loads};
 ghost use Rattle.score_tree.specs.Inner.Terms.{bytesOf, allBytes, LeafIn, TermAsks, NodeAsks, Asked, AddsLeaf, AddsRow, Adds};
 
-// The most arguments that a production has.
-pub const ARGUMENTS: usize = 8;
-
 // The most places that a form has: a constant, and a factor for each argument.
 pub const PLACES: usize = 9;
 
