@@ -1,8 +1,8 @@
 use borrow.Author.Needs.{needs}
 use native.Mathlib.Omega.{arith}
 use Rattle.listing.proofs.WholeText.{puts-first}
-use Rattle.listing.proofs.outcome.put_first.Statement.{statement}
-use Rattle.listing.proofs.outcome.put_first.Tie as tie
+use Rattle.listing.proofs.answer.put_first.Statement.{statement}
+use Rattle.listing.proofs.answer.put_first.Tie as tie
 
 returns : tie.Need-returns
 returns c = (puts-first _ _ _ _ _ _ _ _ (c .before .before .before .before .before .before .put-bytes .ensures) (c .before .before .put-number .ensures .0), omega (arith, c .before .before .before .before .before .before .put-bytes .ensures .end, c .before .before .put-number .ensures .1))

@@ -1,13 +1,12 @@
 use mathlib.Core.Path.{sym}
 use native.Mathlib.Omega.{arith}
 use lib.Seq.{length-take-le}
-use Rattle.run_operation.proofs.Front.{part-zero}
-use Rattle.run_operation.proofs.Laws.{front-begun}
+use Rattle.run_open.proofs.Opening.{part-zero, front-begun}
 use borrow.Author.Needs.{needs}
-use Rattle.run_operation.proofs.run.check_front.Statement.{statement}
-use Rattle.run_operation.proofs.run.check_front.Tie as tie
-use Rattle.run_operation.proofs.run.check_front.Reads as reads
-use Rattle.run_operation.proofs.run.check_front.Lts as lts
+use Rattle.run_open.proofs.open.check_front.Statement.{statement}
+use Rattle.run_open.proofs.open.check_front.Tie as tie
+use Rattle.run_open.proofs.open.check_front.Reads as reads
+use Rattle.run_open.proofs.open.check_front.Lts as lts
 use Rattle.check_operations.proofs.translations.check_kept.Reads as check-kept-reads
 
 slice-aggregate-check-kept : tie.Need-slice-aggregate-check-kept

@@ -3,8 +3,8 @@ use mathlib.Core.Path.{sym}
 use native.Mathlib.Omega.{arith}
 use lib.Seq.{length-take-le}
 use Rattle.listing.proofs.WholeText.{number-small, clauses-fit, text-accepted, text-refused}
-use Rattle.listing.proofs.outcome.put_outcome.Statement.{statement}
-use Rattle.listing.proofs.outcome.put_outcome.Tie as tie
+use Rattle.listing.proofs.answer.put_outcome.Statement.{statement}
+use Rattle.listing.proofs.answer.put_outcome.Tie as tie
 
 put-first-requires : tie.Need-put-first-requires
 put-first-requires c κs = (omega (arith, c .before .before .before .before .before .before .before .pre .0 _ (c .before .before .before .outcome .given .1)), omega arith)
