@@ -38,7 +38,7 @@ use Rattle.tree_reader.proofs.Larger.{apart}
 use Rattle.tree_reader.proofs.Placed.{puts-place, found}
 use Rattle.tree_reader.proofs.Members.{in-below}
 use Rattle.format_translation.proofs.Accepted.{refused-not}
-use Rattle.check_operations.proofs.TreeChain.{Accepts}
+use Rattle.check_operations.proofs.Opening.{Accepts}
 use Rattle.score_tree.specs.LoadTable.{Table, loadsOf, tableOf, figureOf}
 use Rattle.score_tree.specs.Figures.{isScore}
 use Rattle.score_tree.specs.Linear.{form, passes}
@@ -219,11 +219,6 @@ module _ (s : List ℕ) (root : ℕ) (t : List ℕ) where
         unfolding groundOf tableOf
         on-table = rw (a .is, there .1) refl
 
-        pub root-past : 31 < root → Refused Why.UnknownRoot ≡ checked (groundOf s root t)
-        root-past p = by-test (isIn (a .language) root)
-            (λ j. let m = in-below s root (a .language) (a .entries) j in absurd (omega arith))
-            (λ j. rw (on-table, j) refl)
-
         module _ {y : Bool} (ey : y ≡ isIn (a .language) root) where
           pub root-out : y ≡ false → Refused Why.UnknownRoot ≡ checked (groundOf s root t)
           root-out j = rw (on-table, sym ey ∙ j) refl
@@ -235,14 +230,14 @@ module _ (s : List ℕ) (root : ℕ) (t : List ℕ) where
             pub ground-accepted : Accepted 0 ≡ checked (groundOf s root t)
             ground-accepted = rw ground-is refl
 
-            pub ground-held : (fig : List ℤ) → ((l : Language) (w : Table) → entriesOf s ≡ some l → loadsOf l (fieldsOf t) ≡ some w → Kept fig s w) → root < 32
+            pub ground-held : (fig : List ℤ) → ((l : Language) (w : Table) → entriesOf s ≡ some l → loadsOf l (fieldsOf t) ≡ some w → Kept fig s w)
                 → (g : Ground) → groundOf s root t ≡ value g → Prepared s fig root g
-            ground-held fig f small g e =
+            ground-held fig f g e =
                 let d : value (ground (a .language) (there .0)) ≡ value g = sym ground-is ∙ e in
                 let same : ground (a .language) (there .0) ≡ g = cc in
                 rw (← same) (record {
                   held = record { entries = a .entries; apart = good .apart; short = a .short; kept = f (a .language) (there .0) (a .entries) (there .1) };
-                  kind = small;
+                  kind = in-below s root (a .language) (a .entries) (sym ey ∙ j);
                 })
 
 -- The chain of an operation on a tree, by what was prepared.

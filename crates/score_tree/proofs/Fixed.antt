@@ -9,7 +9,8 @@ use lib.Signed.{ltZ}
 use Rattle.format_language.specs.Language.{Language, Range, inRange, rangeOf, argumentsOf}
 use Rattle.tree_reader.specs.Code.{Code, node, token, Codes, nil, cons}
 use Rattle.tree_reader.specs.Syntax as Trees
-use Rattle.tree_reader.specs.Syntax.{Read, done, deep, broken, andThen, tree, read, readBy, current, pastLevels, readLevel, readTreeLevel, readToken, readAll, readNode}
+use Rattle.tree_reader.specs.Syntax.{Read, done, deep, broken, andThen, tree, read, readToken, readAll, readNode}
+use Rattle.check_operations.proofs.Reading.{read-class, read-node, read-past}
 use Rattle.score_tree.specs.Figures.{isScore}
 use Rattle.score_tree.specs.Linear.{Loads, constant, form, formAll, passes, passesAll}
 use Rattle.score_tree.specs.Inner.Sums.{turned}
@@ -109,38 +110,24 @@ module _ (w : Loads) where
     name-is l k [] = refl
     name-is l k (p ∷ s) = operands-are k p (argumentsOf l k p) s
 
--- Reading a tree by whether the kind is a class.
-tree-class : (l : Language) (k n : ℕ) (s : List ℕ) (c : Range) → rangeOf l k ≡ some c → read tree l [] n k s ≡ readToken (some c) s
-unfolding readBy pastLevels readLevel readTreeLevel
-tree-class l k zero s c e = cc
-tree-class l k (suc n) s c e = cc
-
-tree-past : (l : Language) (k : ℕ) (s : List ℕ) → rangeOf l k ≡ none → read tree l [] 0 k s ≡ deep
-unfolding readBy pastLevels
-tree-past l k s e = cc
-
-tree-name : (l : Language) (k n : ℕ) (s : List ℕ) → rangeOf l k ≡ none → read tree l [] (suc n) k s ≡ readNode (read tree l [] n) l k s
-unfolding readBy readLevel readTreeLevel
-tree-name l k n s e = cc
-
 module _ (l : Language) (w : Loads) where
   values-are : (c : Range) (s : List ℕ) → readValues 2 c s ≡ measured (fixedSpread w) (readToken (some c) s)
   unfolding readValues
   values-are c s = token-is w c s
 
   class-is : (n k : ℕ) (s : List ℕ) (c : Range) → rangeOf l k ≡ some c → readSpread 2 l w n k s ≡ measured (fixedSpread w) (read tree l [] n k s)
-  class-is n k s c e = class-read 2 l w k n s c e ∙ (values-are c s ∙ sym (ap (measured (fixedSpread w)) (tree-class l k n s c e)))
+  class-is n k s c e = class-read 2 l w k n s c e ∙ (values-are c s ∙ sym (ap (measured (fixedSpread w)) (read-class l k s n c e)))
 
   past-is : (k : ℕ) (s : List ℕ) (o : Option Range) → rangeOf l k ≡ o → readSpread 2 l w 0 k s ≡ measured (fixedSpread w) (read tree l [] 0 k s)
   past-is k s (some c) e = class-is 0 k s c e
-  past-is k s none e = past-read 2 l w k s e ∙ sym (ap (measured (fixedSpread w)) (tree-past l k s e))
+  past-is k s none e = past-read 2 l w k s e ∙ sym (ap (measured (fixedSpread w)) (read-past l k s e))
 
   level-is : (n : ℕ) → ((k : ℕ) (s : List ℕ) → readSpread 2 l w n k s ≡ measured (fixedSpread w) (read tree l [] n k s))
       → (k : ℕ) (s : List ℕ) (o : Option Range) → rangeOf l k ≡ o → readSpread 2 l w (suc n) k s ≡ measured (fixedSpread w) (read tree l [] (suc n) k s)
   level-is n h k s (some c) e = class-is (suc n) k s c e
   level-is n h k s none e =
       name-read 2 l w k n s e
-      ∙ (name-is w (readSpread 2 l w n) (read tree l [] n) h l k s ∙ sym (ap (measured (fixedSpread w)) (tree-name l k n s e)))
+      ∙ (name-is w (readSpread 2 l w n) (read tree l [] n) h l k s ∙ sym (ap (measured (fixedSpread w)) (read-node l k s n e)))
 
   -- What the walk reads in tokens of two bytes.
   pub fixed-reads : (n k : ℕ) (s : List ℕ) → readSpread 2 l w n k s ≡ measured (fixedSpread w) (read tree l [] n k s)

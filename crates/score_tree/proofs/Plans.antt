@@ -18,6 +18,7 @@ use Rattle.format_language.specs.Language.{Language, Range, inRange, rangeOf, a
 use Rattle.format_language.specs.Inner.Entries.{IsClass, classRange}
 use Rattle.tree_reader.specs.Syntax.{Read, done, deep, broken, andThen}
 use Rattle.tree_reader.specs.Inner.Index.{Indexed, rangeBefore, argumentsBefore}
+use Rattle.check_operations.proofs.Reading.{two}
 use Rattle.score_tree.specs.Figures.{isScore}
 use Rattle.score_tree.specs.Linear.{Loads}
 use Rattle.score_tree.specs.Inner.Kept.{Small}
@@ -111,12 +112,6 @@ sums-tested x c u v a z e ex ea ez = rw (ea, ez, ex) refl
 -- A value as a score: x is what the machine reads of it.
 pub value-near : (v : ℕ) (x : ℤ) → x ≡ pos v → v < 65536 → natAbs x ≤ 1000000000
 value-near v x e h = rw e (omega arith)
-
--- The first two bytes of those that are left.
-two : (b : List ℕ) (at : ℕ) → 2 ≤ length b - at → drop at b ≡ getD b at 0 ∷ getD b (at + 1) 0 ∷ drop (at + 2) b
-two b at h =
-    let p : at + 1 + 1 ≡ at + 2 = omega arith in
-    front b at (omega arith) ∙ ap (λ (u : List ℕ). getD b at 0 ∷ u) (front b (at + 1) (omega arith) ∙ ap (λ (n : ℕ). getD b (at + 1) 0 ∷ drop n b) p)
 
 -- fixed_token
 fixed-cut : (c : Range) (u : List ℕ) → length u < 2 → readFixed c u ≡ broken
