@@ -1,11 +1,11 @@
 // The lines of the clauses of a translation.
 use format_fields::bytes::byte_at;
 use format_fields::walk::field_end;
+use format_translation::body::CLAUSE;
+use format_translation::body::NUMBERED_CLAUSE;
 use program_text::text::put;
 use program_text::text::put_hex;
 use program_text::text::put_number;
-use format_translation::body::CLAUSE;
-use format_translation::body::NUMBERED_CLAUSE;
 ghost use Prim.Native.Nat.{_+_, _*_, _-_, _<_, _≤_};
 ghost use lib.ListN.{length};
 ghost use Rattle.format_fields.specs.Inner.Places.{EndsAt};

@@ -13,11 +13,10 @@ use borrow.Author.Tests.{eq-eqb}
 use Rattle.format_fields.specs.Lists.{all, concatMap, countUp, isSome}
 use Rattle.format_fields.specs.Fields.{pairAt}
 use Rattle.outcome.specs.Outcome.{Result, value, refused, refuseIf, _>>=_}
-use Rattle.outcome.specs.declared.Reason.{Reason}
 use Rattle.outcome.specs.declared.Reason.the-variants.{ScoreOutOfRange}
 use Rattle.format_fields.proofs.Truth.{and-both, Mem, mem-concat, true-not, some-is}
 use Rattle.format_fields.proofs.Keyed.{Rising, is-rising}
-use Rattle.format_fields.proofs.Codec.{fields-encode}
+use Rattle.format_fields.proofs.Codec.{step-value, value-inj, fields-encode}
 use Rattle.format_language.specs.Language.{Language, class, production, entryKey, argumentsOf, isIn}
 use Rattle.format_language.specs.LanguageFile.{languageOf}
 use Rattle.format_language.proofs.Lookup.{arguments-mem, result-in}
@@ -35,13 +34,14 @@ use Rattle.format_translation.specs.Operations.{runBytes}
 use Rattle.format_translation.proofs.Codec.{translation-whole, rises-parts}
 use Rattle.format_translation.proofs.Cuts.{pieces-in, body-in-short}
 use Rattle.format_translation.proofs.Lookup.{mem-mapping}
-use Rattle.format_translation.proofs.Fitting.{uses-are, fit-carries}
+use Rattle.format_translation.proofs.Fitting.{refuse-value, uses-are, fit-carries}
 use Rattle.format_translation.proofs.Running.{ByZero}
 use Rattle.format_translation.proofs.Preserved.{Carries, kept-tree, typed-run}
 use Rattle.format_translation.specs.Inner.Parts.{sourceIn, targetIn, bodyIn}
 use Rattle.format_translation.specs.Plain.{plain}
 use Rattle.format_translation.proofs.PlainUses.{use-zero, typed-zero}
 use Rattle.run_table.specs.Inner.Table.{Checked}
+use Rattle.check_operations.proofs.Legal.{tree-done}
 use Rattle.run_table.proofs.Clauses as Clauses
 use Rattle.score_tree.specs.Figures.{signed, unsigned, figureAt, figuresFrom, figureBytes, isFigure, isScore}
 use Rattle.score_tree.specs.LoadTable.{load, Table, loadOf, loadsIn, tableOf, figureOf, loadField, encodeTable}
@@ -53,21 +53,6 @@ use Rattle.score_join.specs.Joined.{placeFits, placesOf, loadFits, joine
 use Rattle.score_join.specs.Laws.{JoinedIsTable, ScoresAgree}
 use Rattle.score_join.proofs.Joins.{figures-long, map-long, count-long}
 use Rattle.score_join.proofs.Linear.{form-run}
-
--- Steps that gave a value.
-refused-value : {A B : Type 0} {r : Reason} {a : A} → refused r ≡ value a → B
-refused-value e = let z : _≡_ {A = ℕ} 0 1 = cc in absurd (omega arith)
-
-bind-value : {A B : Type 0} (m : Result A) (g : A → Result B) (b : B) → (m >>= g) ≡ value b → (a : A) × (m ≡ value a) × (g a ≡ value b)
-bind-value (value a) g b e = (a, refl, e)
-bind-value (refused r) g b e = refused-value e
-
-test-value : {A : Type 0} (t : Bool) (r : Reason) (m : Result A) (a : A) → refuseIf t r m ≡ value a → (t ≡ false) × (m ≡ value a)
-test-value false r m a e = (refl, e)
-test-value true r m a e = refused-value e
-
-value-is : {A : Type 0} {a b : A} → value a ≡ value b → a ≡ b
-value-is e = cc
 
 -- Figures written and read.
 figures-shift : (m a : ℕ) (s : List ℕ) (i : ℕ) → figuresFrom m (a ∷ s) (i + 1) ≡ figuresFrom m s i
@@ -133,19 +118,19 @@ record Made (translation table : List ℕ) (f : Translation) (joined : List ℕ)
 made : (translation table joined : List ℕ) (room : ℕ) (f : Translation) → translationOf translation ≡ value f → joinBytes translation table room ≡ value joined → Made translation table f joined
 unfolding joinBytes joinedOf
 made translation table joined room f ef e =
-    let a = bind-value (translationOf translation) _ joined e in
-    let same : a .0 ≡ f = value-is (sym (a .1) ∙ ef) in
-    let n = test-value (not (plain (a .0 .body))) _ _ joined (a .2) in
-    let b = bind-value (tableOf (a .0 .target) table) _ joined (n .1) in
-    let c = bind-value (joinedOf (a .0) (b .0)) _ joined (b .2) in
-    let d = test-value (not (all (loadFits (a .0) (figureOf (b .0))) (a .0 .source))) _ _ (c .0) (c .1) in
-    let g = test-value (ltb room (length (encodeTable (c .0)))) _ _ joined (c .2) in
+    let a = step-value (translationOf translation) _ e in
+    let same : a .0 ≡ f = value-inj (sym (a .1) ∙ ef) in
+    let n = refuse-value (not (plain (a .0 .body))) _ _ (a .2) in
+    let b = step-value (tableOf (a .0 .target) table) _ (n .1) in
+    let c = step-value (joinedOf (a .0) (b .0)) _ (b .2) in
+    let d = refuse-value (not (all (loadFits (a .0) (figureOf (b .0))) (a .0 .source))) _ _ (c .1) in
+    let g = refuse-value (ltb room (length (encodeTable (c .0)))) _ _ (c .2) in
     record {
       from = b .0;
       plain-body = rw (← same) (true-not _ (n .0));
       is-table = rw (← same) (b .1);
       fits = rw (← same) (true-not _ (d .0));
-      is = sym (value-is (g .1)) ∙ (ap encodeTable (sym (value-is (d .1))) ∙ ap (λ (h : Translation). encodeTable (joinedTable h (figureOf (b .0)))) same);
+      is = sym (value-inj (g .1)) ∙ (ap encodeTable (sym (value-inj (d .1))) ∙ ap (λ (h : Translation). encodeTable (joinedTable h (figureOf (b .0)))) same);
     }
 
 pub joined-is-table : JoinedIsTable
@@ -171,15 +156,9 @@ figures-are f w rises h k p ks e i g =
     figures-found (concatMap (joinedLoad f w) (f .source)) up k p figs m i ∙ (form-get (form w (clausesOf f k p 0)) (suc (length ks)) 0 i (omega arith) ∙ ap (form w (clausesOf f k p 0)) z)
 
 -- A tree that was read, and one that was read of what was written.
-whole-done : (o : Read Code) (t : Code) → wholeTree o ≡ value t → o ≡ done t []
-whole-done (done u []) t e = ap (λ (x : Code). done x []) (value-is e)
-whole-done (done u (b ∷ s)) t e = refused-value e
-whole-done deep t e = refused-value e
-whole-done broken t e = refused-value e
-
 tree-read : (l : Language) (k : ℕ) (s : List ℕ) (t : Code) → treeOf l k s ≡ value t → read tree l [] 64 k s ≡ done t []
 unfolding treeOf
-tree-read l k s t e = whole-done _ t (test-value (not (isIn l k)) _ _ t e .1)
+tree-read l k s t e = tree-done _ t (refuse-value (not (isIn l k)) _ _ e .1)
 
 tree-typed : (l : Language) (k : ℕ) (s : List ℕ) (t : Code) → treeOf l k s ≡ value t → Typed l [] t k
 tree-typed l k s t e = read-done tree l [] 64 k s t [] (tree-read l k s t e) .0
@@ -202,7 +181,7 @@ tree-again l a k u t h e =
 -- A score that was given.
 score-made : (w : Table) (t : Code) (x : ℤ) → scoreOf w t ≡ value x → x ≡ form (figureOf w) t 0
 unfolding scoreOf
-score-made w t x e = sym (value-is (test-value (not (passes isScore (figureOf w) t 0)) ScoreOutOfRange (value (form (figureOf w) t 0)) x e .1))
+score-made w t x e = sym (value-inj (refuse-value (not (passes isScore (figureOf w) t 0)) ScoreOutOfRange (value (form (figureOf w) t 0)) e .1))
 
 record Scored (language : List ℕ) (root : ℕ) (bytes table : List ℕ) (l : Language) (x : ℤ) : Type 0 where
   loads : Table
@@ -215,10 +194,10 @@ scored : (language : List ℕ) (root : ℕ) (bytes table : List ℕ) (l : Langua
     → Scored language root bytes table l x
 unfolding scoreBytes
 scored language root bytes table l x el e =
-    let a = bind-value (languageOf language) _ x e in
-    let same : a .0 ≡ l = value-is (sym (a .1) ∙ el) in
-    let b = bind-value (tableOf (a .0) table) _ x (a .2) in
-    let c = bind-value (treeOf (a .0) root bytes) _ x (b .2) in
+    let a = step-value (languageOf language) _ e in
+    let same : a .0 ≡ l = value-inj (sym (a .1) ∙ el) in
+    let b = step-value (tableOf (a .0) table) _ (a .2) in
+    let c = step-value (treeOf (a .0) root bytes) _ (b .2) in
     record {
       loads = b .0;
       tree-is = c .0;
@@ -237,16 +216,16 @@ ran : (translation : List ℕ) (root : ℕ) (bytes output : List ℕ) (space : �
     → Ran translation root bytes output f
 unfolding runBytes
 ran translation root bytes output space f ef e =
-    let a = bind-value (translationOf translation) _ output e in
-    let same : a .0 ≡ f = value-is (sym (a .1) ∙ ef) in
-    let m = test-value (not (isSome (mappingOf (a .0 .body) root 0))) _ _ output (a .2) in
-    let b = bind-value (treeOf (a .0 .source) root bytes) _ output (m .1) in
-    let c = test-value (ltb space (length (write tree (transform (a .0) 0 (b .0))))) _ _ output (b .2) in
+    let a = step-value (translationOf translation) _ e in
+    let same : a .0 ≡ f = value-inj (sym (a .1) ∙ ef) in
+    let m = refuse-value (not (isSome (mappingOf (a .0 .body) root 0))) _ _ (a .2) in
+    let b = step-value (treeOf (a .0 .source) root bytes) _ (m .1) in
+    let c = refuse-value (ltb space (length (write tree (transform (a .0) 0 (b .0))))) _ _ (b .2) in
     record {
       maps = some-is (mappingOf (f .body) root 0) (rw (← same) (true-not _ (m .0)));
       tree-is = b .0;
       is-tree = rw (← same) (b .1);
-      is = sym (value-is (c .1)) ∙ ap (λ (h : Translation). write tree (transform h 0 (b .0))) same;
+      is = sym (value-inj (c .1)) ∙ ap (λ (h : Translation). write tree (transform h 0 (b .0))) same;
     }
 
 -- The facts of a translation that was accepted.
@@ -282,9 +261,9 @@ scores-agree translation table joined source target bytes output room space root
     let a = scored source root bytes joined (f .source) x es ex in
     let b = scored target (mapped (f .body) root 0) output table (f .target) y et ey in
     let v = joinedTable f (figureOf (m .from)) in
-    let w-same : b .loads ≡ m .from = value-is (sym (b .is-table) ∙ m .is-table) in
-    let v-same : a .loads ≡ v = value-is (sym (a .is-table) ∙ (ap (tableOf (f .source)) (m .is) ∙ table-back f (figureOf (m .from)) (m .fits))) in
-    let t-same : a .tree-is ≡ r .tree-is = value-is (sym (a .is-tree) ∙ r .is-tree) in
+    let w-same : b .loads ≡ m .from = value-inj (sym (b .is-table) ∙ m .is-table) in
+    let v-same : a .loads ≡ v = value-inj (sym (a .is-table) ∙ (ap (tableOf (f .source)) (m .is) ∙ table-back f (figureOf (m .from)) (m .fits))) in
+    let t-same : a .tree-is ≡ r .tree-is = value-inj (sym (a .is-tree) ∙ r .is-tree) in
     let typed = tree-typed (f .source) root bytes (r .tree-is) (r .is-tree) in
     let u-same : b .tree-is ≡ transform f 0 (r .tree-is) =
     tree-again (f .target) (target-apart translation f ef) (mapped (f .body) root 0) (transform f 0 (r .tree-is)) (b .tree-is) (transform-typed translation f ef (r .tree-is) root (r .maps .0) typed (r .maps .1))

@@ -9,9 +9,9 @@ use lib.IntN.{ℤ, pos, _+ℤ_, _*ℤ_}
 use lib.Signed.{_≤ℤ_, ≤ℤ-refl}
 use borrow.Author.Tests.{leb-true}
 use Rattle.outcome.specs.Outcome.{Result, value, refused, refuseIf, _>>=_}
-use Rattle.outcome.specs.declared.Reason.{Reason}
 use Rattle.outcome.specs.declared.Reason.the-variants.{UnknownRoot, ScoreOutOfRange}
 use Rattle.format_fields.proofs.Truth.{by-test, false-true, and-both, both-and}
+use Rattle.format_fields.proofs.Codec.{refused-value}
 use Rattle.format_language.specs.Language.{Language, Range, rangeOf, isIn, inRange}
 use Rattle.format_language.specs.LanguageFile.{languageOf}
 use Rattle.format_language.proofs.Codec.{language-good}
@@ -134,10 +134,7 @@ module _ (l : Language) (w : Loads) where
     chosen-settles-all legal-nil factor e = settles-nil
     chosen-settles-all (legal-cons h k) factor e = settles-cons (chosen-settles h (endBy (factor 0) e)) (chosen-settles-all k (λ i. factor (suc i)) e)
 
--- A value of a chain of two.
-refused-value : {A B : Type 0} {r : Reason} {a : A} → refused r ≡ value a → B
-refused-value e = let z : _≡_ {A = ℕ} 0 1 = cc in absurd (omega arith)
-
+-- What was read whole.
 plan-read : (o : Read Loose) (t : Loose) → wholePlan o ≡ value t → o ≡ done t []
 plan-read (done u []) t e = let z : u ≡ t = cc in rw z refl
 plan-read (done u (b ∷ s)) t e = refused-value e

@@ -2,4 +2,3 @@ pub mod Plans
 pub mod Ends
 pub mod Operations
 pub mod Laws
-pub mod Inner

@@ -1,3 +1,2 @@
 // The score of a loose plan.
-pub mod ends;
 pub mod operation;

@@ -30,6 +30,7 @@ use Rattle.format_language.proofs.Chain.{rising-is}
 use Rattle.format_language.proofs.Codec.{GoodLanguage, language-good}
 use Rattle.tree_reader.specs.Code as Terms
 use Rattle.tree_reader.specs.Syntax as Meant
+use Rattle.tree_reader.specs.Syntax.{Read, done, deep, broken}
 use Rattle.tree_reader.specs.Operations.{wholeTree, treeOf}
 use Rattle.tree_reader.specs.Inner.Index.{Indexed, putAll}
 use Rattle.tree_reader.proofs.Indexed.{build-is, production-key}
@@ -37,21 +38,24 @@ use Rattle.tree_reader.proofs.Larger.{apart}
 use Rattle.tree_reader.proofs.Placed.{puts-place, found}
 use Rattle.tree_reader.proofs.Members.{in-below}
 use Rattle.format_translation.proofs.Accepted.{refused-not}
-use Rattle.check_operations.proofs.TreeChain.{Accepts}
+use Rattle.check_operations.proofs.Opening.{Accepts}
 use Rattle.score_tree.specs.LoadTable.{Table, loadsOf, tableOf, figureOf}
+use Rattle.score_tree.specs.Figures.{isScore}
 use Rattle.score_tree.specs.Linear.{form, passes}
 use Rattle.score_tree.specs.Operations.{scoreOf, scoreBytes, scoreIn, scoreTree}
 use Rattle.score_tree.specs.Inner.Kept.{Small, Kept}
 use Rattle.score_tree.specs.Inner.Terms.{World}
-use Rattle.score_tree.specs.Inner.Answering.{Answers, Held, Ground, ground, groundOf, Prepared, scoreOn}
+use Rattle.score_tree.specs.Inner.Spreads.{Spread, spread, readSpread}
+use Rattle.score_tree.specs.Inner.Answering.{spreadIn, Answers, Held, Ground, ground, groundOf, Prepared, wholeSpread, endsOn, planEnds}
 use Rattle.score_tree.specs.Inner.Walks.{Says}
-use Rattle.score_tree.specs.declared.walk.Met.{Met}
-use Rattle.score_tree.specs.declared.walk.Met.the-variants.{Scored, Outside, Deep, Broken}
+use Rattle.score_tree.specs.declared.walk.Bounds.{Bounds}
+use Rattle.score_tree.specs.declared.walk.Bounds.the-variants.{Between, Outside, Deep, Broken}
 use Rattle.score_tree.proofs.Terms.{placed}
-use Rattle.score_tree.proofs.Trees.{says-scored, says-outside, says-deep, says-broken}
+use Rattle.score_tree.proofs.Plans.{says-between, says-outside, says-deep, says-broken}
+use Rattle.score_tree.proofs.Fixed.{measured, fixedSpread, fixed-reads}
 
 -- An answer is that of any result that is the same.
-pub answers-same : {a b : Result ℤ} {o : Outcome} {z : ℤ} → a ≡ b → Answers a o z → Answers b o z
+answers-same : {a b : Result Spread} {o : Outcome} {x y : ℤ} → a ≡ b → Answers a o x y → Answers b o x y
 answers-same e h = rw (← e) h
 
 -- The index that was built, and the figures that were kept, are those of the language and its table.
@@ -120,51 +124,50 @@ module _ (s : List ℕ) (fig : List ℤ) (l : Language) (w : Table) (bytes : (i 
   }
 
 -- score_kind
-module _ (l : Language) (w : Table) (k : ℕ) (b : List ℕ) where
-  whole : (t : Terms.Code) (e : ℕ) → Meant.read Meant.tree l [] 64 k b ≡ Meant.done t (drop e b) → e ≡ length b → scoreOf w t ≡ scoreOn l w k b
-  unfolding scoreOn
+module _ (width : ℕ) (l : Language) (w : Table) (k : ℕ) (b : List ℕ) where
+  whole : (t : Spread) (e : ℕ) → readSpread width l (figureOf w) 64 k b ≡ done t (drop e b) → e ≡ length b → wholeSpread (done t []) ≡ endsOn width l w k b
+  unfolding endsOn
   whole t e d n =
-      let f : Meant.read Meant.tree l [] 64 k b ≡ Meant.done t [] = d ∙ ap (Meant.done t) (drop-of-length-le b {i = e} (omega arith)) in
+      let f : readSpread width l (figureOf w) 64 k b ≡ done t [] = d ∙ ap (done t) (drop-of-length-le b {i = e} (omega arith)) in
       rw f refl
 
-module _ (l : Language) (w : Table) (k : ℕ) (b : List ℕ) (r : Met) (er : Says b (figureOf w) (Meant.read Meant.tree l [] 64 k b) r) {o : Outcome} {x : ℤ} where
-  pub kind-deep : r ≡ Deep → Answers (refused Why.TooDeep) o x → Answers (scoreOn l w k b) o x
-  unfolding scoreOn
-  kind-deep e a = let d = says-deep b (figureOf w) (Meant.read Meant.tree l [] 64 k b) r er e in answers-same (rw d refl) a
+module _ (width : ℕ) (l : Language) (w : Table) (k : ℕ) (b : List ℕ) (r : Bounds) (er : Says b (readSpread width l (figureOf w) 64 k b) r) {o : Outcome} {x y : ℤ} where
+  pub kind-deep : r ≡ Deep → Answers (refused Why.TooDeep) o x y → Answers (endsOn width l w k b) o x y
+  unfolding endsOn
+  kind-deep e a = let d = says-deep b (readSpread width l (figureOf w) 64 k b) r er e in answers-same (rw d refl) a
 
-  pub kind-broken : r ≡ Broken → Answers (refused Why.IllegalTree) o x → Answers (scoreOn l w k b) o x
-  unfolding scoreOn
-  kind-broken e a = let d = says-broken b (figureOf w) (Meant.read Meant.tree l [] 64 k b) r er e in answers-same (rw d refl) a
+  pub kind-broken : r ≡ Broken → Answers (refused Why.IllegalTree) o x y → Answers (endsOn width l w k b) o x y
+  unfolding endsOn
+  kind-broken e a = let d = says-broken b (readSpread width l (figureOf w) 64 k b) r er e in answers-same (rw d refl) a
 
-  more : (t : Terms.Code) (e : ℕ) → Meant.read Meant.tree l [] 64 k b ≡ Meant.done t (drop e b) → e ≤ length b → (e ≡ length b → ⊥) → Answers (refused Why.IllegalTree) o x → Answers (scoreOn l w k b) o x
-  unfolding scoreOn
+  more : (t : Spread) (e : ℕ) → readSpread width l (figureOf w) 64 k b ≡ done t (drop e b) → e ≤ length b → (e ≡ length b → ⊥) → Answers (refused Why.IllegalTree) o x y → Answers (endsOn width l w k b) o x y
+  unfolding endsOn
   more t e d n m a =
       let i : e < length b = omega (arith, n, m) in
-      let f : Meant.read Meant.tree l [] 64 k b ≡ Meant.done t (getD b e 0 ∷ drop (e + 1) b) = d ∙ ap (Meant.done t) (front b e i) in
+      let f : readSpread width l (figureOf w) 64 k b ≡ done t (getD b e 0 ∷ drop (e + 1) b) = d ∙ ap (done t) (front b e i) in
       answers-same (rw f refl) a
 
-  module _ (u : ℤ) (e : ℕ) (q : r ≡ Scored u e) where
-    pub kind-more : (e ≡ length b → ⊥) → Answers (refused Why.IllegalTree) o x → Answers (scoreOn l w k b) o x
-    kind-more m a = let (g, f) = says-scored b (figureOf w) (Meant.read Meant.tree l [] 64 k b) r er u e q in more (g .code) e (g .is) (g .inside) m a
+  module _ (u v : ℤ) (e : ℕ) (q : r ≡ Between u v e) where
+    pub kind-more : (e ≡ length b → ⊥) → Answers (refused Why.IllegalTree) o x y → Answers (endsOn width l w k b) o x y
+    kind-more m a = let (g, f, h) = says-between b (readSpread width l (figureOf w) 64 k b) r er u v e q in more (g .plan) e (g .is) (g .inside) m a
 
-    -- v is what the machine reads of the score
-    pub kind-scored : e ≡ length b → (v : ℤ) → v ≡ u → Answers (value v) o x → Answers (scoreOn l w k b) o x
-    unfolding scoreOf
-    kind-scored n v ev a =
-        let (g, f) = says-scored b (figureOf w) (Meant.read Meant.tree l [] 64 k b) r er u e q in
-        let given : scoreOf w (g .code) ≡ value u = rw (g .fits, f) refl in
-        answers-same (ap value ev ∙ (sym given ∙ whole l w k b (g .code) e (g .is) n)) a
+    -- u' and v' are what the machine reads of the ends
+    pub kind-ends : e ≡ length b → (u' v' : ℤ) → u' ≡ u → v' ≡ v → Answers (value (spread u' v' true)) o x y → Answers (endsOn width l w k b) o x y
+    kind-ends n u' v' eu ev a =
+        let (g, f, h) = says-between b (readSpread width l (figureOf w) 64 k b) r er u v e q in
+        let same : spread u' v' true ≡ g .plan = λ i. spread ((eu ∙ sym f) i) ((ev ∙ sym h) i) (sym (g .fits) i) in
+        let given : wholeSpread (done (g .plan) []) ≡ value (g .plan) = rw (g .fits) refl in
+        answers-same (ap value same ∙ (sym given ∙ whole width l w k b (g .plan) e (g .is) n)) a
 
   module _ (e : ℕ) (q : r ≡ Outside e) where
-    pub kind-out-more : (e ≡ length b → ⊥) → Answers (refused Why.IllegalTree) o x → Answers (scoreOn l w k b) o x
-    kind-out-more m a = let g = says-outside b (figureOf w) (Meant.read Meant.tree l [] 64 k b) r er e q in more (g .code) e (g .is) (g .inside) m a
+    pub kind-out-more : (e ≡ length b → ⊥) → Answers (refused Why.IllegalTree) o x y → Answers (endsOn width l w k b) o x y
+    kind-out-more m a = let g = says-outside b (readSpread width l (figureOf w) 64 k b) r er e q in more (g .plan) e (g .is) (g .inside) m a
 
-    pub kind-out : e ≡ length b → Answers (refused Why.ScoreOutOfRange) o x → Answers (scoreOn l w k b) o x
-    unfolding scoreOf
+    pub kind-out : e ≡ length b → Answers (refused Why.ScoreOutOfRange) o x y → Answers (endsOn width l w k b) o x y
     kind-out n a =
-        let g = says-outside b (figureOf w) (Meant.read Meant.tree l [] 64 k b) r er e q in
-        let given : scoreOf w (g .code) ≡ refused Why.ScoreOutOfRange = rw (g .fits) refl in
-        answers-same (sym given ∙ whole l w k b (g .code) e (g .is) n) a
+        let g = says-outside b (readSpread width l (figureOf w) 64 k b) r er e q in
+        let given : wholeSpread (done (g .plan) []) ≡ refused Why.ScoreOutOfRange = rw (g .fits) refl in
+        answers-same (sym given ∙ whole width l w k b (g .plan) e (g .is) n) a
 
 -- prepare
 pub refused-is : {A : Type 0} (m : Result A) {r : Reason} → checked m ≡ Refused r → m ≡ refused r
@@ -216,11 +219,6 @@ module _ (s : List ℕ) (root : ℕ) (t : List ℕ) where
         unfolding groundOf tableOf
         on-table = rw (a .is, there .1) refl
 
-        pub root-past : 31 < root → Refused Why.UnknownRoot ≡ checked (groundOf s root t)
-        root-past p = by-test (isIn (a .language) root)
-            (λ j. let m = in-below s root (a .language) (a .entries) j in absurd (omega arith))
-            (λ j. rw (on-table, j) refl)
-
         module _ {y : Bool} (ey : y ≡ isIn (a .language) root) where
           pub root-out : y ≡ false → Refused Why.UnknownRoot ≡ checked (groundOf s root t)
           root-out j = rw (on-table, sym ey ∙ j) refl
@@ -232,14 +230,14 @@ module _ (s : List ℕ) (root : ℕ) (t : List ℕ) where
             pub ground-accepted : Accepted 0 ≡ checked (groundOf s root t)
             ground-accepted = rw ground-is refl
 
-            pub ground-held : (fig : List ℤ) → ((l : Language) (w : Table) → entriesOf s ≡ some l → loadsOf l (fieldsOf t) ≡ some w → Kept fig s w) → root < 32
+            pub ground-held : (fig : List ℤ) → ((l : Language) (w : Table) → entriesOf s ≡ some l → loadsOf l (fieldsOf t) ≡ some w → Kept fig s w)
                 → (g : Ground) → groundOf s root t ≡ value g → Prepared s fig root g
-            ground-held fig f small g e =
+            ground-held fig f g e =
                 let d : value (ground (a .language) (there .0)) ≡ value g = sym ground-is ∙ e in
                 let same : ground (a .language) (there .0) ≡ g = cc in
                 rw (← same) (record {
                   held = record { entries = a .entries; apart = good .apart; short = a .short; kept = f (a .language) (there .0) (a .entries) (there .1) };
-                  kind = small;
+                  kind = in-below s root (a .language) (a .entries) (sym ey ∙ j);
                 })
 
 -- The chain of an operation on a tree, by what was prepared.
@@ -274,21 +272,51 @@ ground-there s root t e h = go (groundOf s root t) (sym e ∙ h)
     go (value g) q = (g, refl)
     go {n} (refused r) q = refused-not {n = n} {r = r} q
 
+-- score_plan
+module _ (width : ℕ) (s : List ℕ) (root : ℕ) (b t : List ℕ) {o : Outcome} {x y : ℤ} where
+  pub ground-refused : {p : Outcome} {r : Reason} → p ≡ checked (groundOf s root t) → p ≡ Refused r → Answers (refused r) o x y → Answers (planEnds width s root b t) o x y
+  unfolding planEnds
+  ground-refused e h a = let d = refused-is (groundOf s root t) (sym e ∙ h) in answers-same (rw d refl) a
+
+  pub ground-scored : (g : Ground) → groundOf s root t ≡ value g → Answers (endsOn width (g .language) (g .table) root b) o x y → Answers (planEnds width s root b t) o x y
+  unfolding planEnds
+  ground-scored g e a = answers-same (rw e refl) a
+
 -- score
+scored-one : (l : Language) (w : Table) (k : ℕ) (b : List ℕ) → (wholeTree (Meant.read Meant.tree l [] 64 k b) >>= λ u. scoreOf w u) ≡ (endsOn 2 l w k b >>= λ e. value (e .least))
+unfolding endsOn scoreOf
+scored-one l w k b = go (Meant.read Meant.tree l [] 64 k b) ∙ ap (λ (o : Read Spread). wholeSpread o >>= λ e. value (e .least)) (sym (fixed-reads l (figureOf w) 64 k b))
+  where
+    tested : (c : Bool) (z : ℤ) → refuseIf (not c) Why.ScoreOutOfRange (value z) ≡ (refuseIf (not c) Why.ScoreOutOfRange (value (spread z z c)) >>= λ e. value (e .least))
+    tested true z = refl
+    tested false z = refl
+
+    go : (o : Read Terms.Code) → (wholeTree o >>= λ u. scoreOf w u) ≡ (wholeSpread (measured (fixedSpread (figureOf w)) o) >>= λ e. value (e .least))
+    go (done u []) = tested (passes isScore (figureOf w) u 0) (form (figureOf w) u 0)
+    go (done u (c ∷ r)) = refl
+    go deep = refl
+    go broken = refl
+
 module _ (s : List ℕ) (root : ℕ) (b t : List ℕ) where
-  answer-is : {a : Result ℤ} {o : Outcome} {z : ℤ} → Answers a o z → a ≡ scoreBytes s root b t → (o ≡ scoreTree s root b t .outcome) × (z ≡ scoreTree s root b t .score)
+  score-chain : scoreBytes s root b t ≡ (planEnds 2 s root b t >>= λ e. value (e .least))
+  unfolding scoreBytes treeOf planEnds
+  score-chain = by-ground s root t (λ l. wholeTree (Meant.read Meant.tree l [] 64 root b)) (λ w u. scoreOf w u) ∙ go (groundOf s root t)
+    where
+      go : (m : Result Ground) → (m >>= λ g. wholeTree (Meant.read Meant.tree (g .language) [] 64 root b) >>= λ u. scoreOf (g .table) u)
+          ≡ ((m >>= λ g. endsOn 2 (g .language) (g .table) root b) >>= λ e. value (e .least))
+      go (value g) = scored-one (g .language) (g .table) root b
+      go (refused r) = refl
+
+  pub score-is : {o : Outcome} {x y : ℤ} → Answers (planEnds 2 s root b t) o x y → (z : ℤ) → z ≡ x → (o ≡ scoreTree s root b t .outcome) × (z ≡ scoreTree s root b t .score)
   unfolding scoreTree
-  answer-is h e = (h .answer ∙ ap checked e, h .given ∙ ap scoreIn e)
+  score-is a z ez =
+      let e = score-chain in
+      (a .answer ∙ (kept (planEnds 2 s root b t) ∙ ap checked (sym e)), ez ∙ (a .low ∙ (given (planEnds 2 s root b t) ∙ ap scoreIn (sym e))))
+    where
+      kept : (m : Result Spread) → checked m ≡ checked (m >>= λ e. value (e .least))
+      kept (value e) = refl
+      kept (refused r) = refl
 
-  chain : scoreBytes s root b t ≡ (groundOf s root t >>= λ g. scoreOn (g .language) (g .table) root b)
-  unfolding scoreBytes treeOf scoreOn
-  chain = by-ground s root t (λ l. wholeTree (Meant.read Meant.tree l [] 64 root b)) (λ w u. scoreOf w u)
-
-  pub ground-refused : {o p : Outcome} {r : Reason} {z : ℤ} → p ≡ checked (groundOf s root t) → p ≡ Refused r → Answers (refused r) o z
-      → (o ≡ scoreTree s root b t .outcome) × (z ≡ scoreTree s root b t .score)
-  ground-refused e h a = let d = refused-is (groundOf s root t) (sym e ∙ h) in answer-is a (sym (chain ∙ ap (λ (m : Result Ground). m >>= λ g. scoreOn (g .language) (g .table) root b) d))
-
-  pub ground-scored : {o : Outcome} {z : ℤ} (g : Ground) → groundOf s root t ≡ value g → Answers (scoreOn (g .language) (g .table) root b) o z
-      → (o ≡ scoreTree s root b t .outcome) × (z ≡ scoreTree s root b t .score)
-  ground-scored g e a =
-      answer-is a (sym (chain ∙ ap (λ (m : Result Ground). m >>= λ g. scoreOn (g .language) (g .table) root b) e))
+      given : (m : Result Spread) → spreadIn m .least ≡ scoreIn (m >>= λ e. value (e .least))
+      given (value e) = refl
+      given (refused r) = refl

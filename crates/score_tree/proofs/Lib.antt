@@ -8,4 +8,5 @@ pub mod Answering
 pub mod Ring
 pub mod Weighing
 pub mod Rows
-pub mod Trees
+pub mod Plans
+pub mod Fixed

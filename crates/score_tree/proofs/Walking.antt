@@ -121,10 +121,10 @@ module _ {s index : List ℕ} {fig : List ℤ} {place : ℕ} {b : List ℕ} {at 
   figure-near i = factor-near fig i (a .world .small)
 
   -- z is what the code puts for the constant f
-  pub walk-begin : (count n : ℕ) → n ≡ pairAt s place → (z f : ℤ) → z ≡ f → f ≡ toZ w32 (ofZ w32 (getD fig (place + 3) (pos 0)))
+  begun : (count n : ℕ) → n ≡ pairAt s place → (z f : ℤ) → z ≡ f → f ≡ toZ w32 (ofZ w32 (getD fig (place + 3) (pos 0)))
       → Walking s fig b l given w (node k p ts) ts (place + 2 + n) (at + length (allBytes ts)) left count (set (replicate 9 (pos 0)) 0 z) (place + 4) at
   unfolding form
-  walk-begin count n en z f ez ef =
+  begun count n en z f ez ef =
       let more : (j : ℕ) → weigh w fig (place + 4) ts j ≡ formAll w (λ i. w k p (suc i)) ts j = λ j. weigh-is (a .typed) w fig (λ i. w k p (suc i)) (place + 4) j
       (λ i h. let d : place + 4 + i ≡ place + 3 + suc i = omega arith in ap (λ (m : ℕ). getD fig m (pos 0)) d ∙ a .production .figures-are (suc i) (omega arith)) in
       let here : place + 3 ≡ place + 3 + 0 = omega arith in
@@ -150,6 +150,11 @@ module _ {s index : List ℕ} {fig : List ℤ} {place : ℕ} {b : List ℕ} {at 
             ∙ ap (λ (v : ℤ). constant (w k p 0) j +ℤ v) (more j);
         pass = λ j h. refl;
       }
+
+  -- Its operands stand from q up to stop.
+  pub walk-begin : (count stop q : ℕ) → stop ≡ place + 2 + pairAt s place → q ≡ place + 4 → (z f : ℤ) → z ≡ f → f ≡ toZ w32 (ofZ w32 (getD fig (place + 3) (pos 0)))
+      → Walking s fig b l given w (node k p ts) ts stop (at + length (allBytes ts)) left count (set (replicate 9 (pos 0)) 0 z) q at
+  walk-begin count stop q es eq z f ez ef = rw (es, eq) (begun count (pairAt s place) refl z f ez ef)
 
   module _ {stop end count : ℕ} {row : List ℤ} {q to : ℕ} (v : Walking s fig b l given w (node k p ts) ts stop end left count row q to) where
     pub row-asked : {factor : ℤ} {sum : List ℤ} → Asked factor count sum → (f : ℤ) → natAbs f ≤ 32768 → Asked f count row

@@ -1,37 +1,42 @@
 -- A sum of scores by their factors, from the last to the first, and scores that are kept one by one before they are added.
 use Prim.Native.Nat.{ℕ, zero, suc, _+_, _*_, _-_, _<_, _≤_}
 use mathlib.Core.Path.{_≡_, refl, sym, ap, _∙_}
-use mathlib.Core.List.{List, [], _∷_, _++_}
+use mathlib.Core.Bool.{Bool, true, false, cond}
+use mathlib.Core.List.{List}
 use native.Mathlib.Omega.{arith}
-use native.Mathlib.Numerals.{add-one}
-use lib.ListN.{length, getD, take, drop, set, length-take, replicate, getD-replicate, List·getD-eq-default, length-replicate}
-use lib.Seq.{drop-cons, drop-length, take-suc-set, length-take-le, getD-set-same, getD-set-other, getD-take}
+use lib.ListN.{length, getD, set, replicate, getD-replicate, List·getD-eq-default, length-replicate}
+use lib.Seq.{getD-set-same, getD-set-other}
 use lib.Dec.{eqb, ltb}
-use lib.IntN.{ℤ, pos, natAbs, _+ℤ_, _*ℤ_, +ℤ-idl, +ℤ-idr, +ℤ-assoc, +ℤ-comm}
+use lib.IntN.{ℤ, pos, natAbs, _+ℤ_, _*ℤ_, +ℤ-idr, +ℤ-assoc, +ℤ-comm}
+use lib.Signed.{ltZ}
 use mir.Syntax.{w32, w64}
 use mir.Val.{toZ, ofZ}
 use borrow.Author.Tests.{eqb-true, eqb-false, ltb-true, ltb-false}
 use Rattle.format_fields.proofs.Truth.{by-test}
 use Rattle.score_tree.specs.Inner.Kept.{Small}
-use Rattle.score_tree.specs.Inner.Sums.{weighed, AllNear}
+use Rattle.score_tree.specs.Inner.Sums.{turned, weighed, AllNear}
 use Rattle.score_tree.proofs.Integers.{mul-within, add-within, back}
 
-weighed-cons : (fig : List ℤ) (q : ℕ) (x : ℤ) (l : List ℤ) → weighed fig q (x ∷ l) ≡ getD fig q (pos 0) *ℤ x +ℤ weighed fig (q + 1) l
-unfolding weighed
-weighed-cons fig q x l = refl
+-- add_end: f, a' and y' are what the machine reads of the factor g, the sum a and the end y that is taken.
+module _ (f g a a' y y' z r : ℤ) (ef : f ≡ g) (ea : a' ≡ a) (ey : y' ≡ y) (e : r ≡ a' +ℤ f *ℤ y') where
+  sum-by : (t : ℤ) → t ≡ y → r ≡ a +ℤ g *ℤ t
+  sum-by t q = e ∙ λ i. ea i +ℤ ef i *ℤ (ey ∙ sym q) i
 
-pub weighed-nil : (fig : List ℤ) (q : ℕ) → weighed fig q [] ≡ pos 0
-unfolding weighed
-weighed-nil fig q = refl
+  pub other-taken : ltZ f (pos 0) ≡ true → r ≡ a +ℤ g *ℤ turned g z y
+  unfolding turned
+  other-taken q = let h : ltZ g (pos 0) ≡ true = ap (λ (k : ℤ). ltZ k (pos 0)) (sym ef) ∙ q in sum-by (turned g z y) (rw h refl)
 
--- The scores from i on: one, and those from i + 1 on.
-weighed-from : (fig : List ℤ) (q : ℕ) (l : List ℤ) (i : ℕ) → i < length l
-    → weighed fig (q + i) (drop i l) ≡ getD fig (q + i) (pos 0) *ℤ getD l i (pos 0) +ℤ weighed fig (q + (i + 1)) (drop (i + 1) l)
-weighed-from fig q l i h =
-    let d : drop i l ≡ getD l i (pos 0) ∷ drop (i + 1) l = rw (add-one, drop-cons l i (pos 0)) in
-    let e : q + i + 1 ≡ q + (i + 1) = omega arith in
-    ap (weighed fig (q + i)) d
-    ∙ (weighed-cons fig (q + i) (getD l i (pos 0)) (drop (i + 1) l) ∙ ap (λ (k : ℕ). getD fig (q + i) (pos 0) *ℤ getD l i (pos 0) +ℤ weighed fig k (drop (i + 1) l)) e)
+  pub same-taken : ltZ f (pos 0) ≡ false → r ≡ a +ℤ g *ℤ turned g y z
+  unfolding turned
+  same-taken q = let h : ltZ g (pos 0) ≡ false = ap (λ (k : ℤ). ltZ k (pos 0)) (sym ef) ∙ q in sum-by (turned g y z) (rw h refl)
+
+turned-near : (f x y : ℤ) → natAbs x ≤ 1000000000 → natAbs y ≤ 1000000000 → natAbs (turned f x y) ≤ 1000000000
+unfolding turned
+turned-near f x y h k = go (ltZ f (pos 0))
+  where
+    go : (c : Bool) → natAbs (cond c y x) ≤ 1000000000
+    go true = k
+    go false = h
 
 -- A score and a factor, as the machine reads them.
 pub elem-back : (l : List ℤ) (i : ℕ) → AllNear l → toZ w64 (ofZ w64 (getD l i (pos 0))) ≡ getD l i (pos 0)
@@ -50,80 +55,64 @@ pub factor-near : (fig : List ℤ) (i : ℕ) → Small fig → natAbs (toZ w32 (
 unfolding Small
 factor-near fig i n = rw (factor-back fig i n) (n i)
 
--- Where the loop of `weigh` stands: the scores from i on are added.
-pub record Down (c : ℤ) (fig : List ℤ) (q : ℕ) (l : List ℤ) (total i : ℕ) : Type 0 where
-  pub inside : i ≤ length l
-  pub near : natAbs (toZ w64 total) ≤ 32768 + (length l - i) * 32768000000000
-  pub is : toZ w64 total ≡ c +ℤ weighed fig (q + i) (drop i l)
+-- Where the loop of `weigh` stands at an end: the scores from i on are added.
+pub record Down (c : ℤ) (fig : List ℤ) (q : ℕ) (same other : List ℤ) (count total i : ℕ) : Type 0 where
+  pub inside : i ≤ count
+  pub near : natAbs (toZ w64 total) ≤ 32768 + (count - i) * 32768000000000
+  pub is : toZ w64 total ≡ c +ℤ weighed fig q same other i (count - i)
 
-pub down-begin : (c : ℤ) (fig : List ℤ) (q : ℕ) (l : List ℤ) (total : ℕ) → toZ w64 total ≡ c → natAbs c ≤ 32768 → Down c fig q l total (length l)
-down-begin c fig q l total e h =
-    let d : drop (length l) l ≡ [] = drop-length l in
-    let z : weighed fig (q + length l) (drop (length l) l) ≡ pos 0 = ap (weighed fig (q + length l)) d ∙ weighed-nil fig (q + length l) in
+pub down-begin : (c : ℤ) (fig : List ℤ) (q : ℕ) (same other : List ℤ) (count total : ℕ) → toZ w64 total ≡ c → natAbs c ≤ 32768
+    → Down c fig q same other count total count
+unfolding weighed
+down-begin c fig q same other count total e h =
+    let d : count - count ≡ 0 = omega arith in
     record {
       inside = omega arith;
       near = rw e (omega arith);
-      is = e ∙ (sym (+ℤ-idr c) ∙ ap (λ (v : ℤ). c +ℤ v) (sym z));
+      is = e ∙ (sym (+ℤ-idr c) ∙ ap (λ (n : ℕ). c +ℤ weighed fig q same other count n) (sym d));
     }
 
-module _ {c : ℤ} {fig : List ℤ} {q : ℕ} {l : List ℤ} {total i : ℕ} (v : Down c fig q l total i) where
-  pub down-small : length l ≤ 8 → natAbs (toZ w64 total) ≤ 40000000000000000
+module _ {c : ℤ} {fig : List ℤ} {q : ℕ} {same other : List ℤ} {count total i : ℕ} (v : Down c fig q same other count total i) where
+  pub down-small : count ≤ 8 → natAbs (toZ w64 total) ≤ 40000000000000000
   down-small k = omega (arith, v .near)
 
-  -- The next score is added: f and x are what the machine reads of the factor and the score.
-  pub down-next : 0 < i → Small fig → AllNear l → (f x : ℤ) (next : ℕ)
-      → f ≡ getD fig (q + (i - 1)) (pos 0) → x ≡ getD l (i - 1) (pos 0) → toZ w64 next ≡ toZ w64 total +ℤ f *ℤ x → Down c fig q l next (i - 1)
-  unfolding Small AllNear
-  down-next h small near f x next ef ex en =
+  -- The next score is added: f, x and y are what the machine reads of the factor and the two ends of the operand.
+  pub down-next : 0 < i → Small fig → AllNear same → AllNear other → (f x y : ℤ) (next : ℕ)
+      → f ≡ getD fig (q + (i - 1)) (pos 0) → x ≡ getD same (i - 1) (pos 0) → y ≡ getD other (i - 1) (pos 0)
+      → toZ w64 next ≡ toZ w64 total +ℤ f *ℤ turned f x y → Down c fig q same other count next (i - 1)
+  unfolding Small AllNear weighed
+  down-next h small near far f x y next ef ex ey en =
       let m = v .inside in
       let g = getD fig (q + (i - 1)) (pos 0) in
-      let y = getD l (i - 1) (pos 0) in
-      let r = weighed fig (q + i) (drop i l) in
+      let t = turned g (getD same (i - 1) (pos 0)) (getD other (i - 1) (pos 0)) in
+      let r = weighed fig q same other i (count - i) in
       let j : i - 1 + 1 ≡ i = omega arith in
-      let product : f *ℤ x ≡ g *ℤ y = ap (λ (k : ℤ). k *ℤ x) ef ∙ ap (λ (k : ℤ). g *ℤ k) ex in
-      let one : weighed fig (q + (i - 1)) (drop (i - 1) l) ≡ g *ℤ y +ℤ r =
-      weighed-from fig q l (i - 1) (omega arith) ∙ ap (λ (k : ℕ). g *ℤ y +ℤ weighed fig (q + k) (drop k l)) j in
-      let bound : natAbs (toZ w64 total +ℤ f *ℤ x) ≤ 32768 + (length l - i) * 32768000000000 + 32768000000000 =
-      add-within (toZ w64 total) (f *ℤ x) _ 32768000000000 (v .near) (mul-within f x 32768 1000000000 (rw ef (small (q + (i - 1)))) (rw ex (near (i - 1)))) in
+      let n : count - (i - 1) ≡ suc (count - i) = omega arith in
+      let end : turned f x y ≡ t = λ k. turned (ef k) (ex k) (ey k) in
+      let product : f *ℤ turned f x y ≡ g *ℤ t = λ k. ef k *ℤ end k in
+      let one : weighed fig q same other (i - 1) (count - (i - 1)) ≡ g *ℤ t +ℤ r =
+      ap (weighed fig q same other (i - 1)) n ∙ ap (λ (k : ℕ). g *ℤ t +ℤ weighed fig q same other k (count - i)) j in
+      let bound : natAbs (toZ w64 total +ℤ g *ℤ t) ≤ 32768 + (count - i) * 32768000000000 + 32768000000000 =
+      add-within (toZ w64 total) (g *ℤ t) _ 32768000000000 (v .near) (mul-within g t 32768 1000000000 (small (q + (i - 1))) (turned-near g _ _ (near (i - 1)) (far (i - 1)))) in
+      let sum : toZ w64 next ≡ toZ w64 total +ℤ g *ℤ t = en ∙ ap (λ (k : ℤ). toZ w64 total +ℤ k) product in
       record {
         inside = omega arith;
-        near = rw en (omega (arith, bound));
+        near = rw sum (omega (arith, bound));
         is =
-            en
-            ∙ (ap (λ (k : ℤ). k +ℤ f *ℤ x) (v .is)
-            ∙ (ap (λ (k : ℤ). c +ℤ r +ℤ k) product
-            ∙ (+ℤ-assoc c r (g *ℤ y) ∙ (ap (λ (k : ℤ). c +ℤ k) (+ℤ-comm r (g *ℤ y)) ∙ ap (λ (k : ℤ). c +ℤ k) (sym one)))));
+            sum
+            ∙ (ap (λ (k : ℤ). k +ℤ g *ℤ t) (v .is)
+            ∙ (+ℤ-assoc c r (g *ℤ t) ∙ (ap (λ (k : ℤ). c +ℤ k) (+ℤ-comm r (g *ℤ t)) ∙ ap (λ (k : ℤ). c +ℤ k) (sym one))));
       }
 
-  pub down-end : i ≤ 0 → (d : ℤ) → c ≡ d → toZ w64 total ≡ d +ℤ weighed fig q l
+  pub down-end : i ≤ 0 → (d : ℤ) → c ≡ d → toZ w64 total ≡ d +ℤ weighed fig q same other 0 count
   down-end h d e =
       let z : i ≡ 0 = omega arith in
-      let o : q + 0 ≡ q = omega arith in
-      v .is ∙ (ap (λ (j : ℕ). c +ℤ weighed fig (q + j) (drop j l)) z ∙ (ap (λ (j : ℕ). c +ℤ weighed fig j l) o ∙ ap (λ (y : ℤ). y +ℤ weighed fig q l) e))
+      let n : count - 0 ≡ count = omega arith in
+      v .is
+      ∙ (ap (λ (j : ℕ). c +ℤ weighed fig q same other j (count - j)) z
+      ∙ (ap (λ (m : ℕ). c +ℤ weighed fig q same other 0 m) n ∙ ap (λ (y : ℤ). y +ℤ weighed fig q same other 0 count) e))
 
--- Scores that are kept one by one.
-weighed-snoc : (fig : List ℤ) (q : ℕ) (l : List ℤ) (x : ℤ) → weighed fig q (l ++ (x ∷ [])) ≡ weighed fig q l +ℤ getD fig (q + length l) (pos 0) *ℤ x
-weighed-snoc fig q [] x =
-    let e : q ≡ q + 0 = omega arith in
-    weighed-cons fig q x []
-    ∙ (ap (λ (z : ℤ). getD fig q (pos 0) *ℤ x +ℤ z) (weighed-nil fig (q + 1))
-    ∙ (+ℤ-comm (getD fig q (pos 0) *ℤ x) (pos 0)
-    ∙ (ap (λ (k : ℕ). pos 0 +ℤ getD fig k (pos 0) *ℤ x) e ∙ ap (λ (z : ℤ). z +ℤ getD fig (q + 0) (pos 0) *ℤ x) (sym (weighed-nil fig q)))))
-weighed-snoc fig q (y ∷ l) x =
-    let e : q + 1 + length l ≡ q + suc (length l) = omega arith in
-    weighed-cons fig q y (l ++ (x ∷ []))
-    ∙ (ap (λ (z : ℤ). getD fig q (pos 0) *ℤ y +ℤ z) (weighed-snoc fig (q + 1) l x ∙ ap (λ (k : ℕ). weighed fig (q + 1) l +ℤ getD fig k (pos 0) *ℤ x) e)
-    ∙ (sym (+ℤ-assoc (getD fig q (pos 0) *ℤ y) (weighed fig (q + 1) l) (getD fig (q + suc (length l)) (pos 0) *ℤ x))
-    ∙ ap (λ (z : ℤ). z +ℤ getD fig (q + suc (length l)) (pos 0) *ℤ x) (sym (weighed-cons fig q y l))))
-
-pub weighed-kept : (fig : List ℤ) (q : ℕ) (l : List ℤ) (i : ℕ) (x : ℤ) → i < length l
-    → weighed fig q (take (i + 1) (set l i x)) ≡ weighed fig q (take i l) +ℤ getD fig (q + i) (pos 0) *ℤ x
-weighed-kept fig q l i x h =
-    let e : take (i + 1) (set l i x) ≡ take i l ++ (x ∷ []) = rw add-one (take-suc-set l i x h) in
-    let n : length (take i l) ≡ i = length-take-le i l (omega arith) in
-    ap (weighed fig q) e ∙ (weighed-snoc fig q (take i l) x ∙ ap (λ (k : ℕ). weighed fig q (take i l) +ℤ getD fig (q + k) (pos 0) *ℤ x) n)
-
--- All scores are near: in an array of zeros, after a store, in a first part.
+-- All scores are near: in an array of zeros, after a store.
 pub zeros-near : (n : ℕ) → AllNear (replicate n (pos 0))
 unfolding AllNear
 zeros-near n i = by-test (ltb i n)
@@ -135,9 +124,3 @@ unfolding AllNear
 store-near l i x h n b j = by-test (eqb j i)
     (λ q. let e = eqb-true j i q in rw (e, getD-set-same l i x (pos 0) h) b)
     (λ q. rw (getD-set-other l i j x (pos 0) (eqb-false j i q)) (n j))
-
-pub part-near : (l : List ℤ) (k : ℕ) → AllNear l → AllNear (take k l)
-unfolding AllNear
-part-near l k n j = by-test (ltb j k)
-    (λ h. rw (getD-take k l j (pos 0) (ltb-true j k h)) (n j))
-    (λ h. rw (List·getD-eq-default (take k l) (pos 0) {n = j} (rw length-take (let m = ltb-false j k h in omega arith))) (omega arith))

@@ -2,5 +2,6 @@
 pub mod Kept
 pub mod Sums
 pub mod Terms
+pub mod Spreads
 pub mod Walks
 pub mod Answering

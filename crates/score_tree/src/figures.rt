@@ -7,7 +7,16 @@ ghost use lib.ListN.{length};
 ghost use lib.IntN.{pos, natAbs, _+ℤ_, _*ℤ_};
 ghost use Rattle.score_tree.specs.Figures.{signed, figureAt, isFigure, isScore, unsigned};
 ghost use Rattle.score_tree.specs.Inner.Kept.{Small};
-ghost use Rattle.score_tree.specs.Inner.Sums.{weighed, AllNear};
+ghost use Rattle.score_tree.specs.Inner.Sums.{turned, weighed, AllNear};
+
+// The most arguments that a production has.
+pub const ARGUMENTS: usize = 8;
+
+// The least and the greatest score.
+pub struct Ends {
+    pub least: i64,
+    pub greatest: i64,
+}
 
 // Two's complement of two bytes.
 fn decode(n: usize) -> i32
@@ -82,17 +91,42 @@ pub fn add_scaled(sum: i64, factor: i32, score: i64) -> i64
     sum + wide(factor) * score
 }
 
-// A constant and each factor times its score, added from the last to the first: the one sum of plans, fixed and loose, and of
-// codes. The factors stand in the figures from a position on.
-pub fn weigh(constant: i64, figures: &[i32], from: usize, scores: &[i64]) -> i64
-    requires { ⌜ (natAbs constant ≤ 32768) × (from + length (now scores) ≤ length (now figures)) × (length (now figures) ≡ 1024) × (length (now scores) ≤ 8) × Small (now figures) × AllNear (now scores) ⌝ }
-    ensures { λ r. ⌜ r ≡ constant +ℤ weighed (now (figures .entry)) from (now (scores .entry)) ⌝ }
+// A sum and a factor times an end of an operand: a factor below 0 takes the other end.
+fn add_end(sum: i64, factor: i32, same: i64, other: i64) -> i64
+    requires { ⌜ (natAbs sum ≤ 40000000000000000) × (natAbs factor ≤ 32768) × (natAbs same ≤ 1000000000) × (natAbs other ≤ 1000000000) ⌝ }
+    ensures { λ r. ⌜ r ≡ sum +ℤ factor *ℤ turned factor same other ⌝ }
 {
-    let mut total = constant;
-    let mut i = scores.len();
+    if factor < 0 {
+        return add_scaled(sum, factor, other);
+    }
+    add_scaled(sum, factor, same)
+}
+
+// A constant and each factor times an end of its operand, added from the last to the first, at both ends: the one sum of plans,
+// fixed and loose. The factors stand in the figures from a position on.
+pub fn weigh(
+    constant: i64,
+    figures: &[i32],
+    from: usize,
+    count: usize,
+    least: &[i64; ARGUMENTS],
+    greatest: &[i64; ARGUMENTS],
+) -> Ends
+    requires { ⌜ (natAbs constant ≤ 32768) × (from + count ≤ length (now figures)) × (length (now figures) ≡ 1024) × (count ≤ 8) × Small (now figures) × AllNear (now least) × AllNear (now greatest) ⌝ }
+    ensures { λ r. ⌜ (r .least ≡ constant +ℤ weighed (now (figures .entry)) from (now (least .entry)) (now (greatest .entry)) 0 count)
+        × (r .greatest ≡ constant +ℤ weighed (now (figures .entry)) from (now (greatest .entry)) (now (least .entry)) 0 count) ⌝ }
+{
+    let mut low = constant;
+    let mut high = constant;
+    let mut i = count;
     while 0 < i {
         i -= 1;
-        total = add_scaled(total, figures[from + i], scores[i]);
+        let factor = figures[from + i];
+        low = add_end(low, factor, least[i], greatest[i]);
+        high = add_end(high, factor, greatest[i], least[i]);
     }
-    total
+    Ends {
+        least: low,
+        greatest: high,
+    }
 }

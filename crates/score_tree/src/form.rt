@@ -7,6 +7,9 @@ use crate::figures::wide;
 use format_fields::bytes::pair_in;
 use format_fields::bytes::to_usize;
 use tree_reader::node::place_at;
+use tree_reader::operands::first_operand;
+use tree_reader::operands::last_operand;
+use tree_reader::operands::production_key;
 ghost use mathlib.Core.Path.{_≡_};
 ghost use mathlib.Core.List.{List};
 ghost use Prim.Native.Nat.{ℕ, _+_, _<_, _≤_};
@@ -17,9 +20,6 @@ ghost use Rattle.tree_reader.specs.Code.{Code, Codes, node};
 ghost use Rattle.tree_reader.specs.Typing.{Uses};
 ghost use Rattle.score_tree.specs.Linear.{Loads};
 ghost use Rattle.score_tree.specs.Inner.Terms.{bytesOf, allBytes, LeafIn, TermAsks, NodeAsks, Asked, AddsLeaf, AddsRow, Adds};
-
-// The most arguments that a production has.
-pub const ARGUMENTS: usize = 8;
 
 // The most places that a form has: a constant, and a factor for each argument.
 pub const PLACES: usize = 9;
@@ -87,7 +87,8 @@ pub fn form_at(
         return Formed::To(add_leaf(bytes, at, factor, count, sum));
     }
     let name = to_usize(bytes[at + 1]);
-    let production = place_at(index, 32 + (to_usize(kind) * 256 + name));
+    let key = production_key(to_usize(kind), name);
+    let production = place_at(index, key);
     form_node(
         language,
         index,
@@ -120,10 +121,10 @@ fn form_node(
     ensures { λ r. ⌜ ((l : Language) (given : Uses) (w : Loads) (k p : ℕ) (ts : Codes) (ks : List ℕ) → NodeAsks (now (language .entry)) (now (index .entry)) (now (figures .entry)) production (now (bytes .entry)) at left l given w k p ts ks
         → Adds w (node k p ts) factor count (now (sum .entry)) (now (sum .exit)) (at + length (allBytes ts)) r) ⌝ }
 {
-    let stop = production + 2 + pair_in(language, production);
+    let stop = last_operand(language, production);
     let mut row = [0i64; PLACES];
     row[0] = wide(figures[production + 3]);
-    let mut q = production + 4;
+    let mut q = first_operand(production);
     let mut to = at;
     while q < stop {
         let Formed::To(e) = form_at(

@@ -1,9 +1,9 @@
 // What a score asks of language, table and root, before the tree is looked at.
 use crate::table::read_table;
+use check_operations::open::is_root;
 use format_language::check::check_language;
 use outcome::Outcome;
 use outcome::Reason;
-use tree_reader::kinds::is_in;
 ghost use mathlib.Core.Path.{_≡_};
 ghost use lib.ListN.{length};
 ghost use Rattle.outcome.specs.Outcome.{value, checked};
@@ -25,10 +25,7 @@ pub fn prepare(language: &[u8], root: u32, table: &[u8], figures: &mut [i32]) ->
     if !read_table(language, table, figures) {
         return Outcome::Refused(Reason::BrokenTable);
     }
-    if 31 < root {
-        return Outcome::Refused(Reason::UnknownRoot);
-    }
-    if !is_in(language, root as u8) {
+    if !is_root(language, root) {
         return Outcome::Refused(Reason::UnknownRoot);
     }
     Outcome::Accepted(0)

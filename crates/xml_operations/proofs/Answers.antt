@@ -1,14 +1,12 @@
--- What export answers: a law for each return of `export_tree`, `export_kind` and `export`.
+-- What export answers: a law for each return of `export_tree` and `export`.
 use Prim.Native.Nat.{ℕ, _+_, _<_, _≤_}
 use mathlib.Core.Path.{_≡_, refl, sym, ap, _∙_}
-use mathlib.Core.Bool.{Bool, true, false, not}
 use mathlib.Core.List.{List, [], _∷_, _++_, append-nil}
-use mathlib.Core.Option.{some}
 use native.Mathlib.Omega.{arith}
 use lib.ListN.{length, drop, drop-of-length-le}
 use lib.Dec.{leb}
 use borrow.Author.Tests.{leb-true, leb-false}
-use Rattle.outcome.specs.Outcome.{Result, value, refused, _>>=_, checked, written, outputAfter}
+use Rattle.outcome.specs.Outcome.{Result, value, refused, _>>=_}
 use Rattle.format_fields.specs.Inner.Writing.{spliced}
 use Rattle.outcome.specs.declared.Outcome.{Outcome}
 use Rattle.outcome.specs.declared.Outcome.the-variants.{Accepted, Refused}
@@ -16,33 +14,24 @@ use Rattle.outcome.specs.declared.Reason.{Reason}
 use Rattle.outcome.specs.declared.Reason.the-variants as Why
 use Rattle.format_fields.proofs.Truth.{by-test}
 use Rattle.format_fields.proofs.Split.{front}
-use Rattle.format_language.specs.Language.{Language, isIn}
-use Rattle.format_language.specs.LanguageFile.{languageOf, entriesOf}
-use Rattle.format_language.specs.Operations.{checkLanguage}
+use Rattle.format_language.specs.Language.{Language}
 use Rattle.tree_reader.specs.Code.{Code, Codes, nil, cons}
 use Rattle.tree_reader.specs.Syntax.{Read, done, deep, broken, andThen, read, readAll, tree}
-use Rattle.tree_reader.specs.Operations.{treeLevels, wholeTree, treeOf}
+use Rattle.tree_reader.specs.Operations.{treeLevels, wholeTree}
 use Rattle.tree_reader.specs.Inner.Index.{Indexed}
-use Rattle.tree_reader.proofs.Members.{in-below}
 use Rattle.format_translation.specs.Operations.{fitted}
-use Rattle.format_translation.proofs.Accepted.{refused-not}
-use Rattle.check_operations.proofs.TreeChain.{accepts}
 use Rattle.check_operations.specs.Inner.Answering.{Gives}
 use Rattle.check_operations.proofs.Reading.{same-done, deep-not, broken-not, then-done}
-use Rattle.check_operations.proofs.Answering.{gives-long, gives-fit}
+use Rattle.check_operations.specs.Inner.Opening.{rootedOf}
+use Rattle.check_operations.proofs.Opening.{rooted-tree-then}
+use Rattle.check_operations.proofs.Answering.{gives-refused, gives-same, gives-long, gives-fit}
 use Rattle.xml_text.specs.Text.{export, exportAll}
 use Rattle.xml_operations.specs.Operations.{exportText, exportTree}
 use Rattle.xml_operations.specs.declared.measure.Measured.{Measured}
 use Rattle.xml_operations.specs.declared.measure.Measured.the-variants.{End, Deep, Broken}
 use Rattle.xml_operations.specs.Inner.Exporting.{TreesAsk, Exported}
 use Rattle.xml_operations.specs.Inner.Measuring.{most, Within, MeasuresTrees}
-use Rattle.xml_operations.specs.Inner.Answering.{GivesTree, GivesExport}
-
-pub gives-refused : (x : Result (List ℕ)) (o : List ℕ) {out : Outcome} (r : Reason) → x ≡ refused r → out ≡ Refused r → Gives x o o out
-gives-refused x o r e h = (h ∙ sym (ap written e), sym (ap (outputAfter o) e))
-
-pub gives-same : (x y : Result (List ℕ)) (o o′ : List ℕ) {out : Outcome} → x ≡ y → Gives y o o′ out → Gives x o o′ out
-gives-same x y o o′ e h = rw e h
+use Rattle.xml_operations.specs.Inner.Answering.{GivesTree}
 
 -- One tree, read as the only one of some.
 module _ (l : Language) (k : ℕ) (b : List ℕ) (levels : ℕ) where
@@ -131,42 +120,21 @@ module _ (s index : List ℕ) (k : ℕ) (b o : List ℕ) {x : Measured} (first :
             gives-same _ _ o o′ (ap (result l k (length o)) (whole l z))
             (gives-fit v o o′ (omega arith) (i ∙ ap Accepted n) (w ∙ ap (spliced o 0) (found l z .2)))
 
--- export_kind
-module _ (s : List ℕ) (k : ℕ) (b o : List ℕ) {x : Bool} (ex : (l : Language) → entriesOf s ≡ some l → x ≡ isIn l k) {out : Outcome} where
-  pub kind-out : x ≡ false → out ≡ Refused Why.UnknownRoot → GivesExport s k b o o out
-  unfolding treeOf
-  kind-out h i l e =
-      let j : isIn l k ≡ false = sym (ex l e) ∙ h in
-      gives-refused (treeOf l k b >>= λ t. fitted (length o) (export l k t)) o Why.UnknownRoot (rw j refl) i
-
-  pub kind-in : (index o′ : List ℕ) → x ≡ true → ((l : Language) → entriesOf s ≡ some l → Indexed index s l) → GivesTree s index k b o o′ out → GivesExport s k b o o′ out
-  unfolding treeOf
-  kind-in index o′ h built g l e =
-      let j : isIn l k ≡ true = sym (ex l e) ∙ h in
-      gives-same (treeOf l k b >>= λ t. fitted (length o) (export l k t)) (result l k (length o) (read tree l [] treeLevels k b)) o o′ (rw j refl) (g l (built l e))
-
 -- export
 -- The outcome and the output are those of the operation.
 abbrev pub AsExport : List ℕ → ℕ → List ℕ → List ℕ → List ℕ → Outcome → Type 0
 AsExport s root b o o′ out = (out ≡ exportTree s root b o .outcome) × (o′ ≡ exportTree s root b o .output)
 
-module _ (s : List ℕ) (root : ℕ) (b o : List ℕ) {c : Outcome} (ec : c ≡ checkLanguage s) {out : Outcome} where
-  module _ {n : ℕ} (accepted : c ≡ Accepted n) where
-    pub export-done : (o′ : List ℕ) → GivesExport s root b o o′ out → AsExport s root b o o′ out
-    unfolding exportTree exportText
-    export-done o′ g = let a = accepts s ec accepted in rw (a .is) (g (a .language) (a .entries))
+module _ (s : List ℕ) (root : ℕ) (b o : List ℕ) where
+  by-root : exportText s root b (length o) ≡ (rootedOf s root >>= λ l. result l root (length o) (read tree l [] treeLevels root b))
+  unfolding exportText
+  by-root = rooted-tree-then s root b (λ l t. fitted (length o) (export l root t))
 
-    pub export-past : 31 < root → out ≡ Refused Why.UnknownRoot → AsExport s root b o o out
-    unfolding treeOf
-    export-past h i =
-        export-done o (λ l e. by-test (isIn l root)
-        (λ j. let b = in-below s root l e j in absurd (omega arith))
-        (λ j. gives-refused (treeOf l root b >>= λ t. fitted (length o) (export l root t)) o Why.UnknownRoot (rw j refl) i))
+  module _ {out : Outcome} where
+    pub export-refused : {r : Reason} → rootedOf s root ≡ refused r → out ≡ Refused r → AsExport s root b o o out
+    unfolding exportTree
+    export-refused {r} e i = gives-refused (exportText s root b (length o)) o r (by-root ∙ rw e refl) i
 
-  pub export-refused : {r : Reason} → c ≡ Refused r → out ≡ Refused r → AsExport s root b o o out
-  unfolding checkLanguage exportTree exportText
-  export-refused {r} h i = go (languageOf s) refl (sym ec ∙ h)
-    where
-      go : (m : Result Language) → languageOf s ≡ m → checked m ≡ Refused r → AsExport s root b o o out
-      go (value l) e g = refused-not {n = 0} {r = r} (sym g)
-      go (refused q) e g = rw e (i ∙ sym g, refl)
+    pub export-done : (l : Language) → rootedOf s root ≡ value l → (index o′ : List ℕ) → Indexed index s l → GivesTree s index root b o o′ out → AsExport s root b o o′ out
+    unfolding exportTree
+    export-done l e index o′ z g = gives-same (exportText s root b (length o)) (result l root (length o) (read tree l [] treeLevels root b)) o o′ (by-root ∙ rw e refl) (g l z)

@@ -14,11 +14,9 @@ use Rattle.format_fields.proofs.Splices.{nothing-spliced}
 use Rattle.format_language.specs.Language.{Language}
 use Rattle.tree_reader.specs.Code.{Code, Codes, nil, cons}
 use Rattle.tree_reader.specs.Syntax.{done, tree, readAll, read}
-use Rattle.tree_reader.specs.Inner.Index.{Sound}
-use Rattle.tree_reader.specs.Inner.Positions.{productionPlace, KindsIn}
+use Rattle.tree_reader.specs.Inner.Positions.{productionPlace}
 use Rattle.tree_reader.specs.declared.node.Syntax.the-variants.{Tree}
-use Rattle.tree_reader.proofs.Laws.{name-in, kinds-in}
-use Rattle.check_operations.proofs.Reading.{ReadToken, ReadNode, read-token, read-deep, read-production, found-name, same-done, then-done}
+use Rattle.check_operations.proofs.Reading.{ReadToken, ReadNode, read-token, read-deep, read-production, at-name, same-done, then-done}
 use Rattle.xml_text.specs.Text.{decimal, nodeTag, tokenTag, openNode, closeNode, openToken, closeToken, export, exportAll}
 use Rattle.xml_operations.specs.Inner.Exporting.{TreeAsks, TreesAsk, Exported}
 use Rattle.xml_text.proofs.Stores.{written-then}
@@ -160,15 +158,6 @@ module _ (s index b : List ℕ) (k at levels : ℕ) (kind : k < 32) (bytes : (i 
           record { left = stands .left; inside = omega (arith, stands .there); put = written-same (sym (token-text l k stands)) u }
 
   module _ (pos : place ≡ 0 → ⊥) where
-    pub at-name : at < length b
-    at-name = found-name s index b k at kind bytes ej ec ep pos .0
-
-    pub at-place : Sound index s → (place + 4 ≤ length s) × (length s ≤ 1024)
-    at-place z = name-in index s z refl kind (bytes at) (found-name s index b k at kind bytes ej ec ep pos .1) pos
-
-    pub at-kinds : {size : ℕ} → Sound index s → size ≡ pairAt s place → KindsIn s (place + 4) (place + 2 + size)
-    at-kinds z e = kinds-in index s z refl kind (bytes at) (found-name s index b k at kind bytes ej ec ep pos .1) pos e
-
     pub level-left : {room n : ℕ} {l : Language} {a : Code} {rest : List ℕ} → TreeAsks s index k b at levels room n l a rest → levels ≡ 0 → ⊥
     level-left {room} {n} {l} {a} {rest} q h = read-deep s index b k at kind bytes ej ec ep l (q .indexed) levels a rest (q .reads) pos h
 
@@ -215,4 +204,4 @@ module _ (s index b : List ℕ) (k at levels : ℕ) (kind : k < 32) (bytes : (i 
         pub none-inside : place + 2 + size ≤ place + 4 → Exported inner b rest o₁ o₁ m (at + 1) m
         none-inside h =
             goes-done s s index (place + 4) (place + 2 + size) b (at + 1) (levels - 1) o₁ m (goes-start s s index (place + 4) (place + 2 + size) b (at + 1) (levels - 1) o₁ m) h
-            (omega (arith, at-name)) l (found .operands) rest operands-ask
+            (omega (arith, at-name s index b k at kind bytes ej ec ep pos)) l (found .operands) rest operands-ask

@@ -5,7 +5,7 @@ use mathlib.Core.Bool.{true, false, not}
 use mathlib.Core.List.{List, [], _∷_, _++_, append-nil}
 use Rattle.outcome.specs.Outcome.{value}
 use Rattle.outcome.specs.declared.Reason.the-variants.{UnknownRoot}
-use Rattle.format_fields.proofs.Codec.{refused-value}
+use Rattle.format_fields.proofs.Codec.{refused-value, value-inj}
 use Rattle.format_language.specs.Language.{Language, isIn}
 use Rattle.format_language.proofs.Codec.{language-good}
 use Rattle.tree_reader.specs.Code.{Code}
@@ -14,24 +14,16 @@ use Rattle.tree_reader.specs.Operations.{treeLevels, wholeTree, treeOf}
 use Rattle.tree_reader.proofs.Larger.{apart}
 use Rattle.tree_reader.proofs.Sound.{read-done}
 use Rattle.format_translation.proofs.Fitting.{refuse-value}
+use Rattle.check_operations.proofs.Legal.{tree-done}
 use Rattle.xml_text.specs.Text.{export}
 use Rattle.xml_text.specs.Import.{readText}
 use Rattle.xml_operations.specs.Operations.{wholeText, importOf}
 use Rattle.xml_operations.specs.Laws.{LawOfExports, LawOfImports, LawOfTexts}
 use Rattle.xml_text.proofs.Round.{round, sound}
 
-value-same : {a b : Code} → value a ≡ value b → a ≡ b
-value-same e = cc
-
 -- What was read whole.
-pub tree-done : (o : Read Code) (t : Code) → wholeTree o ≡ value t → o ≡ done t []
-tree-done (done u []) t e = ap (λ (x : Code). done x []) (value-same e)
-tree-done (done u (b ∷ s)) t e = refused-value e
-tree-done deep t e = refused-value e
-tree-done broken t e = refused-value e
-
 text-done : (o : Read Code) (t : Code) → wholeText o ≡ value t → o ≡ done t []
-text-done (done u []) t e = ap (λ (x : Code). done x []) (value-same e)
+text-done (done u []) t e = ap (λ (x : Code). done x []) (value-inj e)
 text-done (done u (b ∷ s)) t e = refused-value e
 text-done deep t e = refused-value e
 text-done broken t e = refused-value e

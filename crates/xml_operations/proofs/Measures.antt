@@ -3,7 +3,7 @@ use Prim.Native.Nat.{ℕ, _+_, _*_, _-_, _<_, _≤_}
 use mathlib.Core.Path.{_≡_, refl, sym, ap, _∙_}
 use mathlib.Core.Bool.{Bool, true, false, cond}
 use mathlib.Core.List.{List, [], _++_}
-use mathlib.Core.Option.{Option, some}
+use mathlib.Core.Option.{some}
 use native.Mathlib.Omega.{arith}
 use lib.ListN.{length, getD, drop, length-append, length-drop}
 use lib.Seq.{slice}
@@ -11,16 +11,14 @@ use lib.Dec.{leb, eqb}
 use borrow.Author.Tests.{leb-true, leb-false}
 use Rattle.format_fields.specs.Fields.{pairAt}
 use Rattle.format_fields.proofs.Truth.{by-test}
-use Rattle.format_fields.proofs.Split.{front}
-use Rattle.format_language.specs.Language.{Language, Range, argumentsOf, inRange}
+use Rattle.format_language.specs.Language.{Language, Range, inRange}
 use Rattle.format_language.specs.Inner.Entries.{classRange}
 use Rattle.tree_reader.specs.Code.{node, token, Codes}
-use Rattle.tree_reader.specs.Syntax.{Read, done, deep, broken, andThen, tree, readAll, readOperands, readNode, readToken, read}
-use Rattle.tree_reader.specs.Inner.Index.{Sound, Indexed}
-use Rattle.tree_reader.specs.Inner.Positions.{productionPlace, KindsIn}
+use Rattle.tree_reader.specs.Syntax.{Read, done, deep, broken, andThen, tree, readAll, readToken, read}
+use Rattle.tree_reader.specs.Inner.Index.{Indexed}
+use Rattle.tree_reader.specs.Inner.Positions.{productionPlace}
 use Rattle.tree_reader.specs.declared.node.Syntax.the-variants.{Tree}
-use Rattle.tree_reader.proofs.Laws.{name-in, kinds-in}
-use Rattle.check_operations.proofs.Reading.{class-known, class-none, production-known, found-name, two, read-class, read-past, token-cut, level-read, none-read}
+use Rattle.check_operations.proofs.Reading.{class-known, class-none, at-known, at-reads, two, read-class, read-past, token-cut, level-read, none-read}
 use Rattle.xml_text.specs.Text.{nodeTag, tokenTag, openNode, closeNode, openToken, closeToken, decimal, kindsOf, export, exportAll}
 use Rattle.xml_operations.specs.declared.measure.Measured.{Measured}
 use Rattle.xml_operations.specs.declared.measure.Measured.the-variants.{End, Deep, Broken}
@@ -181,29 +179,9 @@ module _ (s index b : List ℕ) (k at levels n : ℕ) (kind : k < 32) (bytes : (
       at-broken p = (within-broken b, λ l z. measures-broken (level-read s index l z k kind b at class-is no levels some-level ∙ none-read s index l z k kind b at class-is no bytes ep p (levels - 1)))
 
       module _ (pos : place ≡ 0 → ⊥) where
-        pub at-name : at < length b
-        at-name = found-name s index b k at kind bytes ej ec ep pos .0
-
-        pub at-place : Sound index s → (place + 4 ≤ length s) × (length s ≤ 1024)
-        at-place z = name-in index s z refl kind (bytes at) (found-name s index b k at kind bytes ej ec ep pos .1) pos
-
-        pub at-kinds : {size : ℕ} → Sound index s → size ≡ pairAt s place → KindsIn s (place + 4) (place + 2 + size)
-        at-kinds z e = kinds-in index s z refl kind (bytes at) (found-name s index b k at kind bytes ej ec ep pos .1) pos e
-
         module _ {size m : ℕ} (es : size ≡ pairAt s place) (tags : Sum n (length (nodeTag openNode k (getD b at 0)) + length (nodeTag closeNode k (getD b at 0))) m) where
           abbrev kinds : List ℕ
           kinds = slice (place + 4) (place + 2 + size) s
-
-          known : (l : Language) → Indexed index s l → argumentsOf l k (getD b at 0) ≡ some kinds
-          known l z = production-known s index l z k kind (getD b at 0) (bytes at) place (found-name s index b k at kind bytes ej ec ep pos .1) pos es
-
-          reads : (l : Language) → Indexed index s l
-              → read tree l [] levels k (drop at b) ≡ (andThen (readAll (read tree l [] (levels - 1)) kinds (drop (at + 1) b)) λ t r. done (node k (getD b at 0) t) r)
-          unfolding readNode readOperands
-          reads l z =
-              level-read s index l z k kind b at class-is no levels some-level
-              ∙ (ap (readNode (read tree l [] (levels - 1)) l k) (front b at at-name)
-              ∙ ap (λ (o : Option (List ℕ)). readOperands (read tree l [] (levels - 1)) k (getD b at 0) o (drop (at + 1) b)) (known l z))
 
           text : (l : Language) → Indexed index s l → (t : Codes)
               → length (nodeTag openNode k (getD b at 0)) + length (nodeTag closeNode k (getD b at 0)) + length (exportAll l kinds t) ≡ length (export l k (node k (getD b at 0) t))
@@ -212,14 +190,14 @@ module _ (s index b : List ℕ) (k at levels n : ℕ) (kind : k < 32) (bytes : (
               let u = nodeTag openNode k (getD b at 0) in
               let w = nodeTag closeNode k (getD b at 0) in
               let v = exportAll l kinds t in
-              let e : export l k (node k (getD b at 0) t) ≡ u ++ (v ++ w) = rw (known l z) refl in
+              let e : export l k (node k (getD b at 0) t) ≡ u ++ (v ++ w) = rw (at-known s index b k at kind bytes ej ec ep pos es l z) refl in
               omega (arith, ap length e, length-append u (v ++ w), length-append v w)
 
           -- What a production adds: its tags, and its operands.
           pub at-opened : (l : Language) → Indexed index s l
               → sizedOf (λ a. length (export l k a)) (read tree l [] levels k (drop at b))
               ≡ add (length (nodeTag openNode k (getD b at 0)) + length (nodeTag closeNode k (getD b at 0))) (rowSized l (levels - 1) s (place + 4) (place + 2 + size) (drop (at + 1) b))
-          at-opened l z = ap (sizedOf (λ a. length (export l k a))) (reads l z) ∙ go (readAll (read tree l [] (levels - 1)) kinds (drop (at + 1) b))
+          at-opened l z = ap (sizedOf (λ a. length (export l k a))) (at-reads s index b k at kind bytes ej ec ep pos es levels some-level l z) ∙ go (readAll (read tree l [] (levels - 1)) kinds (drop (at + 1) b))
             where
               go : (p : Read Codes) → sizedOf (λ a. length (export l k a)) (andThen p λ t r. done (node k (getD b at 0) t) r)
                   ≡ add (length (nodeTag openNode k (getD b at 0)) + length (nodeTag closeNode k (getD b at 0))) (sizedOf (λ t. length (exportAll l kinds t)) p)

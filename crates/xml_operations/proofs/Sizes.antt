@@ -26,7 +26,8 @@ use Rattle.xml_text.proofs.Unwinding.{unwindBy, unwind-stop, unwind-none, unwin
 use Rattle.xml_operations.specs.declared.measure.Measured.{Measured}
 use Rattle.xml_operations.specs.declared.measure.Measured.the-variants.{End, Deep, Broken}
 use Rattle.xml_operations.specs.Inner.Measuring.{Sum, Within, Measures, MeasuresTree, MeasuresTrees}
-use Rattle.xml_operations.proofs.Measures.{Sized, got, too-deep, no-tree, sizedOf, add, rowSized, MeasuresToken, within-deep, within-broken, within-end, measures-deep, measures-broken, measures-end, sum-zero, sum-same, sum-then, at-class, at-deep, at-broken, at-name, at-place, at-kinds, at-opened}
+use Rattle.xml_operations.proofs.Measures.{Sized, got, too-deep, no-tree, sizedOf, add, rowSized, MeasuresToken, within-deep, within-broken, within-end, measures-deep, measures-broken, measures-end, sum-zero, sum-same, sum-then, at-class, at-deep, at-broken, at-opened}
+use Rattle.check_operations.proofs.Reading.{at-name, at-place, at-kinds}
 
 -- One reading behind another.
 abbrev pub thenSized : Sized → (List ℕ → Sized) → Sized
@@ -296,10 +297,10 @@ module _ (s index : List ℕ) (k : ℕ) (b : List ℕ) where
 
               module _ (pos : place ≡ 0 → ⊥) where
                 pub turn-name : to < length b
-                turn-name = at-name s index b i to (treeLevels - d) n open-kind bytes ej ec no levels-left ep pos
+                turn-name = at-name s index b i to open-kind bytes ej ec ep pos
 
                 pub turn-place : Sound index s → (place + 4 ≤ length s) × (length s ≤ 1024)
-                turn-place known = at-place s index b i to (treeLevels - d) n open-kind bytes ej ec no levels-left ep pos known
+                turn-place known = at-place s index b i to open-kind bytes ej ec ep pos known
 
                 module _ {size m : ℕ} (es : size ≡ pairAt s place) (tags : Sum n (length (nodeTag openNode i (getD b to 0)) + length (nodeTag closeNode i (getD b to 0))) m) where
                   abbrev then : Language → ℕ → List ℕ → Sized
@@ -361,7 +362,7 @@ module _ (s index : List ℕ) (k : ℕ) (b : List ℕ) where
                       record {
                         inside = let w = turn-name in omega (arith, w);
                         shallow = omega (arith, o .shallow, some-level);
-                        kinds = rw (below-root k s (d + 1) (λ y. omega arith)) (at-kinds s index b i to (treeLevels - d) n open-kind bytes ej ec no levels-left ep pos known es);
+                        kinds = rw (below-root k s (d + 1) (λ y. omega arith)) (at-kinds s index b i to open-kind bytes ej ec ep pos es known);
                         waiting = waits (known .short);
                         first-long = length-set firsts d (q + 1) ∙ o .first-long;
                         last-long = length-set lasts d e ∙ o .last-long;

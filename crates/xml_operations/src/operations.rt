@@ -2,28 +2,22 @@
 use crate::export::export_all;
 use crate::measure::Measured;
 use crate::measure::measure_all;
-use format_language::check::check_language;
+use check_operations::open::open_language;
 use outcome::Answer;
 use outcome::Outcome;
 use outcome::Reason;
 use outcome::accept;
 use outcome::refuse;
 use tree_reader::index::INDEX;
-use tree_reader::index::build;
-use tree_reader::kinds::is_in;
 use xml_text::contents::has_room;
 use xml_text::contents::write_contents;
 use xml_text::import::Text;
 use xml_text::import::text_at;
 ghost use mathlib.Core.Path.{_≡_};
-ghost use mathlib.Core.Option.{some};
-ghost use Prim.Native.Nat.{_<_, _≤_};
-ghost use lib.ListN.{length};
 ghost use Rattle.format_language.specs.Language.{Language};
-ghost use Rattle.format_language.specs.LanguageFile.{entriesOf};
 ghost use Rattle.tree_reader.specs.Inner.Index.{Ready, Indexed};
 ghost use Rattle.xml_operations.specs.Operations.{exportTree, importTree};
-ghost use Rattle.xml_operations.specs.Inner.Answering.{GivesTree, GivesExport, GivesImport, GivesWhole};
+ghost use Rattle.xml_operations.specs.Inner.Answering.{GivesTree, GivesWhole};
 
 // Trees handed in have at most 64 levels.
 const LEVELS: usize = 64;
@@ -51,33 +45,17 @@ fn export_tree(language: &[u8], index: &[u16], kind: u8, tree: &[u8], output: &m
     }
 }
 
-// The same, of a language that is whole: 14 to 17.
-fn export_kind(language: &[u8], kind: u8, tree: &[u8], output: &mut [u8]) -> Answer
-    requires { ⌜ (length (now language) ≤ 1024) × (kind < 32) × ((l : Language) × (entriesOf (now language) ≡ some l)) ⌝ }
-    ensures { λ r. ⌜ GivesExport (now (language .entry)) kind (now (tree .entry)) (now (output .entry)) (now (output .exit)) (r .outcome) ⌝ }
-{
-    if !is_in(language, kind) {
-        return refuse(Reason::UnknownRoot);
-    }
-    let mut index = [0u16; INDEX];
-    build(language, &mut index);
-    export_tree(language, &index, kind, tree, output)
-}
-
 // Export: 1 to 4 for the language, 14 for the root, 15 and 16 for the tree, 17 where the text is longer than the output.
 pub fn export(language: &[u8], root: u32, tree: &[u8], output: &mut [u8]) -> Answer
     ensures { λ r. ⌜ (r .outcome ≡ exportTree (now (language .entry)) root (now (tree .entry)) (now (output .entry)) .outcome)
         × (now (output .exit) ≡ exportTree (now (language .entry)) root (now (tree .entry)) (now (output .entry)) .output) ⌝ }
 {
-    let answer = check_language(language);
-    let outcome = answer.outcome;
+    let mut index = [0u16; INDEX];
+    let outcome = open_language(language, root, &mut index);
     if let Outcome::Refused(reason) = outcome {
         return refuse(reason);
     }
-    if 31 < root {
-        return refuse(Reason::UnknownRoot);
-    }
-    export_kind(language, root as u8, tree, output)
+    export_tree(language, &index, root as u8, tree, output)
 }
 
 // The tree of a kind whose export the text is: 16 and 20 in reading order, 17 where it is longer than the output.
@@ -100,31 +78,15 @@ fn import_text(language: &[u8], index: &[u16], kind: u8, text: &[u8], output: &m
     }
 }
 
-// The same, of a language that is whole: 14, 16, 17 and 20.
-fn import_kind(language: &[u8], kind: u8, text: &[u8], output: &mut [u8]) -> Answer
-    requires { ⌜ (length (now language) ≤ 1024) × (kind < 32) × ((l : Language) × (entriesOf (now language) ≡ some l)) ⌝ }
-    ensures { λ r. ⌜ GivesImport (now (language .entry)) kind (now (text .entry)) (now (output .entry)) (now (output .exit)) (r .outcome) ⌝ }
-{
-    if !is_in(language, kind) {
-        return refuse(Reason::UnknownRoot);
-    }
-    let mut index = [0u16; INDEX];
-    build(language, &mut index);
-    import_text(language, &index, kind, text, output)
-}
-
 // Import: 1 to 4 for the language, 14 for the root, 16 and 20 in reading order, 17 where the tree is longer than the output.
 pub fn import(language: &[u8], root: u32, text: &[u8], output: &mut [u8]) -> Answer
     ensures { λ r. ⌜ (r .outcome ≡ importTree (now (language .entry)) root (now (text .entry)) (now (output .entry)) .outcome)
         × (now (output .exit) ≡ importTree (now (language .entry)) root (now (text .entry)) (now (output .entry)) .output) ⌝ }
 {
-    let answer = check_language(language);
-    let outcome = answer.outcome;
+    let mut index = [0u16; INDEX];
+    let outcome = open_language(language, root, &mut index);
     if let Outcome::Refused(reason) = outcome {
         return refuse(reason);
     }
-    if 31 < root {
-        return refuse(Reason::UnknownRoot);
-    }
-    import_kind(language, root as u8, text, output)
+    import_text(language, &index, root as u8, text, output)
 }

@@ -1,4 +1,11 @@
 // Tags and tokens, written byte by byte into an output that has room for them.
+use xml_text::tags::END;
+use xml_text::tags::NODE;
+use xml_text::tags::OPEN;
+use xml_text::tags::POINT;
+use xml_text::tags::SLASH;
+use xml_text::tags::TOKEN;
+use xml_text::tags::ZERO;
 ghost use mathlib.Core.Path.{_≡_};
 ghost use mathlib.Core.List.{[], _∷_, _++_};
 ghost use Prim.Native.Nat.{_+_, _*_, _<_, _≤_};
@@ -20,7 +27,7 @@ fn write_digit(digit: usize, out: &mut [u8], n: usize) -> usize
     requires { ⌜ (digit < 10) × (n < length (now out)) ⌝ }
     ensures { λ r. ⌜ Written ((48 + digit) ∷ []) (now (out .entry)) (now (out .exit)) n r ⌝ }
 {
-    out[n] = 48 + digit as u8;
+    out[n] = ZERO + digit as u8;
     n + 1
 }
 
@@ -101,9 +108,9 @@ fn write_name(kind: usize, name: usize, out: &mut [u8], n: usize) -> usize
     ensures { λ r. ⌜ Written (decimal kind ++ (point ++ (decimal name ++ tagEnd))) (now (out .entry)) (now (out .exit)) n r ⌝ }
 {
     let a = write_short(kind, out, n);
-    let b = write_byte(46, out, a);
+    let b = write_byte(POINT, out, a);
     let c = write_small(name, out, b);
-    write_byte(62, out, c)
+    write_byte(END, out, c)
 }
 
 // Writes the opening tag of a production.
@@ -111,8 +118,8 @@ pub fn write_opening(kind: usize, name: usize, out: &mut [u8], n: usize) -> usiz
     requires { ⌜ (kind < 100) × (name < 1000) × (n + (4 + length (decimal kind) + length (decimal name)) ≤ length (now out)) ⌝ }
     ensures { λ r. ⌜ Written (nodeTag openNode kind name) (now (out .entry)) (now (out .exit)) n r ⌝ }
 {
-    let a = write_byte(60, out, n);
-    let b = write_byte(120, out, a);
+    let a = write_byte(OPEN, out, n);
+    let b = write_byte(NODE, out, a);
     write_name(kind, name, out, b)
 }
 
@@ -121,9 +128,9 @@ pub fn write_closing(kind: usize, name: usize, out: &mut [u8], n: usize) -> usiz
     requires { ⌜ (kind < 100) × (name < 1000) × (n + (5 + length (decimal kind) + length (decimal name)) ≤ length (now out)) ⌝ }
     ensures { λ r. ⌜ Written (nodeTag closeNode kind name) (now (out .entry)) (now (out .exit)) n r ⌝ }
 {
-    let a = write_byte(60, out, n);
-    let b = write_byte(47, out, a);
-    let c = write_byte(120, out, b);
+    let a = write_byte(OPEN, out, n);
+    let b = write_byte(SLASH, out, a);
+    let c = write_byte(NODE, out, b);
     write_name(kind, name, out, c)
 }
 
@@ -132,9 +139,9 @@ fn write_kind(kind: usize, out: &mut [u8], n: usize) -> usize
     requires { ⌜ (kind < 100) × (n + length (decimal kind) + 2 ≤ length (now out)) ⌝ }
     ensures { λ r. ⌜ Written (116 ∷ (decimal kind ++ tagEnd)) (now (out .entry)) (now (out .exit)) n r ⌝ }
 {
-    let a = write_byte(116, out, n);
+    let a = write_byte(TOKEN, out, n);
     let b = write_short(kind, out, a);
-    write_byte(62, out, b)
+    write_byte(END, out, b)
 }
 
 // Writes a token with its tags.
@@ -143,10 +150,10 @@ pub fn write_token(kind: usize, value: usize, out: &mut [u8], n: usize) -> usize
         × (n + (7 + 2 * length (decimal kind) + length (decimal value)) ≤ length (now out)) ⌝ }
     ensures { λ r. ⌜ Written (tokenTag openToken kind ++ (decimal value ++ tokenTag closeToken kind)) (now (out .entry)) (now (out .exit)) n r ⌝ }
 {
-    let a = write_byte(60, out, n);
+    let a = write_byte(OPEN, out, n);
     let b = write_kind(kind, out, a);
     let c = write_number(value, out, b);
-    let d = write_byte(60, out, c);
-    let e = write_byte(47, out, d);
+    let d = write_byte(OPEN, out, c);
+    let e = write_byte(SLASH, out, d);
     write_kind(kind, out, e)
 }

@@ -74,13 +74,13 @@ module _ {A : Type 0} {p : Read A} {text : List ℕ} where
   }
 
 -- place_of
-pub place-large : (index : List ℕ) (k p : ℕ) → 255 < p → 0 ≡ placeOf index k p
+pub place-large : (index : List ℕ) (k p : ℕ) → 256 ≤ p → 0 ≡ placeOf index k p
 unfolding placeOf
-place-large index k p h = cc (lt-ltb 255 p h)
+place-large index k p h = let i : 255 < p = omega arith in cc (lt-ltb 255 p i)
 
-pub place-small : (index : List ℕ) (k p : ℕ) {j r : ℕ} → p ≤ 255 → j ≡ k → r ≡ getD index (productionKey j p) 0 → r ≡ placeOf index k p
+pub place-small : (index : List ℕ) (k p : ℕ) {j key r : ℕ} → p < 256 → j ≡ k → key ≡ productionKey j p → r ≡ getD index key 0 → r ≡ placeOf index k p
 unfolding placeOf
-place-small index k p h e f = cc (le-ltb 255 p h)
+place-small index k p h e ek f = let i : p ≤ 255 = omega arith in cc (le-ltb 255 p i)
 
 -- The names of a file's productions are bytes.
 module _ (s : List ℕ) (l : Language) (e : entriesOf s ≡ some l) (bytes : (i : ℕ) → getD s i 0 < 256) where
@@ -175,13 +175,13 @@ module _ (s index text : List ℕ) (k at : ℕ) (kind : k < 32) (bytes : (i : �
       pub element-place : (place + 4 ≤ length s) × (length s ≤ 1024)
       element-place = let f = found-name index k p ep pos in name-in index s known refl kind (f .0) (f .1) pos
 
-      pub element-found : {size : ℕ} → size ≡ pairAt s place → Elements s index k text at (E.Of (place + 4) (place + 2 + size) a)
-      element-found {size} es =
+      pub element-found : {first last : ℕ} → first ≡ place + 4 → last ≡ place + 2 + pairAt s place → Elements s index k text at (E.Of first last a)
+      element-found {first} {last} ef el =
           let f = found-name index k p ep pos in
           record {
             found = λ q e b h.
                 let u : q ≡ place + 4 = cc in
-                let v : e ≡ place + 2 + size = cc in
+                let v : e ≡ place + 2 + pairAt s place = cc in
                 let t : b ≡ a = cc in
                 record {
                   name = p;
@@ -190,8 +190,8 @@ module _ (s index text : List ℕ) (k at : ℕ) (kind : k < 32) (bytes : (i : �
                   is-place = ep;
                   some-place = pos;
                   from = u;
-                  to = v ∙ ap (λ (n : ℕ). place + 2 + n) es;
-                  kinds = rw (u, v) (kinds-in index s known refl kind (f .0) (f .1) pos es);
+                  to = v;
+                  kinds = rw (u, v) (kinds-in index s known refl kind (f .0) (f .1) pos refl);
                 };
             nothing = λ h. not-of (sym h);
           }

@@ -2,6 +2,12 @@
 use crate::scan::Number;
 use crate::scan::number_at;
 use crate::scan::value_at;
+use crate::tags::END;
+use crate::tags::NODE;
+use crate::tags::OPEN;
+use crate::tags::POINT;
+use crate::tags::SLASH;
+use crate::tags::TOKEN;
 use check_operations::put::Step;
 ghost use mathlib.Core.Path.{_≡_};
 ghost use mathlib.Core.Bool.{true};
@@ -14,20 +20,6 @@ ghost use Rattle.xml_text.specs.Inner.Contents.{Contents, bytesIn, Behin
 
 // No tag is shorter than this.
 const SHORTEST: usize = 6;
-
-// The first byte of a tag; and the second of a closing tag, of the opening tag of a production and of that of a token.
-const OPEN: u8 = 60;
-
-const SLASH: u8 = 47;
-
-const NODE: u8 = 120;
-
-const TOKEN: u8 = 116;
-
-// What stands behind the kind and behind the name in the tags of a production.
-const POINT: u8 = 46;
-
-const END: u8 = 62;
 
 // How many bytes of a tree stand in the tag that begins at a position, if one does.
 fn bytes_at(text: &[u8], at: usize) -> usize

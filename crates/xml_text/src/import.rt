@@ -5,9 +5,11 @@ use crate::scan::closing_at;
 use crate::scan::is_token;
 use crate::scan::opening_at;
 use crate::scan::token_at;
-use format_fields::bytes::pair_in;
 use format_fields::bytes::to_usize;
 use tree_reader::node::place_at;
+use tree_reader::operands::NAMES;
+use tree_reader::operands::operands_of;
+use tree_reader::operands::production_key;
 ghost use mathlib.Core.Path.{_≡_};
 ghost use Prim.Native.Nat.{_+_, _-_, _<_, _≤_};
 ghost use lib.ListN.{length, getD};
@@ -37,10 +39,11 @@ fn place_of(index: &[u16], kind: u8, name: usize) -> usize
     requires { ⌜ (indexLength ≤ length (now index)) × (kind < 32) ⌝ }
     ensures { λ r. ⌜ r ≡ placeOf (now (index .entry)) kind name ⌝ }
 {
-    if 255 < name {
+    if NAMES <= name {
         return 0;
     }
-    place_at(index, 32 + (to_usize(kind) * 256 + name))
+    let key = production_key(to_usize(kind), name);
+    place_at(index, key)
 }
 
 // The opening tag of an element of a kind that is no class, and where the kinds of its arguments stand.
@@ -55,7 +58,8 @@ fn element_at(language: &[u8], index: &[u16], kind: u8, text: &[u8], at: usize) 
     if place == 0 {
         return Element::Nothing;
     }
-    Element::Of(place + 4, place + 2 + pair_in(language, place), a)
+    let operands = operands_of(language, place);
+    Element::Of(operands.first, operands.last, a)
 }
 
 // The kind at a position of the row at a depth: the outermost row is the root alone, any other stands in the language.

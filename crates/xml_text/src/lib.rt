@@ -2,3 +2,4 @@
 pub mod contents;
 pub mod import;
 pub mod scan;
+pub mod tags;

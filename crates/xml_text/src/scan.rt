@@ -1,4 +1,11 @@
 // What stands at a position of a text: numbers, tags and tokens.
+use crate::tags::END;
+use crate::tags::NODE;
+use crate::tags::OPEN;
+use crate::tags::POINT;
+use crate::tags::SLASH;
+use crate::tags::TOKEN;
+use crate::tags::ZERO;
 use format_fields::bytes::to_usize;
 use format_language::range::in_range;
 ghost use mathlib.Core.Path.{_≡_};
@@ -8,31 +15,14 @@ ghost use Rattle.format_language.specs.Inner.Entries.{IsClass, classRange};
 ghost use Rattle.xml_text.specs.Import.{isDigit, readWord, readNumber, readOpening, readToken};
 ghost use Rattle.xml_text.specs.Inner.Scanning.{begins, closes, Stands, Numbers, Tokens, TellsToken};
 
-// The digit 0.
-const ZERO: u8 = 48;
-
-// What tags begin with, and what stands behind that in a closing tag, in the opening tag of a production and in that of a token.
-const OPEN: u8 = 60;
-
-const SLASH: u8 = 47;
-
-const NODE: u8 = 120;
-
-const TOKEN: u8 = 116;
-
-// What stands behind a kind and a name.
-const POINT: u8 = 46;
-
-const END: u8 = 62;
-
 // No tag is shorter, with a digit behind it where it is that of a token.
 const SHORTEST: usize = 5;
 
 // The length of a closing tag such as "</x1.4>".
-const USUAL: usize = 7;
+const COMMON_CLOSING: usize = 7;
 
 // No number of an export is above this.
-const MOST: usize = 65535;
+const LARGEST: usize = 65535;
 
 // The position behind what stands there, or that it does not.
 pub enum Place {
@@ -77,7 +67,7 @@ pub fn number_at(text: &[u8], at: usize) -> Number
             return Number::Is(value, to);
         }
         value = value * 10 + (to_usize(text[to]) - 48);
-        if MOST < value {
+        if LARGEST < value {
             return Number::Nothing;
         }
         to += 1;
@@ -104,7 +94,7 @@ pub fn value_at(text: &[u8], at: usize) -> Number
             return Number::Is(value, at + i);
         }
         value = value * 10 + (to_usize(text[at + i]) - 48);
-        if MOST < value {
+        if LARGEST < value {
             return Number::Nothing;
         }
         i += 1;
@@ -173,8 +163,8 @@ pub fn closing_at(text: &[u8], tag: usize, size: usize, at: usize) -> Place
     if text.len() - at < size {
         return Place::Nothing;
     }
-    if size == USUAL {
-        return same_at(text, tag, USUAL, at);
+    if size == COMMON_CLOSING {
+        return same_at(text, tag, COMMON_CLOSING, at);
     }
     same_at(text, tag, size, at)
 }

@@ -5,7 +5,7 @@ use Rattle.xml_text.proofs.import.element_at.Statement.{statement}
 use Rattle.xml_text.proofs.import.element_at.Tie as tie
 use Rattle.xml_text.proofs.import.element_at.Reads as reads
 use Rattle.xml_text.proofs.import.element_at.Lts as lts
-use Rattle.format_fields.proofs.bytes.pair_in.Reads as pair-in-reads
+use Rattle.tree_reader.proofs.operands.operands_of.Reads as operands-of-reads
 use Rattle.xml_text.proofs.import.place_of.Reads as place-of-reads
 use Rattle.xml_text.proofs.scan.opening_at.Reads as opening-at-reads
 
@@ -21,20 +21,11 @@ place-of-requires c κs = (c .before .before .before .before .before .before .be
 returns-2 : tie.Need-returns-2
 returns-2 c = element-unknown (c .before .before .before .before .before .before .before .before .before .args .language .now) (c .before .before .before .before .before .before .before .before .before .args .index .now) (c .before .before .before .before .before .before .before .before .before .args .text .now) (c .before .before .before .before .before .before .before .before .before .args .kind) (c .before .before .before .before .before .before .before .before .before .args .at) (c .before .before .before .before .before .before .before .before .before .pre .kind) (λ i. omega (arith, c .before .before .before .before .before .before .before .before .shared-slice-known .given i)) (c .before .before .before .before .before .opening-at .ensures) (c .before .before .before .name .given .1) (c .before .place-of .ensures) (c .if1 .taken)
 
-add-t11 : tie.Need-add-t11
-add-t11 c = let w = element-place (c .before .before .before .before .before .before .before .before .before .args .language .now) (c .before .before .before .before .before .before .before .before .before .args .index .now) (c .before .before .before .before .before .before .before .before .before .args .text .now) (c .before .before .before .before .before .before .before .before .before .args .kind) (c .before .before .before .before .before .before .before .before .before .args .at) (c .before .before .before .before .before .before .before .before .before .pre .kind) (λ i. omega (arith, c .before .before .before .before .before .before .before .before .shared-slice-known .given i)) (c .before .before .before .before .before .opening-at .ensures) (c .before .before .before .name .given .1) (c .before .place-of .ensures) (c .if1 .left) (c .before .before .before .before .before .before .before .before .before .pre .sound) in omega (arith, w .0, w .1)
-
-add-t12 : tie.Need-add-t12
-add-t12 c = let w = element-place (c .before .before .before .before .before .before .before .before .before .args .language .now) (c .before .before .before .before .before .before .before .before .before .args .index .now) (c .before .before .before .before .before .before .before .before .before .args .text .now) (c .before .before .before .before .before .before .before .before .before .args .kind) (c .before .before .before .before .before .before .before .before .before .args .at) (c .before .before .before .before .before .before .before .before .before .pre .kind) (λ i. omega (arith, c .before .before .before .before .before .before .before .before .shared-slice-known .given i)) (c .before .before .before .before .before .opening-at .ensures) (c .before .before .before .name .given .1) (c .before .place-of .ensures) (c .if1 .left) (c .before .before .before .before .before .before .before .before .before .pre .sound) in omega (arith, w .0, w .1)
-
-pair-in-requires : tie.Need-pair-in-requires
-pair-in-requires c κs = let w = element-place (c .before .before .before .before .before .before .before .before .before .args .language .now) (c .before .before .before .before .before .before .before .before .before .args .index .now) (c .before .before .before .before .before .before .before .before .before .args .text .now) (c .before .before .before .before .before .before .before .before .before .args .kind) (c .before .before .before .before .before .before .before .before .before .args .at) (c .before .before .before .before .before .before .before .before .before .pre .kind) (λ i. omega (arith, c .before .before .before .before .before .before .before .before .shared-slice-known .given i)) (c .before .before .before .before .before .opening-at .ensures) (c .before .before .before .name .given .1) (c .before .place-of .ensures) (c .if1 .left) (c .before .before .before .before .before .before .before .before .before .pre .sound) in omega (arith, w .0)
-
-add-t14 : tie.Need-add-t14
-add-t14 c = let w = element-place (c .before .before .before .before .before .before .before .before .before .before .args .language .now) (c .before .before .before .before .before .before .before .before .before .before .args .index .now) (c .before .before .before .before .before .before .before .before .before .before .args .text .now) (c .before .before .before .before .before .before .before .before .before .before .args .kind) (c .before .before .before .before .before .before .before .before .before .before .args .at) (c .before .before .before .before .before .before .before .before .before .before .pre .kind) (λ i. omega (arith, c .before .before .before .before .before .before .before .before .before .shared-slice-known .given i)) (c .before .before .before .before .before .before .opening-at .ensures) (c .before .before .before .before .name .given .1) (c .before .before .place-of .ensures) (c .before .if1 .left) (c .before .before .before .before .before .before .before .before .before .before .pre .sound) in omega (arith, w .0, w .1, c .pair-in .ensures .1)
+operands-of-requires : tie.Need-operands-of-requires
+operands-of-requires c κs = let w = element-place (c .before .before .before .before .before .before .before .before .before .args .language .now) (c .before .before .before .before .before .before .before .before .before .args .index .now) (c .before .before .before .before .before .before .before .before .before .args .text .now) (c .before .before .before .before .before .before .before .before .before .args .kind) (c .before .before .before .before .before .before .before .before .before .args .at) (c .before .before .before .before .before .before .before .before .before .pre .kind) (λ i. omega (arith, c .before .before .before .before .before .before .before .before .shared-slice-known .given i)) (c .before .before .before .before .before .opening-at .ensures) (c .before .before .before .name .given .1) (c .before .place-of .ensures) (c .if1 .left) (c .before .before .before .before .before .before .before .before .before .pre .sound) in (omega (arith, w .0, w .1), omega (arith, w .0))
 
 returns-3 : tie.Need-returns-3
-returns-3 c = element-found (c .before .before .before .before .before .before .before .before .before .before .args .language .now) (c .before .before .before .before .before .before .before .before .before .before .args .index .now) (c .before .before .before .before .before .before .before .before .before .before .args .text .now) (c .before .before .before .before .before .before .before .before .before .before .args .kind) (c .before .before .before .before .before .before .before .before .before .before .args .at) (c .before .before .before .before .before .before .before .before .before .before .pre .kind) (λ i. omega (arith, c .before .before .before .before .before .before .before .before .before .shared-slice-known .given i)) (c .before .before .before .before .before .before .opening-at .ensures) (c .before .before .before .before .name .given .1) (c .before .before .place-of .ensures) (c .before .if1 .left) (c .before .before .before .before .before .before .before .before .before .before .pre .sound) (c .pair-in .ensures .0)
+returns-3 c = element-found (c .before .before .before .before .before .before .before .before .before .before .args .language .now) (c .before .before .before .before .before .before .before .before .before .before .args .index .now) (c .before .before .before .before .before .before .before .before .before .before .args .text .now) (c .before .before .before .before .before .before .before .before .before .before .args .kind) (c .before .before .before .before .before .before .before .before .before .before .args .at) (c .before .before .before .before .before .before .before .before .before .before .pre .kind) (λ i. omega (arith, c .before .before .before .before .before .before .before .before .before .shared-slice-known .given i)) (c .before .before .before .before .before .before .opening-at .ensures) (c .before .before .before .before .name .given .1) (c .before .before .place-of .ensures) (c .before .if1 .left) (c .before .before .before .before .before .before .before .before .before .before .pre .sound) (c .operands-of .ensures .0) (c .operands-of .ensures .1)
 
 pub element-at-spec : {M : Type 1} → statement M
 element-at-spec =
@@ -46,8 +37,5 @@ element-at-spec =
     returns
     place-of-requires
     returns-2
-    add-t11
-    add-t12
-    pair-in-requires
-    add-t14
+    operands-of-requires
     returns-3)
