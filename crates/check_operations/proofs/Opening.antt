@@ -26,7 +26,7 @@ use Rattle.tree_reader.specs.Inner.Index.{Ready, Indexed}
 use Rattle.tree_reader.proofs.Members.{in-below}
 use Rattle.format_translation.proofs.Fitting.{refuse-value}
 use Rattle.format_translation.proofs.Accepted.{refused-not}
-use Rattle.check_operations.specs.Inner.Opening.{rootedOf, OpenedAlone, Opened}
+use Rattle.check_operations.specs.Inner.Opening.{rootIn, rootedOf, OpenedAlone, Opened}
 
 -- A refusal is no acceptance.
 pub unaccepted : {o : Outcome} {r : Reason} {n : ℕ} {A : Type 0} → o ≡ Refused r → o ≡ Accepted n → A
@@ -144,39 +144,42 @@ module _ (s : List ℕ) (root : ℕ) where
     pub opened-not : {r : Reason} → o ≡ Refused r → rootedOf s root ≡ refused r
     opened-not h = refused-value-of (rootedOf s root) refl (sym eo ∙ h)
 
-  -- An operation that asks for the root once the language is there.
-  module _ {A : Type 0} (f : Language → Result A) where
-    steps : (m : Result Language) → (m >>= λ l. refuseIf (not (isIn l root)) Why.UnknownRoot (f l)) ≡ ((m >>= λ l. refuseIf (not (isIn l root)) Why.UnknownRoot (value l)) >>= f)
-    steps (refused r) = refl
-    steps (value l) = by-root (not (isIn l root))
-      where
-        by-root : (b : Bool) → refuseIf b Why.UnknownRoot (f l) ≡ (refuseIf b Why.UnknownRoot (value l) >>= f)
-        by-root true = refl
-        by-root false = refl
+-- An operation that asks for the root once the language is there, and one that reads a tree.
+module _ {A : Type 0} (root : ℕ) (l : Language) where
+  pub root-then : (f : Language → Result A) → refuseIf (not (isIn l root)) Why.UnknownRoot (f l) ≡ (rootIn root l >>= f)
+  root-then f = go (not (isIn l root))
+    where
+      go : (t : Bool) → refuseIf t Why.UnknownRoot (f l) ≡ (refuseIf t Why.UnknownRoot (value l) >>= f)
+      go true = refl
+      go false = refl
 
-    pub rooted-steps : (languageOf s >>= λ l. refuseIf (not (isIn l root)) Why.UnknownRoot (f l)) ≡ (rootedOf s root >>= f)
-    unfolding rootedOf
-    rooted-steps = steps (languageOf s)
+  pub tree-then : (b : List ℕ) (f : Language → Code → Result A)
+      → (treeOf l root b >>= f l) ≡ (rootIn root l >>= λ l. wholeTree (read tree l [] treeLevels root b) >>= f l)
+  unfolding treeOf
+  tree-then b f = go (not (isIn l root)) (wholeTree (read tree l [] treeLevels root b)) refl
+    where
+      go : (t : Bool) (m : Result Code) → wholeTree (read tree l [] treeLevels root b) ≡ m
+          → (refuseIf t Why.UnknownRoot m >>= f l) ≡ (refuseIf t Why.UnknownRoot (value l) >>= λ l. wholeTree (read tree l [] treeLevels root b) >>= f l)
+      go true m e = refl
+      go false m e = ap (λ (o : Result Code). o >>= f l) (sym e)
 
-  -- An operation that reads a tree.
-  module _ (b : List ℕ) where
-    pub rooted-tree : (languageOf s >>= λ l. treeOf l root b) ≡ (rootedOf s root >>= λ l. wholeTree (read tree l [] treeLevels root b))
-    unfolding treeOf
-    rooted-tree = rooted-steps (λ l. wholeTree (read tree l [] treeLevels root b))
+step-step : {A B C : Type 0} (m : Result A) (f : A → Result B) (g : B → Result C) → (m >>= λ a. f a >>= g) ≡ (m >>= f >>= g)
+step-step (value a) f g = refl
+step-step (refused r) f g = refl
 
-    module _ {A : Type 0} (f : Language → Code → Result A) where
-      tree-root : (t : Bool) (m : Result Code) (l : Language) → (refuseIf t Why.UnknownRoot m >>= f l) ≡ refuseIf t Why.UnknownRoot (m >>= f l)
-      tree-root true m l = refl
-      tree-root false m l = refl
+module _ {A : Type 0} (s : List ℕ) (root : ℕ) where
+  pub rooted-steps : (f : Language → Result A) → (languageOf s >>= λ l. refuseIf (not (isIn l root)) Why.UnknownRoot (f l)) ≡ (rootedOf s root >>= f)
+  unfolding rootedOf
+  rooted-steps f = (λ i. languageOf s >>= λ l. root-then root l f i) ∙ step-step (languageOf s) (rootIn root) f
 
-      tree-steps : (m : Result Language) → (m >>= λ l. treeOf l root b >>= f l)
-          ≡ (m >>= λ l. refuseIf (not (isIn l root)) Why.UnknownRoot (wholeTree (read tree l [] treeLevels root b) >>= f l))
-      unfolding treeOf
-      tree-steps (refused r) = refl
-      tree-steps (value l) = tree-root (not (isIn l root)) (wholeTree (read tree l [] treeLevels root b)) l
+  pub rooted-tree-then : (b : List ℕ) (f : Language → Code → Result A)
+      → (languageOf s >>= λ l. treeOf l root b >>= f l) ≡ (rootedOf s root >>= λ l. wholeTree (read tree l [] treeLevels root b) >>= f l)
+  unfolding rootedOf
+  rooted-tree-then b f = (λ i. languageOf s >>= λ l. tree-then root l b f i) ∙ step-step (languageOf s) (rootIn root) (λ l. wholeTree (read tree l [] treeLevels root b) >>= f l)
 
-      pub rooted-tree-then : (languageOf s >>= λ l. treeOf l root b >>= f l) ≡ (rootedOf s root >>= λ l. wholeTree (read tree l [] treeLevels root b) >>= f l)
-      rooted-tree-then = tree-steps (languageOf s) ∙ rooted-steps (λ l. wholeTree (read tree l [] treeLevels root b) >>= f l)
+pub rooted-tree : (s : List ℕ) (root : ℕ) (b : List ℕ) → (languageOf s >>= λ l. treeOf l root b) ≡ (rootedOf s root >>= λ l. wholeTree (read tree l [] treeLevels root b))
+unfolding treeOf
+rooted-tree s root b = rooted-steps s root (λ l. wholeTree (read tree l [] treeLevels root b))
 
 -- What reading from the first byte on asks.
 pub opened-ready : (s index : List ℕ) (root : ℕ) (l : Language) → Opened s index root l → (b : List ℕ) → Ready index s root b 0

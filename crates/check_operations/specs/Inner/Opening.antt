@@ -9,9 +9,13 @@ use Rattle.format_language.specs.Language.{Language, isIn, clashes}
 use Rattle.format_language.specs.LanguageFile.{languageOf}
 use Rattle.tree_reader.specs.Inner.Index.{Indexed}
 
--- The language, where the root is one of its kinds: 1 to 4, 14.
+-- The language, where the root is one of its kinds: 14.
+abbrev pub rootIn : ℕ → Language → Result Language
+rootIn root l = refuseIf (not (isIn l root)) UnknownRoot (value l)
+
+-- The language in the bytes, with its root: 1 to 4, 14.
 unfoldable pub rootedOf : List ℕ → ℕ → Result Language
-rootedOf language root = languageOf language >>= λ l. refuseIf (not (isIn l root)) UnknownRoot (value l)
+rootedOf language root = languageOf language >>= rootIn root
 
 -- A language l that was accepted, whose bytes are s, and its index.
 pub record OpenedAlone (s index : List ℕ) (l : Language) : Type 0 where
