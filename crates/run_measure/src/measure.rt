@@ -29,6 +29,9 @@ ghost use Rattle.run_measure.specs.Inner.Entering.{NoneFrom};
 ghost use Rattle.run_measure.specs.Inner.Descent.{leafStep, downAt, downRow, goesOn, outOfLevels, StepIn, Childless};
 ghost use Rattle.run_measure.specs.Inner.Learning.{Learnt, Decides};
 
+// How often the end of a tree may be asked for: several numbers may use it.
+const OFTEN: usize = 2;
+
 // The position after a tree, the length of its run and what it costs, both up to a top; one level too many; or bytes that
 // are no such tree.
 pub enum Measured {
@@ -156,7 +159,7 @@ fn measure_rows(
             end = lasts[depth] as usize;
             wipe(entries, q - 1, weights, base, width);
             base -= width;
-            keep_end(ends, source[q - 1], starts[depth], to);
+            keep_end(ends, source[q - 1], starts[depth], to, OFTEN);
             continue;
         }
         if out_of_levels(index, source[q], levels - depth) {

@@ -13,6 +13,8 @@ use run_measure::measure::measure;
 use run_measure::prepare::prepare;
 use run_open::open::has_number;
 use run_open::open::open_translation;
+use tree_reader::ends::LONG_TABLE;
+use tree_reader::ends::SHORT_TABLE;
 use tree_reader::index::INDEX;
 use tree_reader::index::TABLE;
 use tree_reader::node::Syntax;
@@ -54,7 +56,7 @@ const WEIGHTS: usize = 16896;
 // The same for the numbers below 16.
 const FEW: usize = 1056;
 
-// Trees from this length on keep where their long subtrees end.
+// Trees from this length on have the long table of where their subtrees end.
 const LONG_TREE: usize = 4096;
 
 // Lengths and costs are counted up to here at least.
@@ -287,11 +289,11 @@ fn run_single(
 {
     let top = top_over(output.len());
     if tree.len() < LONG_TREE {
-        let mut ends = [0u32; 2];
+        let mut ends = [0u32; SHORT_TABLE];
         let result = measure_single(source, body, table, kind, tree, top, &mut ends);
         return finish(result, table, kind, number, tree, &ends, output, cost);
     }
-    let mut ends = [0u32; 8192];
+    let mut ends = [0u32; LONG_TABLE];
     let result = measure_single(source, body, table, kind, tree, top, &mut ends);
     finish(result, table, kind, number, tree, &ends, output, cost)
 }
@@ -314,11 +316,11 @@ fn run_numbered(
 {
     let top = top_over(output.len());
     if tree.len() < LONG_TREE {
-        let mut ends = [0u32; 2];
+        let mut ends = [0u32; SHORT_TABLE];
         let result = measure_numbered(source, body, table, kind, number, tree, top, &mut ends);
         return finish(result, table, kind, number, tree, &ends, output, cost);
     }
-    let mut ends = [0u32; 8192];
+    let mut ends = [0u32; LONG_TABLE];
     let result = measure_numbered(source, body, table, kind, number, tree, top, &mut ends);
     finish(result, table, kind, number, tree, &ends, output, cost)
 }

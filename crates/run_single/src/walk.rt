@@ -126,7 +126,7 @@ fn measure_rows(
             q = firsts[depth] as usize;
             end = lasts[depth] as usize;
             weight = weights[depth];
-            keep_end(ends, source[q - 1], starts[depth], to);
+            keep_end(ends, source[q - 1], starts[depth], to, weight);
             continue;
         }
         let kind = source[q];

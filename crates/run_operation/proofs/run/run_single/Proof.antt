@@ -10,7 +10,7 @@ use Rattle.run_operation.proofs.run.measure_single.Reads as measure-sin
 use Rattle.run_operation.proofs.run.top_over.Reads as top-over-reads
 
 measure-single-requires : tie.Need-measure-single-requires
-measure-single-requires c κs = (c .before .before .before .before .before .before .before .pre .0, c .before .before .before .before .before .before .before .pre .2, omega (arith, c .before .before .top-over .ensures .0), zeros 2, (_, _, c .before .before .before .before .before .before .before .pre .3 .2))
+measure-single-requires c κs = (c .before .before .before .before .before .before .before .pre .0, c .before .before .before .before .before .before .before .pre .2, omega (arith, c .before .before .top-over .ensures .0), zeros 128, (_, _, c .before .before .before .before .before .before .before .pre .3 .2))
 
 finish-requires : tie.Need-finish-requires
 finish-requires c κs = (c .before .before .before .before .before .before .before .before .before .before .before .before .pre .0, c .before .before .before .before .before .before .before .before .before .before .before .before .pre .1, (_, _, _, c .before .before .before .before .before .before .before .before .before .before .before .before .pre .3 .1, _, c .before .before .before .before .before .before .before .before .before .before .before .before .pre .3 .2, c .before .before .before .before .before .before .before .before .before .before .before .before .pre .3 .3, c .before .before .before .before .before .before .before .top-over .ensures .0, c .before .before .before .before .measure-single .ensures _ _ (c .before .before .before .before .before .before .before .before .before .before .before .before .pre .3 .1) (c .before .before .before .before .before .before .before .before .before .before .before .before .pre .3 .2)))
