@@ -107,6 +107,12 @@ pub each-front : {A : Type 0} (P : A → Type 0) (l m : List A) → Each P (l ++
 each-front P [] m p = (tt, p)
 each-front P (a ∷ l) m p = let h = each-front P l m (p .1) in ((p .0, h .0), h .1)
 
+-- Bytes by their places.
+pub bytes-at : (s : List ℕ) → Bytes s → (i : ℕ) → byteAt s i < 256
+bytes-at [] b i = omega arith
+bytes-at (x ∷ s) b zero = b .0
+bytes-at (x ∷ s) b (suc i) = bytes-at s (b .1) i
+
 -- Bytes from what is known at each place.
 pub bytes-from : (s : List ℕ) → ((i : ℕ) → i < length s → byteAt s i < 256) → Bytes s
 bytes-from [] h = tt

@@ -14,7 +14,7 @@ use Rattle.format_fields.specs.Fields.{Field, field, byteAt, pairAt, fieldsOf, 
 use Rattle.format_fields.specs.Lists.{all, traverse, concatMap}
 use Rattle.format_fields.proofs.Truth.{Mem, none-some, some-inj, and-both, all-mem}
 use Rattle.format_fields.proofs.Keyed.{Rising, is-rising}
-use Rattle.format_fields.proofs.Codec.{Each, Bytes, InBytes, contentsOf, two-tags, four-tags, cond-some, each-at, before-inv, fields-sound}
+use Rattle.format_fields.proofs.Codec.{Each, Bytes, InBytes, contentsOf, two-tags, four-tags, cond-some, each-at, before-inv, fields-sound, bytes-at}
 use Rattle.format_language.specs.Language.{Entry, class, production, Language}
 use Rattle.format_language.specs.LanguageFile.{isKind, rangeWhole, rangeIn, classOf, productionOf, entryOf, entriesOf, languageOf}
 use Rattle.format_language.proofs.Codec.{entryWhole, language-good, GoodLanguage}
@@ -55,12 +55,6 @@ cond-has P t x a h e = subst P (cond-some t x a e .1) h
 abbrev NumbersFit : Entry → Type 0
 NumbersFit (class k c) = (c .high < 65536) × (c .step < 65536)
 NumbersFit (production r p ks) = p < 256
-
--- What stands in bytes is below 256, and 0 past the end.
-bytes-at : (s : List ℕ) → Bytes s → (i : ℕ) → byteAt s i < 256
-bytes-at [] b i = omega arith
-bytes-at (x ∷ s) b zero = b .0
-bytes-at (x ∷ s) b (suc i) = bytes-at s (b .1) i
 
 pair-below : (c : List ℕ) → Bytes c → (i : ℕ) → pairAt c i < 65536
 unfolding pairAt
