@@ -1,4 +1,4 @@
-// What all operations share: the reasons for a refusal, the answer, and the field format with its walks and copies.
+// What all files share: the field format, its walks, and copies of bytes.
 pub mod bytes;
 pub mod copy;
 pub mod walk;

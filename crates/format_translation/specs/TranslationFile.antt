@@ -60,12 +60,12 @@ itemField (mapping s (suc j) t) = field 0x28 (s ∷ suc j ∷ t ∷ [])
 itemField (clause r p zero code) = field 0x23 (r ∷ p ∷ code)
 itemField (clause r p (suc j) code) = field 0x29 (r ∷ p ∷ suc j ∷ code)
 
--- No mapping stands after a clause.
+-- An item is a clause.
 abbrev pub isClause : Item → Bool
 isClause (mapping s j t) = false
 isClause (clause r p j code) = true
 
--- The items stand in their groups; the first argument says whether a clause has come.
+-- The items stand in their groups, no mapping after a clause; the first argument says whether a clause has come.
 unfoldable pub grouped : Bool → List Item → Bool
 grouped past [] = true
 grouped past (a ∷ l) = (isClause a || not past) && grouped (isClause a) l
