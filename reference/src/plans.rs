@@ -2,7 +2,7 @@
 //! fault, with the faulty one marked.
 
 use crate::card::HIDDEN;
-use crate::explain::{known_root, place_name, Fault, Piece};
+use crate::explain::{check_language, known_root, place_name, Fault, Piece};
 use crate::field::two_bytes;
 use crate::grammar::Grammar;
 use crate::language::{bit, Class, Kinds, Language};
@@ -67,9 +67,7 @@ pub fn read_around(
     plan: &[u8],
     form: Form,
 ) -> Result<(Node, Option<Fault>), Fault> {
-    if let Some(fault) = crate::explain::language(language) {
-        return Err(fault);
-    }
+    check_language(language)?;
     let language = decoded(language)?;
     let kind = known_root(&language, "language", root)?;
     let grammar = Grammar::new(&language);

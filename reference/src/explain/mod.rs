@@ -81,6 +81,11 @@ fn told(result: Result<(), Fault>, inputs: &[(&str, &[u8])]) -> Option<Fault> {
     result.err().map(|fault| repair::hinted(fault, inputs))
 }
 
+/// Refuses a language that has a fault, without a hint.
+pub(crate) fn check_language(bytes: &[u8]) -> Result<(), Fault> {
+    language::check(&Piece::whole("language", bytes))
+}
+
 /// Looks for a fault of a language.
 pub fn language(bytes: &[u8]) -> Option<Fault> {
     told(language::check(&Piece::whole("language", bytes)), &[("language", bytes)])

@@ -14,7 +14,7 @@ use crate::translation::{SOURCE_TAG, TARGET_TAG};
 /// Lengths are tried that differ by so much at most.
 const FAR: i64 = 8;
 /// So many bytes are read in all before nothing is found.
-const WORK: usize = 20_000_000;
+const WORK: usize = 4_000_000;
 /// Fields that hold fields.
 const NESTED: [u8; 4] = [SOURCE_TAG, TARGET_TAG, LANGUAGE_TAG, BODY_TAG];
 /// The tags that there are.
