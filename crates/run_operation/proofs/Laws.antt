@@ -1,5 +1,5 @@
 -- What a run relies on, and a law for each return of `write_tree`, `run_parts` and `run`.
-use Prim.Native.Nat.{ℕ, min, _+_, _<_, _≤_}
+use Prim.Native.Nat.{ℕ, min, _+_, _*_, _<_, _≤_}
 use mathlib.Core.Path.{_≡_, refl, sym, ap, _∙_}
 use mathlib.Core.Logic.{_⊎_, ⊎-elim}
 use mathlib.Core.Bool.{Bool, true, false}
@@ -116,6 +116,14 @@ tree-asks table b ends k j f t r h y e =
   where
     no-code : {A : Type 0} → Tree ≡ InCode → A
     no-code q = let z : _≡_ {A = ℕ} 0 1 = cc in absurd (omega arith)
+
+-- put_tree: of what is all zero nothing is kept.
+pub reads-none : {f : Translation} {k j : ℕ} {ends b none : List ℕ} {t : Code} → ((i : ℕ) → getD none i 0 ≡ 0) → Reads f k j ends b t → Reads f k j none b t
+reads-none zero h = record {
+  has = h .has;
+  is = h .is;
+  kept = λ n p a z u d i. absurd (omega (arith, z .some, z .end, zero (2 * z .slot + 1)));
+}
 
 -- write_tree
 module _ (v o after : List ℕ) (p : ℕ) (w : Wrote v o after 0 p) where

@@ -1,5 +1,7 @@
 // The operation run. It measures the result first and writes it only where it fits.
 use check_wellformed::check::USES_ROOM;
+use format_language::check::LANGUAGE_LIMIT;
+use format_translation::parts::TRANSLATION_LIMIT;
 use format_translation::parts::body_of;
 use format_translation::parts::source_of;
 use outcome::Answer;
@@ -15,9 +17,11 @@ use run_open::open::has_number;
 use run_open::open::open_translation;
 use tree_reader::ends::LONG_TABLE;
 use tree_reader::ends::SHORT_TABLE;
+use tree_reader::ends::is_empty;
 use tree_reader::index::INDEX;
 use tree_reader::index::TABLE;
 use tree_reader::node::Syntax;
+use tree_reader::read::TREE_LEVELS;
 ghost use mathlib.Core.Path.{_≡_};
 ghost use mathlib.Core.Bool.{true};
 ghost use mathlib.Core.Option.{some};
@@ -39,6 +43,7 @@ ghost use Rattle.run_measure.specs.Inner.Measuring.{Counted};
 ghost use Rattle.run_measure.specs.Inner.Counting.{widthOf};
 ghost use Rattle.format_translation.specs.Inner.ItemIndex.{Mapped};
 ghost use Rattle.tree_reader.specs.Inner.Index.{Built, tableLength};
+ghost use Rattle.run_table.specs.Inner.Stands.{Wrote};
 ghost use Rattle.run_table.specs.Inner.Table.{Ready};
 ghost use Rattle.run_open.specs.Inner.Opened.{Prepared};
 ghost use Rattle.run_operation.specs.Operations.{largestCost, runCost};
@@ -47,14 +52,22 @@ ghost use Rattle.run_operation.specs.Inner.Runs.{Answers, Ran, Reads, Me
 // The largest number of a mapping.
 const LAST_NUMBER: u32 = 255;
 
-// The length of a table of uses, where there are numbers other than 0.
-const ENTRIES: usize = 7168;
+// How many numbers there are, and how many are few: most bodies with numbers have only those.
+const NUMBERS: usize = 256;
 
-// Weights for every number, and for the levels of a tree.
-const WEIGHTS: usize = 16896;
+const FEW_NUMBERS: usize = 16;
 
-// The same for the numbers below 16.
-const FEW: usize = 1056;
+// How many numbers count the uses by numbers other than 0: one for each position of the source, where the first entry for it
+// stands, and an entry of three for every second position of the body.
+const ENTRIES: usize = LANGUAGE_LIMIT + TRANSLATION_LIMIT / 2 * 3;
+
+// How many windows of weights there are: one for each level of a tree, one for the root and one behind.
+const WINDOWS: usize = TREE_LEVELS + 2;
+
+// Weights for every number in each window, and for few numbers.
+const WEIGHTS: usize = WINDOWS * NUMBERS;
+
+const FEW_WEIGHTS: usize = WINDOWS * FEW_NUMBERS;
 
 // Trees from this length on have the long table of where their subtrees end.
 const LONG_TREE: usize = 4096;
@@ -105,7 +118,7 @@ fn measure_with(
     ensures { λ r. ⌜ ((t : List ℕ) (f : Translation) → Prepared (now (source .entry)) t (now (body .entry)) (now (table .entry)) f
         → Measures (now (ends .exit)) f kind number (now (tree .entry)) top r) ⌝ }
 {
-    let mut counts = [0u16; 1024];
+    let mut counts = [0u16; LANGUAGE_LIMIT];
     begin(source, body, table, &mut counts, entries, width);
     measure(
         source,
@@ -116,7 +129,7 @@ fn measure_with(
         number,
         tree,
         0,
-        64,
+        TREE_LEVELS,
         top,
         weights,
         width,
@@ -139,10 +152,20 @@ fn measure_single(
     ensures { λ r. ⌜ ((number : ℕ) (t : List ℕ) (f : Translation) → Prepared (now (source .entry)) t (now (body .entry)) (now (table .entry)) f
         → Measures (now (ends .exit)) f kind number (now (tree .entry)) top r) ⌝ }
 {
-    let mut counts = [0u16; 1024];
+    let mut counts = [0u16; LANGUAGE_LIMIT];
     let mut entries = [0u16; 0];
     begin(source, body, table, &mut counts, &mut entries, 1);
-    run_single::walk::measure(source, table, &counts, kind, tree, 0, 64, top, ends)
+    run_single::walk::measure(
+        source,
+        table,
+        &counts,
+        kind,
+        tree,
+        0,
+        TREE_LEVELS,
+        top,
+        ends,
+    )
 }
 
 // The same, with tables for the numbers that the body has.
@@ -162,8 +185,8 @@ fn measure_numbered(
 {
     let width = width_of(body);
     let mut entries = [0u16; ENTRIES];
-    if width <= 16 {
-        let mut weights = [0usize; FEW];
+    if width <= FEW_NUMBERS {
+        let mut weights = [0usize; FEW_WEIGHTS];
         return measure_with(
             source,
             body,
@@ -194,6 +217,46 @@ fn measure_numbered(
     )
 }
 
+// Puts the run by a number of a legal tree into the output. Where nothing is kept of where its parts end, none of it is looked up.
+fn put_tree(
+    table: &[u16; TABLE],
+    kind: u8,
+    number: u8,
+    tree: &[u8],
+    ends: &[u32],
+    output: &mut [u8],
+) -> usize
+    requires { ⌜ (kind < 32) × ((f : Translation) × (t : Code) × Ready (now table) f × Reads f kind number (now ends) (now tree) t) ⌝ }
+    ensures { λ r. ⌜ ((f : Translation) (t : Code) → Ready (now (table .entry)) f → Reads f kind number (now (ends .entry)) (now (tree .entry)) t
+        → Wrote (write inTrees (transform f number t)) (now (output .entry)) (now (output .exit)) 0 r) ⌝ }
+{
+    if is_empty(ends) {
+        let none = [0u32; 2];
+        return run_emit::run::run(
+            Syntax::Tree,
+            table,
+            tree,
+            &none,
+            kind,
+            number,
+            TREE_LEVELS,
+            output,
+            0,
+        );
+    }
+    run_emit::run::run(
+        Syntax::Tree,
+        table,
+        tree,
+        ends,
+        kind,
+        number,
+        TREE_LEVELS,
+        output,
+        0,
+    )
+}
+
 // Writes the run by a number of a legal tree whose result fits into the output.
 fn write_tree(
     table: &[u16; TABLE],
@@ -208,7 +271,7 @@ fn write_tree(
         → length (write inTrees (transform f number t)) ≤ length (now (output .entry))
         → Answers (value (write inTrees (transform f number t))) (now (output .entry)) (now (output .exit)) (r .outcome)) ⌝ }
 {
-    let p = run_emit::run::run(Syntax::Tree, table, tree, ends, kind, number, 64, output, 0);
+    let p = put_tree(table, kind, number, tree, ends, output);
     if output.len() < p {
         return refuse(Reason::OutputTooShort);
     }

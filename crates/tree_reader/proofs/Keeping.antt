@@ -1,7 +1,7 @@
 -- Laws of the ends that are kept.
 use Prim.Native.Nat.{ℕ, zero, suc, _+_, _*_, _<_}
 use mathlib.Core.Path.{_≡_, refl, sym, ap, _∙_}
-use mathlib.Core.Logic.{_⊎_, inl, inr}
+use mathlib.Core.Logic.{_⊎_, inl, inr, ⊎-elim}
 use mathlib.Core.Bool.{Bool, true, false}
 use mathlib.Core.List.{List}
 use native.Mathlib.Omega.{arith}
@@ -49,3 +49,16 @@ module _ (ends : List ℕ) (kind at slot end : ℕ) (small : kind < 32) (inside 
       → Kept ends k p e ⊎ ((k ≡ kind) × (p ≡ at) × (e ≡ end))
   unfolding one both
   kept-put k p e h = by-slot k p e h (eqb (h .slot) slot) refl
+
+-- What marks a table is the end of no term.
+pub kept-marked : (ends : List ℕ) (slot : ℕ) → 2 * slot + 1 < length ends → (k p e : ℕ) → Kept (set (set ends (2 * slot) (0 * 32 + 1)) (2 * slot + 1) 0) k p e → Kept ends k p e
+kept-marked ends slot inside k p e h = ⊎-elim (λ z. z) (λ z. absurd (omega (arith, h .some, z .2))) (kept-put ends 1 0 slot 0 (omega arith) inside k p e h)
+
+-- keep_end: one end was put in, and the table marked.
+pub kept-both : (ends : List ℕ) (kind at slot end last : ℕ) (middle after : List ℕ) → kind < 32 → 2 * slot + 1 < length ends → 2 * last + 1 < length ends
+    → middle ≡ set (set ends (2 * slot) (at * 32 + kind)) (2 * slot + 1) end → after ≡ set (set middle (2 * last) (0 * 32 + 1)) (2 * last + 1) 0
+    → (k p e : ℕ) → Kept after k p e → Kept ends k p e ⊎ ((k ≡ kind) × (p ≡ at) × (e ≡ end))
+kept-both ends kind at slot end last middle after small inside behind em ea k p e h =
+    let one = set ends (2 * slot) (at * 32 + kind) in
+    let l : length middle ≡ length ends = ap length em ∙ (length-set one (2 * slot + 1) end ∙ length-set ends (2 * slot) (at * 32 + kind)) in
+    kept-put ends kind at slot end small inside k p e (rw em at (kept-marked middle last (omega arith) k p e (rw ea at h)))

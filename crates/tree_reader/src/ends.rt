@@ -7,10 +7,16 @@ ghost use Prim.Native.Nat.{ℕ, _+_, _*_, _<_, _≤_};
 ghost use lib.ListN.{length, set};
 ghost use Rattle.tree_reader.specs.Inner.Ends.{Kept};
 
-// The length of a table for a short input, of 64 terms, and for a long one, of 4,096. A shorter table keeps nothing.
-pub const SHORT_TABLE: usize = 128;
+// How many terms the table of a short input keeps, and that of a long one.
+const SHORT_TERMS: usize = 64;
 
-pub const LONG_TABLE: usize = 8192;
+const LONG_TERMS: usize = 4096;
+
+// The lengths of these tables. Behind the terms stand two numbers more, of which the first is not 0 once anything is kept. A
+// shorter table keeps nothing.
+pub const SHORT_TABLE: usize = 2 * SHORT_TERMS + 2;
+
+pub const LONG_TABLE: usize = 2 * LONG_TERMS + 2;
 
 // The last position that is kept: 32 times it plus a kind is a number of 32 bits.
 const LAST_POSITION: usize = 134217727;
@@ -20,9 +26,11 @@ const LONG_TERM: usize = 4096;
 
 const SHORT_TERM: usize = 32;
 
-// Positions are spread over the table by a product with this number, 2^32 by the golden ratio: positions that are close, or
-// apart by a power of two, do not meet.
-const SPREAD: usize = 2654435761;
+// Positions that follow each other have places that do; from one stretch of positions to the next the places are turned by so
+// many, so that positions apart by a power of two do not meet.
+const SHORT_TURN: usize = 19;
+
+const LONG_TURN: usize = 1265;
 
 // A number of the table as a position.
 fn to_usize(x: u32) -> usize
@@ -33,14 +41,32 @@ fn to_usize(x: u32) -> usize
 
 // The first of the two places, in a table of a length, of a term that starts at a position.
 fn first_place(length: usize, at: usize) -> usize
-    requires { ⌜ (128 ≤ length) × (at ≤ 134217727) ⌝ }
+    requires { ⌜ (130 ≤ length) × (at ≤ 134217727) ⌝ }
     ensures { λ r. ⌜ 2 * r + 3 < length ⌝ }
 {
-    let spread = at * SPREAD;
     if length < LONG_TABLE {
-        return spread / 134217728 % 32 * 2;
+        return (at + at / 32 * SHORT_TURN) % 32 * 2;
     }
-    spread / 2097152 % 2048 * 2
+    (at + at / 2048 * LONG_TURN) % 2048 * 2
+}
+
+// The place behind all terms, in a table of a length.
+fn last_place(length: usize) -> usize
+    requires { ⌜ 130 ≤ length ⌝ }
+    ensures { λ r. ⌜ 2 * r + 1 < length ⌝ }
+{
+    if length < LONG_TABLE {
+        return SHORT_TERMS;
+    }
+    LONG_TERMS
+}
+
+// Whether nothing is kept.
+pub fn is_empty(ends: &[u32]) -> bool {
+    if ends.len() < SHORT_TABLE {
+        return true;
+    }
+    ends[2 * last_place(ends.len())] == 0
 }
 
 // Where the term of a kind at a position ends, if it is the one at this place; 0 if it is not.
@@ -130,6 +156,8 @@ pub fn keep_end(ends: &mut [u32], kind: u8, at: usize, end: usize, times: usize)
     }
     let place = shorter_place(ends, first_place(ends.len(), at));
     if length_at(ends, place) < end - at {
+        let last = last_place(ends.len());
         put_end(ends, place, kind, at, end);
+        put_end(ends, last, 1, 0, 0);
     }
 }

@@ -9,7 +9,7 @@ use Rattle.run_operation.proofs.run.measure_numbered.Reads as measure-n
 use Rattle.run_operation.proofs.run.top_over.Reads as top-over-reads
 
 measure-numbered-requires : tie.Need-measure-numbered-requires
-measure-numbered-requires c κs = (c .before .before .before .before .before .before .before .pre .0, zeros 128, (_, _, c .before .before .before .before .before .before .before .pre .2 .2))
+measure-numbered-requires c κs = (c .before .before .before .before .before .before .before .pre .0, zeros 130, (_, _, c .before .before .before .before .before .before .before .pre .2 .2))
 
 finish-requires : tie.Need-finish-requires
 finish-requires c κs = (c .before .before .before .before .before .before .before .before .before .before .before .before .pre .0, c .before .before .before .before .before .before .before .before .before .before .before .before .pre .1, (_, _, _, c .before .before .before .before .before .before .before .before .before .before .before .before .pre .2 .1, _, c .before .before .before .before .before .before .before .before .before .before .before .before .pre .2 .2, c .before .before .before .before .before .before .before .before .before .before .before .before .pre .2 .3, c .before .before .before .before .before .before .before .top-over .ensures .0, c .before .before .before .before .measure-numbered .ensures _ (c .before .before .before .before .before .before .before .before .before .before .before .before .pre .2 .1) (c .before .before .before .before .before .before .before .before .before .before .before .before .pre .2 .2)))
@@ -18,7 +18,7 @@ returns : tie.Need-returns
 returns c = λ t f z known. c .before .before .finish .ensures _ _ _ f _ z known (c .before .before .before .before .before .before .before .before .before .before .top-over .ensures .0) (c .before .before .before .before .before .before .before .before .before .before .top-over .ensures .1) (c .before .before .before .before .before .before .before .measure-numbered .ensures _ f z)
 
 measure-numbered-requires-2 : tie.Need-measure-numbered-requires-2
-measure-numbered-requires-2 c κs = (c .before .before .before .before .before .before .before .pre .0, zeros 8192, (_, _, c .before .before .before .before .before .before .before .pre .2 .2))
+measure-numbered-requires-2 c κs = (c .before .before .before .before .before .before .before .pre .0, zeros 8194, (_, _, c .before .before .before .before .before .before .before .pre .2 .2))
 
 finish-requires-2 : tie.Need-finish-requires-2
 finish-requires-2 c κs = (c .before .before .before .before .before .before .before .before .before .before .before .before .pre .0, c .before .before .before .before .before .before .before .before .before .before .before .before .pre .1, (_, _, _, c .before .before .before .before .before .before .before .before .before .before .before .before .pre .2 .1, _, c .before .before .before .before .before .before .before .before .before .before .before .before .pre .2 .2, c .before .before .before .before .before .before .before .before .before .before .before .before .pre .2 .3, c .before .before .before .before .before .before .before .top-over .ensures .0, c .before .before .before .before .measure-numbered2 .ensures _ (c .before .before .before .before .before .before .before .before .before .before .before .before .pre .2 .1) (c .before .before .before .before .before .before .before .before .before .before .before .before .pre .2 .2)))

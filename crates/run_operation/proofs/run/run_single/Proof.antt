@@ -10,7 +10,7 @@ use Rattle.run_operation.proofs.run.measure_single.Reads as measure-sin
 use Rattle.run_operation.proofs.run.top_over.Reads as top-over-reads
 
 measure-single-requires : tie.Need-measure-single-requires
-measure-single-requires c κs = (c .before .before .before .before .before .before .before .pre .0, c .before .before .before .before .before .before .before .pre .2, omega (arith, c .before .before .top-over .ensures .0), zeros 128, (_, _, c .before .before .before .before .before .before .before .pre .3 .2))
+measure-single-requires c κs = (c .before .before .before .before .before .before .before .pre .0, c .before .before .before .before .before .before .before .pre .2, omega (arith, c .before .before .top-over .ensures .0), zeros 130, (_, _, c .before .before .before .before .before .before .before .pre .3 .2))
 
 finish-requires : tie.Need-finish-requires
 finish-requires c κs = (c .before .before .before .before .before .before .before .before .before .before .before .before .pre .0, c .before .before .before .before .before .before .before .before .before .before .before .before .pre .1, (_, _, _, c .before .before .before .before .before .before .before .before .before .before .before .before .pre .3 .1, _, c .before .before .before .before .before .before .before .before .before .before .before .before .pre .3 .2, c .before .before .before .before .before .before .before .before .before .before .before .before .pre .3 .3, c .before .before .before .before .before .before .before .top-over .ensures .0, c .before .before .before .before .measure-single .ensures _ _ (c .before .before .before .before .before .before .before .before .before .before .before .before .pre .3 .1) (c .before .before .before .before .before .before .before .before .before .before .before .before .pre .3 .2)))
@@ -19,7 +19,7 @@ returns : tie.Need-returns
 returns c = λ t f z known. c .before .before .finish .ensures _ _ _ f _ z known (c .before .before .before .before .before .before .before .before .before .before .top-over .ensures .0) (c .before .before .before .before .before .before .before .before .before .before .top-over .ensures .1) (c .before .before .before .before .before .before .before .measure-single .ensures _ _ f z)
 
 measure-single-requires-2 : tie.Need-measure-single-requires-2
-measure-single-requires-2 c κs = (c .before .before .before .before .before .before .before .pre .0, c .before .before .before .before .before .before .before .pre .2, omega (arith, c .before .before .top-over .ensures .0), zeros 8192, (_, _, c .before .before .before .before .before .before .before .pre .3 .2))
+measure-single-requires-2 c κs = (c .before .before .before .before .before .before .before .pre .0, c .before .before .before .before .before .before .before .pre .2, omega (arith, c .before .before .top-over .ensures .0), zeros 8194, (_, _, c .before .before .before .before .before .before .before .pre .3 .2))
 
 finish-requires-2 : tie.Need-finish-requires-2
 finish-requires-2 c κs = (c .before .before .before .before .before .before .before .before .before .before .before .before .pre .0, c .before .before .before .before .before .before .before .before .before .before .before .before .pre .1, (_, _, _, c .before .before .before .before .before .before .before .before .before .before .before .before .pre .3 .1, _, c .before .before .before .before .before .before .before .before .before .before .before .before .pre .3 .2, c .before .before .before .before .before .before .before .before .before .before .before .before .pre .3 .3, c .before .before .before .before .before .before .before .top-over .ensures .0, c .before .before .before .before .measure-single2 .ensures _ _ (c .before .before .before .before .before .before .before .before .before .before .before .before .pre .3 .1) (c .before .before .before .before .before .before .before .before .before .before .before .before .pre .3 .2)))

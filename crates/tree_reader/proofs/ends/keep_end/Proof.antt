@@ -1,6 +1,7 @@
+use Rattle.tree_reader.proofs.ends.last_place.Reads as last-place-reads
 use mathlib.Core.Logic.{inl}
 use native.Mathlib.Omega.{arith}
-use Rattle.tree_reader.proofs.Keeping.{kept-put}
+use Rattle.tree_reader.proofs.Keeping.{kept-both}
 use borrow.Author.Needs.{needs}
 use Rattle.tree_reader.proofs.ends.keep_end.Statement.{statement}
 use Rattle.tree_reader.proofs.ends.keep_end.Tie as tie
@@ -22,7 +23,7 @@ returns-3 : tie.Need-returns-3
 returns-3 c = λ k p e h. inl h
 
 returns-4 : tie.Need-returns-4
-returns-4 c = λ k p e h. kept-put _ _ _ _ _ (c .before .before .before .before .before .before .before .before .before .before .before .before .before .before .before .pre .0) (omega (arith, c .before .before .before .before .before .before .before .before .first-place .ensures, c .before .before .before .before .before .before .before .shorter-place .ensures)) k p e (rw (c .before .before .put-end .ensures) at h)
+returns-4 c = kept-both _ _ _ _ _ _ _ _ (c .before .before .before .before .before .before .before .before .before .before .before .before .before .before .before .before .before .before .before .before .pre .0) (omega (arith, c .before .before .before .before .before .before .before .before .before .before .before .before .before .first-place .ensures, c .before .before .before .before .before .before .before .before .before .before .before .before .shorter-place .ensures)) (c .before .before .before .before .before .before .before .before .last-place .ensures) (c .before .before .before .before .before .before .put-end .ensures) (c .before .before .put-end2 .ensures)
 
 returns-5 : tie.Need-returns-5
 returns-5 c = λ k p e h. inl h
@@ -40,6 +41,8 @@ keep-end-spec =
     (λ c κs. search needs)
     (λ c κs. search needs)
     (λ c. search needs)
+    (λ c κs. search needs)
+    (λ c κs. search needs)
     (λ c κs. search needs)
     (λ c. search needs)
     returns-4
