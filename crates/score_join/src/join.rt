@@ -31,6 +31,7 @@ use tree_reader::index::INDEX;
 use tree_reader::index::put_all;
 use tree_reader::node::Syntax;
 use tree_reader::node::place_at;
+use tree_reader::read::CODE_LEVELS;
 ghost use mathlib.Core.Path.{_≡_};
 ghost use mathlib.Core.Bool.{true};
 ghost use mathlib.Core.List.{_∷_, [], _++_};
@@ -55,9 +56,6 @@ ghost use Rattle.score_join.specs.Inner.Loading.{Parts, LoadAsks, clause
 
 // A joined table has at most so many bytes: a load has less than two for each byte of its production's field.
 const JOINED: usize = 2048;
-
-// The levels that the code of a clause may have.
-const CODE_LEVELS: usize = 16;
 
 // Where what was put ends, or that a figure does not fit two bytes.
 pub enum Joined {

@@ -8,6 +8,7 @@ use outcome::Outcome;
 use outcome::Reason;
 use tree_reader::index::INDEX;
 use tree_reader::index::put_all;
+use tree_reader::read::TREE_LEVELS;
 ghost use mathlib.Core.Path.{_≡_};
 ghost use Prim.Native.Nat.{_<_};
 ghost use Rattle.outcome.specs.Outcome.{value, refused};
@@ -16,9 +17,6 @@ ghost use Rattle.score_tree.specs.LoadTable.{Table};
 ghost use Rattle.score_tree.specs.Inner.Spreads.{spread};
 ghost use mathlib.Core.Bool.{true};
 ghost use Rattle.score_tree.specs.Inner.Answering.{Answers, Held, endsOn, planEnds};
-
-// The levels that a plan handed in may have.
-pub const PLAN_LEVELS: usize = 64;
 
 // What a score hands back: there is no output, so an acceptance has length 0; a refusal has 0 at both ends.
 pub struct PlanScored {
@@ -57,7 +55,7 @@ fn score_kind(language: &[u8], figures: &[i32], kind: u8, tree: &[u8], width: us
 {
     let mut index = [0u16; INDEX];
     put_all(language, CLASS, &mut index);
-    match ends_at(language, &index, figures, width, kind, tree, 0, PLAN_LEVELS) {
+    match ends_at(language, &index, figures, width, kind, tree, 0, TREE_LEVELS) {
         Bounds::Between(low, high, e) => {
             if e != tree.len() {
                 return refuse(Reason::IllegalTree);
