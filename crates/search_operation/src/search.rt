@@ -1,4 +1,5 @@
 // The operation that searches back. It measures the first source tree and writes it only where it fits.
+use crate::kinds::put_kinds;
 use check_operations::translations::check_translation;
 use check_operations::trees::check_indexed;
 use format_fields::bytes::byte_at;
@@ -16,84 +17,84 @@ use outcome::accept;
 use outcome::refuse;
 use run_table::prepare::begin;
 use run_table::prepare::prepare;
+use search_first::put::Wanted;
 use search_first::put::put_first;
+use search_levels::ends::keep_ends;
+use search_levels::levels::Sought;
 use search_levels::levels::need;
+use search_levels::memory::POSITION;
 use search_levels::memory::clear;
+use tree_index::operands::operands_at;
 use tree_reader::index::INDEX;
 use tree_reader::index::TABLE;
-use tree_reader::index::build;
 use tree_reader::kinds::is_in;
 use tree_reader::node::USES;
 ghost use mathlib.Core.Path.{_≡_};
 ghost use mathlib.Core.Option.{some};
-ghost use Prim.Native.Nat.{_<_, _≤_};
-ghost use lib.ListN.{length, replicate};
+ghost use Prim.Native.Nat.{ℕ, _<_, _≤_};
+ghost use lib.ListN.{length, getD, replicate};
 ghost use Rattle.tree_reader.specs.Code.{Code};
 ghost use Rattle.format_translation.specs.Translation.{Translation, Body};
 ghost use Rattle.format_translation.specs.TranslationFile.{bodyOf};
+ghost use Rattle.format_translation.specs.Running.{clausesOf};
+ghost use Rattle.search_sources.specs.Inner.Levels.{Needs as NeedsLevels};
 ghost use Rattle.search_levels.specs.Inner.Setting.{Seeks};
 ghost use Rattle.search_sources.specs.Operations.{foundIn, searchTree};
-ghost use Rattle.search_operation.specs.Inner.Finding.{Searchable, Rooted, Mapped, Placed, Answers, readyIn, readyFrom, Leaves};
+ghost use Rattle.search_operation.specs.Inner.Finding.{Searchable, Rooted, Mapped, Placed, Opened, Answers, readyIn, readyFrom, Leaves};
 
 // The most levels that a search may have.
 const MOST_LEVELS: u32 = 16;
 
-// The first source tree of a kind for the whole tree, within a limit of levels: 23, 17.
-fn find(
+// The longest tree that a search has a memory of its own for, and that memory: 36 bytes for each byte of the tree.
+const SHORT_TREE: usize = 2048;
+
+const OWN_MEMORY: usize = 73728;
+
+// What is searched for: a source tree of a kind within a limit of levels.
+struct Within {
+    kind: usize,
+    limit: usize,
+}
+
+// Writes the first source tree of a kind for the whole tree, which has one within the levels: 17.
+fn write_found(
     table: &[u16; TABLE],
     source: &[u8],
-    index: &[u16],
     target: &[u8],
     places: &[u16],
     kinds: &[u8],
     tree: &[u8],
     memory: &mut [u8],
     free: &mut [u8],
-    kind: usize,
-    limit: usize,
+    within: Within,
     output: &mut [u8],
 ) -> Answer
-    requires { ⌜ (limit ≤ 16) × ((f : Translation) × (u : Code) × Seeks (now table) (now source) (now index) (now target) (now places) (now kinds) (now tree) (now memory) (now free) kind 0 f (some u) × Rooted (now source) (now target) (now tree) f u) ⌝ }
+    requires { ⌜ (within .limit ≤ 16) × ((f : Translation) × (u : Code) × Seeks (now table) (now source) (now target) (now places) (now kinds) (now tree) (now memory) (now free) (within .kind) 0 f (some u) × Rooted (now source) (now target) (now tree) f u) ⌝ }
     ensures { λ r. ⌜ (length (now (memory .exit)) ≡ length (now (memory .entry)))
-        × ((f : Translation) (u : Code) → Seeks (now (table .entry)) (now (source .entry)) (now (index .entry)) (now (target .entry)) (now (places .entry)) (now (kinds .entry)) (now (tree .entry)) (now (memory .entry)) (now (free .entry)) kind 0 f (some u) → Rooted (now (source .entry)) (now (target .entry)) (now (tree .entry)) f u
-        → Answers (foundIn f kind (now (tree .entry)) limit (length (now (output .entry)))) (now (output .entry)) (now (output .exit)) (r .outcome)) ⌝ }
+        × ((f : Translation) (u : Code) → Seeks (now (table .entry)) (now (source .entry)) (now (target .entry)) (now (places .entry)) (now (kinds .entry)) (now (tree .entry)) (now (memory .entry)) (now (free .entry)) (within .kind) 0 f (some u) → Rooted (now (source .entry)) (now (target .entry)) (now (tree .entry)) f u
+        → (needed : ℕ) → NeedsLevels (f .source) (clausesOf f) (within .limit) (within .kind) (some u) needed → needed ≤ within .limit
+        → Answers (foundIn f (within .kind) (now (tree .entry)) (within .limit) (length (now (output .entry)))) (now (output .entry)) (now (output .exit)) (r .outcome)) ⌝ }
 {
     let room = output.len();
-    let past = room + 1;
-    let needed = need(
-        table,
-        source,
-        index,
-        target,
-        places,
-        kinds,
-        tree,
-        memory,
-        free,
-        kind,
-        0,
-        limit,
-    );
-    if limit < needed {
-        return refuse(Reason::NoSource);
-    }
+    let wanted = Wanted {
+        kind: within.kind,
+        at: 0,
+        levels: within.limit,
+        limit: room + 1,
+        pos: 0,
+    };
     let mut spare = [0u8; 1];
     let n = put_first(
         table,
         source,
-        index,
         target,
         places,
         kinds,
         tree,
         memory,
         free,
-        kind,
-        0,
-        limit,
-        past,
+        wanted,
         &mut spare,
-        0,
     );
     if room < n {
         return refuse(Reason::OutputTooShort);
@@ -101,21 +102,188 @@ fn find(
     put_first(
         table,
         source,
-        index,
         target,
         places,
         kinds,
         tree,
         memory,
         free,
-        kind,
-        0,
-        limit,
-        past,
+        wanted,
         output,
-        0,
     );
     accept(n)
+}
+
+// The first source tree of a kind for the whole tree, within a limit of levels: 23, 17.
+fn find(
+    table: &[u16; TABLE],
+    source: &[u8],
+    target: &[u8],
+    places: &[u16],
+    kinds: &[u8],
+    tree: &[u8],
+    memory: &mut [u8],
+    free: &mut [u8],
+    within: Within,
+    output: &mut [u8],
+) -> Answer
+    requires { ⌜ (within .limit ≤ 16) × ((f : Translation) × (u : Code) × Seeks (now table) (now source) (now target) (now places) (now kinds) (now tree) (now memory) (now free) (within .kind) 0 f (some u) × Rooted (now source) (now target) (now tree) f u) ⌝ }
+    ensures { λ r. ⌜ (length (now (memory .exit)) ≡ length (now (memory .entry)))
+        × ((f : Translation) (u : Code) → Seeks (now (table .entry)) (now (source .entry)) (now (target .entry)) (now (places .entry)) (now (kinds .entry)) (now (tree .entry)) (now (memory .entry)) (now (free .entry)) (within .kind) 0 f (some u) → Rooted (now (source .entry)) (now (target .entry)) (now (tree .entry)) f u
+        → Answers (foundIn f (within .kind) (now (tree .entry)) (within .limit) (length (now (output .entry)))) (now (output .entry)) (now (output .exit)) (r .outcome)) ⌝ }
+{
+    let needed = need(
+        table,
+        source,
+        target,
+        places,
+        kinds,
+        tree,
+        memory,
+        free,
+        Sought {
+            kind: within.kind,
+            at: 0,
+            levels: within.limit,
+        },
+    );
+    if within.limit < needed {
+        return refuse(Reason::NoSource);
+    }
+    write_found(
+        table,
+        source,
+        target,
+        places,
+        kinds,
+        tree,
+        memory,
+        free,
+        within,
+        output,
+    )
+}
+
+// The same over a memory that is all zero, in which it is first kept where the parts of the tree end.
+fn find_in(
+    table: &[u16; TABLE],
+    source: &[u8],
+    target: &[u8],
+    places: &[u16],
+    kinds: &[u8],
+    tree: &[u8],
+    memory: &mut [u8],
+    kind: usize,
+    limit: usize,
+    output: &mut [u8],
+) -> Answer
+    requires { ⌜ (kind < 32) × (limit ≤ 16) × ((i : ℕ) → getD (now memory) i 0 ≡ 0) × ((f : Translation) × (u : Code) × Opened (now table) (now source) (now target) (now places) (now kinds) (now tree) kind f u) ⌝ }
+    ensures { λ r. ⌜ (length (now (memory .exit)) ≡ length (now (memory .entry)))
+        × ((f : Translation) (u : Code) → Opened (now (table .entry)) (now (source .entry)) (now (target .entry)) (now (places .entry)) (now (kinds .entry)) (now (tree .entry)) kind f u → Answers (foundIn f kind (now (tree .entry)) limit (length (now (output .entry)))) (now (output .entry)) (now (output .exit)) (r .outcome)) ⌝ }
+{
+    let operands = operands_at(target, places, byte_at(kinds, kind), tree, 0);
+    keep_ends(
+        target,
+        places,
+        operands.first,
+        operands.last,
+        tree,
+        operands.to,
+        memory,
+    );
+    let mut free = [0u8; 32];
+    find(
+        table,
+        source,
+        target,
+        places,
+        kinds,
+        tree,
+        memory,
+        &mut free,
+        Within { kind, limit },
+        output,
+    )
+}
+
+// The same over a memory of its own, which is long enough for a short tree.
+fn find_here(
+    table: &[u16; TABLE],
+    source: &[u8],
+    target: &[u8],
+    places: &[u16],
+    kinds: &[u8],
+    tree: &[u8],
+    kind: usize,
+    limit: usize,
+    output: &mut [u8],
+) -> Answer
+    requires { ⌜ (kind < 32) × (limit ≤ 16) × ((f : Translation) × (u : Code) × Opened (now table) (now source) (now target) (now places) (now kinds) (now tree) kind f u) ⌝ }
+    ensures { λ r. ⌜ ((f : Translation) (u : Code) → Opened (now (table .entry)) (now (source .entry)) (now (target .entry)) (now (places .entry)) (now (kinds .entry)) (now (tree .entry)) kind f u → Answers (foundIn f kind (now (tree .entry)) limit (length (now (output .entry)))) (now (output .entry)) (now (output .exit)) (r .outcome)) ⌝ }
+{
+    let mut memory = [0u8; OWN_MEMORY];
+    find_in(
+        table,
+        source,
+        target,
+        places,
+        kinds,
+        tree,
+        &mut memory,
+        kind,
+        limit,
+        output,
+    )
+}
+
+// The same over the lent workspace, which is all zero at exit; where it is too short for the tree, and the tree is short, over a
+// memory of its own.
+fn find_over(
+    table: &[u16; TABLE],
+    source: &[u8],
+    target: &[u8],
+    places: &[u16],
+    kinds: &[u8],
+    tree: &[u8],
+    workspace: &mut [u8],
+    kind: usize,
+    limit: usize,
+    output: &mut [u8],
+) -> Answer
+    requires { ⌜ (kind < 32) × (limit ≤ 16) × ((f : Translation) × (u : Code) × Opened (now table) (now source) (now target) (now places) (now kinds) (now tree) kind f u) ⌝ }
+    ensures { λ r. ⌜ (now (workspace .exit) ≡ replicate (length (now (workspace .entry))) 0)
+        × ((f : Translation) (u : Code) → Opened (now (table .entry)) (now (source .entry)) (now (target .entry)) (now (places .entry)) (now (kinds .entry)) (now (tree .entry)) kind f u → Answers (foundIn f kind (now (tree .entry)) limit (length (now (output .entry)))) (now (output .entry)) (now (output .exit)) (r .outcome)) ⌝ }
+{
+    clear(workspace);
+    if workspace.len() / POSITION < tree.len() {
+        if tree.len() <= SHORT_TREE {
+            return find_here(
+                table,
+                source,
+                target,
+                places,
+                kinds,
+                tree,
+                kind,
+                limit,
+                output,
+            );
+        }
+    }
+    let answer = find_in(
+        table,
+        source,
+        target,
+        places,
+        kinds,
+        tree,
+        workspace,
+        kind,
+        limit,
+        output,
+    );
+    clear(workspace);
+    answer
 }
 
 // The search for a tree that was accepted: its workspace is all zero at exit.
@@ -124,16 +292,15 @@ fn search_placed(
     target: &[u8],
     body: &[u8],
     places: &[u16],
-    kinds: &[u8],
     kind: usize,
     tree: &[u8],
     limit: usize,
     workspace: &mut [u8],
     output: &mut [u8],
 ) -> Answer
-    requires { ⌜ (kind < 32) × (limit ≤ 16) × ((f : Translation) × (u : Code) × Searchable (now source) (now target) (now body) f × Placed (now target) (now places) (now kinds) (now tree) kind f u) ⌝ }
+    requires { ⌜ (kind < 32) × (limit ≤ 16) × ((f : Translation) × (u : Code) × Searchable (now source) (now target) (now body) f × Placed (now target) (now places) (now tree) kind f u) ⌝ }
     ensures { λ r. ⌜ (now (workspace .exit) ≡ replicate (length (now (workspace .entry))) 0)
-        × ((f : Translation) (u : Code) → Searchable (now (source .entry)) (now (target .entry)) (now (body .entry)) f → Placed (now (target .entry)) (now (places .entry)) (now (kinds .entry)) (now (tree .entry)) kind f u
+        × ((f : Translation) (u : Code) → Searchable (now (source .entry)) (now (target .entry)) (now (body .entry)) f → Placed (now (target .entry)) (now (places .entry)) (now (tree .entry)) kind f u
         → Answers (foundIn f kind (now (tree .entry)) limit (length (now (output .entry)))) (now (output .entry)) (now (output .exit)) (r .outcome)) ⌝ }
 {
     let mut table = [0u16; TABLE];
@@ -141,26 +308,20 @@ fn search_placed(
     let mut uses = [0u8; USES];
     put_uses(body, &mut uses);
     prepare(source, target, body, &uses, &mut table);
-    let mut index = [0u16; INDEX];
-    build(source, &mut index);
-    let mut free = [0u8; 32];
-    clear(workspace);
-    let answer = find(
+    let mut kinds = [0u8; 64];
+    put_kinds(&table, &uses, &mut kinds);
+    find_over(
         &table,
         source,
-        &index,
         target,
         places,
-        kinds,
+        &kinds,
         tree,
         workspace,
-        &mut free,
         kind,
         limit,
         output,
-    );
-    clear(workspace);
-    answer
+    )
 }
 
 // Puts the kind that each kind maps to by number 0, by a body, into a table of 32.
@@ -208,7 +369,6 @@ fn search_in(
         target,
         body,
         &places,
-        &kinds,
         kind,
         tree,
         limit as usize,
