@@ -6,24 +6,29 @@ PREFIX ?= /usr/local
 LIBDIR ?= $(PREFIX)/lib
 INCLUDEDIR ?= $(PREFIX)/include
 PKGCONFIGDIR ?= $(LIBDIR)/pkgconfig
+BINDIR ?= $(PREFIX)/bin
+MANDIR ?= $(PREFIX)/share/man/man1
+BASHDIR ?= $(PREFIX)/share/bash-completion/completions
+ZSHDIR ?= $(PREFIX)/share/zsh/site-functions
 
 # The folder of the archive. Where it is named, the archive is taken from there as it is.
 BUILT_ARCHIVE := $(if $(ALGEBRA_LIB_DIR),,$(CURDIR)/target/staticlib/libalgebra.a)
 ALGEBRA_LIB_DIR ?= target/staticlib
 export ALGEBRA_LIB_DIR := $(abspath $(ALGEBRA_LIB_DIR))
 ARCHIVE := $(ALGEBRA_LIB_DIR)/libalgebra.a
-COMMAND := client/command/target/release/algebra
+COMMAND := target/release/algebra
 SHARED := target/lib/$(SONAME)
 PROVED := crates.txt $(shell find crates -name '*.rt' -o -name '*.antt')
 
-.PHONY: help run test library command examples install uninstall
+.PHONY: help run test library command examples install uninstall target/share
 
 help:
 	@echo 'make run        builds what is needed and shows a session: check, reduce, list, run'
 	@echo 'make test       all tests, as .ci/run does'
 	@echo 'make library    the archive target/staticlib/libalgebra.a and the listing program, proved'
 	@echo 'make command    the command $(COMMAND)'
-	@echo 'make install    header, archive, shared library and algebra.pc below PREFIX ($(PREFIX)); DESTDIR too'
+	@echo 'make install    command, its manual page and completion, header, archive, shared library and algebra.pc'
+	@echo '                below PREFIX ($(PREFIX)); DESTDIR too'
 	@echo 'make uninstall  takes them away again'
 	@echo 'make examples   writes the made files of examples/ anew'
 
@@ -35,13 +40,12 @@ test:
 
 library: $(ARCHIVE)
 
-# The libraries and the listing program first, two at a time; then the archive, which proves the C interface.
+# All that is needed is proved in one go, four crates at a time, with a line for each; then the archive is built.
 $(BUILT_ARCHIVE): $(PROVED)
-	rt check runner listing
-	rt staticlib algebra
+	@bash crates/prove
 
 command: $(ARCHIVE)
-	cargo build --quiet --release --offline --manifest-path client/command/Cargo.toml
+	cargo build --quiet --release --offline --package algebra-command
 
 examples: $(ARCHIVE)
 	bash examples/write
@@ -58,8 +62,19 @@ target/lib/algebra.pc: include/algebra.pc.in FORCE
 
 FORCE:
 
-install: $(ARCHIVE) $(SHARED) target/lib/algebra.pc
-	install -d $(DESTDIR)$(INCLUDEDIR) $(DESTDIR)$(LIBDIR) $(DESTDIR)$(PKGCONFIGDIR)
+# The manual page and completion, which the command prints from its table of verbs.
+target/share: command
+	mkdir -p $@
+	$(COMMAND) manual > $@/algebra.1
+	$(COMMAND) completion bash > $@/algebra.bash
+	$(COMMAND) completion zsh > $@/_algebra
+
+install: $(ARCHIVE) $(SHARED) target/lib/algebra.pc target/share
+	install -d $(addprefix $(DESTDIR),$(INCLUDEDIR) $(LIBDIR) $(PKGCONFIGDIR) $(BINDIR) $(MANDIR) $(BASHDIR) $(ZSHDIR))
+	install -m 755 $(COMMAND) $(DESTDIR)$(BINDIR)
+	install -m 644 target/share/algebra.1 $(DESTDIR)$(MANDIR)
+	install -m 644 target/share/algebra.bash $(DESTDIR)$(BASHDIR)/algebra
+	install -m 644 target/share/_algebra $(DESTDIR)$(ZSHDIR)
 	install -m 644 include/algebra.h $(DESTDIR)$(INCLUDEDIR)
 	install -m 644 $(ARCHIVE) $(DESTDIR)$(LIBDIR)
 	install -m 755 $(SHARED) $(DESTDIR)$(LIBDIR)
@@ -69,3 +84,4 @@ install: $(ARCHIVE) $(SHARED) target/lib/algebra.pc
 uninstall:
 	rm -f $(DESTDIR)$(INCLUDEDIR)/algebra.h $(DESTDIR)$(PKGCONFIGDIR)/algebra.pc
 	rm -f $(addprefix $(DESTDIR)$(LIBDIR)/,libalgebra.a $(SONAME) libalgebra.so)
+	rm -f $(addprefix $(DESTDIR),$(BINDIR)/algebra $(MANDIR)/algebra.1 $(BASHDIR)/algebra $(ZSHDIR)/_algebra)

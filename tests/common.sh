@@ -1,5 +1,5 @@
 # Shared by the tests, and by examples/write; sourced in the root of the repository. Counts, compares, and builds the
-# program that asks the library (tests/ask.c). The library is looked for in the folder ALGEBRA_LIB_DIR, or else in
+# program that asks the library (tests/ask.c) and the command. The library is looked for in the folder ALGEBRA_LIB_DIR, or else in
 # target/staticlib; the listing program is LISTING, or else target/bin/listing.
 passed=0
 failed=0
@@ -36,6 +36,16 @@ build_ask() {
     ask=$room/ask
     if ! gcc -std=c99 -O2 -Wall -Wextra -Wpedantic -Werror -Iinclude tests/ask.c "$library" -o "$ask"; then
         count 'tests/ask.c can be built' 1
+        finish
+        exit 1
+    fi
+}
+
+# Builds the command; without it there is nothing to test.
+build_command() {
+    command=$PWD/target/release/algebra
+    if ! cargo build --quiet --release --offline --package algebra-command; then
+        count 'the command can be built' 1
         finish
         exit 1
     fi

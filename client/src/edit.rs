@@ -1,6 +1,6 @@
 //! The index of a tree, and edits of a tree that has one.
 
-use crate::{accepted, accepted_length, raw, Refusal, ENTRY_BYTES, INDEXED_BYTES};
+use crate::{accepted, accepted_length, in_output, raw, Refusal, ENTRY_BYTES, INDEXED_BYTES};
 
 /// Builds the index of a tree of the root kind, which is put at the start of the output: for each
 /// node, tokens too, in reading order its start and its length, two bytes each. Gives its length.
@@ -34,10 +34,8 @@ pub fn index(language: &[u8], root: u32, tree: &[u8], output: &mut [u8]) -> Resu
 /// ```
 pub fn index_to_vec(language: &[u8], root: u32, tree: &[u8]) -> Result<Vec<u8>, Refusal> {
     // Each node has a byte of its own, and a longer tree is refused for its length.
-    let mut output = vec![0; ENTRY_BYTES * tree.len().min(INDEXED_BYTES)];
-    let length = index(language, root, tree, &mut output)?;
-    output.truncate(length);
-    Ok(output)
+    let room = ENTRY_BYTES * tree.len().min(INDEXED_BYTES);
+    in_output(room, |output| index(language, root, tree, output))
 }
 
 /// Replaces the block of a tree at a path by another legal tree of its kind, if the card shows that

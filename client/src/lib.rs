@@ -192,10 +192,7 @@ pub fn reduce(pack: &[u8], output: &mut [u8]) -> Result<usize, Refusal> {
 /// assert_eq!(algebra::reduce_to_vec(&unbound), Err(algebra::Refusal::UnboundVariable));
 /// ```
 pub fn reduce_to_vec(pack: &[u8]) -> Result<Vec<u8>, Refusal> {
-    let mut output = vec![0; TRANSLATION_BYTES];
-    let length = reduce(pack, &mut output)?;
-    output.truncate(length);
-    Ok(output)
+    in_output(TRANSLATION_BYTES, |output| reduce(pack, output))
 }
 
 /// What is told of an accepted run.
@@ -294,6 +291,29 @@ pub fn run_to_vec(
         run(translation, root, number, tree, output).map(|run| (run.length, run.cost))
     };
     in_growing_output(tree.len(), limit, call).map(|(tree, cost)| Ran { tree, cost })
+}
+
+/// What a call puts into an output of so many bytes, which is allocated. The call gives the length of
+/// its result. Where memory has no room for the output, the answer is 17.
+///
+/// ```
+/// use algebra::{in_output, mask, Refusal};
+///
+/// // The production 1.4, without arguments, and a card that shows nothing.
+/// let (language, card) = ([0x12, 0, 2, 1, 4], algebra::card([]));
+/// let masked = |room| in_output(room, |output| mask(&language, 1, &card, &[4], output));
+/// assert_eq!(masked(9), Ok(vec![0xFF]));
+/// assert_eq!(masked(0), Err(Refusal::OutputTooShort));
+/// ```
+pub fn in_output(
+    room: usize,
+    call: impl FnOnce(&mut [u8]) -> Result<usize, Refusal>,
+) -> Result<Vec<u8>, Refusal> {
+    let mut output = output_of(room).ok_or(Refusal::OutputTooShort)?;
+    let length = call(&mut output)?;
+    output.truncate(length);
+    output.shrink_to_fit();
+    Ok(output)
 }
 
 /// What a call puts into an output that is allocated, for a tree of so many bytes, and is made longer

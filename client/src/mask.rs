@@ -1,6 +1,6 @@
 //! Viewers' cards, and plans masked by them.
 
-use crate::{accepted_length, raw, Refusal};
+use crate::{accepted_length, in_output, raw, Refusal};
 
 /// The tag of a card's field.
 const CARD_TAG: u8 = 0x27;
@@ -11,11 +11,22 @@ const CARD_TAG: u8 = 0x27;
 /// assert_eq!(algebra::card([2, 1, 2]), [0x27, 0, 2, 1, 2]);
 /// assert_eq!(algebra::card([]), [0x27, 0, 0]);
 /// ```
+///
+/// A number from 32 on is no kind, and a card with one is refused (2):
+///
+/// ```
+/// let card = algebra::card(0..=255);
+/// assert_eq!((card.len(), &card[..3]), (259, &[0x27, 1, 0][..]));
+/// let refused = algebra::mask_to_vec(&[], 0, &card, &[]);
+/// assert_eq!(refused, Err(algebra::Refusal::BrokenField));
+/// ```
 pub fn card(kinds: impl IntoIterator<Item = u8>) -> Vec<u8> {
     let mut kinds: Vec<u8> = kinds.into_iter().collect();
     kinds.sort_unstable();
     kinds.dedup();
-    [vec![CARD_TAG, 0, kinds.len() as u8], kinds].concat()
+    // There are at most 256 of them.
+    let [high, low] = (kinds.len() as u16).to_be_bytes();
+    [vec![CARD_TAG, high, low], kinds].concat()
 }
 
 /// Masks a tree of the root kind by a card: each block of a kind that is not on the card, root and
@@ -66,8 +77,5 @@ pub fn mask_to_vec(
     tree: &[u8],
 ) -> Result<Vec<u8>, Refusal> {
     // A block has a byte or more, and one byte where it is hidden.
-    let mut output = vec![0; tree.len()];
-    let length = mask(language, root, card, tree, &mut output)?;
-    output.truncate(length);
-    Ok(output)
+    in_output(tree.len(), |output| mask(language, root, card, tree, output))
 }

@@ -1,6 +1,6 @@
 //! Load scores of trees, and load tables joined onto translations.
 
-use crate::{accepted, accepted_length, raw, Refusal, TABLE_BYTES};
+use crate::{accepted, accepted_length, in_output, raw, Refusal, TABLE_BYTES};
 
 /// Scores a tree of the root kind by a load table of the language.
 ///
@@ -71,8 +71,5 @@ pub fn join_table(translation: &[u8], table: &[u8], output: &mut [u8]) -> Result
 /// assert_eq!(algebra::join_table_to_vec(&empty, &[]), Ok(vec![]));
 /// ```
 pub fn join_table_to_vec(translation: &[u8], table: &[u8]) -> Result<Vec<u8>, Refusal> {
-    let mut output = vec![0; TABLE_BYTES];
-    let length = join_table(translation, table, &mut output)?;
-    output.truncate(length);
-    Ok(output)
+    in_output(TABLE_BYTES, |output| join_table(translation, table, output))
 }

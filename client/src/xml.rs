@@ -1,6 +1,6 @@
 //! Trees as XML.
 
-use crate::{accepted_length, output_of, raw, Refusal};
+use crate::{accepted_length, in_output, raw, Refusal};
 
 /// The most bytes of text for a byte of a tree: those of `<x31.255></x31.255>`.
 const TEXT_MOST: usize = 19;
@@ -102,16 +102,4 @@ pub fn import_to_vec(
 ) -> Result<Vec<u8>, Refusal> {
     let room = (text.len() / TEXT_LEAST).min(limit);
     in_output(room, |output| import(language, root, text, output))
-}
-
-/// What a call puts into an output of so many bytes.
-fn in_output(
-    room: usize,
-    call: impl FnOnce(&mut [u8]) -> Result<usize, Refusal>,
-) -> Result<Vec<u8>, Refusal> {
-    let mut output = output_of(room).ok_or(Refusal::OutputTooShort)?;
-    let length = call(&mut output)?;
-    output.truncate(length);
-    output.shrink_to_fit();
-    Ok(output)
 }

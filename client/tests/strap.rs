@@ -3,7 +3,7 @@
 use algebra::{raw, Refusal, Run, TRANSLATION_BYTES, WORKSPACE_BYTES};
 
 /// The pack of the example: the sum of "twice" and the identity of the strap.
-const PACK: &[u8] = include_bytes!("../../examples/plan.pack");
+const PACK: &[u8] = include_bytes!("../../examples/strap/plan.pack");
 
 /// What fills a buffer before a call.
 const MARK: u8 = 0xEE;

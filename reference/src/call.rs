@@ -55,6 +55,13 @@ pub struct Answer {
     pub cost: u32,
 }
 
+/// An input of a call, as it is shown.
+#[derive(Clone, Copy, Debug)]
+pub enum Input<'a> {
+    Bytes(&'a [u8]),
+    Number(u64),
+}
+
 /// Lent buffers hold these bytes at the start.
 pub const WORKSPACE_MARK: u8 = 0xAA;
 pub const OUTPUT_MARK: u8 = 0xBB;
@@ -138,6 +145,76 @@ impl Call {
             output: vec![OUTPUT_MARK; output],
             index: vec![OUTPUT_MARK; index],
         }
+    }
+
+    /// The bytes that the call is handed, by their names.
+    fn files(&self) -> Vec<(&'static str, &[u8])> {
+        let in_language = |language, name, tree| vec![("language", language), (name, tree)];
+        match self {
+            Call::CheckLanguage(language) => vec![("language", language)],
+            Call::CheckTranslation(translation) => vec![("translation", translation)],
+            Call::CheckTree(case) => in_language(&case.language[..], "tree", &case.tree[..]),
+            Call::Reduce(case) => vec![("pack", &case.pack)],
+            Call::Run(case) => vec![("translation", &case.translation), ("tree", &case.tree)],
+            Call::Score(case) | Call::ScoreLoose(case) => {
+                vec![("language", &case.language), ("tree", &case.tree), ("table", &case.table)]
+            }
+            Call::JoinTable(case) => {
+                vec![("translation", &case.translation), ("table", &case.table)]
+            }
+            Call::Export(case) => in_language(&case.language, "tree", &case.tree),
+            Call::Import(case) => in_language(&case.language, "text", &case.text),
+            Call::Index(case) => in_language(&case.language, "tree", &case.tree),
+            Call::Block(case) => {
+                let BlockCase { language, tree, index, path, .. } = case;
+                vec![("language", language), ("tree", tree), ("index", index), ("path", path)]
+            }
+            Call::Edit(case) => {
+                let EditCase { language, tree, index, path, card, block, .. } = case;
+                let of_tree = [("language", &language[..]), ("tree", tree), ("index", index)];
+                [&of_tree[..], &[("path", path), ("card", card), ("block", block)]].concat()
+            }
+            Call::Mask(case) => {
+                vec![("language", &case.language), ("card", &case.card), ("tree", &case.tree)]
+            }
+            Call::Search(case) => vec![("translation", &case.translation), ("tree", &case.tree)],
+        }
+    }
+
+    /// The root, if the call has one.
+    fn root(&self) -> Option<u32> {
+        match self {
+            Call::CheckTree(case) => Some(case.root),
+            Call::Run(case) => Some(case.root),
+            Call::Score(case) | Call::ScoreLoose(case) => Some(case.root),
+            Call::Export(case) => Some(case.root),
+            Call::Import(case) => Some(case.root),
+            Call::Index(case) => Some(case.root),
+            Call::Block(case) => Some(case.root),
+            Call::Edit(case) => Some(case.root),
+            Call::Mask(case) => Some(case.root),
+            Call::Search(case) => Some(case.root),
+            _ => None,
+        }
+    }
+
+    /// All inputs by name, with the lengths of the buffers.
+    pub fn inputs(&self) -> Vec<(&'static str, Input<'_>)> {
+        let files = self.files().into_iter().map(|(name, bytes)| (name, Input::Bytes(bytes)));
+        let numbers = match self {
+            Call::Run(case) => vec![("number", case.number)],
+            Call::Search(case) => vec![("limit", case.limit)],
+            _ => vec![],
+        };
+        let roots = self.root().map(|root| ("root", root));
+        let numbers = roots.into_iter().chain(numbers);
+        let Buffers { workspace, output, index } = self.buffers();
+        let lengths = [("workspace length", workspace.len()), ("output length", output.len())];
+        let lengths = lengths.into_iter().chain([("index length", index.len())]);
+        files
+            .chain(numbers.map(|(name, number)| (name, Input::Number(u64::from(number)))))
+            .chain(lengths.map(|(name, length)| (name, Input::Number(length as u64))))
+            .collect()
     }
 
     /// Calls the reference.

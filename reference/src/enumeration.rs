@@ -71,7 +71,8 @@ impl Lister<'_> {
             if trees.len() * rows.len() > self.most {
                 return None;
             }
-            let with = |row: &Vec<Listed>, tree: &Listed| [&row[..], &[tree.clone()]].concat();
+            let with =
+                |row: &Vec<Listed>, tree: &Listed| [&row[..], std::slice::from_ref(tree)].concat();
             let wider = rows.iter().flat_map(|row| trees.iter().map(move |tree| with(row, tree)));
             rows = wider.collect();
         }

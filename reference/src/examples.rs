@@ -92,9 +92,9 @@ pub fn pack_with_wider_strap() -> Vec<u8> {
     pack(&languages, &bodies, &[&first[..], &SUM].concat())
 }
 
-/// The packs that stand in files, with the names of the files.
+/// The packs that stand in files, with the names of their folders.
 pub fn example_packs() -> Vec<(&'static str, Vec<u8>)> {
-    vec![("plan", pack_with_sum()), ("wider", pack_with_wider_strap())]
+    vec![("strap", pack_with_sum()), ("wider", pack_with_wider_strap())]
 }
 
 /// C and K to C or W with this code for 1.3: what the sum, or a join, reduces to.

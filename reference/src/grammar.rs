@@ -39,6 +39,14 @@ impl<'a> Grammar<'a> {
         usize::from(entry).checked_sub(1)
     }
 
+    /// Why there is no production of a kind and a name.
+    pub fn no_production(&self, kind: u8, name: u16) -> String {
+        match self.productions.iter().any(|production| production.result == kind) {
+            true => format!("there is no production {kind}.{name}"),
+            false => format!("kind {kind} is undefined: it has no legal tree"),
+        }
+    }
+
     /// The production at a place.
     #[inline]
     pub fn production(&self, place: usize) -> &'a Production {

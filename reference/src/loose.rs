@@ -27,14 +27,14 @@ pub struct LooseScore {
 
 impl Ends {
     /// Adds so many times what lies between other ends; a negative factor exchanges them.
-    fn add(self, factor: i32, other: Ends) -> Ends {
+    pub fn add(self, factor: i32, other: Ends) -> Ends {
         let products = [i64::from(factor) * other.least, i64::from(factor) * other.greatest];
         let [one, two] = products;
         Ends { least: self.least + one.min(two), greatest: self.greatest + one.max(two) }
     }
 
     /// Whether both ends are scores that a node may have.
-    fn are_scores(&self) -> bool {
+    pub fn are_scores(&self) -> bool {
         let scores = LEAST_SCORE..=MOST_SCORE;
         scores.contains(&self.least) && scores.contains(&self.greatest)
     }

@@ -94,7 +94,7 @@ fn a_list_that_is_translated_twice_costs_twice() {
     let file = |name: &str| std::fs::read(folder.join(name)).expect("a file of the examples");
     let (plan, back) = (file("plan.translation"), file("back.translation"));
     assert_eq!(answer(&plan, 1, 0, &file("session.tree")), (0, 27, 8));
-    assert_eq!(answer(&plan, 3, 1, &file("cool_down.tree")), (0, 11, 3));
+    assert_eq!(answer(&plan, 3, 1, &file("warm_up.tree")), (0, 11, 3));
     assert_eq!(answer(&back, 1, 1, &file("session.tree")), (0, 27, 8), "the join applies as many");
 }
 

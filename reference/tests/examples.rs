@@ -8,10 +8,11 @@ use reference::listing::listing;
 use std::fs;
 use std::path::Path;
 
-/// The bytes of a file among the examples.
-fn example_file(name: &str, ending: &str) -> Vec<u8> {
-    let folder = Path::new(env!("CARGO_MANIFEST_DIR")).join("../examples");
-    fs::read(folder.join(name).with_extension(ending)).expect("the file can be read")
+/// The bytes of the plan in a folder of the examples.
+fn example_file(folder: &str, ending: &str) -> Vec<u8> {
+    let examples = Path::new(env!("CARGO_MANIFEST_DIR")).join("../examples");
+    let plan = examples.join(folder).join("plan");
+    fs::read(plan.with_extension(ending)).expect("the file can be read")
 }
 
 #[test]

@@ -4,7 +4,7 @@
 mod build;
 
 use build::{class, clause, field, load, mapping, pack, production, translation};
-use reference::explain::{self, Fault};
+use reference::explain::{self, Fault, Indexed};
 use reference::generate::{
     block_case, export_case, import_case, index_bytes, join_table_case, language_file,
     long_run_case, reduce_case, run_case, score_case, search_case, translation_file, tree_case,
@@ -165,7 +165,8 @@ fn blocks() {
         let (language, root, tree, index) =
             (&input.language, input.root, &input.tree, &input.index);
         let outcome = block(language, root, tree, index, &input.path).outcome;
-        compare(case, outcome, explain::block(language, root, tree, index, &input.path))
+        let indexed = Indexed { language, root, tree, index: Some(index), card: None };
+        compare(case, outcome, explain::block(&indexed, &input.path))
     });
 }
 
@@ -264,8 +265,9 @@ fn the_place_in_a_path_is_told_with_its_node() {
     let tree = [2, 1, 0, 5, 1, 0, 6];
     let case = TreeCase { language: language.clone(), root: 1, tree: tree.to_vec() };
     let index = index_bytes(&case);
-    let found = |path: &[u8]| text(explain::block(&language, 1, &tree, &index, path));
-    let wrong = explain::block(&language, 1, &tree, &index[1..], &[]);
+    let indexed = |index| Indexed { language: &language, root: 1, tree: &tree, index, card: None };
+    let found = |path: &[u8]| text(explain::block(&indexed(Some(&index)), path));
+    let wrong = explain::block(&indexed(Some(&index[1..])), &[]);
     assert!(text(wrong).starts_with("where: byte "), "the place in an index");
     let expected = "where: byte 0 of the path, at the root\n\
                     fault: production 1.2 has no argument 3: it has 2";

@@ -40,41 +40,75 @@ fn reduced(pack: &Path) -> Vec<u8> {
     output[..outcome.length() as usize].to_vec()
 }
 
-/// The pack, the root and the number that the first line of a tree's source names; the number is 0 if
-/// there is none.
-fn run_by_number(source: &Path) -> (PathBuf, u32, u32) {
+/// What a tree or a session is run or searched by: a pack, a root, a number or a limit of levels, and
+/// the name of what comes of it.
+struct By {
+    pack: PathBuf,
+    root: u32,
+    number: u32,
+    beside: PathBuf,
+}
+
+/// What the lines of a source name, the first and those that begin with "Also": behind a verb the pack
+/// and the root, and behind a word the number, which is 0 if there is none.
+fn all_by(source: &Path, verb: &str, word: &str) -> Vec<By> {
     let text = text(source);
-    let line = text.lines().next().and_then(|line| line.strip_prefix("# Run by "));
-    let words =
-        line.and_then(|line| line.strip_suffix('.')).and_then(|line| line.split_once(", root "));
-    let (pack, words) = words.expect("the first line names a pack and a root");
-    let (root, number) = words.split_once(", number ").unwrap_or((words, "0"));
-    let number = number.parse().expect("a number");
-    (source.with_file_name(pack), root.parse().expect("a root"), number)
+    let also = format!("# Also {} by ", verb.to_lowercase());
+    let first = text.lines().next().and_then(|line| line.strip_prefix(&format!("# {verb} by ")));
+    let others = text.lines().filter_map(|line| line.strip_prefix(&also));
+    let lines = first.into_iter().chain(others);
+    lines.map(|line| by(source, line, word)).collect()
+}
+
+/// What a line of a source names.
+fn by(source: &Path, line: &str, word: &str) -> By {
+    let (pack, words) = line.split_once(", root ").expect("a pack and a root");
+    let (words, name) = words.split_once(", as ").unwrap_or((words, ""));
+    let words = words.trim_end_matches('.');
+    let (root, number) = words.split_once(&format!(", {word} ")).unwrap_or((words, "0"));
+    let name = name.split(['.', ':']).next().unwrap_or_default();
+    let own = source.with_extension("").with_extension("");
+    let beside = if name.is_empty() { own } else { source.with_file_name(name) };
+    By {
+        pack: source.with_file_name(pack),
+        root: root.parse().expect("a root"),
+        number: number.parse().expect("a number"),
+        beside,
+    }
 }
 
 /// The pack and the root that the first line of a tree's source names.
 fn run_by(source: &Path) -> (PathBuf, u32) {
-    let (pack, root, _) = run_by_number(source);
-    (pack, root)
+    let first = all_by(source, "Run", "number").remove(0);
+    (first.pack, first.root)
 }
 
-/// What the run of a tree gives, as its file of the result has it.
-fn result(source: &Path) -> String {
-    let (pack, root, number) = run_by_number(source);
+/// What the run of a tree gives, as its transcript has it.
+fn result(source: &Path, by: &By) -> String {
     let tree = bytes(&source.with_extension(""));
     let mut output = vec![0; OUTPUT];
-    let found = run(&reduced(&pack), root, number, &tree, &mut output);
+    let found = run(&reduced(&by.pack), by.root, by.number, &tree, &mut output);
+    let cost = format!("cost {}\n", found.cost);
     match found.number() {
-        0 => format!("{}cost {}\n", accepted(&output[..found.length() as usize]), found.cost),
-        number => format!("refused {number}\n"),
+        0 => accepted(&output[..found.length() as usize], &cost),
+        number => format!("refused {number}"),
     }
 }
 
-/// What is written for a result: its length, and its bytes.
-fn accepted(bytes: &[u8]) -> String {
-    let digits: Vec<String> = bytes.iter().map(|byte| format!("{byte:02X}")).collect();
-    format!("accepted {}\n{}\n", bytes.len(), digits.join(" "))
+/// What is printed for a result: its length, other figures, and its bytes in lines of 32.
+fn accepted(bytes: &[u8], figures: &str) -> String {
+    let digits = |line: &[u8]| line.iter().map(|byte| format!("{byte:02X}")).collect::<String>();
+    let lines: String = bytes.chunks(32).map(|line| digits(line) + "\n").collect();
+    format!("accepted {}\n{figures}{lines}", bytes.len())
+}
+
+/// A transcript; of a refusal, whose sentence the reference does not know, up to its number.
+fn transcript(path: &Path) -> String {
+    let text = text(path);
+    match text.split_once(": ") {
+        Some((refused, _)) if refused.starts_with("refused ") => refused.to_string(),
+        _ => text,
+    }
 }
 
 /// What a path leads to, as the file of its block has it.
@@ -91,8 +125,8 @@ fn block_at(source: &Path) -> String {
     let length = index(&language, root, &tree, &mut built).length() as usize;
     let found = block(&language, root, &tree, &built[..length], &path);
     match found.outcome.number() {
-        0 => format!("{}kind {}, start {}\n", accepted(found.part), found.kind, found.start),
-        number => format!("refused {number}\n"),
+        0 => accepted(found.part, &format!("kind {}, start {}\n", found.kind, found.start)),
+        number => format!("refused {number}"),
     }
 }
 
@@ -116,8 +150,10 @@ fn trees_run_to_the_results_beside_them() {
     let sources = files(".tree.hex");
     assert!(!sources.is_empty());
     for source in sources {
-        let beside = source.with_extension("").with_extension("result");
-        assert_eq!(result(&source), text(&beside), "{}", source.display());
+        for by in all_by(&source, "Run", "number") {
+            let beside = by.beside.with_extension("result");
+            assert_eq!(result(&source, &by), transcript(&beside), "{}", beside.display());
+        }
     }
 }
 
@@ -127,7 +163,7 @@ fn paths_lead_to_the_blocks_beside_them() {
     assert!(!sources.is_empty());
     for source in sources {
         let beside = source.with_extension("").with_extension("block");
-        assert_eq!(block_at(&source), text(&beside), "{}", source.display());
+        assert_eq!(block_at(&source), transcript(&beside), "{}", source.display());
     }
 }
 
@@ -180,11 +216,12 @@ fn tables_are_joined_as_the_files_beside_them() {
     assert!(!sources.is_empty());
     for source in sources {
         let beside = source.with_extension("").with_extension("joined");
-        assert_eq!(accepted(&joined(&source)), text(&beside), "{}", source.display());
+        assert_eq!(joined(&source), bytes(&beside), "{}", source.display());
     }
 }
 
-/// The scores of a tree by the joined table, and of its run by the table, as its file has them.
+/// The score of a tree by the joined table, as its file has it; that of its run by the table is the
+/// same.
 fn scores(source: &Path) -> String {
     let line = text(source).lines().nth(2).map(str::to_string);
     let words = line.as_deref().and_then(|line| line.strip_prefix("# Scored in "));
@@ -198,7 +235,8 @@ fn scores(source: &Path) -> String {
     let (target, by) = (bytes(&table_of(&table).0), bytes(&table.with_extension("")));
     let second = score(&target, root, &output[..length], &by);
     assert_eq!((first.outcome.number(), second.outcome.number()), (0, 0));
-    format!("joined: accepted {}\nafter the run: accepted {}\n", first.score, second.score)
+    assert_eq!(first.score, second.score);
+    format!("accepted {}\n", first.score)
 }
 
 #[test]
@@ -210,22 +248,14 @@ fn trees_score_as_the_files_beside_them() {
     }
 }
 
-/// What is found for a session, as its file has it: by the pack, the root and the limit of levels that
-/// the first line of its source names.
-fn found(source: &Path) -> String {
-    let text = text(source);
-    let line = text.lines().next().and_then(|line| line.strip_prefix("# Searched by "));
-    let words = line.and_then(|line| line.strip_suffix('.')?.split_once(", root "));
-    let (pack, words) = words.expect("the first line names a pack");
-    let (root, limit) = words.split_once(", level limit ").expect("a root and a limit");
-    let (root, limit) = (root.parse().expect("a root"), limit.parse().expect("a limit"));
-    let (translation, session) =
-        (reduced(&source.with_file_name(pack)), bytes(&source.with_extension("")));
+/// What is found for a session, as its transcript has it.
+fn found(source: &Path, by: &By) -> String {
+    let (translation, session) = (reduced(&by.pack), bytes(&source.with_extension("")));
     let mut output = vec![0; OUTPUT];
-    let outcome = search(&translation, root, &session, limit, &mut [], &mut output);
+    let outcome = search(&translation, by.root, &session, by.number, &mut [], &mut output);
     match outcome.number() {
-        0 => accepted(&output[..outcome.length() as usize]),
-        number => format!("refused {number}\n"),
+        0 => accepted(&output[..outcome.length() as usize], ""),
+        number => format!("refused {number}"),
     }
 }
 
@@ -234,7 +264,9 @@ fn sessions_have_the_plans_beside_them() {
     let sources = files(".session.hex");
     assert!(!sources.is_empty());
     for source in sources {
-        let beside = source.with_extension("").with_extension("found");
-        assert_eq!(found(&source), text(&beside), "{}", source.display());
+        for by in all_by(&source, "Searched", "level limit") {
+            let beside = by.beside.with_extension("found");
+            assert_eq!(found(&source, &by), transcript(&beside), "{}", beside.display());
+        }
     }
 }

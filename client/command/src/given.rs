@@ -20,6 +20,10 @@ pub enum Given {
     Edited(Edited),
     /// The result of a run, with its cost.
     Ran(Ran),
+    /// A translation or a language, with the pack that was reduced for it.
+    Reduced { result: Vec<u8>, pack: Vec<u8> },
+    /// A source tree that a search found, and the least number of levels at which there is one.
+    Found { tree: Vec<u8>, levels: u32 },
 }
 
 /// What stands behind the word 'accepted'.
@@ -50,6 +54,11 @@ impl From<Block<'_>> for Given {
 }
 
 impl Given {
+    /// What a check gives.
+    pub fn nothing() -> Given {
+        Given::Bytes(vec![])
+    }
+
     /// The figure of the first line: a score or two, or the length of the result.
     pub fn figure(&self) -> Figure {
         match self {
@@ -65,6 +74,7 @@ impl Given {
             Given::Block { kind, start, .. } => format!("kind {kind}, start {start}\n"),
             Given::Edited(edited) => format!("index {}\n", edited.index.len()),
             Given::Ran(ran) => format!("cost {}\n", ran.cost),
+            Given::Found { levels, .. } => format!("levels {levels}\n"),
             _ => String::new(),
         }
     }
@@ -85,10 +95,12 @@ impl Given {
         }
     }
 
-    /// The index of an edited plan, as it is written to a file.
-    pub fn written_index(&self, hexadecimal: bool) -> Option<Vec<u8>> {
+    /// What goes to a second file, as it is written: the index of an edited plan, or the pack of a
+    /// result.
+    pub fn written_besides(&self, hexadecimal: bool) -> Option<Vec<u8>> {
         match self {
             Given::Edited(edited) => Some(in_file(&edited.index, hexadecimal)),
+            Given::Reduced { pack, .. } => Some(in_file(pack, hexadecimal)),
             _ => None,
         }
     }
@@ -99,6 +111,7 @@ impl Given {
             Given::Bytes(bytes) | Given::Text(bytes) | Given::Block { bytes, .. } => bytes,
             Given::Edited(edited) => &edited.plan,
             Given::Ran(ran) => &ran.tree,
+            Given::Reduced { result: bytes, .. } | Given::Found { tree: bytes, .. } => bytes,
             Given::Score(_) | Given::Scores(_) => &[],
         }
     }

@@ -2,22 +2,35 @@
 #![forbid(unsafe_code)]
 
 mod arguments;
-mod card;
-mod edits;
+mod completion;
+mod draw;
+mod evaluate;
+mod explaining;
 mod explanation;
+mod files;
 mod given;
-mod grammar;
 mod help;
+mod hexadecimal;
 mod index_job;
 mod input;
 mod job;
-mod loose;
+mod language_file;
+mod manual;
+mod options;
 mod output;
-mod reading;
+mod page;
+mod picture;
+mod rows;
+mod same;
 mod search_job;
 mod steps;
+mod suggest;
+mod table;
+mod term_job;
+mod tidy;
 mod tree_job;
 mod verbs;
+mod words;
 mod work;
 
 use arguments::{parse, Request};
@@ -37,6 +50,8 @@ pub struct Streams<'a> {
     pub messages: &'a mut dyn Write,
     /// Whether messages go to a terminal, so that progress is shown.
     pub terminal: bool,
+    /// Whether pictures in the output have colours.
+    pub colour: bool,
 }
 
 /// Why a call came to no answer.
@@ -78,7 +93,10 @@ fn answer(arguments: &[OsString], streams: &mut Streams) -> Result<Printed, Fail
     match parse(arguments)? {
         Request::Help(verb) => Ok(text(help::help(verb))),
         Request::Version => Ok(text(format!("algebra {}\n", env!("CARGO_PKG_VERSION")))),
-        Request::Call(call) => verbs::carry_out(&call, streams),
+        Request::Call(mut call) => {
+            call.names = words::load(&call.options, streams)?;
+            verbs::carry_out(&call, streams)
+        }
     }
 }
 

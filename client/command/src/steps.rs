@@ -2,26 +2,30 @@
 
 use crate::arguments::Call;
 use crate::job::{mapping_number, operand, root, run_limit, tree};
-use crate::output::digits;
+use crate::output::{digits, write_file};
+use crate::page;
 use crate::verbs::{answer_line, printed};
 use crate::work::work;
 use crate::{Failure, Printed, Streams, REFUSED};
 use algebra::{Refusal, PACK_BYTES};
+use reference::names::Names;
+use reference::notation::{node_line, term_line};
+use reference::plans::read_deep;
 use reference::steps::{languages, mapped_kind, Step};
 
 /// A tree and the kind of its root.
 #[derive(Clone, Debug, PartialEq, Eq)]
-struct Rooted {
-    kind: u32,
-    tree: Vec<u8>,
+pub struct Rooted {
+    pub kind: u32,
+    pub tree: Vec<u8>,
 }
 
 /// What the steps came to: the last tree, or the number of the step that refused.
-type InTurn = Result<Rooted, (usize, Refusal)>;
+pub type InTurn = Result<Rooted, (usize, Refusal)>;
 
 /// How both routes compare.
 #[derive(Clone, Copy, Debug, PartialEq, Eq)]
-enum Verdict {
+pub enum Verdict {
     Equal,
     RefusedAlike,
     TooDeep,
@@ -32,7 +36,7 @@ enum Verdict {
 
 impl Verdict {
     /// Compares the steps in turn, so many of them, with the join.
-    fn new(in_turn: &InTurn, joined: &Result<Rooted, Refusal>, count: usize) -> Verdict {
+    pub fn new(in_turn: &InTurn, joined: &Result<Rooted, Refusal>, count: usize) -> Verdict {
         match (in_turn, joined) {
             (Ok(one), Ok(other)) if one == other => Verdict::Equal,
             (Err((step, Refusal::TooDeep)), _) if *step > 0 => Verdict::TooDeep,
@@ -44,7 +48,7 @@ impl Verdict {
     }
 
     /// The verdict in words.
-    fn text(self) -> &'static str {
+    pub fn text(self) -> &'static str {
         match self {
             Verdict::Equal => "equal: the steps in turn and the join give the same tree",
             Verdict::RefusedAlike => "equal: the steps in turn and the join are refused alike",
@@ -58,10 +62,11 @@ impl Verdict {
 
 /// The number of the join, the length of each output, and whether trees are shown as XML.
 #[derive(Clone, Copy)]
-struct Format {
+struct Format<'a> {
     number: u32,
     limit: usize,
     xml: bool,
+    names: &'a Names,
 }
 
 /// Prints the steps of a pack's join on a tree.
@@ -71,7 +76,16 @@ pub fn steps(call: &Call, streams: &mut Streams) -> Result<Printed, Failure> {
     let number = mapping_number(call);
     let bytes = tree.len();
     let start = Rooted { kind: root, tree };
-    work(bytes, streams, || both_routes(&pack, start, Format { number, limit, xml }))
+    if let Some(file) = &call.options.page {
+        let page = work(bytes, streams, || page::page(call, &pack, &start, number, limit))?;
+        let page = match page {
+            Ok(page) => page,
+            Err(printed) => return Ok(printed),
+        };
+        write_file(file, page.as_bytes())?;
+    }
+    let names = &call.names;
+    work(bytes, streams, || both_routes(&pack, start, Format { number, limit, xml, names }))
 }
 
 /// What is printed for both routes.
@@ -116,7 +130,7 @@ fn run_in_turn(steps: &[Step], start: Rooted, format: Format, lines: &mut String
             answer.map_err(|refusal| (place, refusal))
         });
         let length = answer.as_ref().map(|result| result.tree.len()).map_err(|refused| refused.1);
-        let (number, count, term) = (place + 1, steps.len(), digits(&step.term));
+        let (number, count, term) = (place + 1, steps.len(), format.term(step));
         let answered = answer_line(length);
         let by = if step.number == 0 { String::new() } else { format!(", number {}", step.number) };
         lines.push_str(&format!("step {number} of {count}, term {term}{by}: {answered}\n"));
@@ -129,13 +143,24 @@ fn run_in_turn(steps: &[Step], start: Rooted, format: Format, lines: &mut String
 }
 
 /// Runs a translation on a tree by a number.
-fn run(translation: &[u8], start: &Rooted, number: u32, limit: usize) -> Result<Rooted, Refusal> {
+pub fn run(
+    translation: &[u8],
+    start: &Rooted,
+    number: u32,
+    limit: usize,
+) -> Result<Rooted, Refusal> {
     let tree = algebra::run_to_vec(translation, start.kind, number, &start.tree, limit)?.tree;
     let kind = mapped_kind(translation, start.kind, number).ok_or(Refusal::UnknownRoot)?;
     Ok(Rooted { kind, tree })
 }
 
-impl Format {
+impl Format<'_> {
+    /// The term of a step, in words where there are names.
+    fn term(self, step: &Step) -> String {
+        let words = (!self.names.is_empty()).then(|| term_line(&step.pack)).flatten();
+        words.unwrap_or_else(|| digits(&step.term))
+    }
+
     /// The line that shows a tree of a language.
     fn tree_line(self, name: &str, rooted: &Rooted, language: &[u8]) -> String {
         let Rooted { kind, tree } = rooted;
@@ -146,8 +171,12 @@ impl Format {
     fn shown(self, rooted: &Rooted, language: &[u8]) -> String {
         let Rooted { kind, tree } = rooted;
         let export = || algebra::export_to_vec(language, *kind, tree, usize::MAX).ok();
-        match self.xml.then(export).flatten() {
-            Some(text) => String::from_utf8_lossy(&text).into_owned(),
+        if let Some(text) = self.xml.then(export).flatten() {
+            return String::from_utf8_lossy(&text).into_owned();
+        }
+        let node = || read_deep(language, *kind, tree);
+        match (!self.names.is_empty()).then(node).flatten() {
+            Some(node) => node_line(&node, self.names),
             None => digits(tree),
         }
     }

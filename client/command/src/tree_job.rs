@@ -1,23 +1,29 @@
 //! An operation on a tree, or on its text, in a language.
 
-use crate::arguments::{Call, Verb};
-use crate::card::{mask_fault, CARD_BYTES};
-use crate::explanation::Finding;
+use crate::arguments::Call;
 use crate::given::Given;
 use crate::input::read_file;
-use crate::job::{operand, root, run_limit, tree, TREE_BYTES};
-use crate::{loose, Failure, Streams};
-use algebra::{Refusal, LANGUAGE_BYTES, TABLE_BYTES};
-use reference::explain;
+use crate::job::{operand, root, run_limit, tree, Job, Refused, TREE_BYTES};
+use crate::language_file::LanguageFile;
+use crate::options::Format;
+use crate::tidy::{tidied, Tidied};
+use crate::{Failure, Streams};
+use algebra::{in_output, TABLE_BYTES};
+use reference::explain::{self, Fault};
+use reference::names::Names;
+use reference::plans::Form;
+use reference::show;
 
 /// The place of a load table among the operands of a score, and of a card among those of a mask.
 const TABLE_PLACE: usize = 3;
 const CARD_PLACE: usize = 3;
+/// A longer card has bytes behind its field, whatever they are.
+pub const CARD_BYTES: usize = 3 + u16::MAX as usize;
 
 /// The inputs of one operation.
 pub struct TreeJob {
     operation: Operation,
-    language: Vec<u8>,
+    language: LanguageFile,
     root: u32,
     /// The tree, or for an import its text.
     tree: Vec<u8>,
@@ -33,90 +39,139 @@ enum Operation {
     Mask { card: Vec<u8>, limit: Option<usize> },
 }
 
-/// The text, which is the third operand and never hexadecimal.
+/// The text, which is the third operand and never hexadecimal. What is dropped from it is said.
 fn text(call: &Call, streams: &mut Streams) -> Result<Vec<u8>, Failure> {
-    read_file(&call.operands[2], false, TREE_BYTES, streams)
+    let text = read_file(&call.operands[2], Format::Bytes, TREE_BYTES, streams)?;
+    if !call.options.tidy {
+        return Ok(text);
+    }
+    let Tidied { text, dropped } = tidied(&text);
+    if !dropped.is_empty() {
+        // A message that cannot be written has no other place to go.
+        let _ = writeln!(streams.messages, "dropped: {}", dropped.join(", "));
+    }
+    Ok(text)
 }
 
 impl TreeJob {
-    /// Reads the inputs of a verb; numbers are looked at before any file.
-    pub fn load(verb: Verb, call: &Call, streams: &mut Streams) -> Result<TreeJob, Failure> {
-        let mut operation = match verb {
-            Verb::Score => Operation::Score { table: vec![] },
-            Verb::ScoreLoose => Operation::ScoreLoose { table: vec![] },
-            Verb::Export => Operation::Export { limit: run_limit(call) },
-            Verb::Import => Operation::Import { limit: run_limit(call) },
-            Verb::Mask => Operation::Mask { card: vec![], limit: call.options.limit },
-            _ => Operation::Check,
-        };
-        let (root, language) = (root(call)?, operand(call, 0, LANGUAGE_BYTES, streams)?);
-        let tree = match operation {
-            Operation::Import { .. } => text(call, streams)?,
-            _ => tree(call, streams)?,
-        };
-        match &mut operation {
-            Operation::Score { table } | Operation::ScoreLoose { table } => {
-                *table = operand(call, TABLE_PLACE, TABLE_BYTES, streams)?;
-            }
-            Operation::Mask { card, .. } => *card = operand(call, CARD_PLACE, CARD_BYTES, streams)?,
-            _ => (),
-        }
-        Ok(TreeJob { operation, language, root, tree })
+    /// Reads language, root and tree, and then what else the operation takes; numbers are looked at
+    /// before any file.
+    fn load(
+        call: &Call,
+        streams: &mut Streams,
+        read: impl FnOnce(&Call, &mut Streams) -> Result<Operation, Failure>,
+    ) -> Result<Box<dyn Job>, Failure> {
+        let (root, language) = (root(call)?, LanguageFile::load(call, streams)?);
+        let tree = tree(call, streams)?;
+        let operation = read(call, streams)?;
+        Ok(Box::new(TreeJob { operation, language, root, tree }))
     }
 
-    /// The length of the tree or text.
-    pub fn length(&self) -> usize {
+    /// Reads the inputs of a check.
+    pub fn load_check(call: &Call, streams: &mut Streams) -> Result<Box<dyn Job>, Failure> {
+        TreeJob::load(call, streams, |_, _| Ok(Operation::Check))
+    }
+
+    /// Reads the inputs of a score.
+    pub fn load_score(call: &Call, streams: &mut Streams) -> Result<Box<dyn Job>, Failure> {
+        TreeJob::load(call, streams, |call, streams| {
+            Ok(Operation::Score { table: operand(call, TABLE_PLACE, TABLE_BYTES, streams)? })
+        })
+    }
+
+    /// Reads the inputs of the score of a loose plan.
+    pub fn load_score_loose(call: &Call, streams: &mut Streams) -> Result<Box<dyn Job>, Failure> {
+        TreeJob::load(call, streams, |call, streams| {
+            Ok(Operation::ScoreLoose { table: operand(call, TABLE_PLACE, TABLE_BYTES, streams)? })
+        })
+    }
+
+    /// Reads the inputs of an export.
+    pub fn load_export(call: &Call, streams: &mut Streams) -> Result<Box<dyn Job>, Failure> {
+        TreeJob::load(call, streams, |call, _| Ok(Operation::Export { limit: run_limit(call) }))
+    }
+
+    /// Reads the inputs of an import.
+    pub fn load_import(call: &Call, streams: &mut Streams) -> Result<Box<dyn Job>, Failure> {
+        let (root, language) = (root(call)?, LanguageFile::load(call, streams)?);
+        let (tree, limit) = (text(call, streams)?, run_limit(call));
+        Ok(Box::new(TreeJob { operation: Operation::Import { limit }, language, root, tree }))
+    }
+
+    /// Reads the inputs of a mask.
+    pub fn load_mask(call: &Call, streams: &mut Streams) -> Result<Box<dyn Job>, Failure> {
+        TreeJob::load(call, streams, |call, streams| {
+            let card = operand(call, CARD_PLACE, CARD_BYTES, streams)?;
+            Ok(Operation::Mask { card, limit: call.options.limit })
+        })
+    }
+}
+
+impl Job for TreeJob {
+    fn length(&self) -> usize {
         self.tree.len()
     }
 
-    /// What the library answers; a check has no result.
-    pub fn answer(&self) -> Result<Given, Refusal> {
-        let TreeJob { operation, language, root, tree } = self;
-        match operation {
+    fn answer(&self) -> Result<Given, Refused> {
+        let TreeJob { operation, root, tree, .. } = self;
+        let (language, root) = (&self.language.language()?[..], *root);
+        Ok(match operation {
             Operation::Check => {
-                algebra::check_tree(language, *root, tree).map(|()| Given::Bytes(vec![]))
+                algebra::check_tree(language, root, tree)?;
+                Given::nothing()
             }
             Operation::Score { table } => {
-                algebra::score(language, *root, tree, table).map(Given::Score)
+                Given::Score(algebra::score(language, root, tree, table)?)
             }
             Operation::ScoreLoose { table } => {
-                algebra::score_loose(language, *root, tree, table).map(Given::Scores)
+                Given::Scores(algebra::score_loose(language, root, tree, table)?)
             }
             Operation::Export { limit } => {
-                algebra::export_to_vec(language, *root, tree, *limit).map(Given::Text)
+                Given::Text(algebra::export_to_vec(language, root, tree, *limit)?)
             }
             Operation::Import { limit } => {
-                algebra::import_to_vec(language, *root, tree, *limit).map(Given::Bytes)
+                Given::Bytes(algebra::import_to_vec(language, root, tree, *limit)?)
             }
-            Operation::Mask { card, limit } => self.masked(card, *limit).map(Given::Bytes),
+            Operation::Mask { card, limit } => {
+                let room = limit.unwrap_or(tree.len()).min(tree.len());
+                let call = |output: &mut [u8]| algebra::mask(language, root, card, tree, output);
+                Given::Bytes(in_output(room, call)?)
+            }
+        })
+    }
+
+    fn fault(&self) -> Option<Fault> {
+        let TreeJob { operation, root, tree, .. } = self;
+        let language = match self.language.explained() {
+            Ok(language) => language,
+            Err(fault) => return Some(fault),
+        };
+        let (language, root) = (&language[..], *root);
+        match operation {
+            Operation::Check => explain::tree(language, root, tree),
+            Operation::Score { table } => explain::score(language, root, tree, table),
+            Operation::ScoreLoose { table } => explain::score_loose(language, root, tree, table),
+            Operation::Export { limit } => explain::export(language, root, tree, *limit),
+            Operation::Import { limit } => explain::import(language, root, tree, *limit),
+            Operation::Mask { card, limit } => {
+                explain::mask(language, root, card, tree, limit.unwrap_or(tree.len()))
+            }
         }
     }
 
-    /// The masked plan, in an output of so many bytes, or of those of the tree.
-    fn masked(&self, card: &[u8], limit: Option<usize>) -> Result<Vec<u8>, Refusal> {
-        let TreeJob { language, root, tree, .. } = self;
-        let mut output = vec![0; limit.unwrap_or(tree.len()).min(tree.len())];
-        let length = algebra::mask(language, *root, card, tree, &mut output)?;
-        output.truncate(length);
-        Ok(output)
+    fn result_in(&self, _: &Given) -> Option<(Vec<u8>, u32)> {
+        let imports = matches!(self.operation, Operation::Import { .. });
+        let language = self.language.language().ok().filter(|_| imports)?;
+        Some((language.into_owned(), self.root))
     }
 
-    /// Where a second reading finds a fault, if it does.
-    pub fn fault(&self) -> Option<Finding> {
-        let TreeJob { operation, language, root, tree } = self;
-        let fault = match operation {
-            Operation::Check => explain::tree(language, *root, tree),
-            Operation::Score { table } => explain::score(language, *root, tree, table),
-            Operation::ScoreLoose { table } => {
-                return loose::fault(language, *root, tree, table);
-            }
-            Operation::Export { limit } => explain::export(language, *root, tree, *limit),
-            Operation::Import { limit } => explain::import(language, *root, tree, *limit),
-            Operation::Mask { card, limit } => {
-                let limit = limit.unwrap_or(tree.len());
-                return mask_fault(language, *root, card, tree, limit);
-            }
+    fn around(&self, names: &Names) -> Option<String> {
+        let form = match self.operation {
+            Operation::Import { .. } => return None,
+            Operation::ScoreLoose { .. } => Form::Loose,
+            _ => Form::Settled,
         };
-        fault.map(Finding::from)
+        let language = self.language.explained().ok()?;
+        show::around(&language, self.root, &self.tree, form, names)
     }
 }

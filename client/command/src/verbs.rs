@@ -1,25 +1,25 @@
 //! What each verb prints.
 
-use crate::arguments::{misuse, Call, Sort, Verb};
-use crate::explanation::{explanation, Finding};
+use crate::arguments::Call;
+use crate::explanation::sentence;
 use crate::given::{Figure, Given};
-use crate::job::{operand, root, sort_of, tree, Job};
+use crate::job::{Job, Load, Refused};
 use crate::output::write_file;
+use crate::table::Act;
 use crate::work::work;
-use crate::{card, steps, Failure, Printed, Streams, ACCEPTED, REFUSED};
-use algebra::{Refusal, LANGUAGE_BYTES, PACK_BYTES};
+use crate::{job, Failure, Printed, Streams, ACCEPTED, REFUSED};
+use algebra::Refusal;
+use reference::explain::Fault;
 use reference::listing::clause_lines;
-use reference::show;
+use reference::notation::{clause_words, node_words};
+use reference::plans::read_deep;
 use std::fmt::Display;
 
 /// Carries out a call.
 pub fn carry_out(call: &Call, streams: &mut Streams) -> Result<Printed, Failure> {
-    match call.verb {
-        Verb::List => list(call, streams),
-        Verb::Show => show(call, streams),
-        Verb::Explain => explain(call, streams),
-        Verb::Steps => steps::steps(call, streams),
-        verb => operate(verb, call, streams),
+    match call.verb.act {
+        Act::Operation(load) => operate(load, call, streams),
+        Act::Other(act) => act(call, streams),
     }
 }
 
@@ -39,22 +39,48 @@ pub fn printed(answer: Result<impl Display, Refusal>, lines: &str) -> Printed {
 }
 
 /// The figure of an answer's first line.
-fn figure(answer: &Result<Given, Refusal>) -> Result<Figure, Refusal> {
-    answer.as_ref().map(Given::figure).map_err(|refusal| *refusal)
+pub fn figure(answer: &Result<Given, Refused>) -> Result<Figure, Refusal> {
+    answer.as_ref().map(Given::figure).map_err(|refused| refused.refusal)
+}
+
+/// What is printed for a refusal, with the files that it speaks of and other lines.
+pub fn refused(refused: &Refused, lines: &str) -> Printed {
+    printed(Err::<usize, _>(refused.refusal), &(refused.files_line() + lines))
+}
+
+/// What is printed for a refusal by a sentence of its own, with files and other lines.
+pub fn refused_with(sentence: String, refused: &Refused, lines: &str) -> Printed {
+    let (number, files) = (refused.refusal.number(), refused.files_line());
+    let output = format!("refused {number}: {sentence}\n{files}{lines}").into_bytes();
+    Printed { output, messages: String::new(), status: REFUSED }
+}
+
+/// The fault of a job, where the sentence of its refusal depends on it.
+fn sentence_fault(found: &Refused, job: &dyn Job) -> Option<Fault> {
+    (found.refusal == Refusal::UnknownRoot).then(|| job.fault()).flatten()
 }
 
 /// Calls the library, and prints or writes the result.
-fn operate(verb: Verb, call: &Call, streams: &mut Streams) -> Result<Printed, Failure> {
-    let job = Job::load(verb, call, streams)?;
-    let answer = work(job.tree_length(), streams, || job.answer())?;
+fn operate(load: Load, call: &Call, streams: &mut Streams) -> Result<Printed, Failure> {
+    let job = load(call, streams)?;
+    let answer = work(job.length(), streams, || job.answer())?;
     let first = figure(&answer);
-    let Ok(given) = answer else { return Ok(printed(first, "")) };
+    let given = match answer {
+        Ok(given) => given,
+        Err(found) => {
+            let fault = work(job.length(), streams, || sentence_fault(&found, job.as_ref()))?;
+            let sentence = sentence(call.verb, found.refusal, fault.as_ref());
+            return Ok(refused_with(sentence, &found, ""));
+        }
+    };
     let (figures, hexadecimal) = (given.figures(), call.options.hexadecimal);
-    if let (Some(file), Some(index)) = (&call.options.new_index, given.written_index(hexadecimal)) {
-        write_file(file, &index)?;
+    let besides = call.options.new_index.as_ref().or(call.options.pack.as_ref());
+    if let (Some(file), Some(bytes)) = (besides, given.written_besides(hexadecimal)) {
+        write_file(file, &bytes)?;
     }
     let Some(file) = &call.options.output else {
-        return Ok(printed(first, &(figures + &given.shown())));
+        let words = work(given.bytes().len(), streams, || words(call, job.as_ref(), &given))?;
+        return Ok(printed(first, &(figures + &given.shown() + &words)));
     };
     let bytes = given.written(hexadecimal);
     if file == "-" {
@@ -65,62 +91,30 @@ fn operate(verb: Verb, call: &Call, streams: &mut Streams) -> Result<Printed, Fa
     Ok(printed(first, &figures))
 }
 
+/// A tree that is given in words, where there are names.
+fn words(call: &Call, job: &dyn Job, given: &Given) -> String {
+    let node = || {
+        let (language, kind) = job.result_in(given)?;
+        read_deep(&language, kind, given.bytes())
+    };
+    match (!call.names.is_empty()).then(node).flatten() {
+        Some(node) => format!("{}\n", node_words(&node, &call.names, 0)),
+        None => String::new(),
+    }
+}
+
 /// Prints what the listing program prints.
-fn list(call: &Call, streams: &mut Streams) -> Result<Printed, Failure> {
-    let job = Job::load(Verb::List, call, streams)?;
+pub fn list(call: &Call, streams: &mut Streams) -> Result<Printed, Failure> {
+    let job = job::load_reduce(call, streams)?;
     Ok(match work(0, streams, || job.answer())? {
-        Ok(given) => printed(Ok(given.figure()), &clause_lines(given.bytes())),
-        Err(refusal) => {
+        Ok(given) => {
+            let words = (!call.names.is_empty()).then(|| clause_words(given.bytes(), &call.names));
+            let lines = words.flatten().unwrap_or_else(|| clause_lines(given.bytes()));
+            printed(Ok(given.figure()), &lines)
+        }
+        Err(Refused { refusal, .. }) => {
             let output = format!("refused {}\n", refusal.number()).into_bytes();
             Printed { output, messages: String::new(), status: REFUSED }
         }
     })
-}
-
-/// Prints the answer of an operation, and where the fault is.
-fn explain(call: &Call, streams: &mut Streams) -> Result<Printed, Failure> {
-    let job = Job::load(call.explained.unwrap_or(call.verb), call, streams)?;
-    let task = || (figure(&job.answer()), job.fault());
-    let (answer, fault) = work(job.tree_length(), streams, task)?;
-    Ok(printed(answer, &explanation(answer.map(|_| ()), fault.as_ref())))
-}
-
-/// Prints a file or a tree in words.
-fn show(call: &Call, streams: &mut Streams) -> Result<Printed, Failure> {
-    if call.operands.len() == 1 {
-        return show_file(call, streams);
-    }
-    if call.options.sort.is_some() {
-        return Err(misuse(Some(Verb::Show), "--as does not go with a tree"));
-    }
-    let (root, language) = (root(call)?, operand(call, 0, LANGUAGE_BYTES, streams)?);
-    let tree = tree(call, streams)?;
-    let task = || show::tree(&language, root, &tree).map_err(Finding::from);
-    work(tree.len(), streams, task).map(shown)
-}
-
-/// Prints a file in words.
-fn show_file(call: &Call, streams: &mut Streams) -> Result<Printed, Failure> {
-    let file = operand(call, 0, PACK_BYTES, streams)?;
-    let Some(sort) = call.options.sort.or(sort_of(&file)) else {
-        let name = call.operands[0].display();
-        let what = format!("{name}: the first byte does not tell what the file is");
-        return Err(misuse(Some(Verb::Show), &what));
-    };
-    let task = || match sort {
-        Sort::Language => show::language(&file).map_err(Finding::from),
-        Sort::Translation => show::translation(&file).map_err(Finding::from),
-        Sort::Pack => show::pack(&file).map_err(Finding::from),
-        Sort::Table => show::table(&file).map_err(Finding::from),
-        Sort::Card => card::shown(&file),
-    };
-    work(0, streams, task).map(shown)
-}
-
-/// What is printed for something that can be shown, or not.
-fn shown(text: Result<String, Finding>) -> Printed {
-    match text {
-        Ok(text) => Printed { output: text.into(), messages: String::new(), status: ACCEPTED },
-        Err(finding) => printed(Err::<usize, _>(finding.refusal()), finding.lines()),
-    }
 }

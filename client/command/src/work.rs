@@ -78,8 +78,13 @@ mod tests {
     /// What is shown while work takes a while.
     fn shown(terminal: bool, bytes: usize) -> String {
         let (mut input, mut output, mut messages) = (std::io::empty(), vec![], vec![]);
-        let mut streams =
-            Streams { input: &mut input, output: &mut output, messages: &mut messages, terminal };
+        let mut streams = Streams {
+            input: &mut input,
+            output: &mut output,
+            messages: &mut messages,
+            terminal,
+            colour: false,
+        };
         let task = || thread::sleep(Duration::from_millis(50));
         assert_eq!(work(bytes, &mut streams, task), Ok(()));
         String::from_utf8(messages).expect("text")
@@ -101,6 +106,7 @@ mod tests {
             output: &mut output,
             messages: &mut messages,
             terminal: false,
+            colour: false,
         };
         let task = || std::hint::black_box([1u8; STACK_BYTES])[7];
         assert_eq!(work(0, &mut streams, task), Ok(1));

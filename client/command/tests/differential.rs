@@ -8,7 +8,7 @@ use reference::generate::{
     pack_with_term, reduce_case, run_case, score_case, source_tree, translation_file, tree_case,
     Random, RunCase,
 };
-use reference::steps::mapped_kind;
+use reference::steps::{languages, mapped_kind};
 use std::ffi::OsString;
 use std::fmt::Display;
 use std::fs;
@@ -99,7 +99,8 @@ impl Folder {
             });
         }
         arguments.extend(options.iter().map(OsString::from));
-        arguments.extend(hexadecimal.then(|| "--hex".into()));
+        arguments.extend(first_file(verbs).map(OsString::from));
+        arguments.push(if hexadecimal { "--hex" } else { "--bytes" }.into());
         Printed { hexadecimal, ..called(&arguments, &input) }
     }
 
@@ -129,6 +130,16 @@ impl Folder {
         }
         let text = String::from_utf8(file).expect("hexadecimal text");
         decoded(&text).expect("hexadecimal text")
+    }
+}
+
+/// The option that says what the first file of a verb is, whatever its first byte, if it takes one.
+fn first_file(verbs: &[&str]) -> Option<&'static str> {
+    match *verbs.last()? {
+        "check-tree" | "score" | "score-loose" | "export" | "import" => Some("--as=language"),
+        "index" | "block" | "edit" | "mask" => Some("--as=language"),
+        "join-table" => Some("--as=translation"),
+        _ => None,
     }
 }
 
@@ -168,6 +179,7 @@ fn called(arguments: &[OsString], mut input: &[u8]) -> Printed {
         output: &mut output,
         messages: &mut messages,
         terminal: false,
+        colour: false,
     };
     let status = command(arguments, &mut streams);
     let messages = String::from_utf8(messages).expect("text");
@@ -187,12 +199,17 @@ impl Printed {
         answer: &Result<T, Refusal>,
         figure: impl Fn(&T) -> F,
     ) {
-        let (line, status) = match answer {
-            Ok(result) => (format!("accepted {}", figure(result)), ACCEPTED),
-            Err(refusal) => (format!("refused {}: {refusal}", refusal.number()), REFUSED),
-        };
         assert_eq!(self.messages, "", "case {case}");
-        assert_eq!(self.text().lines().next(), Some(line.as_str()), "case {case}");
+        let first = self.text().lines().next().unwrap_or_default();
+        match answer {
+            Ok(result) => assert_eq!(first, format!("accepted {}", figure(result)), "case {case}"),
+            // What follows is a sentence, which may be told by the operation.
+            Err(refusal) => {
+                let line = format!("refused {}: ", refusal.number());
+                assert!(first.starts_with(&line), "case {case}: {first}");
+            }
+        }
+        let status = if answer.is_ok() { ACCEPTED } else { REFUSED };
         assert_eq!(self.status, status, "case {case}");
     }
 }
@@ -685,6 +702,118 @@ fn search() {
 }
 
 #[test]
+fn search_without_levels() {
+    let folder = Folder::new("least");
+    let mut found = 0;
+    for case in 0..CASES / 4 {
+        let random = &mut Random::new(case);
+        let input = run_case(random);
+        let (translation, root) = (&input.translation, input.root);
+        let run = algebra::run_to_vec(translation, root, 0, &input.tree, LIMIT);
+        let tree = run.map_or(input.tree, |ran| ran.tree);
+        let search = |levels| algebra::search_to_vec(translation, root, &tree, levels, LIMIT);
+        let least = (1..16).find(|levels| search(*levels) != Err(Refusal::NoSource)).unwrap_or(16);
+        let answer = search(least);
+        let options = [limit_options(LIMIT), vec!["--as".to_string(), "translation".to_string()]];
+        let operands = [File(translation), Root(root), File(&tree)];
+        let (result, levels) = (answer.as_deref().map_err(|of| *of), format!("levels {least}\n"));
+        let figures = if answer.is_ok() { &levels } else { "" };
+        let options = options.concat();
+        compare_with_figures(&folder, case, "search", &operands, &options, result, figures);
+        let number = answer.as_ref().map_or_else(|refusal| refusal.number(), |_| 0);
+        let length = answer.as_ref().map(Vec::len).map_err(|refusal| *refusal);
+        compare_explanation(&folder, case, "search", &operands, &options, length, number);
+        found += usize::from(answer.is_ok());
+    }
+    assert!(found > 20, "{found} found");
+}
+
+/// A pack with a term, or in half of the cases the translation that it reduces to, if it does.
+fn pack_or_translation(random: &mut Random, pack: Vec<u8>) -> Vec<u8> {
+    match random.percent(50).then(|| algebra::reduce_to_vec(&pack)) {
+        Some(Ok(translation)) => translation,
+        _ => pack,
+    }
+}
+
+/// Compares a verb with what the library reduces a pack to; a language is that of an identity.
+fn compare_verb(
+    folder: &Folder,
+    case: u64,
+    verb: &str,
+    operands: &[Operand],
+    reduced: Result<&[u8], Refusal>,
+) {
+    match reduced {
+        Ok(_) => compare_result(folder, case, verb, operands, &[], reduced),
+        Err(_) => {
+            let printed = folder.call(&mut Random::new(case), &[verb], operands, &[]);
+            printed.compare(case, &reduced, |result| result.len());
+            let files = printed.text().lines().nth(1).unwrap_or_default();
+            assert!(files.starts_with("file"), "case {case}: {}", printed.text());
+        }
+    }
+    let number = reduced.err().map_or(0, Refusal::number);
+    let length = reduced.map(<[u8]>::len);
+    compare_explanation(folder, case, verb, operands, &[], length, number);
+}
+
+#[test]
+fn verbs_on_translations() {
+    let folder = Folder::new("verbs");
+    let (mut accepted, mut refused) = (0, 0);
+    for case in 0..CASES / 2 {
+        let random = &mut Random::new(case);
+        let pack = law_pack(random);
+        let of = |parts: &[&[u8]]| pack_with_term(&pack, &parts.concat());
+        let terms = &pack.terms;
+        let (f, g) = (&terms[0][..], &terms[terms.len() - 1][..]);
+        let files = [of(&[f]), of(&[g])].map(|file| pack_or_translation(random, file));
+        let [one, other] = &files;
+        for (verb, term) in [
+            ("join", of(&[&[0x54], f, g])),
+            ("sum", of(&[&[0x53], f, g])),
+            ("without", of(&[&[0x52], f, &[0x44], g])),
+        ] {
+            let answer = algebra::reduce_to_vec(&term);
+            let result = answer.as_deref().map_err(|refusal| *refusal);
+            compare_verb(&folder, case, verb, &[File(one), File(other)], result);
+            accepted += usize::from(answer.is_ok());
+            refused += usize::from(answer.is_err());
+        }
+        let identity = algebra::reduce_to_vec(&of(&[&[0x55, 0x44], f]));
+        let result = identity.as_deref().map_err(|refusal| *refusal);
+        compare_verb(&folder, case, "identity", &[File(one)], result);
+        let source = result.map(|of| languages(of).expect("a translation").0);
+        compare_verb(&folder, case, "source", &[File(one)], source);
+        let target = algebra::reduce_to_vec(&of(&[&[0x55, 0x45], f]));
+        let target = target.as_deref().map_err(|refusal| *refusal);
+        let target = target.map(|of| languages(of).expect("a translation").0);
+        compare_verb(&folder, case, "target", &[File(one)], target);
+        compare_same(&folder, random, [one, other], [of(&[f]), of(&[g])], case);
+    }
+    assert!(accepted > 100 && refused > 100, "{accepted} accepted, {refused} refused");
+}
+
+/// Two files are the same if their packs reduce to the same bytes.
+fn compare_same(
+    folder: &Folder,
+    random: &mut Random,
+    [one, other]: [&[u8]; 2],
+    packs: [Vec<u8>; 2],
+    case: u64,
+) {
+    let printed = folder.call(random, &["same"], &[File(one), File(other)], &[]);
+    let word = match packs.map(|pack| algebra::reduce_to_vec(&pack)) {
+        [Ok(first), Ok(second)] if first == second => "same: ",
+        [Ok(_), Ok(_)] => "different: ",
+        _ => "refused ",
+    };
+    assert!(printed.text().starts_with(word), "case {case}: {}", printed.text());
+    assert_eq!(printed.status, u8::from(word != "same: "), "case {case}");
+}
+
+#[test]
 fn run_of_packs_and_steps() {
     let folder = Folder::new("steps");
     let (mut equal, mut refused, mut numbered) = (0, 0, 0);
@@ -727,13 +856,12 @@ fn everything_that_is_not_broken_is_shown() {
         for (kind, bytes, number) in [
             ("language", &language, reference::check_language(&language).number()),
             ("translation", &file, reference::check_translation(&file).number()),
-            ("pack", &pack, reference::reduce(&pack, &mut [], &mut []).number()),
+            ("pack", &pack, algebra::reduce_to_vec(&pack).err().map_or(0, Refusal::number)),
         ] {
             let options = ["--as".to_string(), kind.to_string()];
             let printed = folder.call(random, &["show"], &[File(bytes)], &options);
-            let refused = number == 1 || number == 2;
-            assert_eq!(printed.status, u8::from(refused), "case {case}");
-            let title = if refused { "refused " } else { kind };
+            assert_eq!(printed.status, u8::from(number != 0), "case {case}");
+            let title = if number == 1 || number == 2 { "refused " } else { kind };
             assert!(printed.text().starts_with(title), "case {case}");
         }
     }

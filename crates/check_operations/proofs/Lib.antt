@@ -1,3 +1,4 @@
+pub mod Opening
 pub mod TreeChain
 pub mod TranslationChain
 pub mod Legal

@@ -17,9 +17,10 @@ use Rattle.format_language.specs.Language.{Language, Range, rangeOf, argumentsO
 use Rattle.format_language.specs.Inner.Entries.{classRange}
 use Rattle.tree_reader.specs.Code.{Code, node, token, Codes}
 use Rattle.tree_reader.specs.Syntax.{Read, done, deep, broken, andThen, tree, readAll, readOperands, readNode, readToken, readTreeLevel, readLevel, pastLevels, readBy, read}
-use Rattle.tree_reader.specs.Inner.Index.{rangeBefore, argumentsBefore, Indexed}
-use Rattle.tree_reader.specs.Inner.Positions.{productionPlace}
+use Rattle.tree_reader.specs.Inner.Index.{rangeBefore, argumentsBefore, Sound, Indexed}
+use Rattle.tree_reader.specs.Inner.Positions.{productionPlace, KindsIn}
 use Rattle.tree_reader.specs.declared.node.Syntax.the-variants.{Tree}
+use Rattle.tree_reader.proofs.Laws.{name-in, kinds-in}
 
 -- What was read, and what is left of it.
 abbrev readOr : {A : Type 0} → A → Read A → A
@@ -175,6 +176,30 @@ module _ (s index : List ℕ) (b : List ℕ) (k at : ℕ) (kind : k < 32) (bytes
       let c = eq-eqb class 0 (found-class pos) in
       by-test (leb (length b) at) (λ t. absurd (pos (cc))) (λ t. (leb-false _ _ t, cc))
 
+  -- Where its operands stand, and what reading it comes to.
+  module _ (pos : place ≡ 0 → ⊥) where
+    pub at-name : at < length b
+    at-name = found-name pos .0
+
+    pub at-place : Sound index s → (place + 4 ≤ length s) × (length s ≤ 1024)
+    at-place z = name-in index s z refl kind (bytes at) (found-name pos .1) pos
+
+    module _ {n : ℕ} (en : n ≡ pairAt s place) where
+      pub at-kinds : Sound index s → KindsIn s (place + 4) (place + 2 + n)
+      at-kinds z = kinds-in index s z refl kind (bytes at) (found-name pos .1) pos en
+
+      pub at-known : (l : Language) → Indexed index s l → argumentsOf l k (getD b at 0) ≡ some (slice (place + 4) (place + 2 + n) s)
+      at-known l z = production-known s index l z k kind (getD b at 0) (bytes at) place (found-name pos .1) pos en
+
+      pub at-reads : (levels : ℕ) → (levels ≡ 0 → ⊥) → (l : Language) → Indexed index s l
+          → read tree l [] levels k (drop at b)
+          ≡ (andThen (readAll (read tree l [] (levels - 1)) (slice (place + 4) (place + 2 + n) s) (drop (at + 1) b)) λ t r. done (node k (getD b at 0) t) r)
+      unfolding readNode readOperands
+      at-reads levels some-level l z =
+          level-read s index l z k kind b at class-is (found-class pos) levels some-level
+          ∙ (ap (readNode (read tree l [] (levels - 1)) l k) (front b at at-name)
+          ∙ ap (λ (o : Option (List ℕ)). readOperands (read tree l [] (levels - 1)) k (getD b at 0) o (drop (at + 1) b)) (at-known l z))
+
   module _ (l : Language) (z : Indexed index s l) (levels : ℕ) (a : Code) (rest : List ℕ) (e : read tree l [] levels k (drop at b) ≡ done a rest) where
     no-production : (n : ℕ) → levels ≡ n → class ≡ 0 → place ≡ 0 → ReadToken b at a rest
     no-production zero h i p = past-not l k (drop at b) levels h (class-none s index l z k kind class class-is i) e
@@ -195,27 +220,15 @@ module _ (s index : List ℕ) (b : List ℕ) (k at : ℕ) (kind : k < 32) (bytes
     read-deep pos h = past-not l k (drop at b) levels h (class-none s index l z k kind class class-is (found-class pos)) e
 
     module _ {n : ℕ} (pos : place ≡ 0 → ⊥) (some-level : levels ≡ 0 → ⊥) (en : n ≡ pairAt s place) where
-      known : argumentsOf l k (getD b at 0) ≡ some (slice (place + 4) (place + 2 + n) s)
-      known = production-known s index l z k kind (getD b at 0) (bytes at) place (found-name pos .1) pos en
-
-      node-reads : readNode (read tree l [] (levels - 1)) l k (getD b at 0 ∷ drop (at + 1) b) ≡ done a rest
-      node-reads =
-          let m : levels ≡ suc (levels - 1) = omega arith in
-          ap (readNode (read tree l [] (levels - 1)) l k) (sym (front b at (found-name pos .0)))
-          ∙ (sym (read-node l k (drop at b) (levels - 1) (class-none s index l z k kind class class-is (found-class pos)))
-          ∙ (ap (λ (i : ℕ). read tree l [] i k (drop at b)) (sym m) ∙ e))
-
       -- Where a production was found, it was read with its operands.
       pub read-production : ReadNode s l k b at levels (place + 4) (place + 2 + n) a rest
-      unfolding readNode readOperands
       read-production =
-          let h : readOperands (read tree l [] (levels - 1)) k (getD b at 0) (some (slice (place + 4) (place + 2 + n) s)) (drop (at + 1) b) ≡ done a rest =
-          ap (λ (o : Option (List ℕ)). readOperands (read tree l [] (levels - 1)) k (getD b at 0) o (drop (at + 1) b)) (sym known) ∙ node-reads in
-          let x = then-done (readAll (read tree l [] (levels - 1)) (slice (place + 4) (place + 2 + n) s) (drop (at + 1) b)) _ a rest h in
+          let x = then-done (readAll (read tree l [] (levels - 1)) (slice (place + 4) (place + 2 + n) s) (drop (at + 1) b)) _ a rest
+          (sym (at-reads pos en levels some-level l z) ∙ e) in
           let w = same-done (node k (getD b at 0) (x .0)) a (x .1) rest (x .3) in
           record {
             operands = x .0;
             reads = x .2 ∙ ap (done (x .0)) (w .1);
             is = sym (w .0);
-            known = known;
+            known = at-known pos en l z;
           }

@@ -1,25 +1,23 @@
 // The operation on trees.
 ghost use mathlib.Core.Path.{_≡_};
 ghost use mathlib.Core.Option.{some};
-ghost use Prim.Native.Nat.{ℕ, _<_, _≤_};
+ghost use Prim.Native.Nat.{ℕ};
 ghost use lib.ListN.{length, getD};
-ghost use Rattle.outcome.specs.Outcome.{checked};
 ghost use Rattle.outcome.specs.declared.Outcome.the-variants.{Accepted};
 ghost use Rattle.format_language.specs.Language.{Language};
 ghost use Rattle.format_language.specs.LanguageFile.{entriesOf};
-ghost use Rattle.tree_reader.specs.Operations.{treeOf, checkTree};
+ghost use Rattle.tree_reader.specs.Operations.{checkTree};
 ghost use Rattle.tree_reader.specs.Inner.Index.{Indexed, indexLength};
 ghost use Rattle.check_operations.specs.Inner.Chains.{wholeAt};
-use format_language::check::check_language;
+use crate::open::open_language;
 use outcome::Answer;
 use outcome::Outcome;
 use outcome::Reason;
 use outcome::accept;
 use outcome::refuse;
 use tree_reader::index::INDEX;
-use tree_reader::index::build;
-use tree_reader::kinds::is_in;
 use tree_reader::node::Read;
+use tree_reader::read::TREE_LEVELS;
 use tree_reader::read::read_tree;
 
 // What was read, with nothing after it.
@@ -39,20 +37,6 @@ fn whole_tree(read: Read, length: usize) -> Answer
     }
 }
 
-// The tree of a kind, of a language that is whole: 14 to 16. The language's index is built in an index that is all zero.
-fn check_kind(language: &[u8], kind: u8, tree: &[u8], index: &mut [u16]) -> Answer
-    requires { ⌜ (length (now language) ≤ 1024) × (kind < 32) × ((l : Language) × (entriesOf (now language) ≡ some l))
-        × (length (now index) ≡ indexLength) × ((j : ℕ) → getD (now index) j 0 ≡ 0) ⌝ }
-    ensures { λ r. ⌜ ((l : Language) → entriesOf (now (language .entry)) ≡ some l
-        → (r .outcome ≡ checked (treeOf l kind (now (tree .entry)))) × Indexed (now (index .exit)) (now (language .entry)) l) ⌝ }
-{
-    build(language, index);
-    if !is_in(language, kind) {
-        return refuse(Reason::UnknownRoot);
-    }
-    whole_tree(read_tree(language, index, kind, tree, 0, 64), tree.len())
-}
-
 // Check a tree: 1 to 4 for the language, 14 for the root, then 15 and 16 in reading order. Where it is accepted, the
 // language's index was built in an index that was all zero, for a caller that goes on with the tree.
 pub fn check_indexed(language: &[u8], root: u32, tree: &[u8], index: &mut [u16]) -> Answer
@@ -61,15 +45,11 @@ pub fn check_indexed(language: &[u8], root: u32, tree: &[u8], index: &mut [u16])
         × ((n : ℕ) (l : Language) → r .outcome ≡ Accepted n → entriesOf (now (language .entry)) ≡ some l
         → Indexed (now (index .exit)) (now (language .entry)) l) ⌝ }
 {
-    let answer = check_language(language);
-    let outcome = answer.outcome;
-    if let Outcome::Refused(reason) = outcome {
+    if let Outcome::Refused(reason) = open_language(language, root, index) {
         return refuse(reason);
     }
-    if 31 < root {
-        return refuse(Reason::UnknownRoot);
-    }
-    check_kind(language, root as u8, tree, index)
+    let read = read_tree(language, index, root as u8, tree, 0, TREE_LEVELS);
+    whole_tree(read, tree.len())
 }
 
 // Check a tree.

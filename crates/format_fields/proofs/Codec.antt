@@ -107,12 +107,6 @@ pub each-front : {A : Type 0} (P : A → Type 0) (l m : List A) → Each P (l ++
 each-front P [] m p = (tt, p)
 each-front P (a ∷ l) m p = let h = each-front P l m (p .1) in ((p .0, h .0), h .1)
 
--- Bytes by their places.
-pub bytes-at : (s : List ℕ) → Bytes s → (i : ℕ) → byteAt s i < 256
-bytes-at [] b i = omega arith
-bytes-at (x ∷ s) b zero = b .0
-bytes-at (x ∷ s) b (suc i) = bytes-at s (b .1) i
-
 -- Bytes from what is known at each place.
 pub bytes-from : (s : List ℕ) → ((i : ℕ) → i < length s → byteAt s i < 256) → Bytes s
 bytes-from [] h = tt
@@ -249,15 +243,6 @@ made-sound (more {tag = tag} {high = high} {low = low} {c = c} {rest = rest} {fs
     let l : length c % 256 ≡ low = omega arith in
     (cc (ih .0), (record { tag = b .0; contents = bs .0; short = omega arith }, ih .1))
 
--- Fields of bytes are written in bytes.
-pub encode-bytes : (fs : List Field) → Each InBytes fs → Bytes (encodeFields fs)
-unfolding encodeFields concatMap encodeField
-encode-bytes [] h = tt
-encode-bytes (field tag c ∷ fs) h =
-    let high : length c / 256 < 256 = omega (arith, h .0 .short) in
-    let low : length c % 256 < 256 = omega arith in
-    (h .0 .tag, (high, (low, each-append (λ x. x < 256) c (encodeFields fs) (h .0 .contents) (encode-bytes fs (h .1)))))
-
 -- Fields that are read from bytes: the bytes, and what is known of each field.
 pub fields-sound : (s : List ℕ) (fs : List Field) → Bytes s → fieldsOf s ≡ some fs → (s ≡ encodeFields fs) × Each InBytes fs
 fields-sound s fs b e = made-sound (fields-made s fs e) b
@@ -271,11 +256,6 @@ pub concat-append : {A B : Type 0} (f : A → List B) (l m : List A) → concatM
 unfolding concatMap
 concat-append f [] m = refl
 concat-append f (a ∷ l) m = rw (concat-append f l m) (sym (append-assoc (f a) (concatMap f l) (concatMap f m)))
-
--- Fields one after the other.
-pub encode-append : (fs gs : List Field) → encodeFields (fs ++ gs) ≡ encodeFields fs ++ encodeFields gs
-unfolding encodeFields
-encode-append fs gs = concat-append encodeField fs gs
 
 -- A field has three bytes more than its contents.
 pub field-length : (f : Field) → length (encodeField f) ≡ 3 + length (contentsOf f)

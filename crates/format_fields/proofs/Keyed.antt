@@ -1,16 +1,16 @@
--- Lists that rise strictly by a key: given by their members; union commutes, associates, and takes a list once.
+-- Lists that rise strictly by a key: given by their members; what is in a union, and that it rises.
 -- Languages and bodies both use these laws.
 use Prim.Native.Nat.{ℕ, suc, _≤_, _<_}
 use mathlib.Core.Path.{_≡_, refl, ap, sym, _∙_}
-use mathlib.Core.Logic.{_⊎_, inl, inr, ⊎-elim, ⊎-swap}
+use mathlib.Core.Logic.{_⊎_, inl, inr, ⊎-elim}
 use mathlib.Core.Bool.{Bool, true, false, not}
-use mathlib.Core.List.{List, [], _∷_, map}
+use mathlib.Core.List.{List, [], _∷_}
 use native.Mathlib.Omega.{arith}
 use lib.Dec.{ltb, leb, eqb}
 use borrow.Author.Tests.{ltb-true, ltb-false, leb-true, le-leb, eqb-true, eq-eqb}
 use Rattle.format_fields.specs.Lists.{keep}
-use Rattle.format_fields.specs.Keyed.{Order, below, same, above, ordered, order, risingFrom, rising, place, insert, union, holds, within, without, agree}
-use Rattle.format_fields.proofs.Truth.{Mem, by-test, and-both, both-and, or-cases, or-right, or-left, not-true, not-both, all-mem, mem-all, any-mem, mem-any, keep-cases}
+use Rattle.format_fields.specs.Keyed.{Order, below, same, above, ordered, order, risingFrom, rising, place, insert, union, holds, agree}
+use Rattle.format_fields.proofs.Truth.{Mem, by-test, and-both, both-and, or-cases, or-right, or-left, not-true, not-both, all-mem, mem-all, any-mem, mem-any}
 
 -- What the order of two keys says.
 pub data Compared (m n : ℕ) : Order → Type 0 where
@@ -180,45 +180,10 @@ module _ {A : Type 0} (key : A → ℕ) where
   pub agree-sym : (l m : List A) → Agree l m → Agree m l
   agree-sym l m c a b p q e = sym (c b a q p (sym e))
 
-  -- Agreement distributes over union.
-  pub agree-union : (l m k : List A) → Agree l k → Agree m k → Agree (union key l m) k
-  agree-union l m k c d a b p q e = ⊎-elim (λ h. c a b h q e) (λ h. d a b h q e) (union-cases a l m p)
-
-  pub agree-union-right : (l m k : List A) → Agree l m → Agree l k → Agree l (union key m k)
-  agree-union-right l m k c d = agree-sym (union key m k) l (agree-union m k l (agree-sym l m c) (agree-sym l k d))
-
   -- A member of either is a member of the union.
   pub union-mem : (a : A) (l m : List A) → Rising l → Agree l m → Mem a l ⊎ Mem a m → Mem a (union key l m)
   union-mem a l m f c (inl h) = union-left a l m (from-agree 0 l f) h
   union-mem a l m f c (inr h) = union-right a l m c h
-
-  pub union-comm : (l m : List A) → Rising l → Rising m → Agree l m → union key l m ≡ union key m l
-  union-comm l m f g c =
-      rising-ext 0 0 (union key l m) (union key m l) (union-from 0 l m f g) (union-from 0 m l g f)
-      (λ a h. union-mem a m l g (agree-sym l m c) (⊎-swap (union-cases a l m h)))
-      (λ a h. union-mem a l m f c (⊎-swap (union-cases a m l h)))
-
-  pub union-idem : (l : List A) → Rising l → union key l l ≡ l
-  union-idem l f =
-      rising-ext 0 0 (union key l l) l (union-from 0 l l f f) f
-      (λ a h. ⊎-elim (λ q. q) (λ q. q) (union-cases a l l h))
-      (λ a h. union-left a l l (from-agree 0 l f) h)
-
-  pub union-assoc : (l m k : List A) → Rising l → Rising m → Rising k → Agree l m → Agree l k → Agree m k
-      → union key (union key l m) k ≡ union key l (union key m k)
-  union-assoc l m k f g h c d e =
-      rising-ext 0 0 (union key (union key l m) k) (union key l (union key m k))
-      (union-from 0 (union key l m) k (union-from 0 l m f g) h) (union-from 0 l (union key m k) f (union-from 0 m k g h))
-      (λ a q. right a (⊎-elim (λ r. ⊎-elim (λ s. inl s) (λ s. inr (inl s)) (union-cases a l m r)) (λ r. inr (inr r)) (union-cases a (union key l m) k q)))
-      (λ a q. left a (⊎-elim (λ r. inl (inl r)) (λ r. ⊎-elim (λ s. inl (inr s)) (λ s. inr s) (union-cases a m k r)) (union-cases a l (union key m k) q)))
-    where
-      right : (a : A) → Mem a l ⊎ (Mem a m ⊎ Mem a k) → Mem a (union key l (union key m k))
-      right a (inl q) = union-mem a l (union key m k) f (agree-union-right l m k c d) (inl q)
-      right a (inr q) = union-mem a l (union key m k) f (agree-union-right l m k c d) (inr (union-mem a m k g e q))
-
-      left : (a : A) → (Mem a l ⊎ Mem a m) ⊎ Mem a k → Mem a (union key (union key l m) k)
-      left a (inl q) = union-mem a (union key l m) k (union-from 0 l m f g) (agree-union l m k d e) (inl (union-mem a l m f c q))
-      left a (inr q) = union-mem a (union key l m) k (union-from 0 l m f g) (agree-union l m k d e) (inr q)
 
   -- What is kept of a rising list rises.
   pub keep-from : (f : A → Bool) (n : ℕ) (l : List A) → From n l → From n (keep f l)
@@ -229,11 +194,6 @@ module _ {A : Type 0} (key : A → ℕ) where
       (λ e. rw (e, keep) (g .0, keep-from f (suc (key x)) l (g .1)))
       (λ e. rw (e, keep) (keep-from f n l (from-weaken l (omega arith) (g .1))))
 
--- A map that keeps keys keeps the order.
-pub map-from : {A : Type 0} (key : A → ℕ) (f : A → A) → ((a : A) → key (f a) ≡ key a) → (n : ℕ) (l : List A) → From key n l → From key n (map f l)
-map-from key f h n [] g = tt
-map-from key f h n (x ∷ l) g = rw (h x) (g .0, map-from key f h (suc (key x)) l (g .1))
-
 -- The tests, where `alike` tells equal entries.
 module _ {A : Type 0} (alike : A → A → Bool) (alike-equal : (a b : A) → alike a b ≡ true → a ≡ b) (equal-alike : (a : A) → alike a a ≡ true) where
   pub holds-mem : (l : List A) (a : A) → holds alike l a ≡ true → Mem a l
@@ -243,20 +203,6 @@ module _ {A : Type 0} (alike : A → A → Bool) (alike-equal : (a b : A) → al
   pub mem-holds : (l : List A) (a : A) → Mem a l → holds alike l a ≡ true
   unfolding holds
   mem-holds l a m = mem-any (alike a) l a m (equal-alike a)
-
-  pub within-mem : (l m : List A) → within alike l m ≡ true → (a : A) → Mem a l → Mem a m
-  unfolding within
-  within-mem l m e a h = holds-mem m a (all-mem (holds alike m) l e a h)
-
-  pub mem-within : (l m : List A) → ((a : A) → Mem a l → Mem a m) → within alike l m ≡ true
-  unfolding within
-  mem-within l m h = mem-all (holds alike m) l (λ a q. mem-holds m a (h a q))
-
-  pub without-cases : (a : A) (l m : List A) → Mem a (without alike l m) → Mem a l × (Mem a m → ⊥)
-  unfolding without
-  without-cases a l m h =
-      let r = keep-cases (λ b. not (holds alike m b)) a l h in
-      (r .0, λ q. not-both (mem-holds m a q) (not-true (holds alike m a) (r .1)))
 
   module _ (key : A → ℕ) where
     pub agree-holds : (l m : List A) → agree key alike l m ≡ true → Agree key l m

@@ -14,6 +14,10 @@ use Rattle.format_fields.proofs.Truth.{and-both}
 pub use Rattle.format_fields.proofs.Truth.{by-test}
 use Rattle.format_fields.specs.Keyed.{risingFrom}
 
+-- Lists that are equal, by their first elements and what follows them.
+pub cons-both : {A : Type 0} {x y : A} {r s : List A} → x ∷ r ≡ y ∷ s → (x ≡ y) × (r ≡ s)
+cons-both e = (cc, cc)
+
 -- A turn of a pass over a list: x is what the whole pass comes to.
 module _ {A : Type 0} (f : A → Bool) (a : A) (l : List A) {x : Bool} where
   pub all-stop : all f (a ∷ l) ≡ x → f a ≡ false → false ≡ x

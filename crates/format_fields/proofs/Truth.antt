@@ -182,11 +182,6 @@ module _ {A B : Type 0} where
       go more none q (inr n) = more n
       go more (some x) q n = ap some (h c x (inl refl) q)
 
-  pub first-none : (f : A → Option B) (l : List A) → ((a : A) → Mem a l → f a ≡ none) → first f l ≡ none
-  unfolding first
-  first-none f [] h = refl
-  first-none f (c ∷ l) h = rw (h c (inl refl), first) (first-none f l (λ a m. h a (inr m)))
-
 -- The numbers from n up to n + m.
 pub mem-count : (m n k : ℕ) → n ≤ k → k < n + m → Mem k (countUp m n)
 unfolding countUp

@@ -1,10 +1,12 @@
 // Writing into a lent output.
+ghost use mathlib.Core.Path.{_≡_};
 ghost use mathlib.Core.Bool.{cond};
 ghost use mathlib.Core.List.{[], _++_};
-ghost use Prim.Native.Nat.{_≤_};
-ghost use lib.ListN.{length};
+ghost use Prim.Native.Nat.{_+_, _<_, _≤_};
+ghost use lib.ListN.{length, replicate};
 ghost use lib.Seq.{slice};
-ghost use Rattle.format_fields.specs.Inner.Writing.{Inside, Stores};
+ghost use Rattle.format_fields.specs.Fields.{twoBytes};
+ghost use Rattle.format_fields.specs.Inner.Writing.{Inside, spliced, Stores};
 
 // Where what was written ends, or that the output is too short for it.
 pub enum Stored {
@@ -58,4 +60,24 @@ pub fn put_both(
         return Stored::Full;
     };
     put(t, q, d, out, m)
+}
+
+// Puts the two bytes of a number, high byte first, into an output that has room for them.
+pub fn put_pair(value: usize, out: &mut [u8], n: usize)
+    requires { ⌜ (value < 65536) × (n + 2 ≤ length (now out)) ⌝ }
+    ensures { λ r. ⌜ now (out .exit) ≡ spliced (now (out .entry)) n (twoBytes value) ⌝ }
+{
+    out[n] = (value / 256) as u8;
+    out[n + 1] = (value % 256) as u8;
+}
+
+// Sets every byte to zero.
+pub fn clear(s: &mut [u8])
+    ensures { λ _. ⌜ now (s .exit) ≡ replicate (length (now (s .entry))) 0 ⌝ }
+{
+    let mut i = 0;
+    while i < s.len() {
+        s[i] = 0;
+        i += 1;
+    }
 }

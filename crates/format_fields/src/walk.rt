@@ -13,7 +13,16 @@ use super::bytes::pair_at;
 use super::bytes::pair_in;
 use super::bytes::to_usize;
 
-// The tag of a mapping without a number, the first of a body's tags.
+// How many kinds there are. As keys they stand before the productions.
+pub const KINDS: usize = 32;
+
+// How many names the productions of a kind can have, and how many numbers its mappings.
+pub const NAMES: usize = 256;
+
+// No key is as high: a production has the kind of its result, a byte, and a name.
+const KEYS: usize = KINDS + 256 * NAMES;
+
+// The tag of a mapping by number 0, the first of a body's tags. It stands here since items have another order than entries.
 pub const MAPPING: u8 = 0x22;
 
 // The least tag of an item with a number: a mapping; the next one is a clause.
@@ -58,7 +67,7 @@ pub fn key_at(s: &[u8], p: usize, leading_tag: u8) -> usize
     if byte_at(s, p) == leading_tag {
         return to_usize(byte_at(s, p + 3));
     }
-    32 + pair_at(s, p + 3)
+    KINDS + pair_at(s, p + 3)
 }
 
 // The same, where its first five bytes are known to be there.
@@ -69,7 +78,7 @@ pub fn whole_key(s: &[u8], p: usize, leading_tag: u8) -> usize
     if s[p] == leading_tag {
         return to_usize(s[p + 3]);
     }
-    32 + pair_in(s, p + 3)
+    KINDS + pair_in(s, p + 3)
 }
 
 // The key that the entry at p has in an index; with a number it has none there, and the answer is past every index.
@@ -80,7 +89,7 @@ pub fn slot_at(s: &[u8], p: usize, leading_tag: u8) -> usize
     if byte_at(s, p) < NUMBERED {
         return key_at(s, p, leading_tag);
     }
-    65568
+    KEYS
 }
 
 // The key of the item of a body at p, with its number, where its first five bytes are known to be there.
@@ -90,12 +99,12 @@ fn item_order(s: &[u8], p: usize) -> usize
 {
     let tag = s[p];
     if tag < NUMBERED {
-        return whole_key(s, p, MAPPING) * 256;
+        return whole_key(s, p, MAPPING) * NAMES;
     }
     if tag == NUMBERED {
         return pair_in(s, p + 3);
     }
-    let key = (32 + pair_in(s, p + 3)) * 256;
+    let key = (KINDS + pair_in(s, p + 3)) * NAMES;
     if pair_in(s, p + 1) < 3 {
         return key;
     }

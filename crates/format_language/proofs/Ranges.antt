@@ -224,10 +224,6 @@ module _ (s : List ℕ) (p : ℕ) (t : List ℕ) (q : ℕ) (h : IsClass s p) (lo
   low-out e = test-low (classRange s p) (classRange t q) (h .range) (h .step) (rw el at e)
 
   module _ (in-low : inRange (classRange t q) low ≡ true) (high : ℕ) (eh : high ≡ pairAt s (p + 6)) where
-    -- the difference is there
-    pub span-there : low ≤ high
-    span-there = omega (arith, h .range)
-
     module _ (step : ℕ) (es : step ≡ stepAt s p) where
       pub span-single : high - low < step → true ≡ Within
       unfolding classRange

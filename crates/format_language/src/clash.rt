@@ -7,6 +7,7 @@ ghost use Rattle.format_fields.specs.Inner.Places.{placesFrom, tagIs};
 ghost use Rattle.format_language.specs.Inner.Entries.{entryWhole, RisingEntries, Classed, resultMarked, resultsMeet, resultIsClass};
 use super::entries::CLASS;
 use format_fields::bytes::to_usize;
+use format_fields::walk::KINDS;
 use format_fields::walk::whole_end;
 
 // Marks the classes in a table of kinds, and says where the productions start.
@@ -45,7 +46,7 @@ pub fn result_is_class(s: &[u8]) -> bool
     requires { ⌜ RisingEntries (now s) ⌝ }
     ensures { λ r. ⌜ r ≡ resultIsClass (now (s .entry)) ⌝ }
 {
-    let mut kinds = [false; 32];
+    let mut kinds = [false; KINDS];
     let p = mark_classes(s, &mut kinds);
     results_marked(s, p, &kinds)
 }
@@ -55,9 +56,9 @@ pub fn clash_between(a: &[u8], b: &[u8]) -> bool
     requires { ⌜ RisingEntries (now a) × RisingEntries (now b) ⌝ }
     ensures { λ r. ⌜ r ≡ resultsMeet (now (a .entry)) (now (b .entry)) || resultsMeet (now (b .entry)) (now (a .entry)) ⌝ }
 {
-    let mut kinds = [false; 32];
+    let mut kinds = [false; KINDS];
     let p = mark_classes(a, &mut kinds);
-    let mut others = [false; 32];
+    let mut others = [false; KINDS];
     let q = mark_classes(b, &mut others);
     if p != 0 {
         if results_marked(b, q, &kinds) {

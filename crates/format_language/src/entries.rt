@@ -9,6 +9,7 @@ ghost use Rattle.format_fields.specs.Inner.Places.{WholeEnd};
 ghost use Rattle.format_language.specs.LanguageFile.{isKind, entriesOf};
 ghost use Rattle.format_language.specs.Inner.Entries.{sizeAt, stepWhole, classWhole, productionWhole, entryGood};
 use format_fields::bytes::pair_in;
+use format_fields::walk;
 use format_fields::walk::end_if_whole;
 
 // The tag of a token class.
@@ -18,7 +19,19 @@ pub const CLASS: u8 = 0x11;
 pub const PRODUCTION: u8 = 0x12;
 
 // Kinds are the numbers below this one.
-pub const KINDS: u8 = 32;
+pub const KINDS: u8 = walk::KINDS as u8;
+
+// A production has at most so many arguments.
+pub const ARGUMENTS: usize = 8;
+
+// The length of a class whose step is not written: kind, low, high.
+pub const CLASS_LENGTH: usize = 5;
+
+// The length of a class whose step is written.
+pub const STEPPED_LENGTH: usize = 7;
+
+// The greatest length of a production: result, name, arguments.
+const PRODUCTION_LENGTH: usize = 2 + ARGUMENTS;
 
 // The bytes from p up to e are kinds.
 fn kinds_only(s: &[u8], p: usize, e: usize) -> bool
@@ -35,15 +48,15 @@ fn kinds_only(s: &[u8], p: usize, e: usize) -> bool
     true
 }
 
-// The contents of the whole field at p, n bytes, have the length of a class, and a step that is not 0. Length 5 has none.
+// The contents of the whole field at p, n bytes, have the length of a class, and a step that is not 0 where one is written.
 fn step_whole(s: &[u8], p: usize, n: usize) -> bool
     requires { ⌜ (p + 3 + n ≤ length (now s)) × (n ≡ sizeAt (now s) p) ⌝ }
     ensures { λ r. ⌜ (r ≡ stepWhole (now (s .entry)) p) × (r ≡ true → 5 ≤ n) ⌝ }
 {
-    if n == 5 {
+    if n == CLASS_LENGTH {
         return true;
     }
-    if n != 7 {
+    if n != STEPPED_LENGTH {
         return false;
     }
     pair_in(s, p + 8) != 0
@@ -71,7 +84,7 @@ fn production_whole(s: &[u8], p: usize, n: usize) -> bool
     if n < 2 {
         return false;
     }
-    if 10 < n {
+    if PRODUCTION_LENGTH < n {
         return false;
     }
     if KINDS <= s[p + 3] {

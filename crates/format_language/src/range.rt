@@ -3,10 +3,11 @@ ghost use mathlib.Core.Path.{_≡_};
 ghost use Prim.Native.Nat.{_<_};
 ghost use Rattle.format_language.specs.Ranges.{inRange, rangeWithin};
 ghost use Rattle.format_language.specs.Inner.Entries.{IsClass, stepAt, classRange};
+use super::entries::STEPPED_LENGTH;
 use format_fields::bytes::pair_in;
 
-// The length of a class whose step is written.
-const STEPPED: u8 = 7;
+// The length of a class whose step is written, as the low byte of its length.
+const STEPPED: u8 = STEPPED_LENGTH as u8;
 
 // The step of the class at p, which is 1 where it is not written.
 fn step_at(s: &[u8], p: usize) -> usize

@@ -6,6 +6,8 @@ ghost use Rattle.outcome.specs.Outcome.{checked, value};
 ghost use Rattle.format_pack.specs.Pack.{Pack, packOf, termOf};
 ghost use Rattle.format_pack.specs.Inner.Reading.{afterNumber, after, afterSign, afterLast, restAt, EndsBy};
 use super::parts::term_start;
+use super::signs::CONSTANT;
+use super::signs::MAKE;
 use super::signs::first_operand;
 use super::signs::has_number;
 use super::signs::second_operand;
@@ -20,7 +22,13 @@ use outcome::accept;
 use outcome::refuse;
 
 // A term has at most so many levels.
-const TERM_LEVELS: usize = 12;
+pub const TERM_LEVELS: usize = 12;
+
+// Variables of each sort are the numbers below this one.
+pub const VARIABLES: usize = 16;
+
+// The sort of a translation term, as the operands' sorts are given.
+const TRANSLATION: u8 = 2;
 
 // The position after what was read; or bytes that are no such term.
 pub enum Read {
@@ -59,13 +67,13 @@ fn sign_end(sort: u8, s: &[u8], at: usize, languages: usize) -> Read
     if !has_number(sign) {
         return Read::End(at + 1);
     }
-    if sign == 0x50 {
+    if sign == MAKE {
         return Read::End(at + 1);
     }
-    if sign == 0x40 {
+    if sign == CONSTANT {
         return number_end(s, at + 1, languages);
     }
-    number_end(s, at + 1, 16)
+    number_end(s, at + 1, VARIABLES)
 }
 
 // The number that ends a sign, at a position.
@@ -73,7 +81,7 @@ fn last_end(sign: u8, s: &[u8], at: usize, bodies: usize) -> Read
     requires { ⌜ at ≤ length (now s) ⌝ }
     ensures { λ r. ⌜ (restAt (now (s .entry)) r ≡ afterLast bodies sign (drop at (now (s .entry)))) × EndsBy (length (now (s .entry))) r ⌝ }
 {
-    if sign == 0x50 {
+    if sign == MAKE {
         return number_end(s, at, bodies);
     }
     Read::End(at)
@@ -111,7 +119,7 @@ pub fn check_term(pack: &[u8]) -> Answer
     let start = term_start(pack);
     let languages = count_tag(pack, LANGUAGE);
     let bodies = count_tag(pack, BODY);
-    let Read::End(e) = term_end(2, pack, start, languages, bodies, TERM_LEVELS) else {
+    let Read::End(e) = term_end(TRANSLATION, pack, start, languages, bodies, TERM_LEVELS) else {
         return refuse(Reason::IllegalTerm);
     };
     if e != pack.len() {

@@ -12,7 +12,7 @@ use Rattle.outcome.specs.declared.Reason.{Reason}
 use Rattle.outcome.specs.declared.Reason.the-variants.{WrongMapping, WrongClauses, IllegalCode as CodeRefused}
 use Rattle.format_fields.proofs.Truth.{Mem, none-some, some-inj, false-true, and-both, same-truth, all-mem, mem-all, some-is, is-some, mem-count, true-not, both-and}
 use Rattle.format_fields.proofs.Keyed.{Rising}
-use Rattle.format_fields.proofs.Codec.{refused-value}
+use Rattle.format_fields.proofs.Codec.{refused-value, value-inj}
 use Rattle.format_language.specs.Language.{Entry, class, production, Language, entryKey, Range, rangeWithin, isIn, rangeOf, argumentsOf}
 use Rattle.format_language.proofs.Lookup.{range-mem, arguments-mem, mem-arguments}
 use Rattle.tree_reader.specs.Code.{Code}
@@ -186,9 +186,6 @@ formed-fits f g below rises e =
     let b = refuse-value (not (clausesFit f)) WrongClauses _ (a .1) in
     let c = refuse-value (not (codesFit f)) CodeRefused _ (b .1) in
     (tests-fit f below rises (true-not _ (a .0)) (true-not _ (b .0)) (true-not _ (c .0)), value-inj (c .1))
-  where
-    value-inj : {x y : Translation} → value x ≡ value y → x ≡ y
-    value-inj q = cc
 
 -- What a clause's code was read as.
 pub clause-code : (f : Translation) → Rising itemKey (f .body) → (k p j : ℕ) (c : List ℕ) (a : Code) → Mem (clause k p j c) (f .body)

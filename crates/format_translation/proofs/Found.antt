@@ -32,10 +32,6 @@ one-field x c none h = refl
 one-field x c (some []) h = refl
 one-field x c (some (field y d ∷ fs)) h = rw h
 
-no-second : (f : Field) → partsOfFields (before (some f) (some [])) ≡ none
-unfolding partsIn
-no-second f = refl
-
 module _ (x y : ℕ) (c d : List ℕ) where
   two-fields : (o : Option (List Field)) → eqb y 0x21 ≡ false → partsOfFields (before (some (field x c)) (before (some (field y d)) o)) ≡ none
   unfolding partsIn

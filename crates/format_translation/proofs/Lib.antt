@@ -4,6 +4,8 @@ pub mod Lookup
 pub mod Fitting
 pub mod Codec
 pub mod Items
+pub mod ItemParts
+pub mod Clauses
 pub mod Whole
 pub mod Found
 pub mod Cuts

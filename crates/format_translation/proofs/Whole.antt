@@ -1,23 +1,20 @@
 -- Whole entries and items: what stands in them, and a turn of a walk over them.
-use Prim.Native.Nat.{ℕ, zero, suc, _+_, _-_, _<_, _≤_}
+use Prim.Native.Nat.{ℕ, _+_, _<_, _≤_}
 use mathlib.Core.Path.{_≡_, refl, _∙_}
 use mathlib.Core.Logic.{⊎-elim}
 use mathlib.Core.Bool.{true}
 use mathlib.Core.List.{List}
 use native.Mathlib.Omega.{arith}
 use lib.ListN.{length, getD}
-use lib.Seq.{slice}
-use lib.Dec.{eqb}
-use borrow.Author.Tests.{lt-ltb, eq-eqb, eqb-true, eqb-false, ltb-true}
+use borrow.Author.Tests.{lt-ltb, eq-eqb}
 use Rattle.format_fields.specs.Lists.{all}
 use Rattle.format_fields.specs.Inner.Places.{fieldEnd, longAt, placesFrom, places}
-use Rattle.format_fields.proofs.Truth.{by-test, all-mem, mem-all}
-use Rattle.format_fields.proofs.Lists.{all-true, part-next}
+use Rattle.format_fields.proofs.Truth.{all-mem, mem-all}
 use Rattle.format_fields.proofs.Places.{every-here}
-use Rattle.format_language.specs.LanguageFile.{isKind}
 use Rattle.format_language.specs.Inner.Entries.{entryWhole, IsProduction}
 use Rattle.format_language.proofs.Facts.{entry-facts}
 use Rattle.tree_reader.specs.Inner.Positions.{KindsIn}
+use Rattle.tree_reader.proofs.Indexed.{part-kinds}
 use Rattle.format_translation.specs.Inner.Items.{itemWhole, IsClause, ItemFacts, plain-mapping, plain-clause, numbered-mapping, numbered-clause}
 use Rattle.format_translation.proofs.Items.{item-facts}
 
@@ -27,15 +24,6 @@ kinds-here s q e k h = k q (omega arith) h
 
 pub kinds-on : (s : List ℕ) (q e : ℕ) → KindsIn s q e → KindsIn s (q + 1) e
 kinds-on s q e k x i j = k x (omega arith) j
-
--- The kinds of a part.
-part-kinds : (m : ℕ) (s : List ℕ) (q e : ℕ) → e - q ≡ m → e ≤ length s → all isKind (slice q e s) ≡ true → KindsIn s q e
-part-kinds zero s q e y h a x i j = absurd (omega arith)
-part-kinds (suc m) s q e y h a x i j =
-    let w = all-true isKind (getD s q 0) (slice (q + 1) e s) (part-next (all isKind) s q e true a (omega arith) h) in
-    by-test (eqb x q)
-    (λ d. let z : x ≡ q = eqb-true _ _ d in (omega arith, rw z (ltb-true _ _ (w .0))))
-    (λ d. let z : x ≡ q → ⊥ = eqb-false _ _ d in part-kinds m s (q + 1) e (omega arith) h (w .1) x (omega arith) j)
 
 -- The kinds of a production's arguments.
 pub arguments-in : (s : List ℕ) (q e : ℕ) → IsProduction s q → e ≡ fieldEnd s q → KindsIn s (q + 5) e × (e ≤ q + 5 + 8) × (q + 5 ≤ e) × (e ≤ length s)
@@ -50,11 +38,8 @@ arguments-in s q e w ee =
 pub entry-other : (s : List ℕ) (p : ℕ) → entryWhole s p ≡ true → (getD s p 0 ≡ 0x11 → ⊥) → IsProduction s p
 entry-other s p w h = ⊎-elim (λ c. absurd (h (c .tag))) (λ c. c) (entry-facts s p w)
 
--- A walk over whole entries: the one at p, and those after it.
+-- A walk over whole entries: those after the one at p.
 module _ (s : List ℕ) (p : ℕ) (whole : all (entryWhole s) (placesFrom s p) ≡ true) (e : ℕ) (ee : e ≡ fieldEnd s p) (here : p < length s) where
-  pub entry-here : entryWhole s p ≡ true
-  entry-here = every-here (entryWhole s) s p whole here .0
-
   pub entries-on : all (entryWhole s) (placesFrom s e) ≡ true
   entries-on = rw ee (every-here (entryWhole s) s p whole here .1)
 

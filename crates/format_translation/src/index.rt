@@ -7,14 +7,16 @@ ghost use Rattle.tree_reader.specs.Inner.Index.{putAt, indexLength};
 ghost use Rattle.tree_reader.specs.Inner.Positions.{usesLength};
 ghost use Rattle.format_translation.specs.Translation.{Body};
 ghost use Rattle.format_translation.specs.TranslationFile.{bodyOf};
-ghost use Rattle.format_translation.specs.Inner.ItemIndex.{SoundItems, IndexedItems, Mapped, mappedAt, knownAt};
+ghost use Rattle.format_translation.specs.Inner.ItemIndex.{SoundItems, IndexedItems, Mapped, mappedBy, mappedAt, knownAt};
 use crate::body::is_clause;
 use format_fields::bytes::byte_at;
 use format_fields::bytes::to_usize;
 use format_fields::walk::MAPPING;
+use format_fields::walk::NAMES;
 use format_fields::walk::key_at;
 use format_fields::walk::order_at;
 use format_fields::walk::whole_end;
+use format_language::entries::KINDS;
 use tree_reader::index::put_all;
 use tree_reader::node::place_at;
 
@@ -23,7 +25,7 @@ pub fn build_items(body: &[u8], index: &mut [u16])
     requires { ⌜ (length (now body) ≤ 32768) × (length (now index) ≡ indexLength) × ((j : ℕ) → getD (now index) j 0 ≡ 0) ⌝ }
     ensures { λ r. ⌜ ((b : Body) → bodyOf (now (body .entry)) ≡ some b → IndexedItems (now (index .exit)) (now (body .entry)) b) ⌝ }
 {
-    put_all(body, 0x22, index);
+    put_all(body, MAPPING, index);
 }
 
 // Puts a kind plus one at a key that has none yet.
@@ -54,6 +56,17 @@ pub fn put_uses(body: &[u8], uses: &mut [u8])
     }
 }
 
+// The kind that a kind maps to by a number, by such a table; 0 where it is not mapped.
+pub fn mapped_by(uses: &[u8], kind: u8, number: u8) -> u8
+    ensures { λ r. ⌜ r ≡ mappedBy (now (uses .entry)) kind number ⌝ }
+{
+    let next = byte_at(uses, to_usize(kind) * NAMES + to_usize(number));
+    if next == 0 {
+        return 0;
+    }
+    next - 1
+}
+
 // The kind that a kind maps to by number 0; 0 where it is not mapped.
 pub fn map_kind(body: &[u8], index: &[u16], kind: u8) -> u8
     requires { ⌜ SoundItems (now index) (now body) × (kind < 32) ⌝ }
@@ -72,7 +85,7 @@ pub fn map_kinds(body: &[u8], index: &[u16], mapped: &mut [u8])
     ensures { λ r. ⌜ ((k : ℕ) → k < 32 → getD (now (mapped .exit)) k 0 ≡ mappedAt (now (body .entry)) (now (index .entry)) k) × ((k : ℕ) → getD (now (mapped .exit)) k 0 < 32) × (length (now (mapped .exit)) ≡ 32) ⌝ }
 {
     let mut kind = 0u8;
-    while kind < 32 {
+    while kind < KINDS {
         mapped[to_usize(kind)] = map_kind(body, index, kind);
         kind += 1;
     }

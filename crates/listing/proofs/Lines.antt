@@ -11,10 +11,11 @@ use Rattle.format_fields.specs.Lists.{concatMap}
 use Rattle.format_fields.specs.Fields.{byteAt, pairAt}
 use Rattle.format_fields.specs.Inner.Places.{fieldEnd, isWhole, contentsAt, placesFrom}
 use Rattle.format_fields.proofs.Places.{pass-done, pass-next}
-use Rattle.listing.specs.Text.{marked, pairOf, clauseLine, numberedLine}
+use Rattle.program_text.specs.Text.{marked, pairOf}
+use Rattle.listing.specs.Text.{clauseLine, numberedLine}
 use Rattle.listing.specs.Inner.Walk.{contentsLine, numberedContents, fieldLine, lineAt, clauseLines}
-use Rattle.listing.specs.Inner.Putting.{Puts}
-use Rattle.listing.proofs.Putting.{puts-then, puts-nothing}
+use Rattle.program_text.specs.Inner.Putting.{Puts}
+use Rattle.program_text.proofs.Putting.{puts-then, puts-nothing}
 
 -- The code of a clause is the rest behind two bytes.
 code-is : (clause : List ℕ) → take (length clause - 2) (drop 2 clause) ≡ drop 2 clause

@@ -8,57 +8,18 @@ use lib.Seq.{take-append-seam, length-take-le}
 use Rattle.io.specs.Counts.{Counts}
 use Rattle.outcome.specs.Outcome.{Result, value, refused, _>>=_, reasonNumber, numberOf, written, outputAfter}
 use Rattle.outcome.specs.declared.Reason.{Reason}
-use Rattle.outcome.specs.declared.Reason.the-variants.{TooLong, BrokenField, OutOfOrder, ClassIsResult, WrongMapping, WrongClauses, IllegalCode, IllegalTerm, BuffersTooShort, UnboundVariable, ValueTooLarge, SumUnfit, JoinUnfit, UnknownRoot, IllegalTree, TooDeep, OutputTooShort, BrokenTable, ScoreOutOfRange, NotAnExport, NoBlock, NotIndexed, NoSource, LimitOutOfRange, Hidden, NumberUnfit}
 use Rattle.outcome.specs.declared.Outcome.{Outcome}
 use Rattle.outcome.specs.declared.Outcome.the-variants.{Accepted, Refused}
 use Rattle.format_translation.specs.Translation.{Translation}
 use Rattle.format_translation.specs.TranslationFile.{encodeTranslation}
 use Rattle.reduce_signs.specs.Evaluation.{constantsOf, nothingBound, evaluate}
 use Rattle.reduce_operation.specs.Operations.{Ready, ready, work, reduceBytes, reduce}
-use Rattle.listing.specs.Text.{acceptedWord, refusedWord, marked, firstLine}
+use Rattle.program_text.specs.Text.{acceptedWord, refusedWord, marked, firstLine}
 use Rattle.listing.specs.Listing.{reduced, textOf, listing}
 use Rattle.listing.specs.Inner.Walk.{clauseLines, outcomeText}
-use Rattle.listing.specs.Inner.Putting.{Puts}
-use Rattle.listing.proofs.Putting.{puts-then}
+use Rattle.program_text.specs.Inner.Putting.{Puts}
+use Rattle.program_text.proofs.Putting.{puts-then}
 use Rattle.listing.proofs.Walk.{clause-lines}
-
--- A reason's number is small.
-small : (r : Reason) → reasonNumber r < 27
-small TooLong = omega arith
-small BrokenField = omega arith
-small OutOfOrder = omega arith
-small ClassIsResult = omega arith
-small WrongMapping = omega arith
-small WrongClauses = omega arith
-small IllegalCode = omega arith
-small IllegalTerm = omega arith
-small BuffersTooShort = omega arith
-small UnboundVariable = omega arith
-small ValueTooLarge = omega arith
-small SumUnfit = omega arith
-small JoinUnfit = omega arith
-small UnknownRoot = omega arith
-small IllegalTree = omega arith
-small TooDeep = omega arith
-small OutputTooShort = omega arith
-small BrokenTable = omega arith
-small ScoreOutOfRange = omega arith
-small NotAnExport = omega arith
-small NoBlock = omega arith
-small NotIndexed = omega arith
-small NoSource = omega arith
-small LimitOutOfRange = omega arith
-small Hidden = omega arith
-small NumberUnfit = omega arith
-
-pub number-small : (o : Outcome) → numberOf o < 27
-number-small (Accepted n) = omega arith
-number-small (Refused r) = small r
-
--- `put_first`
-pub puts-first : (word : List ℕ) (n : ℕ) (o o′ o″ : List ℕ) (p q r : ℕ) → Puts word o o′ p q → Puts (marked n 10) o′ o″ q r → Puts (firstLine word n) o o″ p r
-unfolding firstLine
-puts-first word n o o′ o″ p q r x y = puts-then word (marked n 10) o o′ o″ p q r x y
 
 -- The clauses fit behind the first line.
 pub clauses-fit : (n at : ℕ) (output line o o′ : List ℕ) → n ≤ length output → length output ≤ 4096 → at ≤ 14 → Puts line o o′ 0 at

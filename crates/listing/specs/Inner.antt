@@ -1,3 +1,2 @@
 -- Definitions by position, in the shape of the code.
-pub mod Putting
 pub mod Walk

@@ -8,7 +8,8 @@ use Rattle.format_translation.specs.Translation.{Translation}
 use Rattle.format_translation.specs.TranslationFile.{encodeTranslation}
 use Rattle.reduce_signs.specs.Evaluation.{constantsOf, nothingBound, evaluate}
 use Rattle.reduce_operation.specs.Operations.{ready}
-use Rattle.listing.specs.Text.{acceptedWord, refusedWord, firstLine, itemLine}
+use Rattle.program_text.specs.Text.{acceptedWord, refusedWord, firstLine}
+use Rattle.listing.specs.Text.{itemLine}
 
 -- The translation that a pack is reduced to with a workspace of 65,536 and an output of 4,096 bytes, or why not:
 -- reduce writes its bytes (`proofs/WholeText.antt`: `reduced-bytes`).

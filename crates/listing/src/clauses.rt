@@ -1,14 +1,14 @@
 // The lines of the clauses of a translation.
-use crate::text::put;
-use crate::text::put_hex;
-use crate::text::put_number;
 use format_fields::bytes::byte_at;
 use format_fields::walk::field_end;
+use program_text::text::put;
+use program_text::text::put_hex;
+use program_text::text::put_number;
 ghost use Prim.Native.Nat.{_+_, _*_, _-_, _<_, _≤_};
 ghost use lib.ListN.{length};
 ghost use Rattle.format_fields.specs.Inner.Places.{EndsAt};
 ghost use Rattle.listing.specs.Inner.Walk as Walk;
-ghost use Rattle.listing.specs.Inner.Putting.{Puts};
+ghost use Rattle.program_text.specs.Inner.Putting.{Puts};
 
 // The line of a clause, from the contents of its field.
 fn put_clause(clause: &[u8], text: &mut [u8], at: usize) -> usize

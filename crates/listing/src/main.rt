@@ -1,10 +1,9 @@
 // The listing program (paper 01, "Strap examples"): prints what the pack in the file plan.pack is reduced to.
+mod answer;
 mod clauses;
-mod outcome;
-mod text;
 
+use answer::put_outcome;
 use libc::STDOUT_FILENO;
-use outcome::put_outcome;
 use reduce_operation::reduce::reduce;
 ghost use mathlib.Core.Path.{_≡_};
 ghost use Prim.Native.Nat.{_≤_};

@@ -1,12 +1,9 @@
 -- The index of the source as the front of the table of a run.
-use Prim.Native.Nat.{ℕ, _+_, _≤_, _<_}
+use Prim.Native.Nat.{ℕ, _+_, _<_}
 use mathlib.Core.Path.{_≡_, refl, sym, _∙_}
 use mathlib.Core.List.{List, [], _∷_}
 use native.Mathlib.Omega.{arith}
-use lib.ListN.{length, getD, take, length-take, List·getD-eq-default}
-use lib.Dec.{ltb}
-use borrow.Author.Tests.{ltb-true, ltb-false}
-use Rattle.format_fields.proofs.Truth.{by-test}
+use lib.ListN.{length, getD, take}
 use lib.Seq.{getD-take, length-take-le}
 use Rattle.format_language.specs.Language.{productionKey}
 use Rattle.tree_reader.specs.Inner.Index.{Built}
@@ -22,16 +19,6 @@ module _ (index table : List ℕ) (same : (j : ℕ) → j < 8224 → getD table 
     used = λ k p j u ks h i e q a m n l. rw (same (productionKey k p) (omega arith)) (z .used k p j u ks h i e q a m n l);
     narrow = z .narrow;
   }
-
--- check_front: a part of what is all zero.
-pub part-zero : (n : ℕ) (o : List ℕ) → ((j : ℕ) → getD o j 0 ≡ 0) → (j : ℕ) → getD (take n o) j 0 ≡ 0
-part-zero n o clear j =
-    by-test (ltb j n)
-    (λ e. getD-take n o j 0 (ltb-true _ _ e) ∙ clear j)
-    (λ e.
-    let i : n ≤ j = ltb-false _ _ e in
-    let l = length-take n o in
-    List·getD-eq-default (take n o) 0 (omega arith))
 
 -- begin: the index is the front of the table.
 module _ (s table : List ℕ) (long : length table ≡ 26184) where

@@ -1,22 +1,21 @@
 -- What a run relies on, and a law for each return of `write_tree`, `run_parts` and `run`.
-use Prim.Native.Nat.{ℕ, zero, suc, min, _+_, _*_, _<_, _≤_}
+use Prim.Native.Nat.{ℕ, min, _+_, _<_, _≤_}
 use mathlib.Core.Path.{_≡_, refl, sym, ap, _∙_}
 use mathlib.Core.Logic.{_⊎_, ⊎-elim}
-use mathlib.Core.Bool.{Bool, true, false, not, _&&_}
+use mathlib.Core.Bool.{Bool, true, false}
 use mathlib.Core.List.{List, [], _++_}
 use mathlib.Core.Option.{some}
 use native.Mathlib.Omega.{arith}
-use lib.ListN.{length, getD, drop, drop-of-length-le, length-append, length-drop, List·getD-append}
-use lib.Seq.{getD-drop, getD-append-add}
-use lib.Dec.{ltb, eqb}
-use borrow.Author.Tests.{le-ltb, lt-ltb, ltb-true, ne-eqb}
+use lib.ListN.{length, getD, drop, drop-of-length-le}
+use lib.Dec.{ltb}
+use borrow.Author.Tests.{le-ltb, lt-ltb, ltb-true}
 use Rattle.outcome.specs.Outcome.{Result, value, refused, _>>=_, checked, written, outputAfter}
 use Rattle.outcome.specs.declared.Outcome.{Outcome}
 use Rattle.outcome.specs.declared.Outcome.the-variants.{Accepted, Refused}
 use Rattle.outcome.specs.declared.Reason.{Reason}
 use Rattle.outcome.specs.declared.Reason.the-variants as Why
 use Rattle.format_fields.specs.Lists.{isSome}
-use Rattle.format_fields.proofs.Truth.{by-test, and-both, all-mem, same-truth, some-is, is-some}
+use Rattle.format_fields.proofs.Truth.{by-test, and-both, all-mem, some-is}
 use Rattle.format_fields.proofs.Split.{front}
 use Rattle.format_fields.proofs.Codec.{bytes-from}
 use Rattle.format_language.specs.Language.{isIn}
@@ -25,9 +24,8 @@ use Rattle.tree_reader.specs.Code.{Code}
 use Rattle.tree_reader.specs.Syntax as Meant
 use Rattle.tree_reader.specs.Operations.{treeOf, wholeTree}
 use Rattle.tree_reader.specs.declared.node.Syntax.the-variants.{Tree, Code as InCode}
-use Rattle.tree_reader.specs.Inner.Index.{Built, Indexed}
+use Rattle.tree_reader.specs.Inner.Index.{Indexed}
 use Rattle.tree_reader.proofs.Built.{built-indexed}
-use Rattle.tree_reader.specs.Inner.Positions.{kindBefore, mappedIn}
 use Rattle.format_translation.proofs.Accepted.{refused-not}
 use Rattle.tree_reader.proofs.RoundTrip.{Apart}
 use Rattle.tree_reader.proofs.Larger.{apart}
@@ -37,11 +35,8 @@ use Rattle.format_translation.specs.Running.{clausesOf, transform}
 use Rattle.format_translation.specs.TranslationFile.{allRising, translationOf}
 use Rattle.format_translation.specs.WellFormed.{wellFormed}
 use Rattle.format_translation.specs.Operations.{checkTranslation, fitted, runBytes, runTree}
-use Rattle.format_translation.specs.Inner.Parts.{sourceIn, targetIn, bodyIn}
-use Rattle.format_translation.specs.Inner.ItemIndex.{Mapped}
 use Rattle.format_translation.proofs.Codec.{itemWhole, translation-whole}
-use Rattle.format_translation.proofs.Lookup.{mapping-mem, mem-mapping}
-use Rattle.format_translation.proofs.Cuts.{pieces-in, body-in-short}
+use Rattle.format_translation.proofs.Lookup.{mapping-mem}
 use Rattle.run_measure.specs.declared.measure.Measured.{Measured}
 use Rattle.run_measure.specs.declared.measure.Measured.the-variants.{End, Deep, Broken}
 use Rattle.run_measure.specs.Inner.Sizes.{size, capped}
@@ -53,13 +48,13 @@ use Rattle.run_measure.proofs.Meaning.{sized-done, sized-deep, sized-broken}
 use Rattle.format_fields.specs.Inner.Writing.{spliced}
 use Rattle.run_table.specs.Inner.Stands.{Wrote}
 use Rattle.run_table.specs.Inner.Table.{Ready, Checked}
-use Rattle.run_table.specs.Inner.Filling.{Begun}
-use Rattle.run_table.proofs.Clauses.{body-rises, fits}
+use Rattle.run_table.proofs.Clauses.{fits}
 use Rattle.run_emit.specs.Inner.Runs.{TermAsks}
 use Rattle.run_emit.proofs.Skips.{no-kind}
 use Rattle.run_table.proofs.Standing.{drop-stands, wrote-long}
+use Rattle.run_open.specs.Inner.Opened.{Prepared}
 use Rattle.run_operation.specs.Operations.{largestCost, clausesApplied, runCost}
-use Rattle.run_operation.specs.Inner.Runs.{runOf, costOf, Answers, Ran, Reads, Measures, Prepared}
+use Rattle.run_operation.specs.Inner.Runs.{runOf, costOf, Answers, Ran, Reads, Measures}
 use Rattle.run_operation.proofs.Learning.{learnt-right}
 
 -- A mapping in a file is of a kind and by a byte.
@@ -80,28 +75,6 @@ module _ {s t b : List ℕ} {f : Translation} (z : Checked s t b f) where
 
   pub formed : wellFormed f ≡ value f
   formed = translation-whole (z .file) f (z .accepted) .2
-
--- has_number
-module _ {s t b : List ℕ} {f : Translation} (z : Checked s t b f) (k : ℕ) where
-  mapped-in : isSome (mappingOf (f .body) k 0) ≡ isIn (f .source) k
-  mapped-in =
-      same-truth (isSome (mappingOf (f .body) k 0)) (isIn (f .source) k)
-      (λ e. let u = some-is (mappingOf (f .body) k 0) e in fits z .mapsOnly k 0 (u .0) (mapping-mem (f .body) k 0 (u .0) (u .1)) .0)
-      (λ e. let u = fits z .maps k e in is-some (mappingOf (f .body) k 0) (mem-mapping (f .body) (body-rises z) k 0 (u .0) (u .1)))
-
-  pub number-zero : {r : Bool} {n : ℕ} → n ≡ 0 → r ≡ isIn (f .source) k → r ≡ isSome (mappingOf (f .body) k n)
-  number-zero e h = h ∙ (sym mapped-in ∙ ap (λ (j : ℕ). isSome (mappingOf (f .body) k j)) (sym e))
-
-  some-before : (x : ℕ) → not (eqb x 0) ≡ isSome (kindBefore x)
-  some-before zero = refl
-  some-before (suc x) = rw (ne-eqb (suc x) 0 (λ h. omega arith)) refl
-
-  pub number-other : {uses : List ℕ} {n h i : ℕ} → Mapped uses (f .body) → k < 32 → n < 256 → h ≡ k → i ≡ n
-      → not (eqb (getD uses (h * 256 + i) 0) 0) ≡ isSome (mappingOf (f .body) k n)
-  unfolding mappedIn
-  number-other {uses} {n} {h} {i} w small byte eh ei =
-      let e : kindBefore (getD uses (k * 256 + n) 0) ≡ mappingOf (f .body) k n = rw (lt-ltb n 256 byte) at (w .is k n small byte) in
-      rw (eh, ei) (some-before (getD uses (k * 256 + n) 0) ∙ ap isSome e)
 
 -- The bytes of a run, and what reading its tree comes to.
 abbrev pub runBy : Translation → ℕ → Code → List ℕ
@@ -256,52 +229,6 @@ module _ {s t x : List ℕ} {f : Translation} (z : Checked s t x f) (k j top : �
           let l = within-room room top (size (transform f j (read-done .0))) over (omega arith) in
           let y : Reads f k j ends b (read-done .0) = record { has = has; is = read-all; kept = w .kept } in
           record { answers = answer-same (tree-run h) (g (read-done .0) y (omega arith)); costs = tree-costs h most i }
-
--- check_front: the indexes were made in the front of a table that was all zero.
-pub front-begun : (s g o v : List ℕ) → length o ≡ 26184 → ((j : ℕ) → getD o j 0 ≡ 0) → length v ≡ 16448 → Built 0x11 s v 0 → Built 0x11 g v 8224 → Begun s g (v ++ drop 16448 o)
-front-begun s g o v long clear short first second =
-    let n = length-append v (drop 16448 o) in
-    let d = length-drop 16448 o in
-    let same : (j : ℕ) → j < 16448 → getD (v ++ drop 16448 o) j 0 ≡ getD v j 0 = λ j h. List·getD-append v (drop 16448 o) 0 j (omega arith) in
-    record {
-      long = omega arith;
-      source = record { zeros = first .zeros; long = first .long; zero = first .zero; is = λ j h. same (0 + j) (omega arith) ∙ first .is j h };
-      target = record { zeros = second .zeros; long = second .long; zero = second .zero; is = λ j h. same (8224 + j) (omega arith) ∙ second .is j h };
-      hints = λ i.
-          let e : 25664 + i ≡ length v + (9216 + i) = omega arith in
-          ap (λ (m : ℕ). getD (v ++ drop 16448 o) m 0) e ∙ (getD-append-add v (drop 16448 o) (9216 + i) 0 ∙ (getD-drop 16448 o (9216 + i) 0 ∙ clear (16448 + (9216 + i))));
-    }
-
--- check_into
-pub accepted-is : (s : List ℕ) (f : Translation) → translationOf s ≡ value f → {out : Outcome} → out ≡ Accepted 0 → out ≡ checkTranslation s
-unfolding checkTranslation
-accepted-is s f e h = rw e h
-
-pub refused-is : (s : List ℕ) (c out : Outcome) (r : Reason) → c ≡ checkTranslation s → c ≡ Refused r → out ≡ Refused r → out ≡ checkTranslation s
-refused-is s c out r ec h i = i ∙ (sym h ∙ ec)
-
-pub refused-none : {A : Type 0} (s : List ℕ) (f : Translation) → translationOf s ≡ value f → (c : Outcome) (r : Reason) → c ≡ checkTranslation s → c ≡ Refused r → A
-unfolding checkTranslation
-refused-none s f e c r ec h =
-    let y : c ≡ Accepted 0 = rw e at ec in
-    refused-not {n = 0} {r = r} (sym h ∙ y)
-
--- run: the parts that are lent.
-pub parts-checked : (s : List ℕ) (f : Translation) → translationOf s ≡ value f → {x y z : List ℕ} → x ≡ sourceIn s → y ≡ targetIn s → z ≡ bodyIn s
-    → Checked x y z f
-parts-checked s f e ex ey ez =
-    rw (ex, ey, ez) (record { pieces = pieces-in s f e; short = body-in-short s f e; file = s; accepted = e })
-
--- The table of the parts, under other names.
-pub begun-as : {x y s g t : List ℕ} → x ≡ s → y ≡ g → Begun s g t → Begun x y t
-begun-as ex ey w = rw (ex, ey) w
-
-pub prepared-as : {x z s t b table : List ℕ} {f : Translation} → x ≡ s → z ≡ b → Prepared s t b table f → Prepared x t z table f
-prepared-as ex ez w = rw (ex, ez) w
-
-pub into-prepared : (s : List ℕ) (f : Translation) → translationOf s ≡ value f → {x table : List ℕ} → x ≡ sourceIn s → Built 0x11 x table 0 → Ready table f
-    → Prepared (sourceIn s) (targetIn s) (bodyIn s) table f
-into-prepared s f e ex built ready = record { checked = parts-checked s f e refl refl refl; ready = ready; index = rw ex at built }
 
 -- The outcome, the output and the cost are those of the operation.
 abbrev pub AsRun : List ℕ → (root number : ℕ) → List ℕ → List ℕ → List ℕ → ℕ → Outcome → Type 0

@@ -1,12 +1,7 @@
 // The operation run. It measures the result first and writes it only where it fits.
-use check_operations::translations::check_kept;
-use check_wellformed::check::INDEXES;
 use check_wellformed::check::USES_ROOM;
-use format_fields::bytes::to_usize;
-use format_translation::index::put_uses;
 use format_translation::parts::body_of;
 use format_translation::parts::source_of;
-use format_translation::parts::target_of;
 use outcome::Answer;
 use outcome::Outcome;
 use outcome::Reason;
@@ -16,11 +11,11 @@ use run_measure::count::width_of;
 use run_measure::measure::Measured;
 use run_measure::measure::measure;
 use run_measure::prepare::prepare;
+use run_open::open::has_number;
+use run_open::open::open_translation;
 use tree_reader::index::INDEX;
 use tree_reader::index::TABLE;
-use tree_reader::kinds::is_in;
 use tree_reader::node::Syntax;
-use tree_reader::node::USES;
 ghost use mathlib.Core.Path.{_≡_};
 ghost use mathlib.Core.Bool.{true};
 ghost use mathlib.Core.Option.{some};
@@ -35,19 +30,17 @@ ghost use Rattle.tree_reader.specs.Syntax.{write, tree as inTrees};
 ghost use Rattle.format_fields.specs.Lists.{isSome};
 ghost use Rattle.format_translation.specs.Translation.{Translation, mappingOf};
 ghost use Rattle.format_translation.specs.Running.{transform};
-ghost use Rattle.format_translation.specs.Operations.{checkTranslation, runTree};
-ghost use Rattle.format_translation.specs.TranslationFile.{bodyOf, allRising, translationOf};
+ghost use Rattle.format_translation.specs.Operations.{runTree};
+ghost use Rattle.format_translation.specs.TranslationFile.{bodyOf, allRising};
 ghost use Rattle.format_translation.specs.WellFormed.{wellFormed};
 ghost use Rattle.run_measure.specs.Inner.Measuring.{Counted};
 ghost use Rattle.run_measure.specs.Inner.Counting.{widthOf};
-ghost use Rattle.format_translation.specs.Inner.Parts.{sourceIn, targetIn, bodyIn};
 ghost use Rattle.format_translation.specs.Inner.ItemIndex.{Mapped};
 ghost use Rattle.tree_reader.specs.Inner.Index.{Built, tableLength};
-ghost use Rattle.check_wellformed.specs.Inner.Ready.{usesRoom};
-ghost use Rattle.run_table.specs.Inner.Table.{Checked, Ready};
-ghost use Rattle.run_table.specs.Inner.Filling.{Begun};
+ghost use Rattle.run_table.specs.Inner.Table.{Ready};
+ghost use Rattle.run_open.specs.Inner.Opened.{Prepared};
 ghost use Rattle.run_operation.specs.Operations.{largestCost, runCost};
-ghost use Rattle.run_operation.specs.Inner.Runs.{Answers, Ran, Reads, Measures, Prepared};
+ghost use Rattle.run_operation.specs.Inner.Runs.{Answers, Ran, Reads, Measures};
 
 // The largest number of a mapping.
 const LAST_NUMBER: u32 = 255;
@@ -69,19 +62,6 @@ const LEAST_TOP: usize = 4294967296;
 
 // The largest cost that is reported.
 const LARGEST_COST: u32 = 4294967295;
-
-// Whether a kind has a number: it is mapped by it. Exactly the kinds in the source have number 0.
-fn has_number(source: &[u8], body: &[u8], kind: u8, number: u8) -> bool
-    requires { ⌜ (kind < 32) × ((t : List ℕ) × (f : Translation) × Checked (now source) t (now body) f) ⌝ }
-    ensures { λ r. ⌜ ((t : List ℕ) (f : Translation) → Checked (now (source .entry)) t (now (body .entry)) f → r ≡ isSome (mappingOf (f .body) kind number)) ⌝ }
-{
-    if number == 0 {
-        return is_in(source, kind);
-    }
-    let mut uses = [0u8; USES];
-    put_uses(body, &mut uses);
-    uses[to_usize(kind) * 256 + to_usize(number)] != 0
-}
 
 // Puts what the body's clauses count into tables that are all zero. The index of the source stands in the front of the table.
 fn begin(
@@ -343,63 +323,29 @@ fn run_numbered(
     finish(result, table, kind, number, tree, &ends, output, cost)
 }
 
-// The run of a tree of a kind by a number, through a translation that was accepted and whose table is filled: 14 to 17. The cost is 0
-// before.
+// The run of a tree of a kind by a number, through a translation that was opened: 14 to 17. The cost is 0 before.
 fn run_parts(
     source: &[u8],
     body: &[u8],
     table: &[u16; TABLE],
+    uses: &[u8; USES_ROOM],
     kind: u8,
     number: u8,
     tree: &[u8],
     output: &mut [u8],
     cost: &mut u32,
 ) -> Answer
-    requires { ⌜ (kind < 32) × (now cost ≡ 0) × ((t : List ℕ) × (f : Translation) × Prepared (now source) t (now body) (now table) f) ⌝ }
-    ensures { λ r. ⌜ ((t : List ℕ) (f : Translation) → Prepared (now (source .entry)) t (now (body .entry)) (now (table .entry)) f
+    requires { ⌜ (kind < 32) × (now cost ≡ 0) × ((t : List ℕ) × (f : Translation) × Prepared (now source) t (now body) (now table) f × Mapped (now uses) (f .body)) ⌝ }
+    ensures { λ r. ⌜ ((t : List ℕ) (f : Translation) → Prepared (now (source .entry)) t (now (body .entry)) (now (table .entry)) f → Mapped (now (uses .entry)) (f .body)
         → Ran f kind number (now (tree .entry)) (now (output .entry)) (now (output .exit)) (now (cost .exit)) (r .outcome)) ⌝ }
 {
-    if !has_number(source, body, kind, number) {
+    if !has_number(uses, kind, number) {
         return refuse(Reason::UnknownRoot);
     }
     if width_of(body) == 1 {
         return run_single(source, body, table, kind, number, tree, output, cost);
     }
     run_numbered(source, body, table, kind, number, tree, output, cost)
-}
-
-// Checks a translation. The indexes that this takes are made in the front of a table that is all zero, where it is lent as a
-// slice, and what kinds map to by number in another.
-fn check_front(translation: &[u8], table: &mut [u16], uses: &mut [u8]) -> Answer
-    requires { ⌜ (length (now table) ≡ tableLength) × ((j : ℕ) → getD (now table) j 0 ≡ 0) × (length (now uses) ≡ usesRoom) × ((j : ℕ) → getD (now uses) j 0 ≡ 0) ⌝ }
-    ensures is { λ r. ⌜ r .outcome ≡ checkTranslation (now (translation .entry)) ⌝ }
-    ensures kept { λ r. ⌜ ((f : Translation) → translationOf (now (translation .entry)) ≡ value f
-        → Begun (sourceIn (now (translation .entry))) (targetIn (now (translation .entry))) (now (table .exit)) × Mapped (now (uses .exit)) (f .body)) ⌝ }
-{
-    check_kept(translation, &mut table[..INDEXES], uses)
-}
-
-// Checks a translation and, where it is accepted, fills the table that its run looks things up in, which is all zero before.
-fn check_into(translation: &[u8], table: &mut [u16; TABLE]) -> Answer
-    requires { ⌜ ((j : ℕ) → getD (now table) j 0 ≡ 0) ⌝ }
-    ensures is { λ r. ⌜ r .outcome ≡ checkTranslation (now (translation .entry)) ⌝ }
-    ensures kept { λ r. ⌜ ((f : Translation) → translationOf (now (translation .entry)) ≡ value f
-        → Prepared (sourceIn (now (translation .entry))) (targetIn (now (translation .entry))) (bodyIn (now (translation .entry))) (now (table .exit)) f) ⌝ }
-{
-    let mut uses = [0u8; USES_ROOM];
-    let answer = check_front(translation, table, &mut uses);
-    let outcome = answer.outcome;
-    if let Outcome::Refused(reason) = outcome {
-        return refuse(reason);
-    }
-    run_table::prepare::prepare(
-        source_of(translation),
-        target_of(translation),
-        body_of(translation),
-        &uses,
-        table,
-    );
-    accept(0)
 }
 
 // Run by a number: 1 to 7 for the translation, 14 for the root and the number, 15 and 16 for the tree against its source, 17 where
@@ -418,7 +364,8 @@ pub fn run(
 {
     *cost = 0;
     let mut table = [0u16; TABLE];
-    let answer = check_into(translation, &mut table);
+    let mut uses = [0u8; USES_ROOM];
+    let answer = open_translation(translation, &mut table, &mut uses);
     let outcome = answer.outcome;
     if let Outcome::Refused(reason) = outcome {
         return refuse(reason);
@@ -433,6 +380,7 @@ pub fn run(
         source_of(translation),
         body_of(translation),
         &table,
+        &uses,
         root as u8,
         number as u8,
         tree,

@@ -78,7 +78,7 @@ pub fn keep_ends(
             operands.first,
             operands.last,
             tree,
-            operands.to,
+            operands.start,
             memory,
         );
         keep_end(memory, kind, to, end);

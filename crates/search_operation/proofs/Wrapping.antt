@@ -34,8 +34,8 @@ use Rattle.format_translation.specs.Running.{clausesOf}
 use Rattle.format_translation.specs.TranslationFile.{bodyOf, translationOf}
 use Rattle.format_translation.specs.Operations.{checkTranslation}
 use Rattle.format_translation.specs.Inner.Parts.{sourceIn, targetIn, bodyIn}
-use Rattle.format_translation.specs.Inner.ItemIndex.{IndexedItems, mappedAt}
-use Rattle.format_translation.proofs.IndexedItems.{mapped-is}
+use Rattle.format_translation.specs.Inner.ItemIndex.{Mapped as UsesOf}
+use Rattle.run_open.specs.Inner.Opened.{Prepared}
 use Rattle.format_translation.proofs.Cuts.{pieces-in, body-in-short}
 use Rattle.format_translation.proofs.Accepted.{refused-not}
 use Rattle.format_translation.proofs.Codec.{translation-whole, rises-parts}
@@ -56,7 +56,7 @@ use Rattle.tree_index.specs.Inner.Lying.{There}
 use Rattle.tree_reader.proofs.Built.{built-indexed}
 use Rattle.search_levels.proofs.Lying.{some-byte}
 use Rattle.search_sources.specs.Operations.{isLimit, ready, foundIn, searchBytes, searchTree}
-use Rattle.search_operation.specs.Inner.Finding.{Searchable, Rooted, Mapped, Placed, Opened, Answers, readyIn, readyFrom, Leaves}
+use Rattle.search_operation.specs.Inner.Finding.{Searchable, Rooted, Mapped, Placed, Tabled, Opened, Answers, readyIn, readyFrom, Leaves}
 
 -- A name in a file is a byte.
 class-production : {A : Type 0} {k r p : ℕ} {c : Range} {ks : List ℕ} → production r p ks ≡ class k c → A
@@ -91,11 +91,11 @@ all-zero w n e h = go w h ∙ ap (λ (m : ℕ). replicate m 0) e
     go [] h = refl
     go (b ∷ w) h = let x : b ≡ 0 = h 0 in let r = go w (λ i. h (suc i)) in λ i. x i ∷ r i
 
-pub opened-by : (table source target body places kinds bytes : List ℕ) (k : ℕ) (f : Translation) (u : Code) → Searchable source target body f → Placed target places bytes k f u
-    → Ready table f → Built 0x11 source table 0 → ((i : ℕ) → getD source i 0 < 256) → Mapped kinds (f .body)
-    → ((j : ℕ) → j < 32 → Unnamed table j 0 (getD kinds (32 + j) 0)) → Opened table source target places kinds bytes k f u
-opened-by table source target body places kinds bytes k f u z w r b n m l =
-    record { body = body; searchable = z; ready = r; built = b; narrow = n; placed = w; maps = m; lowest = l }
+pub opened-by : (table uses source target places kinds bytes : List ℕ) (k : ℕ) (f : Translation) (u : Code) → Tabled table uses source target f → Placed target places bytes k f u
+    → ((i : ℕ) → getD source i 0 < 256) → Mapped kinds (f .body) → ((j : ℕ) → j < 32 → Unnamed table j 0 (getD kinds (32 + j) 0))
+    → Opened table source target places kinds bytes k f u
+opened-by table uses source target places kinds bytes k f u z w n m l =
+    record { body = z .body; searchable = z .searchable; ready = z .ready; built = z .built; narrow = n; placed = w; maps = m; lowest = l }
 
 -- What is opened, and the memory, are what the search asks for.
 module _ (table source target places kinds bytes : List ℕ) (k : ℕ) (f : Translation) (u : Code) (o : Opened table source target places kinds bytes k f u) where
@@ -166,10 +166,6 @@ target-language {f = f} z =
     let w = translation-whole (z .file) f (z .accepted) .1 in
     rw (le-ltb languageLimit (length _) (z .pieces .target-short), z .pieces .target, rises-parts f (w .rises) .1, w .target-apart)
 
--- kinds_of
-pub kinds-mapped : (body index kinds : List ℕ) (b : Body) → IndexedItems index body b → ((k : ℕ) → k < 32 → getD kinds k 0 ≡ mappedAt body index k) → Mapped kinds b
-kinds-mapped body index kinds b x maps = record { maps = λ k small. maps k small ∙ mapped-is body index b x k small }
-
 -- search_in
 module _ (source target body kinds bytes : List ℕ) (k limit : ℕ) (f : Translation) (z : Checked source target body f) (maps : Mapped kinds (f .body)) (small : k < 32)
     (root : ℕ) (root-is : root ≡ getD kinds k 0) (c : Outcome) (told : c ≡ checkTree target root bytes) where
@@ -235,9 +231,9 @@ module _ (stage : Result Translation) (k : ℕ) (bytes : List ℕ) (limit : ℕ)
   leaves-found f after left e h i = rw e (record { answer = h .answer; output = h .left; memory = i })
 
 -- search_from
-pub root-past : (source target body : List ℕ) (f : Translation) → Searchable source target body f → (root : ℕ) → 31 < root → isIn (f .source) root ≡ false
-root-past source target body f z root h =
-    refuted (isIn (f .source) root) (λ e. let x = in-below source root (f .source) (z .checked .pieces .source) e in omega arith)
+pub root-past : (table uses source target : List ℕ) (f : Translation) → Tabled table uses source target f → (root : ℕ) → 31 < root → isIn (f .source) root ≡ false
+root-past table uses source target f z root h =
+    refuted (isIn (f .source) root) (λ e. let x = in-below source root (f .source) (z .searchable .checked .pieces .source) e in omega arith)
 
 module _ (f : Translation) (root : ℕ) (bytes : List ℕ) (limit : ℕ) (workspace o : List ℕ) (out : Outcome) where
   pub from-unknown : isIn (f .source) root ≡ false → out ≡ Refused UnknownRoot → Leaves (readyFrom f root bytes limit) root bytes limit o o workspace workspace out
@@ -254,6 +250,17 @@ module _ (s : List ℕ) (f : Translation) (is : translationOf s ≡ value f) whe
   pub parts-searchable : plain (f .body) ≡ true → {x y z : List ℕ} → x ≡ sourceIn s → y ≡ targetIn s → z ≡ bodyIn s → Searchable x y z f
   parts-searchable e ex ey ez =
       rw (ex, ey, ez) (record { checked = record { pieces = pieces-in s f is; short = body-in-short s f is; file = s; accepted = is }; by-zero = e })
+
+  pub parts-tabled : plain (f .body) ≡ true → {t u x y : List ℕ} → x ≡ sourceIn s → y ≡ targetIn s
+      → Prepared (sourceIn s) (targetIn s) (bodyIn s) t f × UsesOf u (f .body) → Tabled t u x y f
+  parts-tabled e ex ey p =
+      rw (ex, ey) (record {
+        body = bodyIn s;
+        searchable = parts-searchable e refl refl refl;
+        ready = p .0 .ready;
+        built = p .0 .index;
+        uses-of = p .1;
+      })
 
   pub body-there : {x : List ℕ} → x ≡ bodyIn s → bodyOf x ≡ some (f .body)
   body-there ex = ap bodyOf ex ∙ pieces-in s f is .body

@@ -1,5 +1,6 @@
 // What a search knows of each kind of the source: the kind that it maps to by number 0, and 32 places behind it a name below
 // which none of its productions has one.
+use check_wellformed::check::USES_ROOM;
 use format_fields::bytes::byte_at;
 use run_table::table::index_at;
 use search_levels::names::name_from;
@@ -15,7 +16,7 @@ ghost use Rattle.search_levels.specs.Inner.Setting.{Unnamed};
 ghost use Rattle.search_operation.specs.Inner.Finding.{Mapped};
 
 // The kind that a kind maps to by number 0, by what kinds map to; 0 where it is not mapped.
-fn mapped_kind(uses: &[u8], kind: usize) -> u8
+fn mapped_kind(uses: &[u8; USES_ROOM], kind: usize) -> u8
     requires { ⌜ kind < 32 ⌝ }
     ensures { λ r. ⌜ r ≡ getD (now (uses .entry)) (kind * 256) 0 - 1 ⌝ }
 {
@@ -27,7 +28,7 @@ fn mapped_kind(uses: &[u8], kind: usize) -> u8
 }
 
 // A name below which no production of a kind has one: its lowest, where it has any.
-fn lowest_name(table: &[u16; TABLE], uses: &[u8], kind: usize) -> u8
+fn lowest_name(table: &[u16; TABLE], uses: &[u8; USES_ROOM], kind: usize) -> u8
     requires { ⌜ kind < 32 ⌝ }
     ensures { λ r. ⌜ Unnamed (now (table .entry)) kind 0 r ⌝ }
 {
@@ -45,7 +46,7 @@ fn lowest_name(table: &[u16; TABLE], uses: &[u8], kind: usize) -> u8
 }
 
 // Puts both for all kinds.
-pub fn put_kinds(table: &[u16; TABLE], uses: &[u8], kinds: &mut [u8])
+pub fn put_kinds(table: &[u16; TABLE], uses: &[u8; USES_ROOM], kinds: &mut [u8])
     requires { ⌜ length (now kinds) ≡ 64 ⌝ }
     ensures { λ _. ⌜ ((b : Body) → UsesOf (now (uses .entry)) b → Mapped (now (kinds .exit)) b)
         × ((k : ℕ) → k < 32 → Unnamed (now (table .entry)) k 0 (getD (now (kinds .exit)) (32 + k) 0)) ⌝ }

@@ -104,7 +104,7 @@ by-rest : (a b : ℕ) (s t : List ℕ) → a ≡ b → before s t ≡ true → b
 unfolding before
 by-rest a b s t h e = or-right (ltb a b) _ (both-and (eqb a b) _ (eq-eqb a b h) e)
 
-one-way : (s t : List ℕ) → before s t ≡ true → before t s ≡ true → ⊥
+pub one-way : (s t : List ℕ) → before s t ≡ true → before t s ≡ true → ⊥
 unfolding before
 one-way [] [] e d = false-true e
 one-way [] (b ∷ t) e d = false-true d

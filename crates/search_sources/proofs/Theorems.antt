@@ -16,7 +16,7 @@ use Rattle.format_translation.specs.Running.{transform}
 use Rattle.format_translation.proofs.Codec.{translation-whole}
 use Rattle.search_sources.specs.Trees.{treesWithin}
 use Rattle.search_sources.specs.Sources.{runsTo, sourcesOf, searchOf}
-use Rattle.search_sources.specs.Laws.{Gives, FoundGives, ByteNames, NothingBefore, NoneGives}
+use Rattle.search_sources.specs.Inner.Giving.{Gives, FoundGives, ByteNames, NothingBefore, NoneGives}
 use Rattle.search_sources.proofs.Ordering.{FirstIn, first-in}
 use Rattle.search_sources.proofs.Within.{within-legal, legal-within}
 

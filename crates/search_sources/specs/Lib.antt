@@ -2,4 +2,3 @@ pub mod Inner
 pub mod Trees
 pub mod Sources
 pub mod Operations
-pub mod Laws

@@ -14,16 +14,13 @@ use Rattle.format_language.specs.Language.{Language}
 use Rattle.tree_reader.specs.Code.{Code}
 use Rattle.tree_index.proofs.Rows.{there-ready}
 use Rattle.tree_block.specs.Blocks.{Block, blockOf, argumentOf, Reached, reached, nowhere, hidden, blockAt, everyKind}
-use Rattle.tree_block.specs.Inner.Descent.{inSet, SetOf, Along, Leads, Ends}
+use Rattle.format_card.specs.Inner.Sets.{inSet}
+use Rattle.tree_block.specs.Inner.Descent.{SetOf, Along, Leads, Ends}
 use Rattle.tree_block.specs.declared.descent.Step.{Step}
 use Rattle.tree_block.specs.declared.descent.Step.the-variants.{To, Nowhere, Unseen}
 use Rattle.tree_block.proofs.Steps.{to-nowhere, nowhere-unseen, to-unseen}
 
--- in_set
-pub in-set-is : (set k : ℕ) → eqb (set / 2 ^ k % 2) 1 ≡ inSet set k
-unfolding inSet
-in-set-is set k = refl
-
+-- The set of all kinds.
 pub every-kind : SetOf 4294967295 everyKind
 unfolding inSet all countUp
 every-kind k h = all-mem (inSet 4294967295) (countUp 32 0) refl k (mem-count 32 0 k (omega arith) h)

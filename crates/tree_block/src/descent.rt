@@ -1,10 +1,10 @@
 // The way from the root of a legal tree to the block at a path, by the tree's index: arguments are stepped over by the lengths
 // that stand there.
+use format_card::set::in_set;
 use format_fields::bytes::pair_in;
 use tree_index::entries::ENTRY;
 use tree_index::entries::entry_from;
 use tree_index::operands::operands_at;
-ghost use mathlib.Core.Path.{_≡_};
 ghost use mathlib.Core.Bool.{Bool};
 ghost use mathlib.Core.List.{List};
 ghost use Prim.Native.Nat.{ℕ, _+_, _-_, _<_};
@@ -13,7 +13,7 @@ ghost use Rattle.format_language.specs.Language.{Language};
 ghost use Rattle.tree_reader.specs.Code.{Code, Codes};
 ghost use Rattle.tree_reader.specs.Inner.Positions.{KindsIn};
 ghost use Rattle.tree_block.specs.Blocks.{blockOf, argumentAfter, argumentOf, blockAt};
-ghost use Rattle.tree_block.specs.Inner.Descent.{inSet, SetOf, Along, AlongRow, Leads, Ends};
+ghost use Rattle.tree_block.specs.Inner.Descent.{SetOf, Along, AlongRow, Leads, Ends};
 
 // The set of all kinds: bit k stands for kind k.
 pub const EVERY_KIND: u32 = 4294967295;
@@ -24,14 +24,6 @@ pub enum Step {
     To(usize, u8, usize),
     Nowhere,
     Unseen,
-}
-
-// Whether a kind is in a set.
-fn in_set(set: u32, kind: u8) -> bool
-    requires { ⌜ kind < 32 ⌝ }
-    ensures { λ r. ⌜ r ≡ inSet set kind ⌝ }
-{
-    (set >> kind) % 2 == 1
 }
 
 // Of arguments that start at a position, whose kinds stand in the language from `first` up to `last` and whose entries stand
@@ -90,7 +82,7 @@ fn argument(
         operands.first,
         operands.last,
         index,
-        operands.to,
+        operands.start,
         entry + ENTRY,
         number,
     )

@@ -24,14 +24,12 @@ use Rattle.tree_index.proofs.Starts.{own-entered}
 use Rattle.tree_index.proofs.Checking.{tree-bytes}
 use Rattle.tree_index.proofs.Owning.{Owned, accepted-own, owned-small, owned-there}
 use Rattle.format_card.specs.Card.{Card, sees, cardOf}
-use Rattle.format_card.specs.Inner.Sets as Sets
 use Rattle.format_card.specs.Inner.Sets.{Holds, lowestOf}
 use Rattle.format_card.proofs.Refusals.{same-refusal, lowest-accepted, accepted-card, together-refused}
 use Rattle.format_card.proofs.Trees.{tree-high}
 use Rattle.tree_block.specs.Blocks.{blockOf, blockAt}
 use Rattle.tree_block.specs.Operations.{found}
 use Rattle.tree_block.specs.Inner.Descent.{SetOf}
-use Rattle.tree_block.proofs.Paths.{in-set-is}
 use Rattle.tree_edit.specs.Operations.{newBlock, newPlan, editPlan, inRooms, editTree}
 use Rattle.tree_edit.specs.Answers.{Hands}
 use Rattle.tree_edit.specs.Inner.Moving.{Owns, pathIn, Gives}
@@ -40,8 +38,7 @@ use Rattle.tree_edit.proofs.Planning.{Refuses, gives-refused}
 
 -- The set that was read of a card has, for the descent, the kinds that the card sees.
 pub set-of-card : (kinds : ℕ) (card : Card) → Holds kinds card → SetOf kinds (sees card)
-unfolding Sets.inSet
-set-of-card kinds card h k q = sym (in-set-is kinds k) ∙ h k
+set-of-card kinds card h k q = h k
 
 -- A plan with an index is refused by 14 to 16 and 22.
 own-high : (l : Language) (k : ℕ) (b i : List ℕ) (p : Reason) → indexedTree l k b i ≡ refused p → 13 < reasonNumber p

@@ -14,6 +14,7 @@ use tree_index::build::write_index;
 use tree_index::entries::entry_from;
 use tree_reader::index::INDEX;
 use tree_reader::node::Read;
+use tree_reader::read::TREE_LEVELS;
 use tree_reader::read::read_tree;
 ghost use mathlib.Core.Path.{_≡_};
 ghost use mathlib.Core.Bool.{Bool};
@@ -30,14 +31,18 @@ ghost use Rattle.tree_edit.specs.Operations.{inRooms, editTree};
 ghost use Rattle.tree_edit.specs.Answers.{Hands};
 ghost use Rattle.tree_edit.specs.Inner.Moving.{Replaces, Reaches, Owns, planIn, blockIn, pathIn, Gives};
 
-// The levels that a tree handed in may have.
-const TREE_LEVELS: usize = 64;
-
 // What the edit hands back: an acceptance has the length of the new plan, and `indexed` is the length of its index. A refusal
 // has 0 in both.
 pub struct Edited {
     pub outcome: Outcome,
     pub indexed: usize,
+}
+
+// A block of the old plan: its kind, where it starts, and how many bytes it has.
+pub struct OldBlock {
+    pub kind: u8,
+    pub start: usize,
+    pub size: usize,
 }
 
 // A refusal.
@@ -54,26 +59,34 @@ fn refuse_edit(reason: Reason) -> Edited
 fn rewrite(
     language: &[u8],
     places: &[u16],
-    of: u8,
     tree: &[u8],
     index: &[u8],
-    start: usize,
-    old: usize,
+    old: OldBlock,
     block: &[u8],
     size: usize,
     plan: &mut [u8],
     plan_index: &mut [u8],
 ) -> Edited
-    requires { ⌜ (size ≡ length (now tree) - old + length (now block)) × (size ≤ longest) × ((path : List ℕ) × (kind : ℕ) × (l : Language) × (t : Code) × (a : Code) × (u : Code)
-        × Replaces (now places) (now language) (now tree) (now index) path (now block) kind of start old l t a u) ⌝ }
+    requires { ⌜ (size ≡ length (now tree) - old .size + length (now block)) × (size ≤ longest) × ((path : List ℕ) × (kind : ℕ) × (l : Language) × (t : Code) × (a : Code) × (u : Code)
+        × Replaces (now places) (now language) (now tree) (now index) path (now block) kind (old .kind) (old .start) (old .size) l t a u) ⌝ }
     ensures { λ r. ⌜ ((path : List ℕ) (kind : ℕ) (l : Language) (t a u : Code)
-        → Replaces (now (places .entry)) (now (language .entry)) (now (tree .entry)) (now (index .entry)) path (now (block .entry)) kind of start old l t a u
+        → Replaces (now (places .entry)) (now (language .entry)) (now (tree .entry)) (now (index .entry)) path (now (block .entry)) kind (old .kind) (old .start) (old .size) l t a u
         → Gives (inRooms (length (now (plan .entry))) (length (now («plan_index» .entry))) (replaceAt path u t)) (now (plan .entry)) (now (plan .exit)) (now («plan_index» .entry)) (now («plan_index» .exit)) r) ⌝ }
 {
+    let start = old.start;
+    let stop = start + old.size;
     let first = entry_from(index, 0, start);
-    let last = entry_from(index, first, start + old);
+    let last = entry_from(index, first, stop);
     let mut nowhere = [0u8; 1];
-    let end = write_index(language, places, of, block, start, &mut nowhere, first);
+    let end = write_index(
+        language,
+        places,
+        old.kind,
+        block,
+        start,
+        &mut nowhere,
+        first,
+    );
     let length = end + (index.len() - last);
     if plan.len() < size {
         return refuse_edit(Reason::OutputTooShort);
@@ -81,15 +94,15 @@ fn rewrite(
     if plan_index.len() < length {
         return refuse_edit(Reason::OutputTooShort);
     }
-    put_plan(tree, start, start + old, block, plan);
+    put_plan(tree, start, stop, block, plan);
     put_index(
         language,
         places,
-        of,
+        old.kind,
         block,
         index,
         start,
-        old,
+        old.size,
         first,
         last,
         plan_index,
@@ -104,32 +117,28 @@ fn rewrite(
 fn replace(
     language: &[u8],
     places: &[u16],
-    of: u8,
     tree: &[u8],
     index: &[u8],
-    start: usize,
-    old: usize,
+    old: OldBlock,
     block: &[u8],
     plan: &mut [u8],
     plan_index: &mut [u8],
 ) -> Edited
     requires { ⌜ ((path : List ℕ) × (kind : ℕ) × (l : Language) × (t : Code) × (a : Code) × (u : Code)
-        × Replaces (now places) (now language) (now tree) (now index) path (now block) kind of start old l t a u) ⌝ }
+        × Replaces (now places) (now language) (now tree) (now index) path (now block) kind (old .kind) (old .start) (old .size) l t a u) ⌝ }
     ensures { λ r. ⌜ ((path : List ℕ) (kind : ℕ) (l : Language) (t a u : Code)
-        → Replaces (now (places .entry)) (now (language .entry)) (now (tree .entry)) (now (index .entry)) path (now (block .entry)) kind of start old l t a u
+        → Replaces (now (places .entry)) (now (language .entry)) (now (tree .entry)) (now (index .entry)) path (now (block .entry)) kind (old .kind) (old .start) (old .size) l t a u
         → Gives (planIn (length (now (plan .entry))) (length (now («plan_index» .entry))) path u t) (now (plan .entry)) (now (plan .exit)) (now («plan_index» .entry)) (now («plan_index» .exit)) r) ⌝ }
 {
-    let size = tree.len() - old + block.len();
+    let size = tree.len() - old.size + block.len();
     if LONGEST < size {
         return refuse_edit(Reason::NotIndexed);
     }
     rewrite(
         language,
         places,
-        of,
         tree,
         index,
-        start,
         old,
         block,
         size,
@@ -152,39 +161,26 @@ fn levels_left(numbers: usize) -> usize
 fn replace_block(
     language: &[u8],
     places: &[u16],
-    of: u8,
     tree: &[u8],
     index: &[u8],
-    start: usize,
-    old: usize,
+    old: OldBlock,
     numbers: usize,
     block: &[u8],
     plan: &mut [u8],
     plan_index: &mut [u8],
 ) -> Edited
     requires { ⌜ ((path : List ℕ) × (kind : ℕ) × (l : Language) × (t : Code) × (a : Code)
-        × Reaches (now places) (now language) (now tree) (now index) path kind of start old numbers l t a) ⌝ }
+        × Reaches (now places) (now language) (now tree) (now index) path kind (old .kind) (old .start) (old .size) numbers l t a) ⌝ }
     ensures { λ r. ⌜ ((path : List ℕ) (kind : ℕ) (l : Language) (t a : Code)
-        → Reaches (now (places .entry)) (now (language .entry)) (now (tree .entry)) (now (index .entry)) path kind of start old numbers l t a
-        → Gives (blockIn (length (now (plan .entry))) (length (now («plan_index» .entry))) l path (blockOf start of a) (now (block .entry)) t) (now (plan .entry)) (now (plan .exit)) (now («plan_index» .entry)) (now («plan_index» .exit)) r) ⌝ }
+        → Reaches (now (places .entry)) (now (language .entry)) (now (tree .entry)) (now (index .entry)) path kind (old .kind) (old .start) (old .size) numbers l t a
+        → Gives (blockIn (length (now (plan .entry))) (length (now («plan_index» .entry))) l path (blockOf (old .start) (old .kind) a) (now (block .entry)) t) (now (plan .entry)) (now (plan .exit)) (now («plan_index» .entry)) (now («plan_index» .exit)) r) ⌝ }
 {
-    match read_tree(language, places, of, block, 0, levels_left(numbers)) {
+    match read_tree(language, places, old.kind, block, 0, levels_left(numbers)) {
         Read::End(e) => {
             if e != block.len() {
                 return refuse_edit(Reason::IllegalTree);
             }
-            replace(
-                language,
-                places,
-                of,
-                tree,
-                index,
-                start,
-                old,
-                block,
-                plan,
-                plan_index,
-            )
+            replace(language, places, tree, index, old, block, plan, plan_index)
         }
         Read::Deep => refuse_edit(Reason::TooDeep),
         Read::Broken => refuse_edit(Reason::IllegalTree),
@@ -210,19 +206,25 @@ fn edit_legal(
         → Gives (pathIn (length (now (plan .entry))) (length (now («plan_index» .entry))) l (now (path .entry)) (blockAt sees l (now (path .entry)) (blockOf 0 kind t)) (now (block .entry)) t) (now (plan .entry)) (now (plan .exit)) (now («plan_index» .entry)) (now («plan_index» .exit)) r) ⌝ }
 {
     match descend(language, places, kind, tree, index, path, seen) {
-        Step::To(start, of, entry) => replace_block(
-            language,
-            places,
-            of,
-            tree,
-            index,
-            start,
-            pair_in(index, entry + 2),
-            path.len(),
-            block,
-            plan,
-            plan_index,
-        ),
+        Step::To(start, of, entry) => {
+            let old = OldBlock {
+                kind: of,
+                start: start,
+                size: pair_in(index, entry + 2),
+            };
+            let numbers = path.len();
+            replace_block(
+                language,
+                places,
+                tree,
+                index,
+                old,
+                numbers,
+                block,
+                plan,
+                plan_index,
+            )
+        }
         Step::Nowhere => refuse_edit(Reason::NoBlock),
         Step::Unseen => refuse_edit(Reason::Hidden),
     }

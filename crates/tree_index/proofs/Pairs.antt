@@ -16,14 +16,7 @@ pub entry-length : (s z : ℕ) → length (entry (span s z)) ≡ 4
 unfolding entry
 entry-length s z = refl
 
--- put_pair and put_entry
-pub pair-put : (o : List ℕ) (n a b v : ℕ) → n + 2 ≤ length o → a ≡ v / 256 → b ≡ v % 256 → set (set o n a) (n + 1) b ≡ spliced o n (twoBytes v)
-unfolding spliced
-pair-put o n a b v h ea eb =
-    let z : n + 1 ≡ suc n = omega arith in
-    ap (λ (m : ℕ). set (set o n a) m b) z
-    ∙ (sets-eq (a ∷ b ∷ []) o n h ∙ (append-assoc (take n o) (a ∷ b ∷ []) (drop (n + 2) o) ∙ rw (ea, eb) refl))
-
+-- put_entry
 pub entry-put : (o o₁ o₂ : List ℕ) (n s z : ℕ) → n + 4 ≤ length o → o₁ ≡ spliced o n (twoBytes s) → o₂ ≡ spliced o₁ (n + 2) (twoBytes z)
     → o₂ ≡ spliced o n (entry (span s z))
 unfolding entry

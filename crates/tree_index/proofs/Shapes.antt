@@ -129,12 +129,12 @@ module _ (index s b : List ℕ) (at k : ℕ) (l : Language) (t : Code) (h : Ther
     pub name-there : at < length b
     name-there = node-named index s b at k l (h .index-of) small bytes (sym class-is ∙ none) t (h .lies .typed) (h .lies) .byte
 
-    module _ (i m place : ℕ) (ei : i ≡ k) (em : m ≡ getD b at 0) (ep : place ≡ getD index (32 + (i * 256 + m)) 0) where
+    module _ (i m key place : ℕ) (ei : i ≡ k) (em : m ≡ getD b at 0) (ek : key ≡ productionKey i m) (ep : place ≡ getD index key 0) where
       place-is : place ≡ getD index (productionKey k (getD b at 0)) 0
-      place-is = ep ∙ (ap (λ (z : ℕ). getD index (32 + (z * 256 + m)) 0) ei ∙ ap (λ (z : ℕ). getD index (32 + (k * 256 + z)) 0) em)
+      place-is = ep ∙ ap (λ (z : ℕ). getD index z 0) (ek ∙ (ap (λ (z : ℕ). productionKey z m) ei ∙ ap (productionKey k) em))
 
       pub named : Named s b at place
       named = rw place-is (node-named index s b at k l (h .index-of) small bytes (sym class-is ∙ none) t (h .lies .typed) (h .lies))
 
-      pub at-node : (n : ℕ) → n ≡ pairAt s place → Opens index s b at k l t (place + 4) (place + 2 + n) (at + 1)
-      at-node n en = rw (en, place-is) (node-opens index s b at k l (h .index-of) small bytes (sym class-is ∙ none) t (h .lies .typed) (h .lies))
+      pub at-node : (f e : ℕ) → f ≡ place + 4 → e ≡ place + 2 + pairAt s place → Opens index s b at k l t f e (at + 1)
+      at-node f e ef ee = rw (ef, ee, place-is) (node-opens index s b at k l (h .index-of) small bytes (sym class-is ∙ none) t (h .lies .typed) (h .lies))

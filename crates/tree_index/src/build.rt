@@ -49,23 +49,13 @@ pub fn write_index(
         → (r ≡ n + length (entries (spans base t))) × (r ≤ length (now (out .entry)) → now (out .exit) ≡ spliced (now (out .entry)) n (entries (spans base t)))) ⌝ }
 {
     let operands = operands_at(language, places, kind, tree, 0);
-    let ends = write_row(
-        language,
-        places,
-        operands.first,
-        operands.last,
-        tree,
-        operands.to,
-        base,
-        out,
-        n + ENTRY,
-    );
+    let ends = write_row(language, places, operands, tree, base, out, n + ENTRY);
     put_entry(base, ends.trees, out, n);
     ends.entries
 }
 
 // Whether an index is the own one of the legal tree of a kind.
-pub fn is_own(language: &[u8], places: &[u16], kind: u8, tree: &[u8], index: &[u8]) -> bool
+fn is_own(language: &[u8], places: &[u16], kind: u8, tree: &[u8], index: &[u8]) -> bool
     requires { ⌜ (length (now tree) ≤ longest) × ((l : Language) × (t : Code) × There (now places) (now language) (now tree) 0 kind l t) ⌝ }
     ensures { λ r. ⌜ ((l : Language) (t : Code) → There (now (places .entry)) (now (language .entry)) (now (tree .entry)) 0 kind l t
         → r ≡ sameNumbers (now (index .entry)) (indexOf t)) ⌝ }
@@ -74,18 +64,8 @@ pub fn is_own(language: &[u8], places: &[u16], kind: u8, tree: &[u8], index: &[u
         return false;
     }
     let operands = operands_at(language, places, kind, tree, 0);
-    let end = compare_row(
-        language,
-        places,
-        operands.first,
-        operands.last,
-        tree,
-        operands.to,
-        pair_in(index, 2),
-        index,
-        ENTRY,
-    );
-    end == index.len()
+    let stop = pair_in(index, 2);
+    compare_row(language, places, operands, tree, stop, index, ENTRY) == index.len()
 }
 
 // The index of a legal tree: 17 where it is longer than the output. It has no more entries than the tree has bytes; an output

@@ -1,12 +1,13 @@
 // The entries of an index, four bytes each: a start and a length.
 use format_fields::bytes::pair_at;
 use format_fields::bytes::pair_in;
+use format_fields::copy::put_pair;
 ghost use mathlib.Core.Path.{_≡_};
 ghost use mathlib.Core.Bool.{true, false};
 ghost use mathlib.Core.List.{List};
 ghost use Prim.Native.Nat.{ℕ, _+_, _<_, _≤_};
 ghost use lib.ListN.{length};
-ghost use Rattle.format_fields.specs.Fields.{pairAt, twoBytes};
+ghost use Rattle.format_fields.specs.Fields.{pairAt};
 ghost use Rattle.format_fields.specs.Inner.Writing.{spliced};
 ghost use Rattle.tree_index.specs.Spans.{Span, span, entry, entries};
 ghost use Rattle.tree_index.specs.Inner.Marking.{Has};
@@ -14,15 +15,6 @@ ghost use Rattle.tree_index.specs.Inner.Starts.{Splits};
 
 // How many bytes an entry has.
 pub const ENTRY: usize = 4;
-
-// Puts the two bytes of a number into an output that has room for them.
-fn put_pair(value: usize, out: &mut [u8], n: usize)
-    requires { ⌜ (value < 65536) × (n + 2 ≤ length (now out)) ⌝ }
-    ensures { λ r. ⌜ now (out .exit) ≡ spliced (now (out .entry)) n (twoBytes value) ⌝ }
-{
-    out[n] = (value / 256) as u8;
-    out[n + 1] = (value % 256) as u8;
-}
 
 // Puts an entry, where there is room for it.
 pub fn put_entry(start: usize, size: usize, out: &mut [u8], n: usize)

@@ -1,6 +1,7 @@
 // The walk over the nodes of a legal tree, in which the entries of its index are written.
 use crate::entries::ENTRY;
 use crate::entries::put_entry;
+use crate::operands::OperandsAt;
 use crate::operands::operands_at;
 ghost use Prim.Native.Nat.{_+_};
 ghost use lib.ListN.{length};
@@ -18,46 +19,34 @@ pub struct Ends {
     pub entries: usize,
 }
 
-// Writes the entries of operands, whose kinds stand in the language from `first` up to `last`, from n on, where there is room.
+// Writes the entries of operands, from n on, where there is room.
 // Starts are counted from `base`. An operand that has operands is dealt with one call deeper, its own entry last.
 pub fn write_row(
     language: &[u8],
     places: &[u16],
-    first: usize,
-    last: usize,
+    operands: OperandsAt,
     tree: &[u8],
-    at: usize,
     base: usize,
     out: &mut [u8],
     n: usize,
 ) -> Ends
-    requires { ⌜ Small (now tree) base at n × KindsIn (now language) first last
-        × ((l : Language) × (ts : Codes) × Row (now places) (now language) (now tree) at first last l ts) ⌝ }
-    ensures { λ r. ⌜ ((l : Language) (ts : Codes) → Row (now (places .entry)) (now (language .entry)) (now (tree .entry)) at first last l ts
-        → Writes (entries (spansAll (base + at) ts)) (now (out .entry)) (now (out .exit)) n (at + length (writeAll treeSyntax ts)) r) ⌝ }
+    requires { ⌜ Small (now tree) base (operands .start) n × KindsIn (now language) (operands .first) (operands .last)
+        × ((l : Language) × (ts : Codes) × Row (now places) (now language) (now tree) (operands .start) (operands .first) (operands .last) l ts) ⌝ }
+    ensures { λ r. ⌜ ((l : Language) (ts : Codes) → Row (now (places .entry)) (now (language .entry)) (now (tree .entry)) (operands .start) (operands .first) (operands .last) l ts
+        → Writes (entries (spansAll (base + operands .start) ts)) (now (out .entry)) (now (out .exit)) n (operands .start + length (writeAll treeSyntax ts)) r) ⌝ }
 {
-    let mut q = first;
-    let mut to = at;
+    let mut q = operands.first;
+    let mut to = operands.start;
     let mut m = n;
-    while q < last {
-        let operands = operands_at(language, places, language[q], tree, to);
+    while q < operands.last {
+        let inner = operands_at(language, places, language[q], tree, to);
         q += 1;
-        if operands.last <= operands.first {
-            put_entry(base + to, operands.to - to, out, m);
-            to = operands.to;
+        if inner.last <= inner.first {
+            put_entry(base + to, inner.start - to, out, m);
+            to = inner.start;
             m += ENTRY;
         } else {
-            let ends = write_row(
-                language,
-                places,
-                operands.first,
-                operands.last,
-                tree,
-                operands.to,
-                base,
-                out,
-                m + ENTRY,
-            );
+            let ends = write_row(language, places, inner, tree, base, out, m + ENTRY);
             put_entry(base + to, ends.trees - to, out, m);
             to = ends.trees;
             m = ends.entries;

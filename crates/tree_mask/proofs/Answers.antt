@@ -1,45 +1,37 @@
--- What the operation answers: a law for each return of `mask_read`, `mask_kind` and `mask`.
+-- What the operation answers: a law for each return of `mask_read` and `mask`.
 use Prim.Native.Nat.{ℕ, _<_, _≤_}
 use mathlib.Core.Path.{_≡_, refl, sym, ap, _∙_}
-use mathlib.Core.Bool.{Bool, true, false}
+use mathlib.Core.Bool.{Bool, true, false, not}
 use mathlib.Core.List.{List, []}
-use mathlib.Core.Option.{some}
 use native.Mathlib.Omega.{arith}
 use lib.ListN.{length, drop-of-length-le}
-use Rattle.outcome.specs.Outcome.{Result, value, refused, _>>=_, checked, written, outputAfter}
+use Rattle.outcome.specs.Outcome.{Result, value, refused, refuseIf, _>>=_, checked, reasonNumber}
 use Rattle.outcome.specs.declared.Outcome.{Outcome}
 use Rattle.outcome.specs.declared.Outcome.the-variants.{Accepted, Refused}
 use Rattle.outcome.specs.declared.Reason.{Reason}
 use Rattle.outcome.specs.declared.Reason.the-variants as Why
-use Rattle.format_fields.proofs.Truth.{by-test}
 use Rattle.format_fields.proofs.Split.{front}
+use Rattle.format_fields.proofs.Codec.{refused-value}
 use Rattle.format_language.specs.Language.{Language, isIn}
-use Rattle.format_language.specs.LanguageFile.{languageOf, entriesOf}
-use Rattle.format_language.specs.Operations.{checkLanguage}
+use Rattle.format_language.specs.LanguageFile.{languageOf}
 use Rattle.tree_reader.specs.Code.{Code}
 use Rattle.tree_reader.specs.Syntax.{Read, done, read, tree}
-use Rattle.tree_reader.specs.Operations.{treeLevels, wholeTree, treeOf}
+use Rattle.tree_reader.specs.Operations.{treeLevels, wholeTree}
 use Rattle.tree_reader.specs.Inner.Index.{Indexed}
-use Rattle.tree_reader.proofs.Members.{in-below}
 use Rattle.format_translation.specs.Operations.{fitted}
-use Rattle.check_operations.proofs.TreeChain.{Accepts, accepts}
 use Rattle.format_card.specs.Card.{Card, cardOf, together}
 use Rattle.format_card.specs.Inner.Sets.{Holds, lowestOf}
-use Rattle.format_card.proofs.Refusals.{not-accepted, lowest-accepted, accepted-card}
-use Rattle.check_operations.specs.Inner.Answering.{Gives}
-use Rattle.check_operations.proofs.Answering.{gives-long, gives-fit}
+use Rattle.format_card.proofs.Refusals.{same-refusal, lowest-accepted, accepted-card, together-refused}
+use Rattle.check_operations.specs.Inner.Opening.{rootIn, rootedOf, Opened}
+use Rattle.check_operations.proofs.Opening.{opened-language, tree-then}
+use Rattle.check_operations.proofs.Legal.{tree-of}
+use Rattle.check_operations.proofs.Answering.{gives-refused, gives-same, gives-long, gives-fit}
 use Rattle.tree_mask.specs.Mask.{masked}
 use Rattle.tree_mask.specs.Operations.{maskBytes, maskTree}
 use Rattle.tree_mask.specs.declared.measure.Measured.{Measured}
 use Rattle.tree_mask.specs.declared.measure.Measured.the-variants.{End, Deep, Broken}
-use Rattle.tree_mask.specs.Inner.Masking.{MasksWhole, GivesTree, GivesKind}
+use Rattle.tree_mask.specs.Inner.Masking.{MasksWhole, GivesTree}
 use Rattle.tree_mask.specs.Inner.Measuring.{Within, MeasuresTree}
-
-gives-refused : (x : Result (List ℕ)) (o : List ℕ) {out : Outcome} (r : Reason) → x ≡ refused r → out ≡ Refused r → Gives x o o out
-gives-refused x o r e h = (h ∙ sym (ap written e), sym (ap (outputAfter o) e))
-
-gives-same : (x y : Result (List ℕ)) (o o′ : List ℕ) {out : Outcome} → x ≡ y → Gives y o o′ out → Gives x o o′ out
-gives-same x y o o′ e h = rw e h
 
 -- What a reading comes to, with so much room.
 abbrev result : Language → Card → ℕ → ℕ → Read Code → Result (List ℕ)
@@ -82,63 +74,52 @@ module _ (s index : List ℕ) (kinds k : ℕ) (b o : List ℕ) {x : Measured} (f
           gives-same _ _ o o′ (ap (result l card k (length o)) (f .1))
           (gives-fit v o o′ (omega (arith, f .2)) (i ∙ ap Accepted (f .2)) (y .bytes (omega (arith, y .end, f .2))))
 
--- mask_kind
-module _ (s : List ℕ) (kinds k : ℕ) (b o : List ℕ) {x : Bool} (ex : (l : Language) → entriesOf s ≡ some l → x ≡ isIn l k) {out : Outcome} where
-  pub kind-out : x ≡ false → out ≡ Refused Why.UnknownRoot → GivesKind s kinds k b o o out
-  unfolding treeOf
-  kind-out h i l card e c =
-      let j : isIn l k ≡ false = sym (ex l e) ∙ h in
-      gives-refused (treeOf l k b >>= λ t. fitted (length o) (masked l card k t)) o Why.UnknownRoot (rw j refl) i
-
-  pub kind-in : (index o′ : List ℕ) → x ≡ true → ((l : Language) → entriesOf s ≡ some l → Indexed index s l) → GivesTree s index kinds k b o o′ out → GivesKind s kinds k b o o′ out
-  unfolding treeOf
-  kind-in index o′ h built g l card e c =
-      let j : isIn l k ≡ true = sym (ex l e) ∙ h in
-      gives-same (treeOf l k b >>= λ t. fitted (length o) (masked l card k t)) (result l card k (length o) (read tree l [] treeLevels k b)) o o′ (rw j refl) (g l card (built l e) c)
-
 -- mask
 -- The outcome and the output are those of the operation.
 abbrev pub AsMask : List ℕ → ℕ → List ℕ → List ℕ → List ℕ → List ℕ → Outcome → Type 0
 AsMask s root c b o o′ out = (out ≡ maskTree s root c b o .outcome) × (o′ ≡ maskTree s root c b o .output)
 
--- The lowest refusal of two values that are handed in together.
-together-lowest : {A B C : Type 0} (m : Result A) (d : Result B) (f : A → B → Result C) {r : Reason} → lowestOf (checked m) (checked d) ≡ Refused r → together m d f ≡ refused r
-together-lowest (value a) (value b) f {r} h = not-accepted {n = 0} {x = r} h
-together-lowest (value a) (refused q) f h = cc
-together-lowest (refused p) (value b) f h = cc
-together-lowest (refused p) (refused q) f h = cc
+-- A root is refused by 14.
+root-high : (root : ℕ) (l : Language) (p : Reason) → rootIn root l ≡ refused p → 3 < reasonNumber p
+root-high root l p e = go (not (isIn l root)) e
+  where
+    go : (t : Bool) → refuseIf t Why.UnknownRoot (value l) ≡ refused p → 3 < reasonNumber p
+    go true h = rw (← same-refusal {A = Language} h) (omega arith)
+    go false h = refused-value (sym h)
 
--- What was accepted: a language and a card.
-pub record Legal (s c : List ℕ) : Type 0 where
-  pub subject : Accepts s
+-- What was accepted: a language with its root, and a card.
+pub record Legal (s : List ℕ) (root : ℕ) (c : List ℕ) : Type 0 where
+  pub language : Language
+  pub is : rootedOf s root ≡ value language
   pub card : Card
   pub card-is : cardOf c ≡ value card
 
-module _ (s c : List ℕ) {on-language on-card low : Outcome}
-    (el : on-language ≡ checkLanguage s) (ec : on-card ≡ checked (cardOf c)) (elow : low ≡ lowestOf on-language on-card) where
-  pub legal : {n : ℕ} → low ≡ Accepted n → Legal s c
+module _ (s : List ℕ) (root : ℕ) (c : List ℕ) {on-language on-card low : Outcome}
+    (el : on-language ≡ checked (rootedOf s root)) (ec : on-card ≡ checked (cardOf c)) (elow : low ≡ lowestOf on-language on-card) where
+  pub legal : {n : ℕ} → low ≡ Accepted n → Legal s root c
   legal {n} h =
       let w = lowest-accepted on-language on-card n (sym elow ∙ h) in
       let v = accepted-card (cardOf c) (w .1) (sym ec ∙ w .2) in
-      record { subject = accepts s el (w .0); card = v .0; card-is = v .1 }
+      let o = opened-language s root el (w .0) in
+      record { language = o .0; is = o .1; card = v .0; card-is = v .1 }
 
-  module _ (root : ℕ) (b o : List ℕ) {out : Outcome} where
+  module _ (b o : List ℕ) {out : Outcome} where
     pub mask-refused : {r : Reason} → low ≡ Refused r → out ≡ Refused r → AsMask s root c b o o out
-    unfolding maskTree maskBytes checkLanguage
+    unfolding maskTree maskBytes rootedOf
     mask-refused {r} h i =
-        let e : lowestOf (checked (languageOf s)) (checked (cardOf c)) ≡ Refused r = rw (el, ec) at (sym elow ∙ h) in
-        gives-refused (maskBytes s root c b (length o)) o r (together-lowest (languageOf s) (cardOf c) _ e) i
+        let e : lowestOf (checked (rootedOf s root)) (checked (cardOf c)) ≡ Refused r = rw (el, ec) at (sym elow ∙ h) in
+        let f : Card → Language → Code → Result (List ℕ) = λ card l t. fitted (length o) (masked l card root t) in
+        let same : maskBytes s root c b (length o) ≡ together (languageOf s) (cardOf c) (λ l card. rootIn root l >>= λ l. wholeTree (read tree l [] treeLevels root b) >>= f card l) =
+        λ j. together (languageOf s) (cardOf c) (λ l card. tree-then root l b (f card) j) in
+        gives-refused (maskBytes s root c b (length o)) o r
+        (same ∙ together-refused (rootIn root) (root-high root) (λ k card l. wholeTree (read tree l [] treeLevels root b) >>= f card l) c (languageOf s) e) i
 
-    module _ {n : ℕ} (accepted : low ≡ Accepted n) (kinds : ℕ) (holds : (card : Card) → cardOf c ≡ value card → Holds kinds card) where
-      pub mask-done : (o′ : List ℕ) → GivesKind s kinds root b o o′ out → AsMask s root c b o o′ out
-      unfolding maskTree maskBytes
-      mask-done o′ g =
-          let w = legal accepted in
-          rw (w .subject .is, w .card-is) (g (w .subject .language) (w .card) (w .subject .entries) (holds (w .card) (w .card-is)))
-
-      pub mask-past : 31 < root → out ≡ Refused Why.UnknownRoot → AsMask s root c b o o out
-      unfolding treeOf
-      mask-past h i =
-          mask-done o (λ l card e q. by-test (isIn l root)
-          (λ j. let b = in-below s root l e j in absurd (omega arith))
-          (λ j. gives-refused (treeOf l root b >>= λ t. fitted (length o) (masked l card root t)) o Why.UnknownRoot (rw j refl) i))
+    pub mask-done : {n : ℕ} → low ≡ Accepted n → (index : List ℕ) → ((l : Language) → rootedOf s root ≡ value l → Opened s index root l)
+        → (kinds : ℕ) → ((card : Card) → cardOf c ≡ value card → Holds kinds card)
+        → (o′ : List ℕ) → GivesTree s index kinds root b o o′ out → AsMask s root c b o o′ out
+    unfolding maskTree maskBytes
+    mask-done h index opened kinds holds o′ g =
+        let w = legal h in
+        let d = opened (w .language) (w .is) in
+        let t = tree-of (w .language) root b (read tree (w .language) [] treeLevels root b) (d .known) refl in
+        rw (d .alone .is, w .card-is, t) (g (w .language) (w .card) (d .alone .indexed) (holds (w .card) (w .card-is)))

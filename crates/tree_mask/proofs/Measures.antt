@@ -23,15 +23,20 @@ use Rattle.tree_reader.specs.Inner.Positions.{productionPlace, KindsIn, restAt,
 use Rattle.tree_reader.specs.declared.node.Read.{Read}
 use Rattle.tree_reader.specs.declared.node.Read.the-variants as At
 use Rattle.tree_reader.specs.declared.node.Syntax.the-variants.{Tree}
-use Rattle.tree_reader.proofs.Laws.{name-in, kinds-in, class-in}
+use Rattle.tree_reader.proofs.Laws.{class-in}
+use Rattle.tree_reader.proofs.Laws as Reader
 use Rattle.tree_reader.proofs.Meaning.{done-of, deep-of, broken-of}
 use Rattle.format_card.specs.Card.{Card}
 use Rattle.format_card.specs.Inner.Sets.{inSet}
-use Rattle.check_operations.proofs.Reading.{class-known, class-none, production-none, production-known, found-name, two, read-class, read-past, token-cut, level-read, none-read}
+use Rattle.check_operations.proofs.Reading.{class-known, class-none, two, read-class, read-past, token-cut, level-read, none-read, at-name, at-place, at-kinds, at-known, at-reads}
 use Rattle.tree_mask.specs.Mask.{masked, maskedAll}
 use Rattle.tree_mask.specs.declared.measure.Measured.{Measured}
 use Rattle.tree_mask.specs.declared.measure.Measured.the-variants.{End, Deep, Broken}
-use Rattle.tree_mask.specs.Inner.Measuring.{Within, Measures, MeasuresToken, MeasuresHidden, MeasuresTree, MeasuresTrees, Goes}
+use Rattle.tree_mask.specs.declared.measure.Next.{Next}
+use Rattle.tree_mask.specs.declared.measure.Next.the-variants.{Go, Stop}
+use Rattle.tree_mask.specs.declared.row.Row.{Row}
+use Rattle.tree_mask.specs.Inner.Rows.{nextRow, innerRow, Walkable, Nearer}
+use Rattle.tree_mask.specs.Inner.Measuring.{Within, Measures, MeasuresToken, MeasuresHidden, MeasuresTree, MeasuresTrees, MeasuresRow, Goes, passed, Steps}
 use Rattle.tree_mask.proofs.Masks.{masked-hidden, masked-token, masked-node, read-some, all-cons, all-nil}
 
 -- Answers.
@@ -158,48 +163,27 @@ module _ (s index b : List ℕ) (kinds k at levels n : ℕ) (kind : k < 32) (byt
       pub at-broken : place ≡ 0 → MeasuresTree s index kinds k b at levels n Broken
       at-broken p l card z c = measures-broken (level-read s index l z k kind b at class-is no levels some-level ∙ none-read s index l z k kind b at class-is no bytes ep p (levels - 1))
 
-      module _ (pos : place ≡ 0 → ⊥) where
-        pub at-name : at < length b
-        at-name = found-name s index b k at kind bytes ej ec ep pos .0
+      module _ (pos : place ≡ 0 → ⊥) {size : ℕ} (es : size ≡ pairAt s place) (shown : inSet kinds k ≡ true) where
+        abbrev inner : List ℕ
+        inner = slice (place + 4) (place + 2 + size) s
 
-        pub at-place : Sound index s → (place + 4 ≤ length s) × (length s ≤ 1024)
-        at-place z = name-in index s z refl kind (bytes at) (found-name s index b k at kind bytes ej ec ep pos .1) pos
-
-        pub at-kinds : {size : ℕ} → Sound index s → size ≡ pairAt s place → KindsIn s (place + 4) (place + 2 + size)
-        at-kinds z e = kinds-in index s z refl kind (bytes at) (found-name s index b k at kind bytes ej ec ep pos .1) pos e
-
-        module _ {size : ℕ} (es : size ≡ pairAt s place) (shown : inSet kinds k ≡ true) where
-          abbrev inner : List ℕ
-          inner = slice (place + 4) (place + 2 + size) s
-
-          known : (l : Language) → Indexed index s l → argumentsOf l k (getD b at 0) ≡ some inner
-          known l z = production-known s index l z k kind (getD b at 0) (bytes at) place (found-name s index b k at kind bytes ej ec ep pos .1) pos es
-
-          reads : (l : Language) → Indexed index s l
-              → read tree l [] levels k (drop at b) ≡ (andThen (readAll (read tree l [] (levels - 1)) inner (drop (at + 1) b)) λ t r. done (node k (getD b at 0) t) r)
-          unfolding readNode readOperands
-          reads l z =
-              level-read s index l z k kind b at class-is no levels some-level
-              ∙ (ap (readNode (read tree l [] (levels - 1)) l k) (front b at at-name)
-              ∙ ap (λ (o : Option (List ℕ)). readOperands (read tree l [] (levels - 1)) k (getD b at 0) o (drop (at + 1) b)) (known l z))
-
-          pub at-operands : {r : Measured} → MeasuresTrees s index kinds (place + 4) (place + 2 + size) b (at + 1) (levels - 1) (n + 1) r
-              → MeasuresTree s index kinds k b at levels n r
-          at-operands {r} all l card z c =
-              let w = all l card z c in
-              let onward : (p : Meant.Read Codes) → readAll (read tree l [] (levels - 1)) inner (drop (at + 1) b) ≡ p
-              → read tree l [] levels k (drop at b) ≡ (andThen p λ t r. done (node k (getD b at 0) t) r) =
-              λ p e. reads l z ∙ ap (λ (x : Meant.Read Codes). andThen x (λ t r. done (node k (getD b at 0) t) r)) e in
-              record {
-                found = λ e h q.
-                    let f = w .found e h q in (
-                      node k (getD b at 0) (f .0),
-                      onward _ (f .1),
-                      omega (arith, f .2, ap length (masked-node l card k (getD b at 0) inner (f .0) (sym (c k) ∙ shown) (known l z))),
-                    );
-                deep = λ q. onward _ (w .deep q);
-                broken = λ q. onward _ (w .broken q);
-              }
+        pub at-operands : {r : Measured} → MeasuresTrees s index kinds (place + 4) (place + 2 + size) b (at + 1) (levels - 1) (n + 1) r
+            → MeasuresTree s index kinds k b at levels n r
+        at-operands {r} all l card z c =
+            let w = all l card z c in
+            let onward : (p : Meant.Read Codes) → readAll (read tree l [] (levels - 1)) inner (drop (at + 1) b) ≡ p
+            → read tree l [] levels k (drop at b) ≡ (andThen p λ t r. done (node k (getD b at 0) t) r) =
+            λ p e. at-reads s index b k at kind bytes ej ec ep pos es levels some-level l z ∙ ap (λ (x : Meant.Read Codes). andThen x (λ t r. done (node k (getD b at 0) t) r)) e in
+            record {
+              found = λ e h q.
+                  let f = w .found e h q in (
+                    node k (getD b at 0) (f .0),
+                    onward _ (f .1),
+                    omega (arith, f .2, ap length (masked-node l card k (getD b at 0) inner (f .0) (sym (c k) ∙ shown) (at-known s index b k at kind bytes ej ec ep pos es l z))),
+                  );
+              deep = λ q. onward _ (w .deep q);
+              broken = λ q. onward _ (w .broken q);
+            }
 
 -- Trees one behind the other.
 module _ (s index : List ℕ) (kinds q stop : ℕ) (b : List ℕ) (to levels n : ℕ) where
@@ -257,11 +241,150 @@ all-last s index kinds q stop b to levels n ek last there (End e m) step =
 all-last s index kinds q stop b to levels n ek last there Deep step = all-deep s index kinds q stop b to levels n ek (omega arith) there step refl
 all-last s index kinds q stop b to levels n ek last there Broken step = all-broken s index kinds q stop b to levels n ek (omega arith) there step refl
 
--- Nothing is left.
-pub goes-done : (s index : List ℕ) (kinds from stop : ℕ) (b : List ℕ) (at levels n q to m : ℕ) → Goes s index kinds from stop b at levels n q stop to levels m → stop ≤ q
-    → MeasuresTrees s index kinds from stop b at levels n (End to m)
-goes-done s index kinds from stop b at levels n q to m g h = g (End to m) (all-done s index kinds q stop b to levels m h)
-
 -- The class of a kind stands in the language.
 pub class-there : (index s : List ℕ) → Sound index s → {j k class : ℕ} → j ≡ k → k < 32 → class ≡ getD index j 0 → (class ≡ 0 → ⊥) → (0 < class) × IsClass s (class - 1)
 class-there index s z {class = class} ej kind ec h = let i : 0 < class = omega arith in (i, class-in index s z ej kind ec i)
+
+-- pass
+pub pass-end : (row : Row) {x : Measured} {e m : ℕ} {next : Row} → x ≡ End e m → next ≡ nextRow row e m → Go next ≡ passed row x
+unfolding passed
+pass-end row h i = rw (h, i) refl
+
+pub pass-deep : (row : Row) {x : Measured} → x ≡ Deep → Stop Deep ≡ passed row x
+unfolding passed
+pass-deep row h = rw h refl
+
+pub pass-broken : (row : Row) {x : Measured} → x ≡ Broken → Stop Broken ≡ passed row x
+unfolding passed
+pass-broken row h = rw h refl
+
+-- Rows.
+module _ (s index b : List ℕ) (kinds : ℕ) (row : Row) (w : Walkable s index b row) where
+  pub row-done : row .stop ≤ row .kind → MeasuresRow s index kinds b row (End (row .tree) (row .text))
+  row-done h = all-done s index kinds (row .kind) (row .stop) b (row .tree) (row .levels) (row .text) h
+
+  pub row-within : Within b (End (row .tree) (row .text))
+  row-within = within-end b (row .tree) (row .text) (w .inside) (w .behind)
+
+  module _ (more : row .kind < row .stop) where
+    pub kind-in : (row .kind < length s) × (getD s (row .kind) 0 < 32)
+    kind-in = w .kinds (row .kind) (omega arith) more
+
+    stop-in : row .stop ≤ length s
+    stop-in = let i = w .kinds (row .stop - 1) (omega arith) (omega arith) in omega (arith, i .0)
+
+    pub row-short : row .kind < 65536
+    row-short = omega (arith, kind-in .0, w .sound .short)
+
+    next-kinds : KindsIn s (row .kind + 1) (row .stop)
+    next-kinds x h i = w .kinds x (omega arith) i
+
+    module _ {k : ℕ} (ek : k ≡ getD s (row .kind) 0) where
+      pub step-kind : k < 32
+      step-kind = rw ek (kind-in .1)
+
+      -- One tree of the row.
+      module _ {y : Measured} (step : MeasuresTree s index kinds k b (row .tree) (row .levels) (row .text) y) where
+        pub goes-next : {e m : ℕ} → y ≡ End e m → Goes s index kinds b row (nextRow row e m)
+        unfolding nextRow
+        goes-next ey r all = all-next s index kinds (row .kind) (row .stop) b (row .tree) (row .levels) (row .text) ek more stop-in step ey all
+
+        pub walk-next : {e m : ℕ} → y ≡ End e m → Within b y → Walkable s index b (nextRow row e m)
+        unfolding nextRow
+        walk-next ey inside =
+            let i = inside _ _ ey in
+            record { sound = w .sound; kinds = next-kinds; inside = i .0; behind = i .1 }
+
+        -- A token of those that a row starts with.
+        pub tokens-next : {e m : ℕ} {next : Row} → next ≡ nextRow row e m → y ≡ End e m → Within b y → (first : Row) → row .levels ≡ first .levels → Goes s index kinds b first row
+            → Walkable s index b next × (next .levels ≡ first .levels) × Goes s index kinds b first next
+        unfolding nextRow
+        tokens-next en ey inside first el goes = rw en (walk-next ey inside, el, λ r all. goes r (goes-next ey r all))
+
+        pub tokens-less : (e m : ℕ) {next : Row} → next ≡ nextRow row e m → next .stop - next .kind < row .stop - row .kind
+        unfolding nextRow
+        tokens-less e m en = rw en (omega arith)
+
+      steps-of : (y : Measured) → MeasuresTree s index kinds k b (row .tree) (row .levels) (row .text) y → Within b y → Steps s index kinds b row (passed row y)
+      unfolding passed nextRow
+      steps-of (End e m) step inside = (walk-next step refl inside, record { levels = omega arith; less = omega arith }, goes-next step refl)
+      steps-of Deep step inside =
+          (within-deep b, all-deep s index kinds (row .kind) (row .stop) b (row .tree) (row .levels) (row .text) ek more stop-in step refl)
+      steps-of Broken step inside =
+          (within-broken b, all-broken s index kinds (row .kind) (row .stop) b (row .tree) (row .levels) (row .text) ek more stop-in step refl)
+
+      pub steps-past : (y : Measured) {n : Next} → n ≡ passed row y → MeasuresTree s index kinds k b (row .tree) (row .levels) (row .text) y → Within b y
+          → Steps s index kinds b row n
+      steps-past y en step inside = rw en (steps-of y step inside)
+
+      pub steps-deep : MeasuresTree s index kinds k b (row .tree) (row .levels) (row .text) Deep → Steps s index kinds b row (Stop Deep)
+      steps-deep step = (within-deep b, all-deep s index kinds (row .kind) (row .stop) b (row .tree) (row .levels) (row .text) ek more stop-in step refl)
+
+      pub steps-broken : MeasuresTree s index kinds k b (row .tree) (row .levels) (row .text) Broken → Steps s index kinds b row (Stop Broken)
+      steps-broken step = (within-broken b, all-broken s index kinds (row .kind) (row .stop) b (row .tree) (row .levels) (row .text) ek more stop-in step refl)
+
+      -- A production, whose operands are the row `inner`.
+      module _ (inner : Row) (node : (x : Measured) → MeasuresRow s index kinds b inner x → MeasuresTree s index kinds k b (row .tree) (row .levels) (row .text) x) where
+        pub steps-last : Walkable s index b inner → inner .levels < row .levels → row .kind + 1 ≡ row .stop → Steps s index kinds b row (Go inner)
+        steps-last v fewer last = (
+          v,
+          record { levels = omega arith; less = let n = Reader.row-short s (inner .kind) (inner .stop) (w .sound .short) (v .kinds) in omega arith },
+          λ x all. all-last s index kinds (row .kind) (row .stop) b (row .tree) (row .levels) (row .text) ek last stop-in x (node x all),
+        )
+
+        -- Its operands were measured, the tokens that they start with first.
+        pub steps-inner : (rest : Row) → Goes s index kinds b inner rest → (x : Measured) {n : Next} → n ≡ passed row x → MeasuresRow s index kinds b rest x → Within b x
+            → Steps s index kinds b row n
+        steps-inner rest goes x en all inside = steps-past x en (node x (goes x all)) inside
+
+-- A production of a kind that is seen, which is the next tree of a row: its operands are a row.
+module _ (s index b : List ℕ) (kinds k : ℕ) (row : Row) (kind : k < 32) (bytes : (i : ℕ) → getD b i 0 < 256) {j class : ℕ} (ej : j ≡ k) (ec : class ≡ getD index j 0)
+    (no : class ≡ 0) (level : 0 < row .levels) {place : ℕ} (ep : place ≡ cond (eqb class 0) (productionPlace Tree index k b (row .tree)) 0) where
+  some-level : row .levels ≡ 0 → ⊥
+  some-level h = omega arith
+
+  pub node-broken : place ≡ 0 → MeasuresTree s index kinds k b (row .tree) (row .levels) (row .text) Broken
+  node-broken p = at-broken s index b kinds k (row .tree) (row .levels) (row .text) kind bytes ej ec no some-level ep p
+
+  module _ (pos : place ≡ 0 → ⊥) where
+    pub node-name : row .tree < length b
+    node-name = at-name s index b k (row .tree) kind bytes ej ec ep pos
+
+    pub node-place : Sound index s → (place + 4 ≤ length s) × (length s ≤ 1024)
+    node-place z = at-place s index b k (row .tree) kind bytes ej ec ep pos z
+
+    module _ {inner : Row} (ei : inner ≡ innerRow s place row) where
+      pub inner-walk : Sound index s → row .text ≤ row .tree → Walkable s index b inner
+      unfolding innerRow
+      inner-walk z behind = rw ei (record {
+        sound = z;
+        kinds = at-kinds s index b k (row .tree) kind bytes ej ec ep pos refl z;
+        inside = omega (arith, node-name);
+        behind = omega arith;
+      })
+
+      pub inner-levels : inner .levels < row .levels
+      unfolding innerRow
+      inner-levels = rw ei (omega arith)
+
+      pub inner-tree : inSet kinds k ≡ true → (x : Measured) → MeasuresRow s index kinds b inner x → MeasuresTree s index kinds k b (row .tree) (row .levels) (row .text) x
+      unfolding innerRow
+      inner-tree shown x all = at-operands s index b kinds k (row .tree) (row .levels) (row .text) kind bytes ej ec no some-level ep pos refl shown (rw ei at all)
+
+-- measure_row
+module _ (s index b : List ℕ) (kinds : ℕ) (row : Row) {n : Next} (step : Steps s index kinds b row n) where
+  pub steps-nearer : (next : Row) → n ≡ Go next → Nearer row next
+  steps-nearer next h = let w : Steps s index kinds b row (Go next) = rw h at step in w .1
+
+  pub steps-again : (next : Row) → n ≡ Go next → (first : Row) → row .levels ≤ first .levels → Goes s index kinds b first row
+      → Walkable s index b next × (next .levels ≤ first .levels) × Goes s index kinds b first next
+  steps-again next h first l goes =
+      let w : Steps s index kinds b row (Go next) = rw h at step in
+      (w .0, omega (arith, w .1 .levels), λ r all. goes r (w .2 r all))
+
+  pub steps-stop : (x : Measured) → n ≡ Stop x → (first : Row) → Goes s index kinds b first row → Within b x × MeasuresRow s index kinds b first x
+  steps-stop x h first goes = let w : Steps s index kinds b row (Stop x) = rw h at step in (w .0, goes x (w .1))
+
+-- The kind has no class.
+pub class-not : (index : List ℕ) {j k class : ℕ} → j ≡ k → class ≡ getD index j 0 → class ≡ 0 → getD index k 0 ≡ 0
+class-not index ej ec h = cc

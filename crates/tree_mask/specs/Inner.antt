@@ -1,2 +1,3 @@
+pub mod Rows
 pub mod Masking
 pub mod Measuring

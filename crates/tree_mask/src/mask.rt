@@ -2,26 +2,19 @@
 use crate::measure::Measured;
 use crate::measure::measure_tree;
 use crate::walk::mask_tree;
+use check_operations::open::open_language;
 use format_card::lowest::lowest;
 use format_card::read::read_card;
-use format_language::check::check_language;
 use outcome::Answer;
 use outcome::Outcome;
 use outcome::Reason;
 use outcome::accept;
 use outcome::refuse;
 use tree_reader::index::INDEX;
-use tree_reader::index::build;
-use tree_reader::kinds::is_in;
 ghost use mathlib.Core.Path.{_≡_};
-ghost use mathlib.Core.Option.{some};
-ghost use Prim.Native.Nat.{_<_, _≤_};
-ghost use lib.ListN.{length};
-ghost use Rattle.format_language.specs.Language.{Language};
-ghost use Rattle.format_language.specs.LanguageFile.{entriesOf};
 ghost use Rattle.tree_reader.specs.Inner.Index.{Ready};
 ghost use Rattle.tree_mask.specs.Operations.{maskTree};
-ghost use Rattle.tree_mask.specs.Inner.Masking.{GivesTree, GivesKind};
+ghost use Rattle.tree_mask.specs.Inner.Masking.{GivesTree};
 
 // The masked form of the tree of a kind: 15 and 16 in reading order, 17 where it is longer than the output. It is
 // measured while the tree is read, before a byte is written.
@@ -52,19 +45,6 @@ fn mask_read(
     }
 }
 
-// The same, of a language that is whole: 14 to 17.
-fn mask_kind(language: &[u8], seen: u32, kind: u8, tree: &[u8], output: &mut [u8]) -> Answer
-    requires { ⌜ (length (now language) ≤ 1024) × (kind < 32) × ((l : Language) × (entriesOf (now language) ≡ some l)) ⌝ }
-    ensures { λ r. ⌜ GivesKind (now (language .entry)) seen kind (now (tree .entry)) (now (output .entry)) (now (output .exit)) (r .outcome) ⌝ }
-{
-    if !is_in(language, kind) {
-        return refuse(Reason::UnknownRoot);
-    }
-    let mut index = [0u16; INDEX];
-    build(language, &mut index);
-    mask_read(language, &index, seen, kind, tree, output)
-}
-
 // Mask: the lowest of 1 to 4 for the language and the card, 14 to 16 for the tree, 17 where the masked tree is longer
 // than the output.
 pub fn mask(language: &[u8], root: u32, card: &[u8], tree: &[u8], output: &mut [u8]) -> Answer
@@ -73,13 +53,10 @@ pub fn mask(language: &[u8], root: u32, card: &[u8], tree: &[u8], output: &mut [
 {
     let seen = read_card(card);
     let on_card = seen.outcome;
-    let answer = check_language(language);
-    let on_language = answer.outcome;
+    let mut index = [0u16; INDEX];
+    let on_language = open_language(language, root, &mut index);
     if let Outcome::Refused(reason) = lowest(on_language, on_card) {
         return refuse(reason);
     }
-    if 31 < root {
-        return refuse(Reason::UnknownRoot);
-    }
-    mask_kind(language, seen.kinds, root as u8, tree, output)
+    mask_read(language, &index, seen.kinds, root as u8, tree, output)
 }

@@ -1,5 +1,10 @@
 // The length of the masked form of a tree. The tree is read at the same time, so that it is checked and measured in one
 // pass.
+use crate::row::Row;
+use crate::row::TREE_LEVELS;
+use crate::row::inner_row;
+use crate::row::next_row;
+use crate::row::whole_row;
 use format_card::set::in_set;
 use format_fields::bytes::pair_in;
 use format_fields::bytes::to_usize;
@@ -10,14 +15,17 @@ use tree_reader::node::Syntax;
 use tree_reader::node::place_at;
 use tree_reader::node::production_place;
 use tree_reader::read::read_tree;
+ghost use mathlib.Core.Path.{_≡_};
+ghost use mathlib.Core.Bool.{true};
 ghost use mathlib.Core.Option.{some};
 ghost use Prim.Native.Nat.{ℕ, _-_, _<_, _≤_};
-ghost use lib.ListN.{length, drop};
+ghost use lib.ListN.{length, getD, drop};
 ghost use Rattle.format_language.specs.Inner.Entries.{IsClass, classRange};
 ghost use Rattle.tree_reader.specs.Syntax.{readToken};
-ghost use Rattle.tree_reader.specs.Inner.Index.{Sound, Ready};
-ghost use Rattle.tree_reader.specs.Inner.Positions.{KindsIn};
-ghost use Rattle.tree_mask.specs.Inner.Measuring.{Within, MeasuresToken, MeasuresHidden, MeasuresTree, MeasuresTrees, Goes};
+ghost use Rattle.tree_reader.specs.Inner.Index.{Ready};
+ghost use Rattle.format_card.specs.Inner.Sets.{inSet};
+ghost use Rattle.tree_mask.specs.Inner.Rows.{Walkable};
+ghost use Rattle.tree_mask.specs.Inner.Measuring.{Within, MeasuresToken, MeasuresHidden, MeasuresTree, MeasuresRow, Goes, passed, Steps};
 
 // The position behind trees and the length of their masked forms; one level too many; or bytes that are no tree.
 pub enum Measured {
@@ -26,18 +34,11 @@ pub enum Measured {
     Broken,
 }
 
-// How far a row of trees is measured: where the next kind stands in the language, where its tree starts, and the length so
-// far.
-pub struct Passed {
-    pub kind: usize,
-    pub tree: usize,
-    pub text: usize,
+// What is next in a walk over a row: a row that is left, or the answer.
+pub enum Next {
+    Go(Row),
+    Stop(Measured),
 }
-
-// The levels of a tree, and those below its root.
-const LEVELS: usize = 64;
-
-const BELOW: usize = 63;
 
 // The token of a class, by the place of the class: two bytes, or one where it is hidden.
 fn measure_token(
@@ -90,156 +91,110 @@ fn measure_hidden(
     }
 }
 
-// Measures the tokens that a row of trees starts with, whose kinds stand in the language from `from` up to `stop`.
-fn measure_tokens(
-    language: &[u8],
-    index: &[u16; INDEX],
-    seen: u32,
-    from: usize,
-    stop: usize,
-    tree: &[u8],
-    at: usize,
-    n: usize,
-) -> Passed
-    requires { ⌜ Sound (now index) (now language) × KindsIn (now language) from stop × (at ≤ length (now tree)) × (n ≤ at) ⌝ }
-    ensures { λ r. ⌜ (from ≤ r .kind) × (r .tree ≤ length (now (tree .entry))) × (r .text ≤ r .tree)
-        × ((levels : ℕ) → Goes (now (language .entry)) (now (index .entry)) seen from stop (now (tree .entry)) at levels n (r .kind) stop (r .tree) levels (r .text))
-        × (stop ≤ r .kind → (levels : ℕ) → MeasuresTrees (now (language .entry)) (now (index .entry)) seen from stop (now (tree .entry)) at levels n (Measured.End (r .tree) (r .text))) ⌝ }
+// Measures the tokens that a row starts with.
+fn measure_tokens(language: &[u8], index: &[u16; INDEX], seen: u32, tree: &[u8], row: Row) -> Row
+    requires { ⌜ Walkable (now language) (now index) (now tree) row ⌝ }
+    ensures { λ r. ⌜ Walkable (now (language .entry)) (now (index .entry)) (now (tree .entry)) r × (r .levels ≡ row .levels) × Goes (now (language .entry)) (now (index .entry)) seen (now (tree .entry)) row r ⌝ }
 {
-    let mut q = from;
-    let mut to = at;
-    let mut m = n;
-    while q < stop {
+    let mut next = row;
+    while next.kind < next.stop {
+        let q = next.kind;
         let kind = language[q];
         let class = place_at(index, to_usize(kind));
         if class == 0 {
-            return Passed {
-                kind: q,
-                tree: to,
-                text: m,
-            };
+            return next;
         }
-        let Measured::End(e, k) = measure_token(language, class, in_set(seen, kind), tree, to, m)
+        let sees = in_set(seen, kind);
+        let Measured::End(e, n) = measure_token(language, class, sees, tree, next.tree, next.text)
         else {
-            return Passed {
-                kind: q,
-                tree: to,
-                text: m,
-            };
+            return next;
         };
-        to = e;
-        m = k;
-        q += 1;
+        next = next_row(next, e, n);
     }
-    Passed {
-        kind: q,
-        tree: to,
-        text: m,
+    next
+}
+
+// What is next once the next tree of a row was measured.
+fn pass(row: Row, measured: Measured) -> Next
+    requires { ⌜ row .kind < 65536 ⌝ }
+    ensures { λ r. ⌜ r ≡ passed row measured ⌝ }
+{
+    match measured {
+        Measured::End(e, n) => Next::Go(next_row(row, e, n)),
+        Measured::Deep => Next::Stop(Measured::Deep),
+        Measured::Broken => Next::Stop(Measured::Broken),
     }
 }
 
-// The trees whose kinds stand in the language from `from` up to `stop`, one after the other. Tokens are measured here,
-// and those that the arguments of another tree start with; its other arguments one call deeper. Behind the last tree nothing
-// is left to do, so its arguments are measured here.
-fn measure_all(
+// The next tree of a row, a production of a kind that is seen: behind the last tree of the row nothing is left to do, so its
+// operands are the next row; those of another one are measured one call deeper, but for the tokens that they start with.
+fn measure_node(
     language: &[u8],
     index: &[u16; INDEX],
     seen: u32,
-    from: usize,
-    stop: usize,
     tree: &[u8],
-    at: usize,
-    levels: usize,
-    n: usize,
-) -> Measured
-    requires { ⌜ Sound (now index) (now language) × KindsIn (now language) from stop × (at ≤ length (now tree)) × (n ≤ at) ⌝ }
-    ensures { λ r. ⌜ Within (now (tree .entry)) r
-        × MeasuresTrees (now (language .entry)) (now (index .entry)) seen from stop (now (tree .entry)) at levels n r ⌝ }
+    row: Row,
+    kind: u8,
+) -> Next
+    requires { ⌜ Walkable (now language) (now index) (now tree) row × (row .kind < row .stop) × (kind ≡ getD (now language) (row .kind) 0)
+        × (getD (now index) kind 0 ≡ 0) × (0 < row .levels) × (inSet seen kind ≡ true) ⌝ }
+    ensures { λ r. ⌜ Steps (now (language .entry)) (now (index .entry)) seen (now (tree .entry)) row r ⌝ }
 {
-    let mut q = from;
-    let mut end = stop;
-    let mut to = at;
-    let mut m = n;
-    let mut left = levels;
-    while q < end {
-        let kind = language[q];
-        let class = place_at(index, to_usize(kind));
-        if class != 0 {
-            match measure_token(language, class, in_set(seen, kind), tree, to, m) {
-                Measured::End(e, k) => {
-                    to = e;
-                    m = k;
-                    q += 1;
-                }
-                Measured::Deep => {
-                    return Measured::Deep;
-                }
-                Measured::Broken => {
-                    return Measured::Broken;
-                }
+    let place = production_place(Syntax::Tree, index, 0, kind, tree, row.tree);
+    if place == 0 {
+        return Next::Stop(Measured::Broken);
+    }
+    let inner = inner_row(language, place, row);
+    if row.kind + 1 == row.stop {
+        return Next::Go(inner);
+    }
+    let rest = measure_tokens(language, index, seen, tree, inner);
+    if rest.stop <= rest.kind {
+        return pass(row, Measured::End(rest.tree, rest.text));
+    }
+    pass(row, measure_row(language, index, seen, tree, rest))
+}
+
+// The next tree of a row: a token and a hidden block are measured here.
+fn measure_next(language: &[u8], index: &[u16; INDEX], seen: u32, tree: &[u8], row: Row) -> Next
+    requires { ⌜ Walkable (now language) (now index) (now tree) row × (row .kind < row .stop) ⌝ }
+    ensures { λ r. ⌜ Steps (now (language .entry)) (now (index .entry)) seen (now (tree .entry)) row r ⌝ }
+{
+    let q = row.kind;
+    let kind = language[q];
+    let class = place_at(index, to_usize(kind));
+    let sees = in_set(seen, kind);
+    if class != 0 {
+        let token = measure_token(language, class, sees, tree, row.tree, row.text);
+        return pass(row, token);
+    }
+    if row.levels == 0 {
+        return Next::Stop(Measured::Deep);
+    }
+    if !sees {
+        let hidden = measure_hidden(language, index, kind, tree, row.tree, row.levels, row.text);
+        return pass(row, hidden);
+    }
+    measure_node(language, index, seen, tree, row, kind)
+}
+
+// The trees of a row, one after the other.
+fn measure_row(language: &[u8], index: &[u16; INDEX], seen: u32, tree: &[u8], row: Row) -> Measured
+    requires { ⌜ Walkable (now language) (now index) (now tree) row ⌝ }
+    ensures { λ r. ⌜ Within (now (tree .entry)) r × MeasuresRow (now (language .entry)) (now (index .entry)) seen (now (tree .entry)) row r ⌝ }
+{
+    let mut next = row;
+    while next.kind < next.stop {
+        match measure_next(language, index, seen, tree, next) {
+            Next::Go(further) => {
+                next = further;
             }
-        } else if left == 0 {
-            return Measured::Deep;
-        } else if !in_set(seen, kind) {
-            match measure_hidden(language, index, kind, tree, to, left, m) {
-                Measured::End(e, k) => {
-                    to = e;
-                    m = k;
-                    q += 1;
-                }
-                Measured::Deep => {
-                    return Measured::Deep;
-                }
-                Measured::Broken => {
-                    return Measured::Broken;
-                }
-            }
-        } else {
-            let place = production_place(Syntax::Tree, index, class, kind, tree, to);
-            if place == 0 {
-                return Measured::Broken;
-            }
-            let first = place + 4;
-            let last = place + 2 + pair_in(language, place);
-            m += 1;
-            to += 1;
-            q += 1;
-            if q == end {
-                q = first;
-                end = last;
-                left -= 1;
-            } else if first < last {
-                let row = measure_tokens(language, index, seen, first, last, tree, to, m);
-                to = row.tree;
-                m = row.text;
-                if row.kind < last {
-                    match measure_all(
-                        language,
-                        index,
-                        seen,
-                        row.kind,
-                        last,
-                        tree,
-                        to,
-                        left - 1,
-                        m,
-                    ) {
-                        Measured::End(e, k) => {
-                            to = e;
-                            m = k;
-                        }
-                        Measured::Deep => {
-                            return Measured::Deep;
-                        }
-                        Measured::Broken => {
-                            return Measured::Broken;
-                        }
-                    }
-                }
+            Next::Stop(answer) => {
+                return answer;
             }
         }
     }
-    Measured::End(to, m)
+    Measured::End(next.tree, next.text)
 }
 
 // The tree of a kind that starts with the first byte.
@@ -260,12 +215,12 @@ pub fn measure_tree(
         return measure_token(language, class, sees, tree, 0, 0);
     }
     if !sees {
-        return measure_hidden(language, index, kind, tree, 0, LEVELS, 0);
+        return measure_hidden(language, index, kind, tree, 0, TREE_LEVELS, 0);
     }
     let place = production_place(Syntax::Tree, index, class, kind, tree, 0);
     if place == 0 {
         return Measured::Broken;
     }
-    let stop = place + 2 + pair_in(language, place);
-    measure_all(language, index, seen, place + 4, stop, tree, 1, BELOW, 1)
+    let row = inner_row(language, place, whole_row());
+    measure_row(language, index, seen, tree, row)
 }

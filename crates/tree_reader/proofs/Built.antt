@@ -129,3 +129,16 @@ pub built-indexed : (s t part : List ℕ) (a : ℕ) → Built 0x11 s t a → 822
 built-indexed s t part a w long same bytes short l e =
     indexed-front (putAll 0x11 s (w .zeros) (places s)) part s long (λ j h. same j h ∙ w .is j h) l
     (build-is s (w .zeros) bytes short (w .long) (w .zero) l e refl)
+
+-- An index stays where what is written stands behind it.
+pub built-below : (first : ℕ) (s t u : List ℕ) (a b e : ℕ) → Built first s t a → Around t u b e → a + 8224 ≤ b → Built first s u a
+built-below first s t u a b e w k h = record {
+  zeros = w .zeros;
+  long = w .long;
+  zero = w .zero;
+  is = λ j i. k .below (a + j) (omega arith) ∙ w .is j i;
+}
+
+-- The second part of a table of zeros is still zero after the first index.
+pub zero-behind : (t u : List ℕ) → ((j : ℕ) → getD t j 0 ≡ 0) → Around t u 0 8224 → (j : ℕ) → j < 8224 → getD u (8224 + j) 0 ≡ 0
+zero-behind t u z k j h = k .past (8224 + j) (omega arith) ∙ z (8224 + j)

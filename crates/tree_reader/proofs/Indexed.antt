@@ -26,7 +26,7 @@ use Rattle.tree_reader.specs.Inner.Index.{putAll, rangeBefore, arguments
 use Rattle.tree_reader.proofs.Placed.{placeOf, puts-length, puts-place, found, Groups, of-first, of-second, looked-kind, looked-name}
 
 -- The kinds of a part.
-part-kinds : (m : ℕ) (s : List ℕ) (q e : ℕ) → e - q ≡ m → e ≤ length s → all isKind (slice q e s) ≡ true → KindsIn s q e
+pub part-kinds : (m : ℕ) (s : List ℕ) (q e : ℕ) → e - q ≡ m → e ≤ length s → all isKind (slice q e s) ≡ true → KindsIn s q e
 part-kinds zero s q e y h a x i j = absurd (omega arith)
 part-kinds (suc m) s q e y h a x i j =
     let w = all-true isKind (getD s q 0) (slice (q + 1) e s) (part-next (all isKind) s q e true a (omega arith) h) in

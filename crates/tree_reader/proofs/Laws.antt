@@ -24,6 +24,10 @@ use Rattle.tree_reader.specs.Inner.Positions.{nameLength, productionPlac
 past-zero : (u : List ℕ) (i : ℕ) → length u ≤ i → getD u i 0 ≡ 0
 past-zero u i h = List·getD-eq-default u 0 h
 
+-- What the index holds at a key.
+pub at-key : (index : List ℕ) {n m place : ℕ} → place ≡ getD index n 0 → n ≡ m → place ≡ getD index m 0
+at-key index e d = e ∙ ap (λ (i : ℕ). getD index i 0) d
+
 -- token
 module _ (s : List ℕ) (place : ℕ) (b : List ℕ) (at : ℕ) where
   pub token-none : place ≡ 0 → Broken ≡ tokenAt s place b at
@@ -55,9 +59,9 @@ module _ (s index : List ℕ) (k : ℕ) (b : List ℕ) (at : ℕ) where
     unfolding nameAt operandsAt
     name-unknown h = cc (lt-leb (length b) at there)
 
-    pub name-known : {n : ℕ} → (place ≡ 0 → ⊥) → n ≡ pairAt s place → Operands (place + 4) (place + 2 + n) (at + 1) ≡ nameAt s index k b at
+    pub name-known : {first last : ℕ} → (place ≡ 0 → ⊥) → first ≡ place + 4 → last ≡ place + 2 + pairAt s place → Operands first last (at + 1) ≡ nameAt s index k b at
     unfolding nameAt operandsAt
-    name-known h e = cc (lt-leb (length b) at there, ne-eqb place 0 h)
+    name-known h e d = cc (lt-leb (length b) at there, ne-eqb place 0 h)
 
 -- argument_is
 module _ (u : List ℕ) (k i j : ℕ) where
@@ -447,6 +451,9 @@ module _ (index s : List ℕ) (z : Sound index s) {j k : ℕ} (ej : j ≡ k) (ki
     pub kinds-in : {n : ℕ} → n ≡ pairAt s place → KindsIn s (place + 4) (place + 2 + n)
     kinds-in en = rw (en, e) (z .operands j p in-kinds byte there)
 
+    pub kinds-from : {first last : ℕ} → first ≡ place + 4 → last ≡ place + 2 + pairAt s place → KindsIn s first last
+    kinds-from f l = rw (f, l) (kinds-in refl)
+
 -- The class of a token of a tree stands in the language.
 pub class-at : (x : Syntax) (s index : List ℕ) {place k : ℕ} → Sound index s → k < 32 → place ≡ classPlace x index k → (place ≡ 0 → ⊥)
     → IsClass s (place - 1)
@@ -510,7 +517,7 @@ module _ (x : Syntax) (s index u : List ℕ) (k : ℕ) (b : List ℕ) (at : ℕ)
   pub named-node : {n m : ℕ} → n ≡ pairAt s place → m ≡ nameLength x → Operands (place + 4) (place + 2 + n) (at + m) ≡ nodeAt x s index u k b at
   named-node {n} e d =
       ap (λ (j : ℕ). Operands (place + 4) (place + 2 + n) j) (ap (λ (j : ℕ). at + j) d ∙ sym (named .next))
-      ∙ (name-known s index k b (named .name) (named .inside) refl refl (named .found) pos e ∙ named .node)
+      ∙ (name-known s index k b (named .name) (named .inside) refl refl (named .found) pos refl (ap (λ (i : ℕ). place + 2 + i) e) ∙ named .node)
 
   pub named-past : Deep ≡ pastAt x s index k b at
   named-past =

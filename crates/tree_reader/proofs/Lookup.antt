@@ -1,15 +1,19 @@
 -- The index that is built: the code's turns, and what a lookup through it gives.
-use Prim.Native.Nat.{ℕ, _+_, _<_, _≤_}
-use mathlib.Core.Path.{_≡_, refl}
+use Prim.Native.Nat.{ℕ, zero, suc, _+_, _-_, _<_, _≤_}
+use mathlib.Core.Path.{_≡_, refl, sym, ap}
 use mathlib.Core.List.{List}
+use mathlib.Core.Option.{none, some}
+use native.Mathlib.Omega.{arith}
 use lib.ListN.{length, getD, set, replicate, length-set, getD-replicate, length-replicate, List·getD-eq-default}
 use lib.Seq.{set-out}
 use lib.Dec.{ltb, eqb}
 use borrow.Author.Tests.{eq-eqb, ne-eqb, ltb-true, ltb-false}
 use Rattle.format_fields.specs.Inner.Places.{fieldEnd, placesFrom, slotAt}
-use Rattle.format_fields.proofs.Truth.{by-test}
+use Rattle.format_fields.proofs.Truth.{by-test, none-some}
 use Rattle.format_fields.proofs.Places.{pass-done, pass-next}
-use Rattle.tree_reader.specs.Inner.Index.{putAt, putAll}
+use Rattle.format_language.specs.Language.{Range}
+use Rattle.format_language.specs.Inner.Entries.{classRange}
+use Rattle.tree_reader.specs.Inner.Index.{putAt, putAll, rangeBefore, argumentsBefore}
 
 -- put
 module _ (index : List ℕ) (key v : ℕ) where
@@ -46,3 +50,29 @@ zeros n j =
     by-test (ltb j n)
     (λ e. getD-replicate n j 0 0 (ltb-true _ _ e))
     (λ e. List·getD-eq-default {A = ℕ} (replicate n 0) 0 {n = j} (rw length-replicate (ltb-false _ _ e)))
+
+-- A place of the index is 0 exactly if there is no such entry.
+module _ (s : List ℕ) where
+  pub no-range : (place : ℕ) → rangeBefore s place ≡ none → place ≡ 0
+  no-range zero e = refl
+  no-range (suc p) e = none-some (sym e)
+
+  pub some-range : (place : ℕ) {c : Range} → rangeBefore s place ≡ some c → 0 < place
+  some-range zero e = none-some e
+  some-range (suc p) e = omega arith
+
+  pub range-none : (place : ℕ) → place ≡ 0 → rangeBefore s place ≡ none
+  range-none zero e = refl
+  range-none (suc p) e = absurd (omega arith)
+
+  pub range-some : (place : ℕ) → 0 < place → rangeBefore s place ≡ some (classRange s (place - 1))
+  range-some zero e = absurd (omega arith)
+  range-some (suc p) e = let z : p ≡ suc p - 1 = omega arith in ap (λ (m : ℕ). some (classRange s m)) z
+
+  pub arguments-none : (place : ℕ) → place ≡ 0 → argumentsBefore s place ≡ none
+  arguments-none zero e = refl
+  arguments-none (suc p) e = absurd (omega arith)
+
+  pub arguments-some : (place : ℕ) → 0 < place → (ks : List ℕ) × (argumentsBefore s place ≡ some ks)
+  arguments-some zero e = absurd (omega arith)
+  arguments-some (suc p) e = (_, refl)

@@ -1,6 +1,9 @@
 // The index of a language, or of a body: where the field of each entry stands, by the entry's key.
+use crate::operands::KINDS;
+use crate::operands::NAMES;
 use format_fields::walk::field_end;
 use format_fields::walk::slot_at;
+use format_language::entries::CLASS;
 ghost use mathlib.Core.Path.{_≡_};
 ghost use Prim.Native.Nat.{ℕ, _+_, _<_, _≤_};
 ghost use lib.ListN.{length, getD};
@@ -11,7 +14,7 @@ ghost use Rattle.format_language.specs.LanguageFile.{entriesOf};
 ghost use Rattle.tree_reader.specs.Inner.Index.{putAt, putAll, Built, Around, Indexed, indexLength};
 
 // How many numbers an index has: one for each kind, and one for each production.
-pub const INDEX: usize = 8224;
+pub const INDEX: usize = KINDS + KINDS * NAMES;
 
 // How many numbers the table of a run has; the index of the source stands first in it.
 pub const TABLE: usize = 26184;
@@ -54,5 +57,5 @@ pub fn build(language: &[u8], index: &mut [u16])
     requires { ⌜ (length (now language) ≤ 1024) × (length (now index) ≡ indexLength) × ((j : ℕ) → getD (now index) j 0 ≡ 0) ⌝ }
     ensures { λ r. ⌜ ((l : Language) → entriesOf (now (language .entry)) ≡ some l → Indexed (now (index .exit)) (now (language .entry)) l) ⌝ }
 {
-    put_all(language, 0x11, index);
+    put_all(language, CLASS, index);
 }

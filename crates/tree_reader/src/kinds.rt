@@ -1,5 +1,6 @@
 // The kinds that are in a language.
 use format_fields::walk::field_end;
+use format_language::entries::CLASS;
 ghost use mathlib.Core.Path.{_≡_};
 ghost use mathlib.Core.Option.{some};
 ghost use Prim.Native.Nat.{_+_, _<_, _≤_};
@@ -35,7 +36,7 @@ fn mentions_kind(s: &[u8], p: usize, e: usize, kind: u8) -> bool
     if s[p + 3] == kind {
         return true;
     }
-    if s[p] == 0x11 {
+    if s[p] == CLASS {
         return false;
     }
     kind_among(s, p + 5, e, kind)

@@ -1,4 +1,9 @@
 // What stands at one position: a leaf, or a production whose operands follow.
+use crate::operands::KINDS;
+use crate::operands::NAMES;
+use crate::operands::first_operand;
+use crate::operands::last_operand;
+use crate::operands::production_key;
 use format_fields::bytes::pair_in;
 use format_fields::bytes::to_usize;
 use format_language::range::in_range;
@@ -10,6 +15,21 @@ ghost use lib.ListN.{length, getD};
 ghost use Rattle.format_language.specs.Inner.Entries.{IsClass};
 ghost use Rattle.tree_reader.specs.Inner.Positions.{nameLength, productionPlace, tokenAt, nameAt, argumentIs, argumentAt, numberedAt, treeNode, codeLeaf, codeNode, leafAt, pastAt, EndsBy, NodeIn};
 ghost use Rattle.tree_reader.specs.Inner.Index.{Ready, indexLength};
+
+// The signs of a code: a production's name, a token, an argument, an argument by a number.
+pub const NAME: u8 = 0x01;
+
+pub const TOKEN: u8 = 0x02;
+
+pub const ARGUMENT: u8 = 0x03;
+
+pub const NUMBERED_ARGUMENT: u8 = 0x04;
+
+// How many numbers the mappings take in the uses; the kinds of the arguments stand behind them.
+pub const USES: usize = KINDS * NAMES;
+
+// The kind of argument i, from 1 on, stands so many places before i.
+const ARGUMENTS: usize = USES - 1;
 
 // Trees are written without signs, codes with them.
 pub enum Syntax {
@@ -57,7 +77,7 @@ fn name_place(index: &[u16], kind: u8, bytes: &[u8], at: usize) -> usize
     if bytes.len() <= at {
         return 0;
     }
-    place_at(index, 32 + (to_usize(kind) * 256 + to_usize(bytes[at])))
+    place_at(index, production_key(to_usize(kind), to_usize(bytes[at])))
 }
 
 // The place of the production of the kind whose name stands at a position; 0 if there is none, or if a token of a class
@@ -82,7 +102,7 @@ pub fn production_place(
             if bytes.len() - at < 2 {
                 return 0;
             }
-            if bytes[at] != 1 {
+            if bytes[at] != NAME {
                 return 0;
             }
             name_place(index, kind, bytes, at + 1)
@@ -115,28 +135,25 @@ fn name(language: &[u8], index: &[u16], kind: u8, bytes: &[u8], at: usize) -> No
     if bytes.len() <= at {
         return Node::Leaf(Read::Broken);
     }
-    let place = place_at(index, 32 + (to_usize(kind) * 256 + to_usize(bytes[at])));
+    let place = place_at(index, production_key(to_usize(kind), to_usize(bytes[at])));
     if place == 0 {
         return Node::Leaf(Read::Broken);
     }
-    Node::Operands(place + 4, place + 2 + pair_in(language, place), at + 1)
+    Node::Operands(first_operand(place), last_operand(language, place), at + 1)
 }
 
-// How many numbers the mappings take in the uses; the kinds of the arguments stand behind them.
-pub const USES: usize = 8192;
-
 // Whether argument i by a number is of the kind.
-fn argument_is(uses: &[u8], kind: u8, i: usize, by: usize) -> bool
-    requires { ⌜ (i < 256) × (by < 256) ⌝ }
-    ensures { λ r. ⌜ r ≡ argumentIs (now (uses .entry)) kind i by ⌝ }
+fn argument_is(uses: &[u8], kind: u8, i: usize, number: usize) -> bool
+    requires { ⌜ (i < 256) × (number < 256) ⌝ }
+    ensures { λ r. ⌜ r ≡ argumentIs (now (uses .entry)) kind i number ⌝ }
 {
     if i == 0 {
         return false;
     }
-    if uses.len() <= 8191 + i {
+    if uses.len() <= ARGUMENTS + i {
         return false;
     }
-    let place = to_usize(uses[8191 + i]) * 256 + by;
+    let place = to_usize(uses[ARGUMENTS + i]) * NAMES + number;
     if uses.len() <= place {
         return false;
     }
@@ -199,10 +216,10 @@ fn other_leaf(
     ensures { λ r. ⌜ ((getD (now (bytes .entry)) at 0 ≡ 3 → ⊥) → r ≡ codeLeaf (now (language .entry)) (now (index .entry)) (now (uses .entry)) kind (now (bytes .entry)) at) × EndsBy (length (now (bytes .entry))) r ⌝ }
 {
     let sign = bytes[at];
-    if sign == 2 {
+    if sign == TOKEN {
         return token(language, place_at(index, to_usize(kind)), bytes, at + 1);
     }
-    if sign == 4 {
+    if sign == NUMBERED_ARGUMENT {
         return numbered(uses, kind, bytes, at + 1);
     }
     Read::Broken
@@ -216,7 +233,7 @@ fn code_leaf(language: &[u8], index: &[u16], uses: &[u8], kind: u8, bytes: &[u8]
     if bytes.len() <= at {
         return Read::Broken;
     }
-    if bytes[at] == 3 {
+    if bytes[at] == ARGUMENT {
         return argument(uses, kind, bytes, at + 1);
     }
     other_leaf(language, index, uses, kind, bytes, at)
@@ -237,7 +254,7 @@ pub fn code_node(
     if bytes.len() <= at {
         return Node::Leaf(Read::Broken);
     }
-    if bytes[at] == 1 {
+    if bytes[at] == NAME {
         return name(language, index, kind, bytes, at + 1);
     }
     Node::Leaf(code_leaf(language, index, uses, kind, bytes, at))
@@ -282,7 +299,7 @@ fn past_code(language: &[u8], index: &[u16], kind: u8, bytes: &[u8], at: usize) 
     if bytes.len() <= at {
         return Read::Deep;
     }
-    if bytes[at] != 2 {
+    if bytes[at] != TOKEN {
         return Read::Deep;
     }
     token(language, place_at(index, to_usize(kind)), bytes, at + 1)

@@ -1,5 +1,6 @@
 // What a production is called in an index, and where the kinds of its operands stand in the language.
 use format_fields::bytes::pair_in;
+use format_fields::walk;
 ghost use mathlib.Core.Path.{_≡_};
 ghost use Prim.Native.Nat.{_+_, _<_, _≤_};
 ghost use lib.ListN.{length};
@@ -8,10 +9,10 @@ ghost use Rattle.format_language.specs.Language.{productionKey};
 ghost use Rattle.tree_reader.specs.Inner.Index.{indexLength};
 
 // How many kinds there are; the classes stand first in an index, by their kinds.
-pub const KINDS: usize = 32;
+pub const KINDS: usize = walk::KINDS;
 
 // How many names the productions of a kind can have.
-pub const NAMES: usize = 256;
+pub const NAMES: usize = walk::NAMES;
 
 // The kinds of a production's operands stand in the language from `first` up to `last`.
 pub struct Operands {

@@ -21,8 +21,14 @@ ghost use Rattle.tree_reader.specs.Syntax as Meant;
 ghost use Rattle.tree_reader.specs.Inner.Positions.{classPlace, productionPlace, operandsFrom, readAt, KindsIn, EndsBy, restAt, restOf, usesIn};
 ghost use Rattle.tree_reader.specs.Inner.Index.{Sound, Ready, Indexed};
 
+// A tree has at most so many levels.
+pub const TREE_LEVELS: usize = 64;
+
+// The code of a clause has at most so many.
+pub const CODE_LEVELS: usize = 16;
+
 // The place of the class that a token of the kind is read by: 0 in a code, where a sign stands before it.
-pub fn class_place(syntax: Syntax, index: &[u16], kind: u8) -> usize
+fn class_place(syntax: Syntax, index: &[u16], kind: u8) -> usize
     requires { ⌜ kind < length (now index) ⌝ }
     ensures { λ r. ⌜ r ≡ classPlace syntax (now (index .entry)) kind ⌝ }
 {

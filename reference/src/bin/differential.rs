@@ -5,27 +5,14 @@
 
 #![forbid(unsafe_code)]
 
-#[path = "differential/block.rs"]
-mod block;
-#[path = "differential/edit.rs"]
-mod edit;
-#[path = "differential/figures.rs"]
-mod figures;
-#[path = "differential/loose.rs"]
-mod loose;
-#[path = "differential/mask.rs"]
-mod mask;
-#[path = "differential/score.rs"]
-mod score;
-#[path = "differential/search.rs"]
-mod search;
-#[path = "differential/xml.rs"]
-mod xml;
+#[path = "differential/laws.rs"]
+mod laws;
 
-use algebra::raw as library;
+use reference::call::{Answer, Buffers, Call, Input};
 use reference::generate::{
-    has_numbers, language_file, reduce_case, run_case, translation_file, tree_case, Random,
-    RunCase, LONG_TREE,
+    block_case, edit_case, export_case, has_numbers, import_case, index_case, join_table_case,
+    language_file, loose_case, mask_case, reduce_case, run_case, score_case, search_case,
+    translation_file, tree_case, Random, LONG_TREE,
 };
 use reference::laws::Broken;
 use std::fmt::Write as _;
@@ -36,28 +23,18 @@ use std::time::Instant;
 /// Answers are counted by number, and so is what the laws say.
 const NUMBERS: usize = 27;
 
-/// What one side answered: number, length and the buffers at the end.
+/// What one side answered, and the buffers at the end.
 #[derive(PartialEq, Eq)]
-struct Answer {
-    number: u32,
-    length: u64,
-    /// The cost of a run, 0 for other operations.
-    cost: u32,
-    output: Vec<u8>,
-    workspace: Vec<u8>,
+struct Side {
+    answer: Answer,
+    buffers: Buffers,
 }
 
-/// A case as it was compared: both answers and the inputs by name.
-struct Comparison {
-    library: Answer,
-    reference: Answer,
-    inputs: Vec<(&'static str, Input)>,
-}
-
-/// An input as it is shown for a difference.
-enum Input {
-    Bytes(Vec<u8>),
-    Number(u64),
+/// A call as it was compared.
+struct Comparison<'a> {
+    call: &'a Call,
+    library: Side,
+    reference: Side,
 }
 
 /// What one case showed: the numbers that it counts for, and the lines of a difference.
@@ -70,14 +47,20 @@ struct Finding {
     difference: Option<Vec<String>>,
 }
 
-/// An operation that can be compared.
+/// An operation that can be compared, or laws that can be tried.
 struct Operation {
     name: &'static str,
     /// The numbers that are possible, all of which must be reached.
     possible: &'static [usize],
-    /// What a number stands for.
-    label: fn(usize) -> String,
-    find: fn(&mut Random) -> Finding,
+    tried: Tried,
+}
+
+/// What is tried on one case.
+enum Tried {
+    /// Both sides answer a call alike.
+    Call(fn(&mut Random) -> Call),
+    /// Laws hold of the library; what they say has names by number.
+    Laws(fn(&mut Random) -> Finding, &'static [&'static str]),
 }
 
 /// The operations that can be compared.
@@ -85,171 +68,123 @@ const OPERATIONS: &[Operation] = &[
     Operation {
         name: "check_language",
         possible: &[0, 1, 2, 3, 4],
-        label: answer_label,
-        find: |random| compare_check_language(random).finding(),
+        tried: Tried::Call(|random| Call::CheckLanguage(language_file(random))),
     },
     Operation {
         name: "check_tree",
         possible: &[0, 1, 2, 3, 4, 14, 15, 16],
-        label: answer_label,
-        find: |random| compare_check_tree(random).finding(),
+        tried: Tried::Call(|random| Call::CheckTree(tree_case(random))),
     },
     Operation {
         name: "check_translation",
         possible: &[0, 1, 2, 3, 4, 5, 6, 7],
-        label: answer_label,
-        find: |random| compare_check_translation(random).finding(),
+        tried: Tried::Call(|random| Call::CheckTranslation(translation_file(random))),
     },
     Operation {
         name: "run",
         possible: &[0, 1, 2, 3, 4, 5, 6, 7, 14, 15, 16, 17],
-        label: answer_label,
-        find: |random| compare_run(random).finding(),
+        tried: Tried::Call(|random| Call::Run(run_case(random))),
     },
     Operation {
         name: "reduce",
         possible: &[0, 1, 2, 3, 4, 5, 6, 7, 8, 9, 10, 11, 12, 13, 26],
-        label: answer_label,
-        find: |random| compare_reduce(random).finding(),
+        tried: Tried::Call(|random| Call::Reduce(reduce_case(random))),
     },
     Operation {
         name: "score",
         possible: &[0, 1, 2, 3, 4, 14, 15, 16, 18, 19],
-        label: answer_label,
-        find: score::find_score,
+        tried: Tried::Call(|random| Call::Score(score_case(random))),
     },
     Operation {
         name: "score_loose",
         possible: &[0, 1, 2, 3, 4, 14, 15, 16, 18, 19],
-        label: answer_label,
-        find: loose::find,
+        tried: Tried::Call(|random| Call::ScoreLoose(loose_case(random))),
     },
     Operation {
         name: "join_table",
         possible: &[0, 1, 2, 3, 4, 5, 6, 7, 11, 17, 18, 26],
-        label: answer_label,
-        find: |random| score::compare_join(random).finding(),
+        tried: Tried::Call(|random| Call::JoinTable(join_table_case(random))),
     },
     Operation {
         name: "export",
         possible: &[0, 1, 2, 3, 4, 14, 15, 16, 17],
-        label: answer_label,
-        find: |random| xml::compare_export(random).finding(),
+        tried: Tried::Call(|random| Call::Export(export_case(random))),
     },
     Operation {
         name: "import",
         possible: &[0, 1, 2, 3, 4, 14, 16, 17, 20],
-        label: answer_label,
-        find: |random| xml::compare_import(random).finding(),
+        tried: Tried::Call(|random| Call::Import(import_case(random))),
     },
     Operation {
         name: "block",
         possible: &[0, 1, 2, 3, 4, 14, 15, 16, 21, 22],
-        label: answer_label,
-        find: block::find,
+        tried: Tried::Call(|random| Call::Block(block_case(random))),
     },
     Operation {
         name: "index",
         possible: &[0, 1, 2, 3, 4, 14, 15, 16, 17, 22],
-        label: answer_label,
-        find: |random| edit::compare_index(random).finding(),
+        tried: Tried::Call(|random| Call::Index(index_case(random))),
     },
     Operation {
         name: "edit",
         possible: &[0, 1, 2, 3, 4, 14, 15, 16, 17, 21, 22, 25],
-        label: answer_label,
-        find: edit::find_edit,
+        tried: Tried::Call(|random| Call::Edit(edit_case(random))),
     },
     Operation {
         name: "mask",
         possible: &[0, 1, 2, 3, 4, 14, 15, 16, 17],
-        label: answer_label,
-        find: |random| mask::compare(random).finding(),
+        tried: Tried::Call(|random| Call::Mask(mask_case(random))),
     },
     Operation {
         name: "search",
         possible: &[0, 1, 2, 3, 4, 5, 6, 7, 14, 15, 16, 17, 23, 24, 26],
-        label: answer_label,
-        find: search::find,
+        tried: Tried::Call(|random| Call::Search(search_case(random))),
     },
     Operation {
         name: "laws",
         possible: &[0, 1, 2, 3, 4, 5, 6, 7, 8, 9, 10, 11, 12, 13],
-        label: |number| reference::laws::SAID[number].to_string(),
-        find: laws::find,
+        tried: Tried::Laws(laws::find, &reference::laws::SAID),
     },
     Operation {
         name: "edit_laws",
         possible: &[0, 1, 2, 3, 4, 5],
-        label: |number| reference::laws::edits::SAID[number].to_string(),
-        find: edit::find_laws,
+        tried: Tried::Laws(laws::find_edits, &reference::laws::edits::SAID),
     },
     Operation {
         name: "search_laws",
         possible: &[0, 1, 2, 3, 4, 5],
-        label: |number| reference::laws::search::SAID[number].to_string(),
-        find: search::find_laws,
+        tried: Tried::Laws(laws::find_searches, &reference::laws::search::SAID),
     },
     Operation {
         name: "mask_laws",
         possible: &[0, 1, 2, 3, 4],
-        label: |number| reference::laws::masks::SAID[number].to_string(),
-        find: mask::find_laws,
+        tried: Tried::Laws(laws::find_masks, &reference::laws::masks::SAID),
     },
     Operation {
         name: "loose_laws",
         possible: &[0, 1, 2, 3],
-        label: |number| reference::laws::loose::SAID[number].to_string(),
-        find: loose::find_laws,
+        tried: Tried::Laws(laws::find_loose, &reference::laws::loose::SAID),
     },
 ];
 
-/// What the number of an answer stands for.
-fn answer_label(number: usize) -> String {
-    format!("answer {number:2}")
-}
-
-impl Answer {
-    /// The answer of a check, which has no buffers.
-    fn of_check(number: u32) -> Answer {
-        Answer { number, length: 0, cost: 0, output: vec![], workspace: vec![] }
+impl Operation {
+    /// What a number stands for.
+    fn label(&self, number: usize) -> String {
+        match self.tried {
+            Tried::Call(_) => format!("answer {number:2}"),
+            Tried::Laws(_, said) => said[number].to_string(),
+        }
     }
-}
 
-/// Compares one check of a language.
-fn compare_check_language(random: &mut Random) -> Comparison {
-    let language = language_file(random);
-    Comparison {
-        library: Answer::of_check(library::check_language(&language)),
-        reference: Answer::of_check(reference::check_language(&language).number()),
-        inputs: vec![("language", Input::Bytes(language))],
-    }
-}
-
-/// Compares one check of a tree.
-fn compare_check_tree(random: &mut Random) -> Comparison {
-    let case = tree_case(random);
-    let expected = reference::check_tree(&case.language, case.root, &case.tree);
-    let found = library::check_tree(&case.language, case.root, &case.tree);
-    Comparison {
-        library: Answer::of_check(found),
-        reference: Answer::of_check(expected.number()),
-        inputs: vec![
-            ("language", Input::Bytes(case.language)),
-            ("root", Input::Number(u64::from(case.root))),
-            ("tree", Input::Bytes(case.tree)),
-        ],
-    }
-}
-
-/// Compares one check of a translation.
-fn compare_check_translation(random: &mut Random) -> Comparison {
-    let translation = translation_file(random);
-    let expected = reference::check_translation(&translation);
-    Comparison {
-        library: Answer::of_check(library::check_translation(&translation)),
-        reference: Answer::of_check(expected.number()),
-        inputs: vec![("translation", Input::Bytes(translation))],
+    /// Tries one case.
+    fn find(&self, random: &mut Random) -> Finding {
+        match self.tried {
+            Tried::Laws(find, _) => find(random),
+            Tried::Call(case) => {
+                let call = case(random);
+                compare(&call, random).finding()
+            }
+        }
     }
 }
 
@@ -259,102 +194,17 @@ fn marked_buffer(random: &mut Random, length: usize) -> Vec<u8> {
     (0..length).map(|place| start.wrapping_add((place % 251) as u8)).collect()
 }
 
-/// Compares one run, with the whole output.
-fn compare_run(random: &mut Random) -> Comparison {
-    let case = run_case(random);
-    let mut output = marked_buffer(random, case.output);
-    let mut library_output = output.clone();
-    let RunCase { translation, root, number, tree, .. } = &case;
-    let expected = reference::run(translation, *root, *number, tree, &mut output);
-    let found = library::run(translation, *root, *number, tree, &mut library_output);
-    Comparison {
-        library: Answer {
-            length: found.length,
-            cost: found.cost,
-            output: library_output,
-            ..Answer::of_check(found.number)
-        },
-        reference: Answer {
-            length: expected.length(),
-            cost: expected.cost,
-            output,
-            ..Answer::of_check(expected.number())
-        },
-        inputs: vec![
-            ("translation", Input::Bytes(case.translation)),
-            ("root", Input::Number(u64::from(case.root))),
-            ("number", Input::Number(u64::from(case.number))),
-            ("tree", Input::Bytes(case.tree)),
-            ("output length", Input::Number(case.output as u64)),
-        ],
-    }
-}
-
-/// Compares one reduction, with the whole output and workspace.
-fn compare_reduce(random: &mut Random) -> Comparison {
-    let case = reduce_case(random);
-    let mut output = marked_buffer(random, case.output);
-    let mut workspace = marked_buffer(random, case.workspace);
-    let (mut library_output, mut library_workspace) = (output.clone(), workspace.clone());
-    let expected = reference::reduce(&case.pack, &mut workspace, &mut output);
-    let found = library::reduce(&case.pack, &mut library_workspace, &mut library_output);
-    Comparison {
-        library: Answer {
-            length: found.length,
-            output: library_output,
-            workspace: library_workspace,
-            ..Answer::of_check(found.number)
-        },
-        reference: Answer {
-            length: expected.length(),
-            output,
-            workspace,
-            ..Answer::of_check(expected.number())
-        },
-        inputs: vec![
-            ("pack", Input::Bytes(case.pack)),
-            ("workspace length", Input::Number(case.workspace as u64)),
-            ("output length", Input::Number(case.output as u64)),
-        ],
-    }
-}
-
-mod laws {
-    use super::*;
-    use reference::generate::law_pack;
-    use reference::laws::{law_of_runs, law_of_sums, laws_of_joins, Answer, Operations, Said};
-
-    /// The operations of the library, with the least room to reduce.
-    const LIBRARY: Operations = Operations { reduce: &reduce, run: &run };
-
-    /// Reduces a pack.
-    fn reduce(pack: &[u8]) -> Answer {
-        let (mut workspace, mut output) = (vec![0xAA; 65_536], vec![0xBB; 4096]);
-        let answer = library::reduce(pack, &mut workspace, &mut output);
-        Answer::new(answer.number, answer.length, output)
-    }
-
-    /// Runs a translation by a number.
-    fn run(translation: &[u8], root: u32, number: u32, tree: &[u8], output: usize) -> Answer {
-        let mut output = vec![0xCC; output];
-        let answer = library::run(translation, root, number, tree, &mut output);
-        Answer::new(answer.number, answer.length, output)
-    }
-
-    /// What all laws say of one pack.
-    fn said(random: &mut Random) -> Result<Vec<Said>, Broken> {
-        let pack = law_pack(random);
-        let mut said = law_of_runs(&LIBRARY, random, &pack)?;
-        said.push(law_of_sums(&LIBRARY, random, &pack)?);
-        said.extend(laws_of_joins(&LIBRARY, random, &pack)?);
-        Ok(said)
-    }
-
-    /// Tests all laws on one pack.
-    pub fn find(random: &mut Random) -> Finding {
-        let said = said(random);
-        Finding::of_laws(said.map(|said| said.into_iter().map(|said| said as usize).collect()))
-    }
+/// Makes a call by both sides, with buffers that are alike.
+fn compare<'a>(call: &'a Call, random: &mut Random) -> Comparison<'a> {
+    let Buffers { workspace, output, index } = call.buffers();
+    let mut marked = |buffer: Vec<u8>| marked_buffer(random, buffer.len());
+    let buffers =
+        Buffers { workspace: marked(workspace), output: marked(output), index: marked(index) };
+    let by = |make: fn(&Call, &mut Buffers) -> Answer| {
+        let mut buffers = buffers.clone();
+        Side { answer: make(call, &mut buffers), buffers }
+    };
+    Comparison { call, library: by(Call::by_library), reference: by(Call::by_reference) }
 }
 
 impl Finding {
@@ -364,7 +214,7 @@ impl Finding {
             Ok(reached) => Finding { reached, long: false, numbered: false, difference: None },
             Err(broken) => {
                 let inputs = broken.inputs.into_iter();
-                let inputs = inputs.map(|(name, bytes)| Input::Bytes(bytes).line(name));
+                let inputs = inputs.map(|(name, bytes)| line(name, Input::Bytes(&bytes)));
                 let lines = [format!("  {}", broken.what)].into_iter().chain(inputs);
                 let difference = Some(lines.collect());
                 Finding { reached: vec![], long: false, numbered: false, difference }
@@ -448,58 +298,72 @@ fn first_difference(left: &[u8], right: &[u8]) -> Option<usize> {
     (0..left.len()).find(|&place| left[place] != right[place])
 }
 
-impl Input {
-    /// The line that shows the input.
-    fn line(&self, name: &str) -> String {
-        match self {
-            Input::Bytes(bytes) => {
-                format!("  {name} ({} bytes): {}", bytes.len(), hexadecimal(bytes))
-            }
-            Input::Number(number) => format!("  {name}: {number}"),
-        }
+/// The line that shows an input.
+fn line(name: &str, input: Input) -> String {
+    match input {
+        Input::Bytes(bytes) => format!("  {name} ({} bytes): {}", bytes.len(), hexadecimal(bytes)),
+        Input::Number(number) => format!("  {name}: {number}"),
     }
 }
 
-impl Comparison {
+impl Comparison<'_> {
     /// The answer that was reached, and the difference if there is one.
     fn finding(&self) -> Finding {
-        let difference = (self.library != self.reference).then(|| self.lines());
-        let reached = vec![self.reference.number as usize];
+        let differs = self.library != self.reference || self.runs_elsewhere();
+        let difference = differs.then(|| self.lines());
+        let reached = vec![self.reference.answer.number as usize];
         Finding { reached, long: self.has_long_tree(), numbered: self.is_numbered(), difference }
+    }
+
+    /// Whether one of the inputs with these names is so.
+    fn has(&self, names: &[&str], is: impl Fn(&[u8]) -> bool) -> bool {
+        let inputs = self.call.inputs().into_iter();
+        let mut named = inputs.filter(|(name, _)| names.contains(name));
+        named.any(|(_, input)| matches!(input, Input::Bytes(bytes) if is(bytes)))
     }
 
     /// Whether one of the inputs is a translation or a pack with other numbers than 0.
     fn is_numbered(&self) -> bool {
-        let numbered = |input: &Input| matches!(input, Input::Bytes(bytes) if has_numbers(bytes));
-        let named = |name: &str| ["translation", "pack"].contains(&name);
-        self.inputs.iter().any(|(name, input)| named(name) && numbered(input))
+        self.has(&["translation", "pack"], has_numbers)
     }
 
     /// Whether one of the inputs is a long tree, or a text that is as long.
     fn has_long_tree(&self) -> bool {
-        let long = |input: &Input| matches!(input, Input::Bytes(tree) if tree.len() >= LONG_TREE);
-        self.inputs.iter().any(|(name, input)| ["tree", "text"].contains(name) && long(input))
+        self.has(&["tree", "text"], |tree| tree.len() >= LONG_TREE)
+    }
+
+    /// Whether what a search has found does not run to its target.
+    fn runs_elsewhere(&self) -> bool {
+        let Call::Search(case) = self.call else { return false };
+        let Side { answer, buffers } = &self.library;
+        let found = buffers.output.get(..answer.length as usize).unwrap_or_default();
+        let run = || laws::run_to(&case.translation, case.root, found, case.tree.len());
+        answer.number == 0 && run() != (0, case.tree.clone())
     }
 
     /// The lines of a difference, with everything that is needed to repeat it.
     fn lines(&self) -> Vec<String> {
         let (library, reference) = (&self.library, &self.reference);
         let mut lines = vec![
-            format!("  library:   number {} length {}", library.number, library.length),
-            format!("  reference: number {} length {}", reference.number, reference.length),
+            format!("  library:   {:?}", library.answer),
+            format!("  reference: {:?}", reference.answer),
         ];
-        if library.cost != reference.cost {
-            lines.push(format!("  costs: library {}, reference {}", library.cost, reference.cost));
+        let (one, other) = (&library.buffers, &reference.buffers);
+        let outputs = [("output", &one.output, &other.output), ("index", &one.index, &other.index)];
+        for (name, one, other) in outputs {
+            if let Some(place) = first_difference(one, other) {
+                lines.push(format!("  {name} differs first at byte {place}"));
+                lines.push(format!("  library {name}:   {}", output_shown(one, place)));
+                lines.push(format!("  reference {name}: {}", output_shown(other, place)));
+            }
         }
-        if let Some(place) = first_difference(&library.output, &reference.output) {
-            lines.push(format!("  outputs differ first at byte {place}"));
-            lines.push(format!("  library output:   {}", output_shown(&library.output, place)));
-            lines.push(format!("  reference output: {}", output_shown(&reference.output, place)));
-        }
-        if let Some(place) = first_difference(&library.workspace, &reference.workspace) {
+        if let Some(place) = first_difference(&one.workspace, &other.workspace) {
             lines.push(format!("  workspaces differ first at byte {place}"));
         }
-        lines.extend(self.inputs.iter().map(|(name, input)| input.line(name)));
+        if self.runs_elsewhere() {
+            lines.push("  what is found does not run to the target".to_string());
+        }
+        lines.extend(self.call.inputs().into_iter().map(|(name, input)| line(name, input)));
         lines
     }
 }
@@ -564,7 +428,7 @@ fn compare_some(
             eprintln!("{}, seed {}, case {case}", operation.name, request.seed);
         }
         let mut random = Random::new(case_seed(request.seed, operation, case));
-        found.add(case, (operation.find)(&mut random));
+        found.add(case, operation.find(&mut random));
     }
     found
 }
@@ -610,7 +474,7 @@ fn print_some(operation: &Operation, what: &str, reached: &[u64; NUMBERS]) {
     }
     println!("  {what}: {cases}, of which");
     for number in (0..NUMBERS).filter(|&number| reached[number] > 0) {
-        println!("    {}: {:8}", (operation.label)(number), reached[number]);
+        println!("    {}: {:8}", operation.label(number), reached[number]);
     }
 }
 
@@ -618,7 +482,7 @@ fn print_some(operation: &Operation, what: &str, reached: &[u64; NUMBERS]) {
 fn print_reached(operation: &Operation, reached: &[u64; NUMBERS]) -> u64 {
     let mut missing = 0;
     for &number in operation.possible {
-        let label = (operation.label)(number);
+        let label = operation.label(number);
         println!("  {label}: {:8}", reached[number]);
         if reached[number] == 0 {
             println!("MISSING: {} never reached {label}", operation.name);

@@ -130,8 +130,13 @@ impl<'a> Between<'a> {
         let Some(class) = class_of(self.source, source) else { return Ok(()) };
         match class_of(self.target, target) {
             Some(wider) if wider.contains(&class) => Ok(()),
-            _ => fault(format!(
-                "the class {} is mapped to {}, which does not contain it",
+            Some(other) => fault(format!(
+                "class {source} of {} is mapped to class {target} of {}, which does not contain it",
+                class.range(),
+                other.range()
+            )),
+            None => fault(format!(
+                "class {source} of {} is mapped to {}; it must be mapped to a class",
                 class.range(),
                 kind_in(self.target, target)
             )),

@@ -127,15 +127,27 @@ fn sum_size_fault(first: &Translation, second: &Translation) -> Option<String> {
 /// Why two translations have no join, or one that exceeds a limit; the inner one runs first.
 pub fn join_fault(outer: &Translation, inner: &Translation) -> Option<String> {
     high_number(outer, inner)
-        .or_else(|| class_outside(&inner.target, &outer.source))
-        .or_else(|| production_outside(&inner.target, &outer.source))
+        .or_else(|| outside(outer, inner))
         .or_else(|| join_size_fault(outer, inner))
+}
+
+/// What keeps the second operand's target from lying within the first's source, and whether the
+/// operands would fit the other way round.
+fn outside(outer: &Translation, inner: &Translation) -> Option<String> {
+    let found = |target: &Language, source: &Language| {
+        class_outside(target, source).or_else(|| production_outside(target, source))
+    };
+    let what = found(&inner.target, &outer.source)?;
+    Some(match found(&outer.target, &inner.source) {
+        None => format!("{what}; the other way round the operands fit"),
+        Some(_) => what,
+    })
 }
 
 /// A number of a join's operand that is above 15.
 fn high_number(outer: &Translation, inner: &Translation) -> Option<String> {
-    let named = [("first", outer), ("second", inner)].into_iter();
-    let (name, operand) = named.filter(|(_, operand)| has_high_number(operand)).next()?;
+    let mut named = [("first", outer), ("second", inner)].into_iter();
+    let (name, operand) = named.find(|(_, operand)| has_high_number(operand))?;
     let highest = operand.body.others.iter().max_by_key(|other| other.number)?;
     let (kind, number) = (highest.kind, highest.number);
     Some(format!("kind {kind} of the {name} operand has number {number}, which is above 15"))

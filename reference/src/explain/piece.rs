@@ -111,7 +111,14 @@ impl<'a> Piece<'a> {
 
     /// A fault of the piece that no byte shows.
     pub fn fault_somewhere(&self, reason: Refusal, what: String) -> Fault {
-        Fault { reason, input: self.input, byte: None, within: self.within.clone(), what }
+        Fault {
+            reason,
+            input: self.input,
+            byte: None,
+            within: self.within.clone(),
+            what,
+            hint: None,
+        }
     }
 
     /// Refuses a piece of more than so many bytes.

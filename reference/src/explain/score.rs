@@ -1,25 +1,33 @@
 //! Faults of scores, and of load tables joined onto translations.
 
-use super::tree::{check_rooted, place_name};
+use super::nodes::place_name;
+use super::tree::check_rooted;
 use super::{language, table, translation, translation_pieces, Fault, Piece, Spot};
 use crate::body::CLAUSE_TAG;
 use crate::code::Symbol;
 use crate::grammar::Grammar;
+use crate::language::Language;
 use crate::outcome::Refusal;
 use crate::score::{joined_table, Form, Table, LEAST_SCORE, MOST_SCORE};
 use crate::translation::{read_translation, Translation};
 
 /// Looks for any fault of a language, a load table, a root and a tree, and of the scores in it.
 pub fn check(bytes: &[u8], root: u32, tree: &[u8], table: &[u8]) -> Result<(), Fault> {
+    let (language, table) = language_and_table(bytes, table)?;
+    let root = check_rooted(&language, "language", root, tree)?;
+    let (grammar, piece) = (Grammar::new(&language), Piece::whole("tree", tree));
+    let mut scorer = Scorer { grammar: &grammar, table: &table, piece, at: 0, path: vec![] };
+    scorer.score(root).map(|_| ())
+}
+
+/// A language and a load table of it, each without a fault.
+pub fn language_and_table(bytes: &[u8], table: &[u8]) -> Result<(Language, Table), Fault> {
     let piece = Piece::whole("language", bytes);
     language::check(&piece)?;
     let language = translation::decoded(&piece)?;
     table::check(&language, table)?;
-    let root = check_rooted(&language, "language", root, tree)?;
     let table = Table::read(&language, table).map_err(|reason| vague(reason, "table"))?;
-    let (grammar, piece) = (Grammar::new(&language), Piece::whole("tree", tree));
-    let mut scorer = Scorer { grammar: &grammar, table: &table, piece, at: 0, path: vec![] };
-    scorer.score(root).map(|_| ())
+    Ok((language, table))
 }
 
 /// A fault that no place is known of.

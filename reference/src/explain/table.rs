@@ -18,6 +18,13 @@ pub fn check(language: &Language, table: &[u8]) -> Result<(), Fault> {
     spots.next().map_or(Ok(()), |spot| Err(line_fault(&piece, &spot, too_many(language, &spot))))
 }
 
+/// Looks for a fault of a table without its language: its lines must be whole, and rise.
+pub fn check_rising(table: &[u8]) -> Result<(), Fault> {
+    let piece = Piece::whole("table", table);
+    table_spots(&piece)?;
+    piece.check_order().map_err(|fault| Fault { reason: Refusal::Table, ..fault })
+}
+
 /// The fields of a table, which must be whole and lines of some production.
 pub(crate) fn table_spots<'a>(piece: &Piece<'a>) -> Result<Vec<Spot<'a>>, Fault> {
     if piece.bytes.len() > TABLE_LIMIT {

@@ -160,6 +160,16 @@ impl Reader<'_> {
         Ok(sign)
     }
 
+    /// What is said of a number that no body has: a sign there was perhaps meant to follow.
+    fn no_body(&self, number: u8) -> String {
+        match Sort::of(number) {
+            Some(_) => format!(
+                "sign 50 ends with the number of its body, and the sign {number:02X} stands here"
+            ),
+            None => format!("the pack has no body {number}"),
+        }
+    }
+
     /// Reads the number of a sign that has one.
     fn number(&mut self, named: Option<Named>) -> Result<Option<u8>, Fault> {
         let Some(named) = named else { return Ok(None) };
@@ -168,7 +178,7 @@ impl Reader<'_> {
         };
         let (limit, what) = match named {
             Named::Constant => (self.languages, format!("the pack has no language {number}")),
-            Named::Body => (self.bodies, format!("the pack has no body {number}")),
+            Named::Body => (self.bodies, self.no_body(number)),
             Named::Variable => (VARIABLES, format!("variable {number} is above {}", VARIABLES - 1)),
         };
         if usize::from(number) >= limit {

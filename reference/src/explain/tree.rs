@@ -1,20 +1,12 @@
 //! Faults of trees, and of runs.
 
-use super::{language, translation, Fault, Piece};
+use super::{language, nodes, translation, Fault, Piece};
 use crate::grammar::Grammar;
-use crate::language::{Class, Language};
+use crate::language::Language;
 use crate::outcome::Refusal;
 use crate::run::{result_length, root_rank};
 use crate::translation::Translation;
-use crate::tree::{root_kind, TREE_LEVELS};
-
-/// Reads a tree from left to right and knows the path to the node that it reads.
-struct Reader<'a> {
-    grammar: &'a Grammar<'a>,
-    piece: Piece<'a>,
-    at: usize,
-    path: Vec<usize>,
-}
+use crate::tree::root_kind;
 
 /// Looks for any fault of a language, a root and a tree.
 pub fn check(language: &[u8], root: u32, tree: &[u8]) -> Result<(), Fault> {
@@ -61,81 +53,9 @@ pub fn known_root(language: &Language, name: &str, root: u32) -> Result<u8, Faul
     })
 }
 
-/// What the node at a path is called.
-pub fn place_name(path: &[usize]) -> String {
-    let numbers: Vec<String> = path.iter().map(usize::to_string).collect();
-    match numbers.is_empty() {
-        true => "the root".to_string(),
-        false => format!("path {}", numbers.join(".")),
-    }
-}
-
 /// Looks for a fault of the root and the tree; gives the root as a kind.
 pub fn check_rooted(language: &Language, name: &str, root: u32, tree: &[u8]) -> Result<u8, Fault> {
     let kind = known_root(language, name, root)?;
-    let (grammar, piece) = (Grammar::new(language), Piece::whole("tree", tree));
-    let mut reader = Reader { grammar: &grammar, piece, at: 0, path: vec![] };
-    reader.read(kind, TREE_LEVELS)?;
-    let left = tree.len() - reader.at;
-    if left > 0 {
-        let what = format!("more bytes follow the tree: {left}");
-        return Err(reader.piece.fault(Refusal::Tree, reader.at, what));
-    }
+    nodes::check_tree(&Grammar::new(language), kind, tree)?;
     Ok(kind)
-}
-
-impl Reader<'_> {
-    /// Reads a tree of a kind with so many levels left.
-    fn read(&mut self, kind: u8, levels: usize) -> Result<(), Fault> {
-        match self.grammar.class(kind) {
-            Some(class) => self.read_token(class),
-            None => self.read_production(kind, levels),
-        }
-    }
-
-    /// Reads a token of a class.
-    fn read_token(&mut self, class: Class) -> Result<(), Fault> {
-        let kind = class.kind;
-        let Some(&[high, low]) = self.piece.bytes.get(self.at..self.at + 2) else {
-            return self.fault(Refusal::Tree, format!("the tree ends in a token of class {kind}"));
-        };
-        let value = u16::from_be_bytes([high, low]);
-        if !class.has(value) {
-            let what = format!("the token {value} is not in class {kind}: {}", class.range());
-            return self.fault(Refusal::Tree, what);
-        }
-        self.at += 2;
-        Ok(())
-    }
-
-    /// Reads a production and its arguments.
-    fn read_production(&mut self, kind: u8, levels: usize) -> Result<(), Fault> {
-        if levels == 0 {
-            let what = format!("a block at level {} is over {TREE_LEVELS}", TREE_LEVELS + 1);
-            return self.fault(Refusal::Depth, what);
-        }
-        let Some(&name) = self.piece.bytes.get(self.at) else {
-            return self.fault(Refusal::Tree, format!("the tree ends where kind {kind} is needed"));
-        };
-        let Some(place) = self.grammar.place(kind, name) else {
-            return self.fault(Refusal::Tree, format!("there is no production {kind}.{name}"));
-        };
-        self.at += 1;
-        self.read_arguments(self.grammar.production(place).arguments(), levels - 1)
-    }
-
-    /// Reads arguments, each with its number at the end of the path.
-    fn read_arguments(&mut self, arguments: &[u8], levels: usize) -> Result<(), Fault> {
-        for (place, &kind) in arguments.iter().enumerate() {
-            self.path.push(place + 1);
-            self.read(kind, levels)?;
-            self.path.pop();
-        }
-        Ok(())
-    }
-
-    /// A fault at the node that is read.
-    fn fault(&self, reason: Refusal, what: String) -> Result<(), Fault> {
-        Err(self.piece.named(place_name(&self.path)).fault(reason, self.at, what))
-    }
 }

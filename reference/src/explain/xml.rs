@@ -1,6 +1,7 @@
 //! Faults of exports, and of texts that are imported.
 
-use super::tree::{check, known_root, place_name};
+use super::nodes::place_name;
+use super::tree::{check, known_root};
 use super::{language, translation, Fault, Piece};
 use crate::grammar::Grammar;
 use crate::language::Class;
@@ -88,11 +89,7 @@ impl Reader<'_> {
         let (start, name) = (self.at, self.read_number()?);
         let place = u8::try_from(name).ok().and_then(|name| self.grammar.place(kind, name));
         let Some(place) = place else {
-            return self.fault(
-                Refusal::Text,
-                start,
-                format!("there is no production {kind}.{name}"),
-            );
+            return self.fault(Refusal::Text, start, self.grammar.no_production(kind, name));
         };
         self.expect(">")?;
         self.length += 1;

@@ -1,6 +1,6 @@
 -- The index of a body, in the form of a language's: for the key of an item of number 0 the place of its field in the body's
 -- bytes, and one more; 0 where there is no such item. Beside it the table of what kinds map to by number.
-use Prim.Native.Nat.{ℕ, zero, suc, _+_, _<_, _≤_}
+use Prim.Native.Nat.{ℕ, zero, suc, _+_, _-_, _*_, _<_, _≤_}
 use mathlib.Core.Path.{_≡_}
 use mathlib.Core.Bool.{Bool, true, cond, not}
 use mathlib.Core.List.{List}
@@ -46,6 +46,10 @@ pub record IndexedItems (index s : List ℕ) (b : Body) : Type 0 where
 -- The table of what kinds map to by number, of body b.
 pub record Mapped (uses : List ℕ) (b : Body) : Type 0 where
   pub is : (k j : ℕ) → k < 32 → j < 256 → mappedIn uses k j ≡ mappingOf b k j
+
+-- The kind that kind k maps to by number j, by such a table; 0 where it is not mapped.
+unfoldable pub mappedBy : List ℕ → ℕ → ℕ → ℕ
+mappedBy uses k j = getD uses (k * 256 + j) 0 - 1
 
 -- The kind that kind k maps to by number 0, looked up; 0 where it is not mapped.
 unfoldable pub mappedAt : List ℕ → List ℕ → ℕ → ℕ

@@ -95,6 +95,14 @@ pub data ItemFacts (s : List ℕ) (p : ℕ) : Type 0 where
 abbrev pub isClauseTag : ℕ → Bool
 isClauseTag tag = eqb tag 0x23 || eqb tag 0x29
 
+-- Where the code of the clause at p starts: behind its number, where it has one.
+unfoldable pub codeStart : List ℕ → ℕ → ℕ
+codeStart s p = cond (eqb (byteAt s p) 0x29) (p + 6) (p + 5)
+
+-- The number of the clause at p.
+unfoldable pub clauseNumber : List ℕ → ℕ → ℕ
+clauseNumber s p = cond (eqb (byteAt s p) 0x29) (byteAt s (p + 5)) 0
+
 -- The fields at places are whole items, and no mapping stands after a clause; the second argument says whether one has come.
 unfoldable pub itemsWhole : List ℕ → Bool → List ℕ → Bool
 itemsWhole s past [] = true

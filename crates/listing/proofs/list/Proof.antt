@@ -1,6 +1,6 @@
 use borrow.Author.Needs.{needs}
 use native.Mathlib.Omega.{arith}
-use Rattle.listing.proofs.Putting.{zeros}
+use Rattle.program_text.proofs.Putting.{zeros}
 use Rattle.listing.proofs.WholeText.{length-within, text-is, counts}
 use Rattle.listing.proofs.list.Statement.{statement}
 use Rattle.listing.proofs.list.Tie as tie

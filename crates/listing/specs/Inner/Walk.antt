@@ -11,7 +11,8 @@ use Rattle.outcome.specs.Outcome.{reasonNumber}
 use Rattle.outcome.specs.declared.Outcome.{Outcome}
 use Rattle.outcome.specs.declared.Outcome.the-variants.{Accepted, Refused}
 use Rattle.format_fields.specs.Inner.Places.{isWhole, contentsAt, places}
-use Rattle.listing.specs.Text.{acceptedWord, refusedWord, firstLine, clauseLine, numberedLine}
+use Rattle.program_text.specs.Text.{acceptedWord, refusedWord, firstLine}
+use Rattle.listing.specs.Text.{clauseLine, numberedLine}
 
 -- The line of a clause of number 0, from the contents of its field: result, name, code.
 unfoldable pub contentsLine : List ℕ → List ℕ

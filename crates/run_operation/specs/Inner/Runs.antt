@@ -19,8 +19,6 @@ use Rattle.format_translation.specs.Operations.{fitted}
 use Rattle.run_measure.specs.Cost.{cost}
 use Rattle.run_measure.specs.declared.measure.Measured.{Measured}
 use Rattle.run_measure.specs.Inner.Measuring.{EndsIn, sizedAt, sizedOf}
-use Rattle.run_table.specs.Inner.Table.{Ready, Checked}
-use Rattle.tree_reader.specs.Inner.Index.{Built}
 use Rattle.run_emit.specs.Inner.Runs.{Right}
 use Rattle.run_operation.specs.Operations.{reported}
 
@@ -56,9 +54,3 @@ pub record Measures (ends : List ℕ) (f : Translation) (kind number : ℕ) (byt
   pub is : (u : ℕ) → mappingOf (f .body) kind number ≡ some u → sizedAt bytes r ≡ sizedOf top f number (read tree (f .source) [] 64 kind bytes)
   pub within : EndsIn (length bytes) top r
   pub kept : Right Tree ends bytes (f .source) []
-
--- The table of a translation f that was accepted, whose parts are s, t and b: it is filled, and the source's index stands in it.
-pub record Prepared (s t b table : List ℕ) (f : Translation) : Type 0 where
-  pub checked : Checked s t b f
-  pub ready : Ready table f
-  pub index : Built 0x11 s table 0

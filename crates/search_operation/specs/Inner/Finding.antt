@@ -16,6 +16,7 @@ use Rattle.tree_reader.specs.Inner.Index.{Built}
 use Rattle.run_table.specs.Inner.Table.{Checked, Ready}
 use Rattle.search_levels.specs.Inner.Setting.{Unnamed}
 use Rattle.format_translation.specs.Plain.{plain}
+use Rattle.format_translation.specs.Inner.ItemIndex.{Mapped as UsesOf}
 use Rattle.tree_index.specs.Inner.Lying.{Index, Lies}
 use Rattle.search_sources.specs.Operations.{isLimit, foundIn, workspaceAfter}
 
@@ -45,6 +46,14 @@ pub record Placed (target places bytes : List ℕ) (k : ℕ) (f : Translation) (
   pub narrow : (i : ℕ) → getD bytes i 0 < 256
   pub lies : Lies (f .target) bytes 0 (mapped (f .body) k 0) u
   pub whole : bytes ≡ write tree u
+
+-- A translation that is searchable, its table, and what kinds map to by number.
+pub record Tabled (table uses source target : List ℕ) (f : Translation) : Type 0 where
+  pub body : List ℕ
+  pub searchable : Searchable source target body f
+  pub ready : Ready table f
+  pub built : Built 0x11 source table 0
+  pub uses-of : UsesOf uses (f .body)
 
 -- All that a search looks things up in is filled.
 pub record Opened (table source target places kinds bytes : List ℕ) (k : ℕ) (f : Translation) (u : Code) : Type 0 where

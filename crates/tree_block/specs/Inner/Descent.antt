@@ -1,14 +1,14 @@
 -- What the steps along a path ask for and give.
-use Prim.Native.Nat.{ℕ, _+_, _/_, _%_, _^_, _<_, _≤_}
+use Prim.Native.Nat.{ℕ, _+_, _<_, _≤_}
 use mathlib.Core.Path.{_≡_}
 use mathlib.Core.Bool.{Bool}
 use mathlib.Core.List.{List, _++_}
 use mathlib.Core.Option.{Option, none, some}
 use lib.ListN.{length, drop}
-use lib.Dec.{eqb}
 use Rattle.format_language.specs.Language.{Language}
 use Rattle.tree_reader.specs.Code.{Code, Codes}
 use Rattle.tree_reader.specs.Syntax.{writeAll, tree}
+use Rattle.format_card.specs.Inner.Sets.{inSet}
 use Rattle.tree_index.specs.Spans.{Span, spansAll, entries}
 use Rattle.tree_index.specs.Operations.{longest}
 use Rattle.tree_index.specs.Inner.Lying.{There, Row}
@@ -16,10 +16,6 @@ use Rattle.tree_index.specs.Inner.Starts.{Behind, Entered}
 use Rattle.tree_block.specs.Blocks.{Block, blockOf, Reached, reached, nowhere, hidden}
 use Rattle.tree_block.specs.declared.descent.Step.{Step}
 use Rattle.tree_block.specs.declared.descent.Step.the-variants.{To, Nowhere, Unseen}
-
--- A set of kinds as a number: kind k is in it where its bit k is 1.
-unfoldable pub inSet : (set k : ℕ) → Bool
-inSet set k = eqb (set / 2 ^ k % 2) 1
 
 -- The set holds the kinds that may be seen.
 abbrev pub SetOf : ℕ → (ℕ → Bool) → Type 0

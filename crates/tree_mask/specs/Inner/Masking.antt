@@ -2,17 +2,15 @@
 use Prim.Native.Nat.{ℕ, _+_, _≤_}
 use mathlib.Core.Path.{_≡_}
 use mathlib.Core.List.{List, []}
-use mathlib.Core.Option.{some}
 use lib.ListN.{length, drop}
 use lib.Seq.{slice}
 use Rattle.outcome.specs.Outcome.{_>>=_}
 use Rattle.format_fields.specs.Inner.Writing.{spliced}
 use Rattle.outcome.specs.declared.Outcome.{Outcome}
 use Rattle.format_language.specs.Language.{Language}
-use Rattle.format_language.specs.LanguageFile.{entriesOf}
 use Rattle.tree_reader.specs.Code.{Code, Codes}
 use Rattle.tree_reader.specs.Syntax.{done, read, readAll, tree}
-use Rattle.tree_reader.specs.Operations.{treeLevels, wholeTree, treeOf}
+use Rattle.tree_reader.specs.Operations.{treeLevels, wholeTree}
 use Rattle.tree_reader.specs.Inner.Index.{Indexed}
 use Rattle.format_translation.specs.Operations.{fitted}
 use Rattle.format_card.specs.Card.{Card}
@@ -65,9 +63,3 @@ abbrev pub GivesTree : List ℕ → List ℕ → ℕ → ℕ → List ℕ → Li
 GivesTree s index kinds k b before after outcome =
     (l : Language) (card : Card) → Indexed index s l → Holds kinds card
     → Gives (wholeTree (read tree l [] treeLevels k b) >>= λ t. fitted (length before) (masked l card k t)) before after outcome
-
--- The same, where it is looked whether the kind is in the language.
-abbrev pub GivesKind : List ℕ → ℕ → ℕ → List ℕ → List ℕ → List ℕ → Outcome → Type 0
-GivesKind s kinds k b before after outcome =
-    (l : Language) (card : Card) → entriesOf s ≡ some l → Holds kinds card
-    → Gives (treeOf l k b >>= λ t. fitted (length before) (masked l card k t)) before after outcome

@@ -12,6 +12,10 @@ use Rattle.tree_reader.specs.Inner.Index.{Indexed}
 use Rattle.format_card.specs.Card.{Card, sees}
 use Rattle.format_card.specs.Inner.Sets.{Holds}
 use Rattle.tree_mask.specs.Mask.{masked, maskedAll}
+use Rattle.tree_mask.specs.Inner.Rows.{nextRow, Walkable, Nearer}
+use Rattle.tree_mask.specs.declared.row.Row.{Row}
+use Rattle.tree_mask.specs.declared.measure.Next.{Next}
+use Rattle.tree_mask.specs.declared.measure.Next.the-variants.{Go, Stop}
 use Rattle.tree_mask.specs.declared.measure.Measured.{Measured}
 use Rattle.tree_mask.specs.declared.measure.Measured.the-variants.{End, Deep, Broken}
 
@@ -45,7 +49,21 @@ MeasuresTrees s index kinds q p b at levels n r =
     (l : Language) (card : Card) → Indexed index s l → Holds kinds card
     → Measures (maskedAll l card (slice q p s)) (readAll (read tree l [] levels) (slice q p s) (drop at b)) b n r
 
--- What the trees that are left come to, whose kinds stand from q up to p, is what all come to.
-abbrev pub Goes : List ℕ → List ℕ → ℕ → ℕ → ℕ → List ℕ → ℕ → ℕ → ℕ → ℕ → ℕ → ℕ → ℕ → ℕ → Type 0
-Goes s index kinds from stop b at levels n q p to left m =
-    (r : Measured) → MeasuresTrees s index kinds q p b to left m r → MeasuresTrees s index kinds from stop b at levels n r
+-- The trees of a row.
+abbrev pub MeasuresRow : List ℕ → List ℕ → ℕ → List ℕ → Row → Measured → Type 0
+MeasuresRow s index kinds b row r = MeasuresTrees s index kinds (row .kind) (row .stop) b (row .tree) (row .levels) (row .text) r
+
+-- What the trees of the row `next` come to is what those of `row` come to.
+abbrev pub Goes : List ℕ → List ℕ → ℕ → List ℕ → Row → Row → Type 0
+Goes s index kinds b row next = (r : Measured) → MeasuresRow s index kinds b next r → MeasuresRow s index kinds b row r
+
+-- What is next once the next tree of a row was measured: the row behind it, or the answer.
+unfoldable pub passed : Row → Measured → Next
+passed row (End e m) = Go (nextRow row e m)
+passed row Deep = Stop Deep
+passed row Broken = Stop Broken
+
+-- A step of the walk: a row with less to go that comes to the same, or what the row comes to.
+abbrev pub Steps : List ℕ → List ℕ → ℕ → List ℕ → Row → Next → Type 0
+Steps s index kinds b row (Go next) = Walkable s index b next × Nearer row next × Goes s index kinds b row next
+Steps s index kinds b row (Stop r) = Within b r × MeasuresRow s index kinds b row r

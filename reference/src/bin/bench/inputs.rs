@@ -124,7 +124,7 @@ fn put_token(random: &mut Random, tree: &mut Vec<u8>) {
 }
 
 pub mod runs {
-    use super::{field, tree_language};
+    use super::{field, production, tree_language};
 
     /// A translation of the tree language into itself with these five codes.
     fn translation(codes: [&[u8]; 5]) -> Vec<u8> {
@@ -163,6 +163,33 @@ pub mod runs {
     pub fn dropping() -> Vec<u8> {
         let eight = [1, 8, 3, 2, 1, 0, 3, 4, 1, 0, 3, 6, 1, 0, 3, 8, 1, 0];
         translation([LEAF, ONE, &[3, 2], THREE, &eight])
+    }
+
+    /// The tree language with a production 1.4 of one argument, into itself: 1.4 becomes a pair of its
+    /// argument, the first of a pair is dropped.
+    pub fn dropping_doubled() -> Vec<u8> {
+        let source = [
+            field(0x11, &[2, 0, 0, 0xFF, 0xFF]),
+            production(1, 0, &[]),
+            production(1, 1, &[2]),
+            production(1, 2, &[1, 1]),
+            production(1, 4, &[1]),
+        ];
+        let mut bytes = field(0x20, &source.concat());
+        bytes.extend(field(0x21, &tree_language()));
+        bytes.extend([[1, 1], [2, 2]].map(|kinds| field(0x22, &kinds)).concat());
+        let codes: [(u8, &[u8]); 4] = [(0, LEAF), (1, ONE), (2, &[3, 2]), (4, &[1, 2, 3, 1, 3, 1])];
+        for (name, code) in codes {
+            bytes.extend(field(0x23, &[&[1, name], code].concat()));
+        }
+        bytes
+    }
+
+    /// A tree of exactly so many bytes, an odd number, and few levels.
+    pub fn flat(bytes: usize) -> Vec<u8> {
+        let mut tree = Vec::new();
+        put_flat(bytes, &mut tree);
+        tree
     }
 
     /// A tree of 60 levels: links with two tokens each and a leaf.

@@ -9,11 +9,13 @@
 
 mod block;
 mod clock;
+mod dropped;
 mod inputs;
 mod mask;
 mod measure;
 mod score;
 mod search;
+mod sessions;
 mod xml;
 
 use algebra::raw as library;
@@ -246,11 +248,12 @@ mod reduce {
 }
 
 /// What can be timed, by name.
-const SECTIONS: [(&str, fn()); 11] = [
+const SECTIONS: [(&str, fn()); 13] = [
     ("check_language", bench_check_language),
     ("check_tree", bench_check_tree),
     ("check_translation", bench_check_translation),
     ("run", run::bench),
+    ("dropped", dropped::bench),
     ("numbers", run::bench_numbers),
     ("reduce", reduce::bench),
     ("score", score::bench),
@@ -258,6 +261,7 @@ const SECTIONS: [(&str, fn()); 11] = [
     ("block", block::bench),
     ("mask", mask::bench),
     ("search", search::bench),
+    ("sessions", sessions::bench),
 ];
 
 /// Says which sections there are, and ends.

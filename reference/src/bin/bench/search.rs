@@ -3,6 +3,7 @@
 use crate::measure::{compare, growth, repeated};
 use crate::{print_growth_of, print_line};
 use algebra::raw as library;
+use algebra::SEARCH_WORKSPACE as WORKSPACE_FOR_A_BYTE;
 use reference::files::{clause, mapping, production, translation};
 use reference::generate::Random;
 use std::hint::black_box;
@@ -10,17 +11,15 @@ use std::hint::black_box;
 /// The root kind of the searches, and the greatest limit.
 const ROOT: u32 = 1;
 const LIMIT: u32 = 16;
-/// The bytes of workspace for a byte of the tree with which the time is bounded.
-const WORKSPACE_FOR_A_BYTE: usize = 32;
 /// An output that is long enough for what is found.
 const OUTPUT: usize = 4 << 20;
 
 /// Names of the target, whose kind is 1: a leaf, a link, a pair, eight blocks, and another leaf.
-const LEAF: u8 = 0;
+pub const LEAF: u8 = 0;
 const LINK: u8 = 1;
 const PAIR: u8 = 2;
 const EIGHT: u8 = 8;
-const OTHER: u8 = 9;
+pub const OTHER: u8 = 9;
 
 /// The kinds of the source that lead to each other by bare arguments.
 const CYCLE: [u8; 8] = [1, 3, 4, 5, 6, 7, 8, 9];
@@ -46,7 +45,7 @@ fn into_target(entries: &[Entry], kinds: &[u8]) -> Vec<u8> {
 
 /// Every kind leads to every other by a bare argument, and every production of the target but one
 /// leaf is made; a tree with that leaf has no source.
-fn cycles() -> Vec<u8> {
+pub fn cycles() -> Vec<u8> {
     let entries = CYCLE.iter().flat_map(|&kind| {
         let bare = (20..).zip(CYCLE).map(move |(name, of)| (kind, name, vec![of], vec![3, 1]));
         let first = (kind, LEAF, vec![], kept(LEAF, 0));
@@ -58,7 +57,7 @@ fn cycles() -> Vec<u8> {
 }
 
 /// A tree of exactly so many bytes, of leaves, links and eight blocks, which ends in a leaf.
-fn wide(random: &mut Random, bytes: usize, last: u8) -> Vec<u8> {
+pub fn wide(random: &mut Random, bytes: usize, last: u8) -> Vec<u8> {
     match bytes {
         ..2 => vec![last],
         2..9 => [vec![LINK], wide(random, bytes - 1, last)].concat(),

@@ -18,7 +18,7 @@ abbrev μ-loop : tie.MeasureT-loop
 μ-loop table uses kinds₀ kind₀ kinds kind = 32 - kind
 
 loop-holds : tie.Need-loop-holds Inv-loop μ-loop
-loop-holds c = (refl, listed-start _ _ _ (c .before .before .pre))
+loop-holds c = (refl, listed-start _ _ _ (c .before .pre))
 
 mapped-kind-requires : tie.Need-mapped-kind-requires Inv-loop μ-loop
 mapped-kind-requires c κs = c .loop-test .taken

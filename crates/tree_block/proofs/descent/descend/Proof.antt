@@ -6,14 +6,15 @@ use borrow.Author.Needs.{needs}
 use borrow.Author.Tests.{not-true, not-false}
 use Rattle.format_language.specs.Language.{Language}
 use Rattle.tree_reader.specs.Code.{Code}
-use Rattle.tree_block.specs.Inner.Descent.{inSet, SetOf, Along}
+use Rattle.tree_block.specs.Inner.Descent.{SetOf, Along}
 use Rattle.tree_block.proofs.Paths.{Going, along-kind, path-hidden, path-done, path-stops, path-next}
 use Rattle.tree_block.proofs.descent.descend.Statement.{statement}
 use Rattle.tree_block.proofs.descent.descend.Tie as tie
 use Rattle.tree_block.proofs.descent.descend.Reads as reads
 use Rattle.tree_block.proofs.descent.descend.Lts as lts
 use Rattle.tree_block.proofs.descent.argument.Reads as argument-reads
-use Rattle.tree_block.proofs.descent.in_set.Reads as in-set-reads
+use Rattle.format_card.proofs.set.in_set.Reads as in-set-reads
+use Rattle.format_card.specs.Inner.Sets.{inSet}
 
 abbrev Inv-loop : tie.InvT-loop
 Inv-loop language places kind tree index path seen at₀ of₀ p₀ i₀ at of p i =

@@ -1,6 +1,6 @@
 use mathlib.Core.Path.{refl}
 use native.Mathlib.Omega.{arith}
-use Rattle.tree_block.specs.Inner.Descent.{inSet}
+use Rattle.format_card.specs.Inner.Sets.{inSet}
 use Rattle.tree_edit.proofs.Planning.{path-nowhere, path-unseen, path-entry, path-reaches, path-given}
 use borrow.Author.Needs.{needs}
 use Rattle.tree_edit.proofs.edit.edit_legal.Statement.{statement}

@@ -16,7 +16,7 @@ put-entry-requires : tie.Need-put-entry-requires
 put-entry-requires c κs = let p = c .before .before .before .before .before .operands-at .ensures (c .before .before .before .before .before .before .before .before .before .before .pre .2 .0) (c .before .before .before .before .before .before .before .before .before .before .pre .2 .1) (c .before .before .before .before .before .before .before .before .before .before .pre .2 .2) in let y = tree-inside _ _ _ _ (c .before .before .before .before .before .before .before .before .before .before .pre .2 .0) (c .before .before .before .before .before .before .before .before .before .before .pre .2 .1) _ _ _ p _ _ _ _ _ (c .before .before .before .write-row .ensures (c .before .before .before .before .before .before .before .before .before .before .pre .2 .0) (p .operands) (p .row)) in (omega (arith, c .before .before .before .before .before .before .before .before .before .before .pre .0), omega (arith, y, c .before .before .before .before .before .before .before .before .before .before .pre .0), omega (arith, c .before .before .before .before .before .before .before .before .before .before .pre .1))
 
 returns : tie.Need-returns
-returns c = λ l t h. let p = c .before .before .before .before .before .before .before .before .operands-at .ensures l t h in index-written _ _ _ _ l t _ _ _ p _ _ _ _ _ (c .before .before .before .before .before .before .write-row .ensures l (p .operands) (p .row)) _ (c .before .before .put-entry .ensures) (c .before .before .before .before .before .before .write-row .kept .1 .1 .1 .1 .1 .1 .1 .0)
+returns c = λ l t h. let p = c .before .before .before .before .before .before .before .before .operands-at .ensures l t h in index-written _ _ _ _ l t _ _ _ p _ _ _ _ _ (c .before .before .before .before .before .before .write-row .ensures l (p .operands) (p .row)) _ (c .before .before .put-entry .ensures) (c .before .before .before .before .before .before .write-row .kept .1 .1 .1 .1 .1 .0)
 
 pub write-index-spec : {M : Type 1} → statement M
 write-index-spec =

@@ -21,7 +21,7 @@ use Rattle.tree_index.proofs.compare.+compare_row.{statement}
 use Rattle.tree_index.proofs.compare.+compare_row.Tie.{close}
 
 abbrev μ-compare-row : Measures 4 compare-row-kinds.ps ℕ
-μ-compare-row κs a = length (now (a .1 .1 .1 .1 .0)) - a .1 .1 .1 .1 .1 .0
+μ-compare-row κs a = length (now (a .1 .1 .1 .0)) - a .1 .1 .0 .start
 
 abbrev compare-row-at : ℕ → In 4 compare-row-kinds.ps
 compare-row-at t =
@@ -32,11 +32,11 @@ compare-row-below t =
     and 4 compare-row-kinds.ps (falls 4 compare-row-kinds.ps _<_ μ-compare-row t) compare-row.Pre
 
 abbrev compare-row-Inv-loop : compare-row-lts.InvT-loop
-compare-row-Inv-loop language places first last tree at stop index n q₀ end₀ to₀ m₀ q end to m =
-    (m ≤ length index) × (at ≤ to) × ((l : Language) (ts : Codes) → Row places language tree at first last l ts → Comparing places language tree index n at ts stop q end to m l)
+compare-row-Inv-loop language places tree stop index n q₀ end₀ to₀ m₀ q end to m =
+    (m ≤ length index) × (to₀ ≤ to) × ((l : Language) (ts : Codes) → Row places language tree to₀ q₀ end₀ l ts → Comparing places language tree index n to₀ ts stop q end to m l)
 
 abbrev compare-row-μ-loop : compare-row-lts.MeasureT-loop
-compare-row-μ-loop language places first last tree at stop index n q₀ end₀ to₀ m₀ q end to m = length tree - to
+compare-row-μ-loop language places tree stop index n q₀ end₀ to₀ m₀ q end to m = length tree - to
 
 abbrev compare-row-calls : ℕ → compare-row-lts.Claims
 compare-row-calls t = (starts-at-reads.Asked, starts-at-reads.Learnt, pair-in-reads.Asked, pair-in-reads.Learnt, operands-at-reads.Asked, operands-at-reads.Learnt, compare-row-below t, compare-row.Post)

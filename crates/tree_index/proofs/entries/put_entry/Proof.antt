@@ -5,7 +5,7 @@ use Rattle.tree_index.proofs.entries.put_entry.Statement.{statement}
 use Rattle.tree_index.proofs.entries.put_entry.Tie as tie
 use Rattle.tree_index.proofs.entries.put_entry.Reads as reads
 use Rattle.tree_index.proofs.entries.put_entry.Lts as lts
-use Rattle.tree_index.proofs.entries.put_pair.Reads as put-pair-reads
+use Rattle.format_fields.proofs.copy.put_pair.Reads as put-pair-reads
 
 returns : tie.Need-returns
 returns c = λ h. absurd (omega (arith, c .if1 .taken))

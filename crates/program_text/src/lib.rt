@@ -1,0 +1,2 @@
+// Text that the programs print, put into a buffer.
+pub mod text;

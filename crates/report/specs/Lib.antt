@@ -1,0 +1,12 @@
+pub mod Sets
+pub mod Languages
+pub mod Typing
+pub mod Transformation
+pub mod WellFormed
+pub mod Translations
+pub mod Reduction
+pub mod Limits
+pub mod Propositions
+pub mod Conditions
+pub mod Agreement
+pub mod Numbers
