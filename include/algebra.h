@@ -56,7 +56,10 @@
 /* A search has a limit of 1 to so many levels, and is fast with so many bytes of workspace for each
  * byte of the tree. */
 #define ALGEBRA_SEARCH_LEVELS 16
-#define ALGEBRA_SEARCH_WORKSPACE 32
+#define ALGEBRA_SEARCH_WORKSPACE 36
+
+/* A search for a tree of at most so many bytes needs no workspace to be fast. */
+#define ALGEBRA_SEARCH_TREE 2048
 
 /* The most levels of a tree handed in, of a code and of a term. A token is no level. */
 #define ALGEBRA_TREE_LEVELS 64
@@ -249,9 +252,12 @@ uint32_t algebra_mask(const uint8_t *language, size_t language_length,
  * target, the first in byte order: 0 to 7, 14 to 17, 23, 24, 26. The translation has no number but 0,
  * and the tree is of the kind to which the root is mapped. Where a clause drops an argument, its place takes the first legal tree within the
  * levels that are left. The workspace may have any length, also 0, and the answer does not depend on
- * it: the search remembers there what it has found. With ALGEBRA_SEARCH_WORKSPACE bytes for each
- * byte of the tree the time is bounded by the tree times the translation; with less it may take much
- * longer. The workspace is all zero at the end if the answer is 0, 17 or 23, and unchanged otherwise. */
+ * it: the search remembers there what it has found, and where the parts of the tree end. With
+ * ALGEBRA_SEARCH_WORKSPACE bytes for each byte of the tree the time is bounded by the tree times the
+ * translation, plus the output. A tree of up to ALGEBRA_SEARCH_TREE bytes takes as long with less: the
+ * search has a memory of its own for it. For a longer tree and less workspace only the first positions
+ * of the tree have their memory, and the time can grow with the power of the limit. The workspace is
+ * all zero at the end if the answer is 0, 17 or 23, and unchanged otherwise. */
 uint32_t algebra_search(const uint8_t *translation, size_t translation_length,
                         uint32_t root,
                         const uint8_t *tree, size_t tree_length,

@@ -22,7 +22,7 @@ pub const ENTRY_BYTES: usize = 4;
 /// A search is for trees of at most so many levels.
 pub const SEARCH_LEVELS: u32 = 16;
 /// The workspace of a search has so many bytes for each byte of the tree, where it is to be fast.
-pub const SEARCH_WORKSPACE: usize = 32;
+pub const SEARCH_WORKSPACE: usize = 36;
 /// The workspace of [`raw::reduce`](crate::raw::reduce) has at least this many bytes.
 pub const WORKSPACE_BYTES: usize = 65_536;
 /// A call uses at most this many bytes of stack.

@@ -119,15 +119,15 @@ module _ (l : Language) (f : Clauses) (n : ℕ) (ks : List ℕ) (b : ℕ → Goa
           shift i = omega arith
 
 -- put_first
-module _ (table source index target places kinds bytes memory free : List ℕ) (k at : ℕ) (f : Translation) (g : Goal)
-    (h : Seeks table source index target places kinds bytes memory free k at f g) where
-  pub token-written : (class : ℕ) → class ≡ getD index k 0 → (class ≡ 0 → ⊥) → (n : ℕ) (t : Code) → First (f .source) (clausesOf f) n k g t
+module _ (table source target places kinds bytes memory free : List ℕ) (k at : ℕ) (f : Translation) (g : Goal)
+    (h : Seeks table source target places kinds bytes memory free k at f g) where
+  pub token-written : (class : ℕ) → class ≡ getD table k 0 → (class ≡ 0 → ⊥) → (n : ℕ) (t : Code) → First (f .source) (clausesOf f) n k g t
       → {v : ℕ} → v ≡ valueAt source class bytes at → twoBytes v ≡ write tree t
   unfolding write
   token-written class e some-class n t w {v} d =
-      let z = first-token (f .source) (clausesOf f) (source-apart table source index target places kinds bytes memory free k at f g h) k
-      (classRange source (class - 1)) (the-range table source index target places kinds bytes memory free k at f g h class e some-class) g n
-      (valueAt source class bytes at) t (value-for table source index target places kinds bytes memory free k at f g h class e some-class g (h .asked)) w in
+      let z = first-token (f .source) (clausesOf f) (source-apart table source target places kinds bytes memory free k at f g h) k
+      (classRange source (class - 1)) (the-range table source target places kinds bytes memory free k at f g h class e some-class) g n
+      (valueAt source class bytes at) t (value-for table source target places kinds bytes memory free k at f g h class e some-class g (h .asked)) w in
       ap twoBytes d ∙ sym (ap (write tree) z)
 
   pub no-levels : rangeOf (f .source) k ≡ none → (n : ℕ) → n ≡ 0 → (t : Code) → First (f .source) (clausesOf f) n k g t → ⊥

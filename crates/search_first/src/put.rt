@@ -5,10 +5,12 @@ use run_table::table::clause_at;
 use run_table::table::index_at;
 use run_table::table::source_at;
 use search_levels::clause::matches;
-use search_levels::levels::NAMES;
+use search_levels::levels::Sought;
 use search_levels::levels::token_value;
 use tree_reader::index::TABLE;
-use tree_reader::node::place_at;
+use tree_reader::operands::NAMES;
+use tree_reader::operands::first_operand;
+use tree_reader::operands::production_key;
 ghost use mathlib.Core.Path.{_≡_};
 ghost use mathlib.Core.List.{List, [], _∷_};
 ghost use Prim.Native.Nat.{ℕ, suc, _+_, _*_, _<_, _≤_};
@@ -19,8 +21,17 @@ ghost use Rattle.tree_reader.specs.Syntax.{write, writeAll, tree as inTrees};
 ghost use Rattle.format_translation.specs.Translation.{Translation};
 ghost use Rattle.format_translation.specs.Running.{clausesOf};
 ghost use Rattle.search_sources.specs.Inner.Goals.{Goal, First, FirstAll};
-ghost use Rattle.search_levels.specs.Inner.Setting.{Truthful, Seeks, SeeksAll};
+ghost use Rattle.search_levels.specs.Inner.Setting.{Truthful, Named, Seeks, SeeksAll};
 ghost use Rattle.search_first.specs.Inner.Puts.{Puts};
+
+// What is put: the first tree of a kind, within so many levels, for what is asked at a position; from `pos` on, up to a limit.
+pub struct Wanted {
+    pub kind: usize,
+    pub at: usize,
+    pub levels: usize,
+    pub limit: usize,
+    pub pos: usize,
+}
 
 // Puts a byte into the output, where there is room, and answers where the next one goes; past the limit nothing is put.
 fn put_byte(output: &mut [u8], limit: usize, pos: usize, byte: u8) -> usize
@@ -46,11 +57,10 @@ fn put_value(output: &mut [u8], limit: usize, pos: usize, value: usize) -> usize
     put_byte(output, limit, next, (value % 256) as u8)
 }
 
-// Puts the first trees of operands of a production, one behind the other.
+// Puts the first trees of operands of a production, one behind the other; of what is wanted only levels, limit and pos count.
 fn put_operands(
     table: &[u16; TABLE],
     source: &[u8],
-    index: &[u16],
     target: &[u8],
     places: &[u16],
     kinds: &[u8],
@@ -59,74 +69,67 @@ fn put_operands(
     free: &mut [u8],
     place: usize,
     bound: &[usize; 8],
-    n: usize,
-    limit: usize,
+    wanted: Wanted,
     output: &mut [u8],
-    pos: usize,
 ) -> usize
-    requires { ⌜ (n ≤ 16) × (pos ≤ limit) × ((f : Translation) × (ks : List ℕ) × (b : ℕ → Goal) × SeeksAll (now table) (now source) (now index) (now target) (now places) (now kinds) (now tree) (now memory) (now free) (now bound) place f ks b) ⌝ }
-    ensures { λ r. ⌜ (r ≤ limit) × (length (now (memory .exit)) ≡ length (now (memory .entry))) × (length (now (free .exit)) ≡ length (now (free .entry))) × (length (now (output .exit)) ≡ length (now (output .entry)))
-        × ((f : Translation) (ks : List ℕ) (b : ℕ → Goal) → SeeksAll (now (table .entry)) (now (source .entry)) (now (index .entry)) (now (target .entry)) (now (places .entry)) (now (kinds .entry)) (now (tree .entry)) (now (memory .entry)) (now (free .entry)) (now (bound .entry)) place f ks b
+    requires { ⌜ (wanted .levels ≤ 16) × (wanted .pos ≤ wanted .limit) × ((f : Translation) × (ks : List ℕ) × (b : ℕ → Goal) × SeeksAll (now table) (now source) (now target) (now places) (now kinds) (now tree) (now memory) (now free) (now bound) place f ks b) ⌝ }
+    ensures { λ r. ⌜ (r ≤ wanted .limit) × (length (now (memory .exit)) ≡ length (now (memory .entry))) × (length (now (free .exit)) ≡ length (now (free .entry))) × (length (now (output .exit)) ≡ length (now (output .entry)))
+        × ((f : Translation) (ks : List ℕ) (b : ℕ → Goal) → SeeksAll (now (table .entry)) (now (source .entry)) (now (target .entry)) (now (places .entry)) (now (kinds .entry)) (now (tree .entry)) (now (memory .entry)) (now (free .entry)) (now (bound .entry)) place f ks b
         → Truthful f (now (tree .entry)) (now (memory .exit)) (now (free .exit))
-        × ((s : Codes) → FirstAll (f .source) (clausesOf f) n ks b s → Puts limit (writeAll inTrees s) (now (output .entry)) (now (output .exit)) pos r)) ⌝ }
+        × ((s : Codes) → FirstAll (f .source) (clausesOf f) (wanted .levels) ks b s → Puts (wanted .limit) (writeAll inTrees s) (now (output .entry)) (now (output .exit)) (wanted .pos) r)) ⌝ }
 {
+    let levels = wanted.levels;
+    let limit = wanted.limit;
     let count = source_at(table, place + 1) - 2;
     let mut j = 0;
-    let mut to = pos;
+    let mut pos = wanted.pos;
     while j < count {
-        let kind = source_at(table, place + 4 + j);
+        let kind = source_at(table, first_operand(place) + j);
         let at = bound[j];
-        to = put_first(
+        pos = put_first(
             table,
             source,
-            index,
             target,
             places,
             kinds,
             tree,
             memory,
             free,
-            kind,
-            at,
-            n,
-            limit,
+            Wanted {
+                kind,
+                at,
+                levels,
+                limit,
+                pos,
+            },
             output,
-            to,
         );
         j += 1;
     }
-    to
+    pos
 }
 
-// Puts the operands of the first tree, whose name is known.
+// Puts the operands of the first tree, whose name is known; they have the levels that are wanted.
 fn put_node(
     table: &[u16; TABLE],
     source: &[u8],
-    index: &[u16],
     target: &[u8],
     places: &[u16],
     kinds: &[u8],
     tree: &[u8],
     memory: &mut [u8],
     free: &mut [u8],
-    kind: usize,
     name: usize,
-    at: usize,
-    n: usize,
-    limit: usize,
+    wanted: Wanted,
     output: &mut [u8],
-    pos: usize,
 ) -> usize
-    requires { ⌜ (n ≤ 16) × (name < 256) × (pos ≤ limit) × ((f : Translation) × (g : Goal) × Seeks (now table) (now source) (now index) (now target) (now places) (now kinds) (now tree) (now memory) (now free) kind at f g) ⌝ }
-    ensures { λ r. ⌜ (r ≤ limit) × (length (now (memory .exit)) ≡ length (now (memory .entry))) × (length (now (free .exit)) ≡ length (now (free .entry))) × (length (now (output .exit)) ≡ length (now (output .entry)))
-        × ((f : Translation) (g : Goal) → Seeks (now (table .entry)) (now (source .entry)) (now (index .entry)) (now (target .entry)) (now (places .entry)) (now (kinds .entry)) (now (tree .entry)) (now (memory .entry)) (now (free .entry)) kind at f g
+    requires { ⌜ (wanted .levels ≤ 16) × (name < 256) × Named (now table) (wanted .kind) name × (wanted .pos ≤ wanted .limit) × ((f : Translation) × (g : Goal) × Seeks (now table) (now source) (now target) (now places) (now kinds) (now tree) (now memory) (now free) (wanted .kind) (wanted .at) f g) ⌝ }
+    ensures { λ r. ⌜ (r ≤ wanted .limit) × (length (now (memory .exit)) ≡ length (now (memory .entry))) × (length (now (free .exit)) ≡ length (now (free .entry))) × (length (now (output .exit)) ≡ length (now (output .entry)))
+        × ((f : Translation) (g : Goal) → Seeks (now (table .entry)) (now (source .entry)) (now (target .entry)) (now (places .entry)) (now (kinds .entry)) (now (tree .entry)) (now (memory .entry)) (now (free .entry)) (wanted .kind) (wanted .at) f g
         → Truthful f (now (tree .entry)) (now (memory .exit)) (now (free .exit))
-        × ((s : Codes) → First (f .source) (clausesOf f) (suc n) kind g (node kind name s) → Puts limit (writeAll inTrees s) (now (output .entry)) (now (output .exit)) pos r)) ⌝ }
+        × ((s : Codes) → First (f .source) (clausesOf f) (suc (wanted .levels)) (wanted .kind) g (node (wanted .kind) name s) → Puts (wanted .limit) (writeAll inTrees s) (now (output .entry)) (now (output .exit)) (wanted .pos) r)) ⌝ }
 {
-    let key = 32 + (kind * NAMES + name);
-    if place_at(index, key) == 0 {
-        return pos;
-    }
+    let key = production_key(wanted.kind, name);
     let place = index_at(table, key);
     let clause = clause_at(table, key);
     let past = tree.len();
@@ -137,17 +140,17 @@ fn put_node(
         places,
         kinds,
         tree,
+        memory,
         place,
         clause,
-        at,
+        wanted.at,
         &mut bound,
     ) {
-        return pos;
+        return wanted.pos;
     }
     put_operands(
         table,
         source,
-        index,
         target,
         places,
         kinds,
@@ -156,10 +159,8 @@ fn put_node(
         free,
         place,
         &bound,
-        n,
-        limit,
+        wanted,
         output,
-        pos,
     )
 }
 
@@ -167,67 +168,69 @@ fn put_node(
 pub fn put_first(
     table: &[u16; TABLE],
     source: &[u8],
-    index: &[u16],
     target: &[u8],
     places: &[u16],
     kinds: &[u8],
     tree: &[u8],
     memory: &mut [u8],
     free: &mut [u8],
-    kind: usize,
-    at: usize,
-    n: usize,
-    limit: usize,
+    wanted: Wanted,
     output: &mut [u8],
-    pos: usize,
 ) -> usize
-    requires { ⌜ (n ≤ 16) × (pos ≤ limit) × ((f : Translation) × (g : Goal) × Seeks (now table) (now source) (now index) (now target) (now places) (now kinds) (now tree) (now memory) (now free) kind at f g) ⌝ }
-    ensures { λ r. ⌜ (r ≤ limit) × (length (now (memory .exit)) ≡ length (now (memory .entry))) × (length (now (free .exit)) ≡ length (now (free .entry))) × (length (now (output .exit)) ≡ length (now (output .entry)))
-        × ((f : Translation) (g : Goal) → Seeks (now (table .entry)) (now (source .entry)) (now (index .entry)) (now (target .entry)) (now (places .entry)) (now (kinds .entry)) (now (tree .entry)) (now (memory .entry)) (now (free .entry)) kind at f g
+    requires { ⌜ (wanted .levels ≤ 16) × (wanted .pos ≤ wanted .limit) × ((f : Translation) × (g : Goal) × Seeks (now table) (now source) (now target) (now places) (now kinds) (now tree) (now memory) (now free) (wanted .kind) (wanted .at) f g) ⌝ }
+    ensures { λ r. ⌜ (r ≤ wanted .limit) × (length (now (memory .exit)) ≡ length (now (memory .entry))) × (length (now (free .exit)) ≡ length (now (free .entry))) × (length (now (output .exit)) ≡ length (now (output .entry)))
+        × ((f : Translation) (g : Goal) → Seeks (now (table .entry)) (now (source .entry)) (now (target .entry)) (now (places .entry)) (now (kinds .entry)) (now (tree .entry)) (now (memory .entry)) (now (free .entry)) (wanted .kind) (wanted .at) f g
         → Truthful f (now (tree .entry)) (now (memory .exit)) (now (free .exit))
-        × ((t : Code) → First (f .source) (clausesOf f) n kind g t → Puts limit (write inTrees t) (now (output .entry)) (now (output .exit)) pos r)) ⌝ }
+        × ((t : Code) → First (f .source) (clausesOf f) (wanted .levels) (wanted .kind) g t → Puts (wanted .limit) (write inTrees t) (now (output .entry)) (now (output .exit)) (wanted .pos) r)) ⌝ }
 {
+    let kind = wanted.kind;
+    let at = wanted.at;
+    let n = wanted.levels;
+    let limit = wanted.limit;
+    let pos = wanted.pos;
     if limit <= pos {
         return limit;
     }
-    let class = place_at(index, kind);
+    let class = index_at(table, kind);
     if class != 0 {
         return put_value(output, limit, pos, token_value(source, class, tree, at));
     }
     if n == 0 {
         return pos;
     }
+    let levels = n - 1;
     let name = choose(
         table,
         source,
-        index,
         target,
         places,
         kinds,
         tree,
         memory,
         free,
-        kind,
-        at,
-        n - 1,
+        Sought { kind, at, levels },
     );
+    if NAMES <= name {
+        return pos;
+    }
     let next = put_byte(output, limit, pos, name as u8);
     put_node(
         table,
         source,
-        index,
         target,
         places,
         kinds,
         tree,
         memory,
         free,
-        kind,
         name,
-        at,
-        n - 1,
-        limit,
+        Wanted {
+            kind,
+            at,
+            levels,
+            limit,
+            pos: next,
+        },
         output,
-        next,
     )
 }

@@ -7,4 +7,6 @@ pub mod Turns
 pub mod Whole
 pub mod Alone
 pub mod Truths
+pub mod Naming
+pub mod Filling
 pub mod Needing

@@ -28,12 +28,12 @@ use Rattle.run_table.specs.Inner.Table.{indexEntry, clauseEntry, sourceByte, Pr
 use Rattle.run_emit.proofs.Ends.{kind-byte}
 use Rattle.tree_index.specs.Inner.Lying.{Lies}
 use Rattle.tree_index.proofs.Lying.{first-byte}
-use Rattle.search_sources.specs.Inner.Goals.{Goal, Meets, Matches, Fits}
+use Rattle.search_sources.specs.Inner.Goals.{Goal, Meets, Matches, Fits, FitsAll}
 use Rattle.search_sources.specs.Inner.Levels.{Needs, NeedsAll, NeedsNamed, recalled, noted}
 use Rattle.search_sources.proofs.Memory.{recall-needs}
-use Rattle.search_sources.proofs.Answers.{needs-nil, needs-cons, needs-node, needs-unknown, needs-unmatched, names-none, fits-more, Named, needs-zero, needs-kind}
+use Rattle.search_sources.proofs.Answers.{cons-fits, needs-nil, needs-cons, needs-node, needs-unknown, needs-unmatched, names-none, fits-more, needs-zero, needs-kind}
 use Rattle.search_sources.proofs.Tokens.{class-token, ValueFor, needs-token, needs-no-token}
-use Rattle.search_levels.specs.Inner.Setting.{Asked, Truthful, Setting, Unnamed, valueAt, Seeks, SeeksAll}
+use Rattle.search_levels.specs.Inner.Setting.{Asked, Truthful, Setting, Unnamed, Without, Named, valueAt, Seeks, SeeksAll}
 use Rattle.search_levels.specs.Inner.Clauses.{Bound, MatchAsks, MatchGives}
 use Rattle.search_levels.specs.Inner.Memory.{byteFor, memoryWith, freeWith}
 use Rattle.search_levels.proofs.Truths.{byte-says, kept-true}
@@ -69,8 +69,8 @@ pub class-no : (m : ℕ) {b t : Bool} → b ≡ t → b ≡ false → m + 1 ≡ 
 class-no m {b} {t} e h = let z : m + 1 ≡ suc m = omega arith in z ∙ ap (λ (x : Bool). cond x 0 (suc m)) (sym h ∙ e)
 
 -- need
-module _ (table source index target places kinds bytes memory free : List ℕ) (k at : ℕ) (f : Translation) (g : Goal)
-    (h : Seeks table source index target places kinds bytes memory free k at f g) where
+module _ (table source target places kinds bytes memory free : List ℕ) (k at : ℕ) (f : Translation) (g : Goal)
+    (h : Seeks table source target places kinds bytes memory free k at f g) where
   abbrev l : Language
   l = f .source
 
@@ -88,7 +88,7 @@ module _ (table source index target places kinds bytes memory free : List ℕ) (
       rw e (recall-needs m _ few (byte-says f bytes memory free k at (h .kind) (h .truthful) g (h .asked)) (λ z. n (e ∙ z)))
 
   -- A class.
-  module _ (class : ℕ) (place : class ≡ getD index k 0) where
+  module _ (class : ℕ) (place : class ≡ getD table k 0) where
     range-is : rangeOf l k ≡ rangeBefore source class
     range-is = h .setting .source-index .range k (h .kind) ∙ ap (rangeBefore source) (sym place)
 
@@ -146,14 +146,25 @@ module _ (table source index target places kinds bytes memory free : List ℕ) (
         let c : n ≡ 256 = omega arith in
         rw (← a, b) (needs-kind l clauses (h .setting .named) k g none-class (m - 1) best (rw c at q))
 
-  pub without : (low high : ℕ) → high ≤ 256 → Unnamed index k low high → (q x : ℕ) (s : Codes) → low ≤ q → q < high → Fits l clauses (suc x) k g (node k q s) → ⊥
-  without low high narrow a q x s i j w =
-      let e : argumentsOf l k q ≡ none = h .setting .source-index .arguments k q (h .kind) (omega arith) ∙ ap (argumentsBefore source) (a .none q i j) in
-      let z = needs-unknown l clauses x k q g e .least x q s (omega arith) (omega arith) (omega arith) w in
-      omega arith
+  pub without : (low high : ℕ) → high ≤ 256 → Unnamed table k low high → Without l clauses k g low high
+  without low high narrow a = record { none = none-named }
+    where
+      none-named : (q x : ℕ) (s : Codes) → low ≤ q → q < high → Fits l clauses (suc x) k g (node k q s) → ⊥
+      none-named q x s i j w =
+          let e : argumentsOf l k q ≡ none = h .setting .source-index .arguments k q (h .kind) (omega arith) ∙ ap (argumentsBefore source) (a .none q i j) in
+          let z = needs-unknown l clauses x k q g e .least x q s (omega arith) (omega arith) (omega arith) w in
+          omega arith
+
+  -- first_name
+  pub lowest-is : (low r : ℕ) → low ≡ getD kinds (32 + k) 0 → Unnamed table k low r → Unnamed table k 0 r
+  lowest-is low r e a = record { none = λ p i j. go p i j (decLe (suc p) low) }
+    where
+      go : (p : ℕ) → 0 ≤ p → p < r → Dec (suc p ≤ low) → getD table (productionKey k p) 0 ≡ 0
+      go p i j (yes d) = h .setting .lowest k (h .kind) .none p i (rw (← e) d)
+      go p i j (no d) = a .none p (omega arith) j
 
   -- A memory that was changed meanwhile.
-  pub seeks-still : (memory′ free′ : List ℕ) → Truthful f bytes memory′ free′ → Seeks table source index target places kinds bytes memory′ free′ k at f g
+  pub seeks-still : (memory′ free′ : List ℕ) → Truthful f bytes memory′ free′ → Seeks table source target places kinds bytes memory′ free′ k at f g
   seeks-still memory′ free′ t = record { setting = h .setting; truthful = t; kind = h .kind; asked = h .asked }
 
   pub keeps-true : (memory′ free′ : List ℕ) → Truthful f bytes memory′ free′ → (m r : ℕ) → m ≤ 16 → Needs l clauses m k g r
@@ -161,15 +172,12 @@ module _ (table source index target places kinds bytes memory free : List ℕ) (
   keeps-true memory′ free′ t m r few q = kept-true f bytes memory′ free′ k at (h .kind) t target-apart m r few g (h .asked) q
 
 -- The names come one by one.
-pub names-start : (l : Language) (f : Clauses) (m k : ℕ) (g : Goal) → (m ≡ 0 → ⊥) → NeedsNamed l f (m - 1) k 0 0 g m
-names-start l f m k g e = let a : suc (m - 1) ≡ m = omega arith in ap-needs a (names-none l f (m - 1) k g 0)
-  where
-    ap-needs : {x y : ℕ} → x ≡ y → NeedsNamed l f (m - 1) k 0 0 g x → NeedsNamed l f (m - 1) k 0 0 g y
-    ap-needs e q = rw e at q
-
--- No tree for the goal has a name from `low` up to `high`.
-abbrev Without : Language → Clauses → ℕ → Goal → ℕ → ℕ → Type 0
-Without l f k g low high = (q x : ℕ) (s : Codes) → low ≤ q → q < high → Fits l f (suc x) k g (node k q s) → ⊥
+pub names-start : (l : Language) (f : Clauses) (m k : ℕ) (g : Goal) (name : ℕ) → (m ≡ 0 → ⊥) → Without l f k g 0 name → NeedsNamed l f (m - 1) k 0 name g m
+names-start l f m k g name e w = record {
+  bound = omega arith;
+  finds = λ i. absurd (omega arith);
+  least = λ n q s i u j z. absurd (w .none q n s u j z);
+}
 
 -- Behind names that need `best` levels, one of which it is asked whether it needs less.
 module _ (l : Language) (f : Clauses) (m k : ℕ) (g : Goal) (name best n r : ℕ) (some-best : 0 < best) (a : NeedsNamed l f m k 0 name g best)
@@ -185,7 +193,7 @@ module _ (l : Language) (f : Clauses) (m k : ℕ) (g : Goal) (name best n r : �
   none-less x q s i j w d o (yes e) = e
   none-less x q s i j w (yes d) o (no e) = let z = a .least x q s i (omega arith) d w in let y = b .bound in omega arith
   none-less x q s i j w (no d) (yes o) (no e) = let y = b .bound in b .least x q s (omega arith) (omega arith) (omega arith) w
-  none-less x q s i j w (no d) (no o) (no e) = absurd (gap (omega arith) q x s (omega arith) j w)
+  none-less x q s i j w (no d) (no o) (no e) = absurd (gap (omega arith) .none q x s (omega arith) j w)
 
   pub names-next : NeedsNamed l f m k 0 r g n
   names-next = record {
@@ -194,55 +202,36 @@ module _ (l : Language) (f : Clauses) (m k : ℕ) (g : Goal) (name best n r : �
     least = λ x q s i u j w. none-less x q s i j w (decLe (suc q) name) (decLe q name) (decLe n x);
   }
 
--- next_name
-module _ (index : List ℕ) (k name : ℕ) where
-  pub unnamed-start : (next : ℕ) → next ≡ name + 1 → Unnamed index k (name + 1) next
-  unnamed-start next e = record { none = λ p i j. absurd (omega arith) }
-
-  pub unnamed-next : (next : ℕ) {r : ℕ} → r ≡ getD index (productionKey k next) 0 → r ≡ 0 → Unnamed index k (name + 1) next → Unnamed index k (name + 1) (next + 1)
-  unnamed-next next e z a = record { none = λ p i j. go p i j (decLe (suc p) next) }
-    where
-      go : (p : ℕ) → name + 1 ≤ p → p < next + 1 → Dec (suc p ≤ next) → getD index (productionKey k p) 0 ≡ 0
-      go p i j (yes d) = a .none p i d
-      go p i j (no d) = let q : p ≡ next = omega arith in ap (λ (x : ℕ). getD index (productionKey k x) 0) q ∙ (sym e ∙ z)
-
-  pub unnamed-end : (next r : ℕ) → 256 ≤ next → next ≤ 256 → r ≡ 256 → Unnamed index k (name + 1) next → Unnamed index k (name + 1) r
-  unnamed-end next r i j e a = let z : r ≡ next = omega arith in rw z a
-
 -- name_need
-module _ (table source index target places kinds bytes memory free : List ℕ) (k at : ℕ) (f : Translation) (g : Goal)
-    (h : Seeks table source index target places kinds bytes memory free k at f g) (p : ℕ) (narrow : p < 256) where
-  pub key-inside : productionKey k p < length index
-  key-inside = let x = h .setting .source-index .sound .long in let y = h .kind in omega arith
-
+module _ (table source target places kinds bytes memory free : List ℕ) (k at : ℕ) (f : Translation) (g : Goal)
+    (h : Seeks table source target places kinds bytes memory free k at f g) (p : ℕ) (narrow : p < 256) where
   pub key-small : productionKey k p < 8224
   key-small = let y = h .kind in omega arith
 
-  known-before : argumentsOf (f .source) k p ≡ argumentsBefore source (getD index (productionKey k p) 0)
+  known-before : argumentsOf (f .source) k p ≡ argumentsBefore source (getD table (productionKey k p) 0)
   known-before = h .setting .source-index .arguments k p (h .kind) narrow
 
-  pub name-unknown : (m : ℕ) {n : ℕ} → n ≡ getD index (productionKey k p) 0 → n ≡ 0 → NeedsNamed (f .source) (clausesOf f) m k p (suc p) g (m + 1)
-  name-unknown m e z =
-      let a : m + 1 ≡ suc m = omega arith in
-      rw a (needs-unknown (f .source) (clausesOf f) m k p g (known-before ∙ ap (argumentsBefore source) (sym e ∙ z)))
-
-  pub name-known : {n : ℕ} → n ≡ getD index (productionKey k p) 0 → (n ≡ 0 → ⊥) → (ks : List ℕ) × (argumentsOf (f .source) k p ≡ some ks)
-  name-known {n} e z = go n (known-before ∙ ap (argumentsBefore source) (sym e)) z
+  pub name-known : Named table k p → (ks : List ℕ) × (argumentsOf (f .source) k p ≡ some ks)
+  name-known n = let z = n .there narrow in go (getD table (productionKey k p) 0) known-before (λ e. omega arith)
     where
       go : (n : ℕ) → argumentsOf (f .source) k p ≡ argumentsBefore source n → (n ≡ 0 → ⊥) → (ks : List ℕ) × (argumentsOf (f .source) k p ≡ some ks)
       go zero q z = absurd (z refl)
       go (suc n) q z = (_, q)
 
-  module _ (ks : List ℕ) (known : argumentsOf (f .source) k p ≡ some ks) (place clause : ℕ) (ep : place ≡ indexEntry table (productionKey k p))
-      (ec : clause ≡ clauseEntry table (productionKey k p)) where
-    pub asks-match : (n : ℕ) → n ≡ length bytes → MatchAsks table target places kinds bytes (replicate 8 n) place clause at f k p ks g
+  module _ (ks : List ℕ) (known : argumentsOf (f .source) k p ≡ some ks) (place clause j : ℕ) (ep : place ≡ indexEntry table j)
+      (ec : clause ≡ clauseEntry table j) (ej : j ≡ productionKey k p) where
+    place-of : place ≡ indexEntry table (productionKey k p)
+    place-of = ep ∙ ap (indexEntry table) ej
+
+    pub asks-match : (n : ℕ) → n ≡ length bytes → MatchAsks table target places kinds bytes memory (replicate 8 n) place clause at f k p ks g
     asks-match n e = record {
       targeted = h .setting .targeted;
+      ends = h .truthful .ends;
       kind = h .kind;
       name = narrow;
       known = known;
-      place-is = ep;
-      clause-is = ec;
+      place-is = place-of;
+      clause-is = ec ∙ ap (clauseEntry table) ej;
       asked = h .asked;
       long = refl;
       empty = λ j q. let z = getD-replicate 8 j n 0 q in omega arith;
@@ -253,11 +242,11 @@ module _ (table source index target places kinds bytes memory free : List ℕ) (
       name-unmatched m e = let a : m + 1 ≡ suc m = omega arith in rw a (needs-unmatched (f .source) (clausesOf f) m k p ks g known (w .fails e))
 
       module _ (e : r ≡ true) where
-        pub name-seeks : SeeksAll table source index target places kinds bytes memory free bound place f ks (w .holds e .0)
+        pub name-seeks : SeeksAll table source target places kinds bytes memory free bound place f ks (w .holds e .0)
         name-seeks = record {
           setting = h .setting;
           truthful = h .truthful;
-          production = rw ep (h .setting .targeted .ready .production k p ks (h .kind) narrow known);
+          production = rw place-of (h .setting .targeted .ready .production k p ks (h .kind) narrow known);
           long = w .holds e .1 .long;
           asked = w .holds e .1 .at;
         }
@@ -265,9 +254,33 @@ module _ (table source index target places kinds bytes memory free : List ℕ) (
         pub name-needs : (m x : ℕ) → NeedsAll (f .source) (clausesOf f) m ks (w .holds e .0) x → NeedsNamed (f .source) (clausesOf f) m k p (suc p) g x
         name-needs m x q = needs-node (f .source) (clausesOf f) k p ks g (w .holds e .0) known (w .holds e .2) m x q
 
+    -- candidate: the root of the clause is another.
+    module _ (bound : List ℕ) (w : MatchGives bytes bound false f k p ks g) where
+      pub without-next : (from next : ℕ) → p < next → next ≤ 256 → Unnamed table k (p + 1) next → Without (f .source) (clausesOf f) k g from p
+          → Without (f .source) (clausesOf f) k g from next
+      without-next from next past few a b = record { none = λ q x s i o z. go q x s i o z (decLe (suc q) p) (decLe q p) }
+        where
+          go : (q x : ℕ) (s : Codes) → from ≤ q → q < next → Fits (f .source) (clausesOf f) (suc x) k g (node k q s) → Dec (suc q ≤ p) → Dec (q ≤ p) → ⊥
+          go q x s i o z (yes d) e = b .none q x s i d z
+          go q x s i o z (no d) (yes e) =
+              let y = needs-unmatched (f .source) (clausesOf f) x k p ks g known (w .fails refl) .least x q s (omega arith) (omega arith) (omega arith) z in
+              omega arith
+          go q x s i o z (no d) (no e) =
+              without table source target places kinds bytes memory free k at f g h (p + 1) next few a .none q x s (omega arith) o z
+
+pub without-start : (l : Language) (f : Clauses) (k : ℕ) (g : Goal) (from : ℕ) → Without l f k g from from
+without-start l f k g from = record { none = λ q x s i o z. absurd (omega arith) }
+
+pub without-then : (l : Language) (f : Clauses) (k : ℕ) (g : Goal) (a b c : ℕ) → Without l f k g a b → Without l f k g b c → Without l f k g a c
+without-then l f k g a b c u v = record { none = λ q x s i o z. go q x s i o z (decLe (suc q) b) }
+  where
+    go : (q x : ℕ) (s : Codes) → a ≤ q → q < c → Fits l f (suc x) k g (node k q s) → Dec (suc q ≤ b) → ⊥
+    go q x s i o z (yes d) = u .none q x s i d z
+    go q x s i o z (no d) = v .none q x s (omega arith) o z
+
 -- operands_need
-module _ (table source index target places kinds bytes memory free bound : List ℕ) (place : ℕ) (f : Translation) (ks : List ℕ) (b : ℕ → Goal)
-    (h : SeeksAll table source index target places kinds bytes memory free bound place f ks b) where
+module _ (table source target places kinds bytes memory free bound : List ℕ) (place : ℕ) (f : Translation) (ks : List ℕ) (b : ℕ → Goal)
+    (h : SeeksAll table source target places kinds bytes memory free bound place f ks b) where
   pub count-inside : place + 1 < 1024
   count-inside = let x = h .production .kinds .inside in omega arith
 
@@ -275,17 +288,17 @@ module _ (table source index target places kinds bytes memory free bound : List 
   count-is e = (e ∙ h .production .count, h .production .few)
 
   module _ (j : ℕ) (q : j < length ks) where
-    pub kind-inside : place + 4 + j < 1024
-    kind-inside = let x = h .production .kinds .inside in omega arith
+    pub kind-inside : {i : ℕ} → i ≡ place + 4 → i + j < 1024
+    kind-inside e = let x = h .production .kinds .inside in omega arith
 
-    pub operand-seeks : (memory′ free′ : List ℕ) → Truthful f bytes memory′ free′ → {k : ℕ} → k ≡ sourceByte table (place + 4 + j)
-        → Seeks table source index target places kinds bytes memory′ free′ k (getD bound j 0) f (b j)
-    operand-seeks memory′ free′ t {k} e =
-        let z : k ≡ getD ks j 0 = e ∙ kind-byte (h .production .kinds) j q in
+    pub operand-kind : {i k : ℕ} → i ≡ place + 4 → k ≡ sourceByte table (i + j) → k ≡ getD ks j 0
+    operand-kind d e = e ∙ (ap (λ (x : ℕ). sourceByte table (x + j)) d ∙ kind-byte (h .production .kinds) j q)
+
+    pub operand-seeks : (memory′ free′ : List ℕ) → Truthful f bytes memory′ free′ → {i k : ℕ} → i ≡ place + 4 → k ≡ sourceByte table (i + j)
+        → Seeks table source target places kinds bytes memory′ free′ k (getD bound j 0) f (b j)
+    operand-seeks memory′ free′ t {i} {k} d e =
+        let z : k ≡ getD ks j 0 = operand-kind d e in
         rw z (record { setting = h .setting; truthful = t; kind = h .production .kinds .below j q; asked = h .asked j q })
-
-    pub operand-kind : {k : ℕ} → k ≡ sourceByte table (place + 4 + j) → k ≡ getD ks j 0
-    operand-kind e = e ∙ kind-byte (h .production .kinds) j q
 
 module _ (l : Language) (f : Clauses) (m : ℕ) (ks : List ℕ) (b : ℕ → Goal) where
   pub operands-start : (j : ℕ) → length ks ≤ j → NeedsAll l f m (drop j ks) (λ i. b (i + j)) 0
@@ -309,6 +322,19 @@ module _ (l : Language) (f : Clauses) (m : ℕ) (ks : List ℕ) (b : ℕ → Goa
 
       shift : (i : ℕ) → i + j ≡ suc i + (j - 1)
       shift i = omega arith
+
+  -- One of them needs more than count.
+  pub operands-stop : (j k x : ℕ) → j < length ks → k ≡ getD ks j 0 → Needs l f m k (b j) x → m < x → NeedsAll l f m ks b (m + 1)
+  operands-stop j k x q e h past = record {
+    bound = omega arith;
+    finds = λ i. absurd (omega arith);
+    least = λ n t i w. let z = all-at n ks b t w j q in let y = h .least n (z .0) i (rw (← e) at (z .1)) in omega arith;
+  }
+    where
+      all-at : (n : ℕ) (ks : List ℕ) (b : ℕ → Goal) (t : Codes) → FitsAll l f n ks b t → (j : ℕ) → j < length ks → (a : Code) × Fits l f n (getD ks j 0) (b j) a
+      all-at n [] b t w j q = absurd (omega arith)
+      all-at n (k ∷ ks) b t w zero q = let z = cons-fits l f n k ks b t w in (z .0, z .3)
+      all-at n (k ∷ ks) b t w (suc j) q = let z = cons-fits l f n k ks b t w in all-at n ks (λ i. b (suc i)) (z .1) (z .4) j (omega arith)
 
   pub operands-end : (j y : ℕ) → j ≡ 0 → NeedsAll l f m (drop j ks) (λ i. b (i + j)) y → NeedsAll l f m ks b y
   operands-end j y e q =

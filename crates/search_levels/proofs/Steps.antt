@@ -34,8 +34,8 @@ unfolding width
 width-other sign h = rw (ne-eqb sign 2 h)
 
 -- argument
-module _ (target places bytes bound : List ℕ) (kind to i : ℕ) (f : Translation) (ks : List ℕ) (b : ℕ → Goal) (u : Code)
-    (h : ArgumentAsks target places bytes bound kind to i f ks b u) where
+module _ (target places bytes memory bound : List ℕ) (kind to i : ℕ) (f : Translation) (ks : List ℕ) (b : ℕ → Goal) (u : Code)
+    (h : ArgumentAsks target places bytes memory bound kind to i f ks b u) where
   pub argument-there : There places target bytes to kind (f .target) u
   argument-there = record { index-of = h .target-index; lies = h .lies }
 

@@ -42,8 +42,8 @@ alike-of e q h = rw (e, q) h
 solves-of : {b : ℕ → Goal} {cs us es vs : Codes} {s : Replacing} → cs ≡ es → us ≡ vs → Solves b cs us s → Solves b es vs s
 solves-of e q h = rw (← e, ← q) h
 
-module _ (table target places kinds bytes bound : List ℕ) (place c stop to : ℕ) (f : Translation) (ks js : List ℕ) (cs us : Codes) (b : ℕ → Goal)
-    (h : StepAsks table target places kinds bytes bound place c stop to f ks js cs us b) where
+module _ (table target places kinds bytes memory bound : List ℕ) (place c stop to : ℕ) (f : Translation) (ks js : List ℕ) (cs us : Codes) (b : ℕ → Goal)
+    (h : StepAsks table target places kinds bytes memory bound place c stop to f ks js cs us b) where
   abbrev given : Uses
   given = map (mappingOf (f .body)) ks
 
@@ -106,12 +106,13 @@ module _ (table target places kinds bytes bound : List ℕ) (place c stop to : �
         q ∙ (ap (λ (j : ℕ). getD kinds j 0) k ∙ h .targeted .maps (getD ks (argument-next .number) 0) low)
 
     pub argument-asks : {m x y : ℕ} → m ≡ bodyByte table (c + 1) → x ≡ sourceByte table (place + 4 + (m - 1)) → y ≡ getD kinds x 0
-        → ArgumentAsks target places bytes bound y to (m - 1) f ks b (argument-next .subtree)
+        → ArgumentAsks target places bytes memory bound y to (m - 1) f ks b (argument-next .subtree)
     argument-asks {m} {x} {y} e d q =
         let n = number-is e in
         let k = kind-there e d q in
         rw n (record {
           target-index = h .targeted .target-index;
+          ends = h .ends;
           is = h .is;
           number = number-there .0;
           few = h .production .few;

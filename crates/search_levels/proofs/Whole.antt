@@ -51,8 +51,8 @@ pub record Going (table bytes bound : List ℕ) (c stop to : ℕ) (f : Translati
   pub is : Bound f bytes bound to ks so-far
   pub alike : Alike nothing-bound (cons (clausesOf f k p 0) nil) (cons goal nil) so-far codes trees
 
-module _ (table target places kinds bytes bound : List ℕ) (place clause at : ℕ) (f : Translation) (k p : ℕ) (ks : List ℕ) (g : Goal)
-    (h : MatchAsks table target places kinds bytes bound place clause at f k p ks g) where
+module _ (table target places kinds bytes memory bound : List ℕ) (place clause at : ℕ) (f : Translation) (k p : ℕ) (ks : List ℕ) (g : Goal)
+    (h : MatchAsks table target places kinds bytes memory bound place clause at f k p ks g) where
   pub production : Production table place ks
   production = rw (h .place-is) (h .targeted .ready .production k p ks (h .kind) (h .name) (h .known))
 
@@ -119,8 +119,8 @@ module _ (table target places kinds bytes bound : List ℕ) (place clause at : �
     pub going-inside : stop ≤ 4096
     going-inside = w .row .inside
 
-    pub match-step : c < stop → StepAsks table target places kinds bytes now place c stop to f ks (w .kinds) (w .codes) (w .trees) (w .so-far)
-    match-step more = record { targeted = h .targeted; production = production; row = w .row; is = w .is; more = more }
+    pub match-step : c < stop → StepAsks table target places kinds bytes memory now place c stop to f ks (w .kinds) (w .codes) (w .trees) (w .so-far)
+    match-step more = record { targeted = h .targeted; ends = h .ends; production = production; row = w .row; is = w .is; more = more }
 
     module _ (after : List ℕ) (r : ℕ) (s : StepGives table bytes after c stop r f ks (w .codes) (w .trees) (w .so-far)) where
       pub match-stops : r ≡ 0 → MatchGives bytes after false f k p ks g

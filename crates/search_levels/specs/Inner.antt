@@ -1,3 +1,4 @@
 pub mod Memory
 pub mod Setting
+pub mod Ends
 pub mod Clauses

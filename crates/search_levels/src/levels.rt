@@ -3,6 +3,8 @@ use crate::clause::matches;
 use crate::memory::UNKNOWN;
 use crate::memory::keep;
 use crate::memory::recall;
+use crate::names::first_name;
+use crate::names::next_name;
 use format_fields::bytes::pair_at;
 use format_fields::bytes::pair_in;
 use format_language::range::in_range;
@@ -10,7 +12,9 @@ use run_table::table::clause_at;
 use run_table::table::index_at;
 use run_table::table::source_at;
 use tree_reader::index::TABLE;
-use tree_reader::node::place_at;
+use tree_reader::operands::NAMES;
+use tree_reader::operands::first_operand;
+use tree_reader::operands::production_key;
 ghost use mathlib.Core.Path.{_≡_};
 ghost use mathlib.Core.Bool.{cond};
 ghost use mathlib.Core.List.{List};
@@ -22,11 +26,7 @@ ghost use Rattle.format_translation.specs.Translation.{Translation};
 ghost use Rattle.format_translation.specs.Running.{clausesOf};
 ghost use Rattle.search_sources.specs.Inner.Goals.{Goal};
 ghost use Rattle.search_sources.specs.Inner.Levels.{Needs as NeedsLevels, NeedsAll, NeedsNamed};
-ghost use Rattle.search_levels.specs.Inner.Setting.{Truthful, Unnamed, valueAt, Seeks, SeeksAll};
-ghost use Rattle.tree_reader.specs.Inner.Index.{indexLength};
-
-// How many production names there are.
-pub const NAMES: usize = 256;
+ghost use Rattle.search_levels.specs.Inner.Setting.{Truthful, Named, valueAt, Seeks, SeeksAll};
 
 // The value of the token of a class at a position: its lowest where nothing is asked.
 pub fn token_value(source: &[u8], class: usize, tree: &[u8], at: usize) -> usize
@@ -50,22 +50,11 @@ fn class_need(source: &[u8], class: usize, tree: &[u8], at: usize, m: usize) -> 
     m + 1
 }
 
-// The name to go on with: the next one that a production of the kind has. None is left where no tree can need less.
-fn next_name(index: &[u16], kind: usize, name: usize, best: usize) -> usize
-    requires { ⌜ (indexLength ≤ length (now index)) × (kind < 32) × (name < 256) ⌝ }
-    ensures { λ r. ⌜ (name < r) × (r ≤ 256) × (r < 256 → 0 < best) × (0 < best → Unnamed (now (index .entry)) kind (name + 1) r) ⌝ }
-{
-    if best == 0 {
-        return NAMES;
-    }
-    let mut next = name + 1;
-    while next < NAMES {
-        if place_at(index, 32 + (kind * NAMES + next)) != 0 {
-            return next;
-        }
-        next += 1;
-    }
-    NAMES
+// What is sought: a source tree of a kind for what is asked at a position, where so many levels count.
+pub struct Sought {
+    pub kind: usize,
+    pub at: usize,
+    pub levels: usize,
 }
 
 // The larger of two numbers.
@@ -75,11 +64,11 @@ fn larger(a: usize, b: usize) -> usize
     if a < b { b } else { a }
 }
 
-// The levels that operands of a production need: the most that one of them does.
+// The levels that operands of a production need, whose field in the source has its length at `place`: the most that one of
+// them does, where m count; m + 1 at the first that needs more.
 fn operands_need(
     table: &[u16; TABLE],
     source: &[u8],
-    index: &[u16],
     target: &[u8],
     places: &[u16],
     kinds: &[u8],
@@ -90,61 +79,59 @@ fn operands_need(
     bound: &[usize; 8],
     m: usize,
 ) -> usize
-    requires { ⌜ (m ≤ 16) × ((f : Translation) × (ks : List ℕ) × (b : ℕ → Goal) × SeeksAll (now table) (now source) (now index) (now target) (now places) (now kinds) (now tree) (now memory) (now free) (now bound) place f ks b) ⌝ }
+    requires { ⌜ (m ≤ 16) × ((f : Translation) × (ks : List ℕ) × (b : ℕ → Goal) × SeeksAll (now table) (now source) (now target) (now places) (now kinds) (now tree) (now memory) (now free) (now bound) place f ks b) ⌝ }
     ensures { λ r. ⌜ (r ≤ suc m) × (length (now (memory .exit)) ≡ length (now (memory .entry))) × (length (now (free .exit)) ≡ length (now (free .entry)))
-        × ((f : Translation) (ks : List ℕ) (b : ℕ → Goal) → SeeksAll (now (table .entry)) (now (source .entry)) (now (index .entry)) (now (target .entry)) (now (places .entry)) (now (kinds .entry)) (now (tree .entry)) (now (memory .entry)) (now (free .entry)) (now (bound .entry)) place f ks b
+        × ((f : Translation) (ks : List ℕ) (b : ℕ → Goal) → SeeksAll (now (table .entry)) (now (source .entry)) (now (target .entry)) (now (places .entry)) (now (kinds .entry)) (now (tree .entry)) (now (memory .entry)) (now (free .entry)) (now (bound .entry)) place f ks b
         → NeedsAll (f .source) (clausesOf f) m ks b r × Truthful f (now (tree .entry)) (now (memory .exit)) (now (free .exit))) ⌝ }
 {
     let mut j = source_at(table, place + 1) - 2;
     let mut most = 0;
     while 0 < j {
         j -= 1;
-        let kind = source_at(table, place + 4 + j);
+        let kind = source_at(table, first_operand(place) + j);
         let at = bound[j];
         let n = need(
             table,
             source,
-            index,
             target,
             places,
             kinds,
             tree,
             memory,
             free,
-            kind,
-            at,
-            m,
+            Sought {
+                kind,
+                at,
+                levels: m,
+            },
         );
+        if m < n {
+            return m + 1;
+        }
         most = larger(n, most);
     }
     most
 }
 
-// The levels that the operands of a tree with a name need; m + 1 where there is no such tree.
+// The levels that the operands of a tree with a name need, which a production of the kind has; m + 1 where there is no such tree.
 pub fn name_need(
     table: &[u16; TABLE],
     source: &[u8],
-    index: &[u16],
     target: &[u8],
     places: &[u16],
     kinds: &[u8],
     tree: &[u8],
     memory: &mut [u8],
     free: &mut [u8],
-    kind: usize,
     name: usize,
-    at: usize,
-    m: usize,
+    sought: Sought,
 ) -> usize
-    requires { ⌜ (m ≤ 16) × (name < 256) × ((f : Translation) × (g : Goal) × Seeks (now table) (now source) (now index) (now target) (now places) (now kinds) (now tree) (now memory) (now free) kind at f g) ⌝ }
-    ensures { λ r. ⌜ (r ≤ suc m) × (length (now (memory .exit)) ≡ length (now (memory .entry))) × (length (now (free .exit)) ≡ length (now (free .entry)))
-        × ((f : Translation) (g : Goal) → Seeks (now (table .entry)) (now (source .entry)) (now (index .entry)) (now (target .entry)) (now (places .entry)) (now (kinds .entry)) (now (tree .entry)) (now (memory .entry)) (now (free .entry)) kind at f g
-        → NeedsNamed (f .source) (clausesOf f) m kind name (suc name) g r × Truthful f (now (tree .entry)) (now (memory .exit)) (now (free .exit))) ⌝ }
+    requires { ⌜ (sought .levels ≤ 16) × (name < 256) × Named (now table) (sought .kind) name × ((f : Translation) × (g : Goal) × Seeks (now table) (now source) (now target) (now places) (now kinds) (now tree) (now memory) (now free) (sought .kind) (sought .at) f g) ⌝ }
+    ensures { λ r. ⌜ (r ≤ suc (sought .levels)) × (length (now (memory .exit)) ≡ length (now (memory .entry))) × (length (now (free .exit)) ≡ length (now (free .entry)))
+        × ((f : Translation) (g : Goal) → Seeks (now (table .entry)) (now (source .entry)) (now (target .entry)) (now (places .entry)) (now (kinds .entry)) (now (tree .entry)) (now (memory .entry)) (now (free .entry)) (sought .kind) (sought .at) f g
+        → NeedsNamed (f .source) (clausesOf f) (sought .levels) (sought .kind) name (suc name) g r × Truthful f (now (tree .entry)) (now (memory .exit)) (now (free .exit))) ⌝ }
 {
-    let key = 32 + (kind * NAMES + name);
-    if place_at(index, key) == 0 {
-        return m + 1;
-    }
+    let key = production_key(sought.kind, name);
     let place = index_at(table, key);
     let n = tree.len();
     let mut bound = [n; 8];
@@ -154,17 +141,17 @@ pub fn name_need(
         places,
         kinds,
         tree,
+        memory,
         place,
         clause_at(table, key),
-        at,
+        sought.at,
         &mut bound,
     ) {
-        return m + 1;
+        return sought.levels + 1;
     }
     operands_need(
         table,
         source,
-        index,
         target,
         places,
         kinds,
@@ -173,7 +160,7 @@ pub fn name_need(
         free,
         place,
         &bound,
-        m,
+        sought.levels,
     )
 }
 
@@ -182,27 +169,27 @@ pub fn name_need(
 pub fn need(
     table: &[u16; TABLE],
     source: &[u8],
-    index: &[u16],
     target: &[u8],
     places: &[u16],
     kinds: &[u8],
     tree: &[u8],
     memory: &mut [u8],
     free: &mut [u8],
-    kind: usize,
-    at: usize,
-    m: usize,
+    sought: Sought,
 ) -> usize
-    requires { ⌜ (m ≤ 16) × ((f : Translation) × (g : Goal) × Seeks (now table) (now source) (now index) (now target) (now places) (now kinds) (now tree) (now memory) (now free) kind at f g) ⌝ }
-    ensures { λ r. ⌜ (r ≤ suc m) × (length (now (memory .exit)) ≡ length (now (memory .entry))) × (length (now (free .exit)) ≡ length (now (free .entry)))
-        × ((f : Translation) (g : Goal) → Seeks (now (table .entry)) (now (source .entry)) (now (index .entry)) (now (target .entry)) (now (places .entry)) (now (kinds .entry)) (now (tree .entry)) (now (memory .entry)) (now (free .entry)) kind at f g
-        → NeedsLevels (f .source) (clausesOf f) m kind g r × Truthful f (now (tree .entry)) (now (memory .exit)) (now (free .exit))) ⌝ }
+    requires { ⌜ (sought .levels ≤ 16) × ((f : Translation) × (g : Goal) × Seeks (now table) (now source) (now target) (now places) (now kinds) (now tree) (now memory) (now free) (sought .kind) (sought .at) f g) ⌝ }
+    ensures { λ r. ⌜ (r ≤ suc (sought .levels)) × (length (now (memory .exit)) ≡ length (now (memory .entry))) × (length (now (free .exit)) ≡ length (now (free .entry)))
+        × ((f : Translation) (g : Goal) → Seeks (now (table .entry)) (now (source .entry)) (now (target .entry)) (now (places .entry)) (now (kinds .entry)) (now (tree .entry)) (now (memory .entry)) (now (free .entry)) (sought .kind) (sought .at) f g
+        → NeedsLevels (f .source) (clausesOf f) (sought .levels) (sought .kind) g r × Truthful f (now (tree .entry)) (now (memory .exit)) (now (free .exit))) ⌝ }
 {
+    let kind = sought.kind;
+    let at = sought.at;
+    let m = sought.levels;
     let known = recall(memory, free, tree.len(), kind, at, m);
     if known != UNKNOWN {
         return known;
     }
-    let class = place_at(index, kind);
+    let class = index_at(table, kind);
     if class != 0 {
         return class_need(source, class, tree, at, m);
     }
@@ -210,24 +197,25 @@ pub fn need(
         return 1;
     }
     let mut best = m;
-    let mut name = 0;
+    let mut name = first_name(table, source, kinds, tree, kind, at);
     while name < NAMES {
         best = name_need(
             table,
             source,
-            index,
             target,
             places,
             kinds,
             tree,
             memory,
             free,
-            kind,
             name,
-            at,
-            best - 1,
+            Sought {
+                kind,
+                at,
+                levels: best - 1,
+            },
         );
-        name = next_name(index, kind, name, best);
+        name = next_name(table, source, tree, kind, at, name, best);
     }
     keep(memory, free, tree.len(), kind, at, m, best + 1);
     best + 1

@@ -3,3 +3,4 @@ pub mod clause;
 pub mod ends;
 pub mod levels;
 pub mod memory;
+pub mod names;

@@ -33,8 +33,8 @@ use Rattle.search_sources.proofs.Finding.{search-first, search-none}
 use Rattle.search_first.specs.Inner.Puts.{Puts}
 use Rattle.search_operation.specs.Inner.Finding.{Rooted, Answers}
 
-module _ (table source index target places kinds bytes memory free : List ℕ) (k : ℕ) (f : Translation) (u : Code)
-    (h : Seeks table source index target places kinds bytes memory free k 0 f (some u)) (w : Rooted source target bytes f u) (limit : ℕ) where
+module _ (table source target places kinds bytes memory free : List ℕ) (k : ℕ) (f : Translation) (u : Code)
+    (h : Seeks table source target places kinds bytes memory free k 0 f (some u)) (w : Rooted source target bytes f u) (limit : ℕ) where
   carries : Carries (f .source) (f .target) (mappingOf (f .body)) (clausesOf f)
   carries = fit-carries f (Clauses.body-rises (w .checked)) (Clauses.fits (w .checked))
 

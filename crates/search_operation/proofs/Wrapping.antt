@@ -27,15 +27,15 @@ use Rattle.format_language.proofs.Holds.{holds-entries}
 use Rattle.tree_reader.specs.Code.{Code}
 use Rattle.tree_reader.specs.Syntax.{write, tree}
 use Rattle.tree_reader.specs.Operations.{treeOf, checkTree}
-use Rattle.tree_reader.specs.Inner.Index.{Indexed}
+use Rattle.tree_reader.specs.Inner.Index.{Built, Indexed}
 use Rattle.tree_reader.proofs.Members.{in-below}
 use Rattle.format_translation.specs.Translation.{Translation, Body, itemKey, mappingOf, mapped}
 use Rattle.format_translation.specs.Running.{clausesOf}
 use Rattle.format_translation.specs.TranslationFile.{bodyOf, translationOf}
 use Rattle.format_translation.specs.Operations.{checkTranslation}
 use Rattle.format_translation.specs.Inner.Parts.{sourceIn, targetIn, bodyIn}
-use Rattle.format_translation.specs.Inner.ItemIndex.{IndexedItems, mappedAt}
-use Rattle.format_translation.proofs.IndexedItems.{mapped-is}
+use Rattle.format_translation.specs.Inner.ItemIndex.{Mapped as UsesOf}
+use Rattle.run_open.specs.Inner.Opened.{Prepared}
 use Rattle.format_translation.proofs.Cuts.{pieces-in, body-in-short}
 use Rattle.format_translation.proofs.Accepted.{refused-not}
 use Rattle.format_translation.proofs.Codec.{translation-whole, rises-parts}
@@ -49,11 +49,14 @@ use Rattle.format_translation.proofs.PlainUses.{mapping-zero}
 use Rattle.run_table.specs.Inner.Table.{Ready, Checked}
 use Rattle.run_table.proofs.Clauses as Clauses
 use Rattle.search_sources.proofs.Answers.{Named}
-use Rattle.search_levels.specs.Inner.Setting.{Targeted, Setting, Seeks}
+use Rattle.search_levels.specs.Inner.Setting.{Unnamed, Truthful, Seeks}
+use Rattle.format_language.specs.Inner.Entries.{RisingEntries}
+use Rattle.format_language.proofs.Chain.{rising-is}
+use Rattle.tree_index.specs.Inner.Lying.{There}
+use Rattle.tree_reader.proofs.Built.{built-indexed}
 use Rattle.search_levels.proofs.Lying.{some-byte}
-use Rattle.search_levels.proofs.Truths.{blank-true}
 use Rattle.search_sources.specs.Operations.{isLimit, ready, foundIn, searchBytes, searchTree}
-use Rattle.search_operation.specs.Inner.Finding.{Searchable, Rooted, Mapped, Placed, Answers, readyIn, readyFrom, Leaves}
+use Rattle.search_operation.specs.Inner.Finding.{Searchable, Rooted, Mapped, Placed, Tabled, Opened, Answers, readyIn, readyFrom, Leaves}
 
 -- A name in a file is a byte.
 class-production : {A : Type 0} {k r p : ℕ} {c : Range} {ks : List ℕ} → production r p ks ≡ class k c → A
@@ -88,21 +91,26 @@ all-zero w n e h = go w h ∙ ap (λ (m : ℕ). replicate m 0) e
     go [] h = refl
     go (b ∷ w) h = let x : b ≡ 0 = h 0 in let r = go w (λ i. h (suc i)) in λ i. x i ∷ r i
 
-pub placed-rooted : {source target body places kinds bytes : List ℕ} {k : ℕ} {f : Translation} {u : Code} → Checked source target body f → Placed target places kinds bytes k f u
-    → Rooted source target bytes f u
-placed-rooted {body = body} z w = record { body = body; checked = z; whole = w .whole }
+pub opened-by : (table uses source target places kinds bytes : List ℕ) (k : ℕ) (f : Translation) (u : Code) → Tabled table uses source target f → Placed target places bytes k f u
+    → ((i : ℕ) → getD source i 0 < 256) → Mapped kinds (f .body) → ((j : ℕ) → j < 32 → Unnamed table j 0 (getD kinds (32 + j) 0))
+    → Opened table source target places kinds bytes k f u
+opened-by table uses source target places kinds bytes k f u z w n m l =
+    record { body = z .body; searchable = z .searchable; ready = z .ready; built = z .built; narrow = n; placed = w; maps = m; lowest = l }
 
-module _ (source target body table index places kinds bytes memory free : List ℕ) (k : ℕ) (f : Translation) (u : Code) (z : Searchable source target body f)
-    (w : Placed target places kinds bytes k f u) (small : k < 32) where
+-- What is opened, and the memory, are what the search asks for.
+module _ (table source target places kinds bytes : List ℕ) (k : ℕ) (f : Translation) (u : Code) (o : Opened table source target places kinds bytes k f u) where
+  pub opened-rooted : Rooted source target bytes f u
+  opened-rooted = record { body = o .body; checked = o .searchable .checked; whole = o .placed .whole }
+
   rises : Rising itemKey (f .body)
-  rises = Clauses.body-rises (z .checked)
+  rises = Clauses.body-rises (o .searchable .checked)
 
   carries : Carries (f .source) (f .target) (mappingOf (f .body)) (clausesOf f)
-  carries = fit-carries f rises (Clauses.fits (z .checked))
+  carries = fit-carries f rises (Clauses.fits (o .searchable .checked))
 
   has-zero : (j : ℕ) → isIn (f .source) j ≡ true → mappingOf (f .body) j 0 ≡ some (mapped (f .body) j 0)
   has-zero j i =
-      let (t, m) = Clauses.fits (z .checked) .maps j i in
+      let (t, m) = Clauses.fits (o .searchable .checked) .maps j i in
       mem-mapping (f .body) rises j 0 t m ∙ ap some (sym (mem-mapped (f .body) rises j 0 t m))
 
   class-there : (j : ℕ) (c : Range) → rangeOf (f .source) j ≡ some c → (d : Range) × (rangeOf (f .target) (mapped (f .body) j 0) ≡ some d)
@@ -111,29 +119,44 @@ module _ (source target body table index places kinds bytes memory free : List �
       (d .0, d .1)
 
   some-bytes : 0 < length bytes
-  some-bytes = let x = some-byte (w .lies .typed) in let y = ap length (w .whole) in omega arith
+  some-bytes = let x = some-byte (o .placed .lies .typed) in let y = ap length (o .placed .whole) in omega arith
 
-  pub placed-seeks : Ready table f → Indexed index source (f .source) → ((i : ℕ) → getD source i 0 < 256) → ((i : ℕ) → getD bytes i 0 < 256)
-      → length free ≡ 32 → ((i : ℕ) → getD memory i 0 ≡ 0) → ((i : ℕ) → getD free i 0 ≡ 0)
-      → Seeks table source index target places kinds bytes memory free k 0 f (some u)
-  placed-seeks ready indexed narrow-source narrow long blank empty = record {
+  entries-rise : RisingEntries source
+  entries-rise =
+      let h = holds-entries source (f .source) (o .searchable .checked .pieces .source) in
+      let w = translation-whole (o .searchable .checked .file) f (o .searchable .checked .accepted) .1 in
+      record { whole = h .whole; rises = rising-is source (f .source) h ∙ rises-parts f (w .rises) .0 }
+
+  source-indexed : Indexed table source (f .source)
+  source-indexed =
+      built-indexed source table table 0 (o .built) (let z = o .ready .long in omega arith) (λ j q. ap (λ (i : ℕ). getD table i 0) (let z : j ≡ 0 + j = omega arith in z)) (o .narrow) (o .searchable .checked .pieces .source-short) (f .source)
+      (o .searchable .checked .pieces .source)
+
+  pub opened-there : k < 32 → {root : ℕ} → root ≡ getD kinds k 0 → There places target bytes 0 root (f .target) u
+  opened-there small e =
+      record { index-of = o .placed .target-index; lies = rw (e ∙ o .maps .maps k small) (o .placed .lies) }
+
+  pub opened-seeks : k < 32 → (memory free : List ℕ) → Truthful f bytes memory free → Seeks table source target places kinds bytes memory free k 0 f (some u)
+  opened-seeks small memory free t = record {
     setting = record {
       targeted = record {
-        ready = ready;
-        target-index = w .target-index;
-        maps = w .kinds-are .maps;
-        plain = mapping-zero (f .body) (z .by-zero);
+        ready = o .ready;
+        target-index = o .placed .target-index;
+        maps = o .maps .maps;
+        plain = mapping-zero (f .body) (o .searchable .by-zero);
         has-zero = has-zero;
-        narrow = narrow;
+        narrow = o .placed .narrow;
       };
-      source-index = indexed;
-      apart = translation-whole (z .checked .file) f (z .checked .accepted) .1 .source-apart;
-      named = named-of source (f .source) (z .checked .pieces .source) narrow-source;
+      source-index = source-indexed;
+      filed = record { built = o .built; rises = entries-rise; short = o .searchable .checked .pieces .source-short; narrow = o .narrow };
+      lowest = o .lowest;
+      apart = translation-whole (o .searchable .checked .file) f (o .searchable .checked .accepted) .1 .source-apart;
+      named = named-of source (f .source) (o .searchable .checked .pieces .source) (o .narrow);
       tokens = class-there;
     };
-    truthful = blank-true f bytes memory free long blank empty;
+    truthful = t;
     kind = small;
-    asked = (some-bytes, w .lies);
+    asked = (some-bytes, o .placed .lies);
   }
 
 -- The target is a language by itself.
@@ -142,10 +165,6 @@ unfolding languageOf
 target-language {f = f} z =
     let w = translation-whole (z .file) f (z .accepted) .1 in
     rw (le-ltb languageLimit (length _) (z .pieces .target-short), z .pieces .target, rises-parts f (w .rises) .1, w .target-apart)
-
--- kinds_of
-pub kinds-mapped : (body index kinds : List ℕ) (b : Body) → IndexedItems index body b → ((k : ℕ) → k < 32 → getD kinds k 0 ≡ mappedAt body index k) → Mapped kinds b
-kinds-mapped body index kinds b x maps = record { maps = λ k small. maps k small ∙ mapped-is body index b x k small }
 
 -- search_in
 module _ (source target body kinds bytes : List ℕ) (k limit : ℕ) (f : Translation) (z : Checked source target body f) (maps : Mapped kinds (f .body)) (small : k < 32)
@@ -178,13 +197,13 @@ module _ (source target body kinds bytes : List ℕ) (k limit : ℕ) (f : Transl
     stage-passed e = rw (tree-is, e)
 
     pub stage-placed : (places : List ℕ) → ((i : ℕ) → getD bytes i 0 < 256)
-        → ((n : ℕ) (l : Language) → c ≡ Accepted n → entriesOf target ≡ some l → Indexed places target l) → Placed target places kinds bytes k f (checked .subject)
+        → ((n : ℕ) (l : Language) → c ≡ Accepted n → entriesOf target ≡ some l → Indexed places target l) → Placed target places bytes k f (checked .subject)
     stage-placed places narrow indexed =
         let r = tree-right (f .target) (mapped (f .body) k 0) bytes (checked .subject) tree-is in
         let e = r .1 .2 (bytes-from bytes (λ i q. narrow i)) .0 in
         record {
           target-index = record { indexed = indexed n (f .target) h (z .pieces .target); apart = translation-whole (z .file) f (z .accepted) .1 .target-apart };
-          kinds-are = maps;
+          narrow = narrow;
           lies = record { rest = []; is = e; inside = omega arith; typed = r .1 .0; within = r .1 .1; known = r .0 };
           whole = e ∙ append-nil (write tree (checked .subject));
         }
@@ -212,9 +231,9 @@ module _ (stage : Result Translation) (k : ℕ) (bytes : List ℕ) (limit : ℕ)
   leaves-found f after left e h i = rw e (record { answer = h .answer; output = h .left; memory = i })
 
 -- search_from
-pub root-past : (source target body : List ℕ) (f : Translation) → Searchable source target body f → (root : ℕ) → 31 < root → isIn (f .source) root ≡ false
-root-past source target body f z root h =
-    refuted (isIn (f .source) root) (λ e. let x = in-below source root (f .source) (z .checked .pieces .source) e in omega arith)
+pub root-past : (table uses source target : List ℕ) (f : Translation) → Tabled table uses source target f → (root : ℕ) → 31 < root → isIn (f .source) root ≡ false
+root-past table uses source target f z root h =
+    refuted (isIn (f .source) root) (λ e. let x = in-below source root (f .source) (z .searchable .checked .pieces .source) e in omega arith)
 
 module _ (f : Translation) (root : ℕ) (bytes : List ℕ) (limit : ℕ) (workspace o : List ℕ) (out : Outcome) where
   pub from-unknown : isIn (f .source) root ≡ false → out ≡ Refused UnknownRoot → Leaves (readyFrom f root bytes limit) root bytes limit o o workspace workspace out
@@ -231,6 +250,17 @@ module _ (s : List ℕ) (f : Translation) (is : translationOf s ≡ value f) whe
   pub parts-searchable : plain (f .body) ≡ true → {x y z : List ℕ} → x ≡ sourceIn s → y ≡ targetIn s → z ≡ bodyIn s → Searchable x y z f
   parts-searchable e ex ey ez =
       rw (ex, ey, ez) (record { checked = record { pieces = pieces-in s f is; short = body-in-short s f is; file = s; accepted = is }; by-zero = e })
+
+  pub parts-tabled : plain (f .body) ≡ true → {t u x y : List ℕ} → x ≡ sourceIn s → y ≡ targetIn s
+      → Prepared (sourceIn s) (targetIn s) (bodyIn s) t f × UsesOf u (f .body) → Tabled t u x y f
+  parts-tabled e ex ey p =
+      rw (ex, ey) (record {
+        body = bodyIn s;
+        searchable = parts-searchable e refl refl refl;
+        ready = p .0 .ready;
+        built = p .0 .index;
+        uses-of = p .1;
+      })
 
   pub body-there : {x : List ℕ} → x ≡ bodyIn s → bodyOf x ≡ some (f .body)
   body-there ex = ap bodyOf ex ∙ pieces-in s f is .body

@@ -1,2 +1,3 @@
 // The search back: which source tree gives a target tree.
+pub mod kinds;
 pub mod search;

@@ -17,7 +17,7 @@ use Rattle.run_table.specs.Inner.Table.{bodyStart, bodyByte, indexEntry, clause
 use Rattle.tree_index.specs.Inner.Lying.{Index, Lies, LieAll}
 use Rattle.search_sources.specs.Inner.Goals.{Goal, Meets, Matches}
 use Rattle.search_sources.specs.Inner.Matching.{Inside, Solves, Alike}
-use Rattle.search_levels.specs.Inner.Setting.{Asked, Targeted}
+use Rattle.search_levels.specs.Inner.Setting.{Asked, Targeted, TrueEnds}
 
 -- What the arguments of kinds ks are bound to stands at the positions kept for them, all before `to`; an argument whose
 -- position lies past the tree is not bound.
@@ -36,8 +36,9 @@ pub record Pending (table bytes : List ℕ) (c stop to : ℕ) (f : Translation) 
   pub trees : LieAll (f .target) bytes to js us
 
 -- An argument of the code, counted from 0, comes where the tree u lies.
-pub record ArgumentAsks (target places bytes bound : List ℕ) (kind to i : ℕ) (f : Translation) (ks : List ℕ) (b : ℕ → Goal) (u : Code) : Type 0 where
+pub record ArgumentAsks (target places bytes memory bound : List ℕ) (kind to i : ℕ) (f : Translation) (ks : List ℕ) (b : ℕ → Goal) (u : Code) : Type 0 where
   pub target-index : Index places target (f .target)
+  pub ends : TrueEnds (f .target) bytes memory
   pub is : Bound f bytes bound to ks b
   pub number : i < length ks
   pub few : length ks ≤ 8
@@ -55,8 +56,9 @@ unfoldable pub width : ℕ → ℕ
 width sign = cond (eqb sign 2) 3 2
 
 -- A step of the match of a production's clause, where its field in the source has its length at `place`.
-pub record StepAsks (table target places kinds bytes bound : List ℕ) (place c stop to : ℕ) (f : Translation) (ks js : List ℕ) (cs us : Codes) (b : ℕ → Goal) : Type 0 where
+pub record StepAsks (table target places kinds bytes memory bound : List ℕ) (place c stop to : ℕ) (f : Translation) (ks js : List ℕ) (cs us : Codes) (b : ℕ → Goal) : Type 0 where
   pub targeted : Targeted table target places kinds bytes f
+  pub ends : TrueEnds (f .target) bytes memory
   pub production : Production table place ks
   pub row : Pending table bytes c stop to f (map (mappingOf (f .body)) ks) js cs us
   pub is : Bound f bytes bound to ks b
@@ -71,8 +73,9 @@ pub record StepGives (table bytes after : List ℕ) (c stop r : ℕ) (f : Transl
   pub stops : r ≡ 0 → (s : Replacing) → Solves b cs us s → ⊥
 
 -- The clause of production p of kind k is matched with what is asked at a position; nothing is bound yet.
-pub record MatchAsks (table target places kinds bytes bound : List ℕ) (place clause at : ℕ) (f : Translation) (k p : ℕ) (ks : List ℕ) (g : Goal) : Type 0 where
+pub record MatchAsks (table target places kinds bytes memory bound : List ℕ) (place clause at : ℕ) (f : Translation) (k p : ℕ) (ks : List ℕ) (g : Goal) : Type 0 where
   pub targeted : Targeted table target places kinds bytes f
+  pub ends : TrueEnds (f .target) bytes memory
   pub kind : k < 32
   pub name : p < 256
   pub known : argumentsOf (f .source) k p ≡ some ks

@@ -1,5 +1,5 @@
 -- The parts of the search: what they ask for, and the last links of the chain of `ready`.
-use Prim.Native.Nat.{ℕ, _<_}
+use Prim.Native.Nat.{ℕ, _+_, _<_}
 use mathlib.Core.Path.{_≡_}
 use mathlib.Core.Bool.{true, not}
 use mathlib.Core.List.{List}
@@ -12,8 +12,11 @@ use Rattle.tree_reader.specs.Code.{Code}
 use Rattle.tree_reader.specs.Syntax.{write, tree}
 use Rattle.tree_reader.specs.Operations.{treeOf}
 use Rattle.format_translation.specs.Translation.{Translation, Body, mapped}
-use Rattle.run_table.specs.Inner.Table.{Checked}
+use Rattle.tree_reader.specs.Inner.Index.{Built}
+use Rattle.run_table.specs.Inner.Table.{Checked, Ready}
+use Rattle.search_levels.specs.Inner.Setting.{Unnamed}
 use Rattle.format_translation.specs.Plain.{plain}
+use Rattle.format_translation.specs.Inner.ItemIndex.{Mapped as UsesOf}
 use Rattle.tree_index.specs.Inner.Lying.{Index, Lies}
 use Rattle.search_sources.specs.Operations.{isLimit, foundIn, workspaceAfter}
 
@@ -38,11 +41,30 @@ pub record Mapped (kinds : List ℕ) (b : Body) : Type 0 where
   pub maps : (k : ℕ) → k < 32 → getD kinds k 0 ≡ mapped b k 0
 
 -- The target tree of the kind that k maps to is the whole tree, and the index is that of the target.
-pub record Placed (target places kinds bytes : List ℕ) (k : ℕ) (f : Translation) (u : Code) : Type 0 where
+pub record Placed (target places bytes : List ℕ) (k : ℕ) (f : Translation) (u : Code) : Type 0 where
   pub target-index : Index places target (f .target)
-  pub kinds-are : Mapped kinds (f .body)
+  pub narrow : (i : ℕ) → getD bytes i 0 < 256
   pub lies : Lies (f .target) bytes 0 (mapped (f .body) k 0) u
   pub whole : bytes ≡ write tree u
+
+-- A translation that is searchable, its table, and what kinds map to by number.
+pub record Tabled (table uses source target : List ℕ) (f : Translation) : Type 0 where
+  pub body : List ℕ
+  pub searchable : Searchable source target body f
+  pub ready : Ready table f
+  pub built : Built 0x11 source table 0
+  pub uses-of : UsesOf uses (f .body)
+
+-- All that a search looks things up in is filled.
+pub record Opened (table source target places kinds bytes : List ℕ) (k : ℕ) (f : Translation) (u : Code) : Type 0 where
+  pub body : List ℕ
+  pub searchable : Searchable source target body f
+  pub ready : Ready table f
+  pub built : Built 0x11 source table 0
+  pub narrow : (i : ℕ) → getD source i 0 < 256
+  pub placed : Placed target places bytes k f u
+  pub maps : Mapped kinds (f .body)
+  pub lowest : (j : ℕ) → j < 32 → Unnamed table j 0 (getD kinds (32 + j) 0)
 
 -- What is asked of tree and limit, in a translation that is searchable, for a source kind that is in it: 15, 16, 24. The last
 -- links of the chain of `ready`.
