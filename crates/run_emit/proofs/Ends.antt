@@ -1,7 +1,6 @@
 -- Laws of where the arguments of a node start and end.
 use Prim.Native.Nat.{ℕ, zero, suc, _+_, _≤_, _<_}
 use mathlib.Core.Path.{_≡_, refl, sym, ap, _∙_}
-use mathlib.Core.Bool.{true}
 use mathlib.Core.List.{List, []}
 use mathlib.Core.Logic.{_≢_, _⊎_, inr, ⊎-elim}
 use native.Mathlib.Nat.{add-assoc, add-zero}
@@ -24,8 +23,7 @@ use Rattle.tree_reader.specs.Inner.Ends.{Kept}
 use Rattle.format_translation.specs.Translation.{Translation}
 use Rattle.run_table.specs.Inner.Stands.{Stands}
 use Rattle.run_table.specs.Inner.Table.{sourceByte, KindsAt}
-use Rattle.run_emit.specs.Inner.Runs.{bytesOf, allBytes, front, Right, Node, Same, SkipAsks, FindAsks, leafAt, leafLength}
-use Rattle.run_emit.proofs.Skips.{some-bytes, leaf-bytes}
+use Rattle.run_emit.specs.Inner.Runs.{bytesOf, allBytes, front, Right, Node, Same, SkipAsks, FindAsks}
 use Rattle.run_table.proofs.Standing.{stands-both}
 
 -- The i-th of codes, counted from 0; past the end a fixed token.
@@ -109,14 +107,6 @@ module _ {x : Syntax} {t input : List ℕ} {q at : ℕ} {f : Translation} {given
   pub end-kept : {ends : List ℕ} {kind e : ℕ} → Right x ends input (f .source) given → kind ≡ sourceByte t q → (e ≡ 0) ⊎ Kept ends kind at e → e ≢ 0 → e ≡ at + length (bytesOf x u)
   end-kept {kind = kind} {e = e} right ek h some =
       ⊎-elim (λ z. absurd (some z)) (λ z. right kind at e z u (rw (ek ∙ a .kind) (a .term .typed)) (a .term .stands)) h
-
-  pub asked-inside : at < length input
-  asked-inside = let h = a .term .stands .inside in let m = some-bytes x u in omega arith
-
-  pub leaf-end : {kind n : ℕ} → kind ≡ sourceByte t q → true ≡ leafAt x t kind input at → n ≡ leafLength x input at → at + n ≡ at + length (bytesOf x u)
-  leaf-end ek el en =
-      let e = el ∙ ap (λ (j : ℕ). leafAt x t j input at) (ek ∙ a .kind) in
-      ap (λ (m : ℕ). at + m) (en ∙ leaf-bytes t input f given at x (a .table) (a .term .typed) (a .term .kind) (a .term .stands) e)
 
 -- find: p is where argument i starts, and the node is the one that it was.
 pub record Reached (x : Syntax) (t input before state : List ℕ) (p i : ℕ) (f : Translation) (given : Uses) (ts : Codes) (ks : List ℕ) : Type 0 where

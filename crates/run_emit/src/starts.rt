@@ -1,6 +1,4 @@
 // Where the arguments of a node start and end.
-use crate::skip::is_leaf;
-use crate::skip::leaf_length;
 use crate::skip::skip;
 use run_table::table::source_at;
 use tree_reader::ends::known_end;
@@ -23,8 +21,8 @@ fn known(node: &[usize; 10], j: usize) -> usize
     node[j]
 }
 
-// Where the term ends that starts at a position and whose kind stands in the source at q: a leaf shows it; for a production it is
-// kept, or found by stepping over it.
+// Where the term ends that starts at a position and whose kind stands in the source at q: it is kept, or found by stepping
+// over it.
 fn end_of(
     syntax: Syntax,
     table: &[u16; TABLE],
@@ -37,11 +35,7 @@ fn end_of(
     ensures { λ r. ⌜ ((f : Translation) (given : Uses) (u : Code) (k : ℕ) → SkipAsks syntax (now (table .entry)) (now (input .entry)) q at f given u k
         → Right syntax (now (ends .entry)) (now (input .entry)) (f .source) given → r ≡ at + length (bytesOf syntax u)) ⌝ }
 {
-    let kind = source_at(table, q);
-    if is_leaf(syntax, table, kind, input, at) {
-        return at + leaf_length(syntax, input, at);
-    }
-    let end = known_end(ends, kind, at);
+    let end = known_end(ends, source_at(table, q), at);
     if end != 0 {
         return end;
     }

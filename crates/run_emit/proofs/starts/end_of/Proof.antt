@@ -1,8 +1,5 @@
-use Rattle.run_emit.proofs.skip.is_leaf.Reads as is-leaf-reads
-use Rattle.run_emit.proofs.skip.leaf_length.Reads as leaf-length-reads
-use mathlib.Core.Path.{sym, _∙_}
 use borrow.Author.Needs.{needs}
-use Rattle.run_emit.proofs.Ends.{asked-kind, asked-inside, leaf-end, end-kept}
+use Rattle.run_emit.proofs.Ends.{asked-kind, end-kept}
 use Rattle.run_emit.proofs.starts.end_of.Statement.{statement}
 use Rattle.run_emit.proofs.starts.end_of.Tie as tie
 use Rattle.run_emit.proofs.starts.end_of.Reads as reads
@@ -14,37 +11,18 @@ use Rattle.tree_reader.proofs.ends.known_end.Reads as known-end-reads
 source-at-requires : tie.Need-source-at-requires
 source-at-requires c κs = c .before .before .pre .4 .inside
 
-is-leaf-requires : tie.Need-is-leaf-requires
-is-leaf-requires c κs = (asked-kind (c .before .before .before .pre .4) (c .source-at .ensures .0), asked-inside (c .before .before .before .pre .4))
-
-leaf-length-requires : tie.Need-leaf-length-requires
-leaf-length-requires c κs = asked-inside (c .before .before .before .before .before .pre .4)
+known-end-requires : tie.Need-known-end-requires
+known-end-requires c κs = asked-kind (c .before .before .before .pre .4) (c .source-at .ensures .0)
 
 returns : tie.Need-returns
-returns c = λ f given u k a right. leaf-end a (c .before .before .before .source-at .ensures .0) (sym (c .before .if1 .taken) ∙ c .before .before .is-leaf .ensures) (c .leaf-length .ensures .0)
-
-known-end-requires : tie.Need-known-end-requires
-known-end-requires c κs = asked-kind (c .before .before .before .before .before .pre .4) (c .before .before .source-at .ensures .0)
-
-returns-2 : tie.Need-returns-2
-returns-2 c = λ f given u k a right. end-kept a right (c .before .before .before .before .source-at .ensures .0) (c .before .known-end .ensures) (c .if2 .taken)
+returns c = λ f given u k a right. end-kept a right (c .before .before .source-at .ensures .0) (c .before .known-end .ensures) (c .if1 .taken)
 
 skip-requires : tie.Need-skip-requires
-skip-requires c κs = c .before .before .before .before .before .before .before .pre
+skip-requires c κs = c .before .before .before .before .before .pre
 
-returns-3 : tie.Need-returns-3
-returns-3 c = λ f given u k a right. c .skip .ensures f given u k a
+returns-2 : tie.Need-returns-2
+returns-2 c = λ f given u k a right. c .skip .ensures f given u k a
 
 pub end-of-spec : {M : Type 1} → statement M
 end-of-spec =
-    tie.close
-    (tie.spec
-    source-at-requires
-    is-leaf-requires
-    leaf-length-requires
-    (λ c. search needs)
-    returns
-    known-end-requires
-    returns-2
-    skip-requires
-    returns-3)
+    tie.close (tie.spec source-at-requires known-end-requires returns skip-requires returns-2)
