@@ -1,4 +1,4 @@
-use Prim.Native.Nat.{ℕ}
+use Prim.Native.Nat.{ℕ, _+_}
 use mathlib.Core.Path.{refl, ap, _∙_}
 use mathlib.Core.List.{[]}
 use native.Mathlib.Omega.{arith}
@@ -46,7 +46,7 @@ add-t28 : tie.Need-add-t28
 add-t28 c = let w = named-in Tree (c .before .before .before .before .before .before .before .before .before .before .before .before .args .source .now) (c .before .before .before .before .before .before .before .before .before .before .before .before .args .index .now) [] _ (c .before .before .before .before .before .before .before .before .before .before .before .before .args .tree .now) _ (place-tree _ _ refl (c .before .before .before .before .before .before .to-usize .ensures .0) (c .before .before .before .before .before .place-at .ensures)) (c .before .before .before .production-place .ensures) (c .before .before .if1 .left) (c .before .before .before .before .before .before .before .before .before .before .before .before .pre .0) (c .before .before .before .before .before .before .before .before .before .before .before .before .pre .1) (λ i. omega (arith, c .before .before .before .before .before .before .before .before .before .shared-slice-known3 .given i)) in omega (arith, c .pair-in .ensures .1, w .0, w .1)
 
 returns-2 : tie.Need-returns-2
-returns-2 c = let node = named-node Tree (c .before .before .before .before .before .before .before .before .before .before .before .before .before .before .args .source .now) (c .before .before .before .before .before .before .before .before .before .before .before .before .before .before .args .index .now) [] _ (c .before .before .before .before .before .before .before .before .before .before .before .before .before .before .args .tree .now) _ (place-tree _ _ refl (c .before .before .before .before .before .before .before .before .to-usize .ensures .0) (c .before .before .before .before .before .before .before .place-at .ensures)) (c .before .before .before .before .before .production-place .ensures) (c .before .before .before .before .if1 .left) (c .before .before .pair-in .ensures .0) refl in (name-goes _ _ _ _ _ _ _ _ _ _ _ _ node (c .before .before .before .own-of .ensures) (c .before .add .ensures) (c .before .before .before .before .before .before .before .before .before .before .before .before .before .before .pre .8) (c .add2 .ensures), ((omega arith, named-end Tree (c .before .before .before .before .before .before .before .before .before .before .before .before .before .before .args .source .now) (c .before .before .before .before .before .before .before .before .before .before .before .before .before .before .args .index .now) [] _ (c .before .before .before .before .before .before .before .before .before .before .before .before .before .before .args .tree .now) _ (place-tree _ _ refl (c .before .before .before .before .before .before .before .before .to-usize .ensures .0) (c .before .before .before .before .before .before .before .place-at .ensures)) (c .before .before .before .before .before .production-place .ensures) (c .before .before .before .before .if1 .left) refl, omega (arith, c .before .add .ensures), omega (arith, c .add2 .ensures), named-kinds Tree (c .before .before .before .before .before .before .before .before .before .before .before .before .before .before .args .source .now) (c .before .before .before .before .before .before .before .before .before .before .before .before .before .before .args .index .now) [] _ (c .before .before .before .before .before .before .before .before .before .before .before .before .before .before .args .tree .now) _ (place-tree _ _ refl (c .before .before .before .before .before .before .before .before .to-usize .ensures .0) (c .before .before .before .before .before .before .before .place-at .ensures)) (c .before .before .before .before .before .production-place .ensures) (c .before .before .before .before .if1 .left) (c .before .before .before .before .before .before .before .before .before .before .before .before .before .before .pre .0) (c .before .before .before .before .before .before .before .before .before .before .before .before .before .before .pre .1) (λ i. omega (arith, c .before .before .before .before .before .before .before .before .before .before .before .shared-slice-known3 .given i)) (c .before .before .pair-in .ensures .0)), (name-decides _ _ _ _ _ _ _ _ node, name-childless (c .before .before .before .before .before .before .before .before .before .before .before .before .before .before .args .index .now) _ (c .before .before .before .before .before .before .before .before .before .before .before .before .before .before .args .tree .now) _ _ _ (c .before .before .before .before .before .before .before .before .to-usize .ensures .0) (c .before .before .before .before .before .before .before .place-at .ensures) (c .before .before .before .before .before .production-place .ensures) (c .before .before .before .before .if1 .left))))
+returns-2 c = let node = named-node Tree (c .before .before .before .before .before .before .before .before .before .before .before .before .before .before .args .source .now) (c .before .before .before .before .before .before .before .before .before .before .before .before .before .before .args .index .now) [] _ (c .before .before .before .before .before .before .before .before .before .before .before .before .before .before .args .tree .now) _ (place-tree _ _ refl (c .before .before .before .before .before .before .before .before .to-usize .ensures .0) (c .before .before .before .before .before .before .before .place-at .ensures)) (c .before .before .before .before .before .production-place .ensures) (c .before .before .before .before .if1 .left) refl (ap (λ (n : ℕ). c .before .before .before .before .before .production-place .result + 2 + n) (c .before .before .pair-in .ensures .0)) refl in (name-goes _ _ _ _ _ _ _ _ _ _ _ _ node (c .before .before .before .own-of .ensures) (c .before .add .ensures) (c .before .before .before .before .before .before .before .before .before .before .before .before .before .before .pre .8) (c .add2 .ensures), ((omega arith, named-end Tree (c .before .before .before .before .before .before .before .before .before .before .before .before .before .before .args .source .now) (c .before .before .before .before .before .before .before .before .before .before .before .before .before .before .args .index .now) [] _ (c .before .before .before .before .before .before .before .before .before .before .before .before .before .before .args .tree .now) _ (place-tree _ _ refl (c .before .before .before .before .before .before .before .before .to-usize .ensures .0) (c .before .before .before .before .before .before .before .place-at .ensures)) (c .before .before .before .before .before .production-place .ensures) (c .before .before .before .before .if1 .left) refl, omega (arith, c .before .add .ensures), omega (arith, c .add2 .ensures), named-kinds Tree (c .before .before .before .before .before .before .before .before .before .before .before .before .before .before .args .source .now) (c .before .before .before .before .before .before .before .before .before .before .before .before .before .before .args .index .now) [] _ (c .before .before .before .before .before .before .before .before .before .before .before .before .before .before .args .tree .now) _ (place-tree _ _ refl (c .before .before .before .before .before .before .before .before .to-usize .ensures .0) (c .before .before .before .before .before .before .before .place-at .ensures)) (c .before .before .before .before .before .production-place .ensures) (c .before .before .before .before .if1 .left) (c .before .before .before .before .before .before .before .before .before .before .before .before .before .before .pre .0) (c .before .before .before .before .before .before .before .before .before .before .before .before .before .before .pre .1) (λ i. omega (arith, c .before .before .before .before .before .before .before .before .before .before .before .shared-slice-known3 .given i)) refl (ap (λ (n : ℕ). c .before .before .before .before .before .production-place .result + 2 + n) (c .before .before .pair-in .ensures .0))), (name-decides _ _ _ _ _ _ _ _ node, name-childless (c .before .before .before .before .before .before .before .before .before .before .before .before .before .before .args .index .now) _ (c .before .before .before .before .before .before .before .before .before .before .before .before .before .before .args .tree .now) _ _ _ (c .before .before .before .before .before .before .before .before .to-usize .ensures .0) (c .before .before .before .before .before .before .before .place-at .ensures) (c .before .before .before .before .before .production-place .ensures) (c .before .before .before .before .if1 .left))))
 
 pub step-at-spec : {M : Type 1} → statement M
 step-at-spec =

@@ -7,7 +7,7 @@ use lib.ListN.{getD}
 use native.Mathlib.Omega.{arith}
 use mathlib.Core.List.{[]}
 use mathlib.Core.Path.{refl, ap, _∙_}
-use Prim.Native.Nat.{ℕ}
+use Prim.Native.Nat.{ℕ, _+_}
 use borrow.Author.Needs.{needs}
 use Rattle.run_single.proofs.walk.step_at.Statement.{statement}
 use Rattle.run_single.proofs.walk.step_at.Tie as tie
@@ -48,7 +48,7 @@ count-in-requires : tie.Need-count-in-requires
 count-in-requires c κs = let w = named-in Tree (c .before .before .before .before .before .before .before .before .before .args .source .now) (c .before .before .before .before .before .before .before .before .before .args .index .now) [] _ (c .before .before .before .before .before .before .before .before .before .args .tree .now) _ (place-tree _ _ refl (c .before .before .before .before .before .to-usize .ensures .0) (c .before .before .before .before .place-at .ensures)) (c .before .before .production-place .ensures) (c .before .if1 .left) (c .before .before .before .before .before .before .before .before .before .pre .0) (c .before .before .before .before .before .before .before .before .before .pre .1) (λ i. omega (arith, c .before .before .before .before .before .before .before .shared-slice-known2 .given i)) in omega (arith, w .0, w .1)
 
 returns-2 : tie.Need-returns-2
-returns-2 c = let node = named-node Tree (c .before .before .before .before .before .before .before .before .before .before .before .before .args .source .now) (c .before .before .before .before .before .before .before .before .before .before .before .before .args .index .now) [] _ (c .before .before .before .before .before .before .before .before .before .before .before .before .args .tree .now) _ (place-tree _ _ refl (c .before .before .before .before .before .before .before .before .to-usize .ensures .0) (c .before .before .before .before .before .before .before .place-at .ensures)) (c .before .before .before .before .before .production-place .ensures) (c .before .before .before .before .if1 .left) (c .before .before .before .pair-in .ensures .0) refl in ((λ i ws e. name-goes _ _ _ _ _ _ _ _ _ _ _ _ node (own-is ws i _ e _ _ (c .before .before .count-in .ensures .0)) (capped-part _ _ _ (c .before .add-share .ensures)) (total-is ws i _ e (c .before .before .before .before .before .before .before .before .before .before .before .before .pre .3)) (c .add .ensures)), ((omega arith, named-end Tree (c .before .before .before .before .before .before .before .before .before .before .before .before .args .source .now) (c .before .before .before .before .before .before .before .before .before .before .before .before .args .index .now) [] _ (c .before .before .before .before .before .before .before .before .before .before .before .before .args .tree .now) _ (place-tree _ _ refl (c .before .before .before .before .before .before .before .before .to-usize .ensures .0) (c .before .before .before .before .before .before .before .place-at .ensures)) (c .before .before .before .before .before .production-place .ensures) (c .before .before .before .before .if1 .left) refl, omega (arith, c .before .add-share .ensures), omega (arith, c .add .ensures), named-kinds Tree (c .before .before .before .before .before .before .before .before .before .before .before .before .args .source .now) (c .before .before .before .before .before .before .before .before .before .before .before .before .args .index .now) [] _ (c .before .before .before .before .before .before .before .before .before .before .before .before .args .tree .now) _ (place-tree _ _ refl (c .before .before .before .before .before .before .before .before .to-usize .ensures .0) (c .before .before .before .before .before .before .before .place-at .ensures)) (c .before .before .before .before .before .production-place .ensures) (c .before .before .before .before .if1 .left) (c .before .before .before .before .before .before .before .before .before .before .before .before .pre .0) (c .before .before .before .before .before .before .before .before .before .before .before .before .pre .1) (λ i. omega (arith, c .before .before .before .before .before .before .before .before .before .before .shared-slice-known2 .given i)) (c .before .before .before .pair-in .ensures .0)), (name-decides _ _ _ _ _ _ _ _ node, name-childless (c .before .before .before .before .before .before .before .before .before .before .before .before .args .index .now) _ (c .before .before .before .before .before .before .before .before .before .before .before .before .args .tree .now) _ _ _ (c .before .before .before .before .before .before .before .before .to-usize .ensures .0) (c .before .before .before .before .before .before .before .place-at .ensures) (c .before .before .before .before .before .production-place .ensures) (c .before .before .before .before .if1 .left))))
+returns-2 c = let node = named-node Tree (c .before .before .before .before .before .before .before .before .before .before .before .before .args .source .now) (c .before .before .before .before .before .before .before .before .before .before .before .before .args .index .now) [] _ (c .before .before .before .before .before .before .before .before .before .before .before .before .args .tree .now) _ (place-tree _ _ refl (c .before .before .before .before .before .before .before .before .to-usize .ensures .0) (c .before .before .before .before .before .before .before .place-at .ensures)) (c .before .before .before .before .before .production-place .ensures) (c .before .before .before .before .if1 .left) refl (ap (λ (n : ℕ). c .before .before .before .before .before .production-place .result + 2 + n) (c .before .before .before .pair-in .ensures .0)) refl in ((λ i ws e. name-goes _ _ _ _ _ _ _ _ _ _ _ _ node (own-is ws i _ e _ _ (c .before .before .count-in .ensures .0)) (capped-part _ _ _ (c .before .add-share .ensures)) (total-is ws i _ e (c .before .before .before .before .before .before .before .before .before .before .before .before .pre .3)) (c .add .ensures)), ((omega arith, named-end Tree (c .before .before .before .before .before .before .before .before .before .before .before .before .args .source .now) (c .before .before .before .before .before .before .before .before .before .before .before .before .args .index .now) [] _ (c .before .before .before .before .before .before .before .before .before .before .before .before .args .tree .now) _ (place-tree _ _ refl (c .before .before .before .before .before .before .before .before .to-usize .ensures .0) (c .before .before .before .before .before .before .before .place-at .ensures)) (c .before .before .before .before .before .production-place .ensures) (c .before .before .before .before .if1 .left) refl, omega (arith, c .before .add-share .ensures), omega (arith, c .add .ensures), named-kinds Tree (c .before .before .before .before .before .before .before .before .before .before .before .before .args .source .now) (c .before .before .before .before .before .before .before .before .before .before .before .before .args .index .now) [] _ (c .before .before .before .before .before .before .before .before .before .before .before .before .args .tree .now) _ (place-tree _ _ refl (c .before .before .before .before .before .before .before .before .to-usize .ensures .0) (c .before .before .before .before .before .before .before .place-at .ensures)) (c .before .before .before .before .before .production-place .ensures) (c .before .before .before .before .if1 .left) (c .before .before .before .before .before .before .before .before .before .before .before .before .pre .0) (c .before .before .before .before .before .before .before .before .before .before .before .before .pre .1) (λ i. omega (arith, c .before .before .before .before .before .before .before .before .before .before .shared-slice-known2 .given i)) refl (ap (λ (n : ℕ). c .before .before .before .before .before .production-place .result + 2 + n) (c .before .before .before .pair-in .ensures .0))), (name-decides _ _ _ _ _ _ _ _ node, name-childless (c .before .before .before .before .before .before .before .before .before .before .before .before .args .index .now) _ (c .before .before .before .before .before .before .before .before .before .before .before .before .args .tree .now) _ _ _ (c .before .before .before .before .before .before .before .before .to-usize .ensures .0) (c .before .before .before .before .before .before .before .place-at .ensures) (c .before .before .before .before .before .production-place .ensures) (c .before .before .before .before .if1 .left))))
 
 pub step-at-spec : {M : Type 1} → statement M
 step-at-spec =
