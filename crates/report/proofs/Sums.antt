@@ -12,7 +12,7 @@ use Rattle.format_translation.specs.Translation.{Item, mapping, clause, Transla
 use Rattle.format_translation.proofs.Lookup.{mem-mapping}
 use Rattle.reduce_operators.specs.Operators.{languageUnion, translationUnion}
 use Rattle.reduce_operators.proofs.SumSound.{TranslationsFit, union-covers}
-use Rattle.reduce_operators.proofs.ItemParts.{mapping-parts, clause-parts}
+use Rattle.format_translation.proofs.ItemParts.{mapping-parts, clause-parts}
 use Rattle.report.specs.Sets.{_∈_}
 use Rattle.report.specs.Languages.{Nonterminal, has-class, has-production, is-argument, IsSum}
 use Rattle.report.specs.Typing.{HasKind, Mapped}

@@ -5,7 +5,7 @@ use mathlib.Core.List.{List}
 use Rattle.format_language.specs.Language.{production, Language}
 use Rattle.tree_reader.specs.Code.{Code, node, token, argument, Codes, nil, cons}
 use Rattle.format_translation.specs.Translation.{mapping, Translation, plainKey, numberOf, itemKey}
-use Rattle.reduce_operators.proofs.ItemParts.{mapping-parts}
+use Rattle.format_translation.proofs.ItemParts.{mapping-parts}
 use Rattle.report.specs.Sets.{_∈_}
 use Rattle.report.specs.Typing.{Picked, picked-first, picked-later, Gaps, HasKind, has-argument, has-token, has-node, HaveKinds, have-none, have-more, Through, Mapped}
 use Rattle.report.specs.Transformation.{Fillings, Substitutes, substitutes-node, substitutes-token, substitutes-argument, SubstitutesAll, substitutes-none, substitutes-more, At, at-first, at-later, Reconstructor, Transforms, transforms-node, transforms-token, transforms-argument, TransformsAll, transforms-none, transforms-more}

@@ -28,7 +28,7 @@ use Rattle.format_translation.proofs.Lookup.{mem-mapping, mem-mapped, mapping-m
 use Rattle.format_translation.proofs.Fitting.{Fitting, fit-tests, uses-are, fit-carries, clause-code}
 use Rattle.reduce_operators.specs.Limits.{isDeep, codeIsDeep}
 use Rattle.reduce_operators.proofs.Proper.{proper-apart, Sound, kinds-below}
-use Rattle.reduce_operators.proofs.ItemParts.{clause-parts}
+use Rattle.format_translation.proofs.ItemParts.{clause-parts}
 use Rattle.report.specs.Sets.{_∈_}
 use Rattle.report.specs.Languages.{has-production, WellFormedLanguage}
 use Rattle.report.specs.Transformation.{Reconstructor}
