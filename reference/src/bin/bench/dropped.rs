@@ -1,8 +1,7 @@
 //! Times of runs whose clauses drop a long argument in front of one that is used very often.
 
-use crate::inputs::runs::{dropping_doubled, flat};
+use crate::inputs::runs::{dropping_doubled, flat, identity};
 use crate::measure::compare;
-use crate::print_line;
 use algebra::raw as library;
 use std::hint::black_box;
 
@@ -23,21 +22,30 @@ fn tree(doublings: usize, dropped: &[usize]) -> Vec<u8> {
     tree
 }
 
-/// Measures one run; the bytes are those that are read and written.
+/// Runs the tree once by the library, and gives the bytes that are read and written.
+fn bytes_of(translation: &[u8], tree: &[u8], output: &mut [u8]) -> usize {
+    let found = library::run(translation, 1, 0, tree, output);
+    assert_eq!(found.number, 0);
+    tree.len() + found.length as usize
+}
+
+/// Measures one run by the library alone: the reference, which looks for the end of a dropped part at
+/// each use, takes seconds. Beside it stands a run of one such part that is kept, as the usual time.
 fn bench_one(name: &str, tree: &[u8]) {
-    let translation = dropping_doubled();
-    let mut output = vec![0; 2 << 20];
-    let mut library_output = output.clone();
-    let expected = reference::run(&translation, 1, 0, tree, &mut output);
-    assert_eq!(expected.number(), 0);
-    let found = library::run(&translation, 1, 0, tree, &mut library_output);
-    assert_eq!((found.number, found.length), (0, expected.length()));
-    assert_eq!(output, library_output);
+    let (dropping, usual) = (dropping_doubled(), identity());
+    let kept = flat(200_001);
+    let (mut output, mut other) = (vec![0; 2 << 20], vec![0; 2 << 20]);
+    let bytes = bytes_of(&dropping, tree, &mut output) as f64;
+    let usual_bytes = bytes_of(&usual, &kept, &mut other) as f64;
     let timing = compare(
-        || library::run(&translation, 1, 0, black_box(tree), &mut library_output),
-        || reference::run(&translation, 1, 0, black_box(tree), &mut output),
+        || library::run(&dropping, 1, 0, black_box(tree), &mut output),
+        || library::run(&usual, 1, 0, black_box(&kept), &mut other),
     );
-    print_line(&format!("run, {name}"), tree.len() + expected.length() as usize, timing);
+    let (time, usual_time) = (timing.library / bytes, timing.reference / usual_bytes);
+    println!(
+        "run, {name}: {time:.2} ns for a byte read or written, {:.2} times the usual",
+        time / usual_time
+    );
 }
 
 /// Measures a dropped part of 4,095 bytes that is passed 2^18 times, and two long ones, of which the

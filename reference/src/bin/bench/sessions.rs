@@ -40,6 +40,7 @@ struct Search<'a> {
     translation: &'a [u8],
     limit: u32,
     workspace: Vec<u8>,
+    for_a_byte: usize,
     outputs: [Vec<u8>; 2],
 }
 
@@ -48,12 +49,19 @@ impl<'a> Search<'a> {
     fn new(translation: &'a [u8], limit: u32, bytes: usize, workspace: usize) -> Search<'a> {
         let output = vec![0; 4 * bytes + 64];
         let outputs = [output.clone(), output];
-        Search { translation, limit, workspace: vec![0; workspace * bytes], outputs }
+        Search {
+            translation,
+            limit,
+            workspace: vec![0; workspace * bytes],
+            for_a_byte: workspace,
+            outputs,
+        }
     }
 
     /// Number and length by the library.
     fn by_library(&mut self, tree: &[u8]) -> (u32, u64) {
-        let (workspace, output) = (&mut self.workspace, &mut self.outputs[0]);
+        let workspace = &mut self.workspace[..self.for_a_byte * tree.len()];
+        let output = &mut self.outputs[0];
         let translation = black_box(self.translation);
         let answer = library::search(translation, ROOT, tree, self.limit, workspace, output);
         (answer.number, answer.length)
