@@ -348,21 +348,21 @@ module _ {x : Syntax} {t input ends before state : List ℕ} {c stop left : ℕ}
 
     -- The rest of the row, behind its next code.
     onward : (state′ : List ℕ) (c′ : ℕ) (us : Codes) (js : List ℕ) → Node x t input state′ (f .source) given ts ks → Row t c′ stop (f .target) (usesFor f ks) us js
-        → treeLevel * levelsAll ts + levelsAll us ≤ left → RowAsks x t input ends state′ c′ stop left f given ts ks us js
+        → levelsAll us + 2 ≤ left % treeLevel → RowAsks x t input ends state′ c′ stop left f given ts ks us js
     onward state′ c′ us js n w h = record {
       table = g .asks .table;
       kept = g .asks .kept;
       node = n;
       row = w;
       most = g .asks .most;
-      levels = h;
+      nodes = g .asks .nodes;
+      codes = h;
     }
 
-    levels-behind : (a : Terms.Code) (us : Codes) → g .rest ≡ cons a us
-        → (treeLevel * levelsAll ts + levels a ≤ left) × (treeLevel * levelsAll ts + levelsAll us ≤ left)
+    levels-behind : (a : Terms.Code) (us : Codes) → g .rest ≡ cons a us → (levels a + 2 ≤ left % treeLevel) × (levelsAll us + 2 ≤ left % treeLevel)
     unfolding levels
     levels-behind a us e =
-        let h : treeLevel * levelsAll ts + levelsAll (cons a us) ≤ left = rw e at (g .asks .levels) in
+        let h : levelsAll (cons a us) + 2 ≤ left % treeLevel = rw e at (g .asks .codes) in
         (omega arith, omega arith)
 
     -- The next code is a use of an argument.
@@ -370,7 +370,7 @@ module _ {x : Syntax} {t input ends before state : List ℕ} {c stop left : ℕ}
       used : Used t c stop (f .target) (usesFor f ks) (g .rest)
       used = nexts .1 (omega arith)
 
-      pub argument-some : treeLevel * levelsAll ts < left
+      pub argument-some : 2 < left % treeLevel
       unfolding levels
       argument-some = let h = levels-behind _ (used .rest) (used .is) .0 in omega arith
 
@@ -389,7 +389,8 @@ module _ {x : Syntax} {t input ends before state : List ℕ} {c stop left : ℕ}
         kept = g .asks .kept;
         node = g .asks .node;
         most = g .asks .most;
-        levels = let h = argument-some in omega arith;
+        nodes = let n = g .asks .nodes in let h = argument-some in omega arith;
+        more = let h = argument-some in omega arith;
         room = λ z n. let h = used .more n in let i = g .asks .row .inside in omega arith;
         some = let b = used .byte in omega arith;
         place = rw place-is (used-has .0);
@@ -444,27 +445,30 @@ module _ {x : Syntax} {t input ends before state : List ℕ} {c stop left : ℕ}
       pub named-room : (c + 2 ≤ spanEntry t c) × (spanEntry t c ≤ stop)
       named-room = (named .ends, named .room)
 
-      inner-levels : treeLevel * levelsAll ts + suc (levelsAll (named .inner)) ≤ left
+      inner-levels : suc (levelsAll (named .inner)) + 2 ≤ left % treeLevel
       unfolding levels
       inner-levels = levels-behind _ (named .rest) (named .is) .0
 
-      pub named-some : 0 < left
+      pub named-some : 2 < left % treeLevel
       named-some = let h = inner-levels in omega arith
+
+      inner-asks : RowAsks x t input ends state (c + 2) (spanEntry t c) (left - 1) f given ts ks (named .inner) (named .innerKinds)
+      inner-asks =
+          let n = g .asks .nodes in
+          let h = inner-levels in
+          record {
+            table = g .asks .table;
+            kept = g .asks .kept;
+            node = g .asks .node;
+            row = named .row;
+            most = g .asks .most;
+            nodes = omega arith;
+            codes = omega arith;
+          }
 
       pub named-asks : {fin : ℕ} → fin ≡ spanEntry t c
           → (us : Codes) × (js : List ℕ) × RowAsks x t input ends state (c + 2) fin (left - 1) f given ts ks us js
-      named-asks q = rw q (
-        named .inner,
-        named .innerKinds,
-        record {
-          table = g .asks .table;
-          kept = g .asks .kept;
-          node = g .asks .node;
-          row = named .row;
-          most = g .asks .most;
-          levels = let h = inner-levels in omega arith;
-        },
-      )
+      named-asks q = rw q (named .inner, named .innerKinds, inner-asks)
 
       module _ {name : ℕ} (en : name ≡ bodyByte t (c + 1)) {end : List ℕ} {e : ℕ} (w : Wrote (sign (syntaxOf x) 1 ++ name ∷ []) mid end p e) where
         bytes-name : rowBytes x f ts (g .rest) ≡ (sign (syntaxOf x) 1 ++ name ∷ []) ++ (rowBytes x f ts (named .inner) ++ rowBytes x f ts (named .rest))
@@ -472,16 +476,15 @@ module _ {x : Syntax} {t input ends before state : List ℕ} {c stop left : ℕ}
             ap (rowBytes x f ts) (named .is) ∙ rw (en, named .byte) (row-node x f ts (named .kind) (named .name) (named .inner) (named .rest))
 
         -- Nothing is behind it: its inner codes are what is left.
-        pub named-last : spanEntry t c ≡ stop → Going x t input ends before state (c + 2) stop left f given ts ks cs o end pos e
+        pub named-last : spanEntry t c ≡ stop → Going x t input ends before state (c + 2) stop (left - 1) f given ts ks cs o end pos e
         named-last q =
             let z = row-empty t (spanEntry t c) stop (f .target) (usesFor f ks) (named .rest) (named .behind) (omega arith) in
             let y : rowBytes x f ts (named .inner) ++ rowBytes x f ts (named .rest) ≡ rowBytes x f ts (named .inner) =
             ap (λ (us : Codes). rowBytes x f ts (named .inner) ++ rowBytes x f ts us) z ∙ rw (row-nil x f ts) (append-nil (rowBytes x f ts (named .inner))) in
-            let h = inner-levels in
             record {
               rest = named .inner;
               kinds = named .innerKinds;
-              asks = onward state (c + 2) (named .inner) (named .innerKinds) (g .asks .node) (rw q at (named .row)) (omega arith);
+              asks = rw q at inner-asks;
               same = g .same;
               goes = λ after d k. goes-on _ _ bytes-name end e w after d (rw y k);
             }
@@ -832,8 +835,8 @@ module _ {x : Syntax} {t input : List ℕ} {at k number : ℕ} {f : Translation}
 -- run_node: the code of a clause.
 module _ {x : Syntax} {t input ends state : List ℕ} {at k number left c stop : ℕ} {f : Translation} {given : Uses} {u : Terms.Code}
     (a : NodeAsks x t input ends at k number left f given u) (s : Started x t input state at c number f given u) (es : stop ≡ c + length (write code (s .body))) where
-  pub node-some : 0 < left
-  node-some = let l = a .levels in let d = s .deep in omega arith
+  pub node-some : 32 ≤ left
+  node-some = let l = a .nodes in let d = s .deep in omega arith
 
   code-some : (c : Terms.Code) → 0 < length (write code c)
   unfolding write
@@ -859,36 +862,57 @@ module _ {x : Syntax} {t input ends state : List ℕ} {at k number left c stop :
         narrow = λ m h y. s .clause .narrow m h (omega arith);
       }
 
-  clause-asks : RowAsks x t input ends state c stop (left - 1) f given (s .operands) (s .kinds) (cons (s .body) nil) (s .result ∷ [])
+  -- What is asked of the whole code: so many levels less are left that its own fit.
+  clause-asks : (less : ℕ) → 14 ≤ less → less ≤ 15 → levels (s .body) + less ≤ 30
+      → RowAsks x t input ends state c stop (left - less) f given (s .operands) (s .kinds) (cons (s .body) nil) (s .result ∷ [])
   unfolding levels
-  clause-asks = record {
+  clause-asks less from to fits = record {
     table = a .there .table;
     kept = a .kept;
     node = s .node;
     row = clause-row;
     most = let m = a .most in let d = s .deep in omega arith;
-    levels = let l = a .levels in let d = s .deep in let w = s .clause .within in omega arith;
+    nodes = let l = a .nodes in let z = a .whole in let d = s .deep in omega arith;
+    codes = let l = a .nodes in let z = a .whole in let d = s .deep in omega arith;
   }
 
   -- The clause's code, of which so much is put out.
   abbrev pub NodeGoing : ℕ → List ℕ → List ℕ → ℕ → ℕ → Type 0
   NodeGoing to o mid pos p =
-      Going x t input ends state state to stop (left - 1) f given (s .operands) (s .kinds) (cons (s .body) nil) o mid pos p
+      Going x t input ends state state to stop (left - 15) f given (s .operands) (s .kinds) (cons (s .body) nil) o mid pos p
 
-  pub node-going : (o : List ℕ) (pos : ℕ) → NodeGoing c o o pos pos
-  node-going o pos = going-start x t input ends state c stop (left - 1) o pos f given _ _ _ _ clause-asks
+  -- Nothing is put out yet; the root takes a level.
+  whole-going : (o : List ℕ) (pos : ℕ) → Going x t input ends state state c stop (left - 14) f given (s .operands) (s .kinds) (cons (s .body) nil) o o pos pos
+  whole-going o pos =
+      let w = s .clause .within in
+      going-start x t input ends state c stop (left - 14) o pos f given _ _ _ _ (clause-asks 14 (omega arith) (omega arith) (omega arith))
+
+  -- The same where the root is no production.
+  root-low : (b : Terms.Code) → Stands t (17472 + c) (write code b) → (bodyByte t c ≡ 1 → ⊥) → levels b ≤ 1
+  unfolding write levels
+  root-low (node k p ts) h n = absurd (n (stands-head t (17472 + c) 1 _ h .1))
+  root-low (token v) h n = omega arith
+  root-low (argument i j) h n = omega arith
+
+  pub node-going : (bodyByte t c ≡ 1 → ⊥) → (o : List ℕ) (pos : ℕ) → NodeGoing c o o pos pos
+  node-going n o pos =
+      let w = root-low (s .body) (s .clause .stands) n in
+      going-start x t input ends state c stop (left - 15) o pos f given _ _ _ _ (clause-asks 15 (omega arith) (omega arith) (omega arith))
 
   pub root-narrow : {b : ℕ} → b ≡ bodyByte t (c + 1) → b < 256
-  root-narrow e = let g = node-going [] 0 in next-narrow g clause-more e (omega arith) (next-two g clause-more)
+  root-narrow e = let g = whole-going [] 0 in next-narrow g clause-more e (omega arith) (next-two g clause-more)
 
   pub root-room : c + 1 < 4096
-  root-room = next-below (node-going [] 0) clause-more
+  root-room = next-below (whole-going [] 0) clause-more
 
   pub root-going : {o mid : List ℕ} {pos p name : ℕ} → bodyByte t c ≡ 1 → name ≡ bodyByte t (c + 1) → Wrote (sign (syntaxOf x) 1 ++ name ∷ []) o mid pos p
       → NodeGoing (c + 2) o mid pos p
-  root-going {o} {pos = pos} is en w =
-      named-last (node-going o pos) clause-more is en w
-      (root-span t c stop (f .target) (usesFor f (s .kinds)) (s .body) (s .result ∷ []) clause-row clause-more is)
+  root-going {o} {mid} {pos} {p} is en w =
+      let g : Going x t input ends state state (c + 2) stop (left - 14 - 1) f given (s .operands) (s .kinds) (cons (s .body) nil) o mid pos p =
+      named-last (whole-going o pos) clause-more is en w
+      (root-span t c stop (f .target) (usesFor f (s .kinds)) (s .body) (s .result ∷ []) clause-row clause-more is) in
+      let z : left - 14 - 1 ≡ left - 15 = omega arith in
+      rw z at g
 
   -- The same, written in another way.
   pub going-as : {to to′ : ℕ} {o mid mid′ : List ℕ} {pos p p′ : ℕ} → mid ≡ mid′ → to ≡ to′ → p ≡ p′ → NodeGoing to′ o mid′ pos p′ → NodeGoing to o mid pos p
@@ -898,7 +922,7 @@ module _ {x : Syntax} {t input ends state : List ℕ} {at k number left c stop :
   run-is = row-one x f (s .operands) (s .body) ∙ ap (bytesOf x) (sym (s .runs))
 
   -- Its codes were put out.
-  module _ {to : ℕ} {o mid : List ℕ} {pos p : ℕ} (g : NodeGoing to o mid pos p) {after end : List ℕ} {e : ℕ} (gives : RowGives x t input ends state after to stop (left - 1) mid end p e) where
+  module _ {to : ℕ} {o mid : List ℕ} {pos p : ℕ} (g : NodeGoing to o mid pos p) {after end : List ℕ} {e : ℕ} (gives : RowGives x t input ends state after to stop (left - 15) mid end p e) where
     given-codes : Wrote (rowBytes x f (s .operands) (g .rest)) mid end p e × Node x t input after (f .source) given (s .operands) (s .kinds) × Same state after
     given-codes = gives f given _ _ _ _ (g .asks)
 
@@ -980,7 +1004,8 @@ module _ {x : Syntax} {t input ends before : List ℕ} {c left b : ℕ} (eb : b 
           kept = a .kept;
           node = w .1;
           most = a .most;
-          levels = a .levels;
+          nodes = a .nodes;
+          more = a .more;
           room = a .room;
           some = a .some;
           place = a .place;
@@ -1050,22 +1075,20 @@ module _ {x : Syntax} {t input ends state : List ℕ} {left j at c : ℕ} {f : T
 
     -- A production.
     module _ (is : leafAt x t kind input at ≡ false) where
-      some-levels : 0 < levels (nth ts j)
-      unfolding levels
-      some-levels = let n = found-tells .inner is .is in let z : levels (nth ts j) ≡ suc (levelsAll (found-tells .inner is .operands)) = rw n refl in omega arith
-
-      pub found-some : 0 < left
-      found-some = let l = a .asks .levels in let m = found-levels in let z = some-levels in omega arith
-
-      pub found-asks : NodeAsks x t input ends at kind (usedNumber t c) (left - 1) f given (nth ts j)
+      pub found-asks : NodeAsks x t input ends at kind (usedNumber t c) (left - left % treeLevel) f given (nth ts j)
       found-asks =
-          let l = a .asks .levels in
+          let l = a .asks .nodes in
           let m = found-levels in
           let h = a .asks .most in
-          let z = found-some in
-          record { there = record { table = a .asks .table; term = found-term; inner = is; has = found-has }; kept = a .asks .kept; most = omega arith; levels = omega arith }
+          record {
+            there = record { table = a .asks .table; term = found-term; inner = is; has = found-has };
+            kept = a .asks .kept;
+            most = omega arith;
+            nodes = omega arith;
+            whole = omega arith;
+          }
 
-      pub found-gives : {after o end : List ℕ} {pos e : ℕ} → NodeGives x t input ends state after at kind (usedNumber t c) (left - 1) j o end pos e
+      pub found-gives : {after o end : List ℕ} {pos e : ℕ} → NodeGives x t input ends state after at kind (usedNumber t c) (left - left % treeLevel) j o end pos e
           → Wrote (bytesOf x (runOperand (clausesOf f) ts (usedPlace t c) (usedNumber t c))) o end pos e × Node x t input after (f .source) given ts ks × Same state after
       found-gives gives =
           let w = gives f given (nth ts j) found-asks in
@@ -1124,7 +1147,7 @@ module _ {x : Syntax} {t input ends : List ℕ} {deep k number : ℕ} {f : Trans
         let l = a .levels in
         let m = a .most in
         rw (root-number t number)
-        record { there = record { table = a .table; term = a .term; inner = is; has = a .has }; kept = a .kept; most = omega arith; levels = omega arith }
+        record { there = record { table = a .table; term = a .term; inner = is; has = a .has }; kept = a .kept; most = omega arith; nodes = omega arith; whole = omega arith }
 
   pub term-gives : {o end : List ℕ} {pos e : ℕ} → Wrote (bytesOf x (run (clausesOf f) (usedNumber t (4096 + number)) u)) o end pos e → Wrote (bytesOf x (transform f number u)) o end pos e
   term-gives w = rw transform-run (rw (root-number t number) at w)

@@ -31,11 +31,15 @@ ghost use Rattle.format_translation.specs.Translation.{Translation};
 ghost use Rattle.format_translation.specs.Running as Running;
 ghost use Rattle.format_translation.specs.Running.{runOperand, clausesOf, transform};
 ghost use Rattle.run_table.specs.Inner.Stands.{Wrote};
-ghost use Rattle.run_emit.specs.Inner.Runs.{bytesOf, rowBytes, usedPlace, usedNumber, UseRoom, leafLength, leafRun, LeafLow, Node, Same, NodeAt, Started, NodeAsks, RowAsks, PlacedAsks, TermAsks};
+ghost use Rattle.run_emit.specs.Inner.Runs.{bytesOf, rowBytes, usedPlace, usedNumber, UseRoom, leafLength, leafRun, LeafLow, Node, Same, NodeAt, Started, NodeAsks, ClauseLeft, InnerLeft, RowAsks, PlacedAsks, TermAsks};
 
-// The levels that a level of a tree takes: one for the call on the argument, one for the call on its node, and 16 for its
-// clause's code.
-const TREE_LEVEL: usize = 18;
+// What a level of the tree takes of the levels left: at a node they are a multiple of it, and between two nodes the remainder
+// falls at each call.
+const TREE_LEVEL: usize = 32;
+
+// What a node takes of them for its clause: the remainder is 17 there, for the 15 levels that a code has below its root, the call on an
+// argument, and the next node.
+const NODE_LEVELS: usize = 15;
 
 // The length of a body, above which the root's number is told.
 const BODY_LENGTH: usize = 4096;
@@ -165,7 +169,7 @@ fn run_node(
         p,
         c,
         stop,
-        left - 1,
+        left - NODE_LEVELS,
         &mut node,
         syntax,
     );
@@ -206,7 +210,7 @@ fn run_argument(
         at,
         kind,
         used,
-        left - 1,
+        left - left % TREE_LEVEL,
         node,
         j,
         syntax,
@@ -247,7 +251,7 @@ fn run_use(
         at,
         kind,
         used,
-        left - 1,
+        left - left % TREE_LEVEL,
         node,
         j,
         syntax,
@@ -267,7 +271,7 @@ fn run_clause(
     node: &mut [usize; 10],
     syntax: Syntax,
 ) -> usize
-    requires { ⌜ ((f : Translation) × (given : Uses) × (ts : Codes) × (ks : List ℕ) × (cs : Codes) × (js : List ℕ) × RowAsks syntax (now table) (now input) (now ends) (now node) at stop left f given ts ks cs js) ⌝ }
+    requires { ⌜ ClauseLeft left × ((f : Translation) × (given : Uses) × (ts : Codes) × (ks : List ℕ) × (cs : Codes) × (js : List ℕ) × RowAsks syntax (now table) (now input) (now ends) (now node) at stop left f given ts ks cs js) ⌝ }
     ensures { λ o. ⌜ ((f : Translation) (given : Uses) (ts : Codes) (ks : List ℕ) (cs : Codes) (js : List ℕ) → RowAsks syntax (now (table .entry)) (now (input .entry)) (now (ends .entry)) (now (node .entry)) at stop left f given ts ks cs js
         → Wrote (rowBytes syntax f ts cs) (now (out .entry)) (now (out .exit)) pos o
         × Node syntax (now (table .entry)) (now (input .entry)) (now (node .exit)) (f .source) given ts ks
@@ -313,7 +317,7 @@ fn run_codes(
     node: &mut [usize; 10],
     syntax: Syntax,
 ) -> usize
-    requires { ⌜ ((f : Translation) × (given : Uses) × (ts : Codes) × (ks : List ℕ) × (cs : Codes) × (js : List ℕ) × RowAsks syntax (now table) (now input) (now ends) (now node) at stop left f given ts ks cs js) ⌝ }
+    requires { ⌜ InnerLeft left × ((f : Translation) × (given : Uses) × (ts : Codes) × (ks : List ℕ) × (cs : Codes) × (js : List ℕ) × RowAsks syntax (now table) (now input) (now ends) (now node) at stop left f given ts ks cs js) ⌝ }
     ensures { λ o. ⌜ ((f : Translation) (given : Uses) (ts : Codes) (ks : List ℕ) (cs : Codes) (js : List ℕ) → RowAsks syntax (now (table .entry)) (now (input .entry)) (now (ends .entry)) (now (node .entry)) at stop left f given ts ks cs js
         → Wrote (rowBytes syntax f ts cs) (now (out .entry)) (now (out .exit)) pos o
         × Node syntax (now (table .entry)) (now (input .entry)) (now (node .exit)) (f .source) given ts ks

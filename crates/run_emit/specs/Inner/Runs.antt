@@ -1,6 +1,6 @@
 -- What the functions of the run ask for and give: for a term of the input, for the node whose arguments are put out, and
 -- for codes in a row.
-use Prim.Native.Nat.{ℕ, zero, suc, _+_, _-_, _*_, _≤_, _<_}
+use Prim.Native.Nat.{ℕ, zero, suc, _+_, _-_, _/_, _%_, _≤_, _<_}
 use mathlib.Core.Path.{_≡_}
 use mathlib.Core.Bool.{Bool, true, false, not, cond}
 use mathlib.Core.Logic.{_⊎_}
@@ -106,10 +106,18 @@ pub record LastAsks (x : Syntax) (t input ends state : List ℕ) (f : Translatio
   pub from : 3 ≤ getD state 9 0
   pub count : sourceByte t (getD state 9 0 - 3) ≡ length ks + 2
 
--- The levels that a level of a tree takes: one for the call on the argument, one for the call on its node, and 16 for its
--- clause's code.
+-- What is left of the levels is one number that falls at each call. At a node it is 32 for each level of the tree that is left; the
+-- remainder counts the calls between two nodes: 17 at the codes of a clause, 16 at most at inner codes, one less at each call, and 2 or more
+-- at each row. So at most 15 calls on inner codes are open between two nodes, as many as a code of 16 levels has below its root.
 abbrev pub treeLevel : ℕ
-treeLevel = 18
+treeLevel = 32
+
+-- The levels left at the codes of a clause, and at inner codes.
+abbrev pub ClauseLeft : ℕ → Type 0
+ClauseLeft left = left % treeLevel ≤ 17
+
+abbrev pub InnerLeft : ℕ → Type 0
+InnerLeft left = left % treeLevel ≤ 16
 
 -- What codes may use in the place of arguments of the kinds ks.
 abbrev pub usesFor : Translation → List ℕ → Uses
@@ -122,7 +130,8 @@ pub record RowAsks (x : Syntax) (t input ends state : List ℕ) (at stop left : 
   pub node : Node x t input state (f .source) given ts ks
   pub row : Row t at stop (f .target) (usesFor f ks) cs js
   pub most : levelsAll ts ≤ 64
-  pub levels : treeLevel * levelsAll ts + levelsAll cs ≤ left
+  pub nodes : levelsAll ts ≤ left / treeLevel
+  pub codes : levelsAll cs + 2 ≤ left % treeLevel
 
 -- Which argument is used at c in the body, counted from 0.
 abbrev pub usedPlace : List ℕ → ℕ → ℕ
@@ -143,7 +152,8 @@ pub record ArgumentAsks (x : Syntax) (t input ends state : List ℕ) (c left : �
   pub kept : Right x ends input (f .source) given
   pub node : Node x t input state (f .source) given ts ks
   pub most : levelsAll ts ≤ 64
-  pub levels : treeLevel * levelsAll ts ≤ left
+  pub nodes : levelsAll ts ≤ left / treeLevel
+  pub more : 0 < left % treeLevel
   pub room : UseRoom t c
   pub some : 0 < bodyByte t (c + 1)
   pub place : usedPlace t c < length ks
@@ -181,7 +191,8 @@ pub record NodeAsks (x : Syntax) (t input ends : List ℕ) (at k number left : �
   pub there : NodeAt x t input at k number f given u
   pub kept : Right x ends input (f .source) given
   pub most : levels u ≤ 64
-  pub levels : treeLevel * levels u ≤ left + 1
+  pub nodes : levels u ≤ left / treeLevel
+  pub whole : left % treeLevel ≡ 0
 
 -- What replaces the uses of the arguments ts of a node: their runs.
 abbrev pub runsOf : Translation → Codes → Replacing

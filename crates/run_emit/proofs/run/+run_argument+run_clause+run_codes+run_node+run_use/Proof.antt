@@ -11,7 +11,7 @@ use Rattle.tree_reader.specs.Typing.{Uses}
 use Rattle.format_translation.specs.Translation.{Translation}
 use Rattle.run_emit.specs.Inner.Runs.{usedNumber, NodeAsks}
 use Rattle.run_table.proofs.Standing.{wrote-long}
-use Rattle.run_emit.proofs.Rows.{RowHeld, asked, going-start, going-end, going-full, next-below, next-two, next-narrow, token-three, argument-some, argument-asks, argument-turn, named-some, named-room, named-asks, inner-turn, token-room, token-turn, NodeGoing, node-some, node-going, root-narrow, root-room, root-going, going-as, node-wrote, last-asks, node-end, find-asks, placed, placed-gives, found-place, found-below, found-some, found-asks, found-gives, leaf-room, leaf-low, leaf-gives}
+use Rattle.run_emit.proofs.Rows.{RowHeld, asked, going-start, going-end, going-full, next-below, next-two, next-narrow, token-three, argument-some, argument-asks, argument-turn, named-some, named-room, named-asks, inner-turn, token-room, token-turn, NodeGoing, node-some, node-going, root-narrow, root-room, root-going, going-as, node-wrote, last-asks, node-end, find-asks, placed, placed-gives, found-place, found-below, found-asks, found-gives, leaf-room, leaf-low, leaf-gives}
 use Rattle.run_emit.proofs.run.run_argument.Reads as run-argument
 use Rattle.run_emit.proofs.run.run_argument.Kinds as run-argument-kinds
 use Rattle.run_emit.proofs.run.+run_argument+run_clause+run_codes+run_node+run_use.Lts-run_argument as run-argument-lts
@@ -134,10 +134,10 @@ run-argument-returns : (t : ℕ) → run-argument-lts.Need-returns (run-argument
 run-argument-returns t c = λ f given ts ks a. leaf-gives a (c .before .before .before .before .before .before .before .source-at .ensures .0) (sym (c .before .before .before .before .before .before .is-leaf .ensures) ∙ c .before .before .before .before .before .if1 .taken) (c .before .before .put-argument .ensures .0) (c .before .before .put-argument .ensures .1)
 
 run-argument-sub-run-node : (t : ℕ) → run-argument-lts.Need-sub-run-node (run-argument-calls t) (run-argument-at t) run-argument.Post
-run-argument-sub-run-node t c = omega (arith, found-some (c .before .before .before .before .before .before .before .before .pre .1 .1 .4) (c .before .before .before .source-at .ensures .0) (sym (c .before .before .is-leaf .ensures) ∙ c .before .if1 .left))
+run-argument-sub-run-node t c = omega arith
 
 run-argument-run-node-requires : (t : ℕ) → run-argument-lts.Need-run-node-requires (run-argument-calls t) (run-argument-at t) run-argument.Post
-run-argument-run-node-requires t c κs = (omega (arith, c .before .before .before .before .before .before .before .before .before .pre .0, found-some (c .before .before .before .before .before .before .before .before .before .pre .1 .1 .4) (c .before .before .before .before .source-at .ensures .0) (sym (c .before .before .before .is-leaf .ensures) ∙ c .before .before .if1 .left)), (c .before .before .before .before .before .before .before .before .before .pre .1 .0, found-place (c .before .before .before .before .before .before .before .before .before .pre .1 .1 .4) .0, (c .before .before .before .before .before .before .before .before .before .pre .1 .1 .4) .asks .room, (c .before .before .before .before .before .before .before .before .before .pre .1 .1 .0, c .before .before .before .before .before .before .before .before .before .pre .1 .1 .1, _, found-asks (c .before .before .before .before .before .before .before .before .before .pre .1 .1 .4) (c .before .before .before .before .source-at .ensures .0) (sym (c .before .before .before .is-leaf .ensures) ∙ c .before .before .if1 .left))))
+run-argument-run-node-requires t c κs = (omega (arith, c .before .before .before .before .before .before .before .before .before .pre .0, (c .before .before .before .before .before .before .before .before .before .pre .1 .1 .4) .asks .more), (c .before .before .before .before .before .before .before .before .before .pre .1 .0, found-place (c .before .before .before .before .before .before .before .before .before .pre .1 .1 .4) .0, (c .before .before .before .before .before .before .before .before .before .pre .1 .1 .4) .asks .room, (c .before .before .before .before .before .before .before .before .before .pre .1 .1 .0, c .before .before .before .before .before .before .before .before .before .pre .1 .1 .1, _, found-asks (c .before .before .before .before .before .before .before .before .before .pre .1 .1 .4) (c .before .before .before .before .source-at .ensures .0) (sym (c .before .before .before .is-leaf .ensures) ∙ c .before .before .if1 .left))))
 
 run-argument-returns-2 : (t : ℕ) → run-argument-lts.Need-returns-2 (run-argument-calls t) (run-argument-at t) run-argument.Post
 run-argument-returns-2 t c = λ f given ts ks a. found-gives a (c .before .before .before .before .before .before .before .source-at .ensures .0) (sym (c .before .before .before .before .before .before .is-leaf .ensures) ∙ c .before .before .before .before .before .if1 .left) (c .before .before .run-node .ensures)
@@ -156,28 +156,28 @@ run-clause-returns : (t : ℕ) → run-clause-lts.Need-returns (run-clause-calls
 run-clause-returns t c = λ f given ts ks cs js a. going-full (c .before .before .loop .inv .1 f given ts ks cs js a) (c .if1 .taken)
 
 run-clause-body-at-requires : (t : ℕ) → run-clause-lts.Need-body-at-requires (run-clause-calls t) (run-clause-at t) run-clause.Post run-clause-Inv-loop run-clause-μ-loop
-run-clause-body-at-requires t c κs = omega (arith, next-below (asked (c .before .before .loop .inv .1) (c .before .before .before .before .before .before .pre .1)) (c .before .loop-test .taken))
+run-clause-body-at-requires t c κs = omega (arith, next-below (asked (c .before .before .loop .inv .1) (c .before .before .before .before .before .before .pre .1 .1)) (c .before .loop-test .taken))
 
 run-clause-body-at-requires-2 : (t : ℕ) → run-clause-lts.Need-body-at-requires-2 (run-clause-calls t) (run-clause-at t) run-clause.Post run-clause-Inv-loop run-clause-μ-loop
-run-clause-body-at-requires-2 t c κs = next-below (asked (c .before .before .before .before .loop .inv .1) (c .before .before .before .before .before .before .before .before .pre .1)) (c .before .before .before .loop-test .taken)
+run-clause-body-at-requires-2 t c κs = next-below (asked (c .before .before .before .before .loop .inv .1) (c .before .before .before .before .before .before .before .before .pre .1 .1)) (c .before .before .before .loop-test .taken)
 
 run-clause-sub-i : (t : ℕ) → run-clause-lts.Need-sub-i (run-clause-calls t) (run-clause-at t) run-clause.Post run-clause-Inv-loop run-clause-μ-loop
-run-clause-sub-i t c = omega (arith, (argument-asks (asked (c .before .before .before .before .before .loop .inv .1) (c .before .before .before .before .before .before .before .before .before .pre .1)) (c .before .before .before .before .loop-test .taken) (c .before .before .body-at .ensures .0) (c .before .if2 .taken)) .some, (c .body-at2 .ensures .0))
+run-clause-sub-i t c = omega (arith, (argument-asks (asked (c .before .before .before .before .before .loop .inv .1) (c .before .before .before .before .before .before .before .before .before .pre .1 .1)) (c .before .before .before .before .loop-test .taken) (c .before .before .body-at .ensures .0) (c .before .if2 .taken)) .some, (c .body-at2 .ensures .0))
 
 run-clause-start-of-requires : (t : ℕ) → run-clause-lts.Need-start-of-requires (run-clause-calls t) (run-clause-at t) run-clause.Post run-clause-Inv-loop run-clause-μ-loop
-run-clause-start-of-requires t c κs = (c .before .before .before .before .before .before .before .before .before .before .pre .1 .0, c .before .before .before .before .before .before .before .before .before .before .pre .1 .1, c .before .before .before .before .before .before .before .before .before .before .pre .1 .2, c .before .before .before .before .before .before .before .before .before .before .pre .1 .3, find-asks (c .before .body-at2 .ensures .0) (argument-asks (asked (c .before .before .before .before .before .before .loop .inv .1) (c .before .before .before .before .before .before .before .before .before .before .pre .1)) (c .before .before .before .before .before .loop-test .taken) (c .before .before .before .body-at .ensures .0) (c .before .before .if2 .taken)))
+run-clause-start-of-requires t c κs = (c .before .before .before .before .before .before .before .before .before .before .pre .1 .1 .0, c .before .before .before .before .before .before .before .before .before .before .pre .1 .1 .1, c .before .before .before .before .before .before .before .before .before .before .pre .1 .1 .2, c .before .before .before .before .before .before .before .before .before .before .pre .1 .1 .3, find-asks (c .before .body-at2 .ensures .0) (argument-asks (asked (c .before .before .before .before .before .before .loop .inv .1) (c .before .before .before .before .before .before .before .before .before .before .pre .1 .1)) (c .before .before .before .before .before .loop-test .taken) (c .before .before .before .body-at .ensures .0) (c .before .before .if2 .taken)))
 
 run-clause-sub-run-argument : (t : ℕ) → run-clause-lts.Need-sub-run-argument (run-clause-calls t) (run-clause-at t) run-clause.Post run-clause-Inv-loop run-clause-μ-loop
-run-clause-sub-run-argument t c = omega (arith, argument-some (asked (c .before .before .before .before .before .before .before .before .loop .inv .1) (c .before .before .before .before .before .before .before .before .before .before .before .before .pre .1)) (c .before .before .before .before .before .before .before .loop-test .taken) (c .before .before .before .before .before .body-at .ensures .0) (c .before .before .before .before .if2 .taken))
+run-clause-sub-run-argument t c = omega (arith, argument-some (asked (c .before .before .before .before .before .before .before .before .loop .inv .1) (c .before .before .before .before .before .before .before .before .before .before .before .before .pre .1 .1)) (c .before .before .before .before .before .before .before .loop-test .taken) (c .before .before .before .before .before .body-at .ensures .0) (c .before .before .before .before .if2 .taken))
 
 run-clause-run-argument-requires : (t : ℕ) → run-clause-lts.Need-run-argument-requires (run-clause-calls t) (run-clause-at t) run-clause.Post run-clause-Inv-loop run-clause-μ-loop
-run-clause-run-argument-requires t c κs = (omega (arith, c .before .before .before .before .before .before .before .before .before .before .before .before .before .pre .0, argument-some (asked (c .before .before .before .before .before .before .before .before .before .loop .inv .1) (c .before .before .before .before .before .before .before .before .before .before .before .before .before .pre .1)) (c .before .before .before .before .before .before .before .before .loop-test .taken) (c .before .before .before .before .before .before .body-at .ensures .0) (c .before .before .before .before .before .if2 .taken)), (c .before .before .before .before .before .before .before .if1 .left, (c .before .before .before .before .before .before .before .before .before .before .before .before .before .pre .1 .0, c .before .before .before .before .before .before .before .before .before .before .before .before .before .pre .1 .1, c .before .before .before .before .before .before .before .before .before .before .before .before .before .pre .1 .2, c .before .before .before .before .before .before .before .before .before .before .before .before .before .pre .1 .3, placed (c .before .before .before .before .body-at2 .ensures .0) (argument-asks (asked (c .before .before .before .before .before .before .before .before .before .loop .inv .1) (c .before .before .before .before .before .before .before .before .before .before .before .before .before .pre .1)) (c .before .before .before .before .before .before .before .before .loop-test .taken) (c .before .before .before .before .before .before .body-at .ensures .0) (c .before .before .before .before .before .if2 .taken)) (c .before .before .start-of .ensures))))
+run-clause-run-argument-requires t c κs = (omega (arith, c .before .before .before .before .before .before .before .before .before .before .before .before .before .pre .0, argument-some (asked (c .before .before .before .before .before .before .before .before .before .loop .inv .1) (c .before .before .before .before .before .before .before .before .before .before .before .before .before .pre .1 .1)) (c .before .before .before .before .before .before .before .before .loop-test .taken) (c .before .before .before .before .before .before .body-at .ensures .0) (c .before .before .before .before .before .if2 .taken)), (c .before .before .before .before .before .before .before .if1 .left, (c .before .before .before .before .before .before .before .before .before .before .before .before .before .pre .1 .1 .0, c .before .before .before .before .before .before .before .before .before .before .before .before .before .pre .1 .1 .1, c .before .before .before .before .before .before .before .before .before .before .before .before .before .pre .1 .1 .2, c .before .before .before .before .before .before .before .before .before .before .before .before .before .pre .1 .1 .3, placed (c .before .before .before .before .body-at2 .ensures .0) (argument-asks (asked (c .before .before .before .before .before .before .before .before .before .loop .inv .1) (c .before .before .before .before .before .before .before .before .before .before .before .before .before .pre .1 .1)) (c .before .before .before .before .before .before .before .before .loop-test .taken) (c .before .before .before .before .before .before .body-at .ensures .0) (c .before .before .before .before .before .if2 .taken)) (c .before .before .start-of .ensures))))
 
 run-clause-sub-c : (t : ℕ) → run-clause-lts.Need-sub-c (run-clause-calls t) (run-clause-at t) run-clause.Post run-clause-Inv-loop run-clause-μ-loop
 run-clause-sub-c t c = omega (arith, c .before .before .before .before .before .before .before .before .if2 .taken)
 
 run-clause-add-c : (t : ℕ) → run-clause-lts.Need-add-c (run-clause-calls t) (run-clause-at t) run-clause.Post run-clause-Inv-loop run-clause-μ-loop
-run-clause-add-c t c = omega (arith, next-below (asked (c .before .before .before .before .before .before .before .before .before .before .before .before .loop .inv .1) (c .before .before .before .before .before .before .before .before .before .before .before .before .before .before .before .before .pre .1)) (c .before .before .before .before .before .before .before .before .before .before .before .loop-test .taken), c .before .before .before .before .before .before .before .before .before .body-at .ensures .1)
+run-clause-add-c t c = omega (arith, next-below (asked (c .before .before .before .before .before .before .before .before .before .before .before .before .loop .inv .1) (c .before .before .before .before .before .before .before .before .before .before .before .before .before .before .before .before .pre .1 .1)) (c .before .before .before .before .before .before .before .before .before .before .before .loop-test .taken), c .before .before .before .before .before .before .before .before .before .body-at .ensures .1)
 
 run-clause-loop-less : (t : ℕ) → run-clause-lts.Need-loop-less (run-clause-calls t) (run-clause-at t) run-clause.Post run-clause-Inv-loop run-clause-μ-loop
 run-clause-loop-less t c = omega (arith, c .before .before .before .before .before .before .before .before .if2 .taken, c .before .before .before .before .before .before .before .before .before .before .before .loop-test .taken)
@@ -186,40 +186,40 @@ run-clause-loop-again : (t : ℕ) → run-clause-lts.Need-loop-again (run-clause
 run-clause-loop-again t c = (c .before .out .given ∙ c .before .before .before .before .before .before .before .before .before .before .before .before .loop .inv .0, λ f given ts ks cs js a. argument-turn (c .before .before .before .before .before .before .before .before .before .before .before .before .loop .inv .1 f given ts ks cs js a) (c .before .before .before .before .before .before .before .before .before .before .before .loop-test .taken) (c .before .before .before .before .before .before .before .before .before .body-at .ensures .0) (c .before .before .before .before .before .before .before .before .if2 .taken) (placed-gives (c .before .before .before .before .before .before .before .body-at2 .ensures .0) (c .before .before .before .before .before .start-of .ensures) (c .before .before .run-argument .ensures)))
 
 run-clause-body-at-requires-3 : (t : ℕ) → run-clause-lts.Need-body-at-requires-3 (run-clause-calls t) (run-clause-at t) run-clause.Post run-clause-Inv-loop run-clause-μ-loop
-run-clause-body-at-requires-3 t c κs = next-below (asked (c .before .before .before .before .before .loop .inv .1) (c .before .before .before .before .before .before .before .before .before .pre .1)) (c .before .before .before .before .loop-test .taken)
+run-clause-body-at-requires-3 t c κs = next-below (asked (c .before .before .before .before .before .loop .inv .1) (c .before .before .before .before .before .before .before .before .before .pre .1 .1)) (c .before .before .before .before .loop-test .taken)
 
 run-clause-cast-put-name : (t : ℕ) → run-clause-lts.Need-cast-put-name (run-clause-calls t) (run-clause-at t) run-clause.Post run-clause-Inv-loop run-clause-μ-loop
-run-clause-cast-put-name t c = omega (arith, next-narrow (asked (c .before .before .before .before .before .before .loop .inv .1) (c .before .before .before .before .before .before .before .before .before .before .pre .1)) (c .before .before .before .before .before .loop-test .taken) (c .body-at3 .ensures .0) (omega arith) (next-two (asked (c .before .before .before .before .before .before .loop .inv .1) (c .before .before .before .before .before .before .before .before .before .before .pre .1)) (c .before .before .before .before .before .loop-test .taken)))
+run-clause-cast-put-name t c = omega (arith, next-narrow (asked (c .before .before .before .before .before .before .loop .inv .1) (c .before .before .before .before .before .before .before .before .before .before .pre .1 .1)) (c .before .before .before .before .before .loop-test .taken) (c .body-at3 .ensures .0) (omega arith) (next-two (asked (c .before .before .before .before .before .before .loop .inv .1) (c .before .before .before .before .before .before .before .before .before .before .pre .1 .1)) (c .before .before .before .before .before .loop-test .taken)))
 
 run-clause-put-name-requires : (t : ℕ) → run-clause-lts.Need-put-name-requires (run-clause-calls t) (run-clause-at t) run-clause.Post run-clause-Inv-loop run-clause-μ-loop
 run-clause-put-name-requires t c κs = c .before .before .before .before .before .if1 .left
 
 run-clause-span-at-requires : (t : ℕ) → run-clause-lts.Need-span-at-requires (run-clause-calls t) (run-clause-at t) run-clause.Post run-clause-Inv-loop run-clause-μ-loop
-run-clause-span-at-requires t c κs = omega (arith, next-below (asked (c .before .before .before .before .before .before .before .before .before .before .loop .inv .1) (c .before .before .before .before .before .before .before .before .before .before .before .before .before .before .pre .1)) (c .before .before .before .before .before .before .before .before .before .loop-test .taken))
+run-clause-span-at-requires t c κs = omega (arith, next-below (asked (c .before .before .before .before .before .before .before .before .before .before .loop .inv .1) (c .before .before .before .before .before .before .before .before .before .before .before .before .before .before .pre .1 .1)) (c .before .before .before .before .before .before .before .before .before .loop-test .taken))
 
 run-clause-sub-run-codes : (t : ℕ) → run-clause-lts.Need-sub-run-codes (run-clause-calls t) (run-clause-at t) run-clause.Post run-clause-Inv-loop run-clause-μ-loop
-run-clause-sub-run-codes t c = omega (arith, named-some (asked (c .before .before .before .before .before .before .before .before .before .before .before .before .loop .inv .1) (c .before .before .before .before .before .before .before .before .before .before .before .before .before .before .before .before .pre .1)) (c .before .before .before .before .before .before .before .before .before .before .before .loop-test .taken) (sym (c .before .before .before .before .before .before .before .before .before .body-at .ensures .0) ∙ c .before .before .before .before .before .before .before .if3 .taken))
+run-clause-sub-run-codes t c = omega (arith, named-some (asked (c .before .before .before .before .before .before .before .before .before .before .before .before .loop .inv .1) (c .before .before .before .before .before .before .before .before .before .before .before .before .before .before .before .before .pre .1 .1)) (c .before .before .before .before .before .before .before .before .before .before .before .loop-test .taken) (sym (c .before .before .before .before .before .before .before .before .before .body-at .ensures .0) ∙ c .before .before .before .before .before .before .before .if3 .taken))
 
 run-clause-run-codes-requires : (t : ℕ) → run-clause-lts.Need-run-codes-requires (run-clause-calls t) (run-clause-at t) run-clause.Post run-clause-Inv-loop run-clause-μ-loop
-run-clause-run-codes-requires t c κs = let w = named-asks (asked (c .before .before .before .before .before .before .before .before .before .before .before .before .before .loop .inv .1) (c .before .before .before .before .before .before .before .before .before .before .before .before .before .before .before .before .before .pre .1)) (c .before .before .before .before .before .before .before .before .before .before .before .before .loop-test .taken) (sym (c .before .before .before .before .before .before .before .before .before .before .body-at .ensures .0) ∙ c .before .before .before .before .before .before .before .before .if3 .taken) (c .before .before .span-at .ensures .0) in (omega (arith, c .before .before .before .before .before .before .before .before .before .before .before .before .before .before .before .before .before .pre .0, named-some (asked (c .before .before .before .before .before .before .before .before .before .before .before .before .before .loop .inv .1) (c .before .before .before .before .before .before .before .before .before .before .before .before .before .before .before .before .before .pre .1)) (c .before .before .before .before .before .before .before .before .before .before .before .before .loop-test .taken) (sym (c .before .before .before .before .before .before .before .before .before .before .body-at .ensures .0) ∙ c .before .before .before .before .before .before .before .before .if3 .taken)), (c .before .before .before .before .before .before .before .before .before .before .before .before .before .before .before .before .before .pre .1 .0, c .before .before .before .before .before .before .before .before .before .before .before .before .before .before .before .before .before .pre .1 .1, c .before .before .before .before .before .before .before .before .before .before .before .before .before .before .before .before .before .pre .1 .2, c .before .before .before .before .before .before .before .before .before .before .before .before .before .before .before .before .before .pre .1 .3, w .0, w .1, w .2))
+run-clause-run-codes-requires t c κs = let w = named-asks (asked (c .before .before .before .before .before .before .before .before .before .before .before .before .before .loop .inv .1) (c .before .before .before .before .before .before .before .before .before .before .before .before .before .before .before .before .before .pre .1 .1)) (c .before .before .before .before .before .before .before .before .before .before .before .before .loop-test .taken) (sym (c .before .before .before .before .before .before .before .before .before .before .body-at .ensures .0) ∙ c .before .before .before .before .before .before .before .before .if3 .taken) (c .before .before .span-at .ensures .0) in (omega (arith, c .before .before .before .before .before .before .before .before .before .before .before .before .before .before .before .before .before .pre .0, named-some (asked (c .before .before .before .before .before .before .before .before .before .before .before .before .before .loop .inv .1) (c .before .before .before .before .before .before .before .before .before .before .before .before .before .before .before .before .before .pre .1 .1)) (c .before .before .before .before .before .before .before .before .before .before .before .before .loop-test .taken) (sym (c .before .before .before .before .before .before .before .before .before .before .body-at .ensures .0) ∙ c .before .before .before .before .before .before .before .before .if3 .taken)), (omega (arith, c .before .before .before .before .before .before .before .before .before .before .before .before .before .before .before .before .before .pre .1 .0, named-some (asked (c .before .before .before .before .before .before .before .before .before .before .before .before .before .loop .inv .1) (c .before .before .before .before .before .before .before .before .before .before .before .before .before .before .before .before .before .pre .1 .1)) (c .before .before .before .before .before .before .before .before .before .before .before .before .loop-test .taken) (sym (c .before .before .before .before .before .before .before .before .before .before .body-at .ensures .0) ∙ c .before .before .before .before .before .before .before .before .if3 .taken)), (c .before .before .before .before .before .before .before .before .before .before .before .before .before .before .before .before .before .pre .1 .1 .0, c .before .before .before .before .before .before .before .before .before .before .before .before .before .before .before .before .before .pre .1 .1 .1, c .before .before .before .before .before .before .before .before .before .before .before .before .before .before .before .before .before .pre .1 .1 .2, c .before .before .before .before .before .before .before .before .before .before .before .before .before .before .before .before .before .pre .1 .1 .3, w .0, w .1, w .2)))
 
 run-clause-loop-less-2 : (t : ℕ) → run-clause-lts.Need-loop-less-2 (run-clause-calls t) (run-clause-at t) run-clause.Post run-clause-Inv-loop run-clause-μ-loop
-run-clause-loop-less-2 t c = omega (arith, named-room (asked (c .before .before .before .before .before .before .before .before .before .before .before .before .before .before .before .before .loop .inv .1) (c .before .before .before .before .before .before .before .before .before .before .before .before .before .before .before .before .before .before .before .before .pre .1)) (c .before .before .before .before .before .before .before .before .before .before .before .before .before .before .before .loop-test .taken) (sym (c .before .before .before .before .before .before .before .before .before .before .before .before .before .body-at .ensures .0) ∙ c .before .before .before .before .before .before .before .before .before .before .before .if3 .taken) .0, c .before .before .before .before .before .span-at .ensures .0, c .before .before .before .before .before .before .before .before .before .before .before .before .before .before .before .loop-test .taken)
+run-clause-loop-less-2 t c = omega (arith, named-room (asked (c .before .before .before .before .before .before .before .before .before .before .before .before .before .before .before .before .loop .inv .1) (c .before .before .before .before .before .before .before .before .before .before .before .before .before .before .before .before .before .before .before .before .pre .1 .1)) (c .before .before .before .before .before .before .before .before .before .before .before .before .before .before .before .loop-test .taken) (sym (c .before .before .before .before .before .before .before .before .before .before .before .before .before .body-at .ensures .0) ∙ c .before .before .before .before .before .before .before .before .before .before .before .if3 .taken) .0, c .before .before .before .before .before .span-at .ensures .0, c .before .before .before .before .before .before .before .before .before .before .before .before .before .before .before .loop-test .taken)
 
 run-clause-loop-again-2 : (t : ℕ) → run-clause-lts.Need-loop-again-2 (run-clause-calls t) (run-clause-at t) run-clause.Post run-clause-Inv-loop run-clause-μ-loop
 run-clause-loop-again-2 t c = (c .before .out3 .given ∙ (c .before .before .before .before .before .before .before .out2 .given ∙ c .before .before .before .before .before .before .before .before .before .before .before .before .before .before .before .before .loop .inv .0), λ f given ts ks cs js a. inner-turn (c .before .before .before .before .before .before .before .before .before .before .before .before .before .before .before .before .loop .inv .1 f given ts ks cs js a) (c .before .before .before .before .before .before .before .before .before .before .before .before .before .before .before .loop-test .taken) (sym (c .before .before .before .before .before .before .before .before .before .before .before .before .before .body-at .ensures .0) ∙ c .before .before .before .before .before .before .before .before .before .before .before .if3 .taken) (c .before .before .before .before .before .before .before .before .before .before .body-at3 .ensures .0) (c .before .before .before .before .before .before .before .before .put-name .ensures) (c .before .before .before .before .before .span-at .ensures .0) (c .before .before .run-codes .ensures))
 
 run-clause-body-at-requires-4 : (t : ℕ) → run-clause-lts.Need-body-at-requires-4 (run-clause-calls t) (run-clause-at t) run-clause.Post run-clause-Inv-loop run-clause-μ-loop
-run-clause-body-at-requires-4 t c κs = next-below (asked (c .before .before .before .before .before .loop .inv .1) (c .before .before .before .before .before .before .before .before .before .pre .1)) (c .before .before .before .before .loop-test .taken)
+run-clause-body-at-requires-4 t c κs = next-below (asked (c .before .before .before .before .before .loop .inv .1) (c .before .before .before .before .before .before .before .before .before .pre .1 .1)) (c .before .before .before .before .loop-test .taken)
 
 run-clause-cast-high : (t : ℕ) → run-clause-lts.Need-cast-high (run-clause-calls t) (run-clause-at t) run-clause.Post run-clause-Inv-loop run-clause-μ-loop
-run-clause-cast-high t c = omega (arith, next-narrow (asked (c .before .before .before .before .before .before .loop .inv .1) (c .before .before .before .before .before .before .before .before .before .before .pre .1)) (c .before .before .before .before .before .loop-test .taken) (c .body-at4 .ensures .0) (omega arith) (next-two (asked (c .before .before .before .before .before .before .loop .inv .1) (c .before .before .before .before .before .before .before .before .before .before .pre .1)) (c .before .before .before .before .before .loop-test .taken)))
+run-clause-cast-high t c = omega (arith, next-narrow (asked (c .before .before .before .before .before .before .loop .inv .1) (c .before .before .before .before .before .before .before .before .before .before .pre .1 .1)) (c .before .before .before .before .before .loop-test .taken) (c .body-at4 .ensures .0) (omega arith) (next-two (asked (c .before .before .before .before .before .before .loop .inv .1) (c .before .before .before .before .before .before .before .before .before .before .pre .1 .1)) (c .before .before .before .before .before .loop-test .taken)))
 
 run-clause-body-at-requires-5 : (t : ℕ) → run-clause-lts.Need-body-at-requires-5 (run-clause-calls t) (run-clause-at t) run-clause.Post run-clause-Inv-loop run-clause-μ-loop
-run-clause-body-at-requires-5 t c κs = token-room (asked (c .before .before .before .before .before .before .loop .inv .1) (c .before .before .before .before .before .before .before .before .before .before .pre .1)) (c .before .before .before .before .before .loop-test .taken) (λ z. c .before .if3 .left (c .before .before .before .body-at .ensures .0 ∙ z)) (omega (arith, c .before .before .if2 .left, c .before .before .before .body-at .ensures .0))
+run-clause-body-at-requires-5 t c κs = token-room (asked (c .before .before .before .before .before .before .loop .inv .1) (c .before .before .before .before .before .before .before .before .before .before .pre .1 .1)) (c .before .before .before .before .before .loop-test .taken) (λ z. c .before .if3 .left (c .before .before .before .body-at .ensures .0 ∙ z)) (omega (arith, c .before .before .if2 .left, c .before .before .before .body-at .ensures .0))
 
 run-clause-cast-low : (t : ℕ) → run-clause-lts.Need-cast-low (run-clause-calls t) (run-clause-at t) run-clause.Post run-clause-Inv-loop run-clause-μ-loop
-run-clause-cast-low t c = omega (arith, next-narrow (asked (c .before .before .before .before .before .before .before .loop .inv .1) (c .before .before .before .before .before .before .before .before .before .before .before .pre .1)) (c .before .before .before .before .before .before .loop-test .taken) (c .body-at5 .ensures .0) (omega arith) (token-three (asked (c .before .before .before .before .before .before .before .loop .inv .1) (c .before .before .before .before .before .before .before .before .before .before .before .pre .1)) (c .before .before .before .before .before .before .loop-test .taken) (λ z. c .before .before .if3 .left (c .before .before .before .before .body-at .ensures .0 ∙ z)) (omega (arith, c .before .before .before .if2 .left, c .before .before .before .before .body-at .ensures .0))))
+run-clause-cast-low t c = omega (arith, next-narrow (asked (c .before .before .before .before .before .before .before .loop .inv .1) (c .before .before .before .before .before .before .before .before .before .before .before .pre .1 .1)) (c .before .before .before .before .before .before .loop-test .taken) (c .body-at5 .ensures .0) (omega arith) (token-three (asked (c .before .before .before .before .before .before .before .loop .inv .1) (c .before .before .before .before .before .before .before .before .before .before .before .pre .1 .1)) (c .before .before .before .before .before .before .loop-test .taken) (λ z. c .before .before .if3 .left (c .before .before .before .before .body-at .ensures .0 ∙ z)) (omega (arith, c .before .before .before .if2 .left, c .before .before .before .before .body-at .ensures .0))))
 
 run-clause-put-token-requires : (t : ℕ) → run-clause-lts.Need-put-token-requires (run-clause-calls t) (run-clause-at t) run-clause.Post run-clause-Inv-loop run-clause-μ-loop
 run-clause-put-token-requires t c κs = c .before .before .before .before .before .before .if1 .left
@@ -244,28 +244,28 @@ run-codes-returns : (t : ℕ) → run-codes-lts.Need-returns (run-codes-calls t)
 run-codes-returns t c = λ f given ts ks cs js a. going-full (c .before .before .loop .inv .1 f given ts ks cs js a) (c .if1 .taken)
 
 run-codes-body-at-requires : (t : ℕ) → run-codes-lts.Need-body-at-requires (run-codes-calls t) (run-codes-at t) run-codes.Post run-codes-Inv-loop run-codes-μ-loop
-run-codes-body-at-requires t c κs = omega (arith, next-below (asked (c .before .before .loop .inv .1) (c .before .before .before .before .before .before .pre .1)) (c .before .loop-test .taken))
+run-codes-body-at-requires t c κs = omega (arith, next-below (asked (c .before .before .loop .inv .1) (c .before .before .before .before .before .before .pre .1 .1)) (c .before .loop-test .taken))
 
 run-codes-body-at-requires-2 : (t : ℕ) → run-codes-lts.Need-body-at-requires-2 (run-codes-calls t) (run-codes-at t) run-codes.Post run-codes-Inv-loop run-codes-μ-loop
-run-codes-body-at-requires-2 t c κs = next-below (asked (c .before .before .before .before .loop .inv .1) (c .before .before .before .before .before .before .before .before .pre .1)) (c .before .before .before .loop-test .taken)
+run-codes-body-at-requires-2 t c κs = next-below (asked (c .before .before .before .before .loop .inv .1) (c .before .before .before .before .before .before .before .before .pre .1 .1)) (c .before .before .before .loop-test .taken)
 
 run-codes-sub-j : (t : ℕ) → run-codes-lts.Need-sub-j (run-codes-calls t) (run-codes-at t) run-codes.Post run-codes-Inv-loop run-codes-μ-loop
-run-codes-sub-j t c = omega (arith, (argument-asks (asked (c .before .before .before .before .before .loop .inv .1) (c .before .before .before .before .before .before .before .before .before .pre .1)) (c .before .before .before .before .loop-test .taken) (c .before .before .body-at .ensures .0) (c .before .if2 .taken)) .some, (c .body-at2 .ensures .0))
+run-codes-sub-j t c = omega (arith, (argument-asks (asked (c .before .before .before .before .before .loop .inv .1) (c .before .before .before .before .before .before .before .before .before .pre .1 .1)) (c .before .before .before .before .loop-test .taken) (c .before .before .body-at .ensures .0) (c .before .if2 .taken)) .some, (c .body-at2 .ensures .0))
 
 run-codes-start-of-requires : (t : ℕ) → run-codes-lts.Need-start-of-requires (run-codes-calls t) (run-codes-at t) run-codes.Post run-codes-Inv-loop run-codes-μ-loop
-run-codes-start-of-requires t c κs = (c .before .before .before .before .before .before .before .before .before .before .pre .1 .0, c .before .before .before .before .before .before .before .before .before .before .pre .1 .1, c .before .before .before .before .before .before .before .before .before .before .pre .1 .2, c .before .before .before .before .before .before .before .before .before .before .pre .1 .3, find-asks (c .before .body-at2 .ensures .0) (argument-asks (asked (c .before .before .before .before .before .before .loop .inv .1) (c .before .before .before .before .before .before .before .before .before .before .pre .1)) (c .before .before .before .before .before .loop-test .taken) (c .before .before .before .body-at .ensures .0) (c .before .before .if2 .taken)))
+run-codes-start-of-requires t c κs = (c .before .before .before .before .before .before .before .before .before .before .pre .1 .1 .0, c .before .before .before .before .before .before .before .before .before .before .pre .1 .1 .1, c .before .before .before .before .before .before .before .before .before .before .pre .1 .1 .2, c .before .before .before .before .before .before .before .before .before .before .pre .1 .1 .3, find-asks (c .before .body-at2 .ensures .0) (argument-asks (asked (c .before .before .before .before .before .before .loop .inv .1) (c .before .before .before .before .before .before .before .before .before .before .pre .1 .1)) (c .before .before .before .before .before .loop-test .taken) (c .before .before .before .body-at .ensures .0) (c .before .before .if2 .taken)))
 
 run-codes-sub-run-use : (t : ℕ) → run-codes-lts.Need-sub-run-use (run-codes-calls t) (run-codes-at t) run-codes.Post run-codes-Inv-loop run-codes-μ-loop
-run-codes-sub-run-use t c = omega (arith, argument-some (asked (c .before .before .before .before .before .before .before .before .loop .inv .1) (c .before .before .before .before .before .before .before .before .before .before .before .before .pre .1)) (c .before .before .before .before .before .before .before .loop-test .taken) (c .before .before .before .before .before .body-at .ensures .0) (c .before .before .before .before .if2 .taken))
+run-codes-sub-run-use t c = omega (arith, argument-some (asked (c .before .before .before .before .before .before .before .before .loop .inv .1) (c .before .before .before .before .before .before .before .before .before .before .before .before .pre .1 .1)) (c .before .before .before .before .before .before .before .loop-test .taken) (c .before .before .before .before .before .body-at .ensures .0) (c .before .before .before .before .if2 .taken))
 
 run-codes-run-use-requires : (t : ℕ) → run-codes-lts.Need-run-use-requires (run-codes-calls t) (run-codes-at t) run-codes.Post run-codes-Inv-loop run-codes-μ-loop
-run-codes-run-use-requires t c κs = (omega (arith, c .before .before .before .before .before .before .before .before .before .before .before .before .before .pre .0, argument-some (asked (c .before .before .before .before .before .before .before .before .before .loop .inv .1) (c .before .before .before .before .before .before .before .before .before .before .before .before .before .pre .1)) (c .before .before .before .before .before .before .before .before .loop-test .taken) (c .before .before .before .before .before .before .body-at .ensures .0) (c .before .before .before .before .before .if2 .taken)), (c .before .before .before .before .before .before .before .if1 .left, (c .before .before .before .before .before .before .before .before .before .before .before .before .before .pre .1 .0, c .before .before .before .before .before .before .before .before .before .before .before .before .before .pre .1 .1, c .before .before .before .before .before .before .before .before .before .before .before .before .before .pre .1 .2, c .before .before .before .before .before .before .before .before .before .before .before .before .before .pre .1 .3, placed (c .before .before .before .before .body-at2 .ensures .0) (argument-asks (asked (c .before .before .before .before .before .before .before .before .before .loop .inv .1) (c .before .before .before .before .before .before .before .before .before .before .before .before .before .pre .1)) (c .before .before .before .before .before .before .before .before .loop-test .taken) (c .before .before .before .before .before .before .body-at .ensures .0) (c .before .before .before .before .before .if2 .taken)) (c .before .before .start-of .ensures))))
+run-codes-run-use-requires t c κs = (omega (arith, c .before .before .before .before .before .before .before .before .before .before .before .before .before .pre .0, argument-some (asked (c .before .before .before .before .before .before .before .before .before .loop .inv .1) (c .before .before .before .before .before .before .before .before .before .before .before .before .before .pre .1 .1)) (c .before .before .before .before .before .before .before .before .loop-test .taken) (c .before .before .before .before .before .before .body-at .ensures .0) (c .before .before .before .before .before .if2 .taken)), (c .before .before .before .before .before .before .before .if1 .left, (c .before .before .before .before .before .before .before .before .before .before .before .before .before .pre .1 .1 .0, c .before .before .before .before .before .before .before .before .before .before .before .before .before .pre .1 .1 .1, c .before .before .before .before .before .before .before .before .before .before .before .before .before .pre .1 .1 .2, c .before .before .before .before .before .before .before .before .before .before .before .before .before .pre .1 .1 .3, placed (c .before .before .before .before .body-at2 .ensures .0) (argument-asks (asked (c .before .before .before .before .before .before .before .before .before .loop .inv .1) (c .before .before .before .before .before .before .before .before .before .before .before .before .before .pre .1 .1)) (c .before .before .before .before .before .before .before .before .loop-test .taken) (c .before .before .before .before .before .before .body-at .ensures .0) (c .before .before .before .before .before .if2 .taken)) (c .before .before .start-of .ensures))))
 
 run-codes-sub-c : (t : ℕ) → run-codes-lts.Need-sub-c (run-codes-calls t) (run-codes-at t) run-codes.Post run-codes-Inv-loop run-codes-μ-loop
 run-codes-sub-c t c = omega (arith, c .before .before .before .before .before .before .before .before .if2 .taken)
 
 run-codes-add-c : (t : ℕ) → run-codes-lts.Need-add-c (run-codes-calls t) (run-codes-at t) run-codes.Post run-codes-Inv-loop run-codes-μ-loop
-run-codes-add-c t c = omega (arith, next-below (asked (c .before .before .before .before .before .before .before .before .before .before .before .before .loop .inv .1) (c .before .before .before .before .before .before .before .before .before .before .before .before .before .before .before .before .pre .1)) (c .before .before .before .before .before .before .before .before .before .before .before .loop-test .taken), c .before .before .before .before .before .before .before .before .before .body-at .ensures .1)
+run-codes-add-c t c = omega (arith, next-below (asked (c .before .before .before .before .before .before .before .before .before .before .before .before .loop .inv .1) (c .before .before .before .before .before .before .before .before .before .before .before .before .before .before .before .before .pre .1 .1)) (c .before .before .before .before .before .before .before .before .before .before .before .loop-test .taken), c .before .before .before .before .before .before .before .before .before .body-at .ensures .1)
 
 run-codes-loop-less : (t : ℕ) → run-codes-lts.Need-loop-less (run-codes-calls t) (run-codes-at t) run-codes.Post run-codes-Inv-loop run-codes-μ-loop
 run-codes-loop-less t c = omega (arith, c .before .before .before .before .before .before .before .before .if2 .taken, c .before .before .before .before .before .before .before .before .before .before .before .loop-test .taken)
@@ -274,40 +274,40 @@ run-codes-loop-again : (t : ℕ) → run-codes-lts.Need-loop-again (run-codes-ca
 run-codes-loop-again t c = (c .before .out .given ∙ c .before .before .before .before .before .before .before .before .before .before .before .before .loop .inv .0, λ f given ts ks cs js a. argument-turn (c .before .before .before .before .before .before .before .before .before .before .before .before .loop .inv .1 f given ts ks cs js a) (c .before .before .before .before .before .before .before .before .before .before .before .loop-test .taken) (c .before .before .before .before .before .before .before .before .before .body-at .ensures .0) (c .before .before .before .before .before .before .before .before .if2 .taken) (placed-gives (c .before .before .before .before .before .before .before .body-at2 .ensures .0) (c .before .before .before .before .before .start-of .ensures) (c .before .before .run-use .ensures)))
 
 run-codes-body-at-requires-3 : (t : ℕ) → run-codes-lts.Need-body-at-requires-3 (run-codes-calls t) (run-codes-at t) run-codes.Post run-codes-Inv-loop run-codes-μ-loop
-run-codes-body-at-requires-3 t c κs = next-below (asked (c .before .before .before .before .before .loop .inv .1) (c .before .before .before .before .before .before .before .before .before .pre .1)) (c .before .before .before .before .loop-test .taken)
+run-codes-body-at-requires-3 t c κs = next-below (asked (c .before .before .before .before .before .loop .inv .1) (c .before .before .before .before .before .before .before .before .before .pre .1 .1)) (c .before .before .before .before .loop-test .taken)
 
 run-codes-cast-put-name : (t : ℕ) → run-codes-lts.Need-cast-put-name (run-codes-calls t) (run-codes-at t) run-codes.Post run-codes-Inv-loop run-codes-μ-loop
-run-codes-cast-put-name t c = omega (arith, next-narrow (asked (c .before .before .before .before .before .before .loop .inv .1) (c .before .before .before .before .before .before .before .before .before .before .pre .1)) (c .before .before .before .before .before .loop-test .taken) (c .body-at3 .ensures .0) (omega arith) (next-two (asked (c .before .before .before .before .before .before .loop .inv .1) (c .before .before .before .before .before .before .before .before .before .before .pre .1)) (c .before .before .before .before .before .loop-test .taken)))
+run-codes-cast-put-name t c = omega (arith, next-narrow (asked (c .before .before .before .before .before .before .loop .inv .1) (c .before .before .before .before .before .before .before .before .before .before .pre .1 .1)) (c .before .before .before .before .before .loop-test .taken) (c .body-at3 .ensures .0) (omega arith) (next-two (asked (c .before .before .before .before .before .before .loop .inv .1) (c .before .before .before .before .before .before .before .before .before .before .pre .1 .1)) (c .before .before .before .before .before .loop-test .taken)))
 
 run-codes-put-name-requires : (t : ℕ) → run-codes-lts.Need-put-name-requires (run-codes-calls t) (run-codes-at t) run-codes.Post run-codes-Inv-loop run-codes-μ-loop
 run-codes-put-name-requires t c κs = c .before .before .before .before .before .if1 .left
 
 run-codes-span-at-requires : (t : ℕ) → run-codes-lts.Need-span-at-requires (run-codes-calls t) (run-codes-at t) run-codes.Post run-codes-Inv-loop run-codes-μ-loop
-run-codes-span-at-requires t c κs = omega (arith, next-below (asked (c .before .before .before .before .before .before .before .before .before .before .loop .inv .1) (c .before .before .before .before .before .before .before .before .before .before .before .before .before .before .pre .1)) (c .before .before .before .before .before .before .before .before .before .loop-test .taken))
+run-codes-span-at-requires t c κs = omega (arith, next-below (asked (c .before .before .before .before .before .before .before .before .before .before .loop .inv .1) (c .before .before .before .before .before .before .before .before .before .before .before .before .before .before .pre .1 .1)) (c .before .before .before .before .before .before .before .before .before .loop-test .taken))
 
 run-codes-sub-run-codes : (t : ℕ) → run-codes-lts.Need-sub-run-codes (run-codes-calls t) (run-codes-at t) run-codes.Post run-codes-Inv-loop run-codes-μ-loop
-run-codes-sub-run-codes t c = omega (arith, named-some (asked (c .before .before .before .before .before .before .before .before .before .before .before .before .loop .inv .1) (c .before .before .before .before .before .before .before .before .before .before .before .before .before .before .before .before .pre .1)) (c .before .before .before .before .before .before .before .before .before .before .before .loop-test .taken) (sym (c .before .before .before .before .before .before .before .before .before .body-at .ensures .0) ∙ c .before .before .before .before .before .before .before .if3 .taken))
+run-codes-sub-run-codes t c = omega (arith, named-some (asked (c .before .before .before .before .before .before .before .before .before .before .before .before .loop .inv .1) (c .before .before .before .before .before .before .before .before .before .before .before .before .before .before .before .before .pre .1 .1)) (c .before .before .before .before .before .before .before .before .before .before .before .loop-test .taken) (sym (c .before .before .before .before .before .before .before .before .before .body-at .ensures .0) ∙ c .before .before .before .before .before .before .before .if3 .taken))
 
 run-codes-run-codes-requires : (t : ℕ) → run-codes-lts.Need-run-codes-requires (run-codes-calls t) (run-codes-at t) run-codes.Post run-codes-Inv-loop run-codes-μ-loop
-run-codes-run-codes-requires t c κs = let w = named-asks (asked (c .before .before .before .before .before .before .before .before .before .before .before .before .before .loop .inv .1) (c .before .before .before .before .before .before .before .before .before .before .before .before .before .before .before .before .before .pre .1)) (c .before .before .before .before .before .before .before .before .before .before .before .before .loop-test .taken) (sym (c .before .before .before .before .before .before .before .before .before .before .body-at .ensures .0) ∙ c .before .before .before .before .before .before .before .before .if3 .taken) (c .before .before .span-at .ensures .0) in (omega (arith, c .before .before .before .before .before .before .before .before .before .before .before .before .before .before .before .before .before .pre .0, named-some (asked (c .before .before .before .before .before .before .before .before .before .before .before .before .before .loop .inv .1) (c .before .before .before .before .before .before .before .before .before .before .before .before .before .before .before .before .before .pre .1)) (c .before .before .before .before .before .before .before .before .before .before .before .before .loop-test .taken) (sym (c .before .before .before .before .before .before .before .before .before .before .body-at .ensures .0) ∙ c .before .before .before .before .before .before .before .before .if3 .taken)), (c .before .before .before .before .before .before .before .before .before .before .before .before .before .before .before .before .before .pre .1 .0, c .before .before .before .before .before .before .before .before .before .before .before .before .before .before .before .before .before .pre .1 .1, c .before .before .before .before .before .before .before .before .before .before .before .before .before .before .before .before .before .pre .1 .2, c .before .before .before .before .before .before .before .before .before .before .before .before .before .before .before .before .before .pre .1 .3, w .0, w .1, w .2))
+run-codes-run-codes-requires t c κs = let w = named-asks (asked (c .before .before .before .before .before .before .before .before .before .before .before .before .before .loop .inv .1) (c .before .before .before .before .before .before .before .before .before .before .before .before .before .before .before .before .before .pre .1 .1)) (c .before .before .before .before .before .before .before .before .before .before .before .before .loop-test .taken) (sym (c .before .before .before .before .before .before .before .before .before .before .body-at .ensures .0) ∙ c .before .before .before .before .before .before .before .before .if3 .taken) (c .before .before .span-at .ensures .0) in (omega (arith, c .before .before .before .before .before .before .before .before .before .before .before .before .before .before .before .before .before .pre .0, named-some (asked (c .before .before .before .before .before .before .before .before .before .before .before .before .before .loop .inv .1) (c .before .before .before .before .before .before .before .before .before .before .before .before .before .before .before .before .before .pre .1 .1)) (c .before .before .before .before .before .before .before .before .before .before .before .before .loop-test .taken) (sym (c .before .before .before .before .before .before .before .before .before .before .body-at .ensures .0) ∙ c .before .before .before .before .before .before .before .before .if3 .taken)), (omega (arith, c .before .before .before .before .before .before .before .before .before .before .before .before .before .before .before .before .before .pre .1 .0, named-some (asked (c .before .before .before .before .before .before .before .before .before .before .before .before .before .loop .inv .1) (c .before .before .before .before .before .before .before .before .before .before .before .before .before .before .before .before .before .pre .1 .1)) (c .before .before .before .before .before .before .before .before .before .before .before .before .loop-test .taken) (sym (c .before .before .before .before .before .before .before .before .before .before .body-at .ensures .0) ∙ c .before .before .before .before .before .before .before .before .if3 .taken)), (c .before .before .before .before .before .before .before .before .before .before .before .before .before .before .before .before .before .pre .1 .1 .0, c .before .before .before .before .before .before .before .before .before .before .before .before .before .before .before .before .before .pre .1 .1 .1, c .before .before .before .before .before .before .before .before .before .before .before .before .before .before .before .before .before .pre .1 .1 .2, c .before .before .before .before .before .before .before .before .before .before .before .before .before .before .before .before .before .pre .1 .1 .3, w .0, w .1, w .2)))
 
 run-codes-loop-less-2 : (t : ℕ) → run-codes-lts.Need-loop-less-2 (run-codes-calls t) (run-codes-at t) run-codes.Post run-codes-Inv-loop run-codes-μ-loop
-run-codes-loop-less-2 t c = omega (arith, named-room (asked (c .before .before .before .before .before .before .before .before .before .before .before .before .before .before .before .before .loop .inv .1) (c .before .before .before .before .before .before .before .before .before .before .before .before .before .before .before .before .before .before .before .before .pre .1)) (c .before .before .before .before .before .before .before .before .before .before .before .before .before .before .before .loop-test .taken) (sym (c .before .before .before .before .before .before .before .before .before .before .before .before .before .body-at .ensures .0) ∙ c .before .before .before .before .before .before .before .before .before .before .before .if3 .taken) .0, c .before .before .before .before .before .span-at .ensures .0, c .before .before .before .before .before .before .before .before .before .before .before .before .before .before .before .loop-test .taken)
+run-codes-loop-less-2 t c = omega (arith, named-room (asked (c .before .before .before .before .before .before .before .before .before .before .before .before .before .before .before .before .loop .inv .1) (c .before .before .before .before .before .before .before .before .before .before .before .before .before .before .before .before .before .before .before .before .pre .1 .1)) (c .before .before .before .before .before .before .before .before .before .before .before .before .before .before .before .loop-test .taken) (sym (c .before .before .before .before .before .before .before .before .before .before .before .before .before .body-at .ensures .0) ∙ c .before .before .before .before .before .before .before .before .before .before .before .if3 .taken) .0, c .before .before .before .before .before .span-at .ensures .0, c .before .before .before .before .before .before .before .before .before .before .before .before .before .before .before .loop-test .taken)
 
 run-codes-loop-again-2 : (t : ℕ) → run-codes-lts.Need-loop-again-2 (run-codes-calls t) (run-codes-at t) run-codes.Post run-codes-Inv-loop run-codes-μ-loop
 run-codes-loop-again-2 t c = (c .before .out3 .given ∙ (c .before .before .before .before .before .before .before .out2 .given ∙ c .before .before .before .before .before .before .before .before .before .before .before .before .before .before .before .before .loop .inv .0), λ f given ts ks cs js a. inner-turn (c .before .before .before .before .before .before .before .before .before .before .before .before .before .before .before .before .loop .inv .1 f given ts ks cs js a) (c .before .before .before .before .before .before .before .before .before .before .before .before .before .before .before .loop-test .taken) (sym (c .before .before .before .before .before .before .before .before .before .before .before .before .before .body-at .ensures .0) ∙ c .before .before .before .before .before .before .before .before .before .before .before .if3 .taken) (c .before .before .before .before .before .before .before .before .before .before .body-at3 .ensures .0) (c .before .before .before .before .before .before .before .before .put-name .ensures) (c .before .before .before .before .before .span-at .ensures .0) (c .before .before .run-codes .ensures))
 
 run-codes-body-at-requires-4 : (t : ℕ) → run-codes-lts.Need-body-at-requires-4 (run-codes-calls t) (run-codes-at t) run-codes.Post run-codes-Inv-loop run-codes-μ-loop
-run-codes-body-at-requires-4 t c κs = next-below (asked (c .before .before .before .before .before .loop .inv .1) (c .before .before .before .before .before .before .before .before .before .pre .1)) (c .before .before .before .before .loop-test .taken)
+run-codes-body-at-requires-4 t c κs = next-below (asked (c .before .before .before .before .before .loop .inv .1) (c .before .before .before .before .before .before .before .before .before .pre .1 .1)) (c .before .before .before .before .loop-test .taken)
 
 run-codes-cast-high : (t : ℕ) → run-codes-lts.Need-cast-high (run-codes-calls t) (run-codes-at t) run-codes.Post run-codes-Inv-loop run-codes-μ-loop
-run-codes-cast-high t c = omega (arith, next-narrow (asked (c .before .before .before .before .before .before .loop .inv .1) (c .before .before .before .before .before .before .before .before .before .before .pre .1)) (c .before .before .before .before .before .loop-test .taken) (c .body-at4 .ensures .0) (omega arith) (next-two (asked (c .before .before .before .before .before .before .loop .inv .1) (c .before .before .before .before .before .before .before .before .before .before .pre .1)) (c .before .before .before .before .before .loop-test .taken)))
+run-codes-cast-high t c = omega (arith, next-narrow (asked (c .before .before .before .before .before .before .loop .inv .1) (c .before .before .before .before .before .before .before .before .before .before .pre .1 .1)) (c .before .before .before .before .before .loop-test .taken) (c .body-at4 .ensures .0) (omega arith) (next-two (asked (c .before .before .before .before .before .before .loop .inv .1) (c .before .before .before .before .before .before .before .before .before .before .pre .1 .1)) (c .before .before .before .before .before .loop-test .taken)))
 
 run-codes-body-at-requires-5 : (t : ℕ) → run-codes-lts.Need-body-at-requires-5 (run-codes-calls t) (run-codes-at t) run-codes.Post run-codes-Inv-loop run-codes-μ-loop
-run-codes-body-at-requires-5 t c κs = token-room (asked (c .before .before .before .before .before .before .loop .inv .1) (c .before .before .before .before .before .before .before .before .before .before .pre .1)) (c .before .before .before .before .before .loop-test .taken) (λ z. c .before .if3 .left (c .before .before .before .body-at .ensures .0 ∙ z)) (omega (arith, c .before .before .if2 .left, c .before .before .before .body-at .ensures .0))
+run-codes-body-at-requires-5 t c κs = token-room (asked (c .before .before .before .before .before .before .loop .inv .1) (c .before .before .before .before .before .before .before .before .before .before .pre .1 .1)) (c .before .before .before .before .before .loop-test .taken) (λ z. c .before .if3 .left (c .before .before .before .body-at .ensures .0 ∙ z)) (omega (arith, c .before .before .if2 .left, c .before .before .before .body-at .ensures .0))
 
 run-codes-cast-low : (t : ℕ) → run-codes-lts.Need-cast-low (run-codes-calls t) (run-codes-at t) run-codes.Post run-codes-Inv-loop run-codes-μ-loop
-run-codes-cast-low t c = omega (arith, next-narrow (asked (c .before .before .before .before .before .before .before .loop .inv .1) (c .before .before .before .before .before .before .before .before .before .before .before .pre .1)) (c .before .before .before .before .before .before .loop-test .taken) (c .body-at5 .ensures .0) (omega arith) (token-three (asked (c .before .before .before .before .before .before .before .loop .inv .1) (c .before .before .before .before .before .before .before .before .before .before .before .pre .1)) (c .before .before .before .before .before .before .loop-test .taken) (λ z. c .before .before .if3 .left (c .before .before .before .before .body-at .ensures .0 ∙ z)) (omega (arith, c .before .before .before .if2 .left, c .before .before .before .before .body-at .ensures .0))))
+run-codes-cast-low t c = omega (arith, next-narrow (asked (c .before .before .before .before .before .before .before .loop .inv .1) (c .before .before .before .before .before .before .before .before .before .before .before .pre .1 .1)) (c .before .before .before .before .before .before .loop-test .taken) (c .body-at5 .ensures .0) (omega arith) (token-three (asked (c .before .before .before .before .before .before .before .loop .inv .1) (c .before .before .before .before .before .before .before .before .before .before .before .pre .1 .1)) (c .before .before .before .before .before .before .loop-test .taken) (λ z. c .before .before .if3 .left (c .before .before .before .before .body-at .ensures .0 ∙ z)) (omega (arith, c .before .before .before .if2 .left, c .before .before .before .before .body-at .ensures .0))))
 
 run-codes-put-token-requires : (t : ℕ) → run-codes-lts.Need-put-token-requires (run-codes-calls t) (run-codes-at t) run-codes.Post run-codes-Inv-loop run-codes-μ-loop
 run-codes-put-token-requires t c κs = c .before .before .before .before .before .before .if1 .left
@@ -328,7 +328,7 @@ run-node-going t c f given u a =
     let e = c .before .before .clause-end .ensures (s .body) (s .clause) in
     ⊎-elim
     (λ w. going-as a s e (w .6) (w .7) (w .8) (root-going a s e (sym (c .before .body-at .ensures .0) ∙ w .0 .taken) (w .1 .ensures .0) (w .3 .ensures)))
-    (λ w. going-as a s e (w .1) (w .2) (w .3) (node-going a s e _ _))
+    (λ w. going-as a s e (w .1) (w .2) (w .3) (node-going a s e (λ z. w .0 .left (c .before .body-at .ensures .0 ∙ z)) _ _))
     (c .if1 .came)
 
 run-node-start-node-requires : (t : ℕ) → run-node-lts.Need-start-node-requires (run-node-calls t) (run-node-at t) run-node.Post
@@ -359,7 +359,7 @@ run-node-sub-run-clause : (t : ℕ) → run-node-lts.Need-sub-run-clause (run-no
 run-node-sub-run-clause t c = omega (arith, node-some (c .before .before .before .before .before .before .before .before .before .pre .1 .3 .3) (c .before .before .before .before .start-node .ensures (c .before .before .before .before .before .before .before .before .before .pre .1 .3 .0) (c .before .before .before .before .before .before .before .before .before .pre .1 .3 .1) (c .before .before .before .before .before .before .before .before .before .pre .1 .3 .2) ((c .before .before .before .before .before .before .before .before .before .pre .1 .3 .3) .there)) (c .before .before .before .clause-end .ensures ((c .before .before .before .before .start-node .ensures (c .before .before .before .before .before .before .before .before .before .pre .1 .3 .0) (c .before .before .before .before .before .before .before .before .before .pre .1 .3 .1) (c .before .before .before .before .before .before .before .before .before .pre .1 .3 .2) ((c .before .before .before .before .before .before .before .before .before .pre .1 .3 .3) .there)) .body) ((c .before .before .before .before .start-node .ensures (c .before .before .before .before .before .before .before .before .before .pre .1 .3 .0) (c .before .before .before .before .before .before .before .before .before .pre .1 .3 .1) (c .before .before .before .before .before .before .before .before .before .pre .1 .3 .2) ((c .before .before .before .before .before .before .before .before .before .pre .1 .3 .3) .there)) .clause)))
 
 run-node-run-clause-requires : (t : ℕ) → run-node-lts.Need-run-clause-requires (run-node-calls t) (run-node-at t) run-node.Post
-run-node-run-clause-requires t c κs = let g = (run-node-going t (c .before .before) (c .before .before .before .before .before .before .before .before .before .before .pre .1 .3 .0) (c .before .before .before .before .before .before .before .before .before .before .pre .1 .3 .1) (c .before .before .before .before .before .before .before .before .before .before .pre .1 .3 .2) (c .before .before .before .before .before .before .before .before .before .before .pre .1 .3 .3)) in (omega (arith, c .before .before .before .before .before .before .before .before .before .before .pre .0, node-some (c .before .before .before .before .before .before .before .before .before .before .pre .1 .3 .3) (c .before .before .before .before .before .start-node .ensures (c .before .before .before .before .before .before .before .before .before .before .pre .1 .3 .0) (c .before .before .before .before .before .before .before .before .before .before .pre .1 .3 .1) (c .before .before .before .before .before .before .before .before .before .before .pre .1 .3 .2) ((c .before .before .before .before .before .before .before .before .before .before .pre .1 .3 .3) .there)) (c .before .before .before .before .clause-end .ensures ((c .before .before .before .before .before .start-node .ensures (c .before .before .before .before .before .before .before .before .before .before .pre .1 .3 .0) (c .before .before .before .before .before .before .before .before .before .before .pre .1 .3 .1) (c .before .before .before .before .before .before .before .before .before .before .pre .1 .3 .2) ((c .before .before .before .before .before .before .before .before .before .before .pre .1 .3 .3) .there)) .body) ((c .before .before .before .before .before .start-node .ensures (c .before .before .before .before .before .before .before .before .before .before .pre .1 .3 .0) (c .before .before .before .before .before .before .before .before .before .before .pre .1 .3 .1) (c .before .before .before .before .before .before .before .before .before .before .pre .1 .3 .2) ((c .before .before .before .before .before .before .before .before .before .before .pre .1 .3 .3) .there)) .clause))), (c .before .before .before .before .before .before .before .before .before .before .pre .1 .3 .0, c .before .before .before .before .before .before .before .before .before .before .pre .1 .3 .1, (c .before .before .before .before .before .start-node .ensures (c .before .before .before .before .before .before .before .before .before .before .pre .1 .3 .0) (c .before .before .before .before .before .before .before .before .before .before .pre .1 .3 .1) (c .before .before .before .before .before .before .before .before .before .before .pre .1 .3 .2) ((c .before .before .before .before .before .before .before .before .before .before .pre .1 .3 .3) .there)) .operands, (c .before .before .before .before .before .start-node .ensures (c .before .before .before .before .before .before .before .before .before .before .pre .1 .3 .0) (c .before .before .before .before .before .before .before .before .before .before .pre .1 .3 .1) (c .before .before .before .before .before .before .before .before .before .before .pre .1 .3 .2) ((c .before .before .before .before .before .before .before .before .before .before .pre .1 .3 .3) .there)) .kinds, g .rest, g .kinds, g .asks))
+run-node-run-clause-requires t c κs = let g = (run-node-going t (c .before .before) (c .before .before .before .before .before .before .before .before .before .before .pre .1 .3 .0) (c .before .before .before .before .before .before .before .before .before .before .pre .1 .3 .1) (c .before .before .before .before .before .before .before .before .before .before .pre .1 .3 .2) (c .before .before .before .before .before .before .before .before .before .before .pre .1 .3 .3)) in (omega (arith, c .before .before .before .before .before .before .before .before .before .before .pre .0, node-some (c .before .before .before .before .before .before .before .before .before .before .pre .1 .3 .3) (c .before .before .before .before .before .start-node .ensures (c .before .before .before .before .before .before .before .before .before .before .pre .1 .3 .0) (c .before .before .before .before .before .before .before .before .before .before .pre .1 .3 .1) (c .before .before .before .before .before .before .before .before .before .before .pre .1 .3 .2) ((c .before .before .before .before .before .before .before .before .before .before .pre .1 .3 .3) .there)) (c .before .before .before .before .clause-end .ensures ((c .before .before .before .before .before .start-node .ensures (c .before .before .before .before .before .before .before .before .before .before .pre .1 .3 .0) (c .before .before .before .before .before .before .before .before .before .before .pre .1 .3 .1) (c .before .before .before .before .before .before .before .before .before .before .pre .1 .3 .2) ((c .before .before .before .before .before .before .before .before .before .before .pre .1 .3 .3) .there)) .body) ((c .before .before .before .before .before .start-node .ensures (c .before .before .before .before .before .before .before .before .before .before .pre .1 .3 .0) (c .before .before .before .before .before .before .before .before .before .before .pre .1 .3 .1) (c .before .before .before .before .before .before .before .before .before .before .pre .1 .3 .2) ((c .before .before .before .before .before .before .before .before .before .before .pre .1 .3 .3) .there)) .clause))), (omega (arith, (c .before .before .before .before .before .before .before .before .before .before .pre .1 .3 .3) .whole, node-some (c .before .before .before .before .before .before .before .before .before .before .pre .1 .3 .3) (c .before .before .before .before .before .start-node .ensures (c .before .before .before .before .before .before .before .before .before .before .pre .1 .3 .0) (c .before .before .before .before .before .before .before .before .before .before .pre .1 .3 .1) (c .before .before .before .before .before .before .before .before .before .before .pre .1 .3 .2) ((c .before .before .before .before .before .before .before .before .before .before .pre .1 .3 .3) .there)) (c .before .before .before .before .clause-end .ensures ((c .before .before .before .before .before .start-node .ensures (c .before .before .before .before .before .before .before .before .before .before .pre .1 .3 .0) (c .before .before .before .before .before .before .before .before .before .before .pre .1 .3 .1) (c .before .before .before .before .before .before .before .before .before .before .pre .1 .3 .2) ((c .before .before .before .before .before .before .before .before .before .before .pre .1 .3 .3) .there)) .body) ((c .before .before .before .before .before .start-node .ensures (c .before .before .before .before .before .before .before .before .before .before .pre .1 .3 .0) (c .before .before .before .before .before .before .before .before .before .before .pre .1 .3 .1) (c .before .before .before .before .before .before .before .before .before .before .pre .1 .3 .2) ((c .before .before .before .before .before .before .before .before .before .before .pre .1 .3 .3) .there)) .clause))), (c .before .before .before .before .before .before .before .before .before .before .pre .1 .3 .0, c .before .before .before .before .before .before .before .before .before .before .pre .1 .3 .1, (c .before .before .before .before .before .start-node .ensures (c .before .before .before .before .before .before .before .before .before .before .pre .1 .3 .0) (c .before .before .before .before .before .before .before .before .before .before .pre .1 .3 .1) (c .before .before .before .before .before .before .before .before .before .before .pre .1 .3 .2) ((c .before .before .before .before .before .before .before .before .before .before .pre .1 .3 .3) .there)) .operands, (c .before .before .before .before .before .start-node .ensures (c .before .before .before .before .before .before .before .before .before .before .pre .1 .3 .0) (c .before .before .before .before .before .before .before .before .before .before .pre .1 .3 .1) (c .before .before .before .before .before .before .before .before .before .before .pre .1 .3 .2) ((c .before .before .before .before .before .before .before .before .before .before .pre .1 .3 .3) .there)) .kinds, g .rest, g .kinds, g .asks)))
 
 run-node-last-end-requires : (t : ℕ) → run-node-lts.Need-last-end-requires (run-node-calls t) (run-node-at t) run-node.Post
 run-node-last-end-requires t c κs = (c .before .before .before .before .before .before .before .before .before .before .before .before .before .before .pre .1 .3 .0, c .before .before .before .before .before .before .before .before .before .before .before .before .before .before .pre .1 .3 .1, _, _, last-asks (c .before .before .before .before .before .before .before .before .before .before .before .before .before .before .pre .1 .3 .3) (c .before .before .before .before .before .before .before .before .before .start-node .ensures (c .before .before .before .before .before .before .before .before .before .before .before .before .before .before .pre .1 .3 .0) (c .before .before .before .before .before .before .before .before .before .before .before .before .before .before .pre .1 .3 .1) (c .before .before .before .before .before .before .before .before .before .before .before .before .before .before .pre .1 .3 .2) ((c .before .before .before .before .before .before .before .before .before .before .before .before .before .before .pre .1 .3 .3) .there)) (c .before .before .before .before .before .before .before .before .clause-end .ensures ((c .before .before .before .before .before .before .before .before .before .start-node .ensures (c .before .before .before .before .before .before .before .before .before .before .before .before .before .before .pre .1 .3 .0) (c .before .before .before .before .before .before .before .before .before .before .before .before .before .before .pre .1 .3 .1) (c .before .before .before .before .before .before .before .before .before .before .before .before .before .before .pre .1 .3 .2) ((c .before .before .before .before .before .before .before .before .before .before .before .before .before .before .pre .1 .3 .3) .there)) .body) ((c .before .before .before .before .before .before .before .before .before .start-node .ensures (c .before .before .before .before .before .before .before .before .before .before .before .before .before .before .pre .1 .3 .0) (c .before .before .before .before .before .before .before .before .before .before .before .before .before .before .pre .1 .3 .1) (c .before .before .before .before .before .before .before .before .before .before .before .before .before .before .pre .1 .3 .2) ((c .before .before .before .before .before .before .before .before .before .before .before .before .before .before .pre .1 .3 .3) .there)) .clause)) (run-node-going t (c .before .before .before .before .before .before) (c .before .before .before .before .before .before .before .before .before .before .before .before .before .before .pre .1 .3 .0) (c .before .before .before .before .before .before .before .before .before .before .before .before .before .before .pre .1 .3 .1) (c .before .before .before .before .before .before .before .before .before .before .before .before .before .before .pre .1 .3 .2) (c .before .before .before .before .before .before .before .before .before .before .before .before .before .before .pre .1 .3 .3)) (c .before .before .before .run-clause .ensures))
@@ -386,10 +386,10 @@ run-use-returns : (t : ℕ) → run-use-lts.Need-returns (run-use-calls t) (run-
 run-use-returns t c = λ f given ts ks a. leaf-gives a (c .before .before .before .before .before .before .before .source-at .ensures .0) (sym (c .before .before .before .before .before .before .is-leaf .ensures) ∙ c .before .before .before .before .before .if1 .taken) (c .before .before .put-argument .ensures .0) (c .before .before .put-argument .ensures .1)
 
 run-use-sub-run-node : (t : ℕ) → run-use-lts.Need-sub-run-node (run-use-calls t) (run-use-at t) run-use.Post
-run-use-sub-run-node t c = omega (arith, found-some (c .before .before .before .before .before .before .before .before .pre .1 .1 .4) (c .before .before .before .source-at .ensures .0) (sym (c .before .before .is-leaf .ensures) ∙ c .before .if1 .left))
+run-use-sub-run-node t c = omega arith
 
 run-use-run-node-requires : (t : ℕ) → run-use-lts.Need-run-node-requires (run-use-calls t) (run-use-at t) run-use.Post
-run-use-run-node-requires t c κs = (omega (arith, c .before .before .before .before .before .before .before .before .before .pre .0, found-some (c .before .before .before .before .before .before .before .before .before .pre .1 .1 .4) (c .before .before .before .before .source-at .ensures .0) (sym (c .before .before .before .is-leaf .ensures) ∙ c .before .before .if1 .left)), (c .before .before .before .before .before .before .before .before .before .pre .1 .0, found-place (c .before .before .before .before .before .before .before .before .before .pre .1 .1 .4) .0, (c .before .before .before .before .before .before .before .before .before .pre .1 .1 .4) .asks .room, (c .before .before .before .before .before .before .before .before .before .pre .1 .1 .0, c .before .before .before .before .before .before .before .before .before .pre .1 .1 .1, _, found-asks (c .before .before .before .before .before .before .before .before .before .pre .1 .1 .4) (c .before .before .before .before .source-at .ensures .0) (sym (c .before .before .before .is-leaf .ensures) ∙ c .before .before .if1 .left))))
+run-use-run-node-requires t c κs = (omega (arith, c .before .before .before .before .before .before .before .before .before .pre .0, (c .before .before .before .before .before .before .before .before .before .pre .1 .1 .4) .asks .more), (c .before .before .before .before .before .before .before .before .before .pre .1 .0, found-place (c .before .before .before .before .before .before .before .before .before .pre .1 .1 .4) .0, (c .before .before .before .before .before .before .before .before .before .pre .1 .1 .4) .asks .room, (c .before .before .before .before .before .before .before .before .before .pre .1 .1 .0, c .before .before .before .before .before .before .before .before .before .pre .1 .1 .1, _, found-asks (c .before .before .before .before .before .before .before .before .before .pre .1 .1 .4) (c .before .before .before .before .source-at .ensures .0) (sym (c .before .before .before .is-leaf .ensures) ∙ c .before .before .if1 .left))))
 
 run-use-returns-2 : (t : ℕ) → run-use-lts.Need-returns-2 (run-use-calls t) (run-use-at t) run-use.Post
 run-use-returns-2 t c = λ f given ts ks a. found-gives a (c .before .before .before .before .before .before .before .source-at .ensures .0) (sym (c .before .before .before .before .before .before .is-leaf .ensures) ∙ c .before .before .before .before .before .if1 .left) (c .before .before .run-node .ensures)
