@@ -6,7 +6,7 @@ use native.Mathlib.Omega.{arith}
 use lib.ListN.{length, getD, drop, length-append}
 use Rattle.format_fields.specs.Fields.{pairAt}
 use Rattle.format_language.specs.Language.{Language}
-use Rattle.tree_reader.specs.Code.{Code, Codes, nil}
+use Rattle.tree_reader.specs.Code.{Code, Codes, nil, levelsAll}
 use Rattle.tree_reader.specs.Syntax.{writeAll, tree}
 use Rattle.tree_reader.specs.Inner.Positions.{KindsIn}
 use Rattle.tree_index.specs.Spans.{Span, span, size, spansAll, entry, entries}
@@ -15,7 +15,7 @@ use Rattle.tree_index.specs.Inner.Marking.{Has}
 use Rattle.tree_index.specs.Inner.Comparing.{Claims, Compares}
 use Rattle.tree_index.proofs.Rows.{kinds-end, Turn, turn, none-left}
 use Rattle.tree_index.proofs.Pairs.{entry-length, entry-read, entry-has}
-use Rattle.tree_index.proofs.Walking.{entries-cons, has-front, has-back, has-both, no-trees, turn-long, turn-spans, turn-ahead, turn-end, turn-are}
+use Rattle.tree_index.proofs.Walking.{entries-cons, has-front, has-back, has-both, no-trees, turn-long, turn-spans, turn-levels, turn-flat, turn-below, turn-ahead, turn-end, turn-are}
 use Rattle.tree_index.proofs.Starts.{own-span}
 
 -- Where the loop stands: the trees that are still to be compared. The index has the entries of all exactly if it has theirs.
@@ -26,10 +26,11 @@ pub record Comparing (x s b i : List ℕ) (n at : ℕ) (ts : Codes) (stop q end 
   pub onto : Claims i m to others stop → Claims i n at ts stop
   pub back : Claims i n at ts stop → Claims i m to others stop
   pub long : m + length (entries (spansAll to others)) ≡ n + length (entries (spansAll at ts))
+  pub flat : levelsAll others ≤ levelsAll ts
 
 module _ (x s b i : List ℕ) (n at : ℕ) (ts : Codes) (stop : ℕ) (l : Language) where
   pub compare-begin : (first last : ℕ) → KindsIn s first last → Row x s b at first last l ts → Comparing x s b i n at ts stop first last at n l
-  compare-begin first last k r = record { others = ts; row = r; kinds = k; onto = λ h. h; back = λ h. h; long = refl }
+  compare-begin first last k r = record { others = ts; row = r; kinds = k; onto = λ h. h; back = λ h. h; long = refl; flat = omega arith }
 
   pub differs : (Claims i n at ts stop → ⊥) → Compares i n at ts stop 0
   differs h = record { same = λ p. absurd (omega arith); other = λ e. h }
@@ -90,6 +91,10 @@ module _ (x s b i : List ℕ) (n at : ℕ) (ts : Codes) (stop : ℕ) (l : Langua
         abbrev behind : List ℕ
         behind = entries (spansAll (to + size head) tail)
 
+        -- The operands have fewer levels than all trees.
+        pub opens-below : f < e → levelsAll (p .operands) < levelsAll ts
+        opens-below h = omega (arith, turn-below x s b to q end l (w .others) compare-turn (getD s q 0) f e t p h, w .flat)
+
         pub opens-ahead : (to < t) × (t ≤ length b)
         opens-ahead = turn-ahead x s b to q end l (w .others) compare-turn (getD s q 0) f e t p
 
@@ -142,6 +147,7 @@ module _ (x s b i : List ℕ) (n at : ℕ) (ts : Codes) (stop : ℕ) (l : Langua
               onto = λ c. w .onto (joined a h k ek c);
               back = λ c. behind-claims c k ek;
               long = omega (arith, w .long, all-long);
+              flat = omega (arith, w .flat, turn-levels x s b to q end l (w .others) compare-turn .1);
             })
 
             -- A node that has no operands.
@@ -194,4 +200,5 @@ module _ (x s b i : List ℕ) (n at : ℕ) (ts : Codes) (stop : ℕ) (l : Langua
                         w .onto (joined a (c .has) (m + 4 + length inner) refl (record { has = rw (none-behind .0) (record { rest = drop (m + 4 + length inner) i; is = refl }); ends = omega (arith, none-behind .1) }));
                     back = λ c. rw h at (inner-claims c);
                     long = omega (arith, w .long, all-long);
+                    flat = omega (arith, w .flat, turn-flat x s b to q end l (w .others) compare-turn (getD s q 0) f e t p);
                   }

@@ -4,13 +4,14 @@ use mathlib.Core.Path.{_≡_, refl, sym, ap, _∙_}
 use mathlib.Core.List.{List, [], _∷_, _++_, append-assoc, append-nil}
 use native.Mathlib.Omega.{arith}
 use lib.ListN.{length, getD, drop, take, length-append}
-use lib.Seq.{drop-drop, drop-append-seam, take-append-le, drop-at, length-take-le, take-take}
+use lib.Seq.{slice, drop-drop, drop-append-seam, take-append-le, drop-at, length-take-le, take-take}
 use Rattle.format_fields.specs.Inner.Writing.{spliced}
 use Rattle.format_fields.specs.Lists.{concatMap}
 use Rattle.format_fields.proofs.Codec.{concat-append}
+use Rattle.format_fields.proofs.Lists.{part-next}
 use Rattle.format_fields.proofs.Splices.{opened, splice-splice, nothing-spliced}
 use Rattle.format_language.specs.Language.{Language}
-use Rattle.tree_reader.specs.Code.{Code, node, token, argument, Codes, nil, cons}
+use Rattle.tree_reader.specs.Code.{Code, node, token, argument, Codes, nil, cons, levels, levelsAll}
 use Rattle.tree_reader.specs.Syntax.{write, writeAll, tree}
 use Rattle.tree_reader.specs.Inner.Positions.{KindsIn}
 use Rattle.tree_index.specs.Spans.{Span, span, size, spans, spansAll, entry, entries}
@@ -35,6 +36,13 @@ shape-spans value a = refl
 pub shape-front : {l : Language} {k : ℕ} {t : Code} {ts : Codes} {ks : List ℕ} {f : ℕ} → Shape l k t ts ks f → 0 < f
 shape-front (production e) = omega arith
 shape-front value = omega arith
+
+-- Operands have fewer levels than their node.
+shape-levels : {l : Language} {k : ℕ} {t : Code} {ts : Codes} {ks : List ℕ} {f : ℕ} → Shape l k t ts ks f
+    → (levelsAll ts ≤ levels t) × (0 < length ks → levelsAll ts < levels t)
+unfolding levels
+shape-levels (production e) = (omega arith, λ h. omega arith)
+shape-levels value = (omega arith, λ h. absurd (omega arith))
 
 -- The bytes of spans.
 pub entries-append : (x y : List Span) → entries (x ++ y) ≡ entries x ++ entries y
@@ -140,7 +148,21 @@ module _ (x s b : List ℕ) (to q last : ℕ) (l : Language) (ts : Codes) (v : T
   unfolding spans
   turn-spans a = ap (λ (c : Codes). entries (spansAll a c)) (v .is) ∙ entries-append (spans a (v .head)) (spansAll (a + size (v .head)) (v .tail))
 
+  pub turn-levels : (levels (v .head) ≤ levelsAll ts) × (levelsAll (v .tail) ≤ levelsAll ts)
+  unfolding levels
+  turn-levels = let e : levelsAll ts ≡ levelsAll (cons (v .head) (v .tail)) = ap levelsAll (v .is) in (omega arith, omega arith)
+
   module _ (k f e t : ℕ) (p : Opens x s b to k l (v .head) f e t) where
+    pub turn-flat : levelsAll (p .operands) ≤ levelsAll ts
+    turn-flat = omega (arith, shape-levels (p .shape) .0, turn-levels .0)
+
+    pub turn-below : f < e → levelsAll (p .operands) < levelsAll ts
+    turn-below h =
+        let i = kinds-end s f e f (p .kinds) (omega arith) h in
+        let g : slice f e s ≡ getD s f 0 ∷ slice (f + 1) e s = sym (part-next (λ (z : List ℕ). z) s f e (slice f e s) refl h i) in
+        let n : 0 < length (slice f e s) = rw g (omega arith) in
+        omega (arith, shape-levels (p .shape) .1 n, turn-levels .0)
+
     pub turn-ahead : (to < t) × (t ≤ length b)
     turn-ahead = let y = shape-front (p .shape) in (omega (arith, p .past), p .row .lie .inside)
 
@@ -168,10 +190,11 @@ pub record Walking (x s b : List ℕ) (base : ℕ) (o o′ : List ℕ) (n at : �
   pub all : entries (spansAll (base + at) ts) ≡ dealt ++ entries (spansAll (base + to) others)
   pub ends : to + length (writeAll tree others) ≡ at + length (writeAll tree ts)
   pub few : m + 4 * (length b - to) ≤ lastPlace
+  pub flat : levelsAll others ≤ levelsAll ts
 
 module _ (x s b : List ℕ) (base : ℕ) (o : List ℕ) (n at : ℕ) (ts : Codes) (l : Language) where
   pub walk-begin : (first last : ℕ) → KindsIn s first last → Row x s b at first last l ts → n + 4 * (length b - at) ≤ lastPlace → Walking x s b base o o n at ts first last at n l
-  walk-begin first last k r h = record { others = ts; dealt = []; row = r; kinds = k; puts = puts-nothing o n; all = refl; ends = refl; few = h }
+  walk-begin first last k r h = record { others = ts; dealt = []; row = r; kinds = k; puts = puts-nothing o n; all = refl; ends = refl; few = h; flat = omega arith }
 
   module _ (o′ : List ℕ) (q last to m : ℕ) (w : Walking x s b base o o′ n at ts q last to m l) where
     pub walk-done : last ≤ q → (r : Ends) → r .trees ≡ to → r .entries ≡ m → Writes (entries (spansAll (base + at) ts)) o o′ n (at + length (writeAll tree ts)) r
@@ -190,6 +213,10 @@ module _ (x s b : List ℕ) (base : ℕ) (o : List ℕ) (n at : ℕ) (ts : Codes
       module _ (f e t : ℕ) (p : Opens x s b to (getD s q 0) l (walk-turn .head) f e t) where
         abbrev inner : List ℕ
         inner = entries (spansAll (base + t) (p .operands))
+
+        -- The operands have fewer levels than all trees.
+        pub walk-below : f < e → levelsAll (p .operands) < levelsAll ts
+        walk-below h = omega (arith, turn-below x s b to q last l (w .others) walk-turn (getD s q 0) f e t p h, w .flat)
 
         -- What is known of the numbers.
         pub walk-ahead : (to < t) × (t ≤ length b)
@@ -228,6 +255,7 @@ module _ (x s b : List ℕ) (base : ℕ) (o : List ℕ) (n at : ℕ) (ts : Codes
                     ∙ sym (append-assoc (w .dealt) v behind));
                 ends = omega (arith, w .ends);
                 few = omega (arith, w .few, pi .end, walk-ahead .0, walk-ahead .1, walk-inside);
+                flat = omega (arith, w .flat, turn-levels x s b to q last l (w .others) walk-turn .1);
               }
 
         -- A node that has no operands.

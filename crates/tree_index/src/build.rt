@@ -13,6 +13,7 @@ use outcome::Reason;
 use outcome::accept;
 use outcome::refuse;
 use tree_reader::index::INDEX;
+use tree_reader::read::TREE_LEVELS;
 ghost use mathlib.Core.Path.{_≡_};
 ghost use mathlib.Core.Option.{some};
 ghost use Prim.Native.Nat.{ℕ, _+_, _≤_};
@@ -49,7 +50,16 @@ pub fn write_index(
         → (r ≡ n + length (entries (spans base t))) × (r ≤ length (now (out .entry)) → now (out .exit) ≡ spliced (now (out .entry)) n (entries (spans base t)))) ⌝ }
 {
     let operands = operands_at(language, places, kind, tree, 0);
-    let ends = write_row(language, places, operands, tree, base, out, n + ENTRY);
+    let ends = write_row(
+        language,
+        places,
+        operands,
+        tree,
+        base,
+        out,
+        n + ENTRY,
+        TREE_LEVELS,
+    );
     put_entry(base, ends.trees, out, n);
     ends.entries
 }
@@ -65,7 +75,17 @@ fn is_own(language: &[u8], places: &[u16], kind: u8, tree: &[u8], index: &[u8]) 
     }
     let operands = operands_at(language, places, kind, tree, 0);
     let stop = pair_in(index, 2);
-    compare_row(language, places, operands, tree, stop, index, ENTRY) == index.len()
+    compare_row(
+        language,
+        places,
+        operands,
+        tree,
+        stop,
+        index,
+        ENTRY,
+        TREE_LEVELS,
+    )
+        == index.len()
 }
 
 // The index of a legal tree: 17 where it is longer than the output. It has no more entries than the tree has bytes; an output

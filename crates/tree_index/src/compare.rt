@@ -7,13 +7,13 @@ use format_fields::bytes::pair_in;
 ghost use Prim.Native.Nat.{_<_, _≤_};
 ghost use lib.ListN.{length};
 ghost use Rattle.format_language.specs.Language.{Language};
-ghost use Rattle.tree_reader.specs.Code.{Codes};
+ghost use Rattle.tree_reader.specs.Code.{Codes, levelsAll};
 ghost use Rattle.tree_reader.specs.Inner.Positions.{KindsIn};
 ghost use Rattle.tree_index.specs.Inner.Lying.{Row};
 ghost use Rattle.tree_index.specs.Inner.Comparing.{Compares};
 
 // Where in an index the entries of operands end; 0 where it has others from n on, or the operands do not end at `stop`. Operands
-// of the last are compared here, those of another one call deeper.
+// of the last are compared here, those of another one call deeper, with one level less.
 pub fn compare_row(
     language: &[u8],
     places: &[u16],
@@ -22,9 +22,10 @@ pub fn compare_row(
     stop: usize,
     index: &[u8],
     n: usize,
+    levels: usize,
 ) -> usize
     requires { ⌜ (0 < n) × (n ≤ length (now index)) × KindsIn (now language) (operands .first) (operands .last)
-        × ((l : Language) × (ts : Codes) × Row (now places) (now language) (now tree) (operands .start) (operands .first) (operands .last) l ts) ⌝ }
+        × ((l : Language) × (ts : Codes) × Row (now places) (now language) (now tree) (operands .start) (operands .first) (operands .last) l ts × (levelsAll ts ≤ levels)) ⌝ }
     ensures { λ r. ⌜ (r ≤ length (now (index .entry)))
         × ((l : Language) (ts : Codes) → Row (now (places .entry)) (now (language .entry)) (now (tree .entry)) (operands .start) (operands .first) (operands .last) l ts
         → Compares (now (index .entry)) n (operands .start) ts stop r) ⌝ }
@@ -47,7 +48,7 @@ pub fn compare_row(
                 return 0;
             }
         } else if q < end {
-            m = compare_row(language, places, inner, tree, next, index, m);
+            m = compare_row(language, places, inner, tree, next, index, m, levels - 1);
             if m == 0 {
                 return 0;
             }

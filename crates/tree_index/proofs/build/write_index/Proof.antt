@@ -10,7 +10,7 @@ use Rattle.tree_index.proofs.operands.operands_at.Reads as operands-at-
 use Rattle.tree_index.proofs.walk.write_row.Reads as write-row-reads
 
 write-row-requires : tie.Need-write-row-requires
-write-row-requires c κs = let p = c .before .operands-at .ensures (c .before .before .before .before .before .before .pre .2 .0) (c .before .before .before .before .before .before .pre .2 .1) (c .before .before .before .before .before .before .pre .2 .2) in (record { short = c .before .before .before .before .before .before .pre .0; few = omega (arith, c .before .before .before .before .before .before .pre .0, c .before .before .before .before .before .before .pre .1) }, p .kinds, ((c .before .before .before .before .before .before .pre .2 .0), p .operands, p .row))
+write-row-requires c κs = let p = c .before .operands-at .ensures (c .before .before .before .before .before .before .pre .2 .0) (c .before .before .before .before .before .before .pre .2 .1) (c .before .before .before .before .before .before .pre .2 .2) in (record { short = c .before .before .before .before .before .before .pre .0; few = omega (arith, c .before .before .before .before .before .before .pre .0, c .before .before .before .before .before .before .pre .1) }, p .kinds, ((c .before .before .before .before .before .before .pre .2 .0), p .operands, p .row, p .row .lie .within))
 
 put-entry-requires : tie.Need-put-entry-requires
 put-entry-requires c κs = let p = c .before .before .before .before .before .operands-at .ensures (c .before .before .before .before .before .before .before .before .before .before .pre .2 .0) (c .before .before .before .before .before .before .before .before .before .before .pre .2 .1) (c .before .before .before .before .before .before .before .before .before .before .pre .2 .2) in let y = tree-inside _ _ _ _ (c .before .before .before .before .before .before .before .before .before .before .pre .2 .0) (c .before .before .before .before .before .before .before .before .before .before .pre .2 .1) _ _ _ p _ _ _ _ _ (c .before .before .before .write-row .ensures (c .before .before .before .before .before .before .before .before .before .before .pre .2 .0) (p .operands) (p .row)) in (omega (arith, c .before .before .before .before .before .before .before .before .before .before .pre .0), omega (arith, y, c .before .before .before .before .before .before .before .before .before .before .pre .0), omega (arith, c .before .before .before .before .before .before .before .before .before .before .pre .1))

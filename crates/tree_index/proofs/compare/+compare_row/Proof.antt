@@ -8,7 +8,7 @@ use borrow.Author.Tests.{not-true, not-false}
 use Rattle.format_language.specs.Language.{Language}
 use Rattle.tree_reader.specs.Code.{Codes}
 use Rattle.tree_index.specs.Inner.Lying.{Row}
-use Rattle.tree_index.proofs.Comparing.{Comparing, compare-begin, compare-inside, compare-turn, compare-kind, compare-short, compare-done, start-other, opens-ahead, leaf-other, leaf-next, call-other, call-ahead, call-next, last-other, last-next}
+use Rattle.tree_index.proofs.Comparing.{Comparing, compare-begin, compare-inside, compare-turn, compare-kind, opens-below, compare-short, compare-done, start-other, opens-ahead, leaf-other, leaf-next, call-other, call-ahead, call-next, last-other, last-next}
 use borrow.Fn.Kinds.{In}
 use borrow.Fn.PlainCycle.{Measures, is, falls, and}
 use Rattle.tree_index.proofs.compare.compare_row.Reads as compare-row
@@ -21,7 +21,7 @@ use Rattle.tree_index.proofs.compare.+compare_row.{statement}
 use Rattle.tree_index.proofs.compare.+compare_row.Tie.{close}
 
 abbrev μ-compare-row : Measures 4 compare-row-kinds.ps ℕ
-μ-compare-row κs a = length (now (a .1 .1 .1 .0)) - a .1 .1 .0 .start
+μ-compare-row κs a = a .1 .1 .1 .1 .1 .1 .1 .0
 
 abbrev compare-row-at : ℕ → In 4 compare-row-kinds.ps
 compare-row-at t =
@@ -32,11 +32,11 @@ compare-row-below t =
     and 4 compare-row-kinds.ps (falls 4 compare-row-kinds.ps _<_ μ-compare-row t) compare-row.Pre
 
 abbrev compare-row-Inv-loop : compare-row-lts.InvT-loop
-compare-row-Inv-loop language places tree stop index n q₀ end₀ to₀ m₀ q end to m =
+compare-row-Inv-loop language places tree stop index n levels q₀ end₀ to₀ m₀ q end to m =
     (m ≤ length index) × (to₀ ≤ to) × ((l : Language) (ts : Codes) → Row places language tree to₀ q₀ end₀ l ts → Comparing places language tree index n to₀ ts stop q end to m l)
 
 abbrev compare-row-μ-loop : compare-row-lts.MeasureT-loop
-compare-row-μ-loop language places tree stop index n q₀ end₀ to₀ m₀ q end to m = length tree - to
+compare-row-μ-loop language places tree stop index n levels q₀ end₀ to₀ m₀ q end to m = length tree - to
 
 abbrev compare-row-calls : ℕ → compare-row-lts.Claims
 compare-row-calls t = (starts-at-reads.Asked, starts-at-reads.Learnt, pair-in-reads.Asked, pair-in-reads.Learnt, operands-at-reads.Asked, operands-at-reads.Learnt, compare-row-below t, compare-row.Post)
@@ -81,8 +81,11 @@ compare-row-loop-less t c = let y = opens-ahead _ _ _ _ _ _ (c .before .before .
 compare-row-loop-again : (t : ℕ) → compare-row-lts.Need-loop-again (compare-row-calls t) (compare-row-at t) compare-row.Post compare-row-Inv-loop compare-row-μ-loop
 compare-row-loop-again t c = (let y = (c .before .before .before .before .before .before .before .starts-at .ensures .0 (not-false _ (c .before .before .before .before .before .before .if1 .left))) .0 in omega arith, let y = opens-ahead _ _ _ _ _ _ (c .before .before .before .before .before .before .before .before .before .before .before .before .before .before .pre .1 .3 .1) _ (c .before .before .before .before .before .before .before .before .before .before .before .before .before .before .pre .1 .3 .0) _ _ _ _ (c .before .before .before .before .before .before .before .before .before .loop .inv .2 (c .before .before .before .before .before .before .before .before .before .before .before .before .before .before .pre .1 .3 .0) (c .before .before .before .before .before .before .before .before .before .before .before .before .before .before .pre .1 .3 .1) (c .before .before .before .before .before .before .before .before .before .before .before .before .before .before .pre .1 .3 .2)) (c .before .before .before .before .before .before .before .before .loop-test .taken) _ _ _ (c .before .before .before .operands-at .ensures (c .before .before .before .before .before .before .before .before .before .before .before .before .before .before .pre .1 .3 .0) _ (compare-turn _ _ _ _ _ _ (c .before .before .before .before .before .before .before .before .before .before .before .before .before .before .pre .1 .3 .1) _ (c .before .before .before .before .before .before .before .before .before .before .before .before .before .before .pre .1 .3 .0) _ _ _ _ (c .before .before .before .before .before .before .before .before .before .loop .inv .2 (c .before .before .before .before .before .before .before .before .before .before .before .before .before .before .pre .1 .3 .0) (c .before .before .before .before .before .before .before .before .before .before .before .before .before .before .pre .1 .3 .1) (c .before .before .before .before .before .before .before .before .before .before .before .before .before .before .pre .1 .3 .2)) (c .before .before .before .before .before .before .before .before .loop-test .taken) .there)) in omega (arith, y .0, c .before .before .before .before .before .before .before .before .before .loop .inv .1), λ l ts h. let w = c .before .before .before .before .before .before .before .before .before .loop .inv .2 l ts h in leaf-next _ _ _ _ _ _ ts _ l _ _ _ _ w (c .before .before .before .before .before .before .before .before .loop-test .taken) _ _ _ (c .before .before .before .operands-at .ensures l _ (compare-turn _ _ _ _ _ _ ts _ l _ _ _ _ w (c .before .before .before .before .before .before .before .before .loop-test .taken) .there)) _ _ (c .before .before .before .before .before .pair-in .ensures .0) refl ((c .before .before .before .before .before .before .before .starts-at .ensures .0 (not-false _ (c .before .before .before .before .before .before .if1 .left))) .0) (λ i. omega (arith, c .before .before .before .before .before .before .before .before .before .before .shared-slice-known4 .given i)) ((c .before .before .before .before .before .before .before .starts-at .ensures .0 (not-false _ (c .before .before .before .before .before .before .if1 .left))) .1) (c .before .if2 .taken) (c .if3 .left))
 
+compare-row-sub-compare-row : (t : ℕ) → compare-row-lts.Need-sub-compare-row (compare-row-calls t) (compare-row-at t) compare-row.Post compare-row-Inv-loop compare-row-μ-loop
+compare-row-sub-compare-row t c = let p = (c .before .before .before .operands-at .ensures (c .before .before .before .before .before .before .before .before .before .before .before .before .before .before .pre .1 .3 .0) _ (compare-turn _ _ _ _ _ _ (c .before .before .before .before .before .before .before .before .before .before .before .before .before .before .pre .1 .3 .1) _ (c .before .before .before .before .before .before .before .before .before .before .before .before .before .before .pre .1 .3 .0) _ _ _ _ (c .before .before .before .before .before .before .before .before .before .loop .inv .2 (c .before .before .before .before .before .before .before .before .before .before .before .before .before .before .pre .1 .3 .0) (c .before .before .before .before .before .before .before .before .before .before .before .before .before .before .pre .1 .3 .1) (c .before .before .before .before .before .before .before .before .before .before .before .before .before .before .pre .1 .3 .2)) (c .before .before .before .before .before .before .before .before .loop-test .taken) .there)) in let y = opens-below _ _ _ _ _ _ (c .before .before .before .before .before .before .before .before .before .before .before .before .before .before .pre .1 .3 .1) _ (c .before .before .before .before .before .before .before .before .before .before .before .before .before .before .pre .1 .3 .0) _ _ _ _ (c .before .before .before .before .before .before .before .before .before .loop .inv .2 (c .before .before .before .before .before .before .before .before .before .before .before .before .before .before .pre .1 .3 .0) (c .before .before .before .before .before .before .before .before .before .before .before .before .before .before .pre .1 .3 .1) (c .before .before .before .before .before .before .before .before .before .before .before .before .before .before .pre .1 .3 .2)) (c .before .before .before .before .before .before .before .before .loop-test .taken) _ _ _ p (c .before .if2 .left) in omega (arith, y, c .before .before .before .before .before .before .before .before .before .before .before .before .before .before .pre .1 .3 .3)
+
 compare-row-compare-row-requires : (t : ℕ) → compare-row-lts.Need-compare-row-requires (compare-row-calls t) (compare-row-at t) compare-row.Post compare-row-Inv-loop compare-row-μ-loop
-compare-row-compare-row-requires t c κs = let p = (c .before .before .before .operands-at .ensures (c .before .before .before .before .before .before .before .before .before .before .before .before .before .before .pre .1 .3 .0) _ (compare-turn _ _ _ _ _ _ (c .before .before .before .before .before .before .before .before .before .before .before .before .before .before .pre .1 .3 .1) _ (c .before .before .before .before .before .before .before .before .before .before .before .before .before .before .pre .1 .3 .0) _ _ _ _ (c .before .before .before .before .before .before .before .before .before .loop .inv .2 (c .before .before .before .before .before .before .before .before .before .before .before .before .before .before .pre .1 .3 .0) (c .before .before .before .before .before .before .before .before .before .before .before .before .before .before .pre .1 .3 .1) (c .before .before .before .before .before .before .before .before .before .before .before .before .before .before .pre .1 .3 .2)) (c .before .before .before .before .before .before .before .before .loop-test .taken) .there)) in let y = opens-ahead _ _ _ _ _ _ (c .before .before .before .before .before .before .before .before .before .before .before .before .before .before .pre .1 .3 .1) _ (c .before .before .before .before .before .before .before .before .before .before .before .before .before .before .pre .1 .3 .0) _ _ _ _ (c .before .before .before .before .before .before .before .before .before .loop .inv .2 (c .before .before .before .before .before .before .before .before .before .before .before .before .before .before .pre .1 .3 .0) (c .before .before .before .before .before .before .before .before .before .before .before .before .before .before .pre .1 .3 .1) (c .before .before .before .before .before .before .before .before .before .before .before .before .before .before .pre .1 .3 .2)) (c .before .before .before .before .before .before .before .before .loop-test .taken) _ _ _ p in (omega (arith, c .before .before .before .before .before .before .before .before .before .before .before .before .before .before .pre .0, y .0, y .1, c .before .before .before .before .before .before .before .before .before .loop .inv .1), (omega arith, (c .before .before .before .before .before .before .before .starts-at .ensures .0 (not-false _ (c .before .before .before .before .before .before .if1 .left))) .0, p .kinds, ((c .before .before .before .before .before .before .before .before .before .before .before .before .before .before .pre .1 .3 .0), p .operands, p .row)))
+compare-row-compare-row-requires t c κs = let p = (c .before .before .before .operands-at .ensures (c .before .before .before .before .before .before .before .before .before .before .before .before .before .before .pre .1 .3 .0) _ (compare-turn _ _ _ _ _ _ (c .before .before .before .before .before .before .before .before .before .before .before .before .before .before .pre .1 .3 .1) _ (c .before .before .before .before .before .before .before .before .before .before .before .before .before .before .pre .1 .3 .0) _ _ _ _ (c .before .before .before .before .before .before .before .before .before .loop .inv .2 (c .before .before .before .before .before .before .before .before .before .before .before .before .before .before .pre .1 .3 .0) (c .before .before .before .before .before .before .before .before .before .before .before .before .before .before .pre .1 .3 .1) (c .before .before .before .before .before .before .before .before .before .before .before .before .before .before .pre .1 .3 .2)) (c .before .before .before .before .before .before .before .before .loop-test .taken) .there)) in let y = opens-below _ _ _ _ _ _ (c .before .before .before .before .before .before .before .before .before .before .before .before .before .before .pre .1 .3 .1) _ (c .before .before .before .before .before .before .before .before .before .before .before .before .before .before .pre .1 .3 .0) _ _ _ _ (c .before .before .before .before .before .before .before .before .before .loop .inv .2 (c .before .before .before .before .before .before .before .before .before .before .before .before .before .before .pre .1 .3 .0) (c .before .before .before .before .before .before .before .before .before .before .before .before .before .before .pre .1 .3 .1) (c .before .before .before .before .before .before .before .before .before .before .before .before .before .before .pre .1 .3 .2)) (c .before .before .before .before .before .before .before .before .loop-test .taken) _ _ _ p (c .before .if2 .left) in (omega (arith, c .before .before .before .before .before .before .before .before .before .before .before .before .before .before .pre .0, y, c .before .before .before .before .before .before .before .before .before .before .before .before .before .before .pre .1 .3 .3), (omega arith, (c .before .before .before .before .before .before .before .starts-at .ensures .0 (not-false _ (c .before .before .before .before .before .before .if1 .left))) .0, p .kinds, ((c .before .before .before .before .before .before .before .before .before .before .before .before .before .before .pre .1 .3 .0), p .operands, p .row, omega (arith, y, c .before .before .before .before .before .before .before .before .before .before .before .before .before .before .pre .1 .3 .3))))
 
 compare-row-returns-3 : (t : ℕ) → compare-row-lts.Need-returns-3 (compare-row-calls t) (compare-row-at t) compare-row.Post compare-row-Inv-loop compare-row-μ-loop
 compare-row-returns-3 t c = (omega arith, λ l ts h. let w = c .before .before .before .before .before .before .before .before .before .before .before .loop .inv .2 l ts h in call-other _ _ _ _ _ _ ts _ l _ _ _ _ w (c .before .before .before .before .before .before .before .before .before .before .loop-test .taken) _ _ _ (c .before .before .before .before .before .operands-at .ensures l _ (compare-turn _ _ _ _ _ _ ts _ l _ _ _ _ w (c .before .before .before .before .before .before .before .before .before .before .loop-test .taken) .there)) _ _ (c .before .before .before .before .before .before .before .pair-in .ensures .0) refl ((c .before .before .before .before .before .before .before .before .before .starts-at .ensures .0 (not-false _ (c .before .before .before .before .before .before .before .before .if1 .left))) .0) (λ i. omega (arith, c .before .before .before .before .before .before .before .before .before .before .before .before .shared-slice-known4 .given i)) ((c .before .before .before .before .before .before .before .before .before .starts-at .ensures .0 (not-false _ (c .before .before .before .before .before .before .before .before .if1 .left))) .1) _ (c .before .compare-row .ensures .1 l _ ((c .before .before .before .before .before .operands-at .ensures l _ (compare-turn _ _ _ _ _ _ ts _ l _ _ _ _ w (c .before .before .before .before .before .before .before .before .before .before .loop-test .taken) .there)) .row)) (c .if5 .taken))
@@ -127,6 +130,7 @@ pub +compare-row-spec : {M : Type 1} → statement M
     (compare-row-returns-2 t)
     (compare-row-loop-less t)
     (compare-row-loop-again t)
+    (compare-row-sub-compare-row t)
     (compare-row-compare-row-requires t)
     (compare-row-returns-3 t)
     (compare-row-loop-less-2 t)

@@ -7,7 +7,7 @@ use borrow.Author.Needs.{needs}
 use Rattle.format_language.specs.Language.{Language}
 use Rattle.tree_reader.specs.Code.{Codes}
 use Rattle.tree_index.specs.Inner.Lying.{Row}
-use Rattle.tree_index.proofs.Walking.{Walking, walk-begin, walk-done, walk-turn, walk-kind, walk-ahead, walk-few, walk-inside, walk-next, leaf-next}
+use Rattle.tree_index.proofs.Walking.{Walking, walk-begin, walk-done, walk-turn, walk-kind, walk-below, walk-ahead, walk-few, walk-inside, walk-next, leaf-next}
 use borrow.Fn.Kinds.{In}
 use borrow.Fn.PlainCycle.{Measures, is, falls, and}
 use Rattle.tree_index.proofs.walk.write_row.Reads as write-row
@@ -19,7 +19,7 @@ use Rattle.tree_index.proofs.walk.+write_row.{statement}
 use Rattle.tree_index.proofs.walk.+write_row.Tie.{close}
 
 abbrev μ-write-row : Measures 4 write-row-kinds.ps ℕ
-μ-write-row κs a = length (now (a .1 .1 .1 .0)) - a .1 .1 .0 .start
+μ-write-row κs a = a .1 .1 .1 .1 .1 .1 .1 .0
 
 abbrev write-row-at : ℕ → In 4 write-row-kinds.ps
 write-row-at t = and 4 write-row-kinds.ps (is 4 write-row-kinds.ps μ-write-row t) write-row.Pre
@@ -29,11 +29,11 @@ write-row-below t =
     and 4 write-row-kinds.ps (falls 4 write-row-kinds.ps _<_ μ-write-row t) write-row.Pre
 
 abbrev write-row-Inv-loop : write-row-lts.InvT-loop
-write-row-Inv-loop language places operands tree base out₀ n q₀ to₀ m₀ out q to m =
+write-row-Inv-loop language places operands tree base out₀ n levels q₀ to₀ m₀ out q to m =
     (length out ≡ length out₀) × (operands .start ≤ to) × ((l : Language) (ts : Codes) → Row places language tree (operands .start) (operands .first) (operands .last) l ts → Walking places language tree base out₀ out n (operands .start) ts q (operands .last) to m l)
 
 abbrev write-row-μ-loop : write-row-lts.MeasureT-loop
-write-row-μ-loop language places operands tree base out₀ n q₀ to₀ m₀ out q to m = operands .last - q
+write-row-μ-loop language places operands tree base out₀ n levels q₀ to₀ m₀ out q to m = operands .last - q
 
 abbrev write-row-calls : ℕ → write-row-lts.Claims
 write-row-calls t = (operands-at-reads.Asked, operands-at-reads.Learnt, put-entry-reads.Asked, put-entry-reads.Learnt, write-row-below t, write-row.Post)
@@ -72,8 +72,11 @@ write-row-loop-again t c = (c .before .before .put-entry .kept .1 .1 .0 ∙ c .b
 write-row-add-write-row : (t : ℕ) → write-row-lts.Need-add-write-row (write-row-calls t) (write-row-at t) write-row.Post write-row-Inv-loop write-row-μ-loop
 write-row-add-write-row t c = let p = (c .before .before .before .operands-at .ensures (c .before .before .before .before .before .before .before .before .before .before .before .before .pre .1 .2 .0) _ (walk-turn _ _ _ _ _ _ _ (c .before .before .before .before .before .before .before .before .before .before .before .before .pre .1 .2 .1) (c .before .before .before .before .before .before .before .before .before .before .before .before .pre .1 .2 .0) _ _ _ _ _ (c .before .before .before .before .before .before .before .loop .inv .2 (c .before .before .before .before .before .before .before .before .before .before .before .before .pre .1 .2 .0) (c .before .before .before .before .before .before .before .before .before .before .before .before .pre .1 .2 .1) (c .before .before .before .before .before .before .before .before .before .before .before .before .pre .1 .2 .2)) (c .before .before .before .before .before .if1 .taken) .there)) in let y = walk-ahead _ _ _ _ _ _ _ (c .before .before .before .before .before .before .before .before .before .before .before .before .pre .1 .2 .1) (c .before .before .before .before .before .before .before .before .before .before .before .before .pre .1 .2 .0) _ _ _ _ _ (c .before .before .before .before .before .before .before .loop .inv .2 (c .before .before .before .before .before .before .before .before .before .before .before .before .pre .1 .2 .0) (c .before .before .before .before .before .before .before .before .before .before .before .before .pre .1 .2 .1) (c .before .before .before .before .before .before .before .before .before .before .before .before .pre .1 .2 .2)) (c .before .before .before .before .before .if1 .taken) _ _ _ p in let f = walk-few _ _ _ _ _ _ _ (c .before .before .before .before .before .before .before .before .before .before .before .before .pre .1 .2 .1) (c .before .before .before .before .before .before .before .before .before .before .before .before .pre .1 .2 .0) _ _ _ _ _ (c .before .before .before .before .before .before .before .loop .inv .2 (c .before .before .before .before .before .before .before .before .before .before .before .before .pre .1 .2 .0) (c .before .before .before .before .before .before .before .before .before .before .before .before .pre .1 .2 .1) (c .before .before .before .before .before .before .before .before .before .before .before .before .pre .1 .2 .2)) (c .before .before .before .before .before .if1 .taken) _ _ _ p in omega (arith, f)
 
+write-row-sub-write-row : (t : ℕ) → write-row-lts.Need-sub-write-row (write-row-calls t) (write-row-at t) write-row.Post write-row-Inv-loop write-row-μ-loop
+write-row-sub-write-row t c = let p = (c .before .before .before .operands-at .ensures (c .before .before .before .before .before .before .before .before .before .before .before .before .pre .1 .2 .0) _ (walk-turn _ _ _ _ _ _ _ (c .before .before .before .before .before .before .before .before .before .before .before .before .pre .1 .2 .1) (c .before .before .before .before .before .before .before .before .before .before .before .before .pre .1 .2 .0) _ _ _ _ _ (c .before .before .before .before .before .before .before .loop .inv .2 (c .before .before .before .before .before .before .before .before .before .before .before .before .pre .1 .2 .0) (c .before .before .before .before .before .before .before .before .before .before .before .before .pre .1 .2 .1) (c .before .before .before .before .before .before .before .before .before .before .before .before .pre .1 .2 .2)) (c .before .before .before .before .before .if1 .taken) .there)) in let z = walk-below _ _ _ _ _ _ _ (c .before .before .before .before .before .before .before .before .before .before .before .before .pre .1 .2 .1) (c .before .before .before .before .before .before .before .before .before .before .before .before .pre .1 .2 .0) _ _ _ _ _ (c .before .before .before .before .before .before .before .loop .inv .2 (c .before .before .before .before .before .before .before .before .before .before .before .before .pre .1 .2 .0) (c .before .before .before .before .before .before .before .before .before .before .before .before .pre .1 .2 .1) (c .before .before .before .before .before .before .before .before .before .before .before .before .pre .1 .2 .2)) (c .before .before .before .before .before .if1 .taken) _ _ _ p (c .before .if2 .left) in omega (arith, z, c .before .before .before .before .before .before .before .before .before .before .before .before .pre .1 .2 .3)
+
 write-row-write-row-requires : (t : ℕ) → write-row-lts.Need-write-row-requires (write-row-calls t) (write-row-at t) write-row.Post write-row-Inv-loop write-row-μ-loop
-write-row-write-row-requires t c κs = let p = (c .before .before .before .operands-at .ensures (c .before .before .before .before .before .before .before .before .before .before .before .before .pre .1 .2 .0) _ (walk-turn _ _ _ _ _ _ _ (c .before .before .before .before .before .before .before .before .before .before .before .before .pre .1 .2 .1) (c .before .before .before .before .before .before .before .before .before .before .before .before .pre .1 .2 .0) _ _ _ _ _ (c .before .before .before .before .before .before .before .loop .inv .2 (c .before .before .before .before .before .before .before .before .before .before .before .before .pre .1 .2 .0) (c .before .before .before .before .before .before .before .before .before .before .before .before .pre .1 .2 .1) (c .before .before .before .before .before .before .before .before .before .before .before .before .pre .1 .2 .2)) (c .before .before .before .before .before .if1 .taken) .there)) in let y = walk-ahead _ _ _ _ _ _ _ (c .before .before .before .before .before .before .before .before .before .before .before .before .pre .1 .2 .1) (c .before .before .before .before .before .before .before .before .before .before .before .before .pre .1 .2 .0) _ _ _ _ _ (c .before .before .before .before .before .before .before .loop .inv .2 (c .before .before .before .before .before .before .before .before .before .before .before .before .pre .1 .2 .0) (c .before .before .before .before .before .before .before .before .before .before .before .before .pre .1 .2 .1) (c .before .before .before .before .before .before .before .before .before .before .before .before .pre .1 .2 .2)) (c .before .before .before .before .before .if1 .taken) _ _ _ p in let f = walk-few _ _ _ _ _ _ _ (c .before .before .before .before .before .before .before .before .before .before .before .before .pre .1 .2 .1) (c .before .before .before .before .before .before .before .before .before .before .before .before .pre .1 .2 .0) _ _ _ _ _ (c .before .before .before .before .before .before .before .loop .inv .2 (c .before .before .before .before .before .before .before .before .before .before .before .before .pre .1 .2 .0) (c .before .before .before .before .before .before .before .before .before .before .before .before .pre .1 .2 .1) (c .before .before .before .before .before .before .before .before .before .before .before .before .pre .1 .2 .2)) (c .before .before .before .before .before .if1 .taken) _ _ _ p in (omega (arith, c .before .before .before .before .before .before .before .before .before .before .before .before .pre .0, y .0, y .1, c .before .before .before .before .before .before .before .loop .inv .1), (record { short = c .before .before .before .before .before .before .before .before .before .before .before .before .pre .1 .0 .short; few = f }, p .kinds, ((c .before .before .before .before .before .before .before .before .before .before .before .before .pre .1 .2 .0), p .operands, p .row)))
+write-row-write-row-requires t c κs = let p = (c .before .before .before .operands-at .ensures (c .before .before .before .before .before .before .before .before .before .before .before .before .pre .1 .2 .0) _ (walk-turn _ _ _ _ _ _ _ (c .before .before .before .before .before .before .before .before .before .before .before .before .pre .1 .2 .1) (c .before .before .before .before .before .before .before .before .before .before .before .before .pre .1 .2 .0) _ _ _ _ _ (c .before .before .before .before .before .before .before .loop .inv .2 (c .before .before .before .before .before .before .before .before .before .before .before .before .pre .1 .2 .0) (c .before .before .before .before .before .before .before .before .before .before .before .before .pre .1 .2 .1) (c .before .before .before .before .before .before .before .before .before .before .before .before .pre .1 .2 .2)) (c .before .before .before .before .before .if1 .taken) .there)) in let y = walk-ahead _ _ _ _ _ _ _ (c .before .before .before .before .before .before .before .before .before .before .before .before .pre .1 .2 .1) (c .before .before .before .before .before .before .before .before .before .before .before .before .pre .1 .2 .0) _ _ _ _ _ (c .before .before .before .before .before .before .before .loop .inv .2 (c .before .before .before .before .before .before .before .before .before .before .before .before .pre .1 .2 .0) (c .before .before .before .before .before .before .before .before .before .before .before .before .pre .1 .2 .1) (c .before .before .before .before .before .before .before .before .before .before .before .before .pre .1 .2 .2)) (c .before .before .before .before .before .if1 .taken) _ _ _ p in let z = walk-below _ _ _ _ _ _ _ (c .before .before .before .before .before .before .before .before .before .before .before .before .pre .1 .2 .1) (c .before .before .before .before .before .before .before .before .before .before .before .before .pre .1 .2 .0) _ _ _ _ _ (c .before .before .before .before .before .before .before .loop .inv .2 (c .before .before .before .before .before .before .before .before .before .before .before .before .pre .1 .2 .0) (c .before .before .before .before .before .before .before .before .before .before .before .before .pre .1 .2 .1) (c .before .before .before .before .before .before .before .before .before .before .before .before .pre .1 .2 .2)) (c .before .before .before .before .before .if1 .taken) _ _ _ p (c .before .if2 .left) in let f = walk-few _ _ _ _ _ _ _ (c .before .before .before .before .before .before .before .before .before .before .before .before .pre .1 .2 .1) (c .before .before .before .before .before .before .before .before .before .before .before .before .pre .1 .2 .0) _ _ _ _ _ (c .before .before .before .before .before .before .before .loop .inv .2 (c .before .before .before .before .before .before .before .before .before .before .before .before .pre .1 .2 .0) (c .before .before .before .before .before .before .before .before .before .before .before .before .pre .1 .2 .1) (c .before .before .before .before .before .before .before .before .before .before .before .before .pre .1 .2 .2)) (c .before .before .before .before .before .if1 .taken) _ _ _ p in (omega (arith, c .before .before .before .before .before .before .before .before .before .before .before .before .pre .0, z, c .before .before .before .before .before .before .before .before .before .before .before .before .pre .1 .2 .3), (record { short = c .before .before .before .before .before .before .before .before .before .before .before .before .pre .1 .0 .short; few = f }, p .kinds, ((c .before .before .before .before .before .before .before .before .before .before .before .before .pre .1 .2 .0), p .operands, p .row, omega (arith, z, c .before .before .before .before .before .before .before .before .before .before .before .before .pre .1 .2 .3))))
 
 write-row-add-put-entry-2 : (t : ℕ) → write-row-lts.Need-add-put-entry-2 (write-row-calls t) (write-row-at t) write-row.Post write-row-Inv-loop write-row-μ-loop
 write-row-add-put-entry-2 t c = let p = (c .before .before .before .before .before .before .operands-at .ensures (c .before .before .before .before .before .before .before .before .before .before .before .before .before .before .before .pre .1 .2 .0) _ (walk-turn _ _ _ _ _ _ _ (c .before .before .before .before .before .before .before .before .before .before .before .before .before .before .before .pre .1 .2 .1) (c .before .before .before .before .before .before .before .before .before .before .before .before .before .before .before .pre .1 .2 .0) _ _ _ _ _ (c .before .before .before .before .before .before .before .before .before .before .loop .inv .2 (c .before .before .before .before .before .before .before .before .before .before .before .before .before .before .before .pre .1 .2 .0) (c .before .before .before .before .before .before .before .before .before .before .before .before .before .before .before .pre .1 .2 .1) (c .before .before .before .before .before .before .before .before .before .before .before .before .before .before .before .pre .1 .2 .2)) (c .before .before .before .before .before .before .before .before .if1 .taken) .there)) in let y = walk-ahead _ _ _ _ _ _ _ (c .before .before .before .before .before .before .before .before .before .before .before .before .before .before .before .pre .1 .2 .1) (c .before .before .before .before .before .before .before .before .before .before .before .before .before .before .before .pre .1 .2 .0) _ _ _ _ _ (c .before .before .before .before .before .before .before .before .before .before .loop .inv .2 (c .before .before .before .before .before .before .before .before .before .before .before .before .before .before .before .pre .1 .2 .0) (c .before .before .before .before .before .before .before .before .before .before .before .before .before .before .before .pre .1 .2 .1) (c .before .before .before .before .before .before .before .before .before .before .before .before .before .before .before .pre .1 .2 .2)) (c .before .before .before .before .before .before .before .before .if1 .taken) _ _ _ p in omega (arith, y .0, y .1, c .before .before .before .before .before .before .before .before .before .before .before .before .before .before .before .pre .1 .0 .short)
@@ -113,6 +116,7 @@ pub +write-row-spec : {M : Type 1} → statement M
     (write-row-loop-less t)
     (write-row-loop-again t)
     (write-row-add-write-row t)
+    (write-row-sub-write-row t)
     (write-row-write-row-requires t)
     (write-row-add-put-entry-2 t)
     (write-row-sub-put-entry-2 t)
