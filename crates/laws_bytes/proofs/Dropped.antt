@@ -1,25 +1,24 @@
 -- Where a clause drops an argument, what a search puts there is the first legal tree of its kind within the levels left: any
 -- earlier one, put in its place, would give an earlier tree with the same run.
-use Prim.Native.Nat.{ℕ, zero, suc, max, _≤_}
+use Prim.Native.Nat.{ℕ, zero, suc, _≤_}
 use mathlib.Core.Path.{_≡_, refl, sym, ap, _∙_}
-use mathlib.Core.Bool.{Bool, true, false, _||_}
-use mathlib.Core.List.{List, [], _∷_, map}
+use mathlib.Core.Bool.{true, false}
+use mathlib.Core.List.{List, []}
 use mathlib.Core.Option.{some}
 use native.Mathlib.Omega.{arith}
-use lib.Dec.{eqb}
 use borrow.Author.Tests.{eq-eqb}
 use Rattle.outcome.specs.Outcome.{value}
 use Rattle.format_fields.proofs.Truth.{some-inj, false-true, or-false, refuted, not-both}
 use Rattle.format_fields.proofs.Codec.{value-inj}
-use Rattle.format_language.specs.Language.{Language, argumentsOf, isIn}
+use Rattle.format_language.specs.Language.{Language, argumentsOf}
 use Rattle.format_language.proofs.Lookup.{result-in, arguments-mem}
 use Rattle.tree_reader.specs.Code.{Code, node, token, argument, Codes, nil, cons, levels, levelsAll}
-use Rattle.tree_reader.specs.Typing.{kindAt, Typed, TypedAll, typed-node, typed-token, typed-argument, typed-nil, typed-cons}
+use Rattle.tree_reader.specs.Typing.{kindAt, Typed, TypedAll, typed-node, typed-cons}
 use Rattle.tree_reader.specs.Syntax.{write, tree}
 use Rattle.tree_reader.specs.Operations.{treeOf}
-use Rattle.format_translation.specs.Translation.{Translation, mappingOf, mapped}
+use Rattle.format_translation.specs.Translation.{Translation, mapped}
 use Rattle.format_translation.specs.TranslationFile.{translationOf}
-use Rattle.format_translation.specs.Running.{Replacing, substitute, substituteAll, fromOne, Clauses, run, runOperand, usesOf, clausesOf, transform}
+use Rattle.format_translation.specs.Running.{Replacing, substitute, substituteAll, fromOne, Clauses, run, runOperand, clausesOf, transform}
 use Rattle.format_translation.specs.Plain.{plain}
 use Rattle.format_translation.proofs.Running.{ByZero, ByZeroAll}
 use Rattle.format_translation.proofs.Fitting.{uses-are}
@@ -30,8 +29,8 @@ use Rattle.search_sources.specs.Inner.Order.{Earlier, EarlierAll, by-operands, 
 use Rattle.search_sources.proofs.Ordering.{Ordered, equal, first, second, order, earlier-before, one-way}
 use Rattle.search_sources.proofs.Theorems.{found-gives, nothing-before}
 use Rattle.laws_bytes.specs.Searches as Laws
-use Rattle.laws_bytes.specs.Searches.{Source, Operand, Below, itself, under, uses, usesAny, DroppedAreFirst}
-use Rattle.laws_bytes.proofs.Opened.{has-zero, carries, source-apart, byte-names}
+use Rattle.laws_bytes.specs.Searches.{Operand, Below, itself, under, uses, usesAny, DroppedAreFirst}
+use Rattle.laws_bytes.proofs.Opened.{has-zero, carries, source-apart}
 use Rattle.laws_bytes.proofs.Searches.{Readied, search-found}
 use Rattle.laws_bytes.proofs.Texts.{written-back}
 
@@ -218,7 +217,7 @@ dropped-are-first translation root target limit room bytes names e s n k p i j k
         let x = swap translation f (s .opened) (r .zero-only) b root (gives .legal) (gives .within) base in
         let new : Gives f limit root target (x .new) = record { legal = x .typed; within = x .within; runs = ap (write tree) (x .same) ∙ gives .runs } in
         let z : before (write tree (x .new)) bytes ≡ true = ap (λ (y : List ℕ). before (write tree (x .new)) y) (sym is) ∙ earlier-before (x .sooner) in
-        not-both z (nothing-before translation f (s .opened) (byte-names translation f (s .opened) names) limit root target bytes found (x .new) new)
+        not-both z (nothing-before translation f (s .opened) names limit root target bytes found (x .new) new)
 
     decide : Readied translation root target limit f → searchOf f limit root target ≡ some bytes → Gives f limit root target (s .plan) → write tree (s .plan) ≡ bytes
         → before (write tree v) (write tree u) ≡ true → Ordered v u → ⊥

@@ -1,25 +1,22 @@
 -- What is known of a translation that was accepted from a file of bytes.
 use Prim.Native.Nat.{ℕ, zero, suc, _+_, _*_, _/_, _%_, _<_, _≤_}
-use mathlib.Core.Path.{_≡_, refl, sym, ap, _∙_}
+use mathlib.Core.Path.{_≡_, sym, ap, _∙_}
 use mathlib.Core.Bool.{Bool, true, false, cond}
-use mathlib.Core.List.{List, [], _∷_, map}
+use mathlib.Core.List.{List, []}
 use mathlib.Core.Option.{some}
 use native.Mathlib.Omega.{arith}
-use lib.ListN.{getD}
 use lib.Seq.{slice}
 use lib.Dec.{eqb, leb}
 use borrow.Author.Tests.{leb-true}
 use Rattle.outcome.specs.Outcome.{value}
-use Rattle.format_fields.specs.Fields.{byteAt, pairAt, Field, field}
-use Rattle.format_fields.specs.Inner.Places.{places, fieldEnd}
-use Rattle.format_fields.proofs.Truth.{Mem, map-cases, none-some, and-both}
+use Rattle.format_fields.specs.Fields.{byteAt, pairAt}
+use Rattle.format_fields.specs.Inner.Places.{fieldEnd}
+use Rattle.format_fields.proofs.Truth.{none-some, and-both}
 use Rattle.format_fields.proofs.Keyed.{Rising, is-rising}
-use Rattle.format_fields.proofs.Codec.{Bytes, bytes-from, bytes-at, each-append, fields-sound}
-use Rattle.format_language.specs.Language.{Language, Entry, class, production, Range, rangeOf, argumentsOf, isIn, inRange}
-use Rattle.format_language.specs.LanguageFile.{entriesOf}
+use Rattle.format_fields.proofs.Codec.{Bytes, bytes-at, each-append}
+use Rattle.format_language.specs.Language.{class, production, Range, rangeOf, isIn, inRange}
 use Rattle.format_language.specs.Inner.Entries.{entryAt, classRange}
-use Rattle.format_language.proofs.Lookup.{arguments-mem, range-mem}
-use Rattle.format_language.proofs.Holds.{holds-entries}
+use Rattle.format_language.proofs.Lookup.{range-mem}
 use Rattle.tree_reader.specs.Code.{Code, Codes}
 use Rattle.tree_reader.specs.Typing.{kindAt, Typed, TypedAll, typed-node, typed-token, typed-argument, typed-nil, typed-cons}
 use Rattle.tree_reader.specs.Syntax.{write, writeAll, tree}
@@ -33,14 +30,8 @@ use Rattle.format_translation.proofs.Lookup.{mem-mapping, mem-mapped}
 use Rattle.format_translation.proofs.Preserved.{Carries}
 use Rattle.format_translation.proofs.Fitting.{Fitting, formed-fits, fit-carries}
 use Rattle.format_translation.proofs.Codec.{WholeTranslation, PartsIn, translation-whole, rises-parts}
-use Rattle.search_sources.specs.Inner.Giving.{ByteNames}
+use Rattle.search_sources.proofs.Names.{class-production, entry-place, source-bytes, source-names}
 use Rattle.laws_bytes.specs.Files.{OfBytes}
-
-class-production : {A : Type 0} {r q p : ℕ} {c : Range} {ks : List ℕ} → class q c ≡ production r p ks → A
-class-production {r = r} {q = q} {p = p} {c = c} {ks = ks} e = absurd (clash e)
-  where
-    clash : class q c ≡ production r p ks → ⊥
-    clash e = let z : _≡_ {A = ℕ} 0 1 = cc in omega arith
 
 pub no-use : (i j : ℕ) {k : ℕ} {A : Type 0} → kindAt [] i j ≡ some k → A
 no-use zero j e = none-some e
@@ -54,7 +45,7 @@ value-below c v e =
     leb-true v (c .high) (y .0)
 
 module _ (file : List ℕ) (f : Translation) (accepted : translationOf file ≡ value f) where
-  parts : PartsIn file f
+  abbrev parts : PartsIn file f
   parts = translation-whole file f accepted .0
 
   whole : WholeTranslation f
@@ -78,41 +69,14 @@ module _ (file : List ℕ) (f : Translation) (accepted : translationOf file ≡ 
   pub source-apart : Apart (f .source)
   source-apart = apart (f .source) (whole .source-apart)
 
-  source-bytes : OfBytes file → (i : ℕ) → byteAt (parts .sourceBytes) i < 256
-  source-bytes narrow =
-      bytes-at (parts .sourceBytes)
-      (fields-sound file (field 0x20 (parts .sourceBytes) ∷ field 0x21 (parts .targetBytes) ∷ parts .items) (bytes-from file (λ i h. narrow i)) (parts .fields) .1 .0 .contents)
-
-  -- Each entry of its source stands at a place of the source's bytes.
-  entry-place : (a : Entry) → Mem a (f .source) → (q : ℕ) × (a ≡ entryAt (parts .sourceBytes) q)
-  entry-place a known =
-      let h = holds-entries (parts .sourceBytes) (f .source) (parts .source) in
-      let m : Mem a (map (entryAt (parts .sourceBytes)) (places (parts .sourceBytes))) = rw (h .entries) known in
-      let z = map-cases (entryAt (parts .sourceBytes)) a (places (parts .sourceBytes)) m in
-      (z .0, z .2)
-
-  -- The names of its source are bytes.
-  pub byte-names : OfBytes file → ByteNames f
-  unfolding entryAt
-  byte-names narrow k p ks known =
-      let s = parts .sourceBytes in
-      let (q, d) = entry-place (production k p ks) (arguments-mem (f .source) k p ks known) in
-      let n = source-bytes narrow (q + 4) in
-      let x : p ≡ byteAt s (q + 4) = named-byte (eqb (byteAt s q) 0x11) (byteAt s (q + 3)) (byteAt s (q + 4)) (classRange s q) (slice (q + 5) (fieldEnd s q) s) d in
-      rw x n
-    where
-      named-byte : (b : Bool) (r q : ℕ) (c : Range) (js : List ℕ) → production k p ks ≡ cond b (class r c) (production r q js) → p ≡ q
-      named-byte true r q c js y = class-production (sym y)
-      named-byte false r q c js y = cc
-
   -- The values of its classes are numbers of two bytes.
   pub byte-values : OfBytes file → (k : ℕ) (c : Range) → rangeOf (f .source) k ≡ some c → c .high < 65536
   unfolding entryAt classRange pairAt
   byte-values narrow k c known =
       let s = parts .sourceBytes in
-      let (q, d) = entry-place (class k c) (range-mem (f .source) k c known) in
-      let x = source-bytes narrow (q + 6) in
-      let y = source-bytes narrow (q + 6 + 1) in
+      let (q, d) = entry-place s (f .source) (parts .source) (class k c) (range-mem (f .source) k c known) in
+      let x = source-bytes file f accepted narrow (q + 6) in
+      let y = source-bytes file f accepted narrow (q + 6 + 1) in
       let z : c .high ≡ byteAt s (q + 6) * 256 + byteAt s (q + 6 + 1) = high-is (eqb (byteAt s q) 0x11) (byteAt s (q + 3)) (byteAt s (q + 4)) (classRange s q) (slice (q + 5) (fieldEnd s q) s) d in
       omega (arith, z, x, y)
     where
@@ -126,7 +90,7 @@ module _ (file : List ℕ) (f : Translation) (accepted : translationOf file ≡ 
 
       -- The trees of its source are files of bytes.
       tree-bytes-all : {t : Code} {k : ℕ} → Typed (f .source) [] t k → Bytes (write tree t)
-      tree-bytes-all (typed-node {k = k} {p = p} {ks = ks} e h) = (byte-names narrow k p ks e, row-bytes h)
+      tree-bytes-all (typed-node {k = k} {p = p} {ks = ks} e h) = (source-names file f accepted narrow k p ks e, row-bytes h)
       tree-bytes-all (typed-token {v = v} {k = k} {c = c} e h) =
           let d = value-below c v h in
           let b = byte-values narrow k c e in

@@ -1,25 +1,22 @@
 -- What a search puts out, in bytes: it runs to the target, nothing comes before it, and 23 is given exactly if there is none.
-use Prim.Native.Nat.{ℕ, _+_, _<_, _≤_}
+use Prim.Native.Nat.{ℕ, _≤_}
 use mathlib.Core.Path.{_≡_, refl, sym, ap, _∙_}
-use mathlib.Core.Bool.{Bool, true, false, not, _&&_}
-use mathlib.Core.List.{List, [], map}
+use mathlib.Core.Bool.{Bool, true, false, not}
+use mathlib.Core.List.{List}
 use mathlib.Core.Option.{Option, none, some}
 use native.Mathlib.Omega.{arith}
-use lib.ListN.{length, getD}
-use lib.Dec.{leb, ltb, eqb}
+use lib.ListN.{length}
+use lib.Dec.{leb, ltb}
 use borrow.Author.Tests.{leb-true}
 use Rattle.outcome.specs.Outcome.{Result, value, refused, _>>=_, refuseIf, numberOf, written}
 use Rattle.outcome.specs.declared.Reason.the-variants.{UnknownRoot, NoSource, LimitOutOfRange, NumberUnfit, OutputTooShort}
-use Rattle.format_fields.specs.Fields.{byteAt}
 use Rattle.format_fields.specs.Lists.{isSome}
 use Rattle.format_fields.proofs.Truth.{true-not, and-both}
 use Rattle.format_fields.proofs.Codec.{refused-value, step-value, value-inj}
-use Rattle.format_language.specs.Language.{Language, isIn, argumentsOf}
-use Rattle.tree_reader.specs.Code.{Code, levels}
-use Rattle.tree_reader.specs.Typing.{Typed}
+use Rattle.format_language.specs.Language.{isIn}
+use Rattle.tree_reader.specs.Code.{Code}
 use Rattle.tree_reader.specs.Syntax.{write, tree}
-use Rattle.tree_reader.specs.Operations.{treeLevels, treeOf}
-use Rattle.tree_reader.proofs.Larger.{apart}
+use Rattle.tree_reader.specs.Operations.{treeOf}
 use Rattle.check_operations.proofs.Legal.{tree-right}
 use Rattle.tree_index.proofs.Checking.{tree-bytes}
 use Rattle.format_translation.specs.Translation.{Translation, mappingOf, mapped}
@@ -28,14 +25,13 @@ use Rattle.format_translation.specs.Running.{transform}
 use Rattle.format_translation.specs.Operations.{fitted, runBytes}
 use Rattle.format_translation.specs.Plain.{plain}
 use Rattle.format_translation.proofs.Fitting.{refuse-value}
-use Rattle.format_translation.proofs.Codec.{translation-whole}
 use Rattle.search_sources.specs.Sources.{before, searchOf}
 use Rattle.search_sources.specs.Operations.{isLimit, ready, found, foundIn, searchBytes}
-use Rattle.search_sources.specs.Inner.Giving.{Gives, ByteNames}
+use Rattle.search_sources.specs.Inner.Giving.{Gives}
 use Rattle.search_sources.proofs.Theorems.{found-gives, nothing-before, none-gives}
 use Rattle.laws_bytes.specs.Files.{OfBytes}
 use Rattle.laws_bytes.specs.Searches.{Source, FoundRuns, NothingEarlier, NoneExactly}
-use Rattle.laws_bytes.proofs.Opened.{has-zero, source-apart, byte-names, tree-narrow}
+use Rattle.laws_bytes.proofs.Opened.{has-zero, source-apart, tree-narrow}
 use Rattle.laws_bytes.proofs.Texts.{fitted-value, fits, written-back}
 
 -- The number of a result.
@@ -138,7 +134,7 @@ pub nothing-earlier : NothingEarlier
 nothing-earlier translation root target limit room bytes names e other narrow s =
     let (f, r, h) = search-found translation root target limit room bytes e in
     let (t, g, is) = source-gives translation root target limit room f (r .opened) other narrow s in
-    rw (← is) (nothing-before translation f (r .opened) (byte-names translation f (r .opened) names) limit root target bytes h t g)
+    rw (← is) (nothing-before translation f (r .opened) names limit root target bytes h t g)
 
 -- Where all else is accepted, the search itself decides.
 module _ (translation : List ℕ) (root : ℕ) (target : List ℕ) (limit room : ℕ) (f : Translation) (e : ready translation root target limit ≡ value f) where
@@ -163,7 +159,7 @@ none-exactly translation root target limit room f names e =
     let r = readied translation root target limit f e in (
       λ h other narrow s.
           let (t, g, is) = source-gives translation root target limit room f (r .opened) other narrow s in
-          none-gives translation f (r .opened) (byte-names translation f (r .opened) names) limit root target (refused-none translation root target limit room f e h) t g,
+          none-gives translation f (r .opened) names limit root target (refused-none translation root target limit room f e h) t g,
       λ never. none-refused translation root target limit room f e (go (searchOf f limit root target) refl r never),
     )
   where

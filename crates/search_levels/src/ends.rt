@@ -1,14 +1,15 @@
 // Where legal trees end: of all parts of a tree it is worked out in one walk and kept, where there is room.
 use crate::memory::keep_end;
 use crate::memory::kept_end;
+use tree_index::operands::OperandsAt;
 use tree_index::operands::operands_at;
 use tree_reader::node::Read;
 use tree_reader::read::read_tree;
 ghost use mathlib.Core.Path.{_≡_};
-ghost use Prim.Native.Nat.{_+_};
+ghost use Prim.Native.Nat.{_+_, _≤_};
 ghost use lib.ListN.{length};
 ghost use Rattle.format_language.specs.Language.{Language};
-ghost use Rattle.tree_reader.specs.Code.{Code, Codes};
+ghost use Rattle.tree_reader.specs.Code.{Code, Codes, levelsAll};
 ghost use Rattle.tree_reader.specs.Syntax.{write, writeAll, tree as inTrees};
 ghost use Rattle.tree_reader.specs.Inner.Positions.{KindsIn};
 ghost use Rattle.tree_index.specs.Inner.Lying.{There, Row};
@@ -16,7 +17,7 @@ ghost use Rattle.search_levels.specs.Inner.Setting.{TrueEnds};
 ghost use Rattle.search_levels.specs.Inner.Ends.{Fills};
 
 // The most levels of a tree that was accepted.
-const TREE_LEVELS: usize = 64;
+pub const TREE_LEVELS: usize = 64;
 
 // Where the tree of a kind ends that starts at a position, by reading it.
 fn read_end(language: &[u8], places: &[u16], kind: u8, tree: &[u8], at: usize) -> usize
@@ -51,38 +52,34 @@ pub fn end_of(
     read_end(language, places, kind, tree, at)
 }
 
-// Keeps where trees end that stand one behind the other, and their parts; their kinds stand in the language from `first` up to
-// `last`. It answers where the last one ends.
+// Keeps where the operands of a node end, and their parts; they have at most so many levels. It answers where the last one ends.
 pub fn keep_ends(
     language: &[u8],
     places: &[u16],
-    first: usize,
-    last: usize,
+    operands: OperandsAt,
     tree: &[u8],
-    at: usize,
+    levels: usize,
     memory: &mut [u8],
 ) -> usize
-    requires { ⌜ KindsIn (now language) first last × ((l : Language) × (ts : Codes) × Row (now places) (now language) (now tree) at first last l ts) ⌝ }
-    ensures { λ r. ⌜ ((l : Language) (ts : Codes) → Row (now (places .entry)) (now (language .entry)) (now (tree .entry)) at first last l ts
-        → Fills l (now (tree .entry)) (now (memory .entry)) (now (memory .exit)) (at + length (writeAll inTrees ts)) r) ⌝ }
+    requires { ⌜ KindsIn (now language) (operands .first) (operands .last)
+        × ((l : Language) × (ts : Codes) × Row (now places) (now language) (now tree) (operands .start) (operands .first) (operands .last) l ts × (levelsAll ts ≤ levels)) ⌝ }
+    ensures { λ r. ⌜ ((l : Language) (ts : Codes) → Row (now (places .entry)) (now (language .entry)) (now (tree .entry)) (operands .start) (operands .first) (operands .last) l ts
+        → Fills l (now (tree .entry)) (now (memory .entry)) (now (memory .exit)) (operands .start + length (writeAll inTrees ts)) r) ⌝ }
 {
-    let mut q = first;
-    let mut to = at;
-    while q < last {
+    let mut q = operands.first;
+    let mut to = operands.start;
+    while q < operands.last {
         let kind = language[q];
-        let operands = operands_at(language, places, kind, tree, to);
+        let inner = operands_at(language, places, kind, tree, to);
         q += 1;
-        let end = keep_ends(
-            language,
-            places,
-            operands.first,
-            operands.last,
-            tree,
-            operands.start,
-            memory,
-        );
-        keep_end(memory, kind, to, end);
-        to = end;
+        if inner.last <= inner.first {
+            keep_end(memory, kind, to, inner.start);
+            to = inner.start;
+        } else {
+            let end = keep_ends(language, places, inner, tree, levels - 1, memory);
+            keep_end(memory, kind, to, end);
+            to = end;
+        }
     }
     to
 }

@@ -1,35 +1,32 @@
 -- The search over the parts of a translation: what it hands to `find`.
 use Prim.Native.Nat.{ℕ, zero, suc, _+_, _≤_, _<_}
 use mathlib.Core.Path.{_≡_, refl, ap, sym, _∙_}
-use mathlib.Core.Bool.{Bool, true, false, cond, not, _&&_}
-use mathlib.Core.List.{List, [], _∷_, map, append-nil}
-use mathlib.Core.Option.{Option, none, some}
+use mathlib.Core.Bool.{Bool, true, false, not, _&&_}
+use mathlib.Core.List.{List, [], _∷_, append-nil}
+use mathlib.Core.Option.{some}
 use native.Mathlib.Omega.{arith}
 use lib.ListN.{length, getD, replicate}
-use lib.Seq.{slice}
-use lib.Dec.{eqb, leb}
+use lib.Dec.{leb}
 use borrow.Author.Tests.{le-ltb, le-leb, lt-leb}
-use Rattle.format_fields.specs.Fields.{byteAt}
-use Rattle.format_fields.specs.Inner.Places.{places, fieldEnd}
-use Rattle.outcome.specs.Outcome.{Result, value, refused, refuseIf, _>>=_, written, outputAfter}
+use Rattle.format_fields.specs.Inner.Places.{places}
+use Rattle.outcome.specs.Outcome.{Result, value, refused, refuseIf}
 use Rattle.outcome.specs.declared.Outcome.{Outcome}
 use Rattle.outcome.specs.declared.Outcome.the-variants.{Accepted, Refused}
 use Rattle.outcome.specs.declared.Reason.{Reason}
 use Rattle.outcome.specs.declared.Reason.the-variants.{UnknownRoot, LimitOutOfRange, NumberUnfit}
 use Rattle.format_fields.proofs.Codec.{bytes-from, value-inj}
-use Rattle.format_fields.proofs.Truth.{Mem, map-cases, refuted}
+use Rattle.format_fields.proofs.Truth.{refuted}
 use Rattle.format_fields.proofs.Keyed.{Rising}
-use Rattle.format_language.specs.Language.{Language, Entry, class, production, Range, rangeOf, argumentsOf, isIn}
+use Rattle.format_language.specs.Language.{Language, Range, rangeOf, isIn}
 use Rattle.format_language.specs.LanguageFile.{entriesOf, languageLimit, languageOf}
-use Rattle.format_language.specs.Inner.Entries.{entryAt, classRange}
-use Rattle.format_language.proofs.Lookup.{range-mem, arguments-mem, class-in}
+use Rattle.format_language.proofs.Lookup.{range-mem, class-in}
 use Rattle.format_language.proofs.Holds.{holds-entries}
 use Rattle.tree_reader.specs.Code.{Code}
 use Rattle.tree_reader.specs.Syntax.{write, tree}
 use Rattle.tree_reader.specs.Operations.{treeOf, checkTree}
-use Rattle.tree_reader.specs.Inner.Index.{Built, Indexed}
+use Rattle.tree_reader.specs.Inner.Index.{Indexed}
 use Rattle.tree_reader.proofs.Members.{in-below}
-use Rattle.format_translation.specs.Translation.{Translation, Body, itemKey, mappingOf, mapped}
+use Rattle.format_translation.specs.Translation.{Translation, itemKey, mappingOf, mapped}
 use Rattle.format_translation.specs.Running.{clausesOf}
 use Rattle.format_translation.specs.TranslationFile.{bodyOf, translationOf}
 use Rattle.format_translation.specs.Operations.{checkTranslation}
@@ -46,9 +43,9 @@ use Rattle.format_translation.proofs.Fitting.{fit-carries}
 use Rattle.format_translation.proofs.Lookup.{mem-mapping, mem-mapped}
 use Rattle.format_translation.specs.Plain.{plain}
 use Rattle.format_translation.proofs.PlainUses.{mapping-zero}
-use Rattle.run_table.specs.Inner.Table.{Ready, Checked}
+use Rattle.run_table.specs.Inner.Table.{Checked}
 use Rattle.run_table.proofs.Clauses as Clauses
-use Rattle.search_sources.proofs.Answers.{Named}
+use Rattle.search_sources.proofs.Names.{named-of}
 use Rattle.search_levels.specs.Inner.Setting.{Unnamed, Truthful, Seeks}
 use Rattle.format_language.specs.Inner.Entries.{RisingEntries}
 use Rattle.format_language.proofs.Chain.{rising-is}
@@ -57,31 +54,6 @@ use Rattle.tree_reader.proofs.Built.{built-indexed}
 use Rattle.search_levels.proofs.Lying.{some-byte}
 use Rattle.search_sources.specs.Operations.{isLimit, ready, foundIn, searchBytes, searchTree}
 use Rattle.search_operation.specs.Inner.Finding.{Searchable, Rooted, Mapped, Placed, Tabled, Opened, Answers, readyIn, readyFrom, Leaves}
-
--- A name in a file is a byte.
-class-production : {A : Type 0} {k r p : ℕ} {c : Range} {ks : List ℕ} → production r p ks ≡ class k c → A
-class-production e = let z : _≡_ {A = ℕ} 0 1 = cc in absurd (omega arith)
-
-production-name : {r p q s : ℕ} {ks js : List ℕ} → production r p ks ≡ production s q js → p ≡ q
-production-name e = cc
-
-pub named-of : (s : List ℕ) (l : Language) → entriesOf s ≡ some l → ((i : ℕ) → getD s i 0 < 256) → Named l
-unfolding entryAt
-named-of s l e narrow k p ks known =
-    let h = holds-entries s l e in
-    let m : Mem (production k p ks) (map (entryAt s) (places s)) = rw (h .entries) (arguments-mem l k p ks known) in
-    let z = map-cases (entryAt s) (production k p ks) (places s) m in
-    at-place (z .0) (z .2)
-  where
-    named-byte : (b : Bool) (r q : ℕ) (c : Range) (js : List ℕ) → production k p ks ≡ cond b (class r c) (production r q js) → p ≡ q
-    named-byte true r q c js y = class-production y
-    named-byte false r q c js y = production-name y
-
-    at-place : (q : ℕ) → production k p ks ≡ entryAt s q → p < 256
-    at-place q d =
-        let n = narrow (q + 4) in
-        let x : p ≡ byteAt s (q + 4) = named-byte (eqb (byteAt s q) 0x11) (byteAt s (q + 3)) (byteAt s (q + 4)) (classRange s q) (slice (q + 5) (fieldEnd s q) s) d in
-        rw x n
 
 -- Bytes that are all zero.
 pub all-zero : (w : List ℕ) (n : ℕ) → length w ≡ n → ((i : ℕ) → getD w i 0 ≡ 0) → w ≡ replicate n 0

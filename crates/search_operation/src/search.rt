@@ -15,6 +15,7 @@ use outcome::refuse;
 use run_open::open::open_translation;
 use search_first::put::Wanted;
 use search_first::put::put_first;
+use search_levels::ends::TREE_LEVELS;
 use search_levels::ends::keep_ends;
 use search_levels::levels::Sought;
 use search_levels::levels::need;
@@ -179,15 +180,7 @@ fn find_in(
         × ((f : Translation) (u : Code) → Opened (now (table .entry)) (now (source .entry)) (now (target .entry)) (now (places .entry)) (now (kinds .entry)) (now (tree .entry)) kind f u → Answers (foundIn f kind (now (tree .entry)) limit (length (now (output .entry)))) (now (output .entry)) (now (output .exit)) (r .outcome)) ⌝ }
 {
     let operands = operands_at(target, places, byte_at(kinds, kind), tree, 0);
-    keep_ends(
-        target,
-        places,
-        operands.first,
-        operands.last,
-        tree,
-        operands.start,
-        memory,
-    );
+    keep_ends(target, places, operands, tree, TREE_LEVELS, memory);
     let mut free = [0u8; 32];
     find(
         table,

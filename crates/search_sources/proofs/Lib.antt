@@ -1,5 +1,6 @@
 pub mod Order
 pub mod Answers
+pub mod Names
 pub mod Tokens
 pub mod Memory
 pub mod Matching

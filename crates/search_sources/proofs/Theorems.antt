@@ -1,9 +1,10 @@
 -- The theorems on the search back.
-use Prim.Native.Nat.{ℕ}
-use mathlib.Core.Path.{_≡_, ap, sym, _∙_}
-use mathlib.Core.List.{List, map}
+use Prim.Native.Nat.{ℕ, _<_}
+use mathlib.Core.Path.{_≡_, ap, _∙_}
+use mathlib.Core.List.{List}
 use mathlib.Core.Option.{Option, none, some}
 use Rattle.outcome.specs.Outcome.{value}
+use Rattle.format_fields.specs.Fields.{byteAt}
 use Rattle.format_fields.specs.Lists.{keep, sameNumbers}
 use Rattle.format_fields.proofs.Truth.{Mem, keep-cases, mem-keep, mem-map, map-cases, numbers-equal, equal-numbers}
 use Rattle.tree_reader.specs.Code.{Code}
@@ -12,12 +13,12 @@ use Rattle.tree_reader.proofs.RoundTrip.{Apart}
 use Rattle.tree_reader.proofs.Larger.{apart}
 use Rattle.format_translation.specs.Translation.{Translation}
 use Rattle.format_translation.specs.TranslationFile.{translationOf}
-use Rattle.format_translation.specs.Running.{transform}
 use Rattle.format_translation.proofs.Codec.{translation-whole}
 use Rattle.search_sources.specs.Trees.{treesWithin}
 use Rattle.search_sources.specs.Sources.{runsTo, sourcesOf, searchOf}
-use Rattle.search_sources.specs.Inner.Giving.{Gives, FoundGives, ByteNames, NothingBefore, NoneGives}
+use Rattle.search_sources.specs.Inner.Giving.{Gives, FoundGives, NothingBefore, NoneGives}
 use Rattle.search_sources.proofs.Ordering.{FirstIn, first-in}
+use Rattle.search_sources.proofs.Names.{source-names}
 use Rattle.search_sources.proofs.Within.{within-legal, legal-within}
 
 -- What is found is the first of the source trees that run to the target.
@@ -26,7 +27,7 @@ module _ (f : Translation) (n k : ℕ) (target : List ℕ) (o : Option (List ℕ
   unfolding searchOf
   first-source = rw e at (first-in (sourcesOf f n k target))
 
-  module _ (file : List ℕ) (accepted : translationOf file ≡ value f) (names : ByteNames f) where
+  module _ (file : List ℕ) (accepted : translationOf file ≡ value f) (narrow : (i : ℕ) → byteAt file i < 256) where
     separate : Apart (f .source)
     separate = apart (f .source) (translation-whole file f accepted .1 .source-apart)
 
@@ -34,7 +35,7 @@ module _ (f : Translation) (n k : ℕ) (target : List ℕ) (o : Option (List ℕ
     unfolding sourcesOf runsTo
     gives-source t h =
         mem-map (write tree) t (keep (runsTo f target) (treesWithin (f .source) n k))
-        (mem-keep (runsTo f target) t (treesWithin (f .source) n k) (legal-within (f .source) separate names n (h .legal) (h .within))
+        (mem-keep (runsTo f target) t (treesWithin (f .source) n k) (legal-within (f .source) separate (source-names file f accepted narrow) n (h .legal) (h .within))
         (ap (λ (s : List ℕ). sameNumbers s target) (h .runs) ∙ equal-numbers target))
 
 pub found-gives : FoundGives
@@ -47,9 +48,9 @@ found-gives f n k target bytes e =
     (z .0, record { legal = x .0; within = x .1; runs = numbers-equal _ _ (y .1) }, z .2)
 
 pub nothing-before : NothingBefore
-nothing-before file f accepted names n k target bytes e t h =
-    first-source f n k target (some bytes) e .1 (write tree t) (gives-source f n k target (some bytes) e file accepted names t h)
+nothing-before file f accepted narrow n k target bytes e t h =
+    first-source f n k target (some bytes) e .1 (write tree t) (gives-source f n k target (some bytes) e file accepted narrow t h)
 
 pub none-gives : NoneGives
-none-gives file f accepted names n k target e t h =
-    first-source f n k target none e (write tree t) (gives-source f n k target none e file accepted names t h)
+none-gives file f accepted narrow n k target e t h =
+    first-source f n k target none e (write tree t) (gives-source f n k target none e file accepted narrow t h)

@@ -6,7 +6,7 @@ use mathlib.Core.Bool.{false}
 use mathlib.Core.List.{List, []}
 use mathlib.Core.Option.{none, some}
 use Rattle.outcome.specs.Outcome.{value}
-use Rattle.format_language.specs.Language.{argumentsOf}
+use Rattle.format_fields.specs.Fields.{byteAt}
 use Rattle.tree_reader.specs.Code.{Code, levels}
 use Rattle.tree_reader.specs.Typing.{Typed}
 use Rattle.tree_reader.specs.Syntax.{write, tree}
@@ -28,18 +28,14 @@ FoundGives =
     (f : Translation) (n k : ℕ) (target bytes : List ℕ) → searchOf f n k target ≡ some bytes
     → (t : Code) × Gives f n k target t × (bytes ≡ write tree t)
 
--- The names of the source are bytes, as in every file.
-abbrev pub ByteNames : Translation → Type 0
-ByteNames f = (k p : ℕ) (ks : List ℕ) → argumentsOf (f .source) k p ≡ some ks → p < 256
-
--- No such tree comes before it in byte order.
+-- In a translation from a file of bytes no such tree comes before it in byte order.
 abbrev pub NothingBefore : Type 0
 NothingBefore =
-    (file : List ℕ) (f : Translation) → translationOf file ≡ value f → ByteNames f → (n k : ℕ) (target bytes : List ℕ)
+    (file : List ℕ) (f : Translation) → translationOf file ≡ value f → ((i : ℕ) → byteAt file i < 256) → (n k : ℕ) (target bytes : List ℕ)
     → searchOf f n k target ≡ some bytes → (t : Code) → Gives f n k target t → before (write tree t) bytes ≡ false
 
--- Where none is found, there is none.
+-- In such a translation there is none where none is found.
 abbrev pub NoneGives : Type 0
 NoneGives =
-    (file : List ℕ) (f : Translation) → translationOf file ≡ value f → ByteNames f → (n k : ℕ) (target : List ℕ)
+    (file : List ℕ) (f : Translation) → translationOf file ≡ value f → ((i : ℕ) → byteAt file i < 256) → (n k : ℕ) (target : List ℕ)
     → searchOf f n k target ≡ none → (t : Code) → Gives f n k target t → ⊥
