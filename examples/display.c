@@ -181,7 +181,7 @@ static void describe(const struct path *path, const struct node *node, uint32_t 
     if (node->name == ALGEBRA_NO_NAME)
         printf(", a token of kind %" PRIu32 "\n", node->kind);
     else
-        printf(", production %" PRIu32 ".%" PRIu32 " with %" PRIu32 " arguments\n", node->kind, node->name,
+        printf(", production %" PRIu32 ".%" PRIu32 ", arguments: %" PRIu32 "\n", node->kind, node->name,
                node->arguments);
 }
 
