@@ -1,7 +1,8 @@
 # What there is to make; `make` alone says it. README.md tells more.
 
-VERSION := 0.1.0
-SONAME := libalgebra.so.0
+# The version of all stands in Cargo.toml; its first number is that of the shared library.
+VERSION := $(shell sed -n 's/^version = "\(.*\)"$$/\1/p' Cargo.toml)
+SONAME := libalgebra.so.$(firstword $(subst ., ,$(VERSION)))
 PREFIX ?= /usr/local
 LIBDIR ?= $(PREFIX)/lib
 INCLUDEDIR ?= $(PREFIX)/include

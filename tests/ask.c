@@ -219,8 +219,8 @@ static struct bytes index_of(struct bytes language, uint32_t root, struct bytes 
 {
     uint64_t length;
     struct bytes index = { room_for(LONGEST), 0 };
-    algebra_index(language.at, language.length, root, tree.at, tree.length, index.at, LONGEST, &length);
-    index.length = length;
+    uint32_t number = algebra_index(language.at, language.length, root, tree.at, tree.length, index.at, LONGEST, &length);
+    index.length = number == ALGEBRA_ACCEPTED ? length : 0;
     return index;
 }
 

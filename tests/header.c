@@ -1,6 +1,6 @@
 /* What the header says. Of null pointers: with length 0 a slice may be null, and the answer is
  * that of an empty slice elsewhere. Of limits: each constant is accepted, and one more is not.
- * The last line says how many passed and failed. */
+ * Of positions and nodes: what is told of them. The last line says how many passed and failed. */
 #include "algebra.h"
 #include <stdio.h>
 #include <string.h>
@@ -138,6 +138,27 @@ static uint32_t block(const uint8_t *l, size_t l_length, const uint8_t *t, size_
     return number;
 }
 
+/* Locates a fault in a tree of the tree's root kind; the position is the one that is due for 15, and 0 otherwise. */
+static uint32_t locate(const uint8_t *l, size_t l_length, const uint8_t *t, size_t t_length, uint64_t due)
+{
+    uint64_t position = UINT64_MAX;
+    uint32_t number = algebra_locate(l, l_length, 1, t, t_length, &position);
+    count("the position of a fault", position == (number == ALGEBRA_ILLEGAL_TREE ? due : 0));
+    return number;
+}
+
+/* Asks what stands in a tree of the tree's root kind; a refusal must store 0 three times. */
+static uint32_t node(const uint8_t *l, size_t l_length, const uint8_t *t, size_t t_length,
+                     const uint8_t *i, size_t i_length, const uint8_t *p, size_t p_length)
+{
+    uint32_t kind = UINT32_MAX, name = UINT32_MAX, arguments = UINT32_MAX;
+    uint32_t number = algebra_node(l, l_length, 1, t, t_length, i, i_length, p, p_length, &kind, &name, &arguments);
+    count("the kind of a node", kind == (number == 0 ? 1 : 0));
+    count("the name of a node", name == 0);
+    count("the arguments of a node", arguments == 0);
+    return number;
+}
+
 /* What an edit is given besides language, path and outputs. */
 struct edited {
     const uint8_t *tree;
@@ -176,6 +197,36 @@ static void checks(void)
          algebra_check_tree(language, sizeof language, 1, elsewhere, 0));
     same("check_tree, both", 14, algebra_check_tree(NULL, 0, 1, NULL, 0),
          algebra_check_tree(elsewhere, 0, 1, elsewhere, 0));
+}
+
+/* Faults in trees. */
+static void faults(void)
+{
+    static const uint8_t no_name[] = { 1 }, leftover[] = { 0, 0 };
+    same("locate, language", 14, locate(NULL, 0, tree, sizeof tree, 0), locate(elsewhere, 0, tree, sizeof tree, 0));
+    same("locate, tree", 15, locate(language, sizeof language, NULL, 0, 0),
+         locate(language, sizeof language, elsewhere, 0, 0));
+    same("locate, both", 14, locate(NULL, 0, NULL, 0, 0), locate(elsewhere, 0, elsewhere, 0, 0));
+    gives("locate", ALGEBRA_ACCEPTED, locate(language, sizeof language, tree, sizeof tree, 0));
+    gives("a name that cannot be", ALGEBRA_ILLEGAL_TREE, locate(language, sizeof language, no_name, sizeof no_name, 0));
+    gives("a byte behind the tree", ALGEBRA_ILLEGAL_TREE, locate(language, sizeof language, leftover, sizeof leftover, 1));
+}
+
+/* Faults in a tree 1.0 (2 1) of a token 1 to 9 of two bytes and 1.1 without arguments: each byte wrong, and each end too early. */
+static void positions(void)
+{
+    static const uint8_t pair[] = { 0x11, 0, 5, 2, 0, 1, 0, 9, 0x12, 0, 4, 1, 0, 2, 1, 0x12, 0, 2, 1, 1 };
+    static const uint8_t good[] = { 0, 0, 5, 1 }, above[] = { 0, 0, 10, 1 }, high[] = { 0, 1, 5, 1 };
+    static const uint8_t name[] = { 2, 0, 5, 1 }, last[] = { 0, 0, 5, 2 }, more[] = { 0, 0, 5, 1, 1 };
+    gives("a good tree", ALGEBRA_ACCEPTED, locate(pair, sizeof pair, good, sizeof good, 0));
+    gives("no such name", ALGEBRA_ILLEGAL_TREE, locate(pair, sizeof pair, name, sizeof name, 0));
+    gives("a token above its class", ALGEBRA_ILLEGAL_TREE, locate(pair, sizeof pair, above, sizeof above, 1));
+    gives("a token by its first byte", ALGEBRA_ILLEGAL_TREE, locate(pair, sizeof pair, high, sizeof high, 1));
+    gives("no such name within", ALGEBRA_ILLEGAL_TREE, locate(pair, sizeof pair, last, sizeof last, 3));
+    gives("a byte too many", ALGEBRA_ILLEGAL_TREE, locate(pair, sizeof pair, more, sizeof more, 4));
+    gives("an end before the token", ALGEBRA_ILLEGAL_TREE, locate(pair, sizeof pair, good, 1, 1));
+    gives("an end within the token", ALGEBRA_ILLEGAL_TREE, locate(pair, sizeof pair, good, 2, 2));
+    gives("an end before the last", ALGEBRA_ILLEGAL_TREE, locate(pair, sizeof pair, good, 3, 3));
 }
 
 /* Reductions. */
@@ -304,6 +355,43 @@ static void blocks(void)
          block(elsewhere, 0, elsewhere, 0, elsewhere, 0, elsewhere, 0));
     gives("no such block", ALGEBRA_NO_BLOCK,
           block(language, sizeof language, tree, sizeof tree, entries, sizeof entries, elsewhere, sizeof elsewhere));
+}
+
+/* Nodes. */
+static void nodes(void)
+{
+    same("node, language", 14, node(NULL, 0, tree, sizeof tree, entries, sizeof entries, tree, 0),
+         node(elsewhere, 0, tree, sizeof tree, entries, sizeof entries, tree, 0));
+    same("node, tree", 15, node(language, sizeof language, NULL, 0, entries, sizeof entries, tree, 0),
+         node(language, sizeof language, elsewhere, 0, entries, sizeof entries, tree, 0));
+    same("node, index", 22, node(language, sizeof language, tree, sizeof tree, NULL, 0, tree, 0),
+         node(language, sizeof language, tree, sizeof tree, elsewhere, 0, tree, 0));
+    same("node, path", 0, node(language, sizeof language, tree, sizeof tree, entries, sizeof entries, NULL, 0),
+         node(language, sizeof language, tree, sizeof tree, entries, sizeof entries, elsewhere, 0));
+    same("node, all", 14, node(NULL, 0, NULL, 0, NULL, 0, NULL, 0),
+         node(elsewhere, 0, elsewhere, 0, elsewhere, 0, elsewhere, 0));
+    gives("no such node", ALGEBRA_NO_BLOCK,
+          node(language, sizeof language, tree, sizeof tree, entries, sizeof entries, elsewhere, sizeof elsewhere));
+}
+
+/* The widest node, 1.255 with as many arguments as there can be, all tokens; and its tokens. */
+static void widest_node(void)
+{
+    static const uint8_t wide[] = { 0x11, 0, 5, 2, 0, 1, 0, 9, 0x12, 0, 10, 1, 255, 2, 2, 2, 2, 2, 2, 2, 2 };
+    static const uint8_t plan[] = { 255, 0, 1, 0, 2, 0, 3, 0, 4, 0, 5, 0, 6, 0, 7, 0, 8 };
+    static const uint8_t last[] = { ALGEBRA_ARGUMENTS }, more[] = { ALGEBRA_ARGUMENTS + 1 };
+    uint64_t length;
+    uint32_t kind, name, arguments;
+    gives("its index", ALGEBRA_ACCEPTED, algebra_index(wide, sizeof wide, 1, plan, sizeof plan, output, OUTPUT, &length));
+    gives("the widest node", ALGEBRA_ACCEPTED,
+          algebra_node(wide, sizeof wide, 1, plan, sizeof plan, output, length, NULL, 0, &kind, &name, &arguments));
+    count("its kind, name and arguments", kind == 1 && name == ALGEBRA_NO_NAME - 1 && arguments == ALGEBRA_ARGUMENTS);
+    gives("its last token", ALGEBRA_ACCEPTED,
+          algebra_node(wide, sizeof wide, 1, plan, sizeof plan, output, length, last, 1, &kind, &name, &arguments));
+    count("that it is a token", kind == 2 && name == ALGEBRA_NO_NAME && arguments == 0);
+    gives("one more than that", ALGEBRA_NO_BLOCK,
+          algebra_node(wide, sizeof wide, 1, plan, sizeof plan, output, length, more, 1, &kind, &name, &arguments));
+    count("that it is nothing", kind == 0 && name == 0 && arguments == 0);
 }
 
 /* Edits. */
@@ -467,6 +555,20 @@ static uint32_t tree_of(size_t levels)
     return algebra_check_tree(chain, sizeof chain, 0, built, built_length);
 }
 
+/* Where a tree of one level too many is refused: where that level begins. */
+static void deep_position(void)
+{
+    static const uint8_t chain[] = { 0x12, 0, 3, 0, 0, 0, 0x12, 0, 2, 0, 1 };
+    uint64_t position = 0;
+    memset(built, 0, ALGEBRA_TREE_LEVELS + 1);
+    gives("the position of a level", ALGEBRA_TOO_DEEP,
+          algebra_locate(chain, sizeof chain, 0, built, ALGEBRA_TREE_LEVELS + 1, &position));
+    count("it is where the level begins", position == ALGEBRA_TREE_LEVELS);
+    gives("a tree that ends there", ALGEBRA_TOO_DEEP,
+          algebra_locate(chain, sizeof chain, 0, built, ALGEBRA_TREE_LEVELS, &position));
+    count("it is the end", position == ALGEBRA_TREE_LEVELS);
+}
+
 /* A translation whose code has so many levels: 0.0 around 0.0, and the argument inside. */
 static uint32_t code_of(size_t levels)
 {
@@ -610,6 +712,8 @@ static void mapping_numbers(void)
 int main(void)
 {
     checks();
+    faults();
+    positions();
     reductions();
     runs();
     scores();
@@ -618,6 +722,8 @@ int main(void)
     texts();
     indexes();
     blocks();
+    nodes();
+    widest_node();
     edits();
     masks();
     searches();
@@ -626,6 +732,7 @@ int main(void)
     indexed_lengths();
     rooms();
     levels();
+    deep_position();
     numbers();
     mapping_numbers();
     count("nothing is written elsewhere", no_bytes[0] == MARK && elsewhere[0] == MARK);
