@@ -1,55 +1,100 @@
-//! Session languages and their translations: safe functions over the static library `algebra`.
+//! Session languages and their translations: safe functions over the library `algebra`.
 //!
-//! Three checks, [`check_language`], [`check_translation`] and [`check_tree`], one operation that
-//! [reduces](reduce) a pack to a translation, one that [runs](run) a translation on a tree, one that
-//! [scores](score()) a tree by a load table and one that scores a [loose plan](score_loose), one
-//! that [joins](join_table) such a table onto a translation, two that [export](export()) a tree as
-//! XML and [import](import()) it back, one that builds the [index](index()) of a tree, two that
-//! look up a [block](block()) of a tree by its index and [edit](edit()) it there, one that
-//! [masks](mask()) a tree by a viewer's card, and one that [searches](search()) for a source tree
-//! whose run gives a target tree. Each is accepted or gives a [`Refusal`]. What a call answers
-//! depends on its arguments alone; any number of threads may call at the same time.
+//! Crews train with straps that take sessions in a small language of rows and rests, and clubs
+//! write their sessions in larger languages of their own. What every operation answers, on every
+//! input, is proved of the library; this crate calls it.
 //!
-//! # The strap
-//!
-//! A club's word "twice" (production 1.4) is translated into the words of a strap: row (1.1),
-//! sequence (1.2) and rest (1.3), with minutes of 1 to 240.
+//! # A session
 //!
 //! ```
-//! // Class 2 of 1 to 240, and the productions 1.1 (2), 1.2 (1 1) and 1.3 (2).
-//! let strap = [
-//!     0x11, 0, 5, 2, 0, 1, 0, 240,
-//!     0x12, 0, 3, 1, 1, 2,
-//!     0x12, 0, 4, 1, 2, 1, 1,
-//!     0x12, 0, 3, 1, 3, 2,
-//! ];
-//! // Production 1.4 (1).
-//! let club = [0x12, 0, 3, 1, 4, 1];
-//! // Kind 1 stays itself, and 1.4 becomes 1.2 with its argument used twice.
-//! let body = [0x22, 0, 2, 1, 1, 0x23, 0, 8, 1, 4, 1, 2, 3, 1, 3, 1];
-//! // The translation made of these, plus the identity of the strap's language.
-//! let term = [0x53, 0x50, 0x40, 0, 0x40, 1, 0, 0x55, 0x40, 1];
+//! use algebra::write::{production, token};
+//! use algebra::{check_tree, reduce_to_vec, run_to_vec};
+//! use algebra::{Kind, Language, MappingNumber, Pack, Translation, Tree};
 //!
-//! let pack = [
-//!     &[0x30, 0, 6][..], &club, &[0x30, 0, 27], &strap,
-//!     &[0x31, 0, 16], &body, &[0x32, 0, 10], &term,
-//! ].concat();
+//! // The kinds and words of the strap, and a word of a club.
+//! const BLOCK: Kind = Kind(1);
+//! const ROW: u8 = 1;
+//! const SEQUENCE: u8 = 2;
+//! const TWICE: u8 = 4;
 //!
-//! algebra::check_language(&strap)?;
-//! let translation = algebra::reduce_to_vec(&pack)?;
-//! assert_eq!(translation.len(), 116);
+//! // The strap's language, and a pack in which twice a block is a sequence of two.
+//! let strap = Language(include_bytes!("../../examples/strap/strap.language"));
+//! let club = Pack(include_bytes!("../../examples/strap/plan.pack"));
+//! let translation = reduce_to_vec(club)?;
 //!
-//! // Twice a row of 5 minutes is a sequence of two rows.
-//! let mut session = [0; 16];
-//! let run = algebra::run(&translation, 1, 0, &[4, 1, 0, 5], &mut session)?;
-//! assert_eq!(session[..run.length], [2, 1, 0, 5, 1, 0, 5]);
-//! // Three clauses were applied: that of 1.4 once, and that of 1.1 twice.
-//! assert_eq!(run.cost, 3);
+//! // Twice a row of 5 minutes becomes a session of the strap.
+//! let row = production(ROW, [token(5)]);
+//! let plan = production(TWICE, [row.clone()]);
+//! let ran = run_to_vec(Translation(&translation), BLOCK, MappingNumber(0), Tree(&plan), 1000)?;
+//! assert_eq!(ran.tree, production(SEQUENCE, [row.clone(), row]));
+//! check_tree(strap, BLOCK, Tree(&ran.tree))?;
 //! # Ok::<(), algebra::Refusal>(())
 //! ```
 //!
-//! The 0 is the number of a mapping. A kind may have several, and always has number 0: so a list can
-//! become a warm-up by one and a cool-down by another.
+//! # The operations
+//!
+//! | operation | answers |
+//! |---|---|
+//! | [`check_language`], [`check_translation`], [`check_tree`] | nothing, or why not; of a tree also where |
+//! | [`locate`] | where a tree is at fault |
+//! | [`reduce`], [`reduce_to_vec`] | the translation that a pack's term stands for |
+//! | [`run`], [`run_to_vec`] | what a translation makes of a tree, and the cost |
+//! | [`search`], [`search_to_vec`] | a tree that a translation makes into a given one |
+//! | [`index()`], [`index_to_vec`] | start and length of each node of a tree |
+//! | [`block()`], [`node`] | one block of a tree with its index, and what stands there |
+//! | [`Plan`], [`Plan::nodes`] | a tree with its index, checked together, and all of its nodes |
+//! | [`edit()`], [`edit_to_vec`] | a plan in which one block was replaced, and its index |
+//! | [`mask()`], [`mask_to_vec`], [`card`] | what a viewer sees of a plan; the viewer's card |
+//! | [`score()`], [`score_loose`] | the load of a plan by a table, or the least and the greatest |
+//! | [`join_table`], [`join_table_to_vec`] | a load table for the source of a translation |
+//! | [`export()`], [`export_to_vec`], [`import()`], [`import_to_vec`] | a tree as XML, and back |
+//!
+//! Arguments stand in the order of the C interface, and each has a type of its own, so that no two
+//! can change places: `Tree(&bytes)` says that the bytes are taken for a tree, not that they are
+//! one. A function that puts its result into an output that is lent has a sister, `..._to_vec`,
+//! that allocates it. [`write`] puts languages and trees together in words.
+//!
+//! What a call answers depends on its arguments alone; any number of threads may call at the same
+//! time.
+//!
+//! # An editor
+//!
+//! ```
+//! use algebra::write::token;
+//! use algebra::{index_to_vec, locate};
+//! use algebra::{BlockPath, Card, Index, Kind, Language, NewBlock, Plan, Tree};
+//!
+//! const BLOCK: Kind = Kind(1);
+//! const LADDER: u8 = 6;
+//!
+//! // A session with a warm-up, a pyramid and a ladder, as the club's editor has it open.
+//! let club = Language(include_bytes!("../../examples/pyramid/club.language"));
+//! let session = include_bytes!("../../examples/pyramid/session.tree");
+//! let index = index_to_vec(club, BLOCK, Tree(session))?;
+//! let plan = Plan::new(club, BLOCK, Tree(session), Index(&index))?;
+//!
+//! // The path of the ladder's first piece, of 4 minutes, which is to be 5.
+//! let ladder = plan.nodes().find(|node| node.node().name() == Some(LADDER));
+//! let path = [ladder.expect("there is one").path().0, &[1]].concat();
+//! assert_eq!(path, [2, 2, 2, 1]);
+//!
+//! let edited = plan.edit(BlockPath(&path), Card::ALL, NewBlock(&token(5)))?;
+//! assert_eq!(locate(club, BLOCK, Tree(&edited.plan)), None);
+//! assert_eq!(edited.index, index_to_vec(club, BLOCK, Tree(&edited.plan))?);
+//! # Ok::<(), algebra::Refusal>(())
+//! ```
+//!
+//! # Errors
+//!
+//! An operation is accepted, or gives a [`Refusal`]: its number is that of the C interface, and its
+//! text a sentence. The pages of the functions name the numbers that each can give. [`check_tree`]
+//! and [`locate`] give a [`TreeFault`], which has the position besides. No content of an input makes
+//! a call panic; a library that gives a number which this crate does not know, and so is not of
+//! its version, does.
+//!
+//! # Features
+//!
+//! There are none, and no dependencies. The crate uses the standard library, on Linux on x86-64.
 //!
 //! # Stack
 //!
@@ -59,291 +104,54 @@
 //!
 //! # Linking
 //!
-//! `libalgebra.a` is looked for in the folder that the variable `ALGEBRA_LIB_DIR` names at build
-//! time (from the root, or seen from this package), or else in `../target/staticlib`. Crate and
-//! library are of the same version: a number that the crate does not know ends in a panic.
-#![deny(unsafe_code)]
-#![warn(missing_docs)]
+//! The library is looked for at build time, and the first of these that there is is taken:
+//!
+//! 1. the folder that the variable `ALGEBRA_LIB_DIR` names (from the root, or seen from this
+//!    package), which must have `libalgebra.a`;
+//! 2. `../target/staticlib/libalgebra.a`, where the repository builds it;
+//! 3. an installed library of version 1.0 or later, by `pkg-config`.
+#![deny(missing_docs, unsafe_code, unsafe_op_in_unsafe_fn)]
+#![warn(missing_debug_implementations, rust_2018_idioms, unreachable_pub)]
+#![allow(elided_lifetimes_in_paths)]
 
 mod block;
+mod check;
 mod edit;
+mod grammar;
+mod input;
 mod limits;
 mod loose;
 mod mask;
+mod output;
+mod plan;
 pub mod raw;
+mod reduce;
 mod refusal;
+mod run;
 mod score;
 mod search;
+pub mod write;
 mod xml;
 
-pub use block::{block, Block};
-pub use edit::{edit, edit_to_vec, index, index_to_vec, Edited};
+pub use block::{block, node, Block, Node};
+pub use check::{check_language, check_translation, check_tree, locate, TreeFault};
+pub use edit::{edit, edit_to_vec, index, index_to_vec, Edit, Edited};
+pub use input::{
+    BlockPath, Card, Index, Kind, Language, Levels, LoadTable, LoosePlan, MappingNumber, NewBlock,
+    Pack, Translation, Tree, Xml,
+};
 pub use limits::{
-    CODE_LEVELS, ENTRY_BYTES, INDEXED_BYTES, LANGUAGE_BYTES, PACK_BYTES, SEARCH_LEVELS,
-    SEARCH_WORKSPACE, STACK_BYTES, TABLE_BYTES, TERM_LEVELS, TRANSLATION_BYTES, TREE_LEVELS,
-    WORKSPACE_BYTES,
+    ARGUMENTS, CODE_LEVELS, ENTRY_BYTES, HIDDEN_BYTE, INDEXED_BYTES, JOINED_NUMBERS, KINDS,
+    LANGUAGE_BYTES, MAPPING_NUMBERS, PACK_BYTES, SEARCH_LEVELS, SEARCH_WORKSPACE, STACK_BYTES,
+    TABLE_BYTES, TERM_LEVELS, TRANSLATION_BYTES, TREE_LEVELS, WORKSPACE_BYTES,
 };
 pub use loose::{score_loose, LooseScore};
 pub use mask::{card, mask, mask_to_vec};
+pub use output::in_output;
+pub use plan::{Nodes, Plan, PlanNode};
+pub use reduce::{reduce, reduce_to_vec};
 pub use refusal::{Refusal, UnknownNumber};
+pub use run::{run, run_to_vec, Ran, Run};
 pub use score::{join_table, join_table_to_vec, score};
 pub use search::{search, search_to_vec};
 pub use xml::{export, export_to_vec, import, import_to_vec};
-
-/// The first output that [`run_to_vec`] and [`search_to_vec`] try has at least this many bytes.
-const FIRST_OUTPUT: usize = 4096;
-/// Each further output is so many times as long.
-const OUTPUT_GROWTH: usize = 4;
-
-/// The number of an answer as a result.
-fn accepted(number: u32) -> Result<(), Refusal> {
-    match number {
-        0 => Ok(()),
-        number => Err(Refusal::try_from(number).expect("the library gives numbers that it names")),
-    }
-}
-
-/// The length of an accepted answer; it never exceeds that of an output in memory.
-fn accepted_length(answer: raw::Answer) -> Result<usize, Refusal> {
-    accepted(answer.number).map(|()| answer.length as usize)
-}
-
-/// Checks a language: token classes by rising kind, then productions by rising result and name.
-///
-/// Refusals: 1 to 4.
-///
-/// ```
-/// use algebra::{check_language, Refusal};
-///
-/// let minutes = [0x11, 0, 5, 2, 0, 1, 0, 240];
-/// assert_eq!(check_language(&minutes), Ok(()));
-/// // The lowest value, 241, is above the highest.
-/// let none = [0x11, 0, 5, 2, 0, 241, 0, 240];
-/// assert_eq!(check_language(&none), Err(Refusal::BrokenField));
-/// ```
-pub fn check_language(language: &[u8]) -> Result<(), Refusal> {
-    accepted(raw::check_language(language))
-}
-
-/// Checks a translation: source, target, mappings and clauses.
-///
-/// Refusals: 1 to 7.
-///
-/// ```
-/// use algebra::{check_translation, Refusal};
-///
-/// let empty = [0x20, 0, 0, 0x21, 0, 0];
-/// assert_eq!(check_translation(&empty), Ok(()));
-/// // The source has the production 1.4 of kind 1, which is not mapped.
-/// let unmapped = [0x20, 0, 5, 0x12, 0, 2, 1, 4, 0x21, 0, 0];
-/// assert_eq!(check_translation(&unmapped), Err(Refusal::WrongMapping));
-/// ```
-pub fn check_translation(translation: &[u8]) -> Result<(), Refusal> {
-    accepted(raw::check_translation(translation))
-}
-
-/// Checks that the bytes are a legal tree of the root kind in a language.
-///
-/// Refusals: 1 to 4, 14 to 16.
-///
-/// ```
-/// use algebra::{check_tree, Refusal};
-///
-/// // Minutes of 1 to 240, and the production 1.1 (2), a row.
-/// let language = [0x11, 0, 5, 2, 0, 1, 0, 240, 0x12, 0, 3, 1, 1, 2];
-/// assert_eq!(check_tree(&language, 1, &[1, 0, 240]), Ok(()));
-/// assert_eq!(check_tree(&language, 1, &[1, 0, 241]), Err(Refusal::IllegalTree));
-/// assert_eq!(check_tree(&language, 9, &[1, 0, 240]), Err(Refusal::UnknownRoot));
-/// ```
-pub fn check_tree(language: &[u8], root: u32, tree: &[u8]) -> Result<(), Refusal> {
-    accepted(raw::check_tree(language, root, tree))
-}
-
-/// Reduces a pack to one translation, which is put at the start of the output; gives its length.
-///
-/// The output has at least [`TRANSLATION_BYTES`] bytes, else the pack is refused with 9. Behind
-/// the result, and after a refusal, it is as it was. The workspace is allocated by the call.
-///
-/// Refusals: 1 to 13, 26.
-///
-/// ```
-/// use algebra::{reduce, Refusal, TRANSLATION_BYTES};
-///
-/// // The identity of the empty language.
-/// let pack = [0x30, 0, 0, 0x32, 0, 3, 0x55, 0x40, 0];
-/// let mut output = [0; TRANSLATION_BYTES];
-/// assert_eq!(reduce(&pack, &mut output), Ok(6));
-/// assert_eq!(output[..6], [0x20, 0, 0, 0x21, 0, 0]);
-/// assert_eq!(reduce(&pack, &mut output[..6]), Err(Refusal::BuffersTooShort));
-/// ```
-pub fn reduce(pack: &[u8], output: &mut [u8]) -> Result<usize, Refusal> {
-    accepted_length(raw::reduce(pack, &mut vec![0; WORKSPACE_BYTES], output))
-}
-
-/// Reduces a pack to one translation, with an output that is allocated.
-///
-/// Refusals: 1 to 8, 10 to 13, 26.
-///
-/// ```
-/// // The identity of the empty language, and a variable that has no value.
-/// let identity = [0x30, 0, 0, 0x32, 0, 3, 0x55, 0x40, 0];
-/// assert_eq!(algebra::reduce_to_vec(&identity), Ok(vec![0x20, 0, 0, 0x21, 0, 0]));
-/// let unbound = [0x32, 0, 2, 0x51, 0];
-/// assert_eq!(algebra::reduce_to_vec(&unbound), Err(algebra::Refusal::UnboundVariable));
-/// ```
-pub fn reduce_to_vec(pack: &[u8]) -> Result<Vec<u8>, Refusal> {
-    in_output(TRANSLATION_BYTES, |output| reduce(pack, output))
-}
-
-/// What is told of an accepted run.
-#[derive(Clone, Copy, Debug, PartialEq, Eq)]
-pub struct Run {
-    /// The length of the result.
-    pub length: usize,
-    /// The number of clauses applied, each use of an argument anew and unused arguments not at all;
-    /// [`u32::MAX`] if there are more.
-    pub cost: u32,
-}
-
-/// Runs a translation on a tree of the root kind, by a number of that kind. The result is put at the
-/// start of the output; gives its length, and the cost of the run.
-///
-/// Behind the result, and after a refusal, the output is as it was. A number that the root kind
-/// lacks is refused as a root that the language lacks is.
-///
-/// Refusals: 1 to 7, 14 to 17.
-///
-/// ```
-/// use algebra::{run, Refusal, Run};
-///
-/// // 1.4 (1) becomes 1.2 (1 1) with its argument used twice, and 1.5 stays itself.
-/// let translation = [
-///     0x20, 0, 11, 0x12, 0, 3, 1, 4, 1, 0x12, 0, 2, 1, 5,
-///     0x21, 0, 12, 0x12, 0, 4, 1, 2, 1, 1, 0x12, 0, 2, 1, 5,
-///     0x22, 0, 2, 1, 1, 0x23, 0, 8, 1, 4, 1, 2, 3, 1, 3, 1, 0x23, 0, 4, 1, 5, 1, 5,
-/// ];
-/// let mut output = [0xEE; 4];
-/// assert_eq!(run(&translation, 1, 0, &[4, 5], &mut output), Ok(Run { length: 3, cost: 3 }));
-/// assert_eq!(output, [2, 5, 5, 0xEE]);
-/// assert_eq!(run(&translation, 1, 0, &[4, 4, 5], &mut output), Err(Refusal::OutputTooShort));
-/// // Kind 1 has no mapping of number 1.
-/// assert_eq!(run(&translation, 1, 1, &[4, 5], &mut output), Err(Refusal::UnknownRoot));
-/// ```
-///
-/// By number 0 the leaf 1.5 becomes 1.6, and by number 1 it becomes 1.7:
-///
-/// ```
-/// let translation = [
-///     0x20, 0, 5, 0x12, 0, 2, 1, 5, 0x21, 0, 10, 0x12, 0, 2, 1, 6, 0x12, 0, 2, 1, 7,
-///     0x22, 0, 2, 1, 1, 0x28, 0, 3, 1, 1, 1,
-///     0x23, 0, 4, 1, 5, 1, 6, 0x29, 0, 5, 1, 5, 1, 1, 7,
-/// ];
-/// assert_eq!(algebra::run_to_vec(&translation, 1, 0, &[5], 1000)?.tree, [6]);
-/// assert_eq!(algebra::run_to_vec(&translation, 1, 1, &[5], 1000)?.tree, [7]);
-/// # Ok::<(), algebra::Refusal>(())
-/// ```
-pub fn run(
-    translation: &[u8],
-    root: u32,
-    number: u32,
-    tree: &[u8],
-    output: &mut [u8],
-) -> Result<Run, Refusal> {
-    let raw::RunAnswer { number, length, cost } = raw::run(translation, root, number, tree, output);
-    accepted_length(raw::Answer { number, length }).map(|length| Run { length, cost })
-}
-
-/// The result of a run, and its cost.
-#[derive(Clone, Debug, PartialEq, Eq)]
-pub struct Ran {
-    /// The result, a tree of the target.
-    pub tree: Vec<u8>,
-    /// The number of clauses applied, as in [`Run`].
-    pub cost: u32,
-}
-
-/// Runs a translation on a tree of the root kind, by a number of that kind, with an output that is
-/// allocated and has at most `limit` bytes. A small tree can have a result that fits no memory.
-///
-/// A result that does not fit the first output, of about the length of the tree, costs a pass
-/// over the tree for each time that the output is made longer. Where memory has no room for a
-/// longer output, the answer is 17 too.
-///
-/// Refusals: 1 to 7, 14 to 17.
-///
-/// ```
-/// // The production 1.4 stays itself.
-/// let translation = [
-///     0x20, 0, 5, 0x12, 0, 2, 1, 4, 0x21, 0, 5, 0x12, 0, 2, 1, 4,
-///     0x22, 0, 2, 1, 1, 0x23, 0, 4, 1, 4, 1, 4,
-/// ];
-/// let ran = algebra::run_to_vec(&translation, 1, 0, &[4], 1000);
-/// assert_eq!(ran, Ok(algebra::Ran { tree: vec![4], cost: 1 }));
-/// ```
-pub fn run_to_vec(
-    translation: &[u8],
-    root: u32,
-    number: u32,
-    tree: &[u8],
-    limit: usize,
-) -> Result<Ran, Refusal> {
-    let call = |output: &mut [u8]| {
-        run(translation, root, number, tree, output).map(|run| (run.length, run.cost))
-    };
-    in_growing_output(tree.len(), limit, call).map(|(tree, cost)| Ran { tree, cost })
-}
-
-/// What a call puts into an output of so many bytes, which is allocated. The call gives the length of
-/// its result. Where memory has no room for the output, the answer is 17.
-///
-/// ```
-/// use algebra::{in_output, mask, Refusal};
-///
-/// // The production 1.4, without arguments, and a card that shows nothing.
-/// let (language, card) = ([0x12, 0, 2, 1, 4], algebra::card([]));
-/// let masked = |room| in_output(room, |output| mask(&language, 1, &card, &[4], output));
-/// assert_eq!(masked(9), Ok(vec![0xFF]));
-/// assert_eq!(masked(0), Err(Refusal::OutputTooShort));
-/// ```
-pub fn in_output(
-    room: usize,
-    call: impl FnOnce(&mut [u8]) -> Result<usize, Refusal>,
-) -> Result<Vec<u8>, Refusal> {
-    let mut output = output_of(room).ok_or(Refusal::OutputTooShort)?;
-    let length = call(&mut output)?;
-    output.truncate(length);
-    output.shrink_to_fit();
-    Ok(output)
-}
-
-/// What a call puts into an output that is allocated, for a tree of so many bytes, and is made longer
-/// up to the limit as long as it is too short; the call gives a length and something besides.
-fn in_growing_output<T>(
-    tree: usize,
-    limit: usize,
-    call: impl Fn(&mut [u8]) -> Result<(usize, T), Refusal>,
-) -> Result<(Vec<u8>, T), Refusal> {
-    let mut room = tree.max(FIRST_OUTPUT).min(limit);
-    loop {
-        let mut output = output_of(room).ok_or(Refusal::OutputTooShort)?;
-        match call(&mut output) {
-            Err(Refusal::OutputTooShort) if room < limit => {
-                room = room.saturating_mul(OUTPUT_GROWTH).min(limit);
-            }
-            answer => {
-                let (length, besides) = answer?;
-                output.truncate(length);
-                return Ok((output, besides));
-            }
-        }
-    }
-}
-
-/// An output of so many bytes, if memory has room for it. What is tried is given back first, since
-/// only a whole allocation comes zeroed without being written to.
-fn output_of(bytes: usize) -> Option<Vec<u8>> {
-    let mut attempt = Vec::<u8>::new();
-    attempt.try_reserve_exact(bytes).ok()?;
-    drop(std::hint::black_box(attempt));
-    Some(vec![0; bytes])
-}

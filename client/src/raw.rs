@@ -8,16 +8,20 @@
 
 mod block;
 mod edit;
+mod locate;
 mod loose;
 mod mask;
+mod node;
 mod score;
 mod search;
 mod xml;
 
 pub use block::{block, BlockAnswer};
 pub use edit::{edit, index, EditAnswer};
+pub use locate::{locate, LocateAnswer};
 pub use loose::{score_loose, LooseScoreAnswer};
 pub use mask::mask;
+pub use node::{node, NodeAnswer, NO_NAME};
 pub use score::{join_table, score, ScoreAnswer};
 pub use search::search;
 pub use xml::{export, import};

@@ -1,6 +1,7 @@
 //! The search for a source tree whose run gives a target tree.
 
-use crate::{accepted_length, in_growing_output, output_of, raw, Refusal, SEARCH_WORKSPACE};
+use crate::output::{accepted_length, in_growing_output, output_of};
+use crate::{raw, Kind, Levels, Refusal, Translation, Tree, SEARCH_WORKSPACE};
 
 /// Finds the source tree of the root kind, of at most so many levels, whose run gives a tree of the
 /// target: the first in byte order. It is put at the start of the output; gives its length.
@@ -10,61 +11,78 @@ use crate::{accepted_length, in_growing_output, output_of, raw, Refusal, SEARCH_
 /// workspace of [`SEARCH_WORKSPACE`] bytes for each byte of the tree, in which the search remembers
 /// what it has found; where memory has no room for it, it takes longer and answers the same.
 ///
+/// # Errors
+///
 /// Refusals: 1 to 7, 14 to 17, 23, 24, 26.
 ///
 /// ```
-/// use algebra::{search, Refusal};
+/// use algebra::write::{production, token};
+/// use algebra::{search, Kind, Levels, Refusal, Translation, Tree};
 ///
-/// // 1.4 (1) becomes 1.2 (1 1) with its argument used twice, and 1.5 stays itself.
-/// let translation = [
-///     0x20, 0, 11, 0x12, 0, 3, 1, 4, 1, 0x12, 0, 2, 1, 5,
-///     0x21, 0, 12, 0x12, 0, 4, 1, 2, 1, 1, 0x12, 0, 2, 1, 5,
-///     0x22, 0, 2, 1, 1, 0x23, 0, 8, 1, 4, 1, 2, 3, 1, 3, 1, 0x23, 0, 4, 1, 5, 1, 5,
-/// ];
-/// let mut output = [0; 2];
-/// assert_eq!(search(&translation, 1, &[2, 5, 5], 2, &mut output), Ok(2));
-/// assert_eq!(output, [4, 5]);
+/// const BLOCK: Kind = Kind(1);
+/// const ROW: u8 = 1;
+/// const SEQUENCE: u8 = 2;
+/// let club = Translation(include_bytes!("../../examples/strap/plan.translation"));
+/// let row = |minutes| production(ROW, [token(minutes)]);
+///
+/// // A sequence of two rows is one in the words of the club too, and that comes first.
+/// let session = production(SEQUENCE, [row(5), row(5)]);
+/// let mut output = [0; 100];
+/// let length = search(club, BLOCK, Tree(&session), Levels(2), &mut output)?;
+/// assert_eq!(output[..length], session);
 /// // It has two levels, and not one; and limits are 1 to 16.
-/// assert_eq!(search(&translation, 1, &[2, 5, 5], 1, &mut output), Err(Refusal::NoSource));
-/// assert_eq!(search(&translation, 1, &[2, 5, 5], 17, &mut output), Err(Refusal::LimitOutOfRange));
+/// let mut within = |levels| search(club, BLOCK, Tree(&session), Levels(levels), &mut output);
+/// assert_eq!(within(1), Err(Refusal::NoSource));
+/// assert_eq!(within(17), Err(Refusal::LimitOutOfRange));
+/// # Ok::<(), Refusal>(())
 /// ```
 pub fn search(
-    translation: &[u8],
-    root: u32,
-    tree: &[u8],
-    levels: u32,
+    translation: Translation,
+    root: Kind,
+    tree: Tree,
+    limit: Levels,
     output: &mut [u8],
 ) -> Result<usize, Refusal> {
-    let mut workspace = output_of(tree.len().saturating_mul(SEARCH_WORKSPACE)).unwrap_or_default();
-    accepted_length(raw::search(translation, root, tree, levels, &mut workspace, output))
+    let room = tree.0.len().saturating_mul(SEARCH_WORKSPACE);
+    let mut workspace = output_of(room).unwrap_or_default();
+    accepted_length(raw::search(translation.0, root.0, tree.0, limit.0, &mut workspace, output))
 }
 
 /// Finds the source tree of the root kind, of at most so many levels, whose run gives a tree of the
-/// target, with an output that is allocated and has at most `limit` bytes.
+/// target, with an output that is allocated and has at most `room` bytes.
 ///
 /// Trees in the place of dropped arguments can be long: a result that does not fit the first output,
 /// of about the length of the tree, costs a search for each time that the output is made longer.
 /// Where memory has no room for a longer output, the answer is 17 too.
 ///
+/// # Errors
+///
 /// Refusals: 1 to 7, 14 to 17, 23, 24, 26.
 ///
+/// The plan of a club whose run is a session of the logbook:
+///
 /// ```
-/// // The production 1.4 stays itself.
-/// let translation = [
-///     0x20, 0, 5, 0x12, 0, 2, 1, 4, 0x21, 0, 5, 0x12, 0, 2, 1, 4,
-///     0x22, 0, 2, 1, 1, 0x23, 0, 4, 1, 4, 1, 4,
-/// ];
-/// assert_eq!(algebra::search_to_vec(&translation, 1, &[4], 16, 1000), Ok(vec![4]));
+/// use algebra::{run_to_vec, search_to_vec, Kind, Levels, MappingNumber, Translation, Tree};
+///
+/// const BLOCK: Kind = Kind(1);
+/// let club = Translation(include_bytes!("../../examples/pyramid/plan.translation"));
+/// let evening = Tree(include_bytes!("../../examples/logbook/evening.session"));
+///
+/// let plan = search_to_vec(club, BLOCK, evening, Levels(4), 1000)?;
+/// assert!(plan.len() < evening.0.len());
+/// let ran = run_to_vec(club, BLOCK, MappingNumber(0), Tree(&plan), 1000)?;
+/// assert_eq!(ran.tree, evening.0);
+/// # Ok::<(), algebra::Refusal>(())
 /// ```
 pub fn search_to_vec(
-    translation: &[u8],
-    root: u32,
-    tree: &[u8],
-    levels: u32,
-    limit: usize,
+    translation: Translation,
+    root: Kind,
+    tree: Tree,
+    limit: Levels,
+    room: usize,
 ) -> Result<Vec<u8>, Refusal> {
     let call = |output: &mut [u8]| {
-        search(translation, root, tree, levels, output).map(|length| (length, ()))
+        search(translation, root, tree, limit, output).map(|length| (length, ()))
     };
-    in_growing_output(tree.len(), limit, call).map(|(found, ())| found)
+    in_growing_output(tree.0.len(), room, call).map(|(found, ())| found)
 }

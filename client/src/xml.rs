@@ -1,6 +1,7 @@
 //! Trees as XML.
 
-use crate::{accepted_length, in_output, raw, Refusal};
+use crate::output::{accepted_length, in_output};
+use crate::{raw, Kind, Language, Refusal, Tree, Xml};
 
 /// The most bytes of text for a byte of a tree: those of `<x31.255></x31.255>`.
 const TEXT_MOST: usize = 19;
@@ -14,45 +15,61 @@ const TEXT_LEAST: usize = 5;
 /// `<t2>5</t2>`, and there is nothing else. Behind the text, and after a refusal, the output is as
 /// it was.
 ///
+/// # Errors
+///
 /// Refusals: 1 to 4, 14 to 17.
 ///
 /// ```
-/// use algebra::{export, Refusal};
+/// use algebra::write::{production, token};
+/// use algebra::{export, Kind, Language, Refusal, Tree};
 ///
-/// // Minutes of 1 to 240, and the production 1.1 (2), a row.
-/// let language = [0x11, 0, 5, 2, 0, 1, 0, 240, 0x12, 0, 3, 1, 1, 2];
+/// const BLOCK: Kind = Kind(1);
+/// const ROW: u8 = 1;
+/// let strap = Language(include_bytes!("../../examples/strap/strap.language"));
+///
+/// let row = production(ROW, [token(5)]);
 /// let mut output = [0; 30];
-/// let length = export(&language, 1, &[1, 0, 5], &mut output)?;
+/// let length = export(strap, BLOCK, Tree(&row), &mut output)?;
 /// assert_eq!(&output[..length], b"<x1.1><t2>5</t2></x1.1>");
-/// assert_eq!(export(&language, 1, &[1, 0, 5], &mut []), Err(Refusal::OutputTooShort));
+/// assert_eq!(export(strap, BLOCK, Tree(&row), &mut []), Err(Refusal::OutputTooShort));
 /// # Ok::<(), Refusal>(())
 /// ```
 pub fn export(
-    language: &[u8],
-    root: u32,
-    tree: &[u8],
+    language: Language,
+    root: Kind,
+    tree: Tree,
     output: &mut [u8],
 ) -> Result<usize, Refusal> {
-    accepted_length(raw::export(language, root, tree, output))
+    accepted_length(raw::export(language.0, root.0, tree.0, output))
 }
 
 /// Writes a tree of the root kind as XML, with an output that is allocated and has at most `limit`
 /// bytes. Where memory has no room for it, the answer is 17.
 ///
+/// # Errors
+///
 /// Refusals: 1 to 4, 14 to 17.
 ///
 /// ```
-/// // The production 1.4, without arguments.
-/// let language = [0x12, 0, 2, 1, 4];
-/// assert_eq!(algebra::export_to_vec(&language, 1, &[4], 100), Ok(b"<x1.4></x1.4>".to_vec()));
+/// use algebra::write::{production, token};
+/// use algebra::{export_to_vec, Kind, Language, Tree};
+///
+/// const BLOCK: Kind = Kind(1);
+/// const REST: u8 = 3;
+/// let strap = Language(include_bytes!("../../examples/strap/strap.language"));
+///
+/// let rest = production(REST, [token(2)]);
+/// let text = export_to_vec(strap, BLOCK, Tree(&rest), 1000)?;
+/// assert_eq!(text, b"<x1.3><t2>2</t2></x1.3>");
+/// # Ok::<(), algebra::Refusal>(())
 /// ```
 pub fn export_to_vec(
-    language: &[u8],
-    root: u32,
-    tree: &[u8],
+    language: Language,
+    root: Kind,
+    tree: Tree,
     limit: usize,
 ) -> Result<Vec<u8>, Refusal> {
-    let room = tree.len().saturating_mul(TEXT_MOST).min(limit);
+    let room = tree.0.len().saturating_mul(TEXT_MOST).min(limit);
     in_output(room, |output| export(language, root, tree, output))
 }
 
@@ -62,44 +79,59 @@ pub fn export_to_vec(
 /// Only what [`export`] gives is accepted, byte for byte: no spaces, no leading zeros, no line end.
 /// Behind the tree, and after a refusal, the output is as it was.
 ///
+/// # Errors
+///
 /// Refusals: 1 to 4, 14, 16, 17, 20.
 ///
 /// ```
-/// use algebra::{import, Refusal};
+/// use algebra::write::{production, token};
+/// use algebra::{import, Kind, Language, Refusal, Xml};
 ///
-/// // Minutes of 1 to 240, and the production 1.1 (2), a row.
-/// let language = [0x11, 0, 5, 2, 0, 1, 0, 240, 0x12, 0, 3, 1, 1, 2];
+/// const BLOCK: Kind = Kind(1);
+/// const ROW: u8 = 1;
+/// let strap = Language(include_bytes!("../../examples/strap/strap.language"));
+///
 /// let mut output = [0; 3];
-/// assert_eq!(import(&language, 1, b"<x1.1><t2>5</t2></x1.1>", &mut output), Ok(3));
-/// assert_eq!(output, [1, 0, 5]);
-/// let padded = b"<x1.1><t2>05</t2></x1.1>";
-/// assert_eq!(import(&language, 1, padded, &mut output), Err(Refusal::NotAnExport));
+/// let text = Xml(b"<x1.1><t2>5</t2></x1.1>");
+/// assert_eq!(import(strap, BLOCK, text, &mut output), Ok(3));
+/// assert_eq!(output[..], production(ROW, [token(5)]));
+/// let padded = Xml(b"<x1.1><t2>05</t2></x1.1>");
+/// assert_eq!(import(strap, BLOCK, padded, &mut output), Err(Refusal::NotAnExport));
 /// ```
 pub fn import(
-    language: &[u8],
-    root: u32,
-    text: &[u8],
+    language: Language,
+    root: Kind,
+    text: Xml,
     output: &mut [u8],
 ) -> Result<usize, Refusal> {
-    accepted_length(raw::import(language, root, text, output))
+    accepted_length(raw::import(language.0, root.0, text.0, output))
 }
 
 /// Reads the tree of the root kind whose export the text is, with an output that is allocated and
 /// has at most `limit` bytes. Where memory has no room for it, the answer is 17.
 ///
+/// # Errors
+///
 /// Refusals: 1 to 4, 14, 16, 17, 20.
 ///
 /// ```
-/// // The production 1.4, without arguments.
-/// let language = [0x12, 0, 2, 1, 4];
-/// assert_eq!(algebra::import_to_vec(&language, 1, b"<x1.4></x1.4>", 100), Ok(vec![4]));
+/// use algebra::write::{production, token};
+/// use algebra::{import_to_vec, Kind, Language, Xml};
+///
+/// const BLOCK: Kind = Kind(1);
+/// const REST: u8 = 3;
+/// let strap = Language(include_bytes!("../../examples/strap/strap.language"));
+///
+/// let rest = import_to_vec(strap, BLOCK, Xml(b"<x1.3><t2>2</t2></x1.3>"), 1000)?;
+/// assert_eq!(rest, production(REST, [token(2)]));
+/// # Ok::<(), algebra::Refusal>(())
 /// ```
 pub fn import_to_vec(
-    language: &[u8],
-    root: u32,
-    text: &[u8],
+    language: Language,
+    root: Kind,
+    text: Xml,
     limit: usize,
 ) -> Result<Vec<u8>, Refusal> {
-    let room = (text.len() / TEXT_LEAST).min(limit);
+    let room = (text.0.len() / TEXT_LEAST).min(limit);
     in_output(room, |output| import(language, root, text, output))
 }

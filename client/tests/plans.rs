@@ -1,7 +1,7 @@
 //! Loose plans, indexes, edits, masks and searches on the strap: what a call stores when it refuses, and which bytes
 //! it leaves alone.
 
-use algebra::{raw, Refusal};
+use algebra::{raw, Card, Kind, Language, Refusal, Tree};
 
 /// What fills a buffer before a call.
 const MARK: u8 = 0xEE;
@@ -9,6 +9,9 @@ const MARK: u8 = 0xEE;
 /// Minutes of 1 to 240; 1.1 (2), a row, and 1.2 (1 1), a sequence.
 const LANGUAGE: [u8; 21] =
     [0x11, 0, 5, 2, 0, 1, 0, 240, 0x12, 0, 3, 1, 1, 2, 0x12, 0, 4, 1, 2, 1, 1];
+
+/// The kind of a block.
+const BLOCK: Kind = Kind(1);
 
 /// A row scores its minutes, and a sequence both its blocks.
 const TABLE: [u8; 20] = [0x24, 0, 6, 1, 1, 0, 0, 0, 1, 0x24, 0, 8, 1, 2, 0, 0, 0, 1, 0, 1];
@@ -21,6 +24,25 @@ fn a_refused_loose_plan_scores_0_and_0() {
     assert_eq!(answer, raw::LooseScoreAnswer { number: 15, least: 0, greatest: 0 });
 }
 
+#[test]
+fn the_position_of_an_accepted_tree_is_0() {
+    let located = |tree: &[u8], root| raw::locate(&LANGUAGE, root, tree);
+    assert_eq!(located(&TREE, 1), raw::LocateAnswer { number: 0, position: 0 });
+    assert_eq!(located(&TREE, 9), raw::LocateAnswer { number: 14, position: 0 });
+    assert_eq!(located(&[2, 1, 0, 5], 1), raw::LocateAnswer { number: 15, position: 4 });
+}
+
+#[test]
+fn a_refused_node_has_kind_name_and_arguments_0() {
+    let node = |path: &[u8]| raw::node(&LANGUAGE, 1, &TREE, &INDEX, path);
+    let answer = |kind, name, arguments| raw::NodeAnswer { number: 0, kind, name, arguments };
+    assert_eq!(node(&[]), answer(1, 2, 2));
+    assert_eq!(node(&[2]), answer(1, 1, 1));
+    assert_eq!(node(&[2, 1]), answer(2, raw::NO_NAME, 0));
+    let refused = raw::NodeAnswer { number: 21, kind: 0, name: 0, arguments: 0 };
+    assert_eq!(node(&[3]), refused);
+}
+
 /// A row of 5 minutes, then one of 7, and its index.
 const TREE: [u8; 7] = [2, 1, 0, 5, 1, 0, 7];
 const INDEX: [u8; 20] = [0, 0, 0, 7, 0, 1, 0, 3, 0, 2, 0, 2, 0, 4, 0, 3, 0, 5, 0, 2];
@@ -31,10 +53,11 @@ const CARD: [u8; 5] = [0x27, 0, 2, 1, 2];
 #[test]
 fn an_index_leaves_the_output_alone_behind_it() {
     let mut output = [MARK; 22];
-    assert_eq!(algebra::index(&LANGUAGE, 1, &TREE, &mut output), Ok(20));
+    assert_eq!(algebra::index(Language(&LANGUAGE), BLOCK, Tree(&TREE), &mut output), Ok(20));
     assert_eq!(output, [&INDEX[..], &[MARK; 2]].concat()[..]);
     let mut short = [MARK; 19];
-    assert_eq!(algebra::index(&LANGUAGE, 1, &TREE, &mut short), Err(Refusal::OutputTooShort));
+    let refused = algebra::index(Language(&LANGUAGE), BLOCK, Tree(&TREE), &mut short);
+    assert_eq!(refused, Err(Refusal::OutputTooShort));
     assert_eq!(short, [MARK; 19]);
 }
 
@@ -67,12 +90,15 @@ fn a_refused_edit_leaves_both_outputs_alone() {
 
 #[test]
 fn a_mask_leaves_the_output_alone_behind_it() {
-    let (blocks, mut output) = (algebra::card([1]), [MARK; 7]);
-    assert_eq!(algebra::mask(&LANGUAGE, 1, &blocks, &TREE, &mut output), Ok(5));
+    let blocks = algebra::card([BLOCK]).expect("a card");
+    let mask = |output: &mut [u8]| {
+        algebra::mask(Language(&LANGUAGE), BLOCK, Card(&blocks), Tree(&TREE), output)
+    };
+    let mut output = [MARK; 7];
+    assert_eq!(mask(&mut output), Ok(5));
     assert_eq!(output, [2, 1, 0xFF, 1, 0xFF, MARK, MARK]);
     let mut short = [MARK; 4];
-    let refused = algebra::mask(&LANGUAGE, 1, &blocks, &TREE, &mut short);
-    assert_eq!((refused, short), (Err(Refusal::OutputTooShort), [MARK; 4]));
+    assert_eq!((mask(&mut short), short), (Err(Refusal::OutputTooShort), [MARK; 4]));
 }
 
 /// 1.1 (2), a row, stays itself, and 1.4 (1), twice, becomes a sequence with its argument twice.

@@ -1,16 +1,26 @@
 //! The functions on the strap's translation "twice": what they answer and what they leave alone.
 
-use algebra::{raw, Refusal, Run, TRANSLATION_BYTES, WORKSPACE_BYTES};
+use algebra::{raw, Kind, MappingNumber, Pack, Refusal, Run, Translation, Tree};
+use algebra::{Ran, TRANSLATION_BYTES, WORKSPACE_BYTES};
 
 /// The pack of the example: the sum of "twice" and the identity of the strap.
 const PACK: &[u8] = include_bytes!("../../examples/strap/plan.pack");
+
+/// The kind of a block, and the number of its mapping.
+const BLOCK: Kind = Kind(1);
+const ZERO: MappingNumber = MappingNumber(0);
 
 /// What fills a buffer before a call.
 const MARK: u8 = 0xEE;
 
 /// The translation that the pack reduces to.
 fn twice() -> Vec<u8> {
-    algebra::reduce_to_vec(PACK).expect("the example reduces")
+    algebra::reduce_to_vec(Pack(PACK)).expect("the example reduces")
+}
+
+/// Runs the translation on a tree of blocks by number 0, in an output of at most so many bytes.
+fn ran(tree: &[u8], limit: usize) -> Result<Ran, Refusal> {
+    algebra::run_to_vec(Translation(&twice()), BLOCK, ZERO, Tree(tree), limit)
 }
 
 /// So many times twice, around a row of 5 minutes.
@@ -21,7 +31,7 @@ fn nested(levels: usize) -> Vec<u8> {
 #[test]
 fn an_output_is_left_alone_behind_the_result() {
     let mut output = [MARK; 9];
-    let run = algebra::run(&twice(), 1, 0, &nested(1), &mut output);
+    let run = algebra::run(Translation(&twice()), BLOCK, ZERO, Tree(&nested(1)), &mut output);
     assert_eq!(run, Ok(Run { length: 7, cost: 3 }));
     assert_eq!(output, [2, 1, 0, 5, 1, 0, 5, MARK, MARK]);
 }
@@ -29,7 +39,7 @@ fn an_output_is_left_alone_behind_the_result() {
 #[test]
 fn a_refusal_leaves_the_output_alone() {
     let mut output = [MARK; 6];
-    let refused = algebra::run(&twice(), 1, 0, &nested(1), &mut output);
+    let refused = algebra::run(Translation(&twice()), BLOCK, ZERO, Tree(&nested(1)), &mut output);
     assert_eq!(refused, Err(Refusal::OutputTooShort));
     assert_eq!(output, [MARK; 6]);
 }
@@ -37,19 +47,18 @@ fn a_refusal_leaves_the_output_alone() {
 #[test]
 fn a_long_result_is_allocated_up_to_the_limit() {
     let (tree, length) = (nested(12), 4 * (1 << 12) - 1);
-    let run = |limit| algebra::run_to_vec(&twice(), 1, 0, &tree, limit);
+    let run = |limit| ran(&tree, limit);
     assert_eq!(run(length).map(|result| result.tree.len()), Ok(length));
     assert_eq!(run(length).map(|result| result.cost), Ok(2 * (1 << 12) - 1));
     assert_eq!(run(1 << 20), run(length));
     assert_eq!(run(length - 1), Err(Refusal::OutputTooShort));
     assert_eq!(run(0), Err(Refusal::OutputTooShort));
-    let endless = algebra::run_to_vec(&twice(), 1, 0, &nested(63), usize::MAX);
-    assert_eq!(endless, Err(Refusal::OutputTooShort));
+    assert_eq!(ran(&nested(63), usize::MAX), Err(Refusal::OutputTooShort));
 }
 
 #[test]
 fn levels_are_refused_before_the_length() {
-    let run = |levels| algebra::run_to_vec(&twice(), 1, 0, &nested(levels), 1000);
+    let run = |levels| ran(&nested(levels), 1000);
     assert_eq!(run(63), Err(Refusal::OutputTooShort));
     assert_eq!(run(64), Err(Refusal::TooDeep));
 }
@@ -68,12 +77,10 @@ fn the_raw_interface_shows_workspace_and_length() {
 
 #[test]
 fn threads_call_at_the_same_time() {
-    let translation = twice();
     std::thread::scope(|scope| {
         for levels in 1..8 {
-            let translation = &translation;
             scope.spawn(move || {
-                let result = algebra::run_to_vec(translation, 1, 0, &nested(levels), 10_000);
+                let result = ran(&nested(levels), 10_000);
                 assert_eq!(result.map(|result| result.tree.len()), Ok(4 * (1 << levels) - 1));
             });
         }

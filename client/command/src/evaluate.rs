@@ -6,7 +6,7 @@ use crate::job::operand;
 use crate::verbs::printed;
 use crate::work::work;
 use crate::{Failure, Printed, Streams};
-use algebra::{Refusal, PACK_BYTES, TRANSLATION_BYTES, WORKSPACE_BYTES};
+use algebra::{Pack, Refusal, PACK_BYTES, TRANSLATION_BYTES, WORKSPACE_BYTES};
 use reference::explain;
 use reference::steps::{languages, signs, Valued};
 
@@ -18,10 +18,11 @@ pub fn evaluate(call: &Call, streams: &mut Streams) -> Result<Printed, Failure> 
 
 /// What is printed for a pack.
 fn values(call: &Call, pack: &[u8]) -> Printed {
-    let answer = algebra::reduce_to_vec(pack).map(|translation| translation.len());
+    let answer = algebra::reduce_to_vec(Pack(pack)).map(|translation| translation.len());
     let worked_out = answer.is_ok() || answer.is_err_and(is_of_values);
     let signs = signs(pack).filter(|_| worked_out).unwrap_or_default();
-    let values: Vec<_> = signs.iter().map(|sign| algebra::reduce_to_vec(&sign.pack)).collect();
+    let values: Vec<_> =
+        signs.iter().map(|sign| algebra::reduce_to_vec(Pack(&sign.pack))).collect();
     let refused = signs.iter().zip(&values).filter(|(_, value)| value.is_err());
     let first = refused.map(|(sign, _)| sign.turn).min().unwrap_or(usize::MAX);
     let lines = signs.iter().zip(&values).map(|(sign, value)| line(sign, value, first));

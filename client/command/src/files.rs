@@ -11,7 +11,7 @@ use crate::tree_job::CARD_BYTES;
 use crate::verbs::{answer_line, printed, refused};
 use crate::work::work;
 use crate::{Failure, Printed, Streams, ACCEPTED, REFUSED};
-use algebra::{Refusal, PACK_BYTES};
+use algebra::{Language, Pack, Refusal, Translation, PACK_BYTES};
 use reference::explain::{self, Fault};
 use reference::notation::{assemble as assembled, dump as dumped, seen, Source};
 use reference::plans::Form;
@@ -118,11 +118,13 @@ impl Loaded {
     fn refused(&self) -> Option<(Refusal, Option<Fault>)> {
         let Loaded::File(sort, file) = self else { return None };
         let (answer, fault) = match sort {
-            Sort::Language => (algebra::check_language(file), explain::language(file)),
-            Sort::Translation => (algebra::check_translation(file), explain::translation(file)),
+            Sort::Language => (algebra::check_language(Language(file)), explain::language(file)),
+            Sort::Translation => {
+                (algebra::check_translation(Translation(file)), explain::translation(file))
+            }
             Sort::Pack => {
                 let (workspace, output) = (algebra::WORKSPACE_BYTES, algebra::TRANSLATION_BYTES);
-                let answer = algebra::reduce_to_vec(file).map(|_| ());
+                let answer = algebra::reduce_to_vec(Pack(file)).map(|_| ());
                 (answer, explain::reduce(file, workspace, output))
             }
             _ => return None,

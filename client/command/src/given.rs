@@ -1,7 +1,7 @@
 //! What an accepted operation gives, and how it is printed and written.
 
 use crate::output::hexadecimal_lines;
-use algebra::{Block, Edited, LooseScore, Ran};
+use algebra::{Block, Edited, Kind, LooseScore, Node, Ran};
 use std::fmt;
 
 /// What an accepted operation gives.
@@ -15,7 +15,9 @@ pub enum Given {
     /// The least and the greatest score of a loose plan.
     Scores(LooseScore),
     /// A block of a tree.
-    Block { kind: u32, start: usize, bytes: Vec<u8> },
+    Block { kind: Kind, start: usize, bytes: Vec<u8> },
+    /// What stands at a path.
+    Node(Node),
     /// A plan that was edited, with its index.
     Edited(Edited),
     /// The result of a run, with its cost.
@@ -72,6 +74,10 @@ impl Given {
     pub fn figures(&self) -> String {
         match self {
             Given::Block { kind, start, .. } => format!("kind {kind}, start {start}\n"),
+            Given::Node(Node::Production { kind, name, arguments }) => {
+                format!("kind {kind}, name {name}, arguments {arguments}\n")
+            }
+            Given::Node(Node::Token { kind }) => format!("kind {kind}, token\n"),
             Given::Edited(edited) => format!("index {}\n", edited.index.len()),
             Given::Ran(ran) => format!("cost {}\n", ran.cost),
             Given::Found { levels, .. } => format!("levels {levels}\n"),
@@ -112,7 +118,7 @@ impl Given {
             Given::Edited(edited) => &edited.plan,
             Given::Ran(ran) => &ran.tree,
             Given::Reduced { result: bytes, .. } | Given::Found { tree: bytes, .. } => bytes,
-            Given::Score(_) | Given::Scores(_) => &[],
+            Given::Score(_) | Given::Scores(_) | Given::Node(_) => &[],
         }
     }
 }

@@ -7,7 +7,10 @@ use crate::job::{operand, root, tree, Job, Refused, TREE_BYTES};
 use crate::language_file::LanguageFile;
 use crate::tree_job::CARD_BYTES;
 use crate::{Failure, Streams};
-use algebra::{in_output, Edited, Refusal, ENTRY_BYTES, INDEXED_BYTES};
+use algebra::{
+    in_output, BlockPath, Card, Edited, Index, Kind, Language, NewBlock, Refusal, Tree,
+    ENTRY_BYTES, INDEXED_BYTES,
+};
 use reference::explain::{self, Fault, Indexed};
 use reference::names::Names;
 use reference::plans::Form;
@@ -18,8 +21,6 @@ use std::ffi::{OsStr, OsString};
 /// The places of the path among the operands, and of the new block of an edit.
 const PATH_PLACE: usize = 3;
 const BLOCK_PLACE: usize = 4;
-/// There are so many kinds.
-const KINDS: u8 = 32;
 /// No index is longer.
 const INDEX_BYTES: usize = ENTRY_BYTES * INDEXED_BYTES;
 
@@ -39,6 +40,7 @@ pub struct IndexJob {
 enum Operation {
     Index,
     Block { path: Vec<u8> },
+    Node { path: Vec<u8> },
     Edit { path: Vec<u8>, card: Option<Vec<u8>>, block: Vec<u8> },
 }
 
@@ -92,6 +94,12 @@ impl IndexJob {
         Ok(Box::new(IndexJob::load(call, streams, operation)?))
     }
 
+    /// Reads the inputs of the lookup of a node; the path is looked at before any file.
+    pub fn load_node(call: &Call, streams: &mut Streams) -> Result<Box<dyn Job>, Failure> {
+        let operation = Operation::Node { path: path(call)? };
+        Ok(Box::new(IndexJob::load(call, streams, operation)?))
+    }
+
     /// Reads the inputs of an edit; the path is looked at before any file.
     pub fn load_edit(call: &Call, streams: &mut Streams) -> Result<Box<dyn Job>, Failure> {
         let path = path(call)?;
@@ -113,24 +121,26 @@ impl IndexJob {
 
     /// The index that is built, in an output of so many bytes.
     fn built(&self, language: &[u8], limit: usize) -> Result<Vec<u8>, Refusal> {
-        in_output(limit, |output| algebra::index(language, self.root, &self.tree, output))
+        let (language, root, tree) = (Language(language), Kind(self.root), Tree(&self.tree));
+        in_output(limit, |output| algebra::index(language, root, tree, output))
     }
 
     /// What an edit gives.
     fn edited(
         &self,
         language: &[u8],
-        path: &[u8],
-        card: &[u8],
-        block: &[u8],
+        path: BlockPath,
+        card: Card,
+        block: NewBlock,
     ) -> Result<Edited, Refusal> {
         let (mut plan, mut index) = (vec![0; self.limit], vec![0; self.limit]);
-        let (tree, old) = (&self.tree, self.index(language));
-        let (root, outputs) = (self.root, (&mut plan, &mut index));
+        let (tree, old) = (Tree(&self.tree), self.index(language));
+        let (language, root, old) = (Language(language), Kind(self.root), Index(&old));
+        let outputs = (&mut plan[..], &mut index[..]);
         let lengths =
-            algebra::edit(language, root, tree, &old, path, card, block, outputs.0, outputs.1)?;
-        plan.truncate(lengths.0);
-        index.truncate(lengths.1);
+            algebra::edit(language, root, tree, old, path, card, block, outputs.0, outputs.1)?;
+        plan.truncate(lengths.plan_length);
+        index.truncate(lengths.index_length);
         Ok(Edited { plan, index })
     }
 }
@@ -142,15 +152,21 @@ impl Job for IndexJob {
 
     fn answer(&self) -> Result<Given, Refused> {
         let language = &self.language.language()?[..];
+        let (root, tree) = (Kind(self.root), Tree(&self.tree));
         Ok(match &self.operation {
             Operation::Index => Given::Bytes(self.built(language, self.limit)?),
             Operation::Block { path } => {
-                let index = self.index(language);
-                algebra::block(language, self.root, &self.tree, &index, path)?.into()
+                let (index, path) = (self.index(language), BlockPath(path));
+                algebra::block(Language(language), root, tree, Index(&index), path)?.into()
+            }
+            Operation::Node { path } => {
+                let (index, path) = (self.index(language), BlockPath(path));
+                Given::Node(algebra::node(Language(language), root, tree, Index(&index), path)?)
             }
             Operation::Edit { path, card, block } => {
-                let card = card.clone().unwrap_or_else(|| algebra::card(0..KINDS));
-                Given::Edited(self.edited(language, path, &card, block)?)
+                let card = card.as_deref().map_or(Card::ALL, Card);
+                let (path, block) = (BlockPath(path), NewBlock(block));
+                Given::Edited(self.edited(language, path, card, block)?)
             }
         })
     }
@@ -165,7 +181,7 @@ impl Job for IndexJob {
         let indexed = Indexed { language: &language, root: *root, tree, index, card: None };
         match &self.operation {
             Operation::Index => explain::index(&indexed, *limit),
-            Operation::Block { path } => explain::block(&indexed, path),
+            Operation::Block { path } | Operation::Node { path } => explain::block(&indexed, path),
             Operation::Edit { path, card, block } => {
                 explain::edit(&Indexed { card: card.as_deref(), ..indexed }, path, block, *limit)
             }
@@ -175,7 +191,7 @@ impl Job for IndexJob {
     fn result_in(&self, given: &Given) -> Option<(Vec<u8>, u32)> {
         let language = self.language.language().ok()?.into_owned();
         match given {
-            Given::Block { kind, .. } => Some((language, *kind)),
+            Given::Block { kind, .. } => Some((language, kind.0)),
             Given::Edited(_) => Some((language, self.root)),
             _ => None,
         }

@@ -7,8 +7,8 @@ use crate::input::read_file;
 use crate::options::Sort;
 use crate::{Failure, Streams};
 use algebra::{
-    in_output, Ran, Refusal, LANGUAGE_BYTES, PACK_BYTES, TABLE_BYTES, TRANSLATION_BYTES,
-    WORKSPACE_BYTES,
+    in_output, Kind, Language, LoadTable, MappingNumber, Pack, Ran, Refusal, Translation, Tree,
+    LANGUAGE_BYTES, PACK_BYTES, TABLE_BYTES, TRANSLATION_BYTES, WORKSPACE_BYTES,
 };
 use reference::explain::{self, Fault};
 use reference::names::Names;
@@ -23,26 +23,33 @@ const RUN_BYTES: usize = 1 << 28;
 /// Trees may have any length.
 pub const TREE_BYTES: usize = usize::MAX - 1;
 
-/// A refusal, and the files that it speaks of where that is to be told.
+/// A refusal, and the files that it speaks of, or the byte of the tree, where that is to be told.
 #[derive(Clone, Debug, PartialEq, Eq)]
 pub struct Refused {
     pub refusal: Refusal,
     pub files: Vec<String>,
+    pub position: Option<usize>,
 }
 
 impl From<Refusal> for Refused {
     fn from(refusal: Refusal) -> Refused {
-        Refused { refusal, files: vec![] }
+        Refused { refusal, files: vec![], position: None }
     }
 }
 
 impl Refused {
-    /// The line that names the files, if there are any.
-    pub fn files_line(&self) -> String {
+    /// A refusal that speaks of files.
+    pub fn of_files(refusal: Refusal, files: Vec<String>) -> Refused {
+        Refused { files, ..refusal.into() }
+    }
+
+    /// The line that names the files, if there are any, and the one with the position.
+    pub fn besides(&self) -> String {
+        let position = self.position.map_or(String::new(), |byte| format!("position {byte}\n"));
         match &self.files[..] {
-            [] => String::new(),
-            [file] => format!("file: {file}\n"),
-            [files @ .., last] => format!("files: {} and {last}\n", files.join(", ")),
+            [] => position,
+            [file] => format!("file: {file}\n{position}"),
+            [files @ .., last] => format!("files: {} and {last}\n{position}", files.join(", ")),
         }
     }
 }
@@ -141,7 +148,7 @@ pub fn load_check_language(call: &Call, streams: &mut Streams) -> Result<Box<dyn
 
 impl Job for CheckLanguage {
     fn answer(&self) -> Result<Given, Refused> {
-        algebra::check_language(&self.0)?;
+        algebra::check_language(Language(&self.0))?;
         Ok(Given::nothing())
     }
 
@@ -160,7 +167,7 @@ pub fn load_check_translation(call: &Call, streams: &mut Streams) -> Result<Box<
 
 impl Job for CheckTranslation {
     fn answer(&self) -> Result<Given, Refused> {
-        algebra::check_translation(&self.0)?;
+        algebra::check_translation(Translation(&self.0))?;
         Ok(Given::nothing())
     }
 
@@ -184,7 +191,7 @@ pub fn load_reduce(call: &Call, streams: &mut Streams) -> Result<Box<dyn Job>, F
 impl Job for Reduce {
     fn answer(&self) -> Result<Given, Refused> {
         let room = self.limit.min(TRANSLATION_BYTES);
-        Ok(Given::Bytes(in_output(room, |output| algebra::reduce(&self.pack, output))?))
+        Ok(Given::Bytes(in_output(room, |output| algebra::reduce(Pack(&self.pack), output))?))
     }
 
     fn fault(&self) -> Option<Fault> {
@@ -211,7 +218,8 @@ impl Job for JoinTable {
     fn answer(&self) -> Result<Given, Refused> {
         let JoinTable { translator, table, limit } = self;
         let translation = translator.translation()?;
-        let call = |output: &mut [u8]| algebra::join_table(&translation, table, output);
+        let (translation, table) = (Translation(&translation), LoadTable(table));
+        let call = |output: &mut [u8]| algebra::join_table(translation, table, output);
         Ok(Given::Bytes(in_output((*limit).min(TABLE_BYTES), call)?))
     }
 
@@ -248,7 +256,7 @@ impl Translator {
     /// Checks a translation by the library, and reduces a pack.
     pub fn checked(&self) -> Result<Cow<'_, [u8]>, Refusal> {
         if let Translator::Translation(translation) = self {
-            algebra::check_translation(translation)?;
+            algebra::check_translation(Translation(translation))?;
         }
         self.translation()
     }
@@ -257,7 +265,7 @@ impl Translator {
     pub fn translation(&self) -> Result<Cow<'_, [u8]>, Refusal> {
         match self {
             Translator::Translation(translation) => Ok(Cow::Borrowed(translation)),
-            Translator::Pack(pack) => algebra::reduce_to_vec(pack).map(Cow::Owned),
+            Translator::Pack(pack) => algebra::reduce_to_vec(Pack(pack)).map(Cow::Owned),
         }
     }
 
@@ -298,7 +306,9 @@ impl Run {
     /// The tree that the run gives, and its cost.
     fn ran(&self) -> Result<Ran, Refusal> {
         let translation = self.translator.translation()?;
-        algebra::run_to_vec(&translation, self.root, self.number, &self.tree, self.limit)
+        let (root, number) = (Kind(self.root), MappingNumber(self.number));
+        let (translation, tree) = (Translation(&translation), Tree(&self.tree));
+        algebra::run_to_vec(translation, root, number, tree, self.limit)
     }
 }
 

@@ -56,7 +56,7 @@ impl LanguageFile {
 
     /// The language, by the library; a refusal of the translation or pack names its file.
     pub fn language(&self) -> Result<Cow<'_, [u8]>, Refused> {
-        let named = |refusal| Refused { refusal, files: vec![self.name.clone()] };
+        let named = |refusal| Refused::of_files(refusal, vec![self.name.clone()]);
         match &self.of {
             Of::File(language) => Ok(Cow::Borrowed(language)),
             Of::Source(of) => Ok(Cow::Owned(source_of(&of.checked().map_err(named)?))),

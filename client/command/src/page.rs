@@ -4,9 +4,10 @@
 use crate::arguments::Call;
 use crate::output::digits;
 use crate::picture::{escaped, Picture};
-use crate::steps::{run, InTurn, Rooted, Verdict};
+use crate::steps::{ran, run, InTurn, Rooted, Verdict};
 use crate::verbs::{answer_line, printed};
 use crate::Printed;
+use algebra::Pack;
 use reference::names::Names;
 use reference::notation::{node_words, term_line};
 use reference::plans::read_deep;
@@ -55,8 +56,8 @@ pub fn page(
     number: u32,
     limit: usize,
 ) -> Result<String, Printed> {
-    let translation =
-        algebra::reduce_to_vec(pack).map_err(|refusal| printed(Err::<usize, _>(refusal), ""))?;
+    let translation = algebra::reduce_to_vec(Pack(pack))
+        .map_err(|refusal| printed(Err::<usize, _>(refusal), ""))?;
     let steps = steps(pack, number).unwrap_or_default();
     let mut page = Page { names: &call.names, limit, text: HEAD.to_string() };
     page.heading(call, pack);
@@ -117,7 +118,7 @@ impl Page<'_> {
             let title = format!("Step {} of {}", place + 1, steps.len());
             let term = term_line(&step.pack).unwrap_or_default();
             let refused = |refusal| (place, refusal);
-            let translation = algebra::reduce_to_vec(&step.pack).map_err(refused)?;
+            let translation = algebra::reduce_to_vec(Pack(&step.pack)).map_err(refused)?;
             self.run(&title, &term, &translation, &current, step.number);
             let next = run(&translation, &current, step.number, self.limit);
             self.text.push_str("</section>\n");
@@ -130,7 +131,7 @@ impl Page<'_> {
 
     /// Adds a run: its answer, and which clauses were applied where. The section stays open.
     fn run(&mut self, title: &str, term: &str, translation: &[u8], start: &Rooted, number: u32) {
-        let ran = algebra::run_to_vec(translation, start.kind, number, &start.tree, self.limit);
+        let ran = ran(translation, start, number, self.limit);
         let answer = answer_line(ran.as_ref().map(|ran| ran.tree.len()).map_err(|found| *found));
         let _ = writeln!(
             self.text,

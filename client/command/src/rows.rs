@@ -61,6 +61,19 @@ pub static VERBS: &[Verb] = &[
         act: Act::Operation(TreeJob::load_check),
     },
     Verb {
+        name: "locate",
+        forms: &[&[LANGUAGE, ROOT, TREE]],
+        options: &[&AS_LANGUAGE, &TARGET],
+        summary: "Check a tree, and tell where its fault is",
+        details: "ROOT is the number of a kind, 0 to 31. The answer is that of check-tree. Below a \
+                  refusal 15 or 16 stands the position at which reading stopped, a byte of the tree \
+                  counted from 0: where the node starts that cannot be, the end of the tree if it \
+                  ends too early, or the first byte left over; or where level 65 is reached. It \
+                  comes from the library; explain tells more.",
+        refusals: "1 to 4, 14 to 16",
+        act: Act::Operation(TreeJob::load_locate),
+    },
+    Verb {
         name: "reduce",
         forms: &[&[PACK]],
         options: &[&OUTPUT, &LIMIT],
@@ -236,6 +249,18 @@ pub static VERBS: &[Verb] = &[
                   hexadecimal digits.",
         refusals: "1 to 4, 14 to 16, 21, 22",
         act: Act::Operation(IndexJob::load_block),
+    },
+    Verb {
+        name: "node",
+        forms: &[&[LANGUAGE, ROOT, TREE, PATH]],
+        options: &[&INDEX, &AS_LANGUAGE, &TARGET],
+        summary: "Tell what stands at a path of a tree",
+        details: "ROOT is the number of a kind, 0 to 31, and PATH leads to a node as for the verb \
+                  block. Below the first line stand its kind, and the name of its production with \
+                  how many arguments it has, or that it is a token; where there are names, its word \
+                  besides.",
+        refusals: "1 to 4, 14 to 16, 21, 22",
+        act: Act::Operation(IndexJob::load_node),
     },
     Verb {
         name: "edit",

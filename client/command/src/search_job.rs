@@ -4,7 +4,7 @@ use crate::arguments::{number, Call};
 use crate::given::Given;
 use crate::job::{root, run_limit, tree, Job, Refused, Translator};
 use crate::{Failure, Streams};
-use algebra::{Refusal, SEARCH_LEVELS};
+use algebra::{Kind, Levels, Refusal, Translation, Tree, SEARCH_LEVELS};
 use reference::explain::{self, Fault};
 use reference::names::Names;
 use reference::plans::Form;
@@ -37,7 +37,8 @@ impl Search {
 
     /// What the library finds within so many levels.
     fn within(&self, translation: &[u8], levels: u32) -> Result<Vec<u8>, Refusal> {
-        algebra::search_to_vec(translation, self.root, &self.tree, levels, self.limit)
+        let (translation, tree) = (Translation(translation), Tree(&self.tree));
+        algebra::search_to_vec(translation, Kind(self.root), tree, Levels(levels), self.limit)
     }
 
     /// What it finds within the least number of levels at which there is a source tree, and that

@@ -7,7 +7,7 @@ use crate::page;
 use crate::verbs::{answer_line, printed};
 use crate::work::work;
 use crate::{Failure, Printed, Streams, REFUSED};
-use algebra::{Refusal, PACK_BYTES};
+use algebra::{Kind, Language, MappingNumber, Pack, Ran, Refusal, Translation, Tree, PACK_BYTES};
 use reference::names::Names;
 use reference::notation::{node_line, term_line};
 use reference::plans::read_deep;
@@ -90,7 +90,7 @@ pub fn steps(call: &Call, streams: &mut Streams) -> Result<Printed, Failure> {
 
 /// What is printed for both routes.
 fn both_routes(pack: &[u8], start: Rooted, format: Format) -> Printed {
-    let translation = match algebra::reduce_to_vec(pack) {
+    let translation = match algebra::reduce_to_vec(Pack(pack)) {
         Ok(translation) => translation,
         Err(refusal) => return printed(Err::<usize, _>(refusal), "the pack is refused\n"),
     };
@@ -124,7 +124,8 @@ fn closing(steps: usize, verdict: Verdict) -> &'static str {
 fn run_in_turn(steps: &[Step], start: Rooted, format: Format, lines: &mut String) -> InTurn {
     let mut current = start;
     for (place, step) in steps.iter().enumerate() {
-        let translation = algebra::reduce_to_vec(&step.pack).map_err(|refusal| (place, refusal));
+        let translation =
+            algebra::reduce_to_vec(Pack(&step.pack)).map_err(|refusal| (place, refusal));
         let answer = translation.as_ref().map_err(|refused| *refused).and_then(|translation| {
             let answer = run(translation, &current, step.number, format.limit);
             answer.map_err(|refusal| (place, refusal))
@@ -142,6 +143,12 @@ fn run_in_turn(steps: &[Step], start: Rooted, format: Format, lines: &mut String
     Ok(current)
 }
 
+/// What the library gives for the run of a translation on a tree by a number.
+pub fn ran(translation: &[u8], start: &Rooted, number: u32, limit: usize) -> Result<Ran, Refusal> {
+    let (root, tree) = (Kind(start.kind), Tree(&start.tree));
+    algebra::run_to_vec(Translation(translation), root, MappingNumber(number), tree, limit)
+}
+
 /// Runs a translation on a tree by a number.
 pub fn run(
     translation: &[u8],
@@ -149,7 +156,7 @@ pub fn run(
     number: u32,
     limit: usize,
 ) -> Result<Rooted, Refusal> {
-    let tree = algebra::run_to_vec(translation, start.kind, number, &start.tree, limit)?.tree;
+    let tree = ran(translation, start, number, limit)?.tree;
     let kind = mapped_kind(translation, start.kind, number).ok_or(Refusal::UnknownRoot)?;
     Ok(Rooted { kind, tree })
 }
@@ -170,7 +177,8 @@ impl Format<'_> {
     /// A tree of a language as XML or in digits; what cannot be exported is shown in digits.
     fn shown(self, rooted: &Rooted, language: &[u8]) -> String {
         let Rooted { kind, tree } = rooted;
-        let export = || algebra::export_to_vec(language, *kind, tree, usize::MAX).ok();
+        let (in_language, tree_of) = (Language(language), Tree(tree));
+        let export = || algebra::export_to_vec(in_language, Kind(*kind), tree_of, usize::MAX).ok();
         if let Some(text) = self.xml.then(export).flatten() {
             return String::from_utf8_lossy(&text).into_owned();
         }

@@ -8,7 +8,7 @@ use crate::job::{operand, sort_of, Job, Refused, Translator};
 use crate::language_file::{source_of, target_of};
 use crate::options::Sort;
 use crate::{Failure, Streams};
-use algebra::{Refusal, PACK_BYTES, TRANSLATION_BYTES, WORKSPACE_BYTES};
+use algebra::{Language, Pack, Refusal, PACK_BYTES, TRANSLATION_BYTES, WORKSPACE_BYTES};
 use reference::explain::{self, Fault};
 use reference::packing::{sum_of, Packing};
 
@@ -98,10 +98,10 @@ impl Part {
     /// What the library says of the file by itself: the translation, or nothing for a language.
     fn checked(&self) -> Result<Vec<u8>, Refused> {
         let checked = match self.is {
-            PartIs::Language => algebra::check_language(&self.file).map(|()| vec![]),
+            PartIs::Language => algebra::check_language(Language(&self.file)).map(|()| vec![]),
             _ => self.translator().checked().map(|translation| translation.into_owned()),
         };
-        checked.map_err(|refusal| Refused { refusal, files: vec![self.name.clone()] })
+        checked.map_err(|refusal| Refused::of_files(refusal, vec![self.name.clone()]))
     }
 
     /// Where the file by itself is at fault, if it is.
@@ -221,7 +221,8 @@ impl TermJob {
 
     /// The files that a refusal speaks of: of a sum, those up to the first that does not fit.
     fn files(&self, reduced: &[Vec<u8>]) -> Vec<String> {
-        let refused = |count: &usize| algebra::reduce_to_vec(&self.pack(*count, reduced)).is_err();
+        let refused =
+            |count: &usize| algebra::reduce_to_vec(Pack(&self.pack(*count, reduced))).is_err();
         let count = match self.made {
             Made::Sum => (1..self.parts.len()).find(refused),
             _ => None,
@@ -244,8 +245,8 @@ impl Job for TermJob {
     fn answer(&self) -> Result<Given, Refused> {
         let reduced = self.reduced()?;
         let pack = self.pack(self.parts.len(), &reduced);
-        let named = |refusal: Refusal| Refused { refusal, files: self.files(&reduced) };
-        let translation = algebra::reduce_to_vec(&pack).map_err(named)?;
+        let named = |refusal: Refusal| Refused::of_files(refusal, self.files(&reduced));
+        let translation = algebra::reduce_to_vec(Pack(&pack)).map_err(named)?;
         Ok(Given::Reduced { result: self.result(translation), pack })
     }
 
@@ -264,7 +265,7 @@ pub fn reduced_alone(part: Part) -> Result<(String, Vec<u8>), Refused> {
     let name = part.name.clone();
     let reduced = [part.checked()?];
     let pack = pack_of(&[part], Made::Sum, &reduced).expect("a file that is accepted can be read");
-    let named = |refusal| Refused { refusal, files: vec![name.clone()] };
-    let translation = algebra::reduce_to_vec(&pack).map_err(named)?;
+    let named = |refusal| Refused::of_files(refusal, vec![name.clone()]);
+    let translation = algebra::reduce_to_vec(Pack(&pack)).map_err(named)?;
     Ok((name, translation))
 }

@@ -8,7 +8,9 @@ use crate::language_file::LanguageFile;
 use crate::options::Format;
 use crate::tidy::{tidied, Tidied};
 use crate::{Failure, Streams};
-use algebra::{in_output, TABLE_BYTES};
+use algebra::{
+    in_output, Card, Kind, Language, LoadTable, LoosePlan, Refusal, Tree, Xml, TABLE_BYTES,
+};
 use reference::explain::{self, Fault};
 use reference::names::Names;
 use reference::plans::Form;
@@ -32,6 +34,7 @@ pub struct TreeJob {
 /// What is done, with what else it takes.
 enum Operation {
     Check,
+    Locate,
     Score { table: Vec<u8> },
     ScoreLoose { table: Vec<u8> },
     Export { limit: usize },
@@ -70,6 +73,11 @@ impl TreeJob {
     /// Reads the inputs of a check.
     pub fn load_check(call: &Call, streams: &mut Streams) -> Result<Box<dyn Job>, Failure> {
         TreeJob::load(call, streams, |_, _| Ok(Operation::Check))
+    }
+
+    /// Reads the inputs of a check that tells the position of a fault.
+    pub fn load_locate(call: &Call, streams: &mut Streams) -> Result<Box<dyn Job>, Failure> {
+        TreeJob::load(call, streams, |_, _| Ok(Operation::Locate))
     }
 
     /// Reads the inputs of a score.
@@ -113,27 +121,35 @@ impl Job for TreeJob {
     }
 
     fn answer(&self) -> Result<Given, Refused> {
-        let TreeJob { operation, root, tree, .. } = self;
-        let (language, root) = (&self.language.language()?[..], *root);
-        Ok(match operation {
+        let bytes = &self.tree[..];
+        let (language, root, tree) = (self.language.language()?, Kind(self.root), Tree(bytes));
+        let language = Language(&language);
+        Ok(match &self.operation {
             Operation::Check => {
-                algebra::check_tree(language, root, tree)?;
+                algebra::check_tree(language, root, tree).map_err(Refusal::from)?;
                 Given::nothing()
             }
+            Operation::Locate => match algebra::locate(language, root, tree) {
+                None => Given::nothing(),
+                Some(fault) => {
+                    return Err(Refused { position: fault.position(), ..fault.refusal().into() })
+                }
+            },
             Operation::Score { table } => {
-                Given::Score(algebra::score(language, root, tree, table)?)
+                Given::Score(algebra::score(language, root, tree, LoadTable(table))?)
             }
             Operation::ScoreLoose { table } => {
-                Given::Scores(algebra::score_loose(language, root, tree, table)?)
+                let (plan, table) = (LoosePlan(bytes), LoadTable(table));
+                Given::Scores(algebra::score_loose(language, root, plan, table)?)
             }
             Operation::Export { limit } => {
                 Given::Text(algebra::export_to_vec(language, root, tree, *limit)?)
             }
             Operation::Import { limit } => {
-                Given::Bytes(algebra::import_to_vec(language, root, tree, *limit)?)
+                Given::Bytes(algebra::import_to_vec(language, root, Xml(bytes), *limit)?)
             }
             Operation::Mask { card, limit } => {
-                let room = limit.unwrap_or(tree.len()).min(tree.len());
+                let (card, room) = (Card(card), limit.unwrap_or(bytes.len()).min(bytes.len()));
                 let call = |output: &mut [u8]| algebra::mask(language, root, card, tree, output);
                 Given::Bytes(in_output(room, call)?)
             }
@@ -148,7 +164,7 @@ impl Job for TreeJob {
         };
         let (language, root) = (&language[..], *root);
         match operation {
-            Operation::Check => explain::tree(language, root, tree),
+            Operation::Check | Operation::Locate => explain::tree(language, root, tree),
             Operation::Score { table } => explain::score(language, root, tree, table),
             Operation::ScoreLoose { table } => explain::score_loose(language, root, tree, table),
             Operation::Export { limit } => explain::export(language, root, tree, *limit),

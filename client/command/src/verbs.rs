@@ -8,9 +8,10 @@ use crate::output::write_file;
 use crate::table::Act;
 use crate::work::work;
 use crate::{job, Failure, Printed, Streams, ACCEPTED, REFUSED};
-use algebra::Refusal;
+use algebra::{Node, Refusal};
 use reference::explain::Fault;
 use reference::listing::clause_lines;
+use reference::names::Names;
 use reference::notation::{clause_words, node_words};
 use reference::plans::read_deep;
 use std::fmt::Display;
@@ -43,15 +44,15 @@ pub fn figure(answer: &Result<Given, Refused>) -> Result<Figure, Refusal> {
     answer.as_ref().map(Given::figure).map_err(|refused| refused.refusal)
 }
 
-/// What is printed for a refusal, with the files that it speaks of and other lines.
+/// What is printed for a refusal, with what it speaks of and other lines.
 pub fn refused(refused: &Refused, lines: &str) -> Printed {
-    printed(Err::<usize, _>(refused.refusal), &(refused.files_line() + lines))
+    printed(Err::<usize, _>(refused.refusal), &(refused.besides() + lines))
 }
 
-/// What is printed for a refusal by a sentence of its own, with files and other lines.
+/// What is printed for a refusal by a sentence of its own, with what it speaks of and other lines.
 pub fn refused_with(sentence: String, refused: &Refused, lines: &str) -> Printed {
-    let (number, files) = (refused.refusal.number(), refused.files_line());
-    let output = format!("refused {number}: {sentence}\n{files}{lines}").into_bytes();
+    let (number, besides) = (refused.refusal.number(), refused.besides());
+    let output = format!("refused {number}: {sentence}\n{besides}{lines}").into_bytes();
     Printed { output, messages: String::new(), status: REFUSED }
 }
 
@@ -91,8 +92,11 @@ fn operate(load: Load, call: &Call, streams: &mut Streams) -> Result<Printed, Fa
     Ok(printed(first, &figures))
 }
 
-/// A tree that is given in words, where there are names.
+/// A tree that is given in words, or the word of a node, where there are names.
 fn words(call: &Call, job: &dyn Job, given: &Given) -> String {
+    if let (Given::Node(node), false) = (given, call.names.is_empty()) {
+        return format!("{}\n", node_word(*node, &call.names));
+    }
     let node = || {
         let (language, kind) = job.result_in(given)?;
         read_deep(&language, kind, given.bytes())
@@ -100,6 +104,16 @@ fn words(call: &Call, job: &dyn Job, given: &Given) -> String {
     match (!call.names.is_empty()).then(node).flatten() {
         Some(node) => format!("{}\n", node_words(&node, &call.names, 0)),
         None => String::new(),
+    }
+}
+
+/// The word of a production, or that of a token's kind.
+fn node_word(node: Node, names: &Names) -> String {
+    // The kinds of a language are below 32.
+    let kind = node.kind().0 as u8;
+    match node.name() {
+        Some(name) => names.production(kind, name),
+        None => names.kind(kind),
     }
 }
 

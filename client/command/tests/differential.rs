@@ -1,12 +1,16 @@
 //! The command on generated cases, in process: its first line, status and result are those of the
 //! library, a refusal leaves the file of `-o` as it was, and both routes of a join are equal.
 
-use algebra::{Block, Edited, LooseScore, Refusal, TRANSLATION_BYTES};
+use algebra::{
+    Block, BlockPath, Card, Edited, Index, Kind, Language, Levels, LoadTable, LoosePlan,
+    LooseScore, MappingNumber, NewBlock, Node, Pack, Plan, Ran, Refusal, Translation, Tree, Xml,
+    TRANSLATION_BYTES,
+};
 use algebra_command::{command, Streams, ACCEPTED, REFUSED};
 use reference::generate::{
     block_case, export_case, import_case, join_table_case, language_file, law_pack, long_run_case,
     pack_with_term, reduce_case, run_case, score_case, source_tree, translation_file, tree_case,
-    Random, RunCase,
+    BlockCase, Random, RunCase,
 };
 use reference::steps::{languages, mapped_kind};
 use std::ffi::OsString;
@@ -18,6 +22,8 @@ use std::path::PathBuf;
 const CASES: u64 = 1000;
 /// So many of them have long trees.
 const LONG_CASES: u64 = 10;
+/// About so many nodes of a plan are looked up, each by a call that reads the whole plan.
+const LOOKED_UP: usize = 50;
 /// In so many of a hundred cases the result is written to a file.
 const WRITTEN: usize = 50;
 /// Files are made here if it is there, since the command writes down to the disk.
@@ -136,8 +142,10 @@ impl Folder {
 /// The option that says what the first file of a verb is, whatever its first byte, if it takes one.
 fn first_file(verbs: &[&str]) -> Option<&'static str> {
     match *verbs.last()? {
-        "check-tree" | "score" | "score-loose" | "export" | "import" => Some("--as=language"),
-        "index" | "block" | "edit" | "mask" => Some("--as=language"),
+        "check-tree" | "locate" | "score" | "score-loose" | "export" | "import" => {
+            Some("--as=language")
+        }
+        "index" | "block" | "node" | "edit" | "mask" => Some("--as=language"),
         "join-table" => Some("--as=translation"),
         _ => None,
     }
@@ -212,6 +220,41 @@ impl Printed {
         let status = if answer.is_ok() { ACCEPTED } else { REFUSED };
         assert_eq!(self.status, status, "case {case}");
     }
+}
+
+/// What the library gives for a run.
+fn ran(
+    translation: &[u8],
+    root: u32,
+    number: u32,
+    tree: &[u8],
+    limit: usize,
+) -> Result<Ran, Refusal> {
+    let (translation, number) = (Translation(translation), MappingNumber(number));
+    algebra::run_to_vec(translation, Kind(root), number, Tree(tree), limit)
+}
+
+/// The index that the library builds, or none.
+fn built_index(language: &[u8], root: u32, tree: &[u8]) -> Vec<u8> {
+    algebra::index_to_vec(Language(language), Kind(root), Tree(tree)).unwrap_or_default()
+}
+
+/// The block that the library finds.
+fn looked_up<'a>(
+    language: &[u8],
+    root: u32,
+    tree: &'a [u8],
+    index: &[u8],
+    path: &[u8],
+) -> Result<Block<'a>, Refusal> {
+    algebra::block(Language(language), Kind(root), Tree(tree), Index(index), BlockPath(path))
+}
+
+/// What the library gives for an edit at the path of a case.
+fn edited(input: &BlockCase, index: &[u8], card: Card, block: &[u8]) -> Result<Edited, Refusal> {
+    let (language, root) = (Language(&input.language), Kind(input.root));
+    let (tree, index, path) = (Tree(&input.tree), Index(index), BlockPath(&input.path));
+    algebra::edit_to_vec(language, root, tree, index, path, card, NewBlock(block))
 }
 
 /// Calls a check, and its explanation, and compares both with the library's answer.
@@ -291,7 +334,7 @@ fn check_language() {
     let folder = Folder::new("language");
     for case in 0..CASES {
         let file = language_file(&mut Random::new(case));
-        let answer = algebra::check_language(&file);
+        let answer = algebra::check_language(Language(&file));
         let expected = reference::check_language(&file).number();
         compare_check(&folder, case, "check-language", &[File(&file)], answer, expected);
     }
@@ -302,7 +345,7 @@ fn check_translation() {
     let folder = Folder::new("translation");
     for case in 0..CASES {
         let file = translation_file(&mut Random::new(case));
-        let answer = algebra::check_translation(&file);
+        let answer = algebra::check_translation(Translation(&file));
         let expected = reference::check_translation(&file).number();
         compare_check(&folder, case, "check-translation", &[File(&file)], answer, expected);
     }
@@ -314,10 +357,36 @@ fn check_tree() {
     for case in 0..CASES {
         let input = tree_case(&mut Random::new(case));
         let operands = [File(&input.language), Root(input.root), File(&input.tree)];
-        let answer = algebra::check_tree(&input.language, input.root, &input.tree);
+        let (language, root) = (Language(&input.language), Kind(input.root));
+        let answer = algebra::check_tree(language, root, Tree(&input.tree)).map_err(Refusal::from);
         let expected = reference::check_tree(&input.language, input.root, &input.tree).number();
         compare_check(&folder, case, "check-tree", &operands, answer, expected);
     }
+}
+
+#[test]
+fn locate() {
+    let folder = Folder::new("locate");
+    let mut placed = 0;
+    for case in 0..CASES {
+        let input = tree_case(&mut Random::new(case));
+        let operands = [File(&input.language), Root(input.root), File(&input.tree)];
+        let (language, root) = (Language(&input.language), Kind(input.root));
+        let fault = algebra::locate(language, root, Tree(&input.tree));
+        let printed = folder.call(&mut Random::new(case), &["locate"], &operands, &[]);
+        let answer = fault.map_or(Ok(()), |fault| Err(fault.refusal()));
+        printed.compare(case, &answer, |()| 0);
+        let position = fault.and_then(|fault| fault.position());
+        let line = position.map(|position| format!("position {position}"));
+        assert_eq!(printed.text().lines().nth(1), line.as_deref(), "case {case}");
+        assert_eq!(position.is_some(), matches!(answer.map_err(Refusal::number), Err(15 | 16)));
+        assert!(position.is_none_or(|position| position <= input.tree.len()), "case {case}");
+        let second = reference::check_tree(&input.language, input.root, &input.tree).number();
+        let answer = answer.map(|()| 0);
+        compare_explanation(&folder, case, "locate", &operands, &[], answer, second);
+        placed += usize::from(position.is_some());
+    }
+    assert!(placed > 100, "{placed} with a position");
 }
 
 #[test]
@@ -328,7 +397,7 @@ fn reduce_and_list() {
         let input = reduce_case(random);
         let (pack, limit) = (&input.pack, input.output.min(TRANSLATION_BYTES));
         let mut output = vec![0; limit];
-        let answer = algebra::reduce(pack, &mut output);
+        let answer = algebra::reduce(Pack(pack), &mut output);
         let limit = vec!["--limit".to_string(), input.output.to_string()];
         let result = answer.map(|length| &output[..length]);
         compare_result(&folder, case, "reduce", &[File(pack)], &limit, result);
@@ -341,7 +410,7 @@ fn reduce_and_list() {
 
 /// Compares a listing with the library's answer, and all of it with the second implementation.
 fn compare_list(folder: &Folder, case: u64, pack: &[u8]) {
-    let answer = algebra::reduce_to_vec(pack);
+    let answer = algebra::reduce_to_vec(Pack(pack));
     let printed = folder.call(&mut Random::new(case), &["list"], &[File(pack)], &[]);
     let first = match &answer {
         Ok(translation) => format!("accepted {}", translation.len()),
@@ -360,7 +429,9 @@ fn compare_run(folder: &Folder, case: u64, input: &RunCase) {
     let RunCase { translation, root, number, tree, output: room } = input;
     let (root, number, room) = (*root, *number, *room);
     let mut output = vec![0; room];
-    let answer = algebra::run(translation, root, number, tree, &mut output);
+    let (by_number, of_kind) = (MappingNumber(number), Kind(root));
+    let answer =
+        algebra::run(Translation(translation), of_kind, by_number, Tree(tree), &mut output);
     let limit = vec!["--limit".to_string(), room.to_string()];
     let kind = vec!["--as".to_string(), "translation".to_string()];
     let by = vec!["--number".to_string(), number.to_string()];
@@ -393,7 +464,7 @@ fn score() {
         let (language, root, tree, table) =
             (&input.language, input.root, &input.tree, &input.table);
         let operands = [File(language), Root(root), File(tree), File(table)];
-        let answer = algebra::score(language, root, tree, table);
+        let answer = algebra::score(Language(language), Kind(root), Tree(tree), LoadTable(table));
         let random = &mut Random::new(case);
         let printed = folder.call(random, &["score"], &operands, &[]);
         printed.compare(case, &answer, |score| *score);
@@ -441,11 +512,13 @@ fn score_loose() {
         let random = &mut Random::new(case);
         let input = score_case(random);
         let (language, root, table) = (&input.language, input.root, &input.table);
-        let text = algebra::export_to_vec(language, root, &input.tree, usize::MAX);
+        let tree = Tree(&input.tree);
+        let text = algebra::export_to_vec(Language(language), Kind(root), tree, usize::MAX);
         let text = text.map(|text| String::from_utf8(text).expect("text"));
         let plan = text.map_or(input.tree.clone(), |text| loosened(random, &text));
         let operands = [File(language), Root(root), File(&plan), File(table)];
-        let answer = algebra::score_loose(language, root, &plan, table).map(Between);
+        let (in_language, of_kind, by) = (Language(language), Kind(root), LoadTable(table));
+        let answer = algebra::score_loose(in_language, of_kind, LoosePlan(&plan), by).map(Between);
         let printed = folder.call(random, &["score-loose"], &operands, &[]);
         printed.compare(case, &answer, |scores| *scores);
         assert_eq!(printed.text().lines().count(), 1, "case {case}");
@@ -462,7 +535,7 @@ fn join_table() {
         let (translation, table, room) = (&input.translation, &input.table, input.output);
         let operands = [File(translation), File(table)];
         let (mut output, options) = (vec![0; room], limit_options(room));
-        let answer = algebra::join_table(translation, table, &mut output);
+        let answer = algebra::join_table(Translation(translation), LoadTable(table), &mut output);
         let result = answer.map(|length| &output[..length]);
         compare_result(&folder, case, "join-table", &operands, &options, result);
         let second = reference::join_table(translation, table, &mut vec![0; room]).number();
@@ -483,7 +556,7 @@ fn export() {
         let (language, root, tree, room) = (&input.language, input.root, &input.tree, input.output);
         let operands = [File(language), Root(root), File(tree)];
         let (mut output, options) = (vec![0; room], limit_options(room));
-        let answer = algebra::export(language, root, tree, &mut output);
+        let answer = algebra::export(Language(language), Kind(root), Tree(tree), &mut output);
         let text = answer.map_or(OLD, |length| &output[..length]);
         let random = &mut Random::new(case);
         let printed = folder.call(random, &["export"], &operands, &options);
@@ -506,7 +579,7 @@ fn import() {
         let (language, root, text, room) = (&input.language, input.root, &input.text, input.output);
         let operands = [File(language), Root(root), Text(text)];
         let (mut output, options) = (vec![0; room], limit_options(room));
-        let answer = algebra::import(language, root, text, &mut output);
+        let answer = algebra::import(Language(language), Kind(root), Xml(text), &mut output);
         let result = answer.map(|length| &output[..length]);
         compare_result(&folder, case, "import", &operands, &options, result);
         let second = reference::import(language, root, text, &mut vec![0; room]).number();
@@ -537,13 +610,78 @@ fn block() {
         let input = block_case(&mut Random::new(case));
         let (language, root, tree, path) = (&input.language, input.root, &input.tree, &input.path);
         let operands = [File(language), Root(root), File(tree), Path(path)];
-        let index = algebra::index_to_vec(language, root, tree).unwrap_or_default();
-        let answer = algebra::block(language, root, tree, &index, path);
+        let index = built_index(language, root, tree);
+        let answer = looked_up(language, root, tree, &index, path);
         compare_block(&folder, case, &operands, answer);
         let number = answer.err().map_or(0, Refusal::number);
         let length = answer.map(|block| block.bytes.len());
         compare_explanation(&folder, case, "block", &operands, &[], length, number);
     }
+}
+
+/// The line that tells what stands at a path.
+fn node_line(node: Node) -> String {
+    match node {
+        Node::Production { kind, name, arguments } => {
+            format!("kind {kind}, name {name}, arguments {arguments}")
+        }
+        Node::Token { kind } => format!("kind {kind}, token"),
+    }
+}
+
+#[test]
+fn node() {
+    let folder = Folder::new("node");
+    let mut accepted = 0;
+    for case in 0..CASES {
+        let input = block_case(&mut Random::new(case));
+        let (language, root, tree, path) = (&input.language, input.root, &input.tree, &input.path);
+        let operands = [File(language), Root(root), File(tree), Path(path)];
+        let index = built_index(language, root, tree);
+        let (in_language, of_tree, by) = (Language(language), Tree(tree), Index(&index));
+        let answer = algebra::node(in_language, Kind(root), of_tree, by, BlockPath(path));
+        let printed = folder.call(&mut Random::new(case), &["node"], &operands, &[]);
+        printed.compare(case, &answer, |_| 0);
+        let line = answer.ok().map(node_line);
+        assert_eq!(printed.text().lines().nth(1), line.as_deref(), "case {case}");
+        assert_eq!(printed.text().lines().count(), 1 + answer.iter().len(), "case {case}");
+        let number = answer.err().map_or(0, Refusal::number);
+        compare_explanation(&folder, case, "node", &operands, &[], answer.map(|_| 0), number);
+        accepted += usize::from(number == 0);
+    }
+    assert!(accepted > 100, "{accepted} accepted");
+}
+
+/// Start and length of each node of a plan are those of its index, and some nodes, of a long plan not
+/// all, are what the library finds at their paths. Gives how many there are.
+fn compare_nodes(case: u64, plan: &Plan) -> usize {
+    let entries = plan.index().0.chunks(algebra::ENTRY_BYTES);
+    let count = entries.len();
+    assert_eq!(plan.nodes().len(), count, "case {case}");
+    for (node, entry) in plan.nodes().zip(entries) {
+        let numbers = [node.start(), node.bytes().len()].map(|number| number as u16);
+        assert_eq!(numbers.map(u16::to_be_bytes).concat(), entry, "case {case}");
+        assert_eq!(node.value().is_some(), node.node().name().is_none(), "case {case}");
+    }
+    for node in plan.nodes().step_by(1 + count / LOOKED_UP) {
+        assert_eq!(plan.node(node.path()), Ok(node.node()), "case {case}");
+        let block = plan.block(node.path()).expect("a block");
+        assert_eq!((block.bytes, block.start), (node.bytes(), node.start()), "case {case}");
+    }
+    count
+}
+
+#[test]
+fn nodes_of_plans() {
+    let mut nodes = 0;
+    for case in 0..CASES {
+        let input = block_case(&mut Random::new(case));
+        let (language, root, tree) = (Language(&input.language), Kind(input.root), &input.tree);
+        let index = built_index(language.0, root.0, tree);
+        let Ok(plan) = Plan::new(language, root, Tree(tree), Index(&index)) else { continue };
+        nodes += compare_nodes(case, &plan);
+    }
+    assert!(nodes > 10_000, "{nodes} nodes");
 }
 
 #[test]
@@ -556,7 +694,7 @@ fn index() {
         let room = random.below(8 * tree.len() + 1);
         let operands = [File(language), Root(root), File(tree)];
         let (mut output, options) = (vec![0; room], limit_options(room));
-        let answer = algebra::index(language, root, tree, &mut output);
+        let answer = algebra::index(Language(language), Kind(root), Tree(tree), &mut output);
         let result = answer.map(|length| &output[..length]);
         compare_result(&folder, case, "index", &operands, &options, result);
         let number = answer.err().map_or(0, Refusal::number);
@@ -588,21 +726,21 @@ fn compare_edit(
 
 #[test]
 fn edit() {
-    let (folder, all) = (Folder::new("edit"), algebra::card(0..32));
+    let folder = Folder::new("edit");
     let (mut accepted, mut refused) = (0, 0);
     for case in 0..CASES {
         let random = &mut Random::new(case);
         let input = block_case(random);
         let (language, root, tree, path) = (&input.language, input.root, &input.tree, &input.path);
-        let index = algebra::index_to_vec(language, root, tree).unwrap_or_default();
-        let old = algebra::block(language, root, tree, &index, path).map_or(&[][..], |of| of.bytes);
+        let index = built_index(language, root, tree);
+        let old = looked_up(language, root, tree, &index, path).map_or(&[][..], |of| of.bytes);
         let block = match random.below(4) {
             0 => tree,
             1 => &tree[random.below(tree.len() + 1)..],
             _ => old,
         };
         let operands = [File(language), Root(root), File(tree), Path(path), File(block)];
-        let answer = algebra::edit_to_vec(language, root, tree, &index, path, &all, block);
+        let answer = edited(&input, &index, Card::ALL, block);
         compare_edit(&folder, case, &operands, &answer);
         let number = answer.as_ref().map_or_else(|refusal| refusal.number(), |_| 0);
         accepted += usize::from(number == 0);
@@ -615,7 +753,8 @@ fn edit() {
 
 /// A card that shows each kind in half of the cases, or bytes that are none.
 fn some_card(random: &mut Random) -> Vec<u8> {
-    let mut card = algebra::card((0..32).filter(|_| random.percent(50)));
+    let kinds = (0..32).filter(|_| random.percent(50)).map(Kind);
+    let mut card = algebra::card(kinds).expect("kinds that rise");
     if random.percent(20) {
         let place = random.below(card.len());
         card[place] = random.below(40) as u8;
@@ -633,7 +772,8 @@ fn mask() {
         let room = random.below(tree.len() + 2);
         let operands = [File(language), Root(root), File(tree), File(&card)];
         let (mut output, options) = (vec![0; room], limit_options(room));
-        let answer = algebra::mask(language, root, &card, tree, &mut output);
+        let (in_language, by) = (Language(language), Card(&card));
+        let answer = algebra::mask(in_language, Kind(root), by, Tree(tree), &mut output);
         let result = answer.map(|length| &output[..length]);
         compare_result(&folder, case, "mask", &operands, &options, result);
         let number = answer.err().map_or(0, Refusal::number);
@@ -648,9 +788,9 @@ fn edit_by_a_card() {
         let random = &mut Random::new(case);
         let (input, card) = (block_case(random), some_card(random));
         let (language, root, tree, path) = (&input.language, input.root, &input.tree, &input.path);
-        let index = algebra::index_to_vec(language, root, tree).unwrap_or_default();
-        let old = algebra::block(language, root, tree, &index, path).map_or(&[][..], |of| of.bytes);
-        let answer = algebra::edit_to_vec(language, root, tree, &index, path, &card, old);
+        let index = built_index(language, root, tree);
+        let old = looked_up(language, root, tree, &index, path).map_or(&[][..], |of| of.bytes);
+        let answer = edited(&input, &index, Card(&card), old);
         let (plan, by) = (File(tree), File(&card));
         let operands =
             [File(language), Root(root), plan, Path(path), File(old), Word("--card"), by];
@@ -680,11 +820,12 @@ fn search() {
         let random = &mut Random::new(case);
         let input = run_case(random);
         let (translation, root) = (&input.translation, input.root);
-        let run = algebra::run_to_vec(translation, root, 0, &input.tree, LIMIT);
+        let run = ran(translation, root, 0, &input.tree, LIMIT);
         let tree = run.map_or(input.tree, |ran| ran.tree);
         let (levels, room) = (random.below(18) as u32, random.below(2 * tree.len() + 8));
         let (mut output, limit) = (vec![0; room], limit_options(room));
-        let answer = algebra::search(translation, root, &tree, levels, &mut output);
+        let (by, within) = (Translation(translation), Levels(levels));
+        let answer = algebra::search(by, Kind(root), Tree(&tree), within, &mut output);
         let options = [limit, vec!["--as".to_string(), "translation".to_string()]].concat();
         let operands = [File(translation), Root(root), File(&tree), Root(levels)];
         let result = answer.map(|length| &output[..length]);
@@ -692,7 +833,7 @@ fn search() {
         let number = answer.err().map_or(0, Refusal::number);
         compare_explanation(&folder, case, "search", &operands, &options, answer, number);
         if let Ok(length) = answer {
-            let again = algebra::run_to_vec(translation, root, 0, &output[..length], tree.len());
+            let again = ran(translation, root, 0, &output[..length], tree.len());
             assert_eq!(again.map(|ran| ran.tree).as_ref(), Ok(&tree), "case {case}");
         }
         found += usize::from(answer.is_ok());
@@ -709,9 +850,11 @@ fn search_without_levels() {
         let random = &mut Random::new(case);
         let input = run_case(random);
         let (translation, root) = (&input.translation, input.root);
-        let run = algebra::run_to_vec(translation, root, 0, &input.tree, LIMIT);
+        let run = ran(translation, root, 0, &input.tree, LIMIT);
         let tree = run.map_or(input.tree, |ran| ran.tree);
-        let search = |levels| algebra::search_to_vec(translation, root, &tree, levels, LIMIT);
+        let (by, of_kind) = (Translation(translation), Kind(root));
+        let search =
+            |levels| algebra::search_to_vec(by, of_kind, Tree(&tree), Levels(levels), LIMIT);
         let least = (1..16).find(|levels| search(*levels) != Err(Refusal::NoSource)).unwrap_or(16);
         let answer = search(least);
         let options = [limit_options(LIMIT), vec!["--as".to_string(), "translation".to_string()]];
@@ -730,7 +873,7 @@ fn search_without_levels() {
 
 /// A pack with a term, or in half of the cases the translation that it reduces to, if it does.
 fn pack_or_translation(random: &mut Random, pack: Vec<u8>) -> Vec<u8> {
-    match random.percent(50).then(|| algebra::reduce_to_vec(&pack)) {
+    match random.percent(50).then(|| algebra::reduce_to_vec(Pack(&pack))) {
         Some(Ok(translation)) => translation,
         _ => pack,
     }
@@ -775,18 +918,18 @@ fn verbs_on_translations() {
             ("sum", of(&[&[0x53], f, g])),
             ("without", of(&[&[0x52], f, &[0x44], g])),
         ] {
-            let answer = algebra::reduce_to_vec(&term);
+            let answer = algebra::reduce_to_vec(Pack(&term));
             let result = answer.as_deref().map_err(|refusal| *refusal);
             compare_verb(&folder, case, verb, &[File(one), File(other)], result);
             accepted += usize::from(answer.is_ok());
             refused += usize::from(answer.is_err());
         }
-        let identity = algebra::reduce_to_vec(&of(&[&[0x55, 0x44], f]));
+        let identity = algebra::reduce_to_vec(Pack(&of(&[&[0x55, 0x44], f])));
         let result = identity.as_deref().map_err(|refusal| *refusal);
         compare_verb(&folder, case, "identity", &[File(one)], result);
         let source = result.map(|of| languages(of).expect("a translation").0);
         compare_verb(&folder, case, "source", &[File(one)], source);
-        let target = algebra::reduce_to_vec(&of(&[&[0x55, 0x45], f]));
+        let target = algebra::reduce_to_vec(Pack(&of(&[&[0x55, 0x45], f])));
         let target = target.as_deref().map_err(|refusal| *refusal);
         let target = target.map(|of| languages(of).expect("a translation").0);
         compare_verb(&folder, case, "target", &[File(one)], target);
@@ -804,7 +947,7 @@ fn compare_same(
     case: u64,
 ) {
     let printed = folder.call(random, &["same"], &[File(one), File(other)], &[]);
-    let word = match packs.map(|pack| algebra::reduce_to_vec(&pack)) {
+    let word = match packs.map(|pack| algebra::reduce_to_vec(Pack(&pack))) {
         [Ok(first), Ok(second)] if first == second => "same: ",
         [Ok(_), Ok(_)] => "different: ",
         _ => "refused ",
@@ -822,7 +965,7 @@ fn run_of_packs_and_steps() {
         let pack = law_pack(random);
         let mut term = || pack.terms[random.below(pack.terms.len())].clone();
         let pack = pack_with_term(&pack, &[vec![0x54], term(), term()].concat());
-        let reduced = algebra::reduce_to_vec(&pack);
+        let reduced = algebra::reduce_to_vec(Pack(&pack));
         let source = reduced.as_ref().map_or(&[][..], |translation| translation);
         let (kind, tree) = source_tree(random, source).unwrap_or_default();
         let (root, operands) = (u32::from(kind), [File(&pack), Root(kind.into()), File(&tree)]);
@@ -830,7 +973,7 @@ fn run_of_packs_and_steps() {
         let options = [["--limit", &LIMIT.to_string()], ["--number", &number.to_string()]];
         let options = options.concat().into_iter().map(str::to_string);
         let options: Vec<String> = options.take(if number == 0 { 2 } else { 4 }).collect();
-        let answer = reduced.and_then(|of| algebra::run_to_vec(&of, root, number, &tree, LIMIT));
+        let answer = reduced.and_then(|of| ran(&of, root, number, &tree, LIMIT));
         let answer = answer.map(|ran| ran.tree);
         folder.call(random, &["run"], &operands, &options).compare(case, &answer, Vec::len);
         let xml = random.percent(50).then(|| "--xml".to_string());
@@ -856,7 +999,7 @@ fn everything_that_is_not_broken_is_shown() {
         for (kind, bytes, number) in [
             ("language", &language, reference::check_language(&language).number()),
             ("translation", &file, reference::check_translation(&file).number()),
-            ("pack", &pack, algebra::reduce_to_vec(&pack).err().map_or(0, Refusal::number)),
+            ("pack", &pack, algebra::reduce_to_vec(Pack(&pack)).err().map_or(0, Refusal::number)),
         ] {
             let options = ["--as".to_string(), kind.to_string()];
             let printed = folder.call(random, &["show"], &[File(bytes)], &options);
