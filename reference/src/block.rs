@@ -62,6 +62,19 @@ pub fn find_place(grammar: &Grammar, root: u8, tree: &[u8], path: &[u8]) -> Resu
     path.iter().try_fold(Place::root(root, tree), step).ok_or(Refusal::Path)
 }
 
+/// The node to which a path leads in a tree that must be legal and have this index.
+pub fn find_indexed_place(
+    grammar: &Grammar,
+    root: u8,
+    tree: &[u8],
+    index: &[u8],
+    path: &[u8],
+) -> Result<Place, Refusal> {
+    read_tree(grammar, root, tree, Nothing, ())?;
+    check_index(grammar, root, tree, index)?;
+    find_place(grammar, root, tree, path)
+}
+
 /// The block of a tree of the root kind, with its index, at a path.
 pub fn block<'a>(
     language: &[u8],
@@ -87,9 +100,7 @@ fn find_block<'a>(
     let language = read_language(language)?;
     let root = root_kind(&language, root)?;
     let grammar = Grammar::new(&language);
-    read_tree(&grammar, root, tree, Nothing, ())?;
-    check_index(&grammar, root, tree, index)?;
-    let place = find_place(&grammar, root, tree, path)?;
+    let place = find_indexed_place(&grammar, root, tree, index, path)?;
     let part = &tree[place.start..place.end(&grammar, tree)];
     let outcome = Outcome::Accepted(part.len() as u64);
     Ok(Block { outcome, part, start: place.start as u64, kind: u32::from(place.kind) })

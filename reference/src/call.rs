@@ -2,11 +2,12 @@
 
 use crate::generate::{BlockCase, EditCase, ExportCase, ImportCase, IndexCase, JoinTableCase};
 use crate::generate::{MaskCase, ReduceCase, RunCase, ScoreCase, SearchCase, TreeCase};
+#[cfg(feature = "library")]
+use crate::interface;
 use crate::outcome::Outcome;
 use crate::{block, check_language, check_translation, check_tree, edit, export, import, index};
-use crate::{
-    join_table, mask, reduce, run, score, score_loose, search, Block, Edit, LooseScore, Run, Score,
-};
+use crate::{join_table, locate, mask, node, reduce, run, score, score_loose, search};
+use crate::{Block, Edit, Located, LooseScore, Node, Run, Score};
 #[cfg(feature = "library")]
 use algebra::raw as library;
 
@@ -26,6 +27,10 @@ pub enum Call {
     Import(ImportCase),
     Index(IndexCase),
     Block(BlockCase),
+    /// What stands at the path of a lookup.
+    Node(BlockCase),
+    /// Where a tree is at fault.
+    Locate(TreeCase),
     Edit(EditCase),
     Mask(MaskCase),
     Search(SearchCase),
@@ -41,7 +46,8 @@ pub struct Buffers {
 }
 
 /// What a call answered: the number and the length, and figures that are 0 where the operation
-/// has none: the length of an edited plan's index, start and kind of a block, the score, the least
+/// has none: the length of an edited plan's index, start and kind of a block, name and number of
+/// arguments of what stands at a path, the position at which a tree is at fault, the score, the least
 /// and greatest score of a loose plan, and the cost of a run.
 #[derive(Clone, Copy, Debug, Default, PartialEq, Eq)]
 pub struct Answer {
@@ -50,6 +56,9 @@ pub struct Answer {
     pub index_length: u64,
     pub start: u64,
     pub kind: u32,
+    pub name: u32,
+    pub arguments: u32,
+    pub position: u64,
     pub score: i64,
     pub ends: [i64; 2],
     pub cost: u32,
@@ -104,6 +113,19 @@ impl From<Block<'_>> for Answer {
     }
 }
 
+impl From<Node> for Answer {
+    fn from(node: Node) -> Answer {
+        let Node { outcome, kind, name, arguments } = node;
+        Answer { kind, name, arguments, ..outcome.into() }
+    }
+}
+
+impl From<Located> for Answer {
+    fn from(located: Located) -> Answer {
+        Answer { position: located.position, ..located.outcome.into() }
+    }
+}
+
 impl Call {
     /// The name of the operation.
     pub fn operation(&self) -> &'static str {
@@ -120,6 +142,8 @@ impl Call {
             Call::Import(_) => "import",
             Call::Index(_) => "index",
             Call::Block(_) => "block",
+            Call::Node(_) => "node",
+            Call::Locate(_) => "locate",
             Call::Edit(_) => "edit",
             Call::Mask(_) => "mask",
             Call::Search(_) => "search",
@@ -153,7 +177,9 @@ impl Call {
         match self {
             Call::CheckLanguage(language) => vec![("language", language)],
             Call::CheckTranslation(translation) => vec![("translation", translation)],
-            Call::CheckTree(case) => in_language(&case.language[..], "tree", &case.tree[..]),
+            Call::CheckTree(case) | Call::Locate(case) => {
+                in_language(&case.language[..], "tree", &case.tree[..])
+            }
             Call::Reduce(case) => vec![("pack", &case.pack)],
             Call::Run(case) => vec![("translation", &case.translation), ("tree", &case.tree)],
             Call::Score(case) | Call::ScoreLoose(case) => {
@@ -165,7 +191,7 @@ impl Call {
             Call::Export(case) => in_language(&case.language, "tree", &case.tree),
             Call::Import(case) => in_language(&case.language, "text", &case.text),
             Call::Index(case) => in_language(&case.language, "tree", &case.tree),
-            Call::Block(case) => {
+            Call::Block(case) | Call::Node(case) => {
                 let BlockCase { language, tree, index, path, .. } = case;
                 vec![("language", language), ("tree", tree), ("index", index), ("path", path)]
             }
@@ -184,13 +210,13 @@ impl Call {
     /// The root, if the call has one.
     fn root(&self) -> Option<u32> {
         match self {
-            Call::CheckTree(case) => Some(case.root),
+            Call::CheckTree(case) | Call::Locate(case) => Some(case.root),
             Call::Run(case) => Some(case.root),
             Call::Score(case) | Call::ScoreLoose(case) => Some(case.root),
             Call::Export(case) => Some(case.root),
             Call::Import(case) => Some(case.root),
             Call::Index(case) => Some(case.root),
-            Call::Block(case) => Some(case.root),
+            Call::Block(case) | Call::Node(case) => Some(case.root),
             Call::Edit(case) => Some(case.root),
             Call::Mask(case) => Some(case.root),
             Call::Search(case) => Some(case.root),
@@ -239,6 +265,10 @@ impl Call {
             Call::Block(case) => {
                 block(&case.language, case.root, &case.tree, &case.index, &case.path).into()
             }
+            Call::Node(case) => {
+                node(&case.language, case.root, &case.tree, &case.index, &case.path).into()
+            }
+            Call::Locate(case) => locate(&case.language, case.root, &case.tree).into(),
             Call::Edit(case) => edit(&case.input(), output, plan_index).into(),
             Call::Search(case) => {
                 let SearchCase { translation, root, tree, limit, .. } = case;
@@ -287,6 +317,8 @@ impl Call {
                 library::block(&case.language, case.root, &case.tree, &case.index, &case.path)
                     .into()
             }
+            Call::Node(case) => interface::node(case),
+            Call::Locate(case) => interface::locate(case),
             Call::Edit(case) => library_edit(case, output, plan_index).into(),
             Call::Search(case) => {
                 let SearchCase { translation, root, tree, limit, .. } = case;

@@ -8,6 +8,7 @@ use crate::files::{
 };
 use crate::generate::{BlockCase, EditCase, ExportCase, ImportCase, IndexCase, JoinTableCase};
 use crate::generate::{MaskCase, ReduceCase, RunCase, ScoreCase, SearchCase, TreeCase};
+use crate::node::NO_NAME;
 use crate::reduce::{OUTPUT_LEAST, WORKSPACE_LEAST};
 
 /// A call with the answer and the bytes that it must give.
@@ -444,6 +445,58 @@ fn blocks() -> Vec<Example> {
     ]
 }
 
+/// What stands at paths of the sequence.
+fn nodes() -> Vec<Example> {
+    let looked_up = |tree: &[u8], index: &[u8], path: &[u8]| {
+        let (tree, index, path) = (tree.to_vec(), index.to_vec(), path.to_vec());
+        Call::Node(BlockCase { language: language_c(), root: 1, tree, index, path })
+    };
+    let at = |path: &[u8]| looked_up(&SESSION, &SESSION_INDEX, path);
+    let found = |what, path, kind, name, arguments| {
+        answered(what, at(path), Answer { kind, name, arguments, ..Answer::default() })
+    };
+    vec![
+        found("the whole sequence", &[], 1, 2, 2),
+        found("the row", &[1], 1, 1, 1),
+        found("the rest", &[2], 1, 3, 1),
+        found("the minutes of the rest", &[2, 1], 2, NO_NAME, 0),
+        refused("number 0", at(&[0]), 21),
+        refused("a third block of two", at(&[3]), 21),
+        refused("below the minutes", at(&[2, 1, 1]), 21),
+        refused("a byte left over", looked_up(&[1, 0, 5, 0], &[], &[0]), 15),
+        refused("no index", looked_up(&SESSION, &[], &[0]), 22),
+    ]
+}
+
+/// Where sessions of C, and of K, are at fault.
+fn located() -> Vec<Example> {
+    let (both, undefined) = ([language_c(), language_k()].concat(), production(1, 4, &[2]));
+    let by = |language: &[u8], root, tree: &[u8]| {
+        Call::Locate(TreeCase { language: language.to_vec(), root, tree: tree.to_vec() })
+    };
+    let at = |what, tree: &[u8], number, position| {
+        answered(what, by(&both, 1, tree), Answer { number, position, ..Answer::default() })
+    };
+    let gap = Answer { number: 15, position: 1, ..Answer::default() };
+    vec![
+        at("a row", &[1, 0, 0xF0], 0, 0),
+        at("a token above the range", &[1, 0, 0xF1], 15, 1),
+        at("a token below the range", &[2, 1, 0, 5, 3, 0, 0], 15, 5),
+        at("an unknown name", &[2, 1, 0, 5, 9, 0, 3], 15, 4),
+        at("an empty tree", &[], 15, 0),
+        at("the end at a name", &[2, 1, 0, 5], 15, 4),
+        at("the end in a token", &[2, 1, 0, 5, 3, 0], 15, 6),
+        at("a byte left over", &[1, 0, 5, 0], 15, 3),
+        at("63 times 04: 64 levels", &chain(63), 0, 0),
+        at("64 times 04: 65 levels", &chain(64), 16, 64),
+        at("64 times 04, then nothing", &[4; 64], 16, 64),
+        refused("root 9", by(&both, 9, &[1, 0, 5]), 14),
+        refused("a broken language", by(&[0x12], 1, &[9]), 2),
+        answered("an undefined kind", by(&undefined, 1, &[4, 0, 5]), gap),
+        refused("an undefined root", by(&undefined, 2, &[4]), 15),
+    ]
+}
+
 /// Indexes of sessions of C.
 fn indexes() -> Vec<Example> {
     let built = |tree: &[u8], output| {
@@ -629,8 +682,8 @@ fn texts() -> Vec<Example> {
 /// All examples.
 pub fn examples() -> Vec<Example> {
     let first = [reductions(), accepted_runs(), refused_runs(), wider_strap(), rates(), checks()];
-    let sessions = [scores(), loose_scores(), texts(), blocks(), indexes(), edits(), masks()];
-    [first.concat(), sessions.concat(), searches(), numbers()].concat()
+    let sessions = [scores(), loose_scores(), texts(), blocks(), nodes(), located(), indexes()];
+    [first.concat(), sessions.concat(), edits(), masks(), searches(), numbers()].concat()
 }
 
 impl Example {

@@ -1,8 +1,8 @@
 //! Languages, translations and a reducer over bytes: a reference on decoded structures.
 //!
 //! The operations are `check_language`, `check_translation`, `check_tree`, `reduce`, `run`,
-//! `score`, `score_loose`, `join_table`, `export`, `import`, `index`, `block`, `edit`, `mask` and
-//! `search`. Each answers with an `Outcome`: accepted with a length, or refused.
+//! `score`, `score_loose`, `join_table`, `export`, `import`, `index`, `block`, `node`, `locate`,
+//! `edit`, `mask` and `search`. Each answers with an `Outcome`: accepted with a length, or refused.
 #![deny(unsafe_code)]
 
 mod block;
@@ -16,7 +16,9 @@ mod field;
 mod grammar;
 mod index;
 mod language;
+mod locate;
 mod loose;
+mod node;
 mod operators;
 mod outcome;
 mod pack;
@@ -35,6 +37,8 @@ pub mod examples;
 pub mod explain;
 pub mod files;
 pub mod generate;
+#[cfg(feature = "library")]
+pub mod interface;
 pub mod laws;
 pub mod listing;
 pub mod names;
@@ -51,7 +55,9 @@ pub use card::mask;
 pub use edit::{edit, Edit, EditInput};
 pub use index::index;
 pub use language::check_language;
+pub use locate::{locate, Located};
 pub use loose::{score_loose, Ends, LooseScore};
+pub use node::{node, Node};
 pub use outcome::{Outcome, Refusal};
 pub use reduce::reduce;
 pub use run::{run, Run};

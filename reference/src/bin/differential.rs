@@ -10,9 +10,9 @@ mod laws;
 
 use reference::call::{Answer, Buffers, Call, Input};
 use reference::generate::{
-    block_case, edit_case, export_case, has_numbers, import_case, index_case, join_table_case,
-    language_file, loose_case, mask_case, reduce_case, run_case, score_case, search_case,
-    translation_file, tree_case, Random, LONG_TREE,
+    block_case, botched_case, edit_case, export_case, has_numbers, import_case, index_case,
+    join_table_case, language_file, loose_case, mask_case, reduce_case, run_case, score_case,
+    search_case, translation_file, tree_case, Random, LONG_TREE,
 };
 use reference::laws::Broken;
 use std::fmt::Write as _;
@@ -119,6 +119,16 @@ const OPERATIONS: &[Operation] = &[
         name: "block",
         possible: &[0, 1, 2, 3, 4, 14, 15, 16, 21, 22],
         tried: Tried::Call(|random| Call::Block(block_case(random))),
+    },
+    Operation {
+        name: "node",
+        possible: &[0, 1, 2, 3, 4, 14, 15, 16, 21, 22],
+        tried: Tried::Call(|random| Call::Node(block_case(random))),
+    },
+    Operation {
+        name: "locate",
+        possible: &[0, 1, 2, 3, 4, 14, 15, 16],
+        tried: Tried::Call(|random| Call::Locate(botched_case(random))),
     },
     Operation {
         name: "index",

@@ -1,6 +1,7 @@
 //! Seeded generators of files: valid ones, ones at a limit or one past it, and damaged ones.
 
 mod blocks;
+mod botched;
 mod cards;
 mod codes;
 mod damage;
@@ -27,6 +28,7 @@ mod trees;
 mod written;
 
 pub use blocks::{block_case, BlockCase};
+pub use botched::botched_case;
 pub use cards::{card_of, mask_case, mask_pair, MaskCase};
 pub use edits::{edit_case, EditCase};
 pub use indexes::{index_bytes, index_case, IndexCase};

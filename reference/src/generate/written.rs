@@ -66,7 +66,8 @@ mod tests {
     use super::*;
     use crate::call::Call;
     use crate::generate::{
-        block_case, edit_case, export_case, import_case, index_case, join_table_case, loose_case,
+        block_case, botched_case, edit_case, export_case, import_case, index_case, join_table_case,
+        loose_case,
     };
     use crate::generate::{mask_case, search_case};
     use crate::generate::{reduce_case, run_case, score_case, translation_file, tree_case};
@@ -77,7 +78,9 @@ mod tests {
     fn write_in(random: &mut Random, call: &mut Call) {
         match call {
             Call::CheckLanguage(language) => write_steps(random, 80, language),
-            Call::CheckTree(case) => write_steps(random, 80, &mut case.language),
+            Call::CheckTree(case) | Call::Locate(case) => {
+                write_steps(random, 80, &mut case.language)
+            }
             Call::CheckTranslation(file) => write_steps_within(random, file),
             Call::Run(case) => write_steps_within(random, &mut case.translation),
             Call::Search(case) => write_steps_within(random, &mut case.translation),
@@ -88,7 +91,7 @@ mod tests {
             Call::Export(case) => write_steps(random, 80, &mut case.language),
             Call::Import(case) => write_steps(random, 80, &mut case.language),
             Call::Index(case) => write_steps(random, 80, &mut case.language),
-            Call::Block(case) => write_steps(random, 80, &mut case.language),
+            Call::Block(case) | Call::Node(case) => write_steps(random, 80, &mut case.language),
             Call::Edit(case) => write_steps(random, 80, &mut case.language),
             Call::Mask(case) => write_steps(random, 80, &mut case.language),
         }
@@ -127,8 +130,10 @@ mod tests {
 
     #[test]
     fn written_steps_of_1_change_no_answer() {
-        let makers: [fn(&mut Random) -> Call; 14] = [
+        let makers: [fn(&mut Random) -> Call; 16] = [
             |random| Call::CheckTree(tree_case(random)),
+            |random| Call::Locate(botched_case(random)),
+            |random| Call::Node(block_case(random)),
             |random| Call::CheckTranslation(translation_file(random)),
             |random| Call::Run(run_case(random)),
             |random| Call::Search(search_case(random)),

@@ -15,8 +15,8 @@ use mixed::Mixed;
 use reference::call::{Answer, Buffers, Call};
 use reference::check_translation;
 use reference::generate::{
-    language_file, long_run_case, reduce_case, run_case, translation_file, tree_case, with_turns,
-    with_twin, Random, ReduceCase, RunCase, TreeCase,
+    botched_case, language_file, long_run_case, long_tree_case, reduce_case, run_case,
+    translation_file, tree_case, with_turns, with_twin, Random, ReduceCase, RunCase, TreeCase,
 };
 use reference::stack::{on_large_stack, LargeStack};
 use shapes::{shapes, Detour, Order, Shape, Size, ROOT, TREE_LEVELS};
@@ -186,6 +186,8 @@ fn first_cases(seed: u64) -> Vec<Vec<Case>> {
     let language = random(most, "random", |r| Call::CheckLanguage(language_file(r)));
     let translation = random(most, "random", |r| Call::CheckTranslation(translation_file(r)));
     let tree = random(most, "random", |r| Call::CheckTree(tree_case(r)));
+    let botched = random(most, "botched", |r| Call::Locate(botched_case(r)));
+    let botched_long = random(LONG_CASES, "long tree", |r| Call::Locate(long_tree_case(r)));
     let reduce = random(most, "random", |r| Call::Reduce(reduce_case(r)));
     let signs = random(most, "random signs", |r| packed(packs::shape_pack(r)));
     let mixed = random(most, "random signs and codes", |r| packed(packs::mixed_pack(r)));
@@ -196,6 +198,11 @@ fn first_cases(seed: u64) -> Vec<Vec<Case>> {
         language_cases().into_iter().chain(language).collect(),
         translation_cases(Call::CheckTranslation).into_iter().chain(translation).collect(),
         tree_cases(|_, case| Call::CheckTree(case)).into_iter().chain(tree).collect(),
+        tree_cases(|_, case| Call::Locate(case))
+            .into_iter()
+            .chain(botched)
+            .chain(botched_long)
+            .collect(),
         reduce_cases().into_iter().chain(reduce).chain(signs).chain(mixed).collect(),
         run_cases()
             .into_iter()

@@ -1,5 +1,6 @@
 //! Cases of operations on one tree: scores of fixed and loose plans, exports, imports of texts,
-//! indexes, lookups of blocks, edits, masks and searches; and joins of load tables.
+//! indexes, lookups of blocks and of what stands at a path, edits, masks and searches; and joins of
+//! load tables.
 
 use crate::shapes::{shapes, Detour, Shape, Size, ROOT, TOKEN_KIND, TREE_LEVELS};
 use crate::{random_cases, translation_cases, tree_cases, Case, LONG_CASES, RANDOM_CASES};
@@ -83,11 +84,21 @@ fn indexed(case: TreeCase) -> Call {
     Call::Index(IndexCase { language, root, tree, output })
 }
 
-/// A lookup of the block of a tree at a path.
-fn block_at(case: TreeCase, path: Vec<u8>) -> Call {
+/// The input of a lookup in a tree at a path, with the tree's own index.
+fn looked_up(case: TreeCase, path: Vec<u8>) -> BlockCase {
     let index = index_bytes(&case);
     let TreeCase { language, root, tree } = case;
-    Call::Block(BlockCase { language, root, tree, index, path })
+    BlockCase { language, root, tree, index, path }
+}
+
+/// A lookup of the block of a tree at a path.
+fn block_at(case: TreeCase, path: Vec<u8>) -> Call {
+    Call::Block(looked_up(case, path))
+}
+
+/// What stands in a tree at a path.
+fn node_at(case: TreeCase, path: Vec<u8>) -> Call {
+    Call::Node(looked_up(case, path))
 }
 
 /// An edit that puts the whole tree in the place of its root or, one level too deep for most,
@@ -243,7 +254,13 @@ fn block_cases(seed: u64) -> Vec<Vec<Case>> {
         |random| Call::Block(block_case(random)),
         |random| block_at(long_tree_case(random), vec![]),
     );
-    vec![index, block]
+    let node = cases_of(
+        seed,
+        |shape, case| node_at(case, deep_path(shape)),
+        |random| Call::Node(block_case(random)),
+        |random| node_at(long_tree_case(random), vec![]),
+    );
+    vec![index, block, node]
 }
 
 /// All cases of each operation.
