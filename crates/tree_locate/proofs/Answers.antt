@@ -1,10 +1,10 @@
 -- The operation that tells where reading stopped: a law for each return.
-use Prim.Native.Nat.{ℕ, _+_, _<_, _≤_}
-use mathlib.Core.Path.{_≡_, refl, sym, ap, _∙_}
-use mathlib.Core.List.{List, [], _∷_}
+use Prim.Native.Nat.{ℕ, _<_, _≤_}
+use mathlib.Core.Path.{_≡_, sym, ap, _∙_}
+use mathlib.Core.List.{List, []}
 use native.Mathlib.Omega.{arith}
-use lib.ListN.{length, getD, drop, drop-of-length-le}
-use Rattle.outcome.specs.Outcome.{Result, value, refused, checked, _>>=_}
+use lib.ListN.{length, drop, drop-of-length-le}
+use Rattle.outcome.specs.Outcome.{Result, value, checked, _>>=_}
 use Rattle.outcome.specs.declared.Outcome.{Outcome}
 use Rattle.outcome.specs.declared.Outcome.the-variants.{Accepted, Refused}
 use Rattle.outcome.specs.declared.Reason.{Reason}
@@ -16,7 +16,7 @@ use Rattle.tree_reader.specs.Syntax as Meant
 use Rattle.tree_reader.specs.Operations.{treeLevels, wholeTree, checkTree}
 use Rattle.tree_reader.specs.declared.node.Read.{Read}
 use Rattle.tree_reader.specs.declared.node.Read.the-variants.{End, Deep, Broken}
-use Rattle.tree_reader.specs.Inner.Positions.{Rest, rest, restAt, restOf, EndsBy}
+use Rattle.tree_reader.specs.Inner.Positions.{rest, restAt, restOf, EndsBy}
 use Rattle.tree_reader.specs.Inner.Positions as Left
 use Rattle.tree_reader.proofs.Meaning.{done-of, deep-of, broken-of}
 use Rattle.check_operations.specs.Inner.Opening.{rootedOf}
@@ -24,7 +24,7 @@ use Rattle.check_operations.proofs.Opening.{opened-not, rooted-steps, rooted-tr
 use Rattle.check_operations.proofs.TreeChain.{tree-refused}
 use Rattle.tree_locate.specs.Faults.{Stop, passes, ends, unfit, deep, stop}
 use Rattle.tree_locate.specs.Operations.{positionOf, stopPosition, stopOf, toldPosition, locateTree}
-use Rattle.tree_locate.specs.Inner.Places.{past, stopped, placeOf, placeAt, NotPast, Answers}
+use Rattle.tree_locate.specs.Inner.Places.{stopped, placeOf, placeAt, NotPast, Answers}
 use Rattle.tree_locate.specs.declared.locate.Located.{Located}
 use Rattle.tree_locate.specs.declared.walk.Walk.{Walk}
 use Rattle.tree_locate.specs.declared.walk.Walk.the-variants.{Past, Stopped}

@@ -1,30 +1,30 @@
 -- The walk that finds where reading stops: a law for each return.
 use Prim.Native.Nat.{ℕ, zero, suc, _+_, _*_, _-_, _<_, _≤_}
 use mathlib.Core.Path.{_≡_, refl, sym, ap, _∙_}
-use mathlib.Core.Bool.{Bool, true, false, cond}
+use mathlib.Core.Bool.{true, false, cond}
 use mathlib.Core.List.{List, [], _∷_}
 use mathlib.Core.Option.{Option, none, some}
 use native.Mathlib.Omega.{arith}
 use lib.ListN.{length, getD, drop, drop-of-length-le, length-drop}
 use lib.Seq.{slice}
-use lib.Dec.{ltb, leb, eqb}
+use lib.Dec.{leb, eqb}
 use borrow.Author.Tests.{leb-true, leb-false, le-ltb, eq-eqb, ne-eqb}
 use Rattle.format_fields.specs.Fields.{pairAt}
 use Rattle.format_fields.proofs.Truth.{by-test}
 use Rattle.format_fields.proofs.Split.{front}
 use Rattle.format_fields.proofs.Lists.{part-done, part-next}
-use Rattle.format_language.specs.Language.{Language, Range, rangeOf, argumentsOf, inRange, productionKey}
-use Rattle.format_language.specs.Inner.Entries.{IsClass, classRange}
+use Rattle.format_language.specs.Language.{Language, Range, rangeOf, inRange, productionKey}
+use Rattle.format_language.specs.Inner.Entries.{classRange}
 use Rattle.tree_reader.specs.Inner.Index.{Sound, Indexed}
 use Rattle.tree_reader.specs.Inner.Positions.{tokenAt, productionPlace, KindsIn}
 use Rattle.tree_reader.specs.declared.node.Syntax.the-variants.{Tree}
 use Rattle.tree_reader.specs.declared.node.Read.{Read}
 use Rattle.tree_reader.specs.declared.node.Read.the-variants.{End, Deep, Broken}
 use Rattle.tree_reader.proofs.Laws.{kinds-from}
-use Rattle.check_operations.proofs.Reading.{two, class-known, class-none, production-none, found-class, found-name, at-known}
+use Rattle.check_operations.proofs.Reading.{two, class-known, class-none, production-none, found-name, at-known}
 use Rattle.tree_locate.specs.Faults.{Stop, passes, ends, unfit, deep, onward, stopAll, stopOperands, stopNode, stopToken, stop}
 use Rattle.tree_locate.specs.Operations.{positionOf}
-use Rattle.tree_locate.specs.Inner.Places.{Place, past, stopped, placeOf, placeAt, WalkIn}
+use Rattle.tree_locate.specs.Inner.Places.{past, stopped, placeOf, placeAt, WalkIn}
 use Rattle.tree_locate.specs.declared.walk.Walk.{Walk}
 use Rattle.tree_locate.specs.declared.walk.Walk.the-variants.{Past, Stopped}
 
@@ -33,17 +33,17 @@ pub position-is : (b : List ℕ) (at : ℕ) → at ≤ length b → positionOf b
 position-is b at h = rw length-drop (omega arith)
 
 -- walk_token
-token-cut : (c : Range) (u : List ℕ) → length u < 2 → stopToken c u ≡ ends
+pub token-cut : (c : Range) (u : List ℕ) → length u < 2 → stopToken c u ≡ ends
 unfolding stopToken
 token-cut c [] h = refl
 token-cut c (x ∷ []) h = refl
 token-cut c (x ∷ y ∷ u) h = absurd (omega arith)
 
-token-in : (c : Range) (x y v : ℕ) (u : List ℕ) → v ≡ x * 256 + y → inRange c v ≡ true → stopToken c (x ∷ y ∷ u) ≡ passes u
+pub token-in : (c : Range) (x y v : ℕ) (u : List ℕ) → v ≡ x * 256 + y → inRange c v ≡ true → stopToken c (x ∷ y ∷ u) ≡ passes u
 unfolding stopToken
 token-in c x y v u e h = cc
 
-token-out : (c : Range) (x y v : ℕ) (u : List ℕ) → v ≡ x * 256 + y → inRange c v ≡ false → stopToken c (x ∷ y ∷ u) ≡ unfit (x ∷ y ∷ u)
+pub token-out : (c : Range) (x y v : ℕ) (u : List ℕ) → v ≡ x * 256 + y → inRange c v ≡ false → stopToken c (x ∷ y ∷ u) ≡ unfit (x ∷ y ∷ u)
 unfolding stopToken
 token-out c x y v u e h = cc
 
@@ -98,16 +98,16 @@ broken-end e h i = let z : _≡_ {A = ℕ} 0 1 = cc in omega arith
 
 -- walk_tree
 module _ (l : Language) (k : ℕ) (u : List ℕ) where
-  stop-class : (n : ℕ) (c : Range) → rangeOf l k ≡ some c → stop l n k u ≡ stopToken c u
+  pub stop-class : (n : ℕ) (c : Range) → rangeOf l k ≡ some c → stop l n k u ≡ stopToken c u
   unfolding stop
   stop-class zero c e = cc
   stop-class (suc n) c e = cc
 
-  stop-node : (n : ℕ) → rangeOf l k ≡ none → stop l (suc n) k u ≡ stopNode (stop l n) l k u
+  pub stop-node : (n : ℕ) → rangeOf l k ≡ none → stop l (suc n) k u ≡ stopNode (stop l n) l k u
   unfolding stop
   stop-node n e = cc
 
-  stop-deep : rangeOf l k ≡ none → stop l 0 k u ≡ deep u
+  pub stop-deep : rangeOf l k ≡ none → stop l 0 k u ≡ deep u
   unfolding stop
   stop-deep e = cc
 

@@ -1,10 +1,8 @@
 -- The operation that tells what stands at a path: a law for each return.
 use Prim.Native.Nat.{ℕ}
-use mathlib.Core.Path.{_≡_, refl, sym, ap, _∙_}
+use mathlib.Core.Path.{_≡_, sym, ap, _∙_}
 use mathlib.Core.List.{List}
-use mathlib.Core.Option.{some}
-use lib.ListN.{getD}
-use Rattle.outcome.specs.Outcome.{Result, value, refused, numberOf}
+use Rattle.outcome.specs.Outcome.{value, refused, numberOf}
 use Rattle.outcome.specs.declared.Outcome.{Outcome}
 use Rattle.outcome.specs.declared.Outcome.the-variants.{Accepted, Refused}
 use Rattle.outcome.specs.declared.Reason.{Reason}
@@ -13,7 +11,7 @@ use Rattle.format_language.specs.Language.{Language}
 use Rattle.tree_reader.specs.Code.{Code}
 use Rattle.tree_index.specs.Operations.{checkIndexed}
 use Rattle.tree_index.proofs.Owning.{refused-own}
-use Rattle.tree_block.specs.Blocks.{Block, blockOf, Reached, blockAt, everyKind}
+use Rattle.tree_block.specs.Blocks.{blockOf, Reached, blockAt, everyKind}
 use Rattle.tree_block.specs.Operations.{found, findBlock}
 use Rattle.tree_block.specs.Inner.Descent.{Ends}
 use Rattle.tree_block.specs.declared.descent.Step.{Step}

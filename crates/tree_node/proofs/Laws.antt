@@ -1,23 +1,22 @@
 -- A path can be extended by the numbers of the arguments that are told, and by no other.
 use Prim.Native.Nat.{ℕ, zero, suc, _+_, _≤_, _<_}
-use mathlib.Core.Path.{_≡_, refl, sym, ap, _∙_}
+use mathlib.Core.Path.{_≡_, refl, ap, _∙_}
 use mathlib.Core.Logic.{_⊎_, inl, inr}
 use mathlib.Core.List.{List, [], _∷_, _++_}
 use mathlib.Core.Option.{Option, none, some, Option·getD}
 use native.Mathlib.Omega.{arith}
 use lib.ListN.{length}
 use Rattle.outcome.specs.Outcome.{Result, value, refused}
-use Rattle.outcome.specs.declared.Outcome.the-variants.{Accepted, Refused}
-use Rattle.outcome.specs.declared.Reason.the-variants.{NoBlock}
+use Rattle.outcome.specs.declared.Outcome.the-variants.{Accepted}
 use Rattle.format_fields.proofs.Codec.{step-value}
 use Rattle.check_operations.proofs.Opening.{unaccepted}
 use Rattle.format_language.specs.Language.{Language, argumentsOf}
 use Rattle.format_language.specs.LanguageFile.{languageOf}
-use Rattle.tree_reader.specs.Code.{Code, node, token, Codes, nil, cons}
+use Rattle.tree_reader.specs.Code.{Code, Codes, nil, cons}
 use Rattle.tree_reader.specs.Syntax.{write, tree}
 use Rattle.tree_reader.specs.Typing.{Typed, typed-node, typed-token, typed-argument}
 use Rattle.tree_index.specs.Operations.{indexedTree}
-use Rattle.tree_block.specs.Blocks.{Block, blockOf, argumentAfter, argumentOf, Reached, reached, nowhere, blockAt, everyKind}
+use Rattle.tree_block.specs.Blocks.{Block, blockOf, argumentAfter, argumentOf, reached, nowhere, blockAt, everyKind}
 use Rattle.tree_block.specs.Operations.{found, findBlock}
 use Rattle.tree_block.proofs.Legal.{found-reached, blocks-are-legal}
 use Rattle.tree_block.proofs.Paths.{path-ends, step-stops, step-leads}

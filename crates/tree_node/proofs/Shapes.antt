@@ -1,10 +1,10 @@
 -- What stands at a legal tree: a law for each return of `node_at`.
-use Prim.Native.Nat.{ℕ, zero, suc, _+_, _-_, _<_, _≤_}
+use Prim.Native.Nat.{ℕ, zero, suc, _-_, _<_, _≤_}
 use mathlib.Core.Path.{_≡_, refl, sym, ap, _∙_}
-use mathlib.Core.List.{List, [], _∷_}
-use mathlib.Core.Option.{Option, none, some}
+use mathlib.Core.List.{List, []}
+use mathlib.Core.Option.{none, some}
 use native.Mathlib.Omega.{arith}
-use lib.ListN.{length, getD, take, drop, length-drop}
+use lib.ListN.{length, getD, length-drop}
 use lib.Seq.{slice, length-take-le}
 use lib.Dec.{leb}
 use borrow.Author.Tests.{leb-true, leb-false}
@@ -12,8 +12,8 @@ use Rattle.format_fields.proofs.Truth.{by-test, none-some}
 use Rattle.format_fields.proofs.Lists.{part-done}
 use Rattle.outcome.specs.Outcome.{value}
 use Rattle.outcome.specs.declared.Outcome.the-variants.{Accepted}
-use Rattle.format_language.specs.Language.{Language, rangeOf, argumentsOf}
-use Rattle.tree_reader.specs.Code.{Code, node, token, Codes, nil, cons}
+use Rattle.format_language.specs.Language.{Language}
+use Rattle.tree_reader.specs.Code.{Code, node, token, Codes}
 use Rattle.tree_reader.specs.Typing.{kindAt, Typed, TypedAll, typed-node, typed-token, typed-argument, typed-nil, typed-cons}
 use Rattle.tree_reader.specs.Inner.Positions.{KindsIn}
 use Rattle.tree_reader.proofs.Larger.{apart}
@@ -22,10 +22,9 @@ use Rattle.check_operations.proofs.Reading.{class-known, class-none}
 use Rattle.tree_index.specs.Inner.Lying.{There, Shape, production, value as valued, Opens}
 use Rattle.tree_index.proofs.Lying.{node-byte}
 use Rattle.tree_block.specs.Blocks.{blockOf}
-use Rattle.tree_node.specs.Nodes.{noName, count, nameOf, argumentCount}
+use Rattle.tree_node.specs.Nodes.{count, nameOf, argumentCount}
 use Rattle.tree_node.specs.Operations.{nodeShown}
 use Rattle.tree_node.specs.Answers.{Says}
-use Rattle.tree_node.specs.declared.node.Described.{Described}
 
 -- As many trees as kinds.
 pub as-many : {l : Language} {ts : Codes} {ks : List ℕ} → TypedAll l [] ts ks → count ts ≡ length ks
