@@ -52,7 +52,7 @@
 //! Arguments stand in the order of the C interface, and each has a type of its own, so that no two
 //! can change places: `Tree(&bytes)` says that the bytes are taken for a tree, not that they are
 //! one. A function that puts its result into an output that is lent has a sister, `..._to_vec`,
-//! that allocates it. [`write`] puts languages and trees together in words.
+//! that allocates it. [`mod@write`] puts languages and trees together in words.
 //!
 //! What a call answers depends on its arguments alone; any number of threads may call at the same
 //! time.
@@ -111,8 +111,7 @@
 //! 2. `../target/staticlib/libalgebra.a`, where the repository builds it;
 //! 3. an installed library of version 1.0 or later, by `pkg-config`.
 #![deny(missing_docs, unsafe_code, unsafe_op_in_unsafe_fn)]
-#![warn(missing_debug_implementations, rust_2018_idioms, unreachable_pub)]
-#![allow(elided_lifetimes_in_paths)]
+#![warn(missing_debug_implementations, unreachable_pub)]
 
 mod block;
 mod check;
@@ -155,3 +154,8 @@ pub use run::{run, run_to_vec, Ran, Run};
 pub use score::{join_table, join_table_to_vec, score};
 pub use search::{search, search_to_vec};
 pub use xml::{export, export_to_vec, import, import_to_vec};
+
+/// The page of this package, whose example is compiled with the others.
+#[cfg(doctest)]
+#[doc = include_str!("../README.md")]
+struct Page;

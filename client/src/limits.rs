@@ -71,6 +71,7 @@ mod tests {
             ("TERM_LEVELS", TERM_LEVELS),
             ("INDEXED_BYTES", INDEXED_BYTES),
             ("ENTRY_BYTES", ENTRY_BYTES),
+            ("NO_NAME", crate::raw::NO_NAME as usize),
             ("HIDDEN_BYTE", HIDDEN_BYTE.into()),
             ("SEARCH_LEVELS", SEARCH_LEVELS as usize),
             ("SEARCH_WORKSPACE", SEARCH_WORKSPACE),

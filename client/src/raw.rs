@@ -27,8 +27,8 @@ pub use search::search;
 pub use xml::{export, import};
 
 extern "C" {
-    fn algebra_check_language(language: *const u8, length: usize) -> u32;
-    fn algebra_check_translation(translation: *const u8, length: usize) -> u32;
+    fn algebra_check_language(language: *const u8, language_length: usize) -> u32;
+    fn algebra_check_translation(translation: *const u8, translation_length: usize) -> u32;
     fn algebra_check_tree(
         language: *const u8,
         language_length: usize,

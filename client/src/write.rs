@@ -91,6 +91,7 @@ pub fn production(name: u8, arguments: impl IntoIterator<Item = Vec<u8>>) -> Vec
 /// # Ok::<(), Refusal>(())
 /// ```
 #[derive(Clone, Debug, Default, PartialEq, Eq, Hash)]
+#[must_use]
 pub struct LanguageBuilder {
     bytes: Vec<u8>,
 }

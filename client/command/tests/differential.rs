@@ -381,9 +381,10 @@ fn locate() {
         assert_eq!(printed.text().lines().nth(1), line.as_deref(), "case {case}");
         assert_eq!(position.is_some(), matches!(answer.map_err(Refusal::number), Err(15 | 16)));
         assert!(position.is_none_or(|position| position <= input.tree.len()), "case {case}");
-        let second = reference::check_tree(&input.language, input.root, &input.tree).number();
-        let answer = answer.map(|()| 0);
-        compare_explanation(&folder, case, "locate", &operands, &[], answer, second);
+        let second = reference::locate(&input.language, input.root, &input.tree);
+        assert_eq!(position.unwrap_or(0) as u64, second.position, "case {case}");
+        let (answer, number) = (answer.map(|()| 0), second.outcome.number());
+        compare_explanation(&folder, case, "locate", &operands, &[], answer, number);
         placed += usize::from(position.is_some());
     }
     assert!(placed > 100, "{placed} with a position");
@@ -645,9 +646,12 @@ fn node() {
         let line = answer.ok().map(node_line);
         assert_eq!(printed.text().lines().nth(1), line.as_deref(), "case {case}");
         assert_eq!(printed.text().lines().count(), 1 + answer.iter().len(), "case {case}");
-        let number = answer.err().map_or(0, Refusal::number);
+        let second = reference::node(language, root, tree, &index, path);
+        let found = answer.map_or((0, 0), |node| (node.kind().0, node.arguments() as u32));
+        assert_eq!(found, (second.kind, second.arguments), "case {case}");
+        let number = second.outcome.number();
         compare_explanation(&folder, case, "node", &operands, &[], answer.map(|_| 0), number);
-        accepted += usize::from(number == 0);
+        accepted += usize::from(answer.is_ok());
     }
     assert!(accepted > 100, "{accepted} accepted");
 }

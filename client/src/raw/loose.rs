@@ -5,8 +5,8 @@ extern "C" {
         language: *const u8,
         language_length: usize,
         root: u32,
-        tree: *const u8,
-        tree_length: usize,
+        plan: *const u8,
+        plan_length: usize,
         table: *const u8,
         table_length: usize,
         least: *mut i64,
@@ -26,7 +26,7 @@ pub struct LooseScoreAnswer {
 }
 
 /// Scores a loose plan by a table.
-pub fn score_loose(language: &[u8], root: u32, tree: &[u8], table: &[u8]) -> LooseScoreAnswer {
+pub fn score_loose(language: &[u8], root: u32, plan: &[u8], table: &[u8]) -> LooseScoreAnswer {
     let (mut least, mut greatest) = (i64::MIN, i64::MIN);
     // SAFETY: pointers and lengths are those of slices that are lent for the call, and both
     // scores are lent for writing.
@@ -35,8 +35,8 @@ pub fn score_loose(language: &[u8], root: u32, tree: &[u8], table: &[u8]) -> Loo
             language.as_ptr(),
             language.len(),
             root,
-            tree.as_ptr(),
-            tree.len(),
+            plan.as_ptr(),
+            plan.len(),
             table.as_ptr(),
             table.len(),
             &mut least,
