@@ -1,23 +1,28 @@
--- What the operation answers: a law for each return of `mask_read` and `mask`.
+-- What the operation answers: a law for each return of the functions of mask.rt.
 use Prim.Native.Nat.{ℕ, _<_, _≤_}
 use mathlib.Core.Path.{_≡_, refl, sym, ap, _∙_}
 use mathlib.Core.Bool.{Bool, true, false, not}
 use mathlib.Core.List.{List, []}
 use native.Mathlib.Omega.{arith}
-use lib.ListN.{length, drop-of-length-le}
+use lib.ListN.{length, getD, drop, length-append, drop-of-length-le}
 use Rattle.outcome.specs.Outcome.{Result, value, refused, refuseIf, _>>=_, checked, reasonNumber}
 use Rattle.outcome.specs.declared.Outcome.{Outcome}
 use Rattle.outcome.specs.declared.Outcome.the-variants.{Accepted, Refused}
 use Rattle.outcome.specs.declared.Reason.{Reason}
 use Rattle.outcome.specs.declared.Reason.the-variants as Why
 use Rattle.format_fields.proofs.Split.{front}
-use Rattle.format_fields.proofs.Codec.{refused-value}
+use Rattle.format_fields.proofs.Codec.{refused-value, bytes-from}
 use Rattle.format_language.specs.Language.{Language, isIn}
 use Rattle.format_language.specs.LanguageFile.{languageOf}
 use Rattle.tree_reader.specs.Code.{Code}
-use Rattle.tree_reader.specs.Syntax.{Read, done, read, tree}
+use Rattle.tree_reader.specs.Syntax.{Read, done, read, write, tree}
 use Rattle.tree_reader.specs.Operations.{treeLevels, wholeTree}
 use Rattle.tree_reader.specs.Inner.Index.{Indexed}
+use Rattle.tree_reader.specs.Inner.Positions.{restAt, restOf}
+use Rattle.tree_reader.specs.declared.node.Read as At
+use Rattle.tree_reader.specs.declared.node.Read.the-variants.{End, Deep, Broken}
+use Rattle.tree_reader.proofs.Sound.{read-done}
+use Rattle.tree_reader.proofs.Meaning.{done-of, deep-of, broken-of}
 use Rattle.format_translation.specs.Operations.{fitted}
 use Rattle.format_card.specs.Card.{Card, cardOf, together}
 use Rattle.format_card.specs.Inner.Sets.{Holds, lowestOf}
@@ -28,51 +33,55 @@ use Rattle.check_operations.proofs.Legal.{tree-of}
 use Rattle.check_operations.proofs.Answering.{gives-refused, gives-same, gives-long, gives-fit}
 use Rattle.tree_mask.specs.Mask.{masked}
 use Rattle.tree_mask.specs.Operations.{maskBytes, maskTree}
-use Rattle.tree_mask.specs.declared.measure.Measured.{Measured}
-use Rattle.tree_mask.specs.declared.measure.Measured.the-variants.{End, Deep, Broken}
-use Rattle.tree_mask.specs.Inner.Masking.{MasksWhole, GivesTree}
-use Rattle.tree_mask.specs.Inner.Measuring.{Within, MeasuresTree}
+use Rattle.tree_mask.specs.Inner.Masking.{MasksWhole, GivesTree, GivesLegal}
+use Rattle.tree_mask.proofs.Masks.{masked-few}
 
 -- What a reading comes to, with so much room.
 abbrev result : Language → Card → ℕ → ℕ → Read Code → Result (List ℕ)
 result l card k room p = wholeTree p >>= λ t. fitted room (masked l card k t)
 
+-- mask_legal
+module _ (s index : List ℕ) (kinds k : ℕ) (b o : List ℕ) {out : Outcome} where
+  module _ {o₁ o₂ : List ℕ} {m : ℕ} (counted : MasksWhole s index kinds k b o₁ o₂ m) where
+    pub legal-long : length o < m → out ≡ Refused Why.OutputTooShort → GivesLegal s index kinds k b o o out
+    legal-long h i l card t z c e = let y = counted l card t z c e in gives-long (masked l card k t) o (omega (arith, y .end)) i
+
+    pub legal-done : {o′ : List ℕ} {n : ℕ} → m ≤ length o → MasksWhole s index kinds k b o o′ n → out ≡ Accepted m → GivesLegal s index kinds k b o o′ out
+    legal-done {o′} h w i l card t z c e =
+        let x = counted l card t z c e in
+        let y = w l card t z c e in
+        gives-fit (masked l card k t) o o′ (omega (arith, x .end)) (i ∙ ap Accepted (x .end ∙ omega arith)) (y .bytes (omega (arith, x .end, y .end)))
+
+  pub legal-room : ((i : ℕ) → getD b i 0 < 256) → length b ≤ length o → {o′ : List ℕ} {n : ℕ} → MasksWhole s index kinds k b o o′ n → out ≡ Accepted n → GivesLegal s index kinds k b o o′ out
+  legal-room bytes h w i l card t z c e =
+      let y = w l card t z c e in
+      let d = read-done tree l [] treeLevels k b t [] e .2 (bytes-from b (λ j q. bytes j)) in
+      let n = ap length (d .0) ∙ length-append (write tree t) [] in
+      legal-done w (omega (arith, y .end, n, masked-few l card k t)) w i l card t z c e
+
 -- mask_read
-module _ (s index : List ℕ) (kinds k : ℕ) (b o : List ℕ) {x : Measured} (first : MeasuresTree s index kinds k b 0 treeLevels 0 x) where
-  pub read-deep : {out : Outcome} → x ≡ Deep → out ≡ Refused Why.TooDeep → GivesTree s index kinds k b o o out
-  read-deep h i l card z c = gives-refused _ o Why.TooDeep (ap (result l card k (length o)) (first l card z c .deep h)) i
+module _ (s index : List ℕ) (kinds k : ℕ) (b o : List ℕ) (f : At.Read) (is : (l : Language) → Indexed index s l → restAt b f ≡ restOf (read tree l [] treeLevels k b)) where
+  pub read-deep : {out : Outcome} → f ≡ Deep → out ≡ Refused Why.TooDeep → GivesTree s index kinds k b o o out
+  read-deep h i l card z c = gives-refused _ o Why.TooDeep (ap (result l card k (length o)) (deep-of (read tree l [] treeLevels k b) (sym (is l z) ∙ ap (restAt b) h))) i
 
-  pub read-broken : {out : Outcome} → x ≡ Broken → out ≡ Refused Why.IllegalTree → GivesTree s index kinds k b o o out
-  read-broken h i l card z c = gives-refused _ o Why.IllegalTree (ap (result l card k (length o)) (first l card z c .broken h)) i
+  pub read-broken : {out : Outcome} → f ≡ Broken → out ≡ Refused Why.IllegalTree → GivesTree s index kinds k b o o out
+  read-broken h i l card z c = gives-refused _ o Why.IllegalTree (ap (result l card k (length o)) (broken-of (read tree l [] treeLevels k b) (sym (is l z) ∙ ap (restAt b) h))) i
 
-  module _ {e m : ℕ} (ex : x ≡ End e m) where
-    pub read-left : {out : Outcome} → Within b x → (e ≡ length b → ⊥) → out ≡ Refused Why.IllegalTree → GivesTree s index kinds k b o o out
+  module _ {e : ℕ} (ef : f ≡ End e) where
+    found : (l : Language) → Indexed index s l → (a : Code) × (read tree l [] treeLevels k b ≡ done a (drop e b))
+    found l z = done-of (read tree l [] treeLevels k b) (drop e b) (sym (is l z) ∙ ap (restAt b) ef)
+
+    pub read-left : {out : Outcome} → e ≤ length b → (e ≡ length b → ⊥) → out ≡ Refused Why.IllegalTree → GivesTree s index kinds k b o o out
     read-left inside h i l card z c =
-        let f = first l card z c .found e m ex in
-        let j = inside e m ex in
-        let g : e < length b = omega (arith, j .0) in
-        gives-refused _ o Why.IllegalTree (ap (result l card k (length o)) (f .1 ∙ ap (done (f .0)) (front b e g))) i
+        let w = found l z in
+        let g : e < length b = omega arith in
+        gives-refused _ o Why.IllegalTree (ap (result l card k (length o)) (w .1 ∙ ap (done (w .0)) (front b e g))) i
 
-    module _ (all : e ≡ length b) where
-      whole : (l : Language) (card : Card) → Indexed index s l → Holds kinds card
-          → (a : Code) × (read tree l [] treeLevels k b ≡ done a []) × (m ≡ length (masked l card k a))
-      whole l card z c =
-          let f = first l card z c .found e m ex in
-          (f .0, f .1 ∙ ap (done (f .0)) (drop-of-length-le b {i = e} (omega arith)), omega (arith, f .2))
-
-      pub read-long : {out : Outcome} → length o < m → out ≡ Refused Why.OutputTooShort → GivesTree s index kinds k b o o out
-      read-long h i l card z c =
-          let f = whole l card z c in
-          let v = masked l card k (f .0) in
-          gives-same _ _ o o (ap (result l card k (length o)) (f .1)) (gives-long v o (omega (arith, f .2)) i)
-
-      pub read-done : {o′ : List ℕ} {n : ℕ} {out : Outcome} → m ≤ length o → MasksWhole s index kinds k b o o′ n → out ≡ Accepted m → GivesTree s index kinds k b o o′ out
-      read-done {o′} h w i l card z c =
-          let f = whole l card z c in
-          let v = masked l card k (f .0) in
-          let y = w l card (f .0) z c (f .1) in
-          gives-same _ _ o o′ (ap (result l card k (length o)) (f .1))
-          (gives-fit v o o′ (omega (arith, f .2)) (i ∙ ap Accepted (f .2)) (y .bytes (omega (arith, y .end, f .2))))
+    pub read-whole : e ≡ length b → {o′ : List ℕ} {out : Outcome} → GivesLegal s index kinds k b o o′ out → GivesTree s index kinds k b o o′ out
+    read-whole all {o′} g l card z c =
+        let w = found l z in
+        let y : read tree l [] treeLevels k b ≡ done (w .0) [] = w .1 ∙ ap (done (w .0)) (drop-of-length-le b {i = e} (omega arith)) in
+        gives-same _ _ o o′ (ap (result l card k (length o)) y) (g l card (w .0) z c y)
 
 -- mask
 -- The outcome and the output are those of the operation.

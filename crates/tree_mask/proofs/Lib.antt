@@ -1,5 +1,5 @@
 pub mod Masks
-pub mod Measures
+pub mod Rows
 pub mod Answers
 pub mod Laws
 pub mod Examples

@@ -3,7 +3,7 @@ use Prim.Native.Nat.{ℕ, zero, suc, _+_, _*_, _-_, _/_, _%_, _<_, _≤_}
 use mathlib.Core.Path.{_≡_, refl, sym, ap, _∙_}
 use mathlib.Core.Bool.{Bool, true, false, cond}
 use mathlib.Core.List.{List, [], _∷_, _++_, append-assoc}
-use mathlib.Core.Option.{some}
+use mathlib.Core.Option.{some, Option·getD}
 use native.Mathlib.Omega.{arith}
 use lib.ListN.{length, getD, set, take, drop, length-append, length-drop}
 use lib.Seq.{slice, sets, sets-eq, getD-drop}
@@ -17,7 +17,7 @@ use Rattle.format_fields.proofs.Codec.{bytes-from}
 use Rattle.format_fields.proofs.Splices.{splice-splice, length-spliced, nothing-spliced}
 use Rattle.format_language.specs.Language.{Language, argumentsOf}
 use Rattle.tree_reader.specs.Code.{Code, node, token, argument, Codes, nil, cons}
-use Rattle.tree_reader.specs.Syntax.{done, tree, write, readAll, read}
+use Rattle.tree_reader.specs.Syntax.{done, tree, write, writeAll, readAll, read}
 use Rattle.tree_reader.specs.Operations.{treeLevels}
 use Rattle.tree_reader.specs.Inner.Index.{Sound, Indexed}
 use Rattle.tree_reader.specs.Inner.Positions as At
@@ -138,6 +138,25 @@ some-bytes (node k p t) = omega arith
 some-bytes (token v) = omega arith
 some-bytes (argument i zero) = omega arith
 some-bytes (argument i (suc j)) = omega arith
+
+-- A masked form is no longer than the tree.
+cond-few : (x : Bool) (v u : List ℕ) {n : ℕ} → length v ≤ n → length u ≤ n → length (cond x v u) ≤ n
+cond-few true v u h i = h
+cond-few false v u h i = i
+
+mutual
+  unfolding masked write
+
+  pub masked-few : (l : Language) (card : Card) (k : ℕ) (a : Code) → length (masked l card k a) ≤ length (write tree a)
+  masked-few l card k (node j p t) = cond-few (sees card k) _ _ (omega (arith, masked-few-all l card (Option·getD (argumentsOf l j p) []) t)) (omega (arith, some-bytes (node j p t)))
+  masked-few l card k (token v) = cond-few (sees card k) _ _ (omega arith) (omega (arith, some-bytes (token v)))
+  masked-few l card k (argument i j) = cond-few (sees card k) _ _ (omega arith) (some-bytes (argument i j))
+
+  masked-few-all : (l : Language) (card : Card) (ks : List ℕ) (t : Codes) → length (maskedAll l card ks t) ≤ length (writeAll tree t)
+  masked-few-all l card ks nil = omega arith
+  masked-few-all l card [] (cons a t) = omega arith
+  masked-few-all l card (k ∷ ks) (cons a t) =
+      omega (arith, length-append (masked l card k a) (maskedAll l card ks t), length-append (write tree a) (writeAll tree t), masked-few l card k a, masked-few-all l card ks t)
 
 pub read-some : (l : Language) (levels k : ℕ) (u : List ℕ) (a : Code) (rest : List ℕ) → ((i : ℕ) → getD u i 0 < 256)
     → read tree l [] levels k u ≡ done a rest → length rest < length u

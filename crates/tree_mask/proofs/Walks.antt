@@ -18,7 +18,7 @@ use Rattle.tree_mask.specs.declared.row.Row.{Row}
 use Rattle.tree_mask.specs.Inner.Rows.{nextRow, endRow, innerRow, Walkable, Nearer}
 use Rattle.tree_mask.specs.Inner.Masking.{Puts, MasksTree, MasksRow, Goes, Advances}
 use Rattle.tree_mask.proofs.Masks.{at-operands, all-done, all-not, all-next, all-last}
-use Rattle.tree_mask.proofs.Measures.{stop-in, next-kinds}
+use Rattle.tree_mask.proofs.Rows.{stop-in, next-kinds}
 
 -- Nothing is left of a row.
 pub row-put : (s index b : List ℕ) (kinds : ℕ) (row : Row) (o : List ℕ) (next : Row) (o₁ : List ℕ) → Goes s index kinds b row o next o₁ → next .stop ≤ next .kind
@@ -26,16 +26,26 @@ pub row-put : (s index b : List ℕ) (kinds : ℕ) (row : Row) (o : List ℕ) (n
 row-put s index b kinds row o next o₁ goes h =
     goes o₁ (next .tree) (next .text) (all-done s index kinds (next .kind) (next .stop) b (next .tree) (next .levels) o₁ (next .text) h)
 
+-- One step more of a walk that began at `first`: the invariant of the loop again, and what is put where the walk ends there.
+module _ (s index b : List ℕ) (kinds : ℕ) (first : Row) (o : List ℕ) (row : Row) (o₁ : List ℕ) (goes : Goes s index kinds b first o row o₁)
+    (next : Row) (o₂ : List ℕ) (step : Advances s index kinds b row o₁ next o₂) where
+  pub step-again : row .levels ≤ first .levels → length o₂ ≡ length o
+      → Walkable s index b next × (next .levels ≤ first .levels) × (length o₂ ≡ length o) × Goes s index kinds b first o next o₂
+  step-again fewer same = (step .walk, omega (arith, step .nearer .levels), same, λ o₃ e h all. goes o₃ e h (step .goes o₃ e h all))
+
+  pub step-done : next .stop ≤ next .kind → Walkable s index b next × MasksRow s index kinds b first o o₂ (next .tree) (next .text)
+  step-done h = (step .walk, goes o₂ (next .tree) (next .text) (row-put s index b kinds row o₁ next o₂ (step .goes) h))
+
 -- Behind the next tree, at the end where it cannot be read, and in the row of its operands.
 module _ (s index b : List ℕ) (kinds : ℕ) (row : Row) (w : Walkable s index b row) (o : List ℕ) (more : row .kind < row .stop) {k : ℕ} (ek : k ≡ getD s (row .kind) 0) where
   goes-next : (o₁ : List ℕ) (e m : ℕ) → MasksTree s index kinds k b (row .tree) (row .levels) o o₁ (row .text) e m → Goes s index kinds b row o (nextRow row e m) o₁
   unfolding nextRow
   goes-next o₁ e m step o₂ x h all =
-      all-next s index kinds (row .kind) (row .stop) b (row .tree) (row .levels) o (row .text) ek more (stop-in s index b kinds row w more) step all
+      all-next s index kinds (row .kind) (row .stop) b (row .tree) (row .levels) o (row .text) ek more (stop-in s index b row w more) step all
 
   walk-next : (e m : ℕ) → e ≤ length b → m ≤ e → Walkable s index b (nextRow row e m)
   unfolding nextRow
-  walk-next e m inside behind = record { sound = w .sound; kinds = next-kinds s index b kinds row w more; inside = inside; behind = behind }
+  walk-next e m inside behind = record { sound = w .sound; kinds = next-kinds s index b row w more; inside = inside; behind = behind }
 
   near-next : (e m : ℕ) → Nearer row (nextRow row e m)
   unfolding nextRow
@@ -45,17 +55,9 @@ module _ (s index b : List ℕ) (kinds : ℕ) (row : Row) (w : Walkable s index 
       → Advances s index kinds b row o next o₁
   advance e m en o₁ step inside behind = rw en (record { walk = walk-next e m inside behind; nearer = near-next e m; goes = goes-next o₁ e m step })
 
-  -- The tokens that a row starts with.
-  pub tokens-next : (e m : ℕ) {next : Row} → next ≡ nextRow row e m → (o₁ : List ℕ) → MasksTree s index kinds k b (row .tree) (row .levels) o o₁ (row .text) e m → e ≤ length b → m ≤ e
-      → (first : Row) (o₀ : List ℕ) → row .levels ≡ first .levels → Goes s index kinds b first o₀ row o
-      → Walkable s index b next × (next .levels ≡ first .levels) × Goes s index kinds b first o₀ next o₁
-  unfolding nextRow
-  tokens-next e m en o₁ step inside behind first o₀ el goes =
-      rw en (walk-next e m inside behind, el, λ o₂ x h all. goes o₂ x h (goes-next o₁ e m step o₂ x h all))
-
-  pub tokens-less : (e m : ℕ) {next : Row} → next ≡ nextRow row e m → next .stop - next .kind < row .stop - row .kind
-  unfolding nextRow
-  tokens-less e m en = rw en (omega arith)
+  pub ended-stop : {next : Row} → next ≡ endRow row → next .stop ≤ next .kind
+  unfolding endRow
+  ended-stop en = rw en (omega arith)
 
   pub ended : {next : Row} → next ≡ endRow row → (o₁ : List ℕ)
       → ((l : Language) (a : Code) (rest : List ℕ) → Indexed index s l → read tree l [] (row .levels) k (drop (row .tree) b) ≡ done a rest → ⊥)
@@ -64,7 +66,7 @@ module _ (s index b : List ℕ) (kinds : ℕ) (row : Row) (w : Walkable s index 
   ended en o₁ none = rw en (record {
     walk = record { sound = w .sound; kinds = λ x h i. absurd (omega arith); inside = w .inside; behind = w .behind };
     nearer = record { levels = omega arith; less = omega arith };
-    goes = λ o₂ e h all. all-not s index kinds (row .kind) (row .stop) b (row .tree) (row .levels) o (row .text) ek more (stop-in s index b kinds row w more) none;
+    goes = λ o₂ e h all. all-not s index kinds (row .kind) (row .stop) b (row .tree) (row .levels) o (row .text) ek more (stop-in s index b row w more) none;
   })
 
   pub entered : (inner : Row) (o₁ : List ℕ)
@@ -74,7 +76,7 @@ module _ (s index b : List ℕ) (kinds : ℕ) (row : Row) (w : Walkable s index 
     walk = v;
     nearer = record { levels = omega arith; less = let n = Reader.row-short s (inner .kind) (inner .stop) (w .sound .short) (v .kinds) in omega arith };
     goes = λ o₂ e h all.
-        all-last s index kinds (row .kind) (row .stop) b (row .tree) (row .levels) o (row .text) ek last (stop-in s index b kinds row w more) (node o₂ e h all);
+        all-last s index kinds (row .kind) (row .stop) b (row .tree) (row .levels) o (row .text) ek last (stop-in s index b row w more) (node o₂ e h all);
   }
 
 -- A production whose name was put: its operands complete it.
@@ -85,8 +87,3 @@ pub inner-put : (s index b : List ℕ) (kinds k : ℕ) (row : Row) (o : List ℕ
 unfolding innerRow
 inner-put s index b kinds k row o kind bytes ej ec ep pos level shown o₁ name ei o₂ e m all =
     at-operands s index b kinds k (row .tree) o (row .text) (row .levels) kind bytes ej ec ep pos (λ h. omega arith) refl shown name (rw ei at all)
-
--- What stands at a position, by the kind itself.
-pub place-known : (index b : List ℕ) (k at : ℕ) {j class place : ℕ} → j ≡ k → class ≡ getD index j 0 → place ≡ cond (eqb class 0) (productionPlace Tree index k b at) 0
-    → place ≡ cond (eqb (getD index k 0) 0) (productionPlace Tree index k b at) 0
-place-known index b k at ej ec ep = ep ∙ ap (λ (c : ℕ). cond (eqb c 0) (productionPlace Tree index k b at) 0) (ec ∙ ap (λ (j : ℕ). getD index j 0) ej)

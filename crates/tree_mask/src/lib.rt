@@ -1,5 +1,4 @@
 // The masked plan: a tree with each block that may not be seen written as one byte.
 pub mod mask;
-pub mod measure;
 pub mod row;
 pub mod walk;

@@ -1,6 +1,4 @@
 // The operation that masks a tree for the holder of a card.
-use crate::measure::Measured;
-use crate::measure::measure_tree;
 use crate::walk::mask_tree;
 use check_operations::open::open_language;
 use format_card::lowest::lowest;
@@ -11,13 +9,42 @@ use outcome::Reason;
 use outcome::accept;
 use outcome::refuse;
 use tree_reader::index::INDEX;
+use tree_reader::node::Read;
+use tree_reader::read::TREE_LEVELS;
+use tree_reader::read::read_tree;
 ghost use mathlib.Core.Path.{_≡_};
 ghost use Rattle.tree_reader.specs.Inner.Index.{Ready};
 ghost use Rattle.tree_mask.specs.Operations.{maskTree};
-ghost use Rattle.tree_mask.specs.Inner.Masking.{GivesTree};
+ghost use Rattle.tree_mask.specs.Inner.Masking.{GivesTree, GivesLegal};
 
-// The masked form of the tree of a kind: 15 and 16 in reading order, 17 where it is longer than the output. It is
-// measured while the tree is read, before a byte is written.
+// The masked form of a legal tree of a kind: 17 where it is longer than the output. It has no more bytes than the tree; an output
+// with room for so many is written at once, for another the length is counted first.
+fn mask_legal(
+    language: &[u8],
+    index: &[u16; INDEX],
+    seen: u32,
+    kind: u8,
+    tree: &[u8],
+    output: &mut [u8],
+) -> Answer
+    requires { ⌜ Ready (now index) (now language) kind (now tree) 0 ⌝ }
+    ensures { λ r. ⌜ GivesLegal (now (language .entry)) (now (index .entry)) seen kind (now (tree .entry)) (now (output .entry)) (now (output .exit)) (r .outcome) ⌝ }
+{
+    if tree.len() <= output.len() {
+        let length = mask_tree(language, index, seen, kind, tree, output);
+        return accept(length);
+    }
+    let mut nowhere = [0u8; 1];
+    let length = mask_tree(language, index, seen, kind, tree, &mut nowhere);
+    if output.len() < length {
+        return refuse(Reason::OutputTooShort);
+    }
+    mask_tree(language, index, seen, kind, tree, output);
+    accept(length)
+}
+
+// The masked form of the tree of a kind: 15 and 16 in reading order, 17 where it is longer than the output. The whole tree is
+// read before a byte is written.
 fn mask_read(
     language: &[u8],
     index: &[u16; INDEX],
@@ -29,19 +56,15 @@ fn mask_read(
     requires { ⌜ Ready (now index) (now language) kind (now tree) 0 ⌝ }
     ensures { λ r. ⌜ GivesTree (now (language .entry)) (now (index .entry)) seen kind (now (tree .entry)) (now (output .entry)) (now (output .exit)) (r .outcome) ⌝ }
 {
-    match measure_tree(language, index, seen, kind, tree) {
-        Measured::End(e, length) => {
+    match read_tree(language, index, kind, tree, 0, TREE_LEVELS) {
+        Read::End(e) => {
             if e != tree.len() {
                 return refuse(Reason::IllegalTree);
             }
-            if output.len() < length {
-                return refuse(Reason::OutputTooShort);
-            }
-            mask_tree(language, index, seen, kind, tree, output);
-            accept(length)
+            mask_legal(language, index, seen, kind, tree, output)
         }
-        Measured::Deep => refuse(Reason::TooDeep),
-        Measured::Broken => refuse(Reason::IllegalTree),
+        Read::Deep => refuse(Reason::TooDeep),
+        Read::Broken => refuse(Reason::IllegalTree),
     }
 }
 

@@ -14,17 +14,15 @@ use tree_reader::node::place_at;
 use tree_reader::node::production_place;
 use tree_reader::read::read_tree;
 ghost use mathlib.Core.Path.{_≡_};
-ghost use mathlib.Core.Bool.{true, cond};
+ghost use mathlib.Core.Bool.{false, cond};
 ghost use mathlib.Core.List.{[], _∷_};
 ghost use Prim.Native.Nat.{ℕ, _+_, _<_, _≤_};
-ghost use lib.Dec.{eqb};
 ghost use lib.ListN.{length, getD, drop, take};
 ghost use Rattle.tree_reader.specs.Inner.Index.{Ready};
-ghost use Rattle.tree_reader.specs.Inner.Positions.{productionPlace};
 ghost use Rattle.format_card.specs.Inner.Sets.{inSet};
 ghost use Rattle.tree_mask.specs.Mask.{hiddenBlock};
 ghost use Rattle.tree_mask.specs.Inner.Rows.{Walkable};
-ghost use Rattle.tree_mask.specs.Inner.Masking.{Puts, EndsTree, MasksRow, Goes, Advances, MasksWhole};
+ghost use Rattle.tree_mask.specs.Inner.Masking.{Puts, EndsTree, MasksRow, Advances, MasksWhole};
 
 // The byte that stands for a hidden block.
 const HIDDEN: u8 = 0xFF;
@@ -75,106 +73,28 @@ fn put_token(seen: bool, tree: &[u8], at: usize, out: &mut [u8], n: usize) -> us
     n + 2
 }
 
-// Puts the tokens that a row starts with.
-fn put_tokens(
+// The next tree of a row, of a kind that is hidden: one byte. Gives the row behind it.
+fn mask_hidden(
     language: &[u8],
     index: &[u16; INDEX],
-    seen: u32,
-    tree: &[u8],
-    row: Row,
-    out: &mut [u8],
-) -> Row
-    requires { ⌜ Walkable (now language) (now index) (now tree) row ⌝ }
-    ensures { λ r. ⌜ Walkable (now (language .entry)) (now (index .entry)) (now (tree .entry)) r × (r .levels ≡ row .levels)
-        × Goes (now (language .entry)) (now (index .entry)) seen (now (tree .entry)) row (now (out .entry)) r (now (out .exit)) ⌝ }
-{
-    let mut next = row;
-    while next.kind < next.stop {
-        let q = next.kind;
-        let kind = language[q];
-        if place_at(index, to_usize(kind)) == 0 {
-            return next;
-        }
-        let at = next.tree;
-        if tree.len() - at < 2 {
-            return next;
-        }
-        let text = put_token(in_set(seen, kind), tree, at, out, next.text);
-        next = next_row(next, at + 2, text);
-    }
-    next
-}
-
-// The next tree of a row, a production of a kind that is seen: behind the last tree of the row nothing is left to do, so its
-// operands are the next row; those of another one are put one call deeper, but for the tokens that they start with.
-fn mask_node(
-    language: &[u8],
-    index: &[u16; INDEX],
-    seen: u32,
-    tree: &[u8],
-    row: Row,
     kind: u8,
-    place: usize,
+    tree: &[u8],
+    row: Row,
     out: &mut [u8],
 ) -> Row
-    requires { ⌜ Walkable (now language) (now index) (now tree) row × (row .kind < row .stop) × (kind ≡ getD (now language) (row .kind) 0) × (inSet seen kind ≡ true)
-        × (place ≡ 0 → ⊥) × (place ≡ cond (eqb (getD (now index) kind 0) 0) (productionPlace Syntax.Tree (now index) kind (now tree) (row .tree)) 0) ⌝ }
-    ensures { λ r. ⌜ Advances (now (language .entry)) (now (index .entry)) seen (now (tree .entry)) row (now (out .entry)) r (now (out .exit)) ⌝ }
+    requires { ⌜ Walkable (now language) (now index) (now tree) row × (row .kind < row .stop) × (kind ≡ getD (now language) (row .kind) 0) ⌝ }
+    ensures { λ r. ⌜ ((seen : ℕ) → inSet seen kind ≡ false → Advances (now (language .entry)) (now (index .entry)) seen (now (tree .entry)) row (now (out .entry)) r (now (out .exit))) ⌝ }
 {
-    if row.levels == 0 {
+    let e = end_at(language, index, kind, tree, row.tree, row.levels);
+    if e <= row.tree {
         return end_row(row);
     }
-    let at = row.tree;
-    put(tree[at], out, row.text);
-    let inner = inner_row(language, place, row);
-    if row.kind + 1 == row.stop {
-        return inner;
-    }
-    let rest = put_tokens(language, index, seen, tree, inner, out);
-    if rest.stop <= rest.kind {
-        return next_row(row, rest.tree, rest.text);
-    }
-    let ends = mask_row(language, index, seen, tree, rest, out);
-    next_row(row, ends.tree, ends.text)
+    put(HIDDEN, out, row.text);
+    next_row(row, e, row.text + 1)
 }
 
-// The next tree of a row: a token and a hidden block are put here.
-fn mask_next(
-    language: &[u8],
-    index: &[u16; INDEX],
-    seen: u32,
-    tree: &[u8],
-    row: Row,
-    out: &mut [u8],
-) -> Row
-    requires { ⌜ Walkable (now language) (now index) (now tree) row × (row .kind < row .stop) ⌝ }
-    ensures { λ r. ⌜ Advances (now (language .entry)) (now (index .entry)) seen (now (tree .entry)) row (now (out .entry)) r (now (out .exit)) ⌝ }
-{
-    let q = row.kind;
-    let at = row.tree;
-    let kind = language[q];
-    let class = place_at(index, to_usize(kind));
-    let place = production_place(Syntax::Tree, index, class, kind, tree, at);
-    let sees = in_set(seen, kind);
-    if place == 0 {
-        if tree.len() - at < 2 {
-            return end_row(row);
-        }
-        let text = put_token(sees, tree, at, out, row.text);
-        return next_row(row, at + 2, text);
-    }
-    if !sees {
-        let e = end_at(language, index, kind, tree, at, row.levels);
-        if e <= at {
-            return end_row(row);
-        }
-        put(HIDDEN, out, row.text);
-        return next_row(row, e, row.text + 1);
-    }
-    mask_node(language, index, seen, tree, row, kind, place, out)
-}
-
-// Puts the masked forms of the trees of a row, one after the other, and gives the row at its end.
+// Puts the masked forms of the trees of a row, one after the other, and gives the row at its end. Behind the last tree nothing is
+// left to do, so its operands are the next row; those of another one are put one call deeper.
 fn mask_row(
     language: &[u8],
     index: &[u16; INDEX],
@@ -189,7 +109,38 @@ fn mask_row(
 {
     let mut next = row;
     while next.kind < next.stop {
-        next = mask_next(language, index, seen, tree, next, out);
+        let q = next.kind;
+        let at = next.tree;
+        let kind = language[q];
+        let class = place_at(index, to_usize(kind));
+        let place = production_place(Syntax::Tree, index, class, kind, tree, at);
+        if place == 0 {
+            if tree.len() - at < 2 {
+                return end_row(next);
+            }
+            let text = put_token(in_set(seen, kind), tree, at, out, next.text);
+            next = next_row(next, at + 2, text);
+            continue;
+        }
+        if !in_set(seen, kind) {
+            next = mask_hidden(language, index, kind, tree, next, out);
+            continue;
+        }
+        if next.levels == 0 {
+            return end_row(next);
+        }
+        put(tree[at], out, next.text);
+        let inner = inner_row(language, place, next);
+        if next.kind + 1 == next.stop {
+            next = inner;
+            continue;
+        }
+        if inner.stop <= inner.kind {
+            next = next_row(next, inner.tree, inner.text);
+            continue;
+        }
+        let ends = mask_row(language, index, seen, tree, inner, out);
+        next = next_row(next, ends.tree, ends.text);
     }
     next
 }

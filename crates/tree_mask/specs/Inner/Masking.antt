@@ -68,6 +68,12 @@ MasksWhole s index kinds k b o o′ m =
     (l : Language) (card : Card) (a : Code) → Indexed index s l → Holds kinds card → read tree l [] treeLevels k b ≡ done a []
     → Puts (masked l card k a) o o′ 0 m
 
+-- The outcome, and the output that is left, are those of the masked form of the legal tree of kind k that the bytes b are.
+abbrev pub GivesLegal : List ℕ → List ℕ → ℕ → ℕ → List ℕ → List ℕ → List ℕ → Outcome → Type 0
+GivesLegal s index kinds k b before after outcome =
+    (l : Language) (card : Card) (t : Code) → Indexed index s l → Holds kinds card → read tree l [] treeLevels k b ≡ done t []
+    → Gives (fitted (length before) (masked l card k t)) before after outcome
+
 -- The outcome, and the output that is left, are those of the masked form of the tree of kind k that the bytes b are, with nothing
 -- after it.
 abbrev pub GivesTree : List ℕ → List ℕ → ℕ → ℕ → List ℕ → List ℕ → List ℕ → Outcome → Type 0

@@ -1,10 +1,10 @@
 use mathlib.Core.Path.{sym, ap, _∙_}
 use native.Mathlib.Omega.{arith}
 use borrow.Author.Tests.{not-true, not-false}
-use Rattle.check_operations.proofs.Reading.{found-class, at-name, at-place}
+use Rattle.check_operations.proofs.Reading.{at-name, at-place}
 use Rattle.tree_mask.specs.Inner.Rows.{wholeRow, innerRow}
 use Rattle.tree_mask.proofs.Masks.{at-token, not-cut, whole-hidden, whole-not, whole-is}
-use Rattle.tree_mask.proofs.Measures.{inner-walk}
+use Rattle.tree_mask.proofs.Rows.{inner-walk}
 use Rattle.tree_mask.proofs.Walks.{inner-put}
 use borrow.Author.Needs.{needs}
 use Rattle.tree_mask.proofs.walk.mask_tree.Statement.{statement}
@@ -37,7 +37,7 @@ inner-row-requires : tie.Need-inner-row-requires
 inner-row-requires c κs = let w = at-place (c .before .before .before .before .before .before .before .before .before .before .before .before .before .before .before .before .before .args .language .now) (c .before .before .before .before .before .before .before .before .before .before .before .before .before .before .before .before .before .args .index .now) (c .before .before .before .before .before .before .before .before .before .before .before .before .before .before .before .before .before .args .tree .now) (c .before .before .before .before .before .before .before .before .before .before .before .before .before .before .before .before .before .args .kind) 0 (c .before .before .before .before .before .before .before .before .before .before .before .before .before .before .before .before .before .pre .kind) (λ i. omega (arith, c .before .before .before .before .before .before .before .before .before .before .before .before .before .before .before .shared-slice-known2 .given i)) (c .before .before .before .before .before .before .before .before .before .before .to-usize .ensures .0) (c .before .before .before .before .before .before .before .before .before .place-at .ensures) (c .before .before .before .before .before .before .before .production-place .ensures) (c .before .before .before .before .before .before .if2 .left) (c .before .before .before .before .before .before .before .before .before .before .before .before .before .before .before .before .before .pre .sound) in let e = c .whole-row .ensures in (w .0, w .1, rw e (omega arith), rw e (omega arith), rw e (omega arith))
 
 mask-row-requires : tie.Need-mask-row-requires
-mask-row-requires c κs = inner-walk (c .before .before .before .before .before .before .before .before .before .before .before .before .before .before .before .before .before .before .before .args .language .now) (c .before .before .before .before .before .before .before .before .before .before .before .before .before .before .before .before .before .before .before .args .index .now) (c .before .before .before .before .before .before .before .before .before .before .before .before .before .before .before .before .before .before .before .args .tree .now) (c .before .before .before .before .before .before .before .before .before .before .before .before .before .before .before .before .before .before .before .args .seen) (c .before .before .before .before .before .before .before .before .before .before .before .before .before .before .before .before .before .before .before .args .kind) wholeRow (c .before .before .before .before .before .before .before .before .before .before .before .before .before .before .before .before .before .before .before .pre .kind) (λ i. omega (arith, c .before .before .before .before .before .before .before .before .before .before .before .before .before .before .before .before .before .shared-slice-known2 .given i)) (c .before .before .before .before .before .before .before .before .before .before .before .before .to-usize .ensures .0) (c .before .before .before .before .before .before .before .before .before .before .before .place-at .ensures) (found-class (c .before .before .before .before .before .before .before .before .before .before .before .before .before .before .before .before .before .before .before .args .language .now) (c .before .before .before .before .before .before .before .before .before .before .before .before .before .before .before .before .before .before .before .args .index .now) (c .before .before .before .before .before .before .before .before .before .before .before .before .before .before .before .before .before .before .before .args .tree .now) (c .before .before .before .before .before .before .before .before .before .before .before .before .before .before .before .before .before .before .before .args .kind) 0 (c .before .before .before .before .before .before .before .before .before .before .before .before .before .before .before .before .before .before .before .pre .kind) (λ i. omega (arith, c .before .before .before .before .before .before .before .before .before .before .before .before .before .before .before .before .before .shared-slice-known2 .given i)) (c .before .before .before .before .before .before .before .before .before .before .before .before .to-usize .ensures .0) (c .before .before .before .before .before .before .before .before .before .before .before .place-at .ensures) (c .before .before .before .before .before .before .before .before .before .production-place .ensures) (c .before .before .before .before .before .before .before .before .if2 .left)) (omega arith) (c .before .before .before .before .before .before .before .before .before .production-place .ensures) (c .before .before .before .before .before .before .before .before .if2 .left) (c .before .inner-row .ensures ∙ ap (innerRow (c .before .before .before .before .before .before .before .before .before .before .before .before .before .before .before .before .before .before .before .args .language .now) _) (c .before .before .whole-row .ensures)) (c .before .before .before .before .before .before .before .before .before .before .before .before .before .before .before .before .before .before .before .pre .sound) (omega arith)
+mask-row-requires c κs = inner-walk (c .before .before .before .before .before .before .before .before .before .before .before .before .before .before .before .before .before .before .before .args .language .now) (c .before .before .before .before .before .before .before .before .before .before .before .before .before .before .before .before .before .before .before .args .index .now) (c .before .before .before .before .before .before .before .before .before .before .before .before .before .before .before .before .before .before .before .args .tree .now) (c .before .before .before .before .before .before .before .before .before .before .before .before .before .before .before .before .before .before .before .args .kind) wholeRow (c .before .before .before .before .before .before .before .before .before .before .before .before .before .before .before .before .before .before .before .pre .kind) (λ i. omega (arith, c .before .before .before .before .before .before .before .before .before .before .before .before .before .before .before .before .before .shared-slice-known2 .given i)) (c .before .before .before .before .before .before .before .before .before .before .before .before .to-usize .ensures .0) (c .before .before .before .before .before .before .before .before .before .before .before .place-at .ensures) (c .before .before .before .before .before .before .before .before .before .production-place .ensures) (c .before .before .before .before .before .before .before .before .if2 .left) (omega arith) (c .before .inner-row .ensures ∙ ap (innerRow (c .before .before .before .before .before .before .before .before .before .before .before .before .before .before .before .before .before .before .before .args .language .now) _) (c .before .before .whole-row .ensures)) (c .before .before .before .before .before .before .before .before .before .before .before .before .before .before .before .before .before .before .before .pre .sound) (omega arith)
 
 returns-4 : tie.Need-returns-4
 returns-4 c = whole-is (c .before .before .before .before .before .before .before .before .before .before .before .before .before .before .before .before .before .before .before .before .before .before .args .language .now) (c .before .before .before .before .before .before .before .before .before .before .before .before .before .before .before .before .before .before .before .before .before .before .args .index .now) (c .before .before .before .before .before .before .before .before .before .before .before .before .before .before .before .before .before .before .before .before .before .before .args .tree .now) (c .before .before .before .before .before .before .before .before .before .before .before .before .before .before .before .before .before .before .before .before .before .before .args .seen) (c .before .before .before .before .before .before .before .before .before .before .before .before .before .before .before .before .before .before .before .before .before .before .args .kind) (c .before .before .before .before .before .before .before .before .before .before .before .before .before .before .before .before .before .before .before .before .before .before .args .out .now) (inner-put (c .before .before .before .before .before .before .before .before .before .before .before .before .before .before .before .before .before .before .before .before .before .before .args .language .now) (c .before .before .before .before .before .before .before .before .before .before .before .before .before .before .before .before .before .before .before .before .before .before .args .index .now) (c .before .before .before .before .before .before .before .before .before .before .before .before .before .before .before .before .before .before .before .before .before .before .args .tree .now) (c .before .before .before .before .before .before .before .before .before .before .before .before .before .before .before .before .before .before .before .before .before .before .args .seen) (c .before .before .before .before .before .before .before .before .before .before .before .before .before .before .before .before .before .before .before .before .before .before .args .kind) wholeRow (c .before .before .before .before .before .before .before .before .before .before .before .before .before .before .before .before .before .before .before .before .before .before .args .out .now) (c .before .before .before .before .before .before .before .before .before .before .before .before .before .before .before .before .before .before .before .before .before .before .pre .kind) (λ i. omega (arith, c .before .before .before .before .before .before .before .before .before .before .before .before .before .before .before .before .before .before .before .before .shared-slice-known2 .given i)) (c .before .before .before .before .before .before .before .before .before .before .before .before .before .before .before .to-usize .ensures .0) (c .before .before .before .before .before .before .before .before .before .before .before .before .before .before .place-at .ensures) (c .before .before .before .before .before .before .before .before .before .before .before .before .production-place .ensures) (c .before .before .before .before .before .before .before .before .before .before .before .if2 .left) (omega arith) (sym (c .before .before .before .before .before .before .before .before .before .before .before .before .before .before .before .before .before .before .in-set .ensures) ∙ not-false _ (c .before .before .before .before .before .before .before .before .before .before .before .before .before .before .before .before .before .if1 .left)) _ (c .before .before .before .before .before .before .before .before .put2 .ensures) (c .before .before .before .before .inner-row .ensures ∙ ap (innerRow (c .before .before .before .before .before .before .before .before .before .before .before .before .before .before .before .before .before .before .before .before .before .before .args .language .now) _) (c .before .before .before .before .before .whole-row .ensures)) _ _ _ (c .before .before .mask-row .ensures .1))
