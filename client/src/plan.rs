@@ -26,7 +26,7 @@ use std::ops::Range;
 /// assert_eq!(Plan::new(club, BLOCK, session, cut).unwrap_err(), Refusal::NotIndexed);
 /// # Ok::<(), Refusal>(())
 /// ```
-#[derive(Clone, Debug, PartialEq, Eq)]
+#[derive(Clone, Debug, PartialEq, Eq, Hash)]
 pub struct Plan<'a> {
     language: Language<'a>,
     root: Kind,
