@@ -5,8 +5,8 @@
  *   edit PATH FILE    puts the tree in a file in the place of the block at a path
  *
  * The index of the plan is built once, before the plan is shown, and each edit gives that of the new
- * plan. The plan is edited in memory alone: no file is written. What the card hides is neither shown
- * nor told.
+ * plan. The plan is edited in memory alone: no file is written. Of a plan that is accepted nothing is
+ * shown that the card hides, and neither is a length told, which is that of hidden blocks too.
  *
  * All memory that is needed is there from the start, since the header bounds it: nothing is
  * allocated. The status is 0 if all was accepted; 1 if something was refused, which is told with its
@@ -236,7 +236,7 @@ static int edit(struct display *display, const struct path *path)
     next->index_length = (size_t)index_length;
     display->plan = next;
     display->next = plan;
-    printf("accepted %zu\n", next->length);
+    printf("accepted\n");
     return ACCEPTED;
 }
 
@@ -258,7 +258,7 @@ static int open_plan(struct display *display)
     if (answer != ALGEBRA_ACCEPTED)
         return refuse_tree(display, display->root, plan->bytes, plan->length, answer);
     plan->index_length = (size_t)length;
-    printf("accepted %zu\n", plan->index_length);
+    printf("accepted\n");
     return show_plan(display);
 }
 

@@ -12,6 +12,9 @@ ghost use Rattle.tree_block.specs.Parts.{Told};
 ghost use Rattle.tree_edit.specs.Operations.{editTree};
 ghost use Rattle.tree_edit.specs.Answers.{EditTold};
 ghost use Rattle.tree_index.specs.Operations.{indexTree};
+ghost use Rattle.tree_locate.specs.Operations.{locateTree};
+ghost use Rattle.tree_node.specs.Operations.{showNode};
+ghost use Rattle.tree_node.specs.Answers.{NodeTold};
 ghost use Rattle.score_tree.specs.Operations.{scoreTree};
 ghost use Rattle.score_join.specs.Joined.{joinTable};
 ghost use Rattle.score_loose.specs.Operations.{scoreLoose};
@@ -33,7 +36,9 @@ use search_operation::search::search;
 use tree_block::show::place;
 use tree_edit::edit::edit;
 use tree_index::build::index;
+use tree_locate::locate::locate;
 use tree_mask::mask::mask;
+use tree_node::node::node;
 use xml_operations::operations::export;
 use xml_operations::operations::import;
 
@@ -76,6 +81,18 @@ pub extern "C" fn algebra_check_tree(language: &[u8], root: u32, tree: &[u8]) ->
     ensures { λ r. ⌜ r ≡ numberOf (checkTree (now (language .entry)) root (now (tree .entry))) ⌝ }
 {
     number_of(check_tree(language, root, tree))
+}
+
+// Check a tree, and tell where reading stopped: the position is put into `position`.
+#[no_mangle]
+pub extern "C" fn algebra_locate(language: &[u8], root: u32, tree: &[u8], position: &mut u64) -> u32
+    ensures { λ r. ⌜ (r ≡ numberOf (locateTree (now (language .entry)) root (now (tree .entry)) .outcome))
+        × (now (position .exit) ≡ locateTree (now (language .entry)) root (now (tree .entry)) .position) ⌝ }
+{
+    let located = locate(language, root, tree);
+    *position = located.position as u64;
+    let outcome = located.outcome;
+    number(outcome)
 }
 
 // Run a translation by a number on a tree of the root kind; the length of the result is put into `length`, how many clauses were
@@ -264,6 +281,30 @@ pub extern "C" fn algebra_block(
     *start = placed.start as u64;
     *kind = placed.kind;
     hand_over(Answer { outcome: outcome }, length)
+}
+
+// Show what stands at a path of a tree of the root kind that has the index: its kind, its name and how many arguments it has are put
+// into `kind`, `name` and `arguments`.
+#[no_mangle]
+pub extern "C" fn algebra_node(
+    language: &[u8],
+    root: u32,
+    tree: &[u8],
+    index: &[u8],
+    path: &[u8],
+    kind: &mut u32,
+    name: &mut u32,
+    arguments: &mut u32,
+) -> u32
+    ensures { λ r. ⌜ NodeTold (showNode (now (language .entry)) root (now (tree .entry)) (now (index .entry)) (now (path .entry)))
+        r (now (kind .exit)) (now (name .exit)) (now (arguments .exit)) ⌝ }
+{
+    let described = node(language, root, tree, index, path);
+    *kind = described.kind;
+    *name = described.name;
+    *arguments = described.arguments;
+    let outcome = described.outcome;
+    number(outcome)
 }
 
 // Replace the block at a path of a plan of the root kind that has the index, for the holder of a card. The new plan and its index

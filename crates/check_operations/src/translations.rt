@@ -14,6 +14,7 @@ ghost use Rattle.check_wellformed.specs.Inner.Ready.{usesRoom, indexesLength};
 ghost use Rattle.check_operations.specs.Inner.Chains.{inOrder};
 use check_wellformed::check::INDEXES;
 use check_wellformed::check::USES_ROOM;
+use check_wellformed::check::check_and_index;
 use format_fields::walk::whole_end;
 use format_translation::order::in_order;
 use format_translation::order::languages_clash;
@@ -41,10 +42,10 @@ fn check_parts(
     if !in_order(source, target, body) {
         return refuse(Reason::OutOfOrder);
     }
-    if languages_clash(source, target, body) {
+    if languages_clash(source, target) {
         return refuse(Reason::ClassIsResult);
     }
-    check_wellformed::check::check_kept(source, target, body, indexes, uses)
+    check_and_index(source, target, body, indexes, uses)
 }
 
 // Check a translation: the lowest refusal of 1 to 7 that applies, or accepted. Where it is accepted, the indexes of both

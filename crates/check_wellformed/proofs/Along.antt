@@ -11,7 +11,7 @@ use lib.Dec.{ltb}
 use borrow.Author.Tests.{eq-eqb, ne-eqb, lt-ltb}
 use Rattle.format_fields.specs.Lists.{all}
 use Rattle.format_fields.specs.Keyed.{rising}
-use Rattle.format_fields.specs.Inner.Places.{fieldEnd, isWhole, longAt, placesFrom, places, keyAt, orderAt, slotAt}
+use Rattle.format_fields.specs.Inner.Places.{fieldEnd, isWhole, longAt, placesFrom, places, keyAt, orderAt, slotAt, Skipped}
 use Rattle.format_fields.proofs.Truth.{Mem, and-both, all-mem, mem-all, mem-append, append-cases}
 use Rattle.format_fields.proofs.Keyed.{From, from-weaken, from-mem, is-rising}
 use Rattle.format_fields.proofs.Places.{places-done, places-next, every-here}
@@ -24,7 +24,6 @@ use Rattle.format_translation.specs.Inner.Items.{itemWhole, isClauseTag}
 use Rattle.format_translation.proofs.Items.{key-is as item-key-is}
 use Rattle.check_wellformed.specs.Inner.Ready.{indexOf}
 use Rattle.check_wellformed.specs.Inner.Tests.{isClauseAt, ClauseAt}
-use Rattle.check_wellformed.specs.Inner.Matching.{Skipped}
 use Rattle.check_wellformed.proofs.Bounds.{Bounded, bounded-at}
 use Rattle.check_wellformed.proofs.Coded.{clause-at, clause-key}
 use Rattle.check_wellformed.proofs.Mappings.{mapping-at}

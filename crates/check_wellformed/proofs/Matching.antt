@@ -7,15 +7,15 @@ use mathlib.Core.Bool.{Bool, true, false}
 use mathlib.Core.List.{List, [], _∷_, _++_, map}
 use native.Mathlib.Omega.{arith}
 use lib.ListN.{length, getD}
-use lib.Seq.{append-snoc}
 use lib.Dec.{ltb, leb}
 use borrow.Author.Tests.{eq-eqb, ne-eqb, lt-ltb, ltb-true, leb-true, leb-false}
 use Rattle.format_fields.specs.Lists.{all, concatMap, sameNumbers}
 use Rattle.format_fields.specs.Fields.{pairAt}
 use Rattle.format_fields.specs.Keyed.{rising}
-use Rattle.format_fields.specs.Inner.Places.{fieldEnd, isWhole, longAt, placesFrom, places, keyAt, orderAt}
+use Rattle.format_fields.specs.Inner.Places.{fieldEnd, isWhole, longAt, placesFrom, places, keyAt, orderAt, Skipped}
 use Rattle.format_fields.proofs.Truth.{Mem, by-test, and-both, both-and, all-mem, mem-all, mem-append, append-cases, mem-map, map-cases}
 use Rattle.format_fields.proofs.Lists.{all-true}
+use Rattle.format_fields.proofs.Skips.{all-append}
 use Rattle.format_fields.proofs.Keyed.{From, Rising, from-weaken, from-mem, from-rising, rising-from, is-rising}
 use Rattle.format_fields.proofs.Places.{places-done, places-next, every-here, every-after}
 use Rattle.format_language.specs.Language.{entryKey, productionKey}
@@ -31,53 +31,16 @@ use Rattle.format_translation.proofs.Items.{holds-items, key-is as item-key-is,
 use Rattle.format_translation.proofs.Whole.{item-long, items-long}
 use Rattle.check_wellformed.specs.Inner.Ready.{Ready}
 use Rattle.check_wellformed.specs.Inner.Tests.{isClauseAt, ClauseAt}
-use Rattle.check_wellformed.specs.Inner.Matching.{Skipped, itemsFrom, ordersFrom, clauseKeys, wantedKeys, wantedFrom, keysMatch, Sides, Asked, Cleared}
+use Rattle.check_wellformed.specs.Inner.Matching.{itemsFrom, ordersFrom, clauseKeys, wantedKeys, wantedFrom, keysMatch, Sides, Asked, Cleared}
 use Rattle.check_wellformed.proofs.Bounds.{Bounded, bounded-at, bounded, item-place, within}
 use Rattle.check_wellformed.proofs.Wanted.{wanted-keys}
 use Rattle.check_wellformed.proofs.Coded.{clause-at}
 use Rattle.check_wellformed.proofs.Mappings.{mapping-at, items-alike}
 
-all-append : {A : Type 0} (f : A → Bool) (l m : List A) → all f l ≡ true → all f (l ++ m) ≡ all f m
-unfolding all
-all-append f [] m h = refl
-all-append f (a ∷ l) m h = let w = all-true f a l h in rw (w .0) (all-append f l m (w .1))
-
 -- The key of a production, by its place.
 production-key : (s : List ℕ) (q : ℕ) → IsProduction s q → keyAt 0x11 s q ≡ productionKey (getD s (q + 3) 0) (getD s (q + 4) 0)
 unfolding keyAt pairAt
 production-key s q w = let i : q + 3 + 1 ≡ q + 4 = omega arith in rw (w .tag, i) refl
-
--- skip_below
-pub record Passed (tag least : ℕ) (s : List ℕ) (p q : ℕ) : Type 0 where
-  pub before : List ℕ
-  pub are : placesFrom s p ≡ before ++ placesFrom s q
-  pub below : all (λ x. ltb (orderAt tag s x) least) before ≡ true
-  pub long : all (longAt s) (placesFrom s q) ≡ true
-  pub inside : all (isWhole s) (placesFrom s p) ≡ true → p ≤ length s → (all (isWhole s) (placesFrom s q) ≡ true) × (q ≤ length s)
-
-pub skip-start : (tag least : ℕ) (s : List ℕ) (p : ℕ) → all (longAt s) (placesFrom s p) ≡ true → Passed tag least s p p
-unfolding all
-skip-start tag least s p h = record { before = []; are = refl; below = refl; long = h; inside = λ w i. (w, i) }
-
-pub skip-next : (tag least : ℕ) (s : List ℕ) (p q : ℕ) → Passed tag least s p q → q < length s → (key : ℕ) → key ≡ orderAt tag s q → key < least
-    → (e : ℕ) → e ≡ fieldEnd s q → Passed tag least s p e
-unfolding all isWhole
-skip-next tag least s p q z h key ek k e ee = record {
-  before = z .before ++ (q ∷ []);
-  are = z .are
-      ∙ (ap (λ (l : List ℕ). z .before ++ l) (places-next s q h)
-      ∙ (sym (append-snoc (z .before) q (placesFrom s (fieldEnd s q)))
-      ∙ ap (λ (j : ℕ). (z .before ++ (q ∷ [])) ++ placesFrom s j) (sym ee)));
-  below = all-append (λ x. ltb (orderAt tag s x) least) (z .before) (q ∷ []) (z .below) ∙ both-and (ltb (orderAt tag s q) least) true (rw (← ek) (lt-ltb key least k)) refl;
-  long = every-after (longAt s) s q e ee (z .long) h;
-  inside = λ w i.
-      let r = z .inside w i in
-      let g = every-here (isWhole s) s q (r .0) h in
-      rw ee (g .1, leb-true (fieldEnd s q) (length s) (g .0));
-}
-
-pub skip-stop : (tag least : ℕ) (s : List ℕ) (p q : ℕ) → Passed tag least s p q → (q < length s → least ≤ orderAt tag s q) → Skipped tag least s p q
-skip-stop tag least s p q z h = record { before = z .before; are = z .are; below = z .below; stops = h; inside = λ w i. z .inside w i .1 }
 
 -- What holds of all places holds of those that are left.
 all-rest : {A : Type 0} (f : A → Bool) (l m : List A) → all f (l ++ m) ≡ true → all f m ≡ true

@@ -13,12 +13,12 @@ ghost use Rattle.format_translation.specs.Inner.ItemIndex.{Mapped};
 ghost use Rattle.format_translation.specs.Inner.Pieces.{Pieces};
 ghost use Rattle.check_wellformed.specs.Inner.Ready.{Ready, usesRoom, indexesLength};
 use super::clauses::clauses_match;
-use super::clauses::skip_below;
 use super::codes::codes_typed;
 use super::mapping::mapping_fits;
 use format_fields::walk::KINDS;
 use format_fields::walk::MAPPING;
 use format_fields::walk::NAMES;
+use format_fields::walk::skip_below;
 use format_language::entries::ARGUMENTS;
 use format_language::entries::CLASS;
 use format_translation::index::put_uses;
@@ -45,7 +45,7 @@ const CLAUSES: usize = PRODUCTIONS * NAMES;
 
 // The three parts, with the index of the target and what kinds map to by number, are well formed: 5 to 7. What kinds map to
 // stays.
-fn check_indexed(
+fn check_conditions(
     source: &[u8],
     target: &[u8],
     targets: &[u16],
@@ -82,7 +82,7 @@ fn check_parted(
     ensures { λ r. ⌜ ((f : Translation) → Ready (now (source .entry)) (now (target .entry)) (drop indexLength (now (indexes .entry))) (now (body .entry)) (now (uses .entry)) f
         → (r .outcome ≡ checked (wellFormed f)) × Mapped (now (uses .exit)) (f .body)) ⌝ }
 {
-    check_indexed(source, target, &indexes[INDEX..], body, uses)
+    check_conditions(source, target, &indexes[INDEX..], body, uses)
 }
 
 // Puts what kinds map to by number into uses that are all zero, and leaves room behind it.
@@ -95,7 +95,7 @@ fn fill_uses(body: &[u8], uses: &mut [u8])
 
 // The three parts, whose keys rise, are well formed: 5 to 7. The indexes of both languages, one behind the other, and what kinds
 // map to by number are made in tables that are all zero, for a caller that goes on with them.
-pub fn check_kept(
+pub fn check_and_index(
     source: &[u8],
     target: &[u8],
     body: &[u8],
@@ -125,5 +125,5 @@ pub fn check_well_formed(source: &[u8], target: &[u8], body: &[u8]) -> Answer
     build(target, &mut targets);
     let mut uses = [0u8; USES_ROOM];
     fill_uses(body, &mut uses);
-    check_indexed(source, target, &targets, body, &mut uses)
+    check_conditions(source, target, &targets, body, &mut uses)
 }

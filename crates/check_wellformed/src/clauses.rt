@@ -4,34 +4,20 @@ ghost use mathlib.Core.Path.{_≡_};
 ghost use mathlib.Core.Bool.{true};
 ghost use Prim.Native.Nat.{_<_};
 ghost use lib.ListN.{getD};
-ghost use Rattle.format_fields.specs.Inner.Places.{placesFrom, longAt};
+ghost use Rattle.format_fields.specs.Inner.Places.{placesFrom, longAt, Skipped};
 ghost use Rattle.format_fields.specs.Lists.{all};
 ghost use Rattle.format_language.specs.Inner.Entries.{RisingEntries};
 ghost use Rattle.tree_reader.specs.Inner.Index.{indexLength};
 ghost use Rattle.check_wellformed.specs.Inner.Ready.{indexOf};
-ghost use Rattle.check_wellformed.specs.Inner.Matching.{Skipped, keysMatch, Sides, Asked, Cleared};
+ghost use Rattle.check_wellformed.specs.Inner.Matching.{keysMatch, Sides, Asked, Cleared};
 use format_fields::bytes::to_usize;
 use format_fields::walk::MAPPING;
 use format_fields::walk::NAMES;
 use format_fields::walk::order_at;
+use format_fields::walk::skip_below;
 use format_fields::walk::whole_end;
 use format_fields::walk::whole_key;
 use format_language::entries::CLASS;
-
-// The place of the first entry from p on whose key is not below `least`.
-pub fn skip_below(s: &[u8], p: usize, leading_tag: u8, least: usize) -> usize
-    requires { ⌜ all (longAt (now s)) (placesFrom (now s) p) ≡ true ⌝ }
-    ensures { λ r. ⌜ Skipped «leading_tag» least (now (s .entry)) p r ⌝ }
-{
-    let mut q = p;
-    while q < s.len() {
-        if least <= order_at(s, q, leading_tag) {
-            return q;
-        }
-        q = whole_end(s, q);
-    }
-    q
-}
 
 // The place of the entry of this key, and one more; 0 where there is none. Entries before q have lesser keys, and the one at q
 // has not.

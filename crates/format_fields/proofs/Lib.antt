@@ -7,3 +7,5 @@ pub mod Truth
 pub mod Keyed
 pub mod Codec
 pub mod Splices
+pub mod Skips
+pub mod Decimal

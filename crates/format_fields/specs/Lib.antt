@@ -1,4 +1,5 @@
 pub mod Lists
 pub mod Fields
 pub mod Keyed
+pub mod Decimal
 pub mod Inner

@@ -7,7 +7,7 @@ ghost use lib.ListN.{length};
 ghost use Rattle.format_fields.specs.Fields.{hasOver};
 ghost use Rattle.format_fields.specs.Keyed.{rising};
 ghost use Rattle.format_fields.specs.Lists.{all};
-ghost use Rattle.format_fields.specs.Inner.Places.{EndsAt, EndIfWhole, longAt, keyAt, slotAt, itemOrder, orderAt, places, overAt};
+ghost use Rattle.format_fields.specs.Inner.Places.{EndsAt, EndIfWhole, longAt, keyAt, slotAt, itemOrder, orderAt, placesFrom, places, Skipped, overAt};
 use super::bytes::byte_at;
 use super::bytes::pair_at;
 use super::bytes::pair_in;
@@ -120,6 +120,21 @@ pub fn order_at(s: &[u8], p: usize, leading_tag: u8) -> usize
         return item_order(s, p);
     }
     whole_key(s, p, leading_tag)
+}
+
+// The place of the first entry from p on whose key is not below `least`, or the end.
+pub fn skip_below(s: &[u8], p: usize, leading_tag: u8, least: usize) -> usize
+    requires { ⌜ all (longAt (now s)) (placesFrom (now s) p) ≡ true ⌝ }
+    ensures { λ r. ⌜ Skipped «leading_tag» least (now (s .entry)) p r ⌝ }
+{
+    let mut q = p;
+    while q < s.len() {
+        if least <= order_at(s, q, leading_tag) {
+            return q;
+        }
+        q = whole_end(s, q);
+    }
+    q
 }
 
 // The keys of the entries rise, and none comes twice.

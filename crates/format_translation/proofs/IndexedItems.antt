@@ -218,28 +218,6 @@ mapped-kind s index z k h =
     let i : 0 < getD index k 0 = omega arith in
     rw e (z .target k h i .1))
 
--- map_kinds: the table holds what the kinds below n map to.
-abbrev pub Mapped : List ℕ → List ℕ → List ℕ → ℕ → Type 0
-Mapped s index table n = (k : ℕ) → k < n → getD table k 0 ≡ mappedAt s index k
-
-pub mapped-more : (s index table : List ℕ) (n i v : ℕ) → i ≡ n → n < 32 → length table ≡ 32 → v ≡ mappedAt s index n → Mapped s index table n
-    → Mapped s index (set table i v) (n + 1)
-mapped-more s index table n i v ei h l e m k j =
-    by-test (eqb k n)
-    (λ d.
-    let o : k ≡ i = eqb-true k n d ∙ sym ei in
-    let r : i < length table = omega (arith, ei, h, l) in
-    ap (λ (x : ℕ). getD (set table i v) x 0) o ∙ (getD-set-same table i v 0 r ∙ (e ∙ ap (mappedAt s index) (sym (eqb-true k n d)))))
-    (λ d.
-    let o : k ≡ n → ⊥ = eqb-false k n d in
-    getD-set-other table i k v 0 (λ x. o (x ∙ ei)) ∙ m k (omega arith))
-
-pub mapped-below : (s index table : List ℕ) → SoundItems index s → length table ≡ 32 → Mapped s index table 32 → (k : ℕ) → getD table k 0 < 32
-mapped-below s index table z l m k =
-    by-test (ltb k 32)
-    (λ d. let h : k < 32 = ltb-true k 32 d in rw (m k h) (mapped-kind s index z k h))
-    (λ d. let h : length table ≤ k = omega (arith, ltb-false k 32 d) in rw (List·getD-eq-default table 0 h) (omega arith))
-
 -- known_at
 module _ (first : ℕ) (s index : List ℕ) (p tag : ℕ) (et : tag ≡ getD s p 0) where
   pub known-first : tag ≡ first → true ≡ knownAt first s index p

@@ -16,7 +16,6 @@ use format_fields::walk::NAMES;
 use format_fields::walk::key_at;
 use format_fields::walk::order_at;
 use format_fields::walk::whole_end;
-use format_language::entries::KINDS;
 use tree_reader::index::put_all;
 use tree_reader::node::place_at;
 
@@ -77,18 +76,6 @@ pub fn map_kind(body: &[u8], index: &[u16], kind: u8) -> u8
         return 0;
     }
     body[place + 3]
-}
-
-// Puts the kind that each kind maps to by number 0 into a table of 32; 0 where a kind is not mapped.
-pub fn map_kinds(body: &[u8], index: &[u16], mapped: &mut [u8])
-    requires { ⌜ SoundItems (now index) (now body) × (length (now mapped) ≡ 32) ⌝ }
-    ensures { λ r. ⌜ ((k : ℕ) → k < 32 → getD (now (mapped .exit)) k 0 ≡ mappedAt (now (body .entry)) (now (index .entry)) k) × ((k : ℕ) → getD (now (mapped .exit)) k 0 < 32) × (length (now (mapped .exit)) ≡ 32) ⌝ }
-{
-    let mut kind = 0u8;
-    while kind < KINDS {
-        mapped[to_usize(kind)] = map_kind(body, index, kind);
-        kind += 1;
-    }
 }
 
 // The entry at p is of the first tag, or its key stands in the index.

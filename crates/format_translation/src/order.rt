@@ -1,6 +1,8 @@
 // The order of a translation's keys, and the clashes in its languages.
 ghost use mathlib.Core.Path.{_≡_};
 ghost use mathlib.Core.Bool.{true, _||_};
+ghost use mathlib.Core.List.{List};
+ghost use Prim.Native.Nat.{ℕ};
 ghost use Rattle.format_language.specs.Language.{clashes};
 ghost use Rattle.format_translation.specs.Translation.{Translation};
 ghost use Rattle.format_translation.specs.TranslationFile.{allRising};
@@ -25,9 +27,9 @@ pub fn in_order(source: &[u8], target: &[u8], body: &[u8]) -> bool
 }
 
 // In the source or in the target a class is a result.
-pub fn languages_clash(source: &[u8], target: &[u8], body: &[u8]) -> bool
-    requires { ⌜ ((f : Translation) × Pieces (now source) (now target) (now body) f × (allRising f ≡ true)) ⌝ }
-    ensures { λ r. ⌜ ((f : Translation) → Pieces (now (source .entry)) (now (target .entry)) (now (body .entry)) f
+pub fn languages_clash(source: &[u8], target: &[u8]) -> bool
+    requires { ⌜ ((body : List ℕ) × (f : Translation) × Pieces (now source) (now target) body f × (allRising f ≡ true)) ⌝ }
+    ensures { λ r. ⌜ ((body : List ℕ) (f : Translation) → Pieces (now (source .entry)) (now (target .entry)) body f
         → r ≡ clashes (f .source) (f .source) || clashes (f .target) (f .target)) ⌝ }
 {
     if result_is_class(source) {

@@ -8,7 +8,8 @@ use lib.ListN.{length, take, set, getD, replicate, length-set, length-append, le
 use lib.Seq.{take-suc, take-all, take-set-le, getD-set-same}
 use Rattle.format_fields.specs.Lists.{concatMap}
 use Rattle.format_fields.proofs.Codec.{concat-append}
-use Rattle.program_text.specs.Text.{capital, pairOf, decimal, marked, firstLine}
+use Rattle.format_fields.specs.Decimal.{decimal}
+use Rattle.program_text.specs.Text.{capital, pairOf, marked, firstLine}
 use Rattle.program_text.specs.Inner.Putting.{Puts}
 
 -- The length of a buffer of zeros, without counting them.

@@ -3,7 +3,7 @@ use Prim.Native.Nat.{ℕ, _+_, _/_, _%_}
 use mathlib.Core.Bool.{cond}
 use mathlib.Core.List.{List, [], _∷_, _++_}
 use lib.Dec.{ltb}
-use Rattle.io.specs.Digits.{digits}
+use Rattle.format_fields.specs.Decimal.{decimal}
 
 -- The first word of what is accepted, ended by one space.
 abbrev pub acceptedWord : List ℕ
@@ -12,14 +12,6 @@ acceptedWord = 97 ∷ 99 ∷ 99 ∷ 101 ∷ 112 ∷ 116 ∷ 101 ∷ 100 ∷ 32 �
 -- The first word of what is refused, ended by one space.
 abbrev pub refusedWord : List ℕ
 refusedWord = 114 ∷ 101 ∷ 102 ∷ 117 ∷ 115 ∷ 101 ∷ 100 ∷ 32 ∷ []
-
--- How many decimal digits a number below 10,000 needs.
-abbrev pub width : ℕ → ℕ
-width n = cond (ltb n 10) 1 (cond (ltb n 100) 2 (cond (ltb n 1000) 3 4))
-
--- A number below 10,000 in decimal.
-unfoldable pub decimal : ℕ → List ℕ
-decimal n = digits 10 (width n) n
 
 -- A digit below 16 as a byte: 0 to 9, then A to F.
 abbrev pub capital : ℕ → ℕ

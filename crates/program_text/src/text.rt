@@ -3,6 +3,7 @@ ghost use mathlib.Core.Path.{_≡_};
 ghost use mathlib.Core.List.{[], _∷_};
 ghost use Prim.Native.Nat.{_+_, _*_, _<_, _≤_};
 ghost use lib.ListN.{length};
+ghost use Rattle.format_fields.specs.Decimal.{decimal};
 ghost use Rattle.format_fields.specs.Lists.{concatMap};
 ghost use Rattle.program_text.specs.Text as Text;
 ghost use Rattle.program_text.specs.Inner.Putting.{Puts};
@@ -33,7 +34,7 @@ pub fn put_bytes(bytes: &[u8], text: &mut [u8], at: usize) -> usize
 // A number below 10,000 in decimal.
 fn put_decimal(n: u64, text: &mut [u8], at: usize) -> usize
     requires { ⌜ (n < 10000) × (at + 4 ≤ length (now text)) ⌝ }
-    ensures { λ r. ⌜ Puts (Text.decimal n) (now (text .entry)) (now (text .exit)) at r × (r ≤ at + 4) ⌝ }
+    ensures { λ r. ⌜ Puts (decimal n) (now (text .entry)) (now (text .exit)) at r × (r ≤ at + 4) ⌝ }
 {
     let mut digits = [0u8; 20];
     let k = io::decimal(n, &mut digits);

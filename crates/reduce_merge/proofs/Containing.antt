@@ -6,7 +6,7 @@ use mathlib.Core.Logic.{_⊎_, ⊎-elim}
 use mathlib.Core.List.{List, [], _∷_}
 use native.Mathlib.Omega.{arith}
 use lib.ListN.{length, take, getD}
-use lib.Seq.{slice, length-slice, getD-take, getD-drop}
+use lib.Seq.{slice, getD-take, getD-drop}
 use lib.Dec.{ltb, eqb}
 use borrow.Author.Tests.{lt-ltb, le-ltb, ltb-true, ltb-false, lt-leb, eq-eqb, ne-eqb, eqb-true}
 use Rattle.format_fields.specs.Lists.{all, sameNumbers}
@@ -24,10 +24,6 @@ use Rattle.reduce_merge.proofs.Turns.{Rest, rest-next, rest-sought, wit
 
 -- A field in a file and its own bytes.
 module _ (s : List ℕ) (p : ℕ) (w : WholeAt s p) where
-  piece-long : length (pieceAt s p) ≡ 3 + pairAt s (p + 1)
-  unfolding fieldEnd
-  piece-long = length-slice p (fieldEnd s p) s (w .fits) ∙ omega arith
-
   piece-byte : (i : ℕ) → i < 3 + pairAt s (p + 1) → getD (pieceAt s p) i 0 ≡ getD s (p + i) 0
   unfolding fieldEnd
   piece-byte i j = getD-drop p (take (fieldEnd s p) s) i 0 ∙ getD-take (fieldEnd s p) s (p + i) 0 (omega arith)

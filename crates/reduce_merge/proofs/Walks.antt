@@ -7,11 +7,12 @@ use native.Mathlib.Nat.{add-zero}
 use native.Mathlib.Omega.{arith}
 use lib.ListN.{length, getD}
 use lib.Seq.{slice, slice-empty, length-slice}
-use borrow.Author.Tests.{lt-ltb, le-ltb, eq-eqb, ne-eqb, leb-true}
-use Rattle.format_fields.specs.Lists.{concatMap, sameNumbers}
-use Rattle.format_fields.specs.Inner.Places.{fieldEnd, isWhole, longAt, orderAt}
-use Rattle.format_fields.proofs.Truth.{numbers-equal, refuted}
-use Rattle.format_fields.proofs.Lists.{part-done, part-next}
+use lib.Dec.{ltb, leb}
+use borrow.Author.Tests.{lt-ltb, le-ltb, ltb-true, eq-eqb, ne-eqb, leb-true, leb-false}
+use Rattle.format_fields.specs.Lists.{all, concatMap, sameNumbers}
+use Rattle.format_fields.specs.Inner.Places.{fieldEnd, isWhole, longAt, placesFrom, orderAt, Skipped}
+use Rattle.format_fields.proofs.Truth.{by-test, numbers-equal, refuted}
+use Rattle.format_fields.proofs.Lists.{cons-both, all-true, part-done, part-next}
 use Rattle.format_fields.proofs.Places.{end-past, places-done, places-next, every-here, long-here}
 use Rattle.reduce_merge.specs.Inner.Parts.{Part, samePart, bytesOf, pieceAt, partAt, partsFrom, WholeAt, WholeFrom, lower, seek, SoughtAt, leads, partsClash}
 use Rattle.format_fields.proofs.Splices.{slice-join}
@@ -70,57 +71,72 @@ module _ (k : ℕ) (a : Part) (l : List Part) where
   unfolding lower
   lower-stop h = rw (le-ltb (a .key) k h)
 
--- `seek`: it began at p, and has come to q.
-pub record Seeking (first : ℕ) (s : List ℕ) (p k q : ℕ) : Type 0 where
-  pub rest : seek k (partsFrom first s q) ≡ seek k (partsFrom first s p)
-  pub skipped : slice p q s ++ bytesOf (lower k (partsFrom first s q)) ≡ bytesOf (lower k (partsFrom first s p))
-  pub past : p ≤ q
-  pub from : WholeFrom s q
+-- What `skip_below` passed, by the fields: no lesser key is left in front.
+same-place : (s : List ℕ) (p r : ℕ) → p ≤ length s → r ≤ length s → placesFrom s p ≡ placesFrom s r → p ≡ r
+same-place s p r h i e =
+    by-test (leb (length s) p)
+    (λ d.
+    let past : length s ≤ p = leb-true _ _ d in
+    by-test (leb (length s) r)
+    (λ c. let last : length s ≤ r = leb-true _ _ c in omega arith)
+    (λ c. let z = ap length (sym (places-done s p past) ∙ (e ∙ places-next s r (leb-false _ _ c))) in absurd (omega (arith, z))))
+    (λ d.
+    let here : p < length s = leb-false _ _ d in
+    by-test (leb (length s) r)
+    (λ c. let z = ap length (sym (places-next s p here) ∙ (e ∙ places-done s r (leb-true _ _ c))) in absurd (omega (arith, z)))
+    (λ c. cons-both (sym (places-next s p here) ∙ (e ∙ places-next s r (leb-false _ _ c))) .0))
 
-pub seek-start : (first : ℕ) (s : List ℕ) (p k : ℕ) → WholeFrom s p → Seeking first s p k p
-seek-start first s p k w = record { rest = refl; skipped = rw (slice-empty p s); past = omega arith; from = w }
+module _ (first : ℕ) (s : List ℕ) (k r : ℕ) where
+  sought-here : WholeFrom s r → (r < length s → k ≤ orderAt first s r) → SoughtAt first s r k r
+  unfolding partAt bytesOf concatMap seek lower
+  sought-here w h =
+      by-test (leb (length s) r)
+      (λ d.
+      let n = parts-done first s r (leb-true _ _ d) in
+      record { rest = rw n refl; skipped = rw (slice-empty r s, n) refl; past = omega arith; from = w })
+      (λ d.
+      let i : r < length s = leb-false _ _ d in
+      let n = parts-next first s r i in
+      let x = partAt first s r in
+      let l = partsFrom first s (fieldEnd s r) in
+      record {
+        rest = rw n (sym (seek-stop k x l (h i)));
+        skipped = rw (slice-empty r s, n) (ap bytesOf (sym (lower-stop k x l (h i))));
+        past = omega arith;
+        from = w;
+      })
 
-module _ (first : ℕ) (s : List ℕ) (p k q : ℕ) (h : Seeking first s p k q) where
-  -- the search ends where nothing below k comes first
-  halt : seek k (partsFrom first s q) ≡ partsFrom first s q → lower k (partsFrom first s q) ≡ [] → SoughtAt first s p k q
-  unfolding bytesOf concatMap
-  halt e d = record {
-    rest = sym e ∙ h .rest;
-    skipped = sym (append-nil (slice p q s)) ∙ (ap (λ (l : List Part). slice p q s ++ bytesOf l) (sym d) ∙ h .skipped);
-    past = h .past;
-    from = h .from;
-  }
+  sought-next : (p : ℕ) → p < length s → orderAt first s p < k → SoughtAt first s (fieldEnd s p) k r → SoughtAt first s p k r
+  unfolding partAt bytesOf concatMap
+  sought-next p here j z =
+      let n = parts-next first s p here in
+      let x = partAt first s p in
+      let l = partsFrom first s (fieldEnd s p) in
+      record {
+        rest = z .rest ∙ (sym (seek-skip k x l j) ∙ ap (seek k) (sym n));
+        skipped =
+            sym (slice-join s p (fieldEnd s p) r (omega (arith, end-past s p)) (z .past) (z .from .inside))
+            ∙ (ap (λ (m : List ℕ). pieceAt s p ++ m) (z .skipped)
+            ∙ (ap bytesOf (sym (lower-skip k x l j)) ∙ ap (λ (m : List Part). bytesOf (lower k m)) (sym n)));
+        past = omega (arith, end-past s p, z .past);
+        from = z .from;
+      }
 
-  pub seek-end : length s ≤ q → SoughtAt first s p k q
-  unfolding seek lower
-  seek-end i = halt (rw (parts-done first s q i)) (rw (parts-done first s q i))
+  sought-by : (before : List ℕ) (p : ℕ) → WholeFrom s p → r ≤ length s → (r < length s → k ≤ orderAt first s r)
+      → placesFrom s p ≡ before ++ placesFrom s r → all (λ x. ltb (orderAt first s x) k) before ≡ true → SoughtAt first s p k r
+  sought-by [] p w i h e b = let q = same-place s p r (w .inside) i e in rw q (sought-here (rw q at w) h)
+  sought-by (x ∷ l) p w i h e b =
+      by-test (leb (length s) p)
+      (λ d. let z = ap length (sym (places-done s p (leb-true _ _ d)) ∙ e) in absurd (omega (arith, z)))
+      (λ d.
+      let here : p < length s = leb-false _ _ d in
+      let f = cons-both (sym (places-next s p here) ∙ e) in
+      let v = all-true (λ x. ltb (orderAt first s x) k) x l b in
+      sought-next p here (ltb-true _ _ (rw (← f .0) at (v .0)))
+      (sought-by l (fieldEnd s p) (whole-next s p w here (fieldEnd s p) refl) i h (f .1) (v .1)))
 
-  module _ (key : ℕ) (ek : key ≡ orderAt first s q) (here : q < length s) where
-    pub seek-found : k ≤ key → SoughtAt first s p k q
-    unfolding partAt
-    seek-found i =
-        let j : k ≤ orderAt first s q = rw ek at i in
-        let n = parts-next first s q here in
-        halt (rw n (seek-stop k (partAt first s q) _ j)) (rw n (lower-stop k (partAt first s q) _ j))
-
-    pub seek-on : key < k → (e : ℕ) → e ≡ fieldEnd s q → Seeking first s p k e
-    unfolding partAt bytesOf concatMap
-    seek-on i e d =
-        let j : orderAt first s q < k = rw ek at i in
-        let n = parts-next first s q here in
-        let x = partAt first s q in
-        let f = whole-here s q (h .from) here in
-        let l = partsFrom first s (fieldEnd s q) in
-        let skip : slice p q s ++ (pieceAt s q ++ bytesOf (lower k l)) ≡ bytesOf (lower k (partsFrom first s p)) =
-        ap (λ (m : List Part). slice p q s ++ bytesOf m) (sym (lower-skip k x l j)) ∙ (ap (λ (m : List Part). slice p q s ++ bytesOf (lower k m)) (sym n) ∙ h .skipped) in
-        rw d (record {
-          rest = sym (seek-skip k x l j) ∙ (ap (seek k) (sym n) ∙ h .rest);
-          skipped =
-              ap (λ (m : List ℕ). m ++ bytesOf (lower k l)) (sym (slice-join s p q (fieldEnd s q) (h .past) (omega (arith, end-past s q)) (f .fits)))
-              ∙ (append-assoc (slice p q s) (pieceAt s q) (bytesOf (lower k l)) ∙ skip);
-          past = omega (arith, end-past s q, h .past);
-          from = whole-next s q (h .from) here (fieldEnd s q) refl;
-        })
+  pub sought : (p : ℕ) → WholeFrom s p → Skipped first k s p r → SoughtAt first s p k r
+  sought p w z = sought-by (z .before) p w (z .inside (w .whole) (w .inside)) (z .stops) (z .are) (z .below)
 
 -- `same_field`
 module _ (a b : List ℕ) (p e q d : ℕ) (fa : e ≤ length a) (fb : d ≤ length b) where

@@ -2,7 +2,7 @@
 ghost use mathlib.Core.Path.{_≡_};
 ghost use mathlib.Core.Bool.{true};
 ghost use Rattle.format_fields.specs.Lists.{all, sameNumbers};
-ghost use Rattle.reduce_merge.specs.Inner.Parts.{WholeAt, WholeFrom, SoughtAt, pieceAt, samePart, partWithin, classPart, partAt, partsFrom, leads};
+ghost use Rattle.reduce_merge.specs.Inner.Parts.{WholeAt, WholeFrom, pieceAt, samePart, partWithin, classPart, partAt, partsFrom, leads};
 use format_fields::bytes::to_usize;
 use format_fields::walk::order_at;
 use format_fields::walk::whole_end;
@@ -27,21 +27,6 @@ pub fn same_field(a: &[u8], p: usize, b: &[u8], q: usize) -> bool
         i += 1;
     }
     true
-}
-
-// From p on, the first field whose key is `key` or more, or the end.
-pub fn seek(s: &[u8], p: usize, key: usize, leading_tag: u8) -> usize
-    requires { ⌜ WholeFrom (now s) p ⌝ }
-    ensures { λ r. ⌜ SoughtAt «leading_tag» (now (s .entry)) p key r ⌝ }
-{
-    let mut q = p;
-    while q < s.len() {
-        if key <= order_at(s, q, leading_tag) {
-            return q;
-        }
-        q = whole_end(s, q);
-    }
-    q
 }
 
 // The field of a at p is the field of b at q.

@@ -1,13 +1,13 @@
 // The union and the difference of two files of rising fields.
 ghost use Rattle.format_fields.specs.Inner.Writing.{Stores};
 ghost use Rattle.reduce_merge.specs.Inner.Parts.{Sorted, united, removed};
-use super::meet::seek;
 use super::meet::stands_at;
 use super::prefix::shared;
 use format_fields::copy::Stored;
 use format_fields::copy::put_both;
 use format_fields::copy::put_if;
 use format_fields::walk::order_at;
+use format_fields::walk::skip_below;
 use format_fields::walk::whole_end;
 
 // The union by key, into the output from its start: of two fields of one key the one of a is taken. The bytes of a from
@@ -28,7 +28,7 @@ pub fn merge(a: &[u8], b: &[u8], leading_tag: u8, out: &mut [u8]) -> Stored
         let j = order_at(a, p, leading_tag);
         let k = order_at(b, q, leading_tag);
         if k < j {
-            let d = seek(b, q, j, leading_tag);
+            let d = skip_below(b, q, leading_tag, j);
             let Stored::To(m) = put_both(a, from, p, b, q, d, out, n) else {
                 return Stored::Full;
             };
@@ -57,7 +57,7 @@ pub fn remove(a: &[u8], b: &[u8], leading_tag: u8, out: &mut [u8]) -> Stored
     let mut q = start;
     let mut n = 0;
     while p < a.len() {
-        q = seek(b, q, order_at(a, p, leading_tag), leading_tag);
+        q = skip_below(b, q, leading_tag, order_at(a, p, leading_tag));
         let stands = stands_at(a, p, b, q, leading_tag);
         let e = whole_end(a, p);
         let Stored::To(m) = put_if(!stands, a, p, e, out, n) else {

@@ -3,9 +3,9 @@ ghost use mathlib.Core.Path.{_≡_};
 ghost use Rattle.reduce_merge.specs.Inner.Parts.{Sorted, SortedEntries, liesWithin, agrees};
 use super::meet::lies_at;
 use super::meet::same_field;
-use super::meet::seek;
 use super::prefix::shared;
 use format_fields::walk::order_at;
+use format_fields::walk::skip_below;
 use format_fields::walk::whole_end;
 use format_language::entries::CLASS;
 
@@ -18,7 +18,7 @@ pub fn lies_within(a: &[u8], b: &[u8]) -> bool
     let mut p = start;
     let mut q = start;
     while p < a.len() {
-        q = seek(b, q, order_at(a, p, CLASS), CLASS);
+        q = skip_below(b, q, CLASS, order_at(a, p, CLASS));
         if !lies_at(a, p, b, q) {
             return false;
         }

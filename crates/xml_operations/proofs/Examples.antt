@@ -4,7 +4,8 @@ use mathlib.Core.List.{[], _∷_, _++_}
 use Rattle.format_fields.specs.Lists.{first}
 use Rattle.format_language.specs.Language.{Language, range, class, production, argumentsAt, argumentsOf}
 use Rattle.tree_reader.specs.Code.{node, token, nil, cons}
-use Rattle.xml_text.specs.Text.{decimalBy, decimal, nodeTag, tokenTag, kindsOf, export, exportAll}
+use Rattle.format_fields.specs.Decimal.{decimalBy, decimal}
+use Rattle.xml_text.specs.Text.{nodeTag, tokenTag, kindsOf, export, exportAll}
 
 -- Minutes of 1 to 240, row 1.1 and twice 1.4.
 abbrev strap : Language

@@ -17,7 +17,8 @@ use Rattle.tree_reader.specs.Syntax.{done, tree, readAll, read}
 use Rattle.tree_reader.specs.Inner.Positions.{productionPlace}
 use Rattle.tree_reader.specs.declared.node.Syntax.the-variants.{Tree}
 use Rattle.check_operations.proofs.Reading.{ReadToken, ReadNode, read-token, read-deep, read-production, at-name, same-done, then-done}
-use Rattle.xml_text.specs.Text.{decimal, nodeTag, tokenTag, openNode, closeNode, openToken, closeToken, export, exportAll}
+use Rattle.format_fields.specs.Decimal.{decimal}
+use Rattle.xml_text.specs.Text.{nodeTag, tokenTag, openNode, closeNode, openToken, closeToken, export, exportAll}
 use Rattle.xml_operations.specs.Inner.Exporting.{TreeAsks, TreesAsk, Exported}
 use Rattle.xml_text.proofs.Stores.{written-then}
 use Rattle.xml_operations.proofs.Puts.{written-same, token-length, node-length}

@@ -19,7 +19,8 @@ use Rattle.tree_reader.specs.Inner.Index.{Indexed}
 use Rattle.tree_reader.specs.Inner.Positions.{productionPlace}
 use Rattle.tree_reader.specs.declared.node.Syntax.the-variants.{Tree}
 use Rattle.check_operations.proofs.Reading.{class-known, class-none, at-known, at-reads, two, read-class, read-past, token-cut, level-read, none-read}
-use Rattle.xml_text.specs.Text.{nodeTag, tokenTag, openNode, closeNode, openToken, closeToken, decimal, kindsOf, export, exportAll}
+use Rattle.format_fields.specs.Decimal.{decimal}
+use Rattle.xml_text.specs.Text.{nodeTag, tokenTag, openNode, closeNode, openToken, closeToken, kindsOf, export, exportAll}
 use Rattle.xml_operations.specs.declared.measure.Measured.{Measured}
 use Rattle.xml_operations.specs.declared.measure.Measured.the-variants.{End, Deep, Broken}
 use Rattle.xml_operations.specs.Inner.Measuring.{most, Sum, Within, Reaches, Measures, MeasuresTree}
@@ -71,9 +72,6 @@ module _ {A : Type 0} {text : A → List ℕ} {p : Read A} {b : List ℕ} {n : �
   measures-same e w = rw (← e) w
 
 -- Sums.
-pub sum-over : {n v : ℕ} → most < n → Sum n v n
-sum-over h = record { is = λ i. absurd (omega arith); long = λ i. omega arith }
-
 pub sum-is : {n v : ℕ} → Sum n v (n + v)
 sum-is = record { is = λ i. refl; long = λ i. i }
 

@@ -5,9 +5,10 @@ use mathlib.Core.List.{List, [], _∷_, _++_, append-assoc}
 use native.Mathlib.Omega.{arith}
 use lib.ListN.{length, set, length-append}
 use Rattle.format_fields.specs.Inner.Writing.{Written}
-use Rattle.xml_text.specs.Text.{decimal, nodeTag, tokenTag, openNode, closeNode, openToken, closeToken, point, tagEnd}
+use Rattle.format_fields.specs.Decimal.{decimal}
+use Rattle.xml_text.specs.Text.{nodeTag, tokenTag, openNode, closeNode, openToken, closeToken, point, tagEnd}
 use Rattle.xml_text.proofs.Stores.{store-in}
-use Rattle.xml_text.proofs.Decimal.{decimal-small, decimal-large}
+use Rattle.format_fields.proofs.Decimal.{decimal-small, decimal-large, decimal-two}
 
 -- write_byte and write_digit
 pub written-byte : (o : List ℕ) (n b : ℕ) → n < length o → Written (b ∷ []) o (set o n b) n (n + 1)
@@ -64,17 +65,11 @@ kind-end k {n = n} w =
     let y : suc (length (decimal k ++ tagEnd)) ≡ 2 + length (decimal k) = omega (arith, z) in
     w .end ∙ ap (λ (x : ℕ). n + x) y
 
--- Decimals of one to five digits.
-pub digits-1 : (v : ℕ) → v < 10 → decimal v ≡ (48 + v) ∷ []
-digits-1 v h = decimal-small v h
-
-pub digits-2 : (v : ℕ) → 10 ≤ v → v < 100 → decimal v ≡ (48 + v / 10) ∷ (48 + v % 10) ∷ []
-digits-2 v g h = decimal-large v g ∙ ap (λ (l : List ℕ). l ++ ((48 + v % 10) ∷ [])) (digits-1 (v / 10) (omega arith))
-
+-- Decimals of three to five digits.
 pub digits-3 : (v : ℕ) → 100 ≤ v → v < 1000 → decimal v ≡ (48 + v / 100) ∷ (48 + v / 10 % 10) ∷ (48 + v % 10) ∷ []
 digits-3 v g h =
     let a : v / 10 / 10 ≡ v / 100 = omega arith in
-    decimal-large v (omega arith) ∙ (ap (λ (l : List ℕ). l ++ ((48 + v % 10) ∷ [])) (digits-2 (v / 10) (omega arith) (omega arith)) ∙ rw a)
+    decimal-large v (omega arith) ∙ (ap (λ (l : List ℕ). l ++ ((48 + v % 10) ∷ [])) (decimal-two (v / 10) (omega arith) (omega arith)) ∙ rw a)
 
 pub digits-4 : (v : ℕ) → 1000 ≤ v → v < 10000
     → decimal v ≡ (48 + v / 1000) ∷ (48 + v / 100 % 10) ∷ (48 + v / 10 % 10) ∷ (48 + v % 10) ∷ []
@@ -93,10 +88,10 @@ digits-5 v g h =
 
 -- How many digits there are, and the last ones.
 pub width-1 : (v : ℕ) → v < 10 → length (decimal v) ≡ 1
-width-1 v h = ap length (digits-1 v h)
+width-1 v h = ap length (decimal-small v h)
 
 pub width-2 : (v : ℕ) → 10 ≤ v → v < 100 → length (decimal v) ≡ 2
-width-2 v g h = ap length (digits-2 v g h)
+width-2 v g h = ap length (decimal-two v g h)
 
 last-2 : (v : ℕ) → 100 ≤ v → decimal v ≡ decimal (v / 100) ++ ((48 + v / 10 % 10) ∷ (48 + v % 10) ∷ [])
 last-2 v h =

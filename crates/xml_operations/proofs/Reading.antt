@@ -9,7 +9,8 @@ use Rattle.format_fields.specs.Fields.{pairAt}
 use Rattle.format_language.specs.Language.{Language, argumentsOf}
 use Rattle.tree_reader.specs.Code.{Code, node, Codes}
 use Rattle.check_operations.proofs.Reading.{ReadToken, ReadNode}
-use Rattle.xml_text.specs.Text.{decimal, nodeTag, tokenTag, openNode, closeNode, openToken, closeToken, kindsOf, export, exportAll}
+use Rattle.format_fields.specs.Decimal.{decimal}
+use Rattle.xml_text.specs.Text.{nodeTag, tokenTag, openNode, closeNode, openToken, closeToken, kindsOf, export, exportAll}
 
 pub token-text : (l : Language) (k : ℕ) {b : List ℕ} {at : ℕ} {a : Code} {rest : List ℕ} → ReadToken b at a rest
     → export l k a ≡ tokenTag openToken k ++ (decimal (pairAt b at) ++ tokenTag closeToken k)

@@ -11,7 +11,8 @@ ghost use mathlib.Core.List.{[], _∷_, _++_};
 ghost use Prim.Native.Nat.{_+_, _*_, _<_, _≤_};
 ghost use lib.ListN.{length};
 ghost use Rattle.format_fields.specs.Inner.Writing.{Written};
-ghost use Rattle.xml_text.specs.Text.{decimal, nodeTag, tokenTag, openNode, closeNode, openToken, closeToken, point, tagEnd};
+ghost use Rattle.format_fields.specs.Decimal.{decimal};
+ghost use Rattle.xml_text.specs.Text.{nodeTag, tokenTag, openNode, closeNode, openToken, closeToken, point, tagEnd};
 
 // Writes a byte.
 fn write_byte(byte: u8, out: &mut [u8], n: usize) -> usize

@@ -18,7 +18,8 @@ use Rattle.format_language.proofs.Holds.{holds-entries}
 use Rattle.tree_reader.specs.Code.{Code, node, token, argument, Codes, nil, cons}
 use Rattle.tree_reader.specs.Typing.{Typed, TypedAll, typed-node, typed-token, typed-argument, typed-nil, typed-cons}
 use Rattle.tree_reader.specs.Syntax.{done, write, writeAll, tree}
-use Rattle.xml_text.specs.Text.{decimal, openToken, closeNode, closeToken, nodeTag, tokenTag, export, exportAll}
+use Rattle.format_fields.specs.Decimal.{decimal}
+use Rattle.xml_text.specs.Text.{openToken, closeNode, closeToken, nodeTag, tokenTag, export, exportAll}
 use Rattle.xml_text.specs.Import.{readText}
 use Rattle.xml_text.specs.Inner.Contents.{Contents, empty, closing, opening, value}
 use Rattle.xml_text.proofs.Round.{node-parts, no-kind, sound}

@@ -23,7 +23,8 @@ use Rattle.tree_reader.specs.Inner.Index.{Sound, Indexed}
 use Rattle.tree_reader.specs.Inner.Positions.{KindsIn, Rest, restOf}
 use Rattle.tree_reader.specs.Inner.Positions as P
 use Rattle.tree_reader.proofs.Laws.{name-in, kinds-in}
-use Rattle.xml_text.specs.Text.{decimal, closeNode, nodeTag}
+use Rattle.format_fields.specs.Decimal.{decimal}
+use Rattle.xml_text.specs.Text.{closeNode, nodeTag}
 use Rattle.xml_text.specs.Import.{readWord, readOpening, readClosing, readToken, readOperands, readElement, readText}
 use Rattle.xml_text.specs.declared.scan.Number.{Number}
 use Rattle.xml_text.specs.declared.scan.Number.the-variants as N

@@ -11,7 +11,8 @@ use Rattle.tree_reader.specs.Code.{Code, node, token, argument, Codes, nil, con
 use Rattle.tree_reader.specs.Typing.{kindAt, Typed, TypedAll, typed-node, typed-token, typed-argument, typed-nil, typed-cons}
 use Rattle.tree_reader.specs.Syntax.{Read, done, deep, broken, andThen, readAll}
 use Rattle.tree_reader.proofs.RoundTrip.{Apart}
-use Rattle.xml_text.specs.Text.{decimal, openNode, closeNode, openToken, closeToken, point, tagEnd, nodeTag, tokenTag, kindsOf, export, exportAll}
+use Rattle.format_fields.specs.Decimal.{decimal}
+use Rattle.xml_text.specs.Text.{openNode, closeNode, openToken, closeToken, point, tagEnd, nodeTag, tokenTag, kindsOf, export, exportAll}
 use Rattle.xml_text.specs.Import.{isDigit, readWord, readNumber, readNamed, readOpening, readClosing, readTokenTag, readToken, readOperands, readElement, readText}
 use Rattle.xml_text.proofs.Decimal.{Stops, same-done, deep-not, broken-not, then-done, number-round, number-sound, word-round, word-sound, named-round, named-sound}
 
@@ -32,10 +33,6 @@ stop-point s = refl
 pub stop-end : (s : List ℕ) → Stops (62 ∷ s)
 unfolding isDigit
 stop-end s = refl
-
-stop-open : (s : List ℕ) → Stops (60 ∷ s)
-unfolding isDigit
-stop-open s = refl
 
 opening-round : (k p : ℕ) (s : List ℕ) → readOpening k (nodeTag openNode k p ++ s) ≡ done p s
 unfolding readOpening

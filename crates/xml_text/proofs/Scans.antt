@@ -15,14 +15,16 @@ use Rattle.format_language.specs.Language.{Range, inRange}
 use Rattle.format_language.specs.Inner.Entries.{classRange}
 use Rattle.tree_reader.specs.Code.{Code, token}
 use Rattle.tree_reader.specs.Syntax.{Read, done, deep, broken, andThen}
-use Rattle.xml_text.specs.Text.{decimal, openToken, closeToken, tagEnd, tokenTag}
+use Rattle.format_fields.specs.Decimal.{decimal}
+use Rattle.xml_text.specs.Text.{openToken, closeToken, tagEnd, tokenTag}
 use Rattle.xml_text.specs.Import.{isDigit, readWord, readDigits, readNumber, readOpening, readTokenTag, readToken}
 use Rattle.xml_text.specs.declared.scan.Place.{Place}
 use Rattle.xml_text.specs.declared.scan.Place.the-variants.{At, Nothing}
 use Rattle.xml_text.specs.declared.scan.Number.{Number}
 use Rattle.xml_text.specs.declared.scan.Number.the-variants as N
 use Rattle.xml_text.specs.Inner.Scanning.{NoToken, TellsToken, begins, closes, Reached, Stands, NoNumber, Numbers, Tokens}
-use Rattle.xml_text.proofs.Decimal.{decimal-small, decimal-two, decimal-some, digit-range, number-sound, word-sound}
+use Rattle.format_fields.proofs.Decimal.{decimal-small, decimal-two, decimal-some}
+use Rattle.xml_text.proofs.Decimal.{digit-range, number-sound, word-sound}
 use Rattle.xml_text.proofs.Words.{word-shallow, number-shallow, tag-word, ends, opening-word, begins-cut}
 
 at-not : {e : ℕ} {A : Type 0} → Nothing ≡ At e → A
@@ -70,7 +72,7 @@ tokens-is {o} {text} {from} {v} {e} h s i j = record {
   nothing = λ q. is-not (sym q);
 }
 
--- word_at
+-- A text that is given, a byte at a time.
 word-cut : (w s : List ℕ) → length s < length w → readWord w s ≡ broken
 unfolding readWord
 word-cut [] s h = absurd (omega arith)
@@ -78,18 +80,7 @@ word-cut (w ∷ ws) [] h = refl
 word-cut (w ∷ ws) (b ∷ s) h = by-test (eqb b w) (λ e. let i = word-cut ws s (omega arith) in cc) (λ e. cc)
 
 module _ (w text : List ℕ) (at : ℕ) (inside : at ≤ length text) where
-  pub word-short : length text - at < length w → Stands (readWord w (drop at text)) text (at + length w) Nothing
-  word-short h = stands-not (word-cut w (drop at text) (omega (arith, length-drop at text)))
-
-  pub word-start : readWord w (drop at text) ≡ readWord (drop 0 w) (drop (at + 0) text)
-  word-start = let z : at ≡ at + 0 = omega arith in ap (λ (n : ℕ). readWord w (drop n text)) z
-
   module _ (i : ℕ) (going : readWord w (drop at text) ≡ readWord (drop i w) (drop (at + i) text)) where
-    pub word-done : i ≤ length w → length w ≤ i → length w ≤ length text - at → Stands (readWord w (drop at text)) text (at + length w) (At (at + i))
-    unfolding readWord
-    word-done g h r =
-        stands-at (going ∙ ap (λ (u : List ℕ). readWord u (drop (at + i) text)) (drop-of-length-le w {i = i} h)) (omega arith) (omega arith)
-
     module _ (more : i < length w) (long : length w ≤ length text - at) where
       there : at + i < length text
       there = omega arith
@@ -229,14 +220,6 @@ at-inside {a = a} w h = w .reached a h .inside
 
 pub is-inside : {o : Read ℕ} {text : List ℕ} {from v a : ℕ} {x : Number} → Numbers o text from x → x ≡ N.Is v a → a ≤ length text
 is-inside {v = v} {a = a} w h = w .reached v a h .inside
-
--- A reading that goes on elsewhere.
-stands-from : {o p : Read (Unit {0})} {text : List ℕ} {from past : ℕ} {x : Place} → o ≡ p → past ≤ from → Stands o text from x → Stands p text past x
-stands-from e h w = record {
-  found = λ d q. sym e ∙ w .found d q;
-  reached = λ d q. let z = w .reached d q in record { past = omega (arith, z .past); inside = z .inside };
-  nothing = λ q. sym e ∙ w .nothing q;
-}
 
 -- begin_at and closing_at, a byte at a time
 module _ (text : List ℕ) (c : ℕ) (w : List ℕ) (i : ℕ) (there : i < length text) where

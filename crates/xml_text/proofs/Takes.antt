@@ -16,13 +16,15 @@ use Rattle.format_fields.proofs.Splices.{nothing-spliced}
 use Rattle.tree_reader.specs.Syntax.{done}
 use Rattle.check_operations.specs.declared.put.Step.{Step}
 use Rattle.check_operations.specs.declared.put.Step.the-variants.{To, Full}
-use Rattle.xml_text.specs.Text.{decimal, openNode, closeNode, openToken, closeToken, nodeTag, tokenTag}
+use Rattle.format_fields.specs.Decimal.{decimal}
+use Rattle.xml_text.specs.Text.{openNode, closeNode, openToken, closeToken, nodeTag, tokenTag}
 use Rattle.xml_text.specs.Import.{isDigit, readNumber}
 use Rattle.xml_text.specs.declared.scan.Number.{Number}
 use Rattle.xml_text.specs.declared.scan.Number.the-variants as N
 use Rattle.xml_text.specs.Inner.Scanning.{Numbers}
 use Rattle.xml_text.specs.Inner.Contents.{Contents, empty, closing, opening, value, signed, bytesIn, after, Behind, Written-to, Takes}
-use Rattle.xml_text.proofs.Decimal.{Stops, same-done, decimal-small, decimal-large, decimal-some, digit-range, number-round}
+use Rattle.format_fields.proofs.Decimal.{decimal-small, decimal-large, decimal-some}
+use Rattle.xml_text.proofs.Decimal.{Stops, same-done, digit-range, number-round}
 use Rattle.xml_text.proofs.Round.{node-tag, token-tag, stop-end, stop-tag}
 use Rattle.xml_text.proofs.Scans.{number-one, number-none, end-no-digit}
 use Rattle.xml_text.proofs.Stores.{written-then, set-stored, store-in}

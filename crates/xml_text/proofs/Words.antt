@@ -8,10 +8,12 @@ use lib.ListN.{length, length-append}
 use lib.Dec.{leb, eqb}
 use Rattle.format_fields.proofs.Truth.{by-test}
 use Rattle.tree_reader.specs.Syntax.{Read, done, deep, broken, andThen}
-use Rattle.xml_text.specs.Text.{decimal, openNode, closeNode, point, tagEnd, nodeTag, tokenTag}
+use Rattle.format_fields.specs.Decimal.{decimal}
+use Rattle.xml_text.specs.Text.{openNode, closeNode, point, tagEnd, nodeTag, tokenTag}
 use Rattle.xml_text.specs.Import.{isDigit, readWord, readDigits, readNumber, readNamed, readOpening, readClosing, readTokenTag}
 use Rattle.xml_text.specs.Inner.Scanning.{begins}
-use Rattle.xml_text.proofs.Decimal.{broken-not, then-done, word-round, word-sound, named-round, named-sound, decimal-some}
+use Rattle.format_fields.proofs.Decimal.{decimal-some}
+use Rattle.xml_text.proofs.Decimal.{broken-not, then-done, word-round, word-sound, named-round, named-sound}
 use Rattle.xml_text.proofs.Round.{stop-point, closing-round, closing-sound, tag-round, tag-sound}
 
 -- No reading of a tag is too deep.

@@ -1,21 +1,10 @@
 -- Trees as XML (paper 02, 2026-05): the export of a tree, in bytes.
-use Prim.Native.Nat.{ℕ, zero, suc, _+_, _/_, _%_}
-use mathlib.Core.Bool.{true, false}
+use Prim.Native.Nat.{ℕ}
 use mathlib.Core.List.{List, [], _∷_, _++_}
 use mathlib.Core.Option.{Option·getD}
-use lib.Dec.{ltb}
+use Rattle.format_fields.specs.Decimal.{decimal}
 use Rattle.format_language.specs.Language.{Language, argumentsOf}
 use Rattle.tree_reader.specs.Code.{Code, node, token, argument, Codes, nil, cons}
-
--- A number in decimal, without leading zeros. The fuel is more than the number.
-unfoldable pub decimalBy : ℕ → ℕ → List ℕ
-decimalBy zero n = []
-decimalBy (suc fuel) n =
-    elim (ltb n 10) [ true ↦ (48 + n) ∷ [] | false ↦ decimalBy fuel (n / 10) ++ ((48 + n % 10) ∷ []) ]
-
--- The same, with fuel for the number.
-unfoldable pub decimal : ℕ → List ℕ
-decimal n = decimalBy (suc n) n
 
 -- What the tags begin with: "<x" and "</x" for a production, "<t" and "</t" for a token.
 abbrev pub openNode : List ℕ

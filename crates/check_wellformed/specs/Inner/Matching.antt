@@ -14,14 +14,6 @@ use Rattle.format_language.specs.Inner.Entries.{entryWhole, entryAt}
 use Rattle.format_translation.specs.Translation.{Body, numbersOf}
 use Rattle.format_translation.specs.Inner.Items.{itemWhole, itemAt}
 
--- From p on up to r there are only entries whose keys are below `least`, and the one at r is not.
-pub record Skipped (tag least : ℕ) (s : List ℕ) (p r : ℕ) : Type 0 where
-  pub before : List ℕ
-  pub are : placesFrom s p ≡ before ++ placesFrom s r
-  pub below : all (λ x. ltb (orderAt tag s x) least) before ≡ true
-  pub stops : r < length s → least ≤ orderAt tag s r
-  pub inside : all (isWhole s) (placesFrom s p) ≡ true → p ≤ length s → r ≤ length s
-
 -- The items of a body from p on.
 unfoldable pub itemsFrom : List ℕ → ℕ → Body
 itemsFrom b p = map (itemAt b) (placesFrom b p)

@@ -3,9 +3,10 @@
 use Prim.Native.Nat.{ℕ, zero, suc, _+_, _*_, _<_, _≤_}
 use mathlib.Core.Path.{_≡_}
 use mathlib.Core.Bool.{Bool, true, false, cond, _&&_}
-use mathlib.Core.List.{List, [], _∷_}
+use mathlib.Core.List.{List, [], _∷_, _++_}
 use lib.ListN.{length, take, drop}
 use lib.Dec.{ltb, leb, eqb}
+use Rattle.format_fields.specs.Lists.{all}
 use Rattle.format_fields.specs.Fields.{Field, field, byteAt, pairAt}
 
 -- Where the field at p ends, by its length bytes.
@@ -98,3 +99,11 @@ slotAt leading s p = cond (ltb (byteAt s p) numberedTag) (keyAt leading s p) 655
 -- over the limit. `proofs/Over.antt` shows that `hasOver` asks for such a place.
 unfoldable pub overAt : (ℕ → Bool) → ℕ → List ℕ → ℕ → Bool
 overAt isLanguage limit s p = leb (p + 3) (length s) && (isLanguage (byteAt s p) && ltb limit (pairAt s (p + 1)))
+
+-- From p on up to r there are only entries whose keys are below `least`, and the one at r is not.
+pub record Skipped (leading least : ℕ) (s : List ℕ) (p r : ℕ) : Type 0 where
+  pub before : List ℕ
+  pub are : placesFrom s p ≡ before ++ placesFrom s r
+  pub below : all (λ x. ltb (orderAt leading s x) least) before ≡ true
+  pub stops : r < length s → least ≤ orderAt leading s r
+  pub inside : all (isWhole s) (placesFrom s p) ≡ true → p ≤ length s → r ≤ length s

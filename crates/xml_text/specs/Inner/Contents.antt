@@ -9,7 +9,8 @@ use Rattle.format_fields.specs.Fields.{twoBytes}
 use Rattle.format_fields.specs.Inner.Writing.{Written}
 use Rattle.check_operations.specs.declared.put.Step.{Step}
 use Rattle.check_operations.specs.declared.put.Step.the-variants.{To, Full}
-use Rattle.xml_text.specs.Text.{decimal, openNode, closeNode, openToken, closeToken, nodeTag, tokenTag}
+use Rattle.format_fields.specs.Decimal.{decimal}
+use Rattle.xml_text.specs.Text.{openNode, closeNode, openToken, closeToken, nodeTag, tokenTag}
 
 -- A text of whole tags and tokens, and the bytes of the names and values in it.
 pub data Contents : List ℕ → List ℕ → Type 0 where

@@ -7,7 +7,7 @@ use lib.ListN.{length, take, drop}
 use Rattle.format_language.specs.Language.{Range}
 use Rattle.tree_reader.specs.Code.{Code, token}
 use Rattle.tree_reader.specs.Syntax.{Read, done, deep, broken}
-use Rattle.xml_text.specs.Text.{decimal}
+use Rattle.format_fields.specs.Decimal.{decimal}
 use Rattle.xml_text.specs.Import.{readToken}
 use Rattle.xml_text.specs.declared.scan.Place.{Place}
 use Rattle.xml_text.specs.declared.scan.Place.the-variants.{At, Nothing}

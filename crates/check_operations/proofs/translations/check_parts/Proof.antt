@@ -9,7 +9,7 @@ use Rattle.check_operations.proofs.translations.check_parts.Lts as lts
 use Rattle.outcome.proofs.refuse.Reads as refuse-reads
 use Rattle.format_translation.proofs.order.in_order.Reads as in-order-reads
 use Rattle.format_translation.proofs.order.languages_clash.Reads as languages-clash-reads
-use Rattle.check_wellformed.proofs.check.check_kept.Reads as check-kept-reads
+use Rattle.check_wellformed.proofs.check.check_and_index.Reads as check-and-index-reads
 
 returns : tie.Need-returns
 returns c = (
@@ -18,21 +18,21 @@ returns c = (
 )
 
 languages-clash-requires : tie.Need-languages-clash-requires
-languages-clash-requires c κs = (c .before .before .before .before .before .before .before .pre .4 .0, c .before .before .before .before .before .before .before .pre .4 .1, sym (c .before .in-order .ensures _ (c .before .before .before .before .before .before .before .pre .4 .1)) ∙ not-false _ (c .if1 .left))
+languages-clash-requires c κs = (_, c .before .before .before .before .before .before .before .pre .4 .0, c .before .before .before .before .before .before .before .pre .4 .1, sym (c .before .in-order .ensures _ (c .before .before .before .before .before .before .before .pre .4 .1)) ∙ not-false _ (c .if1 .left))
 
 returns-2 : tie.Need-returns-2
 returns-2 c = (
-  λ f w. clash-refused f _ (c .before .before .before .before .in-order .ensures f w) (not-false _ (c .before .before .before .if1 .left)) _ (c .before .before .languages-clash .ensures f w) (c .before .if2 .taken) (c .refuse2 .ensures),
-  (c .before .before .before .before .before .before .before .before .before .before .pre .0, λ f w e. clash-none f _ (c .before .before .before .before .in-order .ensures f w) (not-false _ (c .before .before .before .if1 .left)) _ (c .before .before .languages-clash .ensures f w) (c .before .if2 .taken) e),
+  λ f w. clash-refused f _ (c .before .before .before .before .in-order .ensures f w) (not-false _ (c .before .before .before .if1 .left)) _ (c .before .before .languages-clash .ensures _ f w) (c .before .if2 .taken) (c .refuse2 .ensures),
+  (c .before .before .before .before .before .before .before .before .before .before .pre .0, λ f w e. clash-none f _ (c .before .before .before .before .in-order .ensures f w) (not-false _ (c .before .before .before .if1 .left)) _ (c .before .before .languages-clash .ensures _ f w) (c .before .if2 .taken) e),
 )
 
-check-kept-requires : tie.Need-check-kept-requires
-check-kept-requires c κs = (c .before .before .before .before .before .before .before .before .before .before .before .pre .0, c .before .before .before .before .before .before .before .before .before .before .before .pre .1, c .before .before .before .before .before .before .before .before .before .before .before .pre .2, c .before .before .before .before .before .before .before .before .before .before .before .pre .3, (c .before .before .before .before .before .before .before .before .before .before .before .pre .4 .0, c .before .before .before .before .before .before .before .before .before .before .before .pre .4 .1, sym (c .before .before .before .before .before .in-order .ensures _ (c .before .before .before .before .before .before .before .before .before .before .before .pre .4 .1)) ∙ not-false _ (c .before .before .before .before .if1 .left)))
+check-and-index-requires : tie.Need-check-and-index-requires
+check-and-index-requires c κs = (c .before .before .before .before .before .before .before .before .before .before .before .pre .0, c .before .before .before .before .before .before .before .before .before .before .before .pre .1, c .before .before .before .before .before .before .before .before .before .before .before .pre .2, c .before .before .before .before .before .before .before .before .before .before .before .pre .3, (c .before .before .before .before .before .before .before .before .before .before .before .pre .4 .0, c .before .before .before .before .before .before .before .before .before .before .before .pre .4 .1, sym (c .before .before .before .before .before .in-order .ensures _ (c .before .before .before .before .before .before .before .before .before .before .before .pre .4 .1)) ∙ not-false _ (c .before .before .before .before .if1 .left)))
 
 returns-3 : tie.Need-returns-3
 returns-3 c = (
-  λ f w. formed-next f _ (c .before .before .before .before .before .before .before .before .before .before .in-order .ensures f w) (not-false _ (c .before .before .before .before .before .before .before .before .before .if1 .left)) _ (c .before .before .before .before .before .before .before .before .languages-clash .ensures f w) (c .before .before .before .before .before .before .before .if2 .left) (c .before .before .before .before .check-kept .ensures .0 f w (sym (c .before .before .before .before .before .before .before .before .before .before .in-order .ensures f w) ∙ not-false _ (c .before .before .before .before .before .before .before .before .before .if1 .left))),
-  let k = c .before .before .before .before .check-kept .ensures .1 in
+  λ f w. formed-next f _ (c .before .before .before .before .before .before .before .before .before .before .in-order .ensures f w) (not-false _ (c .before .before .before .before .before .before .before .before .before .if1 .left)) _ (c .before .before .before .before .before .before .before .before .languages-clash .ensures _ f w) (c .before .before .before .before .before .before .before .if2 .left) (c .before .before .before .before .check-and-index .ensures .0 f w (sym (c .before .before .before .before .before .before .before .before .before .before .in-order .ensures f w) ∙ not-false _ (c .before .before .before .before .before .before .before .before .before .if1 .left))),
+  let k = c .before .before .before .before .check-and-index .ensures .1 in
       (k .0, λ f w e. (k .1, k .2, k .3 f w (sym (c .before .before .before .before .before .before .before .before .before .before .in-order .ensures f w) ∙ not-false _ (c .before .before .before .before .before .before .before .before .before .if1 .left)))),
 )
 
@@ -46,7 +46,7 @@ check-parts-spec =
     languages-clash-requires
     (λ c κs. search needs)
     returns-2
-    check-kept-requires
+    check-and-index-requires
     (λ c. search needs)
     (λ c. search needs)
     returns-3)

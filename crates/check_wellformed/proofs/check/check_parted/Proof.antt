@@ -4,13 +4,13 @@ use Rattle.check_wellformed.proofs.check.check_parted.Statement.{statem
 use Rattle.check_wellformed.proofs.check.check_parted.Tie as tie
 use Rattle.check_wellformed.proofs.check.check_parted.Reads as reads
 use Rattle.check_wellformed.proofs.check.check_parted.Lts as lts
-use Rattle.check_wellformed.proofs.check.check_indexed.Reads as check-indexed-reads
+use Rattle.check_wellformed.proofs.check.check_conditions.Reads as check-conditions-reads
 
-check-indexed-requires : tie.Need-check-indexed-requires
-check-indexed-requires c κs = (_, ready-cut _ _ (c .before .before .before .before .before .before .before .args .indexes .now) _ _ _ (c .before .before .before .before .before .before .before .pre .1 .1))
+check-conditions-requires : tie.Need-check-conditions-requires
+check-conditions-requires c κs = (_, ready-cut _ _ (c .before .before .before .before .before .before .before .args .indexes .now) _ _ _ (c .before .before .before .before .before .before .before .pre .1 .1))
 
 returns : tie.Need-returns
-returns c = λ f z. c .before .before .check-indexed .ensures f (ready-cut _ _ (c .before .before .before .before .before .before .before .before .before .before .args .indexes .now) _ _ f z)
+returns c = λ f z. c .before .before .check-conditions .ensures f (ready-cut _ _ (c .before .before .before .before .before .before .before .before .before .before .args .indexes .now) _ _ f z)
 
 pub check-parted-spec : {M : Type 1} → statement M
 check-parted-spec =
@@ -19,6 +19,6 @@ check-parted-spec =
     (λ c. search needs)
     (λ c. search needs)
     (λ c. search needs)
-    check-indexed-requires
+    check-conditions-requires
     (λ c. search needs)
     returns)

@@ -13,7 +13,7 @@ use Rattle.format_fields.proofs.bytes.to_usize.Reads as to-usize-reads
 use Rattle.format_fields.proofs.walk.whole_end.Reads as whole-end-reads
 use Rattle.format_fields.proofs.walk.whole_key.Reads as whole-key-reads
 use Rattle.check_wellformed.proofs.clauses.clauses_end.Reads as clauses-end-reads
-use Rattle.check_wellformed.proofs.clauses.skip_below.Reads as skip-below-reads
+use Rattle.format_fields.proofs.walk.skip_below.Reads as skip-below-reads
 
 abbrev Inv-loop : tie.InvT-loop
 Inv-loop source q body p from₀ to₀ m₀ from to m = Walk source q body p from to m

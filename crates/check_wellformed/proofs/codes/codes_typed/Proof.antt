@@ -22,7 +22,7 @@ use Rattle.check_wellformed.proofs.codes.codes_typed.Reads as reads
 use Rattle.check_wellformed.proofs.codes.codes_typed.Lts as lts
 use Rattle.format_fields.proofs.walk.whole_end.Reads as whole-end-reads
 use Rattle.format_fields.proofs.walk.whole_key.Reads as whole-key-reads
-use Rattle.check_wellformed.proofs.clauses.skip_below.Reads as skip-below-reads
+use Rattle.format_fields.proofs.walk.skip_below.Reads as skip-below-reads
 use Rattle.check_wellformed.proofs.codes.code_typed.Reads as code-typed-reads
 
 abbrev Inv-loop : tie.InvT-loop

@@ -24,7 +24,7 @@ use Rattle.check_wellformed.proofs.mapping.mappings_fit.Reads as reads
 use Rattle.check_wellformed.proofs.mapping.mappings_fit.Lts as lts
 use Rattle.format_fields.proofs.bytes.to_usize.Reads as to-usize-reads
 use Rattle.format_fields.proofs.walk.whole_end.Reads as whole-end-reads
-use Rattle.check_wellformed.proofs.clauses.skip_below.Reads as skip-below-reads
+use Rattle.format_fields.proofs.walk.skip_below.Reads as skip-below-reads
 use Rattle.format_translation.proofs.body.is_clause.Reads as is-clause-reads
 use Rattle.check_wellformed.proofs.mapping.class_kept.Reads as class-kept-reads
 use Rattle.check_wellformed.proofs.mapping.reaches_at.Reads as reaches-at-reads

@@ -3,7 +3,7 @@ use Prim.Native.Nat.{_+_, _-_}
 use mathlib.Core.Logic.{⊎-elim}
 use native.Mathlib.Omega.{arith}
 use lib.ListN.{length}
-use Rattle.reduce_merge.proofs.Walks.{head-here, key-here}
+use Rattle.reduce_merge.proofs.Walks.{head-here, key-here, sought}
 use Rattle.reduce_merge.proofs.Turns.{Merging, rest-start, merging-room, merging-inside, merging-done, merging-out, merging-low, merging-both, merging-moves, merging-full, merging-high}
 use Rattle.reduce_merge.proofs.Prefixes.{shared-merge}
 use Rattle.reduce_merge.proofs.merge.merge.Statement.{statement}
@@ -27,20 +27,20 @@ order-at-requires c κs = key-here _ _ (c .before .before .loop .inv .left .from
 order-at-requires-2 : tie.Need-order-at-requires-2 Inv-loop μ-loop
 order-at-requires-2 c κs = key-here _ _ (c .before .before .before .loop .inv .right .from) (c .before .if1 .left)
 
-seek-requires : tie.Need-seek-requires Inv-loop μ-loop
-seek-requires c κs = c .before .before .before .before .before .loop .inv .right .from
+skip-below-requires : tie.Need-skip-below-requires Inv-loop μ-loop
+skip-below-requires c κs = c .before .before .before .before .before .loop .inv .right .from .long
 
 put-both-requires : tie.Need-put-both-requires Inv-loop μ-loop
-put-both-requires c κs = (merging-inside _ _ _ _ _ _ _ _ _ (c .before .before .before .before .before .before .before .loop .inv), (record { rise = c .before .seek .ensures .past; fits = c .before .seek .ensures .from .inside }, merging-room _ _ _ _ _ _ _ _ _ (c .before .before .before .before .before .before .before .loop .inv)))
+put-both-requires c κs = (merging-inside _ _ _ _ _ _ _ _ _ (c .before .before .before .before .before .before .before .loop .inv), (record { rise = (sought _ _ _ _ _ (c .before .before .before .before .before .before .before .loop .inv .right .from) (c .before .skip-below .ensures)) .past; fits = (sought _ _ _ _ _ (c .before .before .before .before .before .before .before .loop .inv .right .from) (c .before .skip-below .ensures)) .from .inside }, merging-room _ _ _ _ _ _ _ _ _ (c .before .before .before .before .before .before .before .loop .inv)))
 
 returns : tie.Need-returns Inv-loop μ-loop
-returns c = merging-full _ _ _ _ _ _ _ _ _ (c .before .before .before .before .before .before .before .before .before .before .before .before .loop .inv) (c .before .before .before .before .before .before .before .before .before .before .before .loop-test .taken) (c .before .before .before .before .before .before .before .before .before .before .if1 .left) _ _ (c .before .before .before .before .before .before .before .before .before .order-at .ensures .0) (c .before .before .before .before .before .before .before .before .order-at2 .ensures .0) (c .before .before .before .before .before .before .before .if2 .taken) _ (c .before .before .before .before .before .before .seek .ensures) _ _ (c .before .before .before .before .put-both .ensures) (c .enum-told .given .1)
+returns c = merging-full _ _ _ _ _ _ _ _ _ (c .before .before .before .before .before .before .before .before .before .before .before .before .loop .inv) (c .before .before .before .before .before .before .before .before .before .before .before .loop-test .taken) (c .before .before .before .before .before .before .before .before .before .before .if1 .left) _ _ (c .before .before .before .before .before .before .before .before .before .order-at .ensures .0) (c .before .before .before .before .before .before .before .before .order-at2 .ensures .0) (c .before .before .before .before .before .before .before .if2 .taken) _ (sought _ _ _ _ _ (c .before .before .before .before .before .before .before .before .before .before .before .before .loop .inv .right .from) (c .before .before .before .before .before .before .skip-below .ensures)) _ _ (c .before .before .before .before .put-both .ensures) (c .enum-told .given .1)
 
 loop-less : tie.Need-loop-less Inv-loop μ-loop
-loop-less c = omega (arith, merging-moves _ _ _ _ _ _ _ _ _ (c .before .before .before .before .before .before .before .before .before .before .before .before .before .loop .inv) (c .before .before .before .before .before .before .before .before .before .before .before .before .loop-test .taken) (c .before .before .before .before .before .before .before .before .before .before .before .if1 .left) _ _ (c .before .before .before .before .before .before .before .before .before .before .order-at .ensures .0) (c .before .before .before .before .before .before .before .before .before .order-at2 .ensures .0) (c .before .before .before .before .before .before .before .before .if2 .taken) _ (c .before .before .before .before .before .before .before .seek .ensures), c .before .before .before .before .before .before .before .seek .ensures .from .inside)
+loop-less c = omega (arith, merging-moves _ _ _ _ _ _ _ _ _ (c .before .before .before .before .before .before .before .before .before .before .before .before .before .loop .inv) (c .before .before .before .before .before .before .before .before .before .before .before .before .loop-test .taken) (c .before .before .before .before .before .before .before .before .before .before .before .if1 .left) _ _ (c .before .before .before .before .before .before .before .before .before .before .order-at .ensures .0) (c .before .before .before .before .before .before .before .before .before .order-at2 .ensures .0) (c .before .before .before .before .before .before .before .before .if2 .taken) _ (sought _ _ _ _ _ (c .before .before .before .before .before .before .before .before .before .before .before .before .before .loop .inv .right .from) (c .before .before .before .before .before .before .before .skip-below .ensures)), (sought _ _ _ _ _ (c .before .before .before .before .before .before .before .before .before .before .before .before .before .loop .inv .right .from) (c .before .before .before .before .before .before .before .skip-below .ensures)) .from .inside)
 
 loop-again : tie.Need-loop-again Inv-loop μ-loop
-loop-again c = merging-high _ _ _ _ _ _ _ _ _ (c .before .before .before .before .before .before .before .before .before .before .before .before .before .loop .inv) (c .before .before .before .before .before .before .before .before .before .before .before .before .loop-test .taken) (c .before .before .before .before .before .before .before .before .before .before .before .if1 .left) _ _ (c .before .before .before .before .before .before .before .before .before .before .order-at .ensures .0) (c .before .before .before .before .before .before .before .before .before .order-at2 .ensures .0) (c .before .before .before .before .before .before .before .before .if2 .taken) _ (c .before .before .before .before .before .before .before .seek .ensures) _ _ (c .before .before .before .before .before .put-both .ensures) _ (c .before .m .given .1) (c .before .before .before .before .before .put-both .kept .1 .1 .1 .1 .1 .1 .0)
+loop-again c = merging-high _ _ _ _ _ _ _ _ _ (c .before .before .before .before .before .before .before .before .before .before .before .before .before .loop .inv) (c .before .before .before .before .before .before .before .before .before .before .before .before .loop-test .taken) (c .before .before .before .before .before .before .before .before .before .before .before .if1 .left) _ _ (c .before .before .before .before .before .before .before .before .before .before .order-at .ensures .0) (c .before .before .before .before .before .before .before .before .before .order-at2 .ensures .0) (c .before .before .before .before .before .before .before .before .if2 .taken) _ (sought _ _ _ _ _ (c .before .before .before .before .before .before .before .before .before .before .before .before .before .loop .inv .right .from) (c .before .before .before .before .before .before .before .skip-below .ensures)) _ _ (c .before .before .before .before .before .put-both .ensures) _ (c .before .m .given .1) (c .before .before .before .before .before .put-both .kept .1 .1 .1 .1 .1 .1 .0)
 
 whole-end-requires : tie.Need-whole-end-requires Inv-loop μ-loop
 whole-end-requires c κs = head-here _ _ (c .before .before .before .before .before .before .loop .inv .left .from) (c .before .before .before .before .before .loop-test .taken)
@@ -79,7 +79,7 @@ merge-spec =
     loop-holds
     order-at-requires
     order-at-requires-2
-    seek-requires
+    skip-below-requires
     put-both-requires
     (λ c. search needs)
     (λ c. search needs)

@@ -3,7 +3,7 @@ use Prim.Native.Nat.{_-_}
 use lib.ListN.{length}
 use Rattle.format_fields.specs.Keyed.{without}
 use Rattle.reduce_merge.specs.Inner.Parts.{samePart, removed}
-use Rattle.reduce_merge.proofs.Walks.{whole-here, head-here, key-here}
+use Rattle.reduce_merge.proofs.Walks.{whole-here, head-here, key-here, sought}
 use Rattle.reduce_merge.proofs.Turns.{Going, rest-start, remove-turn, remove-end, progress-on, progress-full, progress-done, rest-next, rest-sought, field-inside, going-room}
 use Rattle.reduce_merge.proofs.Prefixes.{shared-remove}
 use Rattle.reduce_merge.proofs.merge.remove.Statement.{statement}
@@ -27,20 +27,20 @@ order-at-requires c κs = key-here _ _ (c .before .loop .inv .left .from) (c .lo
 whole-end-requires : tie.Need-whole-end-requires Inv-loop μ-loop
 whole-end-requires c κs = head-here _ _ (c .before .before .before .before .loop .inv .left .from) (c .before .before .before .loop-test .taken)
 
-seek-requires : tie.Need-seek-requires Inv-loop μ-loop
-seek-requires c κs = c .before .before .loop .inv .right .from
+skip-below-requires : tie.Need-skip-below-requires Inv-loop μ-loop
+skip-below-requires c κs = c .before .before .loop .inv .right .from .long
 
 stands-at-requires : tie.Need-stands-at-requires Inv-loop μ-loop
-stands-at-requires c κs = (whole-here _ _ (c .before .before .before .loop .inv .left .from) (c .before .before .loop-test .taken), c .seek .ensures .from)
+stands-at-requires c κs = (whole-here _ _ (c .before .before .before .loop .inv .left .from) (c .before .before .loop-test .taken), (sought _ _ _ _ _ (c .before .before .before .loop .inv .right .from) (c .skip-below .ensures)) .from)
 
 put-if-requires : tie.Need-put-if-requires Inv-loop μ-loop
 put-if-requires c κs = (field-inside _ _ _ (c .before .before .before .before .before .before .loop .inv .left) (c .before .before .before .before .before .loop-test .taken) _ (c .before .whole-end .ensures .is), going-room _ _ _ _ _ _ _ _ _ _ (c .before .before .before .before .before .before .loop .inv))
 
 returns : tie.Need-returns Inv-loop μ-loop
-returns c = progress-full _ _ _ _ _ (c .before .before .before .before .before .before .before .before .before .before .before .loop .inv .progress) _ _ (remove-turn (c .before .before .before .before .before .before .before .before .before .before .before .before .before .before .before .before .args .leading-tag) (c .before .before .before .before .before .before .before .before .before .before .before .before .before .before .before .before .args .a .now) (c .before .before .before .before .before .before .before .before .before .before .before .before .before .before .before .before .args .b .now) (c .before .before .before .before .before .before .before .before .before .before .before .loop .p) (c .before .before .before .before .before .before .before .before .before .before .before .loop .q) (c .before .before .before .before .before .before .before .before .before .before .before .loop .inv .left) (c .before .before .before .before .before .before .before .before .before .before .before .loop .inv .right) (c .before .before .before .before .before .before .before .before .before .before .loop-test .taken) _ (c .before .before .before .before .before .before .before .before .before .order-at .ensures .0) _ (c .before .before .before .before .before .before .before .before .seek .ensures) _ (c .before .before .before .before .before .before .whole-end .ensures .is) _ (c .before .before .before .before .before .before .before .stands-at .ensures)) _ _ (c .before .before .before .before .put-if .ensures) (c .enum-told .given .1)
+returns c = progress-full _ _ _ _ _ (c .before .before .before .before .before .before .before .before .before .before .before .loop .inv .progress) _ _ (remove-turn (c .before .before .before .before .before .before .before .before .before .before .before .before .before .before .before .before .args .leading-tag) (c .before .before .before .before .before .before .before .before .before .before .before .before .before .before .before .before .args .a .now) (c .before .before .before .before .before .before .before .before .before .before .before .before .before .before .before .before .args .b .now) (c .before .before .before .before .before .before .before .before .before .before .before .loop .p) (c .before .before .before .before .before .before .before .before .before .before .before .loop .q) (c .before .before .before .before .before .before .before .before .before .before .before .loop .inv .left) (c .before .before .before .before .before .before .before .before .before .before .before .loop .inv .right) (c .before .before .before .before .before .before .before .before .before .before .loop-test .taken) _ (c .before .before .before .before .before .before .before .before .before .order-at .ensures .0) _ (sought _ _ _ _ _ (c .before .before .before .before .before .before .before .before .before .before .before .loop .inv .right .from) (c .before .before .before .before .before .before .before .before .skip-below .ensures)) _ (c .before .before .before .before .before .before .whole-end .ensures .is) _ (c .before .before .before .before .before .before .before .stands-at .ensures)) _ _ (c .before .before .before .before .put-if .ensures) (c .enum-told .given .1)
 
 loop-again : tie.Need-loop-again Inv-loop μ-loop
-loop-again c = record { progress = progress-on _ _ _ _ _ (c .before .before .before .before .before .before .before .before .before .before .before .before .loop .inv .progress) _ _ (remove-turn (c .before .before .before .before .before .before .before .before .before .before .before .before .before .before .before .before .before .args .leading-tag) (c .before .before .before .before .before .before .before .before .before .before .before .before .before .before .before .before .before .args .a .now) (c .before .before .before .before .before .before .before .before .before .before .before .before .before .before .before .before .before .args .b .now) (c .before .before .before .before .before .before .before .before .before .before .before .before .loop .p) (c .before .before .before .before .before .before .before .before .before .before .before .before .loop .q) (c .before .before .before .before .before .before .before .before .before .before .before .before .loop .inv .left) (c .before .before .before .before .before .before .before .before .before .before .before .before .loop .inv .right) (c .before .before .before .before .before .before .before .before .before .before .before .loop-test .taken) _ (c .before .before .before .before .before .before .before .before .before .before .order-at .ensures .0) _ (c .before .before .before .before .before .before .before .before .before .seek .ensures) _ (c .before .before .before .before .before .before .before .whole-end .ensures .is) _ (c .before .before .before .before .before .before .before .before .stands-at .ensures)) _ _ (c .before .before .before .before .before .put-if .ensures) _ (c .before .m .given .1) (c .before .before .before .before .before .put-if .kept .1 .1 .1 .1 .0); left = rest-next _ _ _ (c .before .before .before .before .before .before .before .before .before .before .before .before .loop .inv .left) (c .before .before .before .before .before .before .before .before .before .before .before .loop-test .taken) _ (c .before .before .before .before .before .before .before .whole-end .ensures .is); right = rest-sought _ _ _ _ _ (c .before .before .before .before .before .before .before .before .before .before .before .before .loop .inv .right) (c .before .before .before .before .before .before .before .before .before .seek .ensures) }
+loop-again c = record { progress = progress-on _ _ _ _ _ (c .before .before .before .before .before .before .before .before .before .before .before .before .loop .inv .progress) _ _ (remove-turn (c .before .before .before .before .before .before .before .before .before .before .before .before .before .before .before .before .before .args .leading-tag) (c .before .before .before .before .before .before .before .before .before .before .before .before .before .before .before .before .before .args .a .now) (c .before .before .before .before .before .before .before .before .before .before .before .before .before .before .before .before .before .args .b .now) (c .before .before .before .before .before .before .before .before .before .before .before .before .loop .p) (c .before .before .before .before .before .before .before .before .before .before .before .before .loop .q) (c .before .before .before .before .before .before .before .before .before .before .before .before .loop .inv .left) (c .before .before .before .before .before .before .before .before .before .before .before .before .loop .inv .right) (c .before .before .before .before .before .before .before .before .before .before .before .loop-test .taken) _ (c .before .before .before .before .before .before .before .before .before .before .order-at .ensures .0) _ (sought _ _ _ _ _ (c .before .before .before .before .before .before .before .before .before .before .before .before .loop .inv .right .from) (c .before .before .before .before .before .before .before .before .before .skip-below .ensures)) _ (c .before .before .before .before .before .before .before .whole-end .ensures .is) _ (c .before .before .before .before .before .before .before .before .stands-at .ensures)) _ _ (c .before .before .before .before .before .put-if .ensures) _ (c .before .m .given .1) (c .before .before .before .before .before .put-if .kept .1 .1 .1 .1 .0); left = rest-next _ _ _ (c .before .before .before .before .before .before .before .before .before .before .before .before .loop .inv .left) (c .before .before .before .before .before .before .before .before .before .before .before .loop-test .taken) _ (c .before .before .before .before .before .before .before .whole-end .ensures .is); right = rest-sought _ _ _ _ _ (c .before .before .before .before .before .before .before .before .before .before .before .before .loop .inv .right) (sought _ _ _ _ _ (c .before .before .before .before .before .before .before .before .before .before .before .before .loop .inv .right .from) (c .before .before .before .before .before .before .before .before .before .skip-below .ensures)) }
 
 returns-2 : tie.Need-returns-2 Inv-loop μ-loop
 returns-2 c = progress-done _ _ _ _ _ (c .before .loop .inv .progress) (remove-end (c .before .before .before .before .before .before .args .leading-tag) (c .before .before .before .before .before .before .args .a .now) (c .before .before .before .before .before .before .args .b .now) (c .before .loop .p) (c .before .loop .q) (c .loop-test .left))
@@ -54,7 +54,7 @@ remove-spec =
     shared-requires
     loop-holds
     order-at-requires
-    seek-requires
+    skip-below-requires
     stands-at-requires
     whole-end-requires
     put-if-requires

@@ -2,7 +2,7 @@ use borrow.Author.Needs.{needs}
 use Prim.Native.Nat.{_-_}
 use lib.ListN.{length}
 use borrow.Author.Tests.{not-true, not-false}
-use Rattle.reduce_merge.proofs.Walks.{head-here, key-here}
+use Rattle.reduce_merge.proofs.Walks.{head-here, key-here, sought}
 use Rattle.reduce_merge.proofs.Turns.{rest-start}
 use Rattle.reduce_merge.proofs.Prefixes.{shared-within}
 use Rattle.reduce_merge.proofs.Containing.{Containing, containing-end, containing-meets, containing-stop, containing-on}
@@ -13,7 +13,7 @@ use Rattle.reduce_merge.proofs.within.lies_within.Lts as lts
 use Rattle.format_fields.proofs.walk.whole_end.Reads as whole-end-reads
 use Rattle.format_fields.proofs.walk.order_at.Reads as order-at-reads
 use Rattle.reduce_merge.proofs.meet.lies_at.Reads as lies-at-reads
-use Rattle.reduce_merge.proofs.meet.seek.Reads as seek-reads
+use Rattle.format_fields.proofs.walk.skip_below.Reads as skip-below-reads
 use Rattle.reduce_merge.proofs.prefix.shared.Reads as shared-reads
 
 abbrev Inv-loop : tie.InvT-loop
@@ -31,20 +31,20 @@ loop-holds c = shared-within _ _ _ (c .before .before .before .pre) (c .shared .
 order-at-requires : tie.Need-order-at-requires Inv-loop μ-loop
 order-at-requires c κs = key-here _ _ (c .before .loop .inv .left .from) (c .loop-test .taken)
 
-seek-requires : tie.Need-seek-requires Inv-loop μ-loop
-seek-requires c κs = c .before .before .loop .inv .right .from
+skip-below-requires : tie.Need-skip-below-requires Inv-loop μ-loop
+skip-below-requires c κs = c .before .before .loop .inv .right .from .long
 
 lies-at-requires : tie.Need-lies-at-requires Inv-loop μ-loop
-lies-at-requires c κs = containing-meets _ _ _ _ (c .before .before .before .loop .inv) (c .before .before .loop-test .taken) _ (c .before .order-at .ensures .0) _ (c .seek .ensures)
+lies-at-requires c κs = containing-meets _ _ _ _ (c .before .before .before .loop .inv) (c .before .before .loop-test .taken) _ (c .before .order-at .ensures .0) _ (sought _ _ _ _ _ (c .before .before .before .loop .inv .right .from) (c .skip-below .ensures))
 
 returns : tie.Need-returns Inv-loop μ-loop
-returns c = containing-stop _ _ _ _ (c .before .before .before .before .before .loop .inv) (c .before .before .before .before .loop-test .taken) _ (c .before .before .before .order-at .ensures .0) _ (c .before .before .seek .ensures) _ (c .before .lies-at .ensures) (not-true _ (c .if1 .taken))
+returns c = containing-stop _ _ _ _ (c .before .before .before .before .before .loop .inv) (c .before .before .before .before .loop-test .taken) _ (c .before .before .before .order-at .ensures .0) _ (sought _ _ _ _ _ (c .before .before .before .before .before .loop .inv .right .from) (c .before .before .skip-below .ensures)) _ (c .before .lies-at .ensures) (not-true _ (c .if1 .taken))
 
 whole-end-requires : tie.Need-whole-end-requires Inv-loop μ-loop
 whole-end-requires c κs = head-here _ _ (c .before .before .before .before .before .loop .inv .left .from) (c .before .before .before .before .loop-test .taken)
 
 loop-again : tie.Need-loop-again Inv-loop μ-loop
-loop-again c = containing-on _ _ _ _ (c .before .before .before .before .before .before .loop .inv) (c .before .before .before .before .before .loop-test .taken) _ (c .before .before .before .before .order-at .ensures .0) _ (c .before .before .before .seek .ensures) _ (c .before .before .lies-at .ensures) (not-false _ (c .before .if1 .left)) _ (c .whole-end .ensures .is)
+loop-again c = containing-on _ _ _ _ (c .before .before .before .before .before .before .loop .inv) (c .before .before .before .before .before .loop-test .taken) _ (c .before .before .before .before .order-at .ensures .0) _ (sought _ _ _ _ _ (c .before .before .before .before .before .before .loop .inv .right .from) (c .before .before .before .skip-below .ensures)) _ (c .before .before .lies-at .ensures) (not-false _ (c .before .if1 .left)) _ (c .whole-end .ensures .is)
 
 returns-2 : tie.Need-returns-2 Inv-loop μ-loop
 returns-2 c = containing-end _ _ _ _ (c .before .loop .inv) (c .loop-test .left)
@@ -58,7 +58,7 @@ lies-within-spec =
     shared-requires
     loop-holds
     order-at-requires
-    seek-requires
+    skip-below-requires
     lies-at-requires
     returns
     whole-end-requires

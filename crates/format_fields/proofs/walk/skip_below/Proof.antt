@@ -2,14 +2,14 @@ use borrow.Author.Needs.{needs}
 use native.Mathlib.Omega.{arith}
 use Prim.Native.Nat.{_-_}
 use lib.ListN.{length}
 use Rattle.format_fields.proofs.Places.{every-here, long-here}
-use Rattle.check_wellformed.proofs.Matching.{Passed, skip-start, skip-next, skip-stop}
-use Rattle.check_wellformed.proofs.clauses.skip_below.Statement.{statement}
-use Rattle.check_wellformed.proofs.clauses.skip_below.Tie as tie
-use Rattle.check_wellformed.proofs.clauses.skip_below.Reads as reads
-use Rattle.check_wellformed.proofs.clauses.skip_below.Lts as lts
+use Rattle.format_fields.proofs.Skips.{Passed, skip-start, skip-next, skip-stop}
+use Rattle.format_fields.proofs.walk.skip_below.Statement.{statement}
+use Rattle.format_fields.proofs.walk.skip_below.Tie as tie
+use Rattle.format_fields.proofs.walk.skip_below.Reads as reads
+use Rattle.format_fields.proofs.walk.skip_below.Lts as lts
 use Rattle.format_fields.proofs.walk.order_at.Reads as order-at-reads
 use Rattle.format_fields.proofs.walk.whole_end.Reads as whole-end-reads
 
 abbrev Inv-loop : tie.InvT-loop
 Inv-loop s p leading-tag least q₀ q = Passed leading-tag least s p q

@@ -3,10 +3,10 @@ use Prim.Native.Nat.{_+_}
 use Rattle.tree_reader.proofs.Built.{zero-behind}
 use Rattle.check_wellformed.proofs.Kept.{both-long, first-stays, made-ready}
 use borrow.Author.Needs.{needs}
-use Rattle.check_wellformed.proofs.check.check_kept.Statement.{statement}
-use Rattle.check_wellformed.proofs.check.check_kept.Tie as tie
-use Rattle.check_wellformed.proofs.check.check_kept.Reads as reads
-use Rattle.check_wellformed.proofs.check.check_kept.Lts as lts
+use Rattle.check_wellformed.proofs.check.check_and_index.Statement.{statement}
+use Rattle.check_wellformed.proofs.check.check_and_index.Tie as tie
+use Rattle.check_wellformed.proofs.check.check_and_index.Reads as reads
+use Rattle.check_wellformed.proofs.check.check_and_index.Lts as lts
 use Rattle.tree_reader.proofs.index.put_index.Reads as put-index-reads
 use Rattle.check_wellformed.proofs.check.check_parted.Reads as check-parted-reads
 use Rattle.check_wellformed.proofs.check.fill_uses.Reads as fill-uses-reads
@@ -27,8 +27,8 @@ returns c =
     let z = made-ready _ _ _ _ _ (c .before .before .before .before .before .before .before .before .before .before .before .before .before .before .before .before .before .before .before .before .before .before .pre .0) (q .0) (q .1) (v .0) (v .1) _ _ (λ i. omega (arith, c .before .before .before .before .before .before .before .before .before .before .before .before .before .before .before .before .before .before .before .before .shared-slice-known2 .given i)) (c .before .before .before .before .before .before .before .fill-uses .ensures .0) (c .before .before .before .before .before .before .before .fill-uses .ensures .1) in
     (λ f p h. c .before .before .check-parted .ensures f (z f p h) .0, (both-long _ _ _ _ _ (c .before .before .before .before .before .before .before .before .before .before .before .before .before .before .before .before .before .before .before .before .before .before .pre .0) (q .0) (q .1) (v .0) (v .1), first-stays _ _ _ _ _ (c .before .before .before .before .before .before .before .before .before .before .before .before .before .before .before .before .before .before .before .before .before .before .pre .0) (q .0) (q .1) (v .0) (v .1), v .0, λ f p h. c .before .before .check-parted .ensures f (z f p h) .1))
 
-pub check-kept-spec : {M : Type 1} → statement M
-check-kept-spec =
+pub check-and-index-spec : {M : Type 1} → statement M
+check-and-index-spec =
     tie.close
     (tie.spec
     put-index-requires

@@ -4,14 +4,14 @@ use mathlib.Core.Path.{_∙_}
 use Rattle.check_wellformed.proofs.Formed.{formed-mapping, formed-clauses, formed-codes, formed-all}
 use Rattle.check_wellformed.proofs.Matching.{source-long, body-long, sides, match-is, clauses-are, codes-are}
 use borrow.Author.Needs.{needs}
-use Rattle.check_wellformed.proofs.check.check_indexed.Statement.{statement}
-use Rattle.check_wellformed.proofs.check.check_indexed.Tie as tie
-use Rattle.check_wellformed.proofs.check.check_indexed.Reads as reads
-use Rattle.check_wellformed.proofs.check.check_indexed.Lts as lts
+use Rattle.check_wellformed.proofs.check.check_conditions.Statement.{statement}
+use Rattle.check_wellformed.proofs.check.check_conditions.Tie as tie
+use Rattle.check_wellformed.proofs.check.check_conditions.Reads as reads
+use Rattle.check_wellformed.proofs.check.check_conditions.Lts as lts
 use Rattle.outcome.proofs.accept.Reads as accept-reads
 use Rattle.outcome.proofs.refuse.Reads as refuse-reads
 use Rattle.check_wellformed.proofs.clauses.clauses_match.Reads as clauses-match-reads
-use Rattle.check_wellformed.proofs.clauses.skip_below.Reads as skip-below-reads
+use Rattle.format_fields.proofs.walk.skip_below.Reads as skip-below-reads
 use Rattle.check_wellformed.proofs.codes.codes_typed.Reads as codes-typed-reads
 use Rattle.check_wellformed.proofs.mapping.mapping_fits.Reads as mapping-fits-reads
 
@@ -39,8 +39,8 @@ returns-3 c = λ f z. (formed-codes f _ (c .before .before .before .before .befo
 returns-4 : tie.Need-returns-4
 returns-4 c = λ f z. (formed-all f _ (c .before .before .before .before .before .before .before .before .before .before .before .mapping-fits .ensures f z) (not-false _ (c .before .before .before .before .before .before .before .before .before .before .if1 .left)) _ (c .before .before .before .before .before .before .before .clauses-match .ensures ∙ match-is _ _ _ _ _ f z (λ i. omega (arith, c .before .before .before .before .before .before .before .before .before .before .before .before .before .before .before .before .before .shared-slice-known .given i)) (λ i. omega (arith, c .before .before .before .before .before .before .before .before .before .before .before .before .before .before .shared-slice-known4 .given i)) _ _ (c .before .before .before .before .before .before .before .before .before .skip-below .ensures) (c .before .before .before .before .before .before .before .before .skip-below2 .ensures)) (not-false _ (c .before .before .before .before .before .before .if2 .left)) _ (c .before .before .before .before .codes-typed .ensures f z .0 ∙ codes-are _ _ _ _ _ f z (λ i. omega (arith, c .before .before .before .before .before .before .before .before .before .before .before .before .before .before .before .before .before .shared-slice-known .given i)) (λ i. omega (arith, c .before .before .before .before .before .before .before .before .before .before .before .before .before .before .shared-slice-known4 .given i)) _ _ (c .before .before .before .before .before .before .before .before .before .skip-below .ensures) (c .before .before .before .before .before .before .before .before .skip-below2 .ensures)) (not-false _ (c .before .if3 .left)) (c .accept .ensures), c .before .before .before .before .codes-typed .ensures f z .1 .uses)
 
-pub check-indexed-spec : {M : Type 1} → statement M
-check-indexed-spec =
+pub check-conditions-spec : {M : Type 1} → statement M
+check-conditions-spec =
     tie.close
     (tie.spec
     (λ c κs. search needs)

@@ -1,0 +1,5 @@
+pub mod Agreement
+pub mod Walks
+pub mod Answers
+pub mod Local
+pub mod Laws

@@ -1,0 +1,3 @@
+// Where the check of a tree stops.
+pub mod locate;
+pub mod walk;

@@ -1,0 +1,4 @@
+pub mod Nodes
+pub mod Operations
+pub mod Answers
+pub mod Laws
