@@ -4,13 +4,13 @@ use crate::write::PRODUCTION_TAG;
 use crate::{Kind, Language};
 
 /// The productions of a language, by rising result and name.
-#[derive(Clone, Debug, PartialEq, Eq)]
+#[derive(Clone, Debug, PartialEq, Eq, Hash)]
 pub(crate) struct Grammar<'a> {
     productions: Vec<Production<'a>>,
 }
 
 /// A production: result, name, and the kinds of its arguments.
-#[derive(Clone, Copy, Debug, PartialEq, Eq)]
+#[derive(Clone, Copy, Debug, PartialEq, Eq, Hash)]
 struct Production<'a> {
     key: (u8, u8),
     arguments: &'a [u8],

@@ -135,6 +135,14 @@ numbers! {
     Kind
     /// The number of a mapping. A kind may have several, 0 to 255, and always has number 0, which is
     /// the default.
+    ///
+    /// A root and a number cannot change places:
+    ///
+    /// ```compile_fail,E0308
+    /// use algebra::{run_to_vec, Kind, MappingNumber, Translation, Tree};
+    ///
+    /// run_to_vec(Translation(&[]), MappingNumber(0), Kind(1), Tree(&[]), 1000);
+    /// ```
     MappingNumber
     /// A limit of levels for a search, 1 to 16.
     Levels

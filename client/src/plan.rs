@@ -26,7 +26,7 @@ use std::ops::Range;
 /// assert_eq!(Plan::new(club, BLOCK, session, cut).unwrap_err(), Refusal::NotIndexed);
 /// # Ok::<(), Refusal>(())
 /// ```
-#[derive(Clone, Debug, PartialEq, Eq)]
+#[derive(Clone, Debug, PartialEq, Eq, Hash)]
 pub struct Plan<'a> {
     language: Language<'a>,
     root: Kind,
@@ -145,8 +145,8 @@ impl<'a> Plan<'a> {
     }
 }
 
-/// Argument numbers from the root down. A token below the last level is as many steps away as a tree
-/// has levels.
+/// Argument numbers from the root down, and zeros behind them. A token below the last level is as
+/// many steps away as a tree has levels.
 #[derive(Clone, Copy, PartialEq, Eq, Hash)]
 struct Steps {
     numbers: [u8; TREE_LEVELS],
@@ -162,7 +162,6 @@ impl Default for Steps {
 impl Steps {
     /// Goes below a block, before its first argument.
     fn enter(&mut self) {
-        self.numbers[self.length] = 0;
         self.length += 1;
     }
 
@@ -174,8 +173,10 @@ impl Steps {
     /// Goes back to the block whose arguments these were.
     fn leave(&mut self) {
         self.length -= 1;
+        self.numbers[self.length] = 0;
     }
 
+    /// The numbers of the path.
     fn numbers(&self) -> &[u8] {
         &self.numbers[..self.length]
     }
@@ -236,6 +237,7 @@ impl<'p> PlanNode<'p> {
 }
 
 impl fmt::Debug for PlanNode<'_> {
+    /// Writes what the node is, its bytes by their places, and its path.
     fn fmt(&self, formatter: &mut fmt::Formatter) -> fmt::Result {
         formatter
             .debug_struct("PlanNode")
@@ -306,6 +308,7 @@ impl ExactSizeIterator for Nodes<'_> {}
 impl FusedIterator for Nodes<'_> {}
 
 impl fmt::Debug for Nodes<'_> {
+    /// Writes how many nodes are left.
     fn fmt(&self, formatter: &mut fmt::Formatter) -> fmt::Result {
         formatter.debug_struct("Nodes").field("left", &self.len()).finish_non_exhaustive()
     }

@@ -77,6 +77,23 @@ fn paths_come_in_reading_order() {
 }
 
 #[test]
+fn nodes_are_equal_whatever_came_before_them() {
+    let (language, nothing) = (language(), || production(NOTHING, []));
+    let language = Language(&language);
+    // First blocks of 3 bytes and 1 or 2 arguments.
+    let firsts = [row(5), production(SEQUENCE, [nothing(), nothing()])];
+    let trees = firsts.map(|first| production(SEQUENCE, [first, row(7)]));
+    let indexes =
+        trees.each_ref().map(|tree| index_to_vec(language, BLOCK, Tree(tree)).expect("an index"));
+    let plan = |at: usize| Plan::new(language, BLOCK, Tree(&trees[at]), Index(&indexes[at]));
+    let (one, other) = (plan(0).expect("a plan"), plan(1).expect("a plan"));
+    let second = |node: &algebra::PlanNode| node.path().0 == [2];
+    assert!(one.nodes().any(|node| second(&node)));
+    assert_eq!(one.nodes().find(second), other.nodes().find(second));
+    assert_eq!(one.nodes().last(), other.nodes().last());
+}
+
+#[test]
 fn a_plan_is_checked_with_its_index() {
     let (language, tree) = (language(), row(5));
     let index = index_to_vec(Language(&language), BLOCK, Tree(&tree)).expect("an index");

@@ -9,7 +9,8 @@ use crate::options::Format;
 use crate::tidy::{tidied, Tidied};
 use crate::{Failure, Streams};
 use algebra::{
-    in_output, Card, Kind, Language, LoadTable, LoosePlan, Refusal, Tree, Xml, TABLE_BYTES,
+    in_output, Card, Kind, Language, LoadTable, LoosePlan, Refusal, Tree, TreeFault, Xml,
+    TABLE_BYTES,
 };
 use reference::explain::{self, Fault};
 use reference::names::Names;
@@ -115,6 +116,11 @@ impl TreeJob {
     }
 }
 
+/// A refusal with the position of the fault.
+fn located(fault: TreeFault) -> Refused {
+    Refused { position: fault.position(), ..fault.refusal().into() }
+}
+
 impl Job for TreeJob {
     fn length(&self) -> usize {
         self.tree.len()
@@ -129,12 +135,11 @@ impl Job for TreeJob {
                 algebra::check_tree(language, root, tree).map_err(Refusal::from)?;
                 Given::nothing()
             }
-            Operation::Locate => match algebra::locate(language, root, tree) {
-                None => Given::nothing(),
-                Some(fault) => {
-                    return Err(Refused { position: fault.position(), ..fault.refusal().into() })
-                }
-            },
+            Operation::Locate => {
+                algebra::locate(language, root, tree)
+                    .map_or(Ok(()), |fault| Err(located(fault)))?;
+                Given::nothing()
+            }
             Operation::Score { table } => {
                 Given::Score(algebra::score(language, root, tree, LoadTable(table))?)
             }
