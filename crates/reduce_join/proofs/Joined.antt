@@ -30,9 +30,8 @@ use Rattle.format_translation.proofs.Accepted.{accepts}
 use Rattle.format_translation.proofs.Lookup.{mapping-mem}
 use Rattle.run_table.specs.Inner.Table.{Ready, Checked}
 use Rattle.reduce_operators.specs.Operators.{numbersLow, joinFits, joined, translationJoin}
-use Rattle.format_translation.specs.Plain.{plain}
 use Rattle.reduce_operators.specs.Inner.Numbers.{mappingBelow}
-use Rattle.reduce_operators.proofs.Numbering.{low-mappings, plain-below}
+use Rattle.reduce_operators.proofs.Numbering.{low-mappings}
 use Rattle.reduce_operators.specs.Limits.{codeIsDeep, languageExceeds, translationExceeds}
 use Rattle.format_fields.specs.declared.copy.Stored.{Stored}
 use Rattle.format_fields.specs.declared.copy.Stored.the-variants.{Full}
@@ -230,10 +229,6 @@ low-not c e h = rw (← e, h) refl
 
 pub low-both : {a b c d : Bool} → a ≡ b → a ≡ true → d ≡ c → d ≡ (b && c)
 low-both e h g = rw (← e, h) g
-
-pub limit-one : (s : List ℕ) (b : Bool) → ((c : Body) → bodyOf s ≡ some c → b ≡ plain c) → b ≡ true
-    → (c : Body) → bodyOf s ≡ some c → all (mappingBelow 1) c ≡ true
-limit-one s b h e c q = plain-below c (sym (h c q) ∙ e)
 
 -- Numbers of mappings are below a limit that all items have.
 mapped-below : (b : Body) (limit : ℕ) → all (mappingBelow limit) b ≡ true → (k j : ℕ) → isSome (mappingOf b k j) ≡ true → j < limit

@@ -26,11 +26,11 @@ use format_translation::parts::TRANSLATION_LIMIT;
 use format_translation::parts::body_of;
 use format_translation::parts::source_of;
 use format_translation::parts::target_of;
-use format_translation::plain::is_plain;
 use outcome::Outcome;
 use outcome::Reason;
 use reduce_merge::within::lies_within;
 use reduce_operators::assemble::assemble;
+use reduce_operators::numbers::ZERO_ONLY;
 use reduce_operators::numbers::numbers_below;
 use run_table::prepare::begin;
 use run_table::prepare::prepare;
@@ -39,6 +39,9 @@ use tree_reader::node::USES;
 
 // The same limit as a byte, as the numbers of a body are.
 const LOW_LIMIT: u8 = LOW_NUMBERS as u8;
+
+// The limit that no number but 0 is below, as a byte.
+const ZERO_LIMIT: u8 = ZERO_ONLY as u8;
 
 // Whether two bodies have low numbers only.
 fn numbers_low(first_body: &[u8], second_body: &[u8]) -> bool
@@ -57,8 +60,8 @@ fn number_limit(body: &[u8]) -> u8
     requires { ⌜ ((b : Body) × (bodyOf (now body) ≡ some b)) ⌝ }
     ensures { λ r. ⌜ (r ≤ 16) × ((b : Body) → bodyOf (now (body .entry)) ≡ some b → all (mappingBelow 16) b ≡ true → all (mappingBelow r) b ≡ true) ⌝ }
 {
-    if is_plain(body) {
-        return 1;
+    if numbers_below(body, ZERO_ONLY) {
+        return ZERO_LIMIT;
     }
     LOW_LIMIT
 }

@@ -16,13 +16,11 @@ use Rattle.format_language.specs.Language.{isIn}
 use Rattle.tree_reader.specs.Inner.Positions.{kindBefore, mappedIn}
 use Rattle.format_translation.specs.Translation.{Item, mapping, clause, Body, Translation, numberOf, mappingOf}
 use Rattle.format_translation.specs.TranslationFile.{bodyOf}
-use Rattle.format_translation.specs.Plain.{plain}
 use Rattle.format_translation.specs.Inner.Items.{itemWhole, itemAt, ItemFacts, plain-mapping, plain-clause, numbered-mapping, numbered-clause, isClauseTag, itemsWhole}
 use Rattle.format_translation.specs.Inner.ItemIndex.{Mapped}
 use Rattle.format_translation.proofs.Items.{item-facts, clause-is, numbered-clause-is, holds-items}
 use Rattle.format_translation.proofs.Lookup.{mapping-mem, mem-mapping}
 use Rattle.format_translation.proofs.Fitting.{Fitting}
-use Rattle.format_translation.proofs.PlainUses.{item-zero}
 use Rattle.format_translation.proofs.Uses.{Front, Put}
 use Rattle.reduce_operators.specs.Operators.{numberKept, numbersAgree, lowNumber, numbersLow}
 use Rattle.reduce_operators.specs.Inner.Numbers.{mappingBelow, numberIn, keyKnown}
@@ -158,22 +156,13 @@ or-not : (x : Bool) → (not x || x) ≡ true
 or-not true = refl
 or-not false = refl
 
--- The numbers of a body with number 0 only are below 1.
-pub plain-below : (b : Body) → plain b ≡ true → all (mappingBelow 1) b ≡ true
-unfolding mappingBelow numberOf
-plain-below b h = mem-all (mappingBelow 1) b (λ a m. go a (item-zero b h a m))
-  where
-    go : (a : Item) → numberOf a ≡ 0 → mappingBelow 1 a ≡ true
-    go (mapping s j t) e = lt-ltb j 1 (omega (arith, e))
-    go (clause r p j c) e = refl
-
-pub zero-kept : (b c : Body) (x : Bool) → x ≡ plain b → x ≡ true → true ≡ all (numberIn c) b
+pub zero-kept : (b c : Body) (x : Bool) → x ≡ all (mappingBelow 1) b → x ≡ true → true ≡ all (numberIn c) b
 unfolding mappingBelow numberIn
 zero-kept b c x ex h = sym (mem-all (numberIn c) b each)
   where
     each : (a : Item) → Mem a b → numberIn c a ≡ true
     each (mapping s j t) m =
-        let l : ltb j 1 ≡ true = all-mem (mappingBelow 1) b (plain-below b (sym ex ∙ h)) (mapping s j t) m in
+        let l : ltb j 1 ≡ true = all-mem (mappingBelow 1) b (sym ex ∙ h) (mapping s j t) m in
         let z : j ≡ 0 = omega (arith, ltb-true j 1 l) in
         rw z (or-not (isSome (mappingOf c s 0)))
     each (clause r p j d) m = refl

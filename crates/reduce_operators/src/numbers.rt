@@ -16,8 +16,10 @@ use format_fields::walk::order_at;
 use format_fields::walk::whole_end;
 use format_translation::body::is_clause;
 use format_translation::index::put_uses;
-use format_translation::plain::is_plain;
 use tree_reader::node::USES;
+
+// The limit that no number but 0 is below.
+pub const ZERO_ONLY: usize = 1;
 
 // The mappings of a body, which stand in front, are by numbers below the limit.
 pub fn numbers_below(body: &[u8], limit: usize) -> bool
@@ -66,13 +68,13 @@ fn numbers_known(body: &[u8], uses: &[u8]) -> bool
     true
 }
 
-// Each number that a kind has in the first body it has in the second, where that maps it at all. A body with number 0 only
-// needs no table.
+// Each number that a kind has in the first body it has in the second, where that maps it at all. Mappings by number 0
+// only need no table.
 fn numbers_kept(first: &[u8], second: &[u8]) -> bool
     requires { ⌜ ((b : Body) × (bodyOf (now first) ≡ some b)) × ((c : Body) × (bodyOf (now second) ≡ some c)) × (length (now second) ≤ 32768) ⌝ }
     ensures { λ r. ⌜ ((b c : Body) → bodyOf (now (first .entry)) ≡ some b → bodyOf (now (second .entry)) ≡ some c → r ≡ all (numberIn c) b) ⌝ }
 {
-    if is_plain(first) {
+    if numbers_below(first, ZERO_ONLY) {
         return true;
     }
     let mut uses = [0u8; USES];

@@ -7,11 +7,11 @@ use Rattle.reduce_operators.proofs.numbers.numbers_kept.Tie as tie
 use Rattle.reduce_operators.proofs.numbers.numbers_kept.Reads as reads
 use Rattle.reduce_operators.proofs.numbers.numbers_kept.Lts as lts
 use Rattle.format_translation.proofs.index.put_uses.Reads as put-uses-reads
-use Rattle.format_translation.proofs.plain.is_plain.Reads as is-plain-reads
+use Rattle.reduce_operators.proofs.numbers.numbers_below.Reads as numbers-below-reads
 use Rattle.reduce_operators.proofs.numbers.numbers_known.Reads as numbers-known-reads
 
 returns : tie.Need-returns
-returns c = λ b d e q. zero-kept b d _ (c .before .is-plain .ensures b e) (c .if1 .taken)
+returns c = λ b d e q. zero-kept b d _ (c .before .numbers-below .ensures b e) (c .if1 .taken)
 
 put-uses-requires : tie.Need-put-uses-requires
 put-uses-requires c κs = (c .before .before .before .before .before .pre .2, refl, zeros 8192, c .before .before .before .before .before .pre .1)
