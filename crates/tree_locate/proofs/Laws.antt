@@ -118,6 +118,9 @@ module _ (language : List ℕ) (root : ℕ) (l : Language) (is : languageOf lang
   deep-not : (o : Stop) (u : List ℕ) → o ≡ deep u → o ≡ passes [] → ⊥
   deep-not o u e h = let z : _≡_ {A = ℕ} 0 1 = cc in omega arith
 
+  ends-not : (o : Stop) → o ≡ ends → o ≡ passes [] → ⊥
+  ends-not o e h = let z : _≡_ {A = ℕ} 0 1 = cc in omega arith
+
   -- Where so much is left behind a front, the position is the front's length.
   behind-front : (s a r : List ℕ) → s ≡ a ++ r → positionOf s r ≡ length a
   behind-front s a r e = let n : length s ≡ length a + length r = ap length e ∙ length-append a r in omega arith
@@ -165,7 +168,9 @@ module _ (language : List ℕ) (root : ℕ) (l : Language) (is : languageOf lang
         rw p (too-deep i (decided a r s e c (λ v q. deep-not (stops (a ++ v)) v (d v) q) (length a) refl))
 
     end-reason : ((g h : List ℕ) → s ≡ g ++ h → stops g ≡ ends) → Reason ends
-    end-reason d = ended (λ q h.
+    end-reason d = ended (λ q w e.
+        ends-not (stops (take q s)) (d (take q s) (drop q s) (sym (take-append-drop q s)))
+        (ap stops (sym (append-nil (take q s)) ∙ ap (λ (u : List ℕ). take q s ++ u) (sym e)) ∙ passes-legal (take q s) w)) (λ q h.
         cut-told (take q s) (d (take q s) (drop q s) (sym (take-append-drop q s))) ∙ ap cutAt (length-take-le q s h))
 
     reason : (o : Stop) → Local stops s o → Reason o
