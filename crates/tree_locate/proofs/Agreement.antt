@@ -5,7 +5,7 @@ use mathlib.Core.Bool.{Bool, true, false}
 use mathlib.Core.List.{List, [], _∷_}
 use mathlib.Core.Option.{Option, none, some}
 use Rattle.format_language.specs.Language.{Language, Range, rangeOf, argumentsOf, inRange}
-use Rattle.tree_reader.specs.Code.{Code, Codes, node, token, cons}
+use Rattle.tree_reader.specs.Code.{Code, node, token, cons}
 use Rattle.tree_reader.specs.Syntax.{Read, done, broken, andThen, tree, readAll, readOperands, readNode, readToken, readTreeLevel, readLevel, pastLevels, readBy, read}
 use Rattle.tree_reader.specs.Syntax as Meant
 use Rattle.tree_reader.specs.Inner.Positions.{Rest, rest, restOf}
@@ -30,22 +30,18 @@ token-agrees c (x ∷ y ∷ s) = go (inRange c (x * 256 + y))
     go true = refl
     go false = refl
 
+-- What is made of what was read leaves the same rest.
+made : {A B : Type 0} (f : A → B) (o : Read A) → restOf (andThen o λ a r. done (f a) r) ≡ restOf o
+made f (done a r) = refl
+made f Meant.deep = refl
+made f broken = refl
+
 module _ (stops : ℕ → List ℕ → Stop) (reads : ℕ → List ℕ → Read Code) (agree : (k : ℕ) (s : List ℕ) → restBy (stops k s) ≡ restOf (reads k s)) where
-  made : (f : Codes → Code) (o : Read Codes) → restOf (andThen o λ t r. done (f t) r) ≡ restOf o
-  made f (done t r) = refl
-  made f Meant.deep = refl
-  made f broken = refl
-
-  made-all : (a : Code) (o : Read Codes) → restOf (andThen o λ t r. done (cons a t) r) ≡ restOf o
-  made-all a (done t r) = refl
-  made-all a Meant.deep = refl
-  made-all a broken = refl
-
   next-agrees : (ks : List ℕ) (o : Stop) (p : Read Code) → restBy o ≡ restOf p → ((s : List ℕ) → restBy (stopAll stops ks s) ≡ restOf (readAll reads ks s))
       → restBy (onward o (stopAll stops ks)) ≡ restOf (andThen p λ a r. andThen (readAll reads ks r) λ t u. done (cons a t) u)
   next-agrees ks (passes s) (done a r) e h =
       let z : s ≡ r = cc in
-      rw z (h r ∙ sym (made-all a (readAll reads ks r)))
+      rw z (h r ∙ sym (made (λ t. cons a t) (readAll reads ks r)))
   next-agrees ks (passes s) Meant.deep e h = cc
   next-agrees ks (passes s) broken e h = cc
   next-agrees ks ends (done a r) e h = cc

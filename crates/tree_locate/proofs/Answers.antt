@@ -48,7 +48,7 @@ module _ (b : List ℕ) (o : Stop) {w : Walk} where
       go (deep s) e = cc
 
 -- What is left tells the stop.
-passes-by : (o : Stop) (u : List ℕ) → restBy o ≡ rest u → o ≡ passes u
+pub passes-by : (o : Stop) (u : List ℕ) → restBy o ≡ rest u → o ≡ passes u
 passes-by (passes s) u e = cc
 passes-by ends u e = let z : _≡_ {A = ℕ} 0 1 = cc in absurd (omega arith)
 passes-by (unfit s) u e = let z : _≡_ {A = ℕ} 0 1 = cc in absurd (omega arith)

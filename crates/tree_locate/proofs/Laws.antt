@@ -18,7 +18,7 @@ use Rattle.tree_reader.specs.Code.{Code}
 use Rattle.tree_reader.specs.Syntax.{Read, done, read, write, tree}
 use Rattle.tree_reader.specs.Syntax as Meant
 use Rattle.tree_reader.specs.Operations.{treeLevels, wholeTree, treeOf, checkTree}
-use Rattle.tree_reader.specs.Inner.Positions.{restOf, rest}
+use Rattle.tree_reader.specs.Inner.Positions.{restOf}
 use Rattle.tree_reader.proofs.Larger.{apart}
 use Rattle.tree_reader.proofs.Meaning.{done-of, deep-of, broken-of}
 use Rattle.tree_reader.proofs.RoundTrip.{round, as-tree}
@@ -28,6 +28,7 @@ use Rattle.tree_locate.specs.Faults.{Stop, passes, ends, unfit, deep, st
 use Rattle.tree_locate.specs.Operations.{positionOf, stopPosition, stopOf, toldPosition, locateTree}
 use Rattle.tree_locate.specs.Laws.{Agrees, StopsAsRead, Begins, cutAt, DecidedBy, Because, whole, leftover, ended, unknown, out-of-range, too-deep, PositionsHaveReasons, UnreadIsZero}
 use Rattle.tree_locate.proofs.Agreement.{restBy, stop-agrees}
+use Rattle.tree_locate.proofs.Answers.{passes-by}
 use Rattle.tree_locate.proofs.Local.{Cut, Local, by-tree, by-node, by-level, by-end, stop-local}
 
 agrees : (o : Stop) (g : Read Code) → restBy o ≡ restOf g → Agrees o g
@@ -94,13 +95,7 @@ module _ (language : List ℕ) (root : ℕ) (l : Language) (is : languageOf lang
       let e : read tree l [] treeLevels root (write tree (w .subject)) ≡ done (w .subject) [] =
       ap (read tree l [] treeLevels root) (sym (append-nil (write tree (w .subject))))
       ∙ round l (apart l (language-facts language l is .1)) (w .typed) as-tree treeLevels [] (w .within) in
-      passes-by (stops (b ++ w .behind)) (stop-agrees l treeLevels root (b ++ w .behind) ∙ ap restOf (ap (read tree l [] treeLevels root) (sym (w .is)) ∙ e))
-    where
-      passes-by : (o : Stop) → restBy o ≡ rest [] → o ≡ passes []
-      passes-by (passes s) e = cc
-      passes-by ends e = let z : _≡_ {A = ℕ} 0 1 = cc in absurd (omega arith)
-      passes-by (unfit s) e = let z : _≡_ {A = ℕ} 0 1 = cc in absurd (omega arith)
-      passes-by (deep s) e = let z : _≡_ {A = ℕ} 0 1 = cc in absurd (omega arith)
+      passes-by (stops (b ++ w .behind)) [] (stop-agrees l treeLevels root (b ++ w .behind) ∙ ap restOf (ap (read tree l [] treeLevels root) (sym (w .is)) ∙ e))
 
   never-by : (b : List ℕ) → ((v : List ℕ) → stops (b ++ v) ≡ passes [] → ⊥) → Begins l root b → ⊥
   never-by b h w = h (w .behind) (passes-legal b w)
@@ -117,6 +112,9 @@ module _ (language : List ℕ) (root : ℕ) (l : Language) (is : languageOf lang
 
   deep-not : (o : Stop) (u : List ℕ) → o ≡ deep u → o ≡ passes [] → ⊥
   deep-not o u e h = let z : _≡_ {A = ℕ} 0 1 = cc in omega arith
+
+  ends-not : (o : Stop) → o ≡ ends → o ≡ passes [] → ⊥
+  ends-not o e h = let z : _≡_ {A = ℕ} 0 1 = cc in omega arith
 
   -- Where so much is left behind a front, the position is the front's length.
   behind-front : (s a r : List ℕ) → s ≡ a ++ r → positionOf s r ≡ length a
@@ -165,7 +163,9 @@ module _ (language : List ℕ) (root : ℕ) (l : Language) (is : languageOf lang
         rw p (too-deep i (decided a r s e c (λ v q. deep-not (stops (a ++ v)) v (d v) q) (length a) refl))
 
     end-reason : ((g h : List ℕ) → s ≡ g ++ h → stops g ≡ ends) → Reason ends
-    end-reason d = ended (λ q h.
+    end-reason d = ended (λ q w e.
+        ends-not (stops (take q s)) (d (take q s) (drop q s) (sym (take-append-drop q s)))
+        (ap stops (sym (append-nil (take q s)) ∙ ap (λ (u : List ℕ). take q s ++ u) (sym e)) ∙ passes-legal (take q s) w)) (λ q h.
         cut-told (take q s) (d (take q s) (drop q s) (sym (take-append-drop q s))) ∙ ap cutAt (length-take-le q s h))
 
     reason : (o : Stop) → Local stops s o → Reason o

@@ -56,8 +56,9 @@ pub data Because (language : List ℕ) (l : Language) (root : ℕ) (bytes : List
   -- the bytes before the position are a legal tree within the levels, and there are more
   leftover : {p : ℕ} {t : Code} → p < length bytes → treeOf l root (take p bytes) ≡ value t
       → Because language l root bytes (Refused IllegalTree) p
-  -- the input ends: each front of it, and the input itself, is refused only because it ends
-  ended : ((q : ℕ) → q ≤ length bytes → locateTree language root (take q bytes) ≡ cutAt q)
+  -- the input ends: no front of it, nor the input itself, is a legal tree within the levels, and each is refused only because it ends
+  ended : ((q : ℕ) (w : Begins l root (take q bytes)) → w .behind ≡ [] → ⊥)
+      → ((q : ℕ) → q ≤ length bytes → locateTree language root (take q bytes) ≡ cutAt q)
       → Because language l root bytes (Refused IllegalTree) (length bytes)
   -- a name stands at the position with which no legal tree goes on
   unknown : {p : ℕ} → p < length bytes → DecidedBy language l root bytes (p + 1) → Because language l root bytes (Refused IllegalTree) p
