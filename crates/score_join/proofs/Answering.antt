@@ -5,8 +5,8 @@ use mathlib.Core.Bool.{Bool, true, false}
 use mathlib.Core.List.{List, _++_}
 use mathlib.Core.Option.{Option, none, some}
 use native.Mathlib.Omega.{arith}
-use lib.ListN.{length, getD, take, drop}
-use lib.Seq.{slice, take-append-seam}
+use lib.ListN.{length, getD, take, drop, length-drop}
+use lib.Seq.{slice, take-append-seam, getD-drop}
 use lib.IntN.{ℤ}
 use borrow.Author.Tests.{lt-ltb, le-ltb}
 use Rattle.format_fields.specs.Lists.{all, isSome}
@@ -22,10 +22,12 @@ use Rattle.format_fields.specs.Inner.Places.{places}
 use Rattle.format_fields.specs.Inner.Writing.{Inside, Written, Stores}
 use Rattle.format_fields.proofs.Truth.{false-true, some-is}
 use Rattle.format_fields.proofs.Splices.{opened}
+use Rattle.format_language.specs.Language.{Language, productionKey}
 use Rattle.format_language.specs.Inner.Entries.{RisingEntries}
 use Rattle.format_language.proofs.Holds.{holds-entries}
 use Rattle.format_language.proofs.Chain.{rising-is}
-use Rattle.tree_reader.specs.Inner.Index.{putAll}
+use Rattle.tree_reader.specs.Inner.Index.{putAll, Built}
+use Rattle.tree_reader.proofs.Built.{indexed-front}
 use Rattle.format_translation.specs.Translation.{Translation, Body}
 use Rattle.format_translation.specs.TranslationFile.{bodyOf, translationOf}
 use Rattle.format_translation.specs.Operations.{checkTranslation}
@@ -34,13 +36,16 @@ use Rattle.format_translation.specs.Inner.Parts.{sourceIn, targetIn, bodyIn}
 use Rattle.format_translation.proofs.Codec.{translation-whole, rises-parts}
 use Rattle.format_translation.proofs.Cuts.{pieces-in, body-in-short}
 use Rattle.format_translation.proofs.Accepted.{refused-not}
+use Rattle.format_translation.proofs.Found.{cut, rest-is}
 use Rattle.format_translation.specs.Plain.{plain}
 use Rattle.run_table.specs.Inner.Table.{Checked}
 use Rattle.score_tree.specs.LoadTable.{Table, loadsOf, tableOf, figureOf, encodeTable}
+use Rattle.score_tree.specs.Linear.{Loads}
 use Rattle.score_tree.specs.Inner.Kept.{Kept}
+use Rattle.score_tree.specs.Inner.Terms.{World}
 use Rattle.score_tree.proofs.Answering.{world-is}
 use Rattle.score_join.specs.Joined.{loadFits, joinedTable, joinedOf, joinBytes, joinTable}
-use Rattle.score_join.specs.Inner.Loading.{Parts, Puts, Answers, joinOn, joinWith, joinAny}
+use Rattle.score_join.specs.Inner.Loading.{Behind, Parts, Puts, Answers, joinOn, joinWith, joinAny}
 use Rattle.score_join.specs.declared.join.Joined.{Joined}
 use Rattle.score_join.specs.declared.join.Joined.the-variants.{To, Outside}
 
@@ -51,18 +56,37 @@ answer-refused e h = rw (← e) (record { answer = h; left = refl })
 pub answers-same : {a b : Result (List ℕ)} {o after : List ℕ} {out : Outcome} → a ≡ b → Answers a o after out → Answers b o after out
 answers-same e h = rw (← e) h
 
--- The target's index and figures, and the body's index.
-pub parts-held : (s t index zeros b items : List ℕ) (fig : List ℤ) (f : Translation) (w : Table) → ((i : ℕ) → getD t i 0 < 256) → Checked s t b f → plain (f .body) ≡ true → Kept fig t w
-    → length zeros ≡ 8224 → ((j : ℕ) → getD zeros j 0 ≡ 0) → index ≡ putAll 0x11 t zeros (places t)
-    → ((c : Body) → bodyOf b ≡ some c → IndexedItems items b c) → Parts s t index b items fig f (figureOf w)
-parts-held s t index zeros b items fig f w bytes z n k long zero built ind = record {
-  checked = z;
-  plain-body = n;
-  world = world-is t fig (f .target) w bytes
-      (record { entries = z .pieces .target; apart = translation-whole (z .file) f (z .accepted) .1 .target-apart; short = z .pieces .target-short; kept = k })
-      zeros index long zero built;
-  indexed = ind (f .body) (z .pieces .body);
-}
+-- What is looked up in a table that begins with the index.
+module _ (s index part : List ℕ) (fig : List ℤ) (l : Language) (w : Loads) (long : 8224 ≤ length part) (same : (j : ℕ) → j < 8224 → getD part j 0 ≡ getD index j 0)
+  where
+    world-front : World s index fig l w → World s part fig l w
+    world-front z = record {
+      indexed = indexed-front index part s long same l (z .indexed);
+      apart = z .apart;
+      small = z .small;
+      long = z .long;
+      is = λ k p ks h i e j g. rw (same (productionKey k p) (omega arith)) (z .is k p ks h i e j g);
+      sized = λ k p ks h i e. rw (same (productionKey k p) (omega arith)) (z .sized k p ks h i e);
+    }
+
+-- The target's index, which the check left, its figures, and the body's index.
+pub parts-held : (s t indexes b items : List ℕ) (fig : List ℤ) (f : Translation) (w : Table) → ((i : ℕ) → getD t i 0 < 256) → Behind t indexes → Checked s t b f
+    → plain (f .body) ≡ true → Kept fig t w → ((c : Body) → bodyOf b ≡ some c → IndexedItems items b c)
+    → Parts s t (cut indexes 8224 (length indexes)) b items fig f (figureOf w)
+parts-held s t indexes b items fig f w bytes q z n k ind =
+    let d = length-drop 8224 indexes in
+    let x = q .built in
+    let whole = world-is t fig (f .target) w bytes
+    (record { entries = z .pieces .target; apart = translation-whole (z .file) f (z .accepted) .1 .target-apart; short = z .pieces .target-short; kept = k })
+    (x .zeros) (putAll 0x11 t (x .zeros) (places t)) (x .long) (x .zero) refl in
+    record {
+      checked = z;
+      plain-body = n;
+      world = rw (rest-is indexes 8224)
+          (world-front t (putAll 0x11 t (x .zeros) (places t)) (drop 8224 indexes) fig (f .target) (figureOf w) (omega (arith, q .long))
+          (λ j h. getD-drop 8224 indexes j 0 ∙ x .is j h) whole);
+      indexed = ind (f .body) (z .pieces .body);
+    }
 
 -- join_held
 module _ (f : Translation) (w : Table) (o joined buffer : List ℕ) (r : Joined)
@@ -149,6 +173,9 @@ module _ (f : Translation) (t o : List ℕ) {x : Bool} (ex : x ≡ plain (f .bod
   numbers-plain h a = answers-same (rw (sym ex ∙ h) refl) a
 
 -- join_table
+pub behind : {s t indexes : List ℕ} → length indexes ≡ 16448 → Built 0x11 s indexes 8224 → t ≡ s → Behind t indexes
+behind l b e = rw e (record { long = l; built = b })
+
 module _ (s t o : List ℕ) where
   join-is : {out : Outcome} {after : List ℕ} → Answers (joinBytes s t (length o)) o after out → (out ≡ joinTable s t o .outcome) × (after ≡ joinTable s t o .output)
   unfolding joinTable

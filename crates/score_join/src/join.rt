@@ -1,10 +1,12 @@
 // The operation that joins a load table onto a translation.
-use check_operations::translations::check_translation;
+use check_operations::translations::check_kept;
+use check_wellformed::check::INDEXES;
+use check_wellformed::check::USES_ROOM;
 use format_fields::bytes::pair_in;
 use format_fields::copy::Stored;
 use format_fields::copy::put;
+use format_fields::copy::put_pair;
 use format_fields::walk::whole_end;
-use format_language::entries::CLASS;
 use format_language::entries::PRODUCTION;
 use format_translation::index::build_items;
 use format_translation::index::map_kind;
@@ -17,8 +19,6 @@ use outcome::Outcome;
 use outcome::Reason;
 use outcome::accept;
 use outcome::refuse;
-use run_emit::put::put_name;
-use run_emit::put::put_token;
 use score_tree::figures::encode;
 use score_tree::figures::is_figure;
 use score_tree::form::Formed;
@@ -28,8 +28,6 @@ use score_tree::table::FIGURES;
 use score_tree::table::LOAD;
 use score_tree::table::read_table;
 use tree_reader::index::INDEX;
-use tree_reader::index::put_all;
-use tree_reader::node::Syntax;
 use tree_reader::node::place_at;
 use tree_reader::read::CODE_LEVELS;
 ghost use mathlib.Core.Path.{_≡_};
@@ -52,7 +50,7 @@ ghost use Rattle.score_tree.specs.LoadTable.{Table, encodeTable};
 ghost use Rattle.score_tree.specs.Inner.Kept.{Kept};
 ghost use Rattle.score_tree.specs.Inner.Terms.{TermAsks};
 ghost use Rattle.score_join.specs.Joined.{placeFits, loadFits, joinedTable, joinTable};
-ghost use Rattle.score_join.specs.Inner.Loading.{Parts, LoadAsks, clauseAt, figuresBytes, loadBytes, Puts, Answers, joinOn, joinWith, joinAny};
+ghost use Rattle.score_join.specs.Inner.Loading.{Behind, Parts, LoadAsks, clauseAt, figuresBytes, loadBytes, Puts, Answers, joinOn, joinWith, joinAny};
 
 // A joined table has at most so many bytes: a load has less than two for each byte of its production's field.
 const JOINED: usize = 2048;
@@ -68,8 +66,8 @@ fn put_figure(z: i64, output: &mut [u8], pos: usize) -> usize
     requires { ⌜ (isFigure z ≡ true) × (pos + 2 ≤ length (now output)) ⌝ }
     ensures { λ r. ⌜ Written (figureBytes z) (now (output .entry)) (now (output .exit)) pos r ⌝ }
 {
-    let n = encode(z);
-    put_token(Syntax::Tree, (n / 256) as u8, (n % 256) as u8, output, pos)
+    put_pair(encode(z) as usize, output, pos);
+    pos + 2
 }
 
 // Puts the front of a load: tag, length, result, name.
@@ -77,15 +75,11 @@ fn put_head(result: u8, name: u8, size: usize, output: &mut [u8], pos: usize) ->
     requires { ⌜ (size < 65536) × (pos + 5 ≤ length (now output)) ⌝ }
     ensures { λ r. ⌜ Written (0x24 ∷ (twoBytes size ++ (result ∷ name ∷ []))) (now (output .entry)) (now (output .exit)) pos r ⌝ }
 {
-    let a = put_name(Syntax::Tree, LOAD, output, pos);
-    let b = put_token(
-        Syntax::Tree,
-        (size / 256) as u8,
-        (size % 256) as u8,
-        output,
-        a,
-    );
-    put_token(Syntax::Tree, result, name, output, b)
+    output[pos] = LOAD;
+    put_pair(size, output, pos + 1);
+    output[pos + 3] = result;
+    output[pos + 4] = name;
+    pos + 5
 }
 
 // Puts so many places of the form of the code at a position of the body, each as a figure.
@@ -209,25 +203,32 @@ fn join_loads(
     Joined::To(n)
 }
 
-// The joined table of a translation with number 0 only and a table that were accepted: 11, and 17 last.
+// The joined table of a translation with number 0 only and a table that were accepted: 11, and 17 last. The index of the target is
+// the one that the check of the translation made; the body is indexed here.
 fn join_held(
     source: &[u8],
     target: &[u8],
+    indexes: &[u16],
     body: &[u8],
     figures: &[i32],
     output: &mut [u8],
 ) -> Answer
-    requires { ⌜ ((f : Translation) × (w : Table) × Checked (now source) (now target) (now body) f × (plain (f .body) ≡ true) × Kept (now figures) (now target) w) ⌝ }
+    requires { ⌜ Behind (now target) (now indexes) × ((f : Translation) × (w : Table) × Checked (now source) (now target) (now body) f × (plain (f .body) ≡ true) × Kept (now figures) (now target) w) ⌝ }
     ensures { λ r. ⌜ ((f : Translation) (w : Table) → Checked (now (source .entry)) (now (target .entry)) (now (body .entry)) f → plain (f .body) ≡ true → Kept (now (figures .entry)) (now (target .entry)) w
         → Answers (joinOn f w (length (now (output .entry)))) (now (output .entry)) (now (output .exit)) (r .outcome)) ⌝ }
 {
-    let mut index = [0u16; INDEX];
-    put_all(target, CLASS, &mut index);
     let mut items = [0u16; INDEX];
     build_items(body, &mut items);
     let mut joined = [0u8; JOINED];
-    let Joined::To(n) = join_loads(source, target, &index, body, &items, figures, &mut joined)
-    else {
+    let Joined::To(n) = join_loads(
+        source,
+        target,
+        &indexes[INDEX..],
+        body,
+        &items,
+        figures,
+        &mut joined,
+    ) else {
         return refuse(Reason::ValueTooLarge);
     };
     if output.len() < n {
@@ -238,8 +239,15 @@ fn join_held(
 }
 
 // The joined table of a translation with number 0 only that was accepted: 18, 11, 17.
-fn join_plain(source: &[u8], target: &[u8], body: &[u8], table: &[u8], output: &mut [u8]) -> Answer
-    requires { ⌜ ((f : Translation) × Checked (now source) (now target) (now body) f × (plain (f .body) ≡ true)) ⌝ }
+fn join_plain(
+    source: &[u8],
+    target: &[u8],
+    indexes: &[u16],
+    body: &[u8],
+    table: &[u8],
+    output: &mut [u8],
+) -> Answer
+    requires { ⌜ Behind (now target) (now indexes) × ((f : Translation) × Checked (now source) (now target) (now body) f × (plain (f .body) ≡ true)) ⌝ }
     ensures { λ r. ⌜ ((f : Translation) → Checked (now (source .entry)) (now (target .entry)) (now (body .entry)) f → plain (f .body) ≡ true
         → Answers (joinWith f (now (table .entry)) (length (now (output .entry)))) (now (output .entry)) (now (output .exit)) (r .outcome)) ⌝ }
 {
@@ -247,19 +255,26 @@ fn join_plain(source: &[u8], target: &[u8], body: &[u8], table: &[u8], output: &
     if !read_table(target, table, &mut figures) {
         return refuse(Reason::BrokenTable);
     }
-    join_held(source, target, body, &figures, output)
+    join_held(source, target, indexes, body, &figures, output)
 }
 
 // The joined table of a translation that was accepted: 26, 18, 11, 17.
-fn join_parts(source: &[u8], target: &[u8], body: &[u8], table: &[u8], output: &mut [u8]) -> Answer
-    requires { ⌜ ((f : Translation) × Checked (now source) (now target) (now body) f) ⌝ }
+fn join_parts(
+    source: &[u8],
+    target: &[u8],
+    indexes: &[u16],
+    body: &[u8],
+    table: &[u8],
+    output: &mut [u8],
+) -> Answer
+    requires { ⌜ Behind (now target) (now indexes) × ((f : Translation) × Checked (now source) (now target) (now body) f) ⌝ }
     ensures { λ r. ⌜ ((f : Translation) → Checked (now (source .entry)) (now (target .entry)) (now (body .entry)) f
         → Answers (joinAny f (now (table .entry)) (length (now (output .entry)))) (now (output .entry)) (now (output .exit)) (r .outcome)) ⌝ }
 {
     if !is_plain(body) {
         return refuse(Reason::NumberUnfit);
     }
-    join_plain(source, target, body, table, output)
+    join_plain(source, target, indexes, body, table, output)
 }
 
 // Join a table: 1 to 7 for the translation, 26 where it has any number but 0, 18 for the table against the target, 11 where a
@@ -268,7 +283,9 @@ pub fn join_table(translation: &[u8], table: &[u8], output: &mut [u8]) -> Answer
     ensures { λ r. ⌜ (r .outcome ≡ joinTable (now (translation .entry)) (now (table .entry)) (now (output .entry)) .outcome)
         × (now (output .exit) ≡ joinTable (now (translation .entry)) (now (table .entry)) (now (output .entry)) .output) ⌝ }
 {
-    let answer = check_translation(translation);
+    let mut indexes = [0u16; INDEXES];
+    let mut uses = [0u8; USES_ROOM];
+    let answer = check_kept(translation, &mut indexes, &mut uses);
     let outcome = answer.outcome;
     if let Outcome::Refused(reason) = outcome {
         return refuse(reason);
@@ -276,6 +293,7 @@ pub fn join_table(translation: &[u8], table: &[u8], output: &mut [u8]) -> Answer
     join_parts(
         source_of(translation),
         target_of(translation),
+        &indexes,
         body_of(translation),
         table,
         output,

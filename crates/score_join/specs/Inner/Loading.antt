@@ -4,7 +4,7 @@ use mathlib.Core.Path.{_≡_}
 use mathlib.Core.Bool.{Bool, true, false, not}
 use mathlib.Core.List.{List, map}
 use mathlib.Core.Option.{some}
-use lib.ListN.{getD}
+use lib.ListN.{length, getD}
 use lib.IntN.{ℤ}
 use Rattle.format_fields.specs.Lists.{concatMap, countUp}
 use Rattle.format_fields.specs.Fields.{encodeField}
@@ -15,6 +15,8 @@ use Rattle.format_fields.specs.Inner.Writing.{Written}
 use Rattle.format_language.specs.Language.{argumentsOf}
 use Rattle.format_language.specs.Inner.Entries.{IsProduction}
 use Rattle.tree_reader.specs.Code.{Code}
+use Rattle.tree_reader.specs.Inner.Index.{Built, indexLength}
+use Rattle.check_wellformed.specs.Inner.Ready.{indexesLength}
 use Rattle.format_translation.specs.Translation.{Translation}
 use Rattle.format_translation.specs.Running.{clausesOf}
 use Rattle.format_translation.specs.Operations.{fitted}
@@ -29,6 +31,11 @@ use Rattle.score_join.specs.Joined.{joinedOf}
 use Rattle.score_join.specs.declared.join.Joined.{Joined}
 use Rattle.score_join.specs.declared.join.Joined.the-variants.{To}
 use Rattle.score_join.specs.declared.join.Joined.the-variants as Ends
+
+-- The indexes of a translation's languages, one behind the other, as its check leaves them: that of the target t stands behind.
+pub record Behind (t indexes : List ℕ) : Type 0 where
+  pub long : length indexes ≡ indexesLength
+  pub built : Built 0x11 t indexes indexLength
 
 -- The three parts of f, which has number 0 only, the indexes of its target and its body, and the figures of a table of the
 -- target.

@@ -1,31 +1,37 @@
-use native.Mathlib.Omega.{arith}
-use mathlib.Core.List.{[]}
-use Rattle.score_join.proofs.Puts.{head-one, head-two, head-put}
+use Rattle.score_join.proofs.Puts.{head-first, head-third, head-fourth, head-same, head-put}
 use borrow.Author.Needs.{needs}
 use Rattle.score_join.proofs.join.put_head.Statement.{statement}
 use Rattle.score_join.proofs.join.put_head.Tie as tie
 use Rattle.score_join.proofs.join.put_head.Reads as reads
 use Rattle.score_join.proofs.join.put_head.Lts as lts
-use Rattle.run_emit.proofs.put.put_name.Reads as put-name-reads
-use Rattle.run_emit.proofs.put.put_token.Reads as put-token-reads
+use Rattle.format_fields.proofs.copy.put_pair.Reads as put-pair-reads
 
-put-token-requires : tie.Need-put-token-requires
-put-token-requires c κs = let h = head-one 0 0 0 _ _ [] [] _ _ 0 0 (c .before .before .before .before .before .before .pre .1) (c .before .before .before .put-name .ensures) in omega (arith, h .0)
+put-pair-requires : tie.Need-put-pair-requires
+put-pair-requires c κs = (c .before .before .pre .0, head-first (c .before .before .args .size) (c .before .before .args .result) (c .before .before .args .name) (c .before .before .args .output .now) (c .before .before .args .pos) (c .before .before .pre .1))
 
-put-token-requires-2 : tie.Need-put-token-requires-2
-put-token-requires-2 c κs = let h = head-two _ 0 0 _ _ _ [] _ _ _ 0 (c .before .before .before .before .before .before .before .before .before .before .pre .1) (c .before .before .before .before .before .before .before .put-name .ensures) (c .before .before .before .put-token .ensures) in omega (arith, h .0)
+slice-write-output-2 : tie.Need-slice-write-output-2
+slice-write-output-2 c = head-third (c .before .before .before .before .before .args .size) (c .before .before .before .before .before .args .result) (c .before .before .before .before .before .args .name) (c .before .before .before .before .before .args .output .now) (c .before .before .before .before .before .args .pos) (c .before .before .before .before .before .pre .1) _ (c .before .before .put-pair .ensures)
+
+slice-write-output-3 : tie.Need-slice-write-output-3
+slice-write-output-3 c = head-fourth (c .before .before .before .before .before .args .size) (c .before .before .before .before .before .args .result) (c .before .before .before .before .before .args .name) (c .before .before .before .before .before .args .output .now) (c .before .before .before .before .before .args .pos) (c .before .before .before .before .before .pre .1) _ (c .before .before .put-pair .ensures)
+
+same-length : tie.Need-same-length
+same-length c = head-same (c .before .before .before .before .before .args .size) (c .before .before .before .before .before .args .result) (c .before .before .before .before .before .args .name) (c .before .before .before .before .before .args .output .now) (c .before .before .before .before .before .args .pos) (c .before .before .before .before .before .pre .1) _ (c .before .before .put-pair .ensures)
 
 returns : tie.Need-returns
-returns c = head-put _ _ _ _ _ _ _ _ _ _ _ (c .before .before .before .before .before .before .before .before .before .before .before .before .before .pre .1) (c .before .before .before .before .before .before .before .before .before .before .put-name .ensures) (c .before .before .before .before .before .before .put-token .ensures) (c .before .before .put-token2 .ensures)
+returns c = head-put (c .before .before .before .before .before .args .size) (c .before .before .before .before .before .args .result) (c .before .before .before .before .before .args .name) (c .before .before .before .before .before .args .output .now) (c .before .before .before .before .before .args .pos) (c .before .before .before .before .before .pre .1) _ (c .before .before .put-pair .ensures)
 
 pub put-head-spec : {M : Type 1} → statement M
 put-head-spec =
     tie.close
     (tie.spec
-    (λ c κs. search needs)
     (λ c. search needs)
     (λ c. search needs)
-    put-token-requires
-    put-token-requires-2
+    put-pair-requires
     (λ c. search needs)
+    slice-write-output-2
+    (λ c. search needs)
+    slice-write-output-3
+    (λ c. search needs)
+    same-length
     returns)
