@@ -1,7 +1,7 @@
 //! A call of one of the operations, by the reference or by the library.
 
 use crate::generate::{BlockCase, EditCase, ExportCase, ImportCase, IndexCase, JoinTableCase};
-use crate::generate::{MaskCase, ReduceCase, RunCase, ScoreCase, SearchCase, TreeCase};
+use crate::generate::{MaskCase, Random, ReduceCase, RunCase, ScoreCase, SearchCase, TreeCase};
 #[cfg(feature = "library")]
 use crate::interface;
 use crate::outcome::Outcome;
@@ -43,6 +43,22 @@ pub struct Buffers {
     pub workspace: Vec<u8>,
     pub output: Vec<u8>,
     pub index: Vec<u8>,
+}
+
+impl Buffers {
+    /// Buffers of the same lengths whose contents begin with any byte and rise, so that what was
+    /// written shows.
+    pub fn marked(&self, random: &mut Random) -> Buffers {
+        let mut marked = |buffer: &[u8]| -> Vec<u8> {
+            let start = random.byte();
+            (0..buffer.len()).map(|place| start.wrapping_add((place % 251) as u8)).collect()
+        };
+        Buffers {
+            workspace: marked(&self.workspace),
+            output: marked(&self.output),
+            index: marked(&self.index),
+        }
+    }
 }
 
 /// What a call answered: the number and the length, and figures that are 0 where the operation
@@ -171,8 +187,8 @@ impl Call {
         }
     }
 
-    /// The bytes that the call is handed, by their names.
-    fn files(&self) -> Vec<(&'static str, &[u8])> {
+    /// The bytes that the call is handed, by their names, in the order of the header.
+    pub fn files(&self) -> Vec<(&'static str, &[u8])> {
         let in_language = |language, name, tree| vec![("language", language), (name, tree)];
         match self {
             Call::CheckLanguage(language) => vec![("language", language)],
@@ -208,7 +224,7 @@ impl Call {
     }
 
     /// The root, if the call has one.
-    fn root(&self) -> Option<u32> {
+    pub fn root(&self) -> Option<u32> {
         match self {
             Call::CheckTree(case) | Call::Locate(case) => Some(case.root),
             Call::Run(case) => Some(case.root),
@@ -224,16 +240,20 @@ impl Call {
         }
     }
 
+    /// The number of a run or the limit of a search.
+    pub fn number(&self) -> Option<(&'static str, u32)> {
+        match self {
+            Call::Run(case) => Some(("number", case.number)),
+            Call::Search(case) => Some(("limit", case.limit)),
+            _ => None,
+        }
+    }
+
     /// All inputs by name, with the lengths of the buffers.
     pub fn inputs(&self) -> Vec<(&'static str, Input<'_>)> {
         let files = self.files().into_iter().map(|(name, bytes)| (name, Input::Bytes(bytes)));
-        let numbers = match self {
-            Call::Run(case) => vec![("number", case.number)],
-            Call::Search(case) => vec![("limit", case.limit)],
-            _ => vec![],
-        };
         let roots = self.root().map(|root| ("root", root));
-        let numbers = roots.into_iter().chain(numbers);
+        let numbers = roots.into_iter().chain(self.number());
         let Buffers { workspace, output, index } = self.buffers();
         let lengths = [("workspace length", workspace.len()), ("output length", output.len())];
         let lengths = lengths.into_iter().chain([("index length", index.len())]);

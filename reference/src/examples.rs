@@ -9,6 +9,7 @@ use crate::files::{
 use crate::generate::{BlockCase, EditCase, ExportCase, ImportCase, IndexCase, JoinTableCase};
 use crate::generate::{MaskCase, ReduceCase, RunCase, ScoreCase, SearchCase, TreeCase};
 use crate::node::NO_NAME;
+use crate::promises::{EARLY_REFUSALS, SEARCHED};
 use crate::reduce::{OUTPUT_LEAST, WORKSPACE_LEAST};
 
 /// A call with the answer and the bytes that it must give.
@@ -25,12 +26,6 @@ pub struct Example {
 
 /// An output that is long enough for any result but an endless one.
 const LONG_OUTPUT: usize = 1 << 20;
-
-/// Reductions that leave the workspace as it was.
-const EARLY_REFUSALS: [u32; 6] = [1, 2, 3, 4, 8, 9];
-
-/// Searches that leave the workspace all zero.
-const SEARCHED: [u32; 3] = [0, 17, 23];
 
 /// Class 2 of 1 to some value; productions 1.1 (2), 1.2 (1 1), 1.3 (2).
 fn minutes_up_to(high: u16) -> Vec<u8> {

@@ -45,6 +45,7 @@ pub mod names;
 pub mod notation;
 pub mod packing;
 pub mod plans;
+pub mod promises;
 pub mod show;
 pub mod stack;
 pub mod steps;

@@ -15,6 +15,7 @@ use reference::generate::{
     search_case, translation_file, tree_case, Random, LONG_TREE,
 };
 use reference::laws::Broken;
+use reference::promises::answers;
 use std::fmt::Write as _;
 use std::process::ExitCode;
 use std::thread::{available_parallelism, scope};
@@ -50,8 +51,6 @@ struct Finding {
 /// An operation that can be compared, or laws that can be tried.
 struct Operation {
     name: &'static str,
-    /// The numbers that are possible, all of which must be reached.
-    possible: &'static [usize],
     tried: Tried,
 }
 
@@ -67,117 +66,64 @@ enum Tried {
 const OPERATIONS: &[Operation] = &[
     Operation {
         name: "check_language",
-        possible: &[0, 1, 2, 3, 4],
         tried: Tried::Call(|random| Call::CheckLanguage(language_file(random))),
     },
     Operation {
         name: "check_tree",
-        possible: &[0, 1, 2, 3, 4, 14, 15, 16],
         tried: Tried::Call(|random| Call::CheckTree(tree_case(random))),
     },
     Operation {
         name: "check_translation",
-        possible: &[0, 1, 2, 3, 4, 5, 6, 7],
         tried: Tried::Call(|random| Call::CheckTranslation(translation_file(random))),
     },
-    Operation {
-        name: "run",
-        possible: &[0, 1, 2, 3, 4, 5, 6, 7, 14, 15, 16, 17],
-        tried: Tried::Call(|random| Call::Run(run_case(random))),
-    },
-    Operation {
-        name: "reduce",
-        possible: &[0, 1, 2, 3, 4, 5, 6, 7, 8, 9, 10, 11, 12, 13, 26],
-        tried: Tried::Call(|random| Call::Reduce(reduce_case(random))),
-    },
-    Operation {
-        name: "score",
-        possible: &[0, 1, 2, 3, 4, 14, 15, 16, 18, 19],
-        tried: Tried::Call(|random| Call::Score(score_case(random))),
-    },
+    Operation { name: "run", tried: Tried::Call(|random| Call::Run(run_case(random))) },
+    Operation { name: "reduce", tried: Tried::Call(|random| Call::Reduce(reduce_case(random))) },
+    Operation { name: "score", tried: Tried::Call(|random| Call::Score(score_case(random))) },
     Operation {
         name: "score_loose",
-        possible: &[0, 1, 2, 3, 4, 14, 15, 16, 18, 19],
         tried: Tried::Call(|random| Call::ScoreLoose(loose_case(random))),
     },
     Operation {
         name: "join_table",
-        possible: &[0, 1, 2, 3, 4, 5, 6, 7, 11, 17, 18, 26],
         tried: Tried::Call(|random| Call::JoinTable(join_table_case(random))),
     },
-    Operation {
-        name: "export",
-        possible: &[0, 1, 2, 3, 4, 14, 15, 16, 17],
-        tried: Tried::Call(|random| Call::Export(export_case(random))),
-    },
-    Operation {
-        name: "import",
-        possible: &[0, 1, 2, 3, 4, 14, 16, 17, 20],
-        tried: Tried::Call(|random| Call::Import(import_case(random))),
-    },
-    Operation {
-        name: "block",
-        possible: &[0, 1, 2, 3, 4, 14, 15, 16, 21, 22],
-        tried: Tried::Call(|random| Call::Block(block_case(random))),
-    },
-    Operation {
-        name: "node",
-        possible: &[0, 1, 2, 3, 4, 14, 15, 16, 21, 22],
-        tried: Tried::Call(|random| Call::Node(block_case(random))),
-    },
-    Operation {
-        name: "locate",
-        possible: &[0, 1, 2, 3, 4, 14, 15, 16],
-        tried: Tried::Call(|random| Call::Locate(botched_case(random))),
-    },
-    Operation {
-        name: "index",
-        possible: &[0, 1, 2, 3, 4, 14, 15, 16, 17, 22],
-        tried: Tried::Call(|random| Call::Index(index_case(random))),
-    },
-    Operation {
-        name: "edit",
-        possible: &[0, 1, 2, 3, 4, 14, 15, 16, 17, 21, 22, 25],
-        tried: Tried::Call(|random| Call::Edit(edit_case(random))),
-    },
-    Operation {
-        name: "mask",
-        possible: &[0, 1, 2, 3, 4, 14, 15, 16, 17],
-        tried: Tried::Call(|random| Call::Mask(mask_case(random))),
-    },
-    Operation {
-        name: "search",
-        possible: &[0, 1, 2, 3, 4, 5, 6, 7, 14, 15, 16, 17, 23, 24, 26],
-        tried: Tried::Call(|random| Call::Search(search_case(random))),
-    },
-    Operation {
-        name: "laws",
-        possible: &[0, 1, 2, 3, 4, 5, 6, 7, 8, 9, 10, 11, 12, 13],
-        tried: Tried::Laws(laws::find, &reference::laws::SAID),
-    },
+    Operation { name: "export", tried: Tried::Call(|random| Call::Export(export_case(random))) },
+    Operation { name: "import", tried: Tried::Call(|random| Call::Import(import_case(random))) },
+    Operation { name: "block", tried: Tried::Call(|random| Call::Block(block_case(random))) },
+    Operation { name: "node", tried: Tried::Call(|random| Call::Node(block_case(random))) },
+    Operation { name: "locate", tried: Tried::Call(|random| Call::Locate(botched_case(random))) },
+    Operation { name: "index", tried: Tried::Call(|random| Call::Index(index_case(random))) },
+    Operation { name: "edit", tried: Tried::Call(|random| Call::Edit(edit_case(random))) },
+    Operation { name: "mask", tried: Tried::Call(|random| Call::Mask(mask_case(random))) },
+    Operation { name: "search", tried: Tried::Call(|random| Call::Search(search_case(random))) },
+    Operation { name: "laws", tried: Tried::Laws(laws::find, &reference::laws::SAID) },
     Operation {
         name: "edit_laws",
-        possible: &[0, 1, 2, 3, 4, 5],
         tried: Tried::Laws(laws::find_edits, &reference::laws::edits::SAID),
     },
     Operation {
         name: "search_laws",
-        possible: &[0, 1, 2, 3, 4, 5],
         tried: Tried::Laws(laws::find_searches, &reference::laws::search::SAID),
     },
     Operation {
         name: "mask_laws",
-        possible: &[0, 1, 2, 3, 4],
         tried: Tried::Laws(laws::find_masks, &reference::laws::masks::SAID),
     },
     Operation {
         name: "loose_laws",
-        possible: &[0, 1, 2, 3],
         tried: Tried::Laws(laws::find_loose, &reference::laws::loose::SAID),
     },
 ];
 
 impl Operation {
+    /// The numbers that are possible, all of which must be reached.
+    fn possible(&self) -> Vec<usize> {
+        match self.tried {
+            Tried::Call(_) => answers(self.name).iter().map(|&number| number as usize).collect(),
+            Tried::Laws(_, said) => (0..said.len()).collect(),
+        }
+    }
+
     /// What a number stands for.
     fn label(&self, number: usize) -> String {
         match self.tried {
@@ -198,18 +144,9 @@ impl Operation {
     }
 }
 
-/// A buffer with contents that show what was written.
-fn marked_buffer(random: &mut Random, length: usize) -> Vec<u8> {
-    let start = random.byte();
-    (0..length).map(|place| start.wrapping_add((place % 251) as u8)).collect()
-}
-
 /// Makes a call by both sides, with buffers that are alike.
 fn compare<'a>(call: &'a Call, random: &mut Random) -> Comparison<'a> {
-    let Buffers { workspace, output, index } = call.buffers();
-    let mut marked = |buffer: Vec<u8>| marked_buffer(random, buffer.len());
-    let buffers =
-        Buffers { workspace: marked(workspace), output: marked(output), index: marked(index) };
+    let buffers = call.buffers().marked(random);
     let by = |make: fn(&Call, &mut Buffers) -> Answer| {
         let mut buffers = buffers.clone();
         Side { answer: make(call, &mut buffers), buffers }
@@ -491,7 +428,7 @@ fn print_some(operation: &Operation, what: &str, reached: &[u64; NUMBERS]) {
 /// Prints how often each number was reached; gives the number of those never reached.
 fn print_reached(operation: &Operation, reached: &[u64; NUMBERS]) -> u64 {
     let mut missing = 0;
-    for &number in operation.possible {
+    for number in operation.possible() {
         let label = operation.label(number);
         println!("  {label}: {:8}", reached[number]);
         if reached[number] == 0 {

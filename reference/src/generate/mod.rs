@@ -30,6 +30,7 @@ mod written;
 pub use blocks::{block_case, BlockCase};
 pub use botched::botched_case;
 pub use cards::{card_of, mask_case, mask_pair, MaskCase};
+pub use damage::damage;
 pub use edits::{edit_case, EditCase};
 pub use indexes::{index_bytes, index_case, IndexCase};
 pub use languages::language_file;
