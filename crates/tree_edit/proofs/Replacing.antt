@@ -40,10 +40,6 @@ size-some (token v) = omega arith
 size-some (argument i zero) = omega arith
 size-some (argument i (suc m)) = omega arith
 
-size-node : (k p : ℕ) (ts : Codes) → size (node k p ts) ≡ suc (length (writeAll tree ts))
-unfolding write
-size-node k p ts = refl
-
 size-cons : (a : Code) (ts : Codes) → length (writeAll tree (cons a ts)) ≡ size a + length (writeAll tree ts)
 unfolding write
 size-cons a ts = length-append (write tree a) (writeAll tree ts)
