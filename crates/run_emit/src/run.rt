@@ -6,6 +6,10 @@ use crate::put::put_token;
 use crate::skip::is_leaf;
 use crate::skip::leaf_length;
 use crate::skip::sign_length;
+use crate::starts::ENDS_AT;
+use crate::starts::KINDS_AT;
+use crate::starts::NODE;
+use crate::starts::START_AT;
 use crate::starts::last_end;
 use crate::starts::start_of;
 use format_fields::bytes::to_usize;
@@ -79,7 +83,7 @@ fn start_node(
     kind: usize,
     used: usize,
     at: usize,
-    node: &mut [usize; 10],
+    node: &mut [usize; NODE],
 ) -> usize
     requires { ⌜ (now node ≡ replicate 10 0) × UseRoom (now table) used × ((f : Translation) × (given : Uses) × (u : Terms.Code) × NodeAt syntax (now table) (now input) at kind (usedNumber (now table) used) f given u) ⌝ }
     ensures { λ r. ⌜ ((f : Translation) (given : Uses) (u : Terms.Code) → NodeAt syntax (now (table .entry)) (now (input .entry)) at kind (usedNumber (now (table .entry)) used) f given u
@@ -88,8 +92,8 @@ fn start_node(
     let p = at + sign_length(syntax);
     let name = to_usize(input[p]);
     let key = 32 + (kind * 256 + name);
-    node[9] = index_at(table, key) + 4;
-    node[0] = p + 1;
+    node[KINDS_AT] = index_at(table, key) + 4;
+    node[START_AT] = p + 1;
     let number = number_at(table, used);
     if number == 0 {
         return clause_at(table, key) + 4;
@@ -113,7 +117,7 @@ fn put_argument(
     used: usize,
     output: &mut [u8],
     pos: usize,
-    node: &mut [usize; 10],
+    node: &mut [usize; NODE],
     j: usize,
 ) -> usize
     requires { ⌜ (at + leafLength syntax (now input) at ≤ length (now input)) × UseRoom (now table) used × (syntax ≡ Code → LeafLow (now input) at (usedNumber (now table) used)) × (j < 8) × (pos ≤ length (now output)) ⌝ }
@@ -122,11 +126,11 @@ fn put_argument(
 {
     match syntax {
         Syntax::Tree => {
-            node[j + 1] = at + 2;
+            node[j + ENDS_AT] = at + 2;
             put_token(syntax, input[at], input[at + 1], output, pos)
         }
         Syntax::Code => {
-            node[j + 1] = at + leaf_length(syntax, input, at);
+            node[j + ENDS_AT] = at + leaf_length(syntax, input, at);
             put_code_leaf(input, at, number_at(table, used), output, pos)
         }
     }
@@ -144,7 +148,7 @@ fn run_node(
     kind: usize,
     used: usize,
     left: usize,
-    above: &mut [usize; 10],
+    above: &mut [usize; NODE],
     j: usize,
     syntax: Syntax,
 ) -> usize
@@ -153,7 +157,7 @@ fn run_node(
         → Wrote (bytesOf syntax (Running.run (clausesOf f) (usedNumber (now (table .entry)) used) u)) (now (output .entry)) (now (output .exit)) pos r
         × (now (above .exit) ≡ set (now (above .entry)) (j + 1) (at + length (bytesOf syntax u)))) ⌝ }
 {
-    let mut node = [0usize; 10];
+    let mut node = [0usize; NODE];
     let mut c = start_node(syntax, table, input, kind, used, at, &mut node);
     let stop = clause_end(table, c);
     let mut p = pos;
@@ -173,7 +177,7 @@ fn run_node(
         &mut node,
         syntax,
     );
-    above[j + 1] = last_end(syntax, table, input, ends, &mut node);
+    above[j + ENDS_AT] = last_end(syntax, table, input, ends, &mut node);
     p
 }
 
@@ -186,7 +190,7 @@ fn run_argument(
     pos: usize,
     at: usize,
     left: usize,
-    node: &mut [usize; 10],
+    node: &mut [usize; NODE],
     j: usize,
     used: usize,
     syntax: Syntax,
@@ -197,7 +201,7 @@ fn run_argument(
         × Node syntax (now (table .entry)) (now (input .entry)) (now (node .exit)) (f .source) given ts ks
         × Same (now (node .entry)) (now (node .exit))) ⌝ }
 {
-    let kind = source_at(table, node[9] + j);
+    let kind = source_at(table, node[KINDS_AT] + j);
     if is_leaf(syntax, table, kind, input, at) {
         return put_argument(syntax, table, input, at, used, output, pos, node, j);
     }
@@ -227,7 +231,7 @@ fn run_use(
     pos: usize,
     at: usize,
     left: usize,
-    node: &mut [usize; 10],
+    node: &mut [usize; NODE],
     j: usize,
     used: usize,
     syntax: Syntax,
@@ -238,7 +242,7 @@ fn run_use(
         × Node syntax (now (table .entry)) (now (input .entry)) (now (node .exit)) (f .source) given ts ks
         × Same (now (node .entry)) (now (node .exit))) ⌝ }
 {
-    let kind = source_at(table, node[9] + j);
+    let kind = source_at(table, node[KINDS_AT] + j);
     if is_leaf(syntax, table, kind, input, at) {
         return put_argument(syntax, table, input, at, used, output, pos, node, j);
     }
@@ -268,7 +272,7 @@ fn run_clause(
     at: usize,
     stop: usize,
     left: usize,
-    node: &mut [usize; 10],
+    node: &mut [usize; NODE],
     syntax: Syntax,
 ) -> usize
     requires { ⌜ ClauseLeft left × ((f : Translation) × (given : Uses) × (ts : Codes) × (ks : List ℕ) × (cs : Codes) × (js : List ℕ) × RowAsks syntax (now table) (now input) (now ends) (now node) at stop left f given ts ks cs js) ⌝ }
@@ -314,7 +318,7 @@ fn run_codes(
     at: usize,
     stop: usize,
     left: usize,
-    node: &mut [usize; 10],
+    node: &mut [usize; NODE],
     syntax: Syntax,
 ) -> usize
     requires { ⌜ InnerLeft left × ((f : Translation) × (given : Uses) × (ts : Codes) × (ks : List ℕ) × (cs : Codes) × (js : List ℕ) × RowAsks syntax (now table) (now input) (now ends) (now node) at stop left f given ts ks cs js) ⌝ }
@@ -368,7 +372,7 @@ pub fn run(
 {
     let k = kind as usize;
     let used = BODY_LENGTH + number as usize;
-    let mut above = [0usize; 10];
+    let mut above = [0usize; NODE];
     let is_whole = is_leaf(syntax, table, k, input, 0);
     if is_whole {
         return put_argument(syntax, table, input, 0, used, output, pos, &mut above, 0);

@@ -13,8 +13,18 @@ ghost use Rattle.tree_reader.specs.Typing.{Uses};
 ghost use Rattle.format_translation.specs.Translation.{Translation};
 ghost use Rattle.run_emit.specs.Inner.Runs.{bytesOf, allBytes, front, Right, Node, Same, SkipAsks, FindAsks, LastAsks, knownStart};
 
+// The numbers of a node: where its operands start, where each of up to eight ends, 0 where that is not known, and where their kinds
+// stand in the source. So argument j starts where number j says.
+pub const NODE: usize = 10;
+
+pub const START_AT: usize = 0;
+
+pub const ENDS_AT: usize = 1;
+
+pub const KINDS_AT: usize = 9;
+
 // Where argument j starts by what is known of the node; 0 where it is not known.
-fn known(node: &[usize; 10], j: usize) -> usize
+fn known(node: &[usize; NODE], j: usize) -> usize
     requires { ⌜ j ≤ 8 ⌝ }
     ensures { λ r. ⌜ r ≡ knownStart (now (node .entry)) j ⌝ }
 {
@@ -48,7 +58,7 @@ fn find(
     table: &[u16; TABLE],
     input: &[u8],
     ends: &[u32],
-    node: &mut [usize; 10],
+    node: &mut [usize; NODE],
     j: usize,
 ) -> usize
     requires { ⌜ ((f : Translation) × (given : Uses) × (ts : Codes) × (ks : List ℕ) × FindAsks syntax (now table) (now input) (now ends) (now node) j f given ts ks) ⌝ }
@@ -57,14 +67,14 @@ fn find(
         × Node syntax (now (table .entry)) (now (input .entry)) (now (node .exit)) (f .source) given ts ks
         × Same (now (node .entry)) (now (node .exit))) ⌝ }
 {
-    let from = node[9];
-    let mut p = node[0];
+    let from = node[KINDS_AT];
+    let mut p = node[START_AT];
     let mut i = 0;
     while i < j {
-        let mut e = node[i + 1];
+        let mut e = node[i + ENDS_AT];
         if e == 0 {
             e = end_of(syntax, table, input, ends, from + i, p);
-            node[i + 1] = e;
+            node[i + ENDS_AT] = e;
         }
         p = e;
         i += 1;
@@ -78,7 +88,7 @@ pub fn start_of(
     table: &[u16; TABLE],
     input: &[u8],
     ends: &[u32],
-    node: &mut [usize; 10],
+    node: &mut [usize; NODE],
     j: usize,
 ) -> usize
     requires { ⌜ ((f : Translation) × (given : Uses) × (ts : Codes) × (ks : List ℕ) × FindAsks syntax (now table) (now input) (now ends) (now node) j f given ts ks) ⌝ }
@@ -100,13 +110,13 @@ pub fn last_end(
     table: &[u16; TABLE],
     input: &[u8],
     ends: &[u32],
-    node: &mut [usize; 10],
+    node: &mut [usize; NODE],
 ) -> usize
     requires { ⌜ ((f : Translation) × (given : Uses) × (ts : Codes) × (ks : List ℕ) × LastAsks syntax (now table) (now input) (now ends) (now node) f given ts ks) ⌝ }
     ensures { λ r. ⌜ ((f : Translation) (given : Uses) (ts : Codes) (ks : List ℕ) → LastAsks syntax (now (table .entry)) (now (input .entry)) (now (ends .entry)) (now (node .entry)) f given ts ks
         → r ≡ getD (now (node .entry)) 0 0 + length (allBytes syntax ts)) ⌝ }
 {
-    let n = source_at(table, node[9] - 3) - 2;
+    let n = source_at(table, node[KINDS_AT] - 3) - 2;
     let end = known(node, n);
     if end != 0 {
         return end;

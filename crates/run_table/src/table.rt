@@ -14,31 +14,34 @@ ghost use Rattle.format_translation.specs.Translation.{Translation, mappingOf};
 ghost use Rattle.format_translation.specs.Running.{clausesOf};
 ghost use Rattle.run_table.specs.Inner.Table.{indexEntry, clauseEntry, sourceByte, bodyByte, spanEntry, hintEntry, numberedIs, Clause, Ready, NumberedAsks};
 use format_fields::walk::NUMBERED;
+use format_language::check::LANGUAGE_LIMIT;
 use format_translation::body::NUMBERED_CLAUSE;
+use format_translation::parts::TRANSLATION_LIMIT;
+use tree_reader::index::INDEX;
 use tree_reader::index::TABLE;
 
 // Where the index of the target starts and, once that is no longer looked at, the places of the clauses of number 0, by kind and
 // name.
-pub const ITEMS: usize = 8224;
+pub const ITEMS: usize = INDEX;
 
 // Where the bytes of the source start.
-pub const SOURCE: usize = 16448;
+pub const SOURCE: usize = ITEMS + INDEX;
 
 // Where the bytes of the body start.
-pub const BODY: usize = 17472;
+pub const BODY: usize = SOURCE + LANGUAGE_LIMIT;
 
 // Where the positions start at which the productions' codes in the body end, and the ranks of the numbers that arguments are
 // used by.
-pub const SPANS: usize = 21568;
+pub const SPANS: usize = BODY + TRANSLATION_LIMIT;
 
 // Where the places of the clauses of other numbers than 0 start.
-pub const HINTS: usize = 25664;
+pub const HINTS: usize = SPANS + TRANSLATION_LIMIT;
 
 // How many of them there are.
 pub const HINT_COUNT: usize = 520;
 
 // A field with a number has at least six bytes, so none starts in the body from here on.
-const LAST_FIELD: usize = 4091;
+const LAST_FIELD: usize = TRANSLATION_LIMIT - 5;
 
 // A number of the table as a position or a length.
 fn to_usize(x: u16) -> usize

@@ -48,9 +48,12 @@ fn bench_one(name: &str, tree: &[u8]) {
     );
 }
 
-/// Measures a dropped part of 4,095 bytes that is passed 2^18 times, and two long ones, of which the
-/// second is longer and starts where the first does by the last twelve bits, 2^14 times.
+/// Measures a dropped part of 4,095 bytes that is passed 2^18 times, two long ones, of which the
+/// second is longer and starts where the first does by the last twelve bits, 2^14 times, and short
+/// ones, one below the other, too short to be kept and too many for the places, 2^14 times.
 pub fn bench() {
     bench_one("4,095 bytes dropped 2^18 times", &tree(18, &[4095]));
     bench_one("200 KB dropped twice 2^14 times", &tree(14, &[200_703, 200_705]));
+    bench_one("40 parts of 31 bytes dropped 2^14 times", &tree(14, &[31; 40]));
+    bench_one("40 parts of 69 bytes dropped 2^14 times", &tree(14, &[69; 40]));
 }
