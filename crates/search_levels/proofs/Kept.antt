@@ -1,17 +1,15 @@
 -- The bytes of the memory: a law for each return of the functions over it.
-use Prim.Native.Nat.{ℕ, zero, suc, _+_, _-_, _*_, _/_, _%_, _≤_, _<_}
-use mathlib.Core.Path.{_≡_, refl, ap, sym, _∙_}
+use Prim.Native.Nat.{ℕ, _+_, _-_, _*_, _/_, _%_, _≤_, _<_}
+use mathlib.Core.Path.{_≡_, refl, _∙_}
 use mathlib.Core.Logic.{_⊎_, inl, inr}
-use mathlib.Core.Bool.{Bool, true, false, cond}
-use mathlib.Core.List.{List, []}
+use mathlib.Core.List.{List}
 use native.Mathlib.Omega.{arith}
 use native.Mathlib.Decide.{ℕ-discrete}
-use lib.Dec.{eqb, leb}
-use lib.ListN.{length, getD, set, length-set, List·getD-eq-default}
+use lib.ListN.{length, getD, set, length-set}
 use lib.Seq.{getD-set-same, getD-set-other}
 use borrow.Author.Tests.{le-leb, lt-leb, eq-eqb, ne-eqb}
 use Rattle.search_sources.specs.Inner.Levels.{recalled, noted}
-use Rattle.search_levels.specs.Inner.Memory.{keptKind, keptEnd, Recalls, nothing, kept, Keeps, byteFor, memoryWith, freeWith}
+use Rattle.search_levels.specs.Inner.Memory.{keptKind, keptEnd, Recalls, kept, Keeps, byteFor, memoryWith, freeWith}
 
 module _ (memory free : List ℕ) (n k at : ℕ) where
   pub byte-free : (r : ℕ) → n ≤ at → r ≡ getD free k 0 → r ≡ byteFor memory free n k at
@@ -185,24 +183,3 @@ module _ (memory : List ℕ) (k at end p : ℕ) (kind : k < 32) (room : at < len
           → ((keptKind four q ≡ keptKind memory q) × (keptEnd four q ≡ keptEnd memory q)) ⊎ ((q ≡ at) × (keptKind four q ≡ k) × (keptEnd four q ≡ end))
       go q (yes e) = inr (e, rw e kind-here, rw e end-here)
       go q (no n) = inl (kind-other q n, end-other q n)
-
--- clear: the bytes under i are zero.
-pub record BlankTo (i : ℕ) (w : List ℕ) : Type 0 where
-  pub under : (j : ℕ) → j < i → getD w j 0 ≡ 0
-
-pub blank-start : (w : List ℕ) → BlankTo 0 w
-blank-start w = record { under = λ j h. absurd (omega arith) }
-
-pub blank-on : (i : ℕ) (w : List ℕ) → i < length w → BlankTo i w → BlankTo (i + 1) (set w i 0)
-blank-on i w h b = record { under = λ j q. go j q (ℕ-discrete j i) }
-  where
-    go : (j : ℕ) → j < i + 1 → Dec (j ≡ i) → getD (set w i 0) j 0 ≡ 0
-    go j q (yes e) = rw e (getD-set-same w i 0 0 h)
-    go j q (no n) = getD-set-other w i j 0 0 n ∙ b .under j (omega arith)
-
-pub blank-end : (i : ℕ) (w : List ℕ) → length w ≤ i → BlankTo i w → (x : ℕ) → getD w x 0 ≡ 0
-blank-end i w h b x = go (leb (suc x) i) refl
-  where
-    go : (t : Bool) → leb (suc x) i ≡ t → getD w x 0 ≡ 0
-    go true q = b .under x (borrow.Author.Tests.leb-true (suc x) i q)
-    go false q = let z = borrow.Author.Tests.leb-false (suc x) i q in List·getD-eq-default {A = ℕ} w 0 {n = x} (omega arith)

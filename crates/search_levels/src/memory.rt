@@ -3,8 +3,8 @@
 use format_fields::bytes::byte_at;
 use format_fields::bytes::to_usize;
 ghost use mathlib.Core.Path.{_≡_};
-ghost use Prim.Native.Nat.{ℕ, suc, _<_, _≤_};
-ghost use lib.ListN.{length, getD};
+ghost use Prim.Native.Nat.{suc, _<_, _≤_};
+ghost use lib.ListN.{length};
 ghost use Rattle.search_sources.specs.Inner.Levels.{recalled, noted};
 ghost use Rattle.search_levels.specs.Inner.Memory.{byteFor, memoryWith, freeWith, Recalls, Keeps};
 
@@ -131,15 +131,4 @@ pub fn keep_end(memory: &mut [u8], kind: u8, at: usize, end: usize)
     memory[p + 1] = (end / 65536 % 256) as u8;
     memory[p + 2] = (end / 256 % 256) as u8;
     memory[p + 3] = (end % 256) as u8;
-}
-
-// Sets the whole memory to zero.
-pub fn clear(memory: &mut [u8])
-    ensures { λ _. ⌜ (length (now (memory .exit)) ≡ length (now (memory .entry))) × ((i : ℕ) → getD (now (memory .exit)) i 0 ≡ 0) ⌝ }
-{
-    let mut i = 0;
-    while i < memory.len() {
-        memory[i] = 0;
-        i += 1;
-    }
 }

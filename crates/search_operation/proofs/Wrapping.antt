@@ -1,8 +1,8 @@
 -- The search over the parts of a translation: what it hands to `find`.
-use Prim.Native.Nat.{ℕ, zero, suc, _+_, _≤_, _<_}
+use Prim.Native.Nat.{ℕ, _+_, _≤_, _<_}
 use mathlib.Core.Path.{_≡_, refl, ap, sym, _∙_}
 use mathlib.Core.Bool.{Bool, true, false, not, _&&_}
-use mathlib.Core.List.{List, [], _∷_, append-nil}
+use mathlib.Core.List.{List, [], append-nil}
 use mathlib.Core.Option.{some}
 use native.Mathlib.Omega.{arith}
 use lib.ListN.{length, getD, replicate}
@@ -25,6 +25,7 @@ use Rattle.tree_reader.specs.Code.{Code}
 use Rattle.tree_reader.specs.Syntax.{write, tree}
 use Rattle.tree_reader.specs.Operations.{treeOf, checkTree}
 use Rattle.tree_reader.specs.Inner.Index.{Indexed}
+use Rattle.tree_reader.proofs.Lookup.{zeros}
 use Rattle.tree_reader.proofs.Members.{in-below}
 use Rattle.format_translation.specs.Translation.{Translation, itemKey, mappingOf, mapped}
 use Rattle.format_translation.specs.Running.{clausesOf}
@@ -56,12 +57,8 @@ use Rattle.search_sources.specs.Operations.{isLimit, ready, foundIn, searchByte
 use Rattle.search_operation.specs.Inner.Finding.{Searchable, Rooted, Mapped, Placed, Tabled, Opened, Answers, readyIn, readyFrom, Leaves}
 
 -- Bytes that are all zero.
-pub all-zero : (w : List ℕ) (n : ℕ) → length w ≡ n → ((i : ℕ) → getD w i 0 ≡ 0) → w ≡ replicate n 0
-all-zero w n e h = go w h ∙ ap (λ (m : ℕ). replicate m 0) e
-  where
-    go : (w : List ℕ) → ((i : ℕ) → getD w i 0 ≡ 0) → w ≡ replicate (length w) 0
-    go [] h = refl
-    go (b ∷ w) h = let x : b ≡ 0 = h 0 in let r = go w (λ i. h (suc i)) in λ i. x i ∷ r i
+pub blank-all : {w : List ℕ} (n : ℕ) → w ≡ replicate n 0 → (i : ℕ) → getD w i 0 ≡ 0
+blank-all n e i = rw e (zeros n i)
 
 pub opened-by : (table uses source target places kinds bytes : List ℕ) (k : ℕ) (f : Translation) (u : Code) → Tabled table uses source target f → Placed target places bytes k f u
     → ((i : ℕ) → getD source i 0 < 256) → Mapped kinds (f .body) → ((j : ℕ) → j < 32 → Unnamed table j 0 (getD kinds (32 + j) 0))
