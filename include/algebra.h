@@ -17,10 +17,9 @@
  *   overlap each other. While a call is at work no other thread writes its inputs, or reads or
  *   writes its output, workspace and figures.
  * - When a function is called, at least ALGEBRA_STACK_BYTES bytes of stack are left to it. The
- *   stack is bounded since all levels are (64 of a tree, 16 of a code, 12 of a term), which is
- *   proved. How many calls these open is proved for most functions and read off the code for the
- *   run, the index and the ends of a search; from that and the object code follows the most that
- *   each function can use, in bytes: check_language 144, import 18,376, export 32,824,
+ *   stack is bounded since all levels are (64 of a tree, 16 of a code, 12 of a term). How many
+ *   calls these open is proved of every function that calls itself; from that and the object code
+ *   follows the most that each function can use, in bytes: check_language 144, import 18,376, export 32,824,
  *   check_tree 36,808, locate 0, index 36,904, block 37,032, node 0, edit 37,336, score 45,128,
  *   score_loose 45,144, check_translation 47,192, mask 58,104, join_table 61,816, reduce
  *   184,864, search 194,360, run 314,496.
