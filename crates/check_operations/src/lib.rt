@@ -1,4 +1,5 @@
 // What is opened for the operations, and the operations that check a tree and a translation.
+#![tactic(auto)]
 pub mod open;
 pub mod put;
 pub mod translations;

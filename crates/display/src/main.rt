@@ -1,4 +1,5 @@
 // The display program (paper 02, 2026-06): prints the block that a path leads to, as it is handed back.
+#![tactic(auto)]
 ghost use Rattle.std.specs.Prelude.{◌≡◌, ◌+◌, ◌*◌, ◌<◌, ◌≤◌, length, take};
 ghost use Rattle.io.specs.Counts.{IsPrefixLen};
 ghost use Rattle.display.specs.Display.{root_in, display};

@@ -12,14 +12,14 @@ use outcome::{Outcome, Reason};
 const CARD: u8 = 0x27;
 
 // What a card lets be seen: the set of its kinds, empty where the card is refused.
-#[derive(Drop)]
+#[derive(Clone, Copy)]
 pub struct Seen {
     pub outcome: Outcome,
     pub kinds: u32,
 }
 
 // What the contents of a card come to: a set, a number that is no kind, or kinds that do not rise.
-#[derive(Drop)]
+#[derive(Clone, Copy)]
 pub enum Kinds {
     Set(u32),
     Broken,

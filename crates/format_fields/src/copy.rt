@@ -5,7 +5,7 @@ ghost use Rattle.format_fields.specs.Fields.{two_bytes};
 ghost use Rattle.format_fields.specs.Inner.Writing.{Inside, spliced, Stores};
 
 // Where what was written ends, or that the output is too short for it.
-#[derive(Drop)]
+#[derive(Clone, Copy)]
 pub enum Stored {
     To(usize),
     Full,

@@ -1,4 +1,5 @@
 // Languages: their entries in bytes, and the check of a language.
+#![tactic(auto)]
 pub mod check;
 pub mod clash;
 pub mod entries;

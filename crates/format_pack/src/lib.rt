@@ -1,4 +1,5 @@
 // Packs and terms: the check of a pack and of its term, and where its parts stand.
+#![tactic(auto)]
 pub mod check;
 pub mod order;
 pub mod parts;

@@ -18,7 +18,7 @@ use super::whole::{BODY, LANGUAGE, TERM};
 use format_fields::walk::whole_end;
 
 // Where a part stands: from the start up to the end.
-#[derive(Drop)]
+#[derive(Clone, Copy)]
 pub struct Place {
     pub start: usize,
     pub end: usize,

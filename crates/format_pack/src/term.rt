@@ -20,7 +20,7 @@ pub const VARIABLES: usize = 16;
 const TRANSLATION: u8 = 2;
 
 // The position after what was read; or bytes that are no such term.
-#[derive(Drop)]
+#[derive(Clone, Copy)]
 pub enum Read {
     End(usize),
     Broken,

@@ -1,4 +1,5 @@
 // The listing program (paper 01, "Strap examples"): prints what the pack in the file plan.pack is reduced to.
+#![tactic(auto)]
 mod answer;
 mod clauses;
 

@@ -1,9 +1,11 @@
 // What an operation answers. `specs/Outcome.antt` gives each case its number and its length.
+#![tactic(auto)]
+
 ghost use Rattle.std.specs.Prelude.{◌≡◌};
 ghost use Rattle.outcome.specs.Outcome.{number_of, length_of, reason_number};
 
 // Why an operation refuses: 1 to 26, in this order.
-#[derive(Drop)]
+#[derive(Clone, Copy)]
 pub enum Reason {
     TooLong,
     BrokenField,
@@ -34,14 +36,14 @@ pub enum Reason {
 }
 
 // An operation accepts, with the length of what it wrote, or refuses.
-#[derive(Drop)]
+#[derive(Clone, Copy)]
 pub enum Outcome {
     Accepted(usize),
     Refused(Reason),
 }
 
 // What an operation hands back.
-#[derive(Drop)]
+#[derive(Clone, Copy)]
 pub struct Answer {
     pub outcome: Outcome,
 }

@@ -1,2 +1,3 @@
 // Text that the programs print, put into a buffer.
+#![tactic(auto)]
 pub mod text;

@@ -1,2 +1,3 @@
 // The operation reduce.
+#![tactic(auto)]
 pub mod reduce;

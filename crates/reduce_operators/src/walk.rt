@@ -15,7 +15,7 @@ use format_fields::copy::Stored;
 use format_fields::walk::field_end;
 
 // What is written for an entry: itself, as a value writes it; or the clause that changes nothing.
-#[derive(Drop)]
+#[derive(Clone, Copy)]
 pub enum Piece {
     Entry,
     Clause,

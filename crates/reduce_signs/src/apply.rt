@@ -11,7 +11,7 @@ use reduce_operators::identity::identity;
 use reduce_operators::make::make;
 
 // The operators: on one value, on two, and on two languages and the body of this number.
-#[derive(Drop)]
+#[derive(Clone, Copy)]
 pub enum Operator {
     One(Unary),
     Two(Binary),

@@ -5,14 +5,14 @@ ghost use Rattle.reduce_signs.specs.Inner.Values.{finished};
 use outcome::{Outcome, Reason};
 
 // The length of the value in the lent buffer and where the term ends, or the refusal.
-#[derive(Drop)]
+#[derive(Clone, Copy)]
 pub enum Evaluated {
     To(usize, usize),
     Refused(Reason),
 }
 
 // Where the values of two operands end in the store and where the second term ends, or the first refusal.
-#[derive(Drop)]
+#[derive(Clone, Copy)]
 pub enum EvaluatedTwo {
     To(usize, usize, usize),
     Refused(Reason),

@@ -5,7 +5,7 @@ ghost use Rattle.reduce_signs.specs.Inner.Forms.{Begins};
 use crate::sorts::{Binary, Sort, Unary};
 
 // The forms of a term: what follows its sign.
-#[derive(Drop)]
+#[derive(Clone, Copy)]
 pub enum Form {
     Constant,
     Variable,

@@ -10,7 +10,7 @@ use format_pack::term::VARIABLES;
 const SLOTS: usize = 2 * VARIABLES;
 
 // For each slot the start plus 1, or 0 where nothing is bound, and the end.
-#[derive(Drop)]
+#[derive(Clone, Copy)]
 pub struct Places {
     pub starts: [usize; SLOTS],
     pub ends: [usize; SLOTS],

@@ -3,14 +3,14 @@ ghost use Rattle.std.specs.Prelude.{◌≡◌};
 ghost use Rattle.reduce_signs.specs.Inner.Sorts.{sort_of, first_sort, second_sort, operand_sort};
 
 // The two sorts of terms.
-#[derive(Drop)]
+#[derive(Clone, Copy)]
 pub enum Sort {
     Language,
     Translation,
 }
 
 // The operators on two values; the result has the sort of the first.
-#[derive(Drop)]
+#[derive(Clone, Copy)]
 pub enum Binary {
     LanguageWithout,
     LanguageSum,
@@ -20,7 +20,7 @@ pub enum Binary {
 }
 
 // The operators on one value.
-#[derive(Drop)]
+#[derive(Clone, Copy)]
 pub enum Unary {
     Source,
     Target,

@@ -1,2 +1,3 @@
 // The evaluation of terms over a store.
+#![tactic(auto)]
 pub mod terms;

@@ -1,4 +1,5 @@
 // The emitter: the run of a term through a translation, put into an output.
+#![tactic(auto)]
 pub mod put;
 pub mod run;
 pub mod skip;

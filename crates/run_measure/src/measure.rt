@@ -23,7 +23,7 @@ const OFTEN: usize = 2;
 
 // The position after a tree, the length of its run and what it costs, both up to a top; one level too many; or bytes that
 // are no such tree.
-#[derive(Drop)]
+#[derive(Clone, Copy)]
 pub enum Measured {
     End(usize, usize, usize),
     Deep,
@@ -32,7 +32,7 @@ pub enum Measured {
 
 // What stands where a tree begins: a row of operands, whose kinds stand in the source from the first number up to the
 // second, where the operands begin, and length and cost so far; or no such tree. A token's row is empty.
-#[derive(Drop)]
+#[derive(Clone, Copy)]
 pub enum Step {
     Row(usize, usize, usize, usize, usize),
     Broken,

@@ -38,7 +38,7 @@ use tree_reader::read::CODE_LEVELS;
 const JOINED: usize = 2048;
 
 // Where what was put ends, or that a figure does not fit two bytes.
-#[derive(Drop)]
+#[derive(Clone, Copy)]
 pub enum Joined {
     To(usize),
     Outside,

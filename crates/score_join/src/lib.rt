@@ -1,2 +1,3 @@
 // Load tables joined onto translations.
+#![tactic(auto)]
 pub mod join;

@@ -1,2 +1,3 @@
 // The score of a loose plan.
+#![tactic(auto)]
 pub mod operation;

@@ -10,7 +10,7 @@ use format_fields::bytes::pair_in;
 pub const ARGUMENTS: usize = 8;
 
 // The least and the greatest score.
-#[derive(Drop)]
+#[derive(Clone, Copy)]
 pub struct Ends {
     pub least: i64,
     pub greatest: i64,

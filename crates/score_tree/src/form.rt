@@ -16,7 +16,7 @@ use tree_reader::operands::{first_operand, last_operand, production_key};
 pub const PLACES: usize = 9;
 
 // Where a code ends whose form was added; or that a production's finished form does not fit two bytes.
-#[derive(Drop)]
+#[derive(Clone, Copy)]
 pub enum Formed {
     To(usize),
     Outside,

@@ -1,4 +1,5 @@
 // Load tables, the linear form of a code, and the score of a plan.
+#![tactic(auto)]
 pub mod figures;
 pub mod form;
 pub mod plan;

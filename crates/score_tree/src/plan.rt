@@ -15,7 +15,7 @@ use tree_reader::index::{INDEX, put_all};
 use tree_reader::read::TREE_LEVELS;
 
 // What a score hands back: there is no output, so an acceptance has length 0; a refusal has 0 at both ends.
-#[derive(Drop)]
+#[derive(Clone, Copy)]
 pub struct PlanScored {
     pub outcome: Outcome,
     pub least: i64,

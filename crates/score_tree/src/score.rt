@@ -7,7 +7,7 @@ use crate::walk::FIXED;
 use outcome::Outcome;
 
 // What the operation hands back: there is no output, so an acceptance has length 0; a refused score is 0.
-#[derive(Drop)]
+#[derive(Clone, Copy)]
 pub struct Scored {
     pub outcome: Outcome,
     pub score: i64,

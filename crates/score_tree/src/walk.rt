@@ -25,7 +25,7 @@ pub const LOOSE: usize = 4;
 
 // The least and the greatest score of a plan and where it ends; or that an end of some node's score is out of the range, and
 // where the plan ends; one level too many; or bytes that are no such plan.
-#[derive(Drop)]
+#[derive(Clone, Copy)]
 pub enum Bounds {
     Between(i64, i64, usize),
     Outside(usize),

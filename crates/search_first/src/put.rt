@@ -18,7 +18,7 @@ use tree_reader::index::TABLE;
 use tree_reader::operands::{NAMES, first_operand, production_key};
 
 // What is put: the first tree of a kind, within so many levels, for what is asked at a position; from `pos` on, up to a limit.
-#[derive(Drop)]
+#[derive(Clone, Copy)]
 pub struct Wanted {
     pub kind: usize,
     pub at: usize,

@@ -40,7 +40,7 @@ fn class_need(source: &[u8], class: usize, tree: &[u8], at: usize, m: usize) -> 
 }
 
 // What is sought: a source tree of a kind for what is asked at a position, where so many levels count.
-#[derive(Drop)]
+#[derive(Clone, Copy)]
 pub struct Sought {
     pub kind: usize,
     pub at: usize,

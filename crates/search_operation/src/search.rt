@@ -38,7 +38,7 @@ const SHORT_TREE: usize = 2048;
 const OWN_MEMORY: usize = 73728;
 
 // What is searched for: a source tree of a kind within a limit of levels.
-#[derive(Drop)]
+#[derive(Clone, Copy)]
 struct Within {
     kind: usize,
     limit: usize,

@@ -1,1 +1,2 @@
 // Which source trees run to a target tree: definitions and theorems only.
+#![tactic(auto)]

@@ -18,7 +18,7 @@ pub const EVERY_KIND: u32 = 4294967295;
 
 // Where a step leads: to a block, by its start, its kind and where its entry stands in the index; nowhere; or to a block that
 // may not be seen.
-#[derive(Drop)]
+#[derive(Clone, Copy)]
 pub enum Step {
     To(usize, u8, usize),
     Nowhere,

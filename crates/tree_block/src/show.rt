@@ -14,7 +14,7 @@ use tree_index::build::check_own;
 use tree_reader::index::INDEX;
 
 // What the lookup answers: the block is of a kind and lies in the tree from `start` up to `stop`. A refusal has 0 in each.
-#[derive(Drop)]
+#[derive(Clone, Copy)]
 pub struct Placed {
     pub outcome: Outcome,
     pub start: usize,

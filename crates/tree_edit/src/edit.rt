@@ -24,14 +24,14 @@ use tree_reader::read::{TREE_LEVELS, read_tree};
 
 // What the edit hands back: an acceptance has the length of the new plan, and `indexed` is the length of its index. A refusal
 // has 0 in both.
-#[derive(Drop)]
+#[derive(Clone, Copy)]
 pub struct Edited {
     pub outcome: Outcome,
     pub indexed: usize,
 }
 
 // A block of the old plan: its kind, where it starts, and how many bytes it has.
-#[derive(Drop)]
+#[derive(Clone, Copy)]
 pub struct OldBlock {
     pub kind: u8,
     pub start: usize,

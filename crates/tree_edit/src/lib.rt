@@ -1,3 +1,4 @@
 // A plan with one block replaced, and its index.
+#![tactic(auto)]
 pub mod edit;
 pub mod moves;

@@ -9,7 +9,7 @@ use tree_reader::operands::{operands_of, production_key};
 
 // The operands of a node: their kinds stand in the language from `first` up to `last`, they themselves in the tree from `start`
 // on. A token has none.
-#[derive(Drop)]
+#[derive(Clone, Copy)]
 pub struct OperandsAt {
     pub first: usize,
     pub last: usize,

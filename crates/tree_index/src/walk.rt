@@ -12,7 +12,7 @@ use crate::entries::{ENTRY, put_entry};
 use crate::operands::{OperandsAt, operands_at};
 
 // Where trees end, and where their entries do.
-#[derive(Drop)]
+#[derive(Clone, Copy)]
 pub struct Ends {
     pub trees: usize,
     pub entries: usize,

@@ -1,3 +1,4 @@
 // Where the check of a tree stops.
+#![tactic(auto)]
 pub mod locate;
 pub mod walk;

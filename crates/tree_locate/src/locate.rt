@@ -17,7 +17,7 @@ use tree_reader::node::Read;
 use tree_reader::read::{TREE_LEVELS, read_tree};
 
 // What the operation answers: the outcome of the check, and where reading stopped.
-#[derive(Drop)]
+#[derive(Clone, Copy)]
 pub struct Located {
     pub outcome: Outcome,
     pub position: usize,

@@ -16,7 +16,7 @@ use tree_reader::operands::{first_operand, last_operand};
 const TOKEN: usize = 2;
 
 // The position behind what was read; or the one where reading stops.
-#[derive(Drop)]
+#[derive(Clone, Copy)]
 pub enum Walk {
     Past(usize),
     Stopped(usize),

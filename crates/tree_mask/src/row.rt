@@ -7,7 +7,7 @@ use tree_reader::read::TREE_LEVELS;
 
 // How far the walk is: the kind of the next tree stands in the language at `kind`, and the kinds end at `stop`; the tree starts
 // at `tree` and may have so many levels; the masked form of the trees before it ends at `text`.
-#[derive(Drop)]
+#[derive(Clone, Copy)]
 pub struct Row {
     pub kind: usize,
     pub stop: usize,

@@ -23,7 +23,7 @@ pub const NO_NAME: u32 = 256;
 
 // What the operation answers: the kind of the node, the name of its production and how many arguments it has. A token has NO_NAME
 // and no arguments. A refusal has 0 in each.
-#[derive(Drop)]
+#[derive(Clone, Copy)]
 pub struct Described {
     pub outcome: Outcome,
     pub kind: u32,

@@ -1,4 +1,5 @@
 // The index of a language and the reader of typed codes and trees.
+#![tactic(auto)]
 pub mod ends;
 pub mod index;
 pub mod kinds;

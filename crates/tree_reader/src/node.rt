@@ -24,14 +24,14 @@ pub const USES: usize = KINDS * NAMES;
 const ARGUMENTS: usize = USES - 1;
 
 // Trees are written without signs, codes with them.
-#[derive(Drop)]
+#[derive(Clone, Copy)]
 pub enum Syntax {
     Tree,
     Code,
 }
 
 // The position after what was read; one level too many; or bytes that are no such code.
-#[derive(Drop)]
+#[derive(Clone, Copy)]
 pub enum Read {
     End(usize),
     Deep,
@@ -40,7 +40,7 @@ pub enum Read {
 
 // A leaf that was read; or a node: the kinds of its operands stand in the language from the first number up to the
 // second, the operands from the third on.
-#[derive(Drop)]
+#[derive(Clone, Copy)]
 pub enum Node {
     Leaf(Read),
     Operands(usize, usize, usize),

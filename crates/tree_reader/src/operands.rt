@@ -14,7 +14,7 @@ pub const KINDS: usize = walk::KINDS;
 pub const NAMES: usize = walk::NAMES;
 
 // The kinds of a production's operands stand in the language from `first` up to `last`.
-#[derive(Drop)]
+#[derive(Clone, Copy)]
 pub struct Operands {
     pub first: usize,
     pub last: usize,

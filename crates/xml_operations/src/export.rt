@@ -13,7 +13,7 @@ use format_fields::bytes::{pair_in, to_usize};
 use tree_reader::node::{Syntax, place_at, production_place};
 
 // Where a tree ends, and where its export does.
-#[derive(Drop)]
+#[derive(Clone, Copy)]
 pub struct Ends {
     pub tree: usize,
     pub text: usize,

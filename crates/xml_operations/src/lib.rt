@@ -1,4 +1,5 @@
 // Trees as XML: export and import.
+#![tactic(auto)]
 pub mod export;
 pub mod measure;
 pub mod operations;

@@ -16,7 +16,7 @@ use tree_reader::node::{Syntax, place_at, production_place};
 use xml_text::import::kind_at;
 
 // The position behind a tree and the length of the exports so far; one level too many; or bytes that are no tree.
-#[derive(Drop)]
+#[derive(Clone, Copy)]
 pub enum Measured {
     End(usize, usize),
     Deep,

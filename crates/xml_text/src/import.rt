@@ -13,7 +13,7 @@ use tree_reader::operands::{NAMES, operands_of, production_key};
 const LEVELS: usize = 64;
 
 // The position behind the text of a tree; one level too many; or a text that is no export.
-#[derive(Drop)]
+#[derive(Clone, Copy)]
 pub enum Text {
     End(usize),
     Deep,
@@ -22,7 +22,7 @@ pub enum Text {
 
 // The kinds of the arguments of a production stand in the language from the first number up to the second, its opening tag ends
 // at the third; or that there is none.
-#[derive(Drop)]
+#[derive(Clone, Copy)]
 pub enum Element {
     Of(usize, usize, usize),
     Nothing,

@@ -18,14 +18,14 @@ const COMMON_CLOSING: usize = 7;
 const LARGEST: usize = 65535;
 
 // The position behind what stands there, or that it does not.
-#[derive(Drop)]
+#[derive(Clone, Copy)]
 pub enum Place {
     At(usize),
     Nothing,
 }
 
 // A number that stands there and the position behind it, or that none does.
-#[derive(Drop)]
+#[derive(Clone, Copy)]
 pub enum Number {
     Is(usize, usize),
     Nothing,
