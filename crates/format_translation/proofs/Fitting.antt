@@ -156,10 +156,10 @@ module _ (f : Translation) (below : KindsBelow f) (rises : Rising item_key f.bod
         both_and _ _ (is_some_lem (arguments_of f.source r p) (mem_arguments f.source source_rises r p q.0.0 q.0.1))
         (is_some_lem (mapping_of f.body r j) (mem_mapping f.body rises r j q.1.0 q.1.1))
 
-    code_fits : (a : Item) → Mem a f.body → code_fits f a ≡ true
+    code_fits_lem : (a : Item) → Mem a f.body → code_fits f a ≡ true
     unfolding code_fits
-    code_fits (mapping s j t) m = refl
-    code_fits (clause r p j c) m = let q = w.codes r p j c m in rw q.1
+    code_fits_lem (mapping s j t) m = refl
+    code_fits_lem (clause r p j c) m = let q = w.codes r p j c m in rw q.1
 
     -- What fits passes the tests.
     pub fit-tests : well_formed f ≡ value f
@@ -171,7 +171,7 @@ module _ (f : Translation) (below : KindsBelow f) (rises : Rising item_key f.bod
           mem_all (class_kept f) f.body kept,
           mem_all (has_clause f) f.source has-clause,
           mem_all (has_production f) f.body has_production_lem,
-          mem_all (code_fits f) f.body code_fits,
+          mem_all (code_fits f) f.body code_fits_lem,
         )
 
 pub refuse_value : {A : Type 0} {a : A} (t : Bool) (r : Reason) (o : Result A) → refuse_if t r o ≡ value a → (t ≡ false) × (o ≡ value a)
