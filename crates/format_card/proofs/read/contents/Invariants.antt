@@ -5,7 +5,7 @@ use native.Mathlib.Omega.{arith}
 use lib.ListN.{length}
 use borrow.Author.Rules.{rules}
 use borrow.Author.Tests.{not-true, not-false}
-use Rattle.format_card.proofs.Cards.{Going, going_start, going-broken, going-unordered, going_next, going-fits, going-fails, going_done}
+use Rattle.format_card.proofs.Cards.{Going, going_start, going_broken, going_unordered, going_next, going_fits, going_fails, going_done}
 use Rattle.format_card.proofs.read.contents.Given as goal
 
 abbrev pub invariant-loop-i : goal.invariant-loop-i

@@ -8,7 +8,7 @@ use lib.ListN.{length}
 use Rattle.tree_reader.specs.Inner.Positions.{uses_length}
 use Rattle.format_translation.specs.Translation.{Body}
 use Rattle.format_translation.specs.TranslationFile.{body_of}
-use Rattle.format_translation.proofs.Uses.{Front, front_start, Filling, filling_start, filled_end, filled-clause, put_here, front_next, filling-next, put_asks, put_value}
+use Rattle.format_translation.proofs.Uses.{Front, front_start, Filling, filling_start, filled_end, filled_clause, put_here, front_next, filling_next, put_asks, put_value}
 use borrow.Author.Rules.{rules}
 use Rattle.format_translation.proofs.index.put_uses.Given as goal
 

@@ -1,5 +1,5 @@
 use mathlib.Core.Path.{refl}
-use Rattle.format_translation.proofs.Cuts.{heads_at, parts_at, body-cut}
+use Rattle.format_translation.proofs.Cuts.{heads_at, parts_at, body_cut}
 use borrow.Author.Rules.{rules}
 use Rattle.format_translation.proofs.parts.body_of.Goals as goal
 
@@ -16,4 +16,4 @@ pub slice_bounds-result-start : goal.slice_bounds-result-start
 slice_bounds-result-start c = (parts_at _ c.requires _ c.whole_end-a.ensures.is _ c.whole_end-b.ensures.is).inside
 
 pub returns : goal.returns
-returns c = body-cut _ c.requires _ c.whole_end-a.ensures.is _ c.whole_end-b.ensures.is
+returns c = body_cut _ c.requires _ c.whole_end-a.ensures.is _ c.whole_end-b.ensures.is

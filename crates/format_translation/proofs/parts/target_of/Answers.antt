@@ -1,5 +1,5 @@
 use mathlib.Core.Path.{refl}
-use Rattle.format_translation.proofs.Cuts.{heads_at, parts_at, target-cut}
+use Rattle.format_translation.proofs.Cuts.{heads_at, parts_at, target_cut}
 use borrow.Author.Rules.{rules}
 use Rattle.format_translation.proofs.parts.target_of.Goals as goal
 
@@ -13,4 +13,4 @@ pub slice_bounds-result-end : goal.slice_bounds-result-end
 slice_bounds-result-end c = (parts_at _ c.requires _ c.whole_end-a.ensures.is _ c.whole_end-b.ensures.is).inside
 
 pub returns : goal.returns
-returns c = target-cut _ c.requires _ c.whole_end-a.ensures.is _ c.whole_end-b.ensures.is
+returns c = target_cut _ c.requires _ c.whole_end-a.ensures.is _ c.whole_end-b.ensures.is

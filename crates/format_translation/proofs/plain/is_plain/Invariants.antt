@@ -6,7 +6,7 @@ use lib.ListN.{length}
 use borrow.Author.Rules.{rules}
 use Rattle.format_translation.specs.Translation.{Body}
 use Rattle.format_translation.specs.TranslationFile.{body_of}
-use Rattle.format_translation.proofs.PlainWalk.{Whole, Left, whole_start, left_start, left_end, head_there, whole_next, left-number, left-next}
+use Rattle.format_translation.proofs.PlainWalk.{Whole, Left, whole_start, left_start, left_end, head_there, whole_next, left_number, left_next}
 use Rattle.format_translation.proofs.plain.is_plain.Given as goal
 
 abbrev pub invariant-loop-p : goal.invariant-loop-p

@@ -4,7 +4,7 @@ use mathlib.Core.Path.{◌≡◌, refl}
 use lib.Seq.{slice}
 use lib.Dec.{eqb}
 use Rattle.format_fields.specs.Lists.{any}
-use Rattle.tree_reader.proofs.Members.{among_done, among-stop, among_next}
+use Rattle.tree_reader.proofs.Members.{among_done, among_stop, among_next}
 use Rattle.tree_reader.proofs.kinds.kind_among.Given as goal
 
 abbrev pub invariant-loop-q : goal.invariant-loop-q

@@ -1,5 +1,5 @@
 use native.Mathlib.Omega.{arith}
-use Rattle.tree_reader.proofs.Laws.{leaf_end, leaf_argument, leaf_token, leaf-numbered, leaf_other, class_in}
+use Rattle.tree_reader.proofs.Laws.{leaf_end, leaf_argument, leaf_token, leaf_numbered, leaf_other, class_in}
 use borrow.Author.Rules.{rules}
 use borrow.Author.Rules.{rules}
 use Rattle.tree_reader.proofs.node.code_leaf.Goals as goal

@@ -1,0 +1,12 @@
+use borrow.Author.Rules.{rules}
+use Prim.Native.Nat.{ℕ, ◌-◌, ◌≤◌}
+use native.Mathlib.Omega.{arith}
+use Rattle.reduce_merge.specs.Inner.Parts.{Shared}
+use Rattle.reduce_merge.proofs.Prefixes.{shared_start, shared_all, shared_step}
+use Rattle.reduce_merge.proofs.prefix.shared.Given as goal
+
+abbrev pub invariant-loop-p : goal.invariant-loop-p
+invariant-loop-p l = (l.p ≤ l.n) × ((first : ℕ) → Shared first l.a l.b l.p)
+
+abbrev pub decreases-loop-p : goal.decreases-loop-p
+decreases-loop-p l = l.n - l.p
