@@ -8,7 +8,7 @@ use lib.ListN.{length, length-append}
 use lib.Seq.{slice, slice_empty}
 use lib.Dec.{ltb, leb}
 use borrow.Author.Tests.{ltb-true, ltb-false, leb-true, leb-false}
-use Rattle.format_fields.specs.Lists.{all, keep, concat_map}
+use Rattle.format_fields.specs.Lists.{keep, concat_map}
 use Rattle.format_fields.specs.Keyed.{union, within, without}
 use Rattle.format_fields.specs.Inner.Places.{field_end, order_at}
 use Rattle.format_fields.specs.Inner.Writing.{Inside, Written, Stores}

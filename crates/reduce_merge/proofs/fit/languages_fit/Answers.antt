@@ -1,5 +1,4 @@
 use Rattle.reduce_merge.proofs.Agreeing.{entries_sorted, fit_clash, fit_agree}
-use borrow.Author.Rules.{rules}
 use Rattle.reduce_merge.proofs.fit.languages_fit.Goals as goal
 
 pub returns-then-clash_between : goal.returns-then-clash_between

@@ -2,7 +2,6 @@ use native.Mathlib.Omega.{arith}
 use Rattle.reduce_merge.specs.Inner.Parts.{part_within}
 use Rattle.reduce_merge.proofs.Walks.{whole_here, key_here, stands_end}
 use Rattle.reduce_merge.proofs.Containing.{classes_here, lies_other, lies_range, lies_same}
-use borrow.Author.Rules.{rules}
 use Rattle.reduce_merge.proofs.meet.lies_at.Goals as goal
 
 pub returns-then-b-q : goal.returns-then-b-q

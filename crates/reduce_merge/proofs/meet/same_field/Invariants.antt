@@ -1,11 +1,8 @@
-use borrow.Author.Rules.{rules}
 use Prim.Native.Nat.{◌+◌, ◌-◌}
 use mathlib.Core.Path.{◌≡◌}
-use native.Mathlib.Omega.{arith}
 use lib.Seq.{slice}
 use Rattle.format_fields.specs.Lists.{same_numbers}
 use Rattle.format_fields.specs.Inner.Places.{field_end}
-use Rattle.reduce_merge.proofs.Walks.{head_whole, same_start, same_long, same_end, same_differ, same_on}
 use Rattle.reduce_merge.proofs.meet.same_field.Given as goal
 
 abbrev pub invariant-loop-i : goal.invariant-loop-i

@@ -1,5 +1,5 @@
 use Rattle.reduce_merge.specs.Inner.Parts.{same_part}
-use Rattle.reduce_merge.proofs.Walks.{head_whole, whole_here, head_here, stands_end, stands_other, stands_same, key_here}
+use Rattle.reduce_merge.proofs.Walks.{whole_here, stands_end, stands_other, stands_same, key_here}
 use Rattle.reduce_merge.proofs.meet.stands_at.Goals as goal
 
 pub returns-then-b-q : goal.returns-then-b-q

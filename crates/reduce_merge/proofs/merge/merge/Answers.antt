@@ -1,10 +1,6 @@
-use borrow.Author.Rules.{rules}
-use Prim.Native.Nat.{◌+◌, ◌-◌}
-use mathlib.Core.Logic.{⊎_elim}
 use native.Mathlib.Omega.{arith}
-use lib.ListN.{length}
 use Rattle.reduce_merge.proofs.Walks.{head_here, key_here, sought}
-use Rattle.reduce_merge.proofs.Turns.{Merging, rest_start, merging_room, merging_inside, merging_done, merging_out, merging_low, merging_both, merging_moves, merging_full, merging_high}
+use Rattle.reduce_merge.proofs.Turns.{rest_start, merging_room, merging_inside, merging_done, merging_out, merging_low, merging_both, merging_moves, merging_full, merging_high}
 use Rattle.reduce_merge.proofs.Prefixes.{shared_merge}
 use Rattle.reduce_merge.proofs.merge.merge.Goals as goal
 use Rattle.reduce_merge.proofs.merge.merge.Goals.{else-loop-p-test, then-loop-p-test+then-b-q}

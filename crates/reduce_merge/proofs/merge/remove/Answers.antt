@@ -1,10 +1,5 @@
-use borrow.Author.Rules.{rules}
-use Prim.Native.Nat.{◌-◌}
-use lib.ListN.{length}
-use Rattle.format_fields.specs.Keyed.{without}
-use Rattle.reduce_merge.specs.Inner.Parts.{same_part, removed}
 use Rattle.reduce_merge.proofs.Walks.{whole_here, head_here, key_here, sought}
-use Rattle.reduce_merge.proofs.Turns.{Going, rest_start, remove_turn, remove_end, progress_on, progress_full, progress_done, rest_next, rest_sought, field_inside, going_room}
+use Rattle.reduce_merge.proofs.Turns.{rest_start, remove_turn, remove_end, progress_on, progress_full, progress_done, rest_next, rest_sought, field_inside, going_room}
 use Rattle.reduce_merge.proofs.Prefixes.{shared_remove}
 use Rattle.reduce_merge.proofs.merge.remove.Goals as goal
 

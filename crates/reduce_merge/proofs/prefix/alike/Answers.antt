@@ -1,7 +1,3 @@
-use borrow.Author.Rules.{rules}
-use Prim.Native.Nat.{◌-◌}
-use lib.ListN.{length}
-use Rattle.reduce_merge.specs.Inner.Parts.{Alike}
 use Rattle.reduce_merge.proofs.Prefixes.{alike_next}
 use Rattle.reduce_merge.proofs.prefix.alike.Goals as goal
 

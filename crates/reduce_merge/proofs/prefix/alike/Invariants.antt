@@ -1,8 +1,6 @@
-use borrow.Author.Rules.{rules}
 use Prim.Native.Nat.{◌-◌}
 use lib.ListN.{length}
 use Rattle.reduce_merge.specs.Inner.Parts.{Alike}
-use Rattle.reduce_merge.proofs.Prefixes.{alike_next}
 use Rattle.reduce_merge.proofs.prefix.alike.Given as goal
 
 abbrev pub invariant-loop-n : goal.invariant-loop-n

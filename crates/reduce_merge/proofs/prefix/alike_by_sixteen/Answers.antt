@@ -1,7 +1,4 @@
-use Prim.Native.Nat.{◌-◌}
 use native.Mathlib.Omega.{arith}
-use lib.ListN.{length}
-use Rattle.reduce_merge.specs.Inner.Parts.{Alike}
 use Rattle.reduce_merge.proofs.Prefixes.{alike_start}
 use Rattle.reduce_merge.proofs.prefix.alike_by_sixteen.Goals as goal
 

@@ -1,10 +1,5 @@
-use borrow.Author.Rules.{rules}
-use Prim.Native.Nat.{◌+◌, ◌-◌, ◌≤◌}
-use mathlib.Core.Path.{◌≡◌}
-use mathlib.Core.Bool.{true}
 use native.Mathlib.Omega.{arith}
 use Rattle.format_fields.proofs.Truth.{false_true}
-use Rattle.reduce_merge.specs.Inner.Parts.{Alike}
 use Rattle.reduce_merge.proofs.Prefixes.{sixteen_start, sixteen_next, sixteen_done}
 use Rattle.reduce_merge.proofs.prefix.alike_on.Goals as goal
 

@@ -1,8 +1,5 @@
-use borrow.Author.Rules.{rules}
 use Prim.Native.Nat.{ℕ, ◌-◌, ◌≤◌}
-use native.Mathlib.Omega.{arith}
 use Rattle.reduce_merge.specs.Inner.Parts.{Shared}
-use Rattle.reduce_merge.proofs.Prefixes.{shared_start, shared_all, shared_step}
 use Rattle.reduce_merge.proofs.prefix.shared.Given as goal
 
 abbrev pub invariant-loop-p : goal.invariant-loop-p

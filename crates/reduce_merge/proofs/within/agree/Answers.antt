@@ -1,14 +1,9 @@
-use Prim.Native.Nat.{◌-◌}
-use mathlib.Core.Path.{◌≡◌, refl, ◌∙◌}
-use mathlib.Core.Logic.{⊎_elim}
-use mathlib.Core.Bool.{true}
+use mathlib.Core.Path.{refl, ◌∙◌}
 use native.Mathlib.Omega.{arith}
-use lib.ListN.{length}
-use borrow.Author.Tests.{not-true, not-false}
 use Rattle.reduce_merge.proofs.Walks.{whole_here, head_here, key_here}
 use Rattle.reduce_merge.proofs.Turns.{rest_start}
 use Rattle.reduce_merge.proofs.Prefixes.{shared_agree}
-use Rattle.reduce_merge.proofs.Agreeing.{Agreeing, agree_end, agree_out, agree_below, agree_above, agree_clash, agree_same}
+use Rattle.reduce_merge.proofs.Agreeing.{agree_end, agree_out, agree_below, agree_above, agree_clash, agree_same}
 use Rattle.reduce_merge.proofs.within.agree.Goals as goal
 use Rattle.reduce_merge.proofs.within.agree.Goals.{then-key-other-2+else-not-same_field, else-key-other-2, else-loop-q-test, then-loop-q-test+then-key-other}
 

@@ -1,14 +1,8 @@
 use Prim.Native.Nat.{◌-◌}
-use mathlib.Core.Path.{◌≡◌, refl, ◌∙◌}
-use mathlib.Core.Logic.{⊎_elim}
+use mathlib.Core.Path.{◌≡◌}
 use mathlib.Core.Bool.{true}
-use native.Mathlib.Omega.{arith}
 use lib.ListN.{length}
-use borrow.Author.Tests.{not-true, not-false}
-use Rattle.reduce_merge.proofs.Walks.{whole_here, head_here, key_here}
-use Rattle.reduce_merge.proofs.Turns.{rest_start}
-use Rattle.reduce_merge.proofs.Prefixes.{shared_agree}
-use Rattle.reduce_merge.proofs.Agreeing.{Agreeing, agree_end, agree_out, agree_below, agree_above, agree_clash, agree_same}
+use Rattle.reduce_merge.proofs.Agreeing.{Agreeing}
 use Rattle.reduce_merge.proofs.within.agree.Given as goal
 
 abbrev pub invariant-loop-q : goal.invariant-loop-q

@@ -1,11 +1,7 @@
-use borrow.Author.Rules.{rules}
-use Prim.Native.Nat.{◌-◌}
-use lib.ListN.{length}
-use borrow.Author.Tests.{not-true, not-false}
 use Rattle.reduce_merge.proofs.Walks.{head_here, key_here, sought}
 use Rattle.reduce_merge.proofs.Turns.{rest_start}
 use Rattle.reduce_merge.proofs.Prefixes.{shared_within}
-use Rattle.reduce_merge.proofs.Containing.{Containing, containing_end, containing_meets, containing_stop, containing_on}
+use Rattle.reduce_merge.proofs.Containing.{containing_end, containing_meets, containing_stop, containing_on}
 use Rattle.reduce_merge.proofs.within.lies_within.Goals as goal
 
 pub shared-start-requires : goal.shared-start-requires
