@@ -18,4 +18,4 @@ pub returns : goal.returns
 returns c = let q = c.put_index.ensures in
     let v = c.put_index-2.ensures in
     let z = made_ready _ _ _ _ _ c.requires.0 q.0 q.1 v.0 v.1 _ _ (λ i. omega (arith, c.type_inv.target i)) c.fill_uses.ensures.0 c.fill_uses.ensures.1 in
-    (λ f p h. (c.check_parted.ensures f (z f p h)).0, (both_long _ _ _ _ _ c.requires.0 q.0 q.1 v.0 v.1, first_stays _ _ _ _ _ c.requires.0 q.0 q.1 v.0 v.1, v.0, λ f p h. (c.check_parted.ensures f (z f p h)).1))
+    record { is = λ f p h. (c.check_parted.ensures f (z f p h)).0; kept = (both_long _ _ _ _ _ c.requires.0 q.0 q.1 v.0 v.1, first_stays _ _ _ _ _ c.requires.0 q.0 q.1 v.0 v.1, v.0, λ f p h. (c.check_parted.ensures f (z f p h)).1) }

@@ -6,7 +6,7 @@ use mathlib.Core.Path.{refl, ◌∙◌}
 use Rattle.check_wellformed.proofs.Source.{source_indexed}
 use Rattle.check_wellformed.proofs.Matching.{rising_entries}
 use Rattle.check_wellformed.proofs.Along.{skipped_by}
-use Rattle.check_wellformed.proofs.Coded.{clause_key, clause_long, front_count, kind_below, code_fits}
+use Rattle.check_wellformed.proofs.Coded.{clause_key, clause_long, front_count, kind_below, code_fits_lem}
 use borrow.Author.Rules.{rules}
 use Rattle.check_wellformed.proofs.codes.code_typed.Goals as goal
 
@@ -24,4 +24,4 @@ pub code_reads-requires : goal.code_reads-requires
 code_reads-requires c = (omega (arith, c.requires.0, c.requires.1.past, c.code_start.ensures.0), omega (arith, c.requires.0, c.requires.1.ends), kind_below _ _ _ _ _ _ c.requires.3.1 (λ i. omega (arith, c.type_inv.source i)) (λ i. omega (arith, c.type_inv.body i)) _ c.requires.1 _ _ _ refl c.clause_number.ensures c.mapped_by-kind.ensures, c.requires.3.1.target.sound)
 
 pub returns : goal.returns
-returns c = λ f z. code_fits _ _ _ _ _ f z (λ i. omega (arith, c.type_inv.source i)) (λ i. omega (arith, c.type_inv.body i)) _ c.requires.1 _ _ _ refl c.clause_number.ensures c.mapped_by-kind.ensures _ c.whole_key.ensures.0 _ _ c.put_arguments-end.ensures _ _ c.code_start.ensures.0 c.requires.0 _ (c.code_reads.ensures f.target z.target)
+returns c = λ f z. code_fits_lem _ _ _ _ _ f z (λ i. omega (arith, c.type_inv.source i)) (λ i. omega (arith, c.type_inv.body i)) _ c.requires.1 _ _ _ refl c.clause_number.ensures c.mapped_by-kind.ensures _ c.whole_key.ensures.0 _ _ c.put_arguments-end.ensures _ _ c.code_start.ensures.0 c.requires.0 _ (c.code_reads.ensures f.target z.target)
