@@ -1,3 +1,4 @@
 // Text that the programs print, put into a buffer.
 #![tactic(auto)]
+
 pub mod text;
