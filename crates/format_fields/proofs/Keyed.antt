@@ -65,14 +65,16 @@ module _ {A : Type 0} (key : A → ℕ) where
   from_weaken (x ∷ l) h f = (omega arith, f.1)
 
   pub from_mem : {n : ℕ} {a : A} (l : List A) → From n l → Mem a l → n ≤ key a
-  from_mem (x ∷ l) f (inl e) = rw e f.0
-  from_mem (x ∷ l) f (inr h) = omega (arith, from_mem l f.1 h)
+  from_mem {n = n} (x ∷ l) f (inl e) = rw e f.0
+  from_mem {n = n} {a = a} (x ∷ l) f (inr h) = omega (arith, from_mem {n = suc (key x)} {a = a} l f.1 h)
+  from_mem {n = n} {a = a} [] f x'' = elim x'' [ ]
 
   pub from_agree : (n : ℕ) (l : List A) → From n l → Agree l l
   from_agree n (x ∷ l) f a b (inl e) (inl d) q = cc
   from_agree n (x ∷ l) f a b (inl e) (inr h) q = absurd (omega (arith, from_mem l f.1 h, ap key e))
   from_agree n (x ∷ l) f a b (inr h) (inl e) q = absurd (omega (arith, from_mem l f.1 h, ap key e))
-  from_agree n (x ∷ l) f a b (inr h) (inr g) q = from_agree _ l f.1 a b h g q
+  from_agree n (x ∷ l) f a b (inr h) (inr g) q = from_agree (suc (key x)) l f.1 a b h g q
+  from_agree n [] f a b x4 _ q = elim x4 [ ]
 
   -- Two rising lists with the same members are equal.
   pub rising_ext : (n k : ℕ) (l m : List A) → From n l → From k m → ((a : A) → Mem a l → Mem a m) → ((a : A) → Mem a m → Mem a l)
@@ -80,7 +82,7 @@ module _ {A : Type 0} (key : A → ℕ) where
   rising_ext n k [] [] f g i j = refl
   rising_ext n k [] (y ∷ m) f g i j = absurd (j y (inl refl))
   rising_ext n k (x ∷ l) [] f g i j = absurd (i x (inl refl))
-  rising_ext n k (x ∷ l) (y ∷ m) f g i j = λ t. e t ∷ rising_ext _ _ l m f.1 g.1 down up t
+  rising_ext n k (x ∷ l) (y ∷ m) f g i j = λ t. e t ∷ rising_ext (suc (key x)) _ l m f.1 g.1 down up t
     where
       heads : Mem x (y ∷ m) → Mem y (x ∷ l) → x ≡ y
       heads (inl e) q = e
@@ -145,6 +147,7 @@ module _ {A : Type 0} (key : A → ℕ) where
   unfolding insert
   insert_keeps a x (y ∷ l) c q =
       place_keeps a x y l (insert key x l) (compared (key x) (key y)) c (λ p. insert_keeps a x l c p) q
+  insert_keeps a x [] c q = elim q [ ]
 
   union_right : (a : A) (l m : List A) → Agree l m → Mem a m → Mem a (union key l m)
   unfolding union
@@ -157,6 +160,7 @@ module _ {A : Type 0} (key : A → ℕ) where
   union_left a (x ∷ l) m c (inl e) = rw e (insert_self x (union key l m))
   union_left a (x ∷ l) m c (inr h) =
       insert_keeps a x (union key l m) (c x a (inl refl) (inr h)) (union_left a l m (λ b d p q. c b d (inr p) (inr q)) h)
+  union_left a [] m c x'' = elim x'' [ ]
 
   -- A union of rising lists rises.
   place_from : {o : Order} (n : ℕ) (x y : A) (l r : List A) → Compared (key x) (key y) o → n ≤ key x → From n (y ∷ l)

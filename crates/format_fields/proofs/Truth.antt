@@ -89,6 +89,7 @@ module _ {A : Type 0} where
   unfolding all
   all_mem f (b ∷ l) e a (inl q) = rw q (and_both (f b) (all f l) e).0
   all_mem f (b ∷ l) e a (inr m) = all_mem f l (and_both (f b) (all f l) e).1 a m
+  all_mem f [] e a x'' = elim x'' [ ]
 
   pub mem_all : (f : A → Bool) (l : List A) → ((a : A) → Mem a l → f a ≡ true) → all f l ≡ true
   unfolding all
@@ -105,6 +106,7 @@ module _ {A : Type 0} where
   unfolding any
   mem_any f (b ∷ l) a (inl q) e = or_left (f b) (any f l) (rw q at e)
   mem_any f (b ∷ l) a (inr m) e = or_right (f b) (any f l) (mem_any f l a m e)
+  mem_any f [] a x'' e = elim x'' [ ]
 
   -- No member passes where `any` is false.
   pub any_false : (f : A → Bool) (l : List A) → any f l ≡ false → (a : A) → Mem a l → f a ≡ false
@@ -121,6 +123,7 @@ module _ {A : Type 0} where
       go more true q (inl e) = (inl e, rw e q)
       go more true q (inr n) = more n
       go more false q n = more n
+  keep_cases f a [] m = elim m [ ]
 
   pub mem_keep : (f : A → Bool) (a : A) (l : List A) → Mem a l → f a ≡ true → Mem a (keep f l)
   unfolding keep
@@ -131,12 +134,14 @@ module _ {A : Type 0} where
       go more true q (inr n) = inr (more n)
       go more false q (inl n) = not_both e (rw n q)
       go more false q (inr n) = more n
+  mem_keep f a [] m e = elim m [ ]
 
   pub mem_append : (a : A) (l m : List A) → Mem a l ⊎ Mem a m → Mem a (l ++ m)
   mem_append a [] m (inr q) = q
   mem_append a (b ∷ l) m (inl (inl e)) = inl e
   mem_append a (b ∷ l) m (inl (inr q)) = inr (mem_append a l m (inl q))
   mem_append a (b ∷ l) m (inr q) = inr (mem_append a l m (inr q))
+  mem_append a [] m (inl x'') = elim x'' [ ]
 
   pub append_cases : (a : A) (l m : List A) → Mem a (l ++ m) → Mem a l ⊎ Mem a m
   append_cases a [] m q = inr q
@@ -147,19 +152,23 @@ module _ {A B : Type 0} where
   pub mem_map : (f : A → B) (a : A) (l : List A) → Mem a l → Mem (f a) (map f l)
   mem_map f a (b ∷ l) (inl e) = inl (ap f e)
   mem_map f a (b ∷ l) (inr m) = inr (mem_map f a l m)
+  mem_map f a [] x' = elim x' [ ]
 
   pub map_cases : (f : A → B) (b : B) (l : List A) → Mem b (map f l) → (a : A) × Mem a l × (b ≡ f a)
   map_cases f b (c ∷ l) (inl e) = (c, inl refl, e)
   map_cases f b (c ∷ l) (inr m) = let r = map_cases f b l m in (r.0, inr r.1, r.2)
+  map_cases f b [] x' = elim x' [ ]
 
   pub concat_cases : (f : A → List B) (b : B) (l : List A) → Mem b (concat_map f l) → (a : A) × Mem a l × Mem b (f a)
   unfolding concat_map
   concat_cases f b (c ∷ l) m = ⊎_elim (λ q. (c, inl refl, q)) (λ q. let r = concat_cases f b l q in (r.0, inr r.1, r.2)) (append_cases b (f c) (concat_map f l) m)
+  concat_cases f b [] m = elim m [ ]
 
   pub mem_concat : (f : A → List B) (a : A) (b : B) (l : List A) → Mem a l → Mem b (f a) → Mem b (concat_map f l)
   unfolding concat_map
   mem_concat f a b (c ∷ l) (inl e) q = mem_append b (f c) (concat_map f l) (inl (rw e at q))
   mem_concat f a b (c ∷ l) (inr m) q = mem_append b (f c) (concat_map f l) (inr (mem_concat f a b l m q))
+  mem_concat f a b [] x'' q = elim x'' [ ]
 
   -- What `first` finds is the value at a member.
   pub first_mem : (f : A → Option B) (l : List A) (b : B) → first f l ≡ some b → (a : A) × Mem a l × (f a ≡ some b)
@@ -181,6 +190,7 @@ module _ {A B : Type 0} where
       go more none q (inl n) = none_some (sym q ∙ (ap f (sym n) ∙ e))
       go more none q (inr n) = more n
       go more (some x) q n = ap some (h c x (inl refl) q)
+  mem_first f [] a b m e h = elim m [ ]
 
 -- The numbers from n up to n + m.
 pub mem_count : (m n k : ℕ) → n ≤ k → k < n + m → Mem k (count_up m n)
@@ -192,6 +202,7 @@ pub count_mem : (m n k : ℕ) → Mem k (count_up m n) → (n ≤ k) × (k < n +
 unfolding count_up
 count_mem (suc m) n k (inl e) = omega arith
 count_mem (suc m) n k (inr q) = let r = count_mem m (suc n) k q in omega arith
+count_mem zero n k x' = elim x' [ ]
 
 -- Lists of numbers that are the same are equal.
 pub numbers_equal : (l m : List ℕ) → same_numbers l m ≡ true → l ≡ m

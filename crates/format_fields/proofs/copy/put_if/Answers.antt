@@ -1,0 +1,10 @@
+use lib.Seq.{slice}
+use Rattle.format_fields.proofs.Splices.{put_wanted, put_unwanted}
+use borrow.Author.Rules.{rules}
+use Rattle.format_fields.proofs.copy.put_if.Goals as goal
+
+pub returns-then-wanted : goal.returns-then-wanted
+returns-then-wanted c = put_wanted c.args.wanted (slice c.args.p c.args.e c.args.s.now) _ _ c.if-wanted.true _ _ c.put.ensures
+
+pub returns : goal.returns
+returns c = put_unwanted c.args.wanted (slice c.args.p c.args.e c.args.s.now) _ _ c.if-wanted.false c.requires.1
