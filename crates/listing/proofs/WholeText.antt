@@ -1,5 +1,5 @@
 -- The whole text: a law for each return of the code, and that it is the text of the pack.
-use Prim.Native.Nat.{ℕ, ◌+◌, ◌*◌, ◌<◌, ◌≤◌}
+use Prim.Native.Nat.{ℕ, ◌+◌, ◌*◌, ◌≤◌}
 use mathlib.Core.Path.{◌≡◌, refl, sym, ap, ◌∙◌, subst}
 use mathlib.Core.List.{List, ◌++◌}
 use native.Mathlib.Omega.{arith}
@@ -14,7 +14,7 @@ use Rattle.format_translation.specs.Translation.{Translation}
 use Rattle.format_translation.specs.TranslationFile.{encode_translation}
 use Rattle.reduce_signs.specs.Evaluation.{constants_of, nothing_bound, evaluate}
 use Rattle.reduce_operation.specs.Operations.{Ready, ready, work, reduce_bytes, reduce}
-use Rattle.program_text.specs.Text.{accepted_word, refused_word, marked, first_line}
+use Rattle.program_text.specs.Text.{accepted_word, refused_word, first_line}
 use Rattle.listing.specs.Listing.{reduced, text_of, listing}
 use Rattle.listing.specs.Inner.Walk.{clause_lines, outcome_text}
 use Rattle.program_text.specs.Inner.Putting.{Puts}

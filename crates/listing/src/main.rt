@@ -1,5 +1,6 @@
 // The listing program (paper 01, "Strap examples"): prints what the pack in the file plan.pack is reduced to.
 #![tactic(auto)]
+
 mod answer;
 mod clauses;
 
