@@ -21,3 +21,47 @@ pub fn read_full<R: Read>(reader: &mut R, bytes: &mut [u8]) -> usize
     }
     done
 }
+
+#[cfg(test)]
+mod tests {
+    use super::*;
+    use std::io::{Error, ErrorKind, Result};
+
+    // Gives one byte at a read, so many times, and then fails.
+    #[derive(Drop)]
+    struct Failing {
+        left: u8,
+    }
+
+    impl Read for Failing {
+        fn read(&mut self, buf: &mut [u8]) -> Result<usize> {
+            if self.left == 0 || buf.is_empty() {
+                return Err(Error::from(ErrorKind::Other));
+            }
+            buf[0] = self.left;
+            self.left -= 1;
+            Ok(1)
+        }
+    }
+
+    #[test]
+    fn stops_where_the_input_ends(rt: HostRuntime) {
+        let mut bytes = [0u8; 8];
+        assert_eq!(rt; read_full(&mut b"block".as_slice(), &mut bytes), 5);
+        assert!(rt; bytes == *b"block\0\0\0");
+    }
+
+    #[test]
+    fn stops_where_the_buffer_is_full(rt: HostRuntime) {
+        let mut bytes = [0u8; 3];
+        assert_eq!(rt; read_full(&mut b"block".as_slice(), &mut bytes), 3);
+        assert!(rt; bytes == *b"blo");
+    }
+
+    #[test]
+    fn keeps_what_came_before_a_failure(rt: HostRuntime) {
+        let mut bytes = [0u8; 8];
+        assert_eq!(rt; read_full(&mut Failing { left: 3 }, &mut bytes), 3);
+        assert!(rt; bytes == [3, 2, 1, 0, 0, 0, 0, 0]);
+    }
+}
